@@ -11,6 +11,7 @@ pub mod Walks
 pub mod Fed
 pub mod Shown
 pub mod Peace
+pub mod Lost
 pub mod Steps
 pub mod Taken
 pub mod Worked

@@ -19,6 +19,7 @@ use Rattle.net_sim.specs.declared.auditing.findings.Finding.{Finding}
 use Rattle.net_sim.specs.declared.auditing.findings.Finding.TheVariants as finding
 use Rattle.promise.specs.Formed.{CrossedAt}
 use Rattle.promise.specs.Safe.{AreHanded, AreTwo, IsGranted, Match, Name, SafeGrants, SafePartners, Source, before, control_flow, last_out, named, own_request, partner_request, receives, sends}
+use Rattle.promise.specs.declared.life.Fate.{Fate}
 use Rattle.promise.specs.declared.life.Life.{Life}
 use Rattle.book_judge.specs.Broken.{IsBroken}
 use Rattle.book_judge.specs.declared.broken.Broken.{Broken}
@@ -48,7 +49,7 @@ fields : (log : List Crossing) (x : Life) (a : Name) → partner_request log x �
     → (last_out (control_flow x.peer x.host) (before x.partner_stamp log) ≡ Some a.place) × (x.foreign ≡ a.own) × (x.socket ≡ a.foreign)
 fields log x a h = is_named x (last_out (control_flow x.peer x.host) (before x.partner_stamp log)) a h
 
-one_some : {X : Type 0} (o : Option X) (a b : X) → o ≡ Some a → o ≡ Some b → a ≡ b
+pub one_some : {X : Type 0} (o : Option X) (a b : X) → o ≡ Some a → o ≡ Some b → a ≡ b
 one_some o a b e f = cc
 
 -- ---- the hosts of two lives one of which has the other's request
@@ -145,7 +146,7 @@ pairs_safe log lives s x y a b two e f =
     }
 
 -- the request of the partner of a life
-asked_of : (names : List Name) (lives : List Life) (log : List Crossing) (i : ℕ) (x : Life) → AreNamed (length lives) names lives log → slice_get lives i ≡ Some x
+pub asked_of : (names : List Name) (lives : List Life) (log : List Crossing) (i : ℕ) (x : Life) → AreNamed (length lives) names lives log → slice_get lives i ≡ Some x
     → (a : Name) × (slice_get names i ≡ Some a) × (partner_request log x ≡ Some a)
 asked_of names lives log i x n e = n.named i x (slice_get_within lives i x e) e
 
@@ -248,7 +249,7 @@ partners_odd names lives log at are f =
 host_is : (g h : Host) → g ≡ h → same_host g h ≡ true
 host_is g h e = let P : Host → Type 0 = λ x. same_host g x ≡ true in subst P e (same_host-refl g)
 
-fits_match : (log : List Crossing) (a : Name) (x : Life) (b : Name) (y : Life) → partner_request log x ≡ Some a → partner_request log y ≡ Some b → fits a x b y ≡ true → Match log x y
+pub fits_match : (log : List Crossing) (a : Name) (x : Life) (b : Name) (y : Life) → partner_request log x ≡ Some a → partner_request log y ≡ Some b → fits a x b y ≡ true → Match log x y
 fits_match log a x b y e f h =
     let t = and_true (receives x && sends y && same_host x.peer y.host && same_host y.peer x.host && same_name a (own_request y)) (same_name b (own_request x)) h in
     let u = and_true (receives x && sends y && same_host x.peer y.host && same_host y.peer x.host) (same_name a (own_request y)) t.0 in
@@ -267,7 +268,7 @@ fits_match log a x b y e f h =
       answered = f ∙ ap (λ (m : Name). Some m) q;
     }
 
-match_fits : (log : List Crossing) (a : Name) (x : Life) (b : Name) (y : Life) → partner_request log x ≡ Some a → partner_request log y ≡ Some b → Match log x y → fits a x b y ≡ true
+pub match_fits : (log : List Crossing) (a : Name) (x : Life) (b : Name) (y : Life) → partner_request log x ≡ Some a → partner_request log y ≡ Some b → Match log x y → fits a x b y ≡ true
 match_fits log a x b y e f m =
     both_is (receives x && sends y && same_host x.peer y.host && same_host y.peer x.host && same_name a (own_request y)) (same_name b (own_request x))
     (both_is (receives x && sends y && same_host x.peer y.host && same_host y.peer x.host) (same_name a (own_request y))
@@ -462,8 +463,8 @@ excess_some names lives log p found are at w = record {
   at = w;
 }
 
-pub said_of : (r : Result Broken AllocError) (names items : List Name) (lives : List Life) (handed : List (List Bool)) (log : List Crossing)
-    → IfOk r (λ b. (l : List Crossing) → AreNamed (length lives) names lives l → IsBroken b l lives handed) → names ≡ items → AreNamed (length lives) items lives log
-    → IfOk r (λ b. IsBroken b log lives handed)
-said_of (Ok b) names items lives handed log says same are = (let P : List Name → Type 0 = λ ns. AreNamed (length lives) ns lives log in says log (subst P (sym same) are))
-said_of (Err e) names items lives handed log says same are = tt
+pub said_of : (r : Result Broken AllocError) (names items : List Name) (lives : List Life) (handed : List (List Bool)) (fates : List Fate) (log : List Crossing)
+    → IfOk r (λ b. (l : List Crossing) → AreNamed (length lives) names lives l → IsBroken b l lives handed fates) → names ≡ items → AreNamed (length lives) items lives log
+    → IfOk r (λ b. IsBroken b log lives handed fates)
+said_of (Ok b) names items lives handed fates log says same are = (let P : List Name → Type 0 = λ ns. AreNamed (length lives) ns lives log in says log (subst P (sym same) are))
+said_of (Err e) names items lives handed fates log says same are = tt

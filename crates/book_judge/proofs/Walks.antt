@@ -11,7 +11,8 @@ use Rattle.interface.proofs.lemmas.{and_true}
 use Rattle.promise.specs.Safe.{Name, own_request, receives, sends}
 use Rattle.promise.specs.declared.life.Life.{Life}
 use Rattle.book_judge.specs.Inside.Asked.{found_at, key, same_name}
-use Rattle.book_judge.specs.Inside.Chains.{AreChained, ExceedsAt, IsLast, NoneWith, SourceAt, fits}
+use Rattle.book_judge.specs.Inside.Chains.{AreChained, IsLast, NoneWith, SoughtAt, fits}
+use Rattle.book_judge.specs.declared.sought.Sought.{Sought}
 use Rattle.book_judge.proofs.Asked.{below_cases, grown_get, grown_last, grown_length}
 use Rattle.book_judge.proofs.Elements.{read_at}
 use Rattle.book_judge.proofs.Known.{same_true}
@@ -186,8 +187,5 @@ fit_key a x b y h =
     let u = and_true (receives x && sends y && same_host x.peer y.host && same_host y.peer x.host) (same_name a (own_request y)) t.0 in
     ap (λ (z : Name). key z) (sym (same_true a (own_request y) u.1))
 
-pub sources_keyed : (a : Name) (x : Life) (names : List Name) (lives : List Life) (k : ℕ) → k ≡ key a → IsKeyed k lives (SourceAt a x names lives)
-sources_keyed a x names lives k e = λ i (b, y, f, g, h, p). (y, g, fit_key a x b y h ∙ sym e)
-
-pub excess_keyed : (a : Name) (x : Life) (names : List Name) (lives : List Life) (k : ℕ) → k ≡ key a → IsKeyed k lives (ExceedsAt a x names lives)
-excess_keyed a x names lives k e = λ i (b, y, f, g, h, p). (y, g, fit_key a x b y h ∙ sym e)
+pub sought_keyed : (s : Sought) (a : Name) (x : Life) (names : List Name) (lives : List Life) (k : ℕ) → k ≡ key a → IsKeyed k lives (SoughtAt s a x names lives)
+sought_keyed s a x names lives k e = λ i (b, y, f, g, h, p). (y, g, fit_key a x b y h ∙ sym e)

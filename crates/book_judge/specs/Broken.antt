@@ -1,31 +1,39 @@
--- What is wrong with the lives of a book: where they are malformed, and else which of partners, streams and grants are broken.
-use Rattle.std.specs.Prelude.{◌≡◌, Bool, List, MatchOption, Option, Some, None}
+-- What is wrong with the lives of a book: where they are malformed, and else which of partners, streams, grants and closes are broken.
+use Rattle.std.specs.Prelude.{◌≡◌, ℕ, Bool, List, MatchOption, Option, Some, None, take}
 use Rattle.interface.specs.declared.crossing.Crossing.{Crossing}
 use Rattle.net_sim.specs.Audit.{IsWellFormed}
 use Rattle.net_sim.specs.Findings.{AreFed, ShowsLife, ShowsMalformed, ShowsTwo, first_fed, first_granted}
 use Rattle.net_sim.specs.declared.auditing.findings.Finding.{Finding}
+use Rattle.promise.specs.Fates.{ClosesWhole}
 use Rattle.promise.specs.Safe.{SafeGrants, SafePartners}
+use Rattle.promise.specs.declared.life.Fate.{Fate}
 use Rattle.promise.specs.declared.life.Life.{Life}
 use Rattle.book_judge.specs.declared.broken.Broken.{Broken}
 
--- partners, streams and grants are about the requests that stamps name: of a malformed book nothing is said of them
+-- partners, streams, grants and closes are about the requests that stamps name: of a malformed book nothing is said of them
 abbrev pub IfFormed : Option Finding → Option Finding → Type 0 → (Finding → Type 0) → Type 0
 IfFormed None found Holds ShowsAt = MatchOption found Holds ShowsAt
 IfFormed (Some malformed) found Holds ShowsAt = found ≡ None
 
+-- what closes promise of the first lives, each with its fate
+abbrev pub first_closed : List Crossing → List Life → List (List Bool) → List Fate → ℕ → Type 0
+first_closed log lives handed fates n = ClosesWhole log lives handed (take n fates)
+
 -- a part that isn't named holds, and of one that is it is said where it shows; the log is the newest first
-pub record IsBroken (b : Broken) (log : List Crossing) (lives : List Life) (handed : List (List Bool)) : Type 0 where
+pub record IsBroken (b : Broken) (log : List Crossing) (lives : List Life) (handed : List (List Bool)) (fates : List Fate) : Type 0 where
   -- there is a list for each life, and their stamps name requests
   pub formed : MatchOption b.malformed (IsWellFormed log lives handed) (λ found. ShowsMalformed found log lives handed)
   -- that a receiving life matches one sender at most is of partners
   pub partners : IfFormed b.malformed b.partners (SafePartners log lives) (λ found. ShowsTwo found log lives)
   pub streams : IfFormed b.malformed b.streams (AreFed log lives lives handed) (λ found. ShowsLife (first_fed log lives handed) found log lives)
   pub grants : IfFormed b.malformed b.grants (SafeGrants log lives) (λ found. ShowsLife (first_granted log lives) found log lives)
+  -- what a life whose partner ended it has lost
+  pub closes : IfFormed b.malformed b.closes (ClosesWhole log lives handed fates) (λ found. ShowsLife (first_closed log lives handed fates) found log lives)
 
 -- nothing is named
 abbrev pub unbroken : Broken
-unbroken = record { malformed = None; partners = None; streams = None; grants = None }
+unbroken = record { malformed = None; partners = None; streams = None; grants = None; closes = None }
 
 -- only this: the book is malformed
 abbrev pub only_malformed : Finding → Broken
-only_malformed found = record { malformed = Some found; partners = None; streams = None; grants = None }
+only_malformed found = record { malformed = Some found; partners = None; streams = None; grants = None; closes = None }

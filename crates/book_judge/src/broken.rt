@@ -6,9 +6,10 @@ ghost use Rattle.net_sim.specs.Findings.{ShowsMalformed};
 ghost use Rattle.book_judge.specs.Broken.{IsBroken};
 ghost use Rattle.book_judge.specs.Inside.Asked.{AreNamed};
 ghost use Rattle.book_judge.specs.Inside.Chains.{AreChained};
-ghost use Rattle.book_judge.specs.Inside.Said.{TellsGrants, TellsPartners, TellsStreams};
+ghost use Rattle.book_judge.specs.Inside.Said.{TellsCloses, TellsGrants, TellsPartners, TellsStreams};
 
 use crate::chains::chained;
+use crate::closes::lost_at;
 use crate::grants::excess_at;
 use crate::matches::with_match;
 use crate::names::Name;
@@ -18,6 +19,7 @@ use crate::stamps::partners_of;
 use crate::streams::unfed_at;
 use interface::Crossing as Passage;
 use net_sim::{BitLog, Finding, Life};
+use promise::Fate;
 use std::alloc::{AllocError, Global};
 
 /// Where it shows that the lives of a log aren't those of a safe book. What isn't named holds.
@@ -31,17 +33,20 @@ pub struct Broken {
     pub streams: Option<Finding>,
     /// Where it shows that grants are broken; `None` where they are kept, or the book is malformed.
     pub grants: Option<Finding>,
+    /// Where it shows that closes are broken; `None` where they are kept, or the book is malformed.
+    pub closes: Option<Finding>,
 }
 
 /// Returns that only this is said: the book is malformed.
 fn only_malformed(found: Finding) -> Broken
-    ensures { result ≡ record { malformed = Some found; partners = None; streams = None; grants = None } }
+    ensures { result ≡ record { malformed = Some found; partners = None; streams = None; grants = None; closes = None } }
 {
     Broken {
         malformed: Some(found),
         partners: None,
         streams: None,
         grants: None,
+        closes: None,
     }
 }
 
@@ -106,8 +111,25 @@ fn excess(
     Some(with_match(names, lives, place))
 }
 
-/// Returns where it shows that lives aren't those of a safe book. These are the requests of their partners, and what was handed
-/// over in them.
+/// Returns the first life that breaks closes, with the one that it matches.
+fn lost(
+    last: &Places,
+    before: &[Option<usize>],
+    names: &[Name],
+    lives: &[Life],
+    handed: &[BitLog],
+    fates: &[Fate],
+) -> Option<Finding>
+    requires chained { AreChained (length lives.now) last.now before.now lives.now }
+    requires counts { (length names.now ≡ length lives.now) × (length handed.now ≡ length lives.now) }
+    ensures { TellsCloses result names.now lives.now handed.now fates.now }
+{
+    let place = lost_at(last, before, names, lives, handed, fates)?;
+    Some(with_match(names, lives, place))
+}
+
+/// Returns where it shows that lives aren't those of a safe book, or that an end by CLS lost anything. These are the requests of their
+/// partners, what was handed over in them, and their fates.
 ///
 /// Errors: `AllocError`.
 fn broken_parts(
@@ -115,24 +137,27 @@ fn broken_parts(
     names: &[Name],
     lives: &[Life],
     handed: &[BitLog],
+    fates: &[Fate],
 ) -> Result<Broken, AllocError>
     requires { (length names.now ≡ length lives.now) × (length lives.now ≡ length handed.now) }
-    ensures { IfOk result (λ broken. (log : List Crossing) → AreNamed (length lives.now) names.now lives.now log → IsBroken broken log lives.now handed.now) }
+    ensures { IfOk result (λ broken. (log : List Crossing) → AreNamed (length lives.now) names.now lives.now log → IsBroken broken log lives.now handed.now fates.now) }
 {
     let partners = odd_partners(alloc, names, lives)?;
     let (last, before) = chained(alloc, lives)?;
     let streams = unfed(&last, &before, names, lives, handed);
     let grants = excess(&last, &before, names, lives);
+    let closes = lost(&last, &before, names, lives, handed, fates);
     Ok(Broken {
         malformed: None,
         partners,
         streams,
         grants,
+        closes,
     })
 }
 
-/// Returns where it shows that the lives of a log, and what was handed over in them, aren't those of a safe book. The log is the
-/// oldest first.
+/// Returns where it shows that the lives of a log, and what was handed over in them, aren't those of a safe book, or that a life
+/// which its partner ended lost anything. The log is the oldest first. A life that has no fate isn't one that its partner ended.
 ///
 /// It says what [`net_sim::malformed`], [`net_sim::broken_partners`], [`net_sim::broken_streams`] and
 /// [`net_sim::broken_grants`] say. Those take no memory, and look at each pair of lives; here each request has its place in a
@@ -144,14 +169,15 @@ pub fn broken_at(
     log: &[Passage],
     lives: &[Life],
     handed: &[BitLog],
+    fates: &[Fate],
 ) -> Result<Broken, AllocError>
-    ensures { IfOk result (λ broken. IsBroken broken (reverse log.now) lives.now handed.now) }
+    ensures { IfOk result (λ broken. IsBroken broken (reverse log.now) lives.now handed.now fates.now) }
 {
     if let Some(found) = uncounted(lives, handed) {
         return Ok(only_malformed(found));
     }
     match partners_of(alloc, log, lives)? {
-        Ok(names) => broken_parts(alloc, &names, lives, handed),
+        Ok(names) => broken_parts(alloc, &names, lives, handed, fates),
         Err(place) => Ok(only_malformed(Finding::Life(place))),
     }
 }

@@ -8,8 +8,10 @@
 //! Nothing here reads lines: a log is a list of crossings, the oldest first.
 #![tactic(auto)]
 
+mod bits;
 mod broken;
 mod chains;
+mod closes;
 mod crossed;
 mod data;
 mod flow_map;
@@ -24,6 +26,7 @@ mod partners;
 mod places;
 mod requests;
 mod runs;
+mod sought;
 mod stamps;
 mod streams;
 mod texts;

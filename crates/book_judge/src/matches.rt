@@ -31,6 +31,16 @@ pub(crate) fn fits(a: &Name, x: &Life, b: &Name, y: &Life) -> bool
         && same_name(b, &Name::own_of(x))
 }
 
+/// Returns whether two lives have the same requests, hosts and peers, where these are the requests of their partners.
+pub(crate) fn repeats(a: &Name, x: &Life, b: &Name, y: &Life) -> bool
+    ensures { result ≡ tests.repeats a.now x.now b.now y.now }
+{
+    same_name(a, b)
+        && same_name(&Name::own_of(x), &Name::own_of(y))
+        && x.host == y.host
+        && x.peer == y.peer
+}
+
 /// Returns whether a life fits the one at a place.
 fn fits_at(asked: &Name, life: &Life, names: &[Name], lives: &[Life], place: usize) -> bool
     ensures { result ≡ tests.fits_at asked.now life.now names.now lives.now place }

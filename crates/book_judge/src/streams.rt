@@ -1,59 +1,15 @@
 //! Whether what was taken was sent, and what was sent was handed over.
 
-ghost use Rattle.std.specs.Prelude.{◌≡◌, ℕ, MatchBool, length};
-ghost use Rattle.promise.specs.Safe.{IsPrefix};
-ghost use Rattle.book_judge.specs.Inside.Chains.{AreChained, FedAt, FoundFirst, IsHanded, IsSourced, SourceAt};
+ghost use Rattle.std.specs.Prelude.{◌≡◌, MatchBool, length};
+ghost use Rattle.book_judge.specs.Inside.Chains.{AreChained, FedAt, FoundFirst, IsHanded, IsSourced};
 
-use crate::data::{receives, same_found};
-use crate::matches::{fits, sends};
+use crate::bits::is_prefix;
+use crate::data::receives;
+use crate::matches::sends;
 use crate::names::Name;
 use crate::places::Places;
-use crate::stamps::found_at;
+use crate::sought::{Sought, is_found};
 use net_sim::{BitLog, Life};
-
-/// Returns whether the first list is a prefix of the second.
-fn is_prefix(bits: &BitLog, other: &BitLog) -> bool
-    ensures { MatchBool result (IsPrefix bits.now other.now) (IsPrefix bits.now other.now → ⊥) }
-{
-    for i in 0..bits.len() {
-        if !same_found(bits.get(i), other.get(i)) {
-            return false;
-        }
-    }
-    true
-}
-
-/// Returns whether the life at a place matches a receiving one, and sent what that took.
-fn is_source(asked: &Name, life: &Life, names: &[Name], lives: &[Life], place: usize) -> bool
-    ensures { MatchBool result (SourceAt asked.now life.now names.now lives.now place) (SourceAt asked.now life.now names.now lives.now place → ⊥) }
-{
-    let (Some(b), Some(y)) = (names.get(place), lives.get(place)) else {
-        return false;
-    };
-    fits(asked, life, b, y) && is_prefix(&life.bits, &y.bits)
-}
-
-/// Returns whether some life matches a receiving one, and sent what that took.
-fn has_source(
-    asked: &Name,
-    life: &Life,
-    last: &Places,
-    before: &[Option<usize>],
-    names: &[Name],
-    lives: &[Life],
-) -> bool
-    requires { AreChained (length lives.now) last.now before.now lives.now }
-    ensures { MatchBool result ((i : ℕ) × SourceAt asked.now life.now names.now lives.now i) ((i : ℕ) → SourceAt asked.now life.now names.now lives.now i → ⊥) }
-{
-    let mut at = last.get(asked.key());
-    'chain: while let Some(place) = at {
-        if is_source(asked, life, names, lives, place) {
-            return true;
-        }
-        at = found_at(before, place);
-    }
-    false
-}
 
 /// Returns whether a life took nothing, or what one that it matches sent.
 fn is_sourced(
@@ -73,7 +29,7 @@ fn is_sourced(
     if life.bits.len() == 0 {
         return true;
     }
-    has_source(asked, life, last, before, names, lives)
+    is_found(Sought::Source, asked, life, last, before, names, lives)
 }
 
 /// Returns whether what a life sent was handed over.

@@ -3,8 +3,11 @@ use Rattle.std.specs.Prelude.{Bool, List, MatchOption, Option, length}
 use Rattle.interface.specs.declared.crossing.Crossing.{Crossing}
 use Rattle.net_sim.specs.Findings.{AreFed, ShowsLife, ShowsTwo, first_fed, first_granted}
 use Rattle.net_sim.specs.declared.auditing.findings.Finding.{Finding}
+use Rattle.promise.specs.Fates.{ClosesWhole}
 use Rattle.promise.specs.Safe.{Name, SafeGrants, SafePartners}
+use Rattle.promise.specs.declared.life.Fate.{Fate}
 use Rattle.promise.specs.declared.life.Life.{Life}
+use Rattle.book_judge.specs.Broken.{first_closed}
 use Rattle.book_judge.specs.Inside.Asked.{AreNamed}
 
 -- of any log in which these are the requests of the partners of the lives
@@ -21,3 +24,8 @@ TellsStreams found names lives handed =
 abbrev pub TellsGrants : Option Finding → List Name → List Life → Type 0
 TellsGrants found names lives =
     (log : List Crossing) → AreNamed (length lives) names lives log → MatchOption found (SafeGrants log lives) (λ at. ShowsLife (first_granted log lives) at log lives)
+
+abbrev pub TellsCloses : Option Finding → List Name → List Life → List (List Bool) → List Fate → Type 0
+TellsCloses found names lives handed fates =
+    (log : List Crossing) → AreNamed (length lives) names lives log
+    → MatchOption found (ClosesWhole log lives handed fates) (λ at. ShowsLife (first_closed log lives handed fates) at log lives)

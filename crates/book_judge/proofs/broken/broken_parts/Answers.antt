@@ -7,4 +7,5 @@ returns c = λ log are. record {
   partners = c.in_ok-partners.ensures log are;
   streams = c.unfed-streams.ensures log are;
   grants = c.excess-grants.ensures log are;
+  closes = c.lost-closes.ensures log are;
 }

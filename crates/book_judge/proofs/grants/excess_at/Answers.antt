@@ -2,11 +2,11 @@ use Rattle.std.proofs.Common.{length, arith}
 use Rattle.book_judge.specs.Inside.Chains.{GrantedAt}
 use Rattle.book_judge.proofs.Elements.{first_all, first_more, when_false, when_true}
 use Rattle.book_judge.proofs.Fed.{excess_here, granted_here}
-use Rattle.book_judge.proofs.Shown.{earlier_granted}
+use Rattle.book_judge.proofs.Shown.{earlier_all}
 use Rattle.book_judge.proofs.grants.excess_at.Goals as goal
 
 pub has_granted-requires-clause-earlier : goal.has_granted-requires-clause-earlier
-has_granted-requires-clause-earlier c = earlier_granted c.args.names.now c.args.lives.now c.args.before.now c.args.last.now c.loop-place.place
+has_granted-requires-clause-earlier c = earlier_all (GrantedAt c.args.names.now c.args.lives.now) c.args.lives.now c.args.before.now c.args.last.now c.loop-place.place
     c.index-lives-place.result c.found_at-earlier.result c.loop-place-test.true c.index-lives-place.is c.requires.chained c.found_at-earlier.ensures c.loop-place.invariant
 
 pub returns-then-not-has_granted : goal.returns-then-not-has_granted

@@ -8,5 +8,5 @@ returns-then-is_shown c = shown_granted c.args.asked.now c.args.life.now c.args.
     (sym c.is_shown.ensures ∙ c.if-is_shown.true) c.requires.earlier (search rules)
 
 pub returns : goal.returns
-returns c = granted_by c.is_exceeded.result c.args.asked.now c.args.life.now c.args.names.now c.args.lives.now c.is_exceeded.ensures
+returns c = granted_by c.is_found.result c.args.asked.now c.args.life.now c.args.names.now c.args.lives.now c.is_found.ensures
     (sym c.receives.ensures ∙ c.if-not-receives.false) (search rules)

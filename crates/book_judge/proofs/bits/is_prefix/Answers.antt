@@ -1,6 +1,6 @@
 use Rattle.std.proofs.Common.{arith}
 use Rattle.book_judge.proofs.Fed.{prefix_more, prefix_whole}
-use Rattle.book_judge.proofs.streams.is_prefix.Goals as goal
+use Rattle.book_judge.proofs.bits.is_prefix.Goals as goal
 
 pub loop-i-preserved : goal.loop-i-preserved
 loop-i-preserved c = prefix_more c.args.bits.now c.args.other.now c.loop-i.i c.get.result c.get-in-loop-i.result c.same_found.result c.get.ensures

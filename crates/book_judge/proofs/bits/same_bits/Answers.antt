@@ -1,0 +1,6 @@
+use Rattle.std.proofs.Common.{◌∙◌, Bool, List, ap, length, sym, rules}
+use Rattle.book_judge.proofs.Lost.{same_by_prefix}
+use Rattle.book_judge.proofs.bits.same_bits.Goals as goal
+
+pub returns : goal.returns
+returns c = same_by_prefix c.is_prefix.result c.args.bits.now c.args.other.now (search rules) c.is_prefix.ensures
