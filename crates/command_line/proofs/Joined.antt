@@ -1,8 +1,8 @@
 -- What `--log` writes, `--audit` reads and calls kept.
-use Rattle.std.proofs.Common.{◌≡◌, ℕ, Bool, List, [], reverse, Option, Some, None, IfSome, Result, Ok, Err, MatchResult, refl, sym, subst}
+use Rattle.std.proofs.Common.{◌≡◌, ℕ, Bool, List, [], reverse, Option, Some, None, IfSome, Result, Ok, Err, MatchResult, inl, inr, map, refl, sym, subst}
 use Rattle.std.proofs.lemmas.List.{reverse-reverse}
-use Rattle.book_log.specs.Log.{Book}
-use Rattle.book_log.proofs.lemmas.{book_once}
+use Rattle.book_log.specs.Log.{Book, fates_of, lives_of, logged_fate}
+use Rattle.book_log.proofs.lemmas.{book_once, fates_back, lives_back}
 use Rattle.headline.proofs.lemmas.{kept_promise, parted, world_run}
 use Rattle.interface.specs.Host.{Host}
 use Rattle.interface.specs.Mailboxes.{IsRun}
@@ -11,6 +11,10 @@ use Rattle.interface.specs.declared.crossing.Crossing.{Crossing}
 use Rattle.net_sim.specs.Audit.{Says}
 use Rattle.net_sim.specs.declared.auditing.said.Audit.{Audit}
 use Rattle.net_sim.specs.declared.auditing.said.Audit.TheVariants as audit
+use Rattle.net_sim.specs.Book.{Kept}
+use Rattle.promise.specs.Fates.{AreFated, ClosesWhole, IsBeside}
+use Rattle.promise.specs.declared.life.Fate.{Fate}
+use Rattle.promise.specs.declared.life.Fate.TheVariants as fate
 use Rattle.promise.specs.declared.life.Life.{Life}
 use Rattle.interface.specs.Calls.{Calls}
 use Rattle.topology.specs.Topology.{TopologyFields}
@@ -18,7 +22,7 @@ use Rattle.topology.specs.declared.network.CarrierKind.{CarrierKind}
 use Rattle.topology.specs.declared.network.CarrierKind.TheVariants as kind
 use Rattle.book_judge.specs.Runs.{IsSomeRun}
 use Rattle.book_judge.proofs.lemmas.{made_twice}
-use Rattle.command_line.specs.Audits.{AuditsLog, IsAuditFault, IsKeptLog, IsSomeLog, SaysKept, SaysOf, kept}
+use Rattle.command_line.specs.Audits.{AuditsLog, IsAuditFault, IsKeptLog, IsSomeLog, Judged, SaysKept, SaysOf, kept}
 use Rattle.command_line.specs.declared.verdict.Verdict.{Verdict}
 use Rattle.leader1822.specs.Boxes.{plain_calls}
 use Rattle.subnet.specs.Working.{subnet_calls}
@@ -42,21 +46,57 @@ run_twice hosts log run = (hosts, subst (IsRun hosts) (sym (reverse-reverse log)
 kept_alone : (log : List Crossing) → SafeMessages log → Says audit.Kept log [] []
 kept_alone log messages = (record { counts = refl; stamped = λ x there. absurd (none_there x there) }, safe_alone log messages)
 
+-- where there is no life nothing is lost
+none_closes : (log : List Crossing) → ClosesWhole log [] [] []
+none_closes log = record { took_sent = λ x y beside c m. absurd beside; took_handed = λ x y text beside there m some. absurd beside }
+
+ended_logged : (f : Fate) → logged_fate f ≡ fate.Ended → f ≡ fate.Ended
+ended_logged fate.Open e = absurd (cc)
+ended_logged fate.Closing e = absurd (cc)
+ended_logged fate.Closed e = absurd (cc)
+ended_logged fate.Ended e = refl
+ended_logged fate.Reset e = absurd (cc)
+ended_logged fate.Stopped e = absurd (cc)
+
+beside_logged : (x : Life) (lives : List Life) (fates : List Fate) → IsBeside x fate.Ended lives (map logged_fate fates) → IsBeside x fate.Ended lives fates
+beside_logged x [] fates h = absurd h
+beside_logged x (y ∷ lives) [] h = absurd h
+beside_logged x (y ∷ lives) (f ∷ fates) h = elim h [
+  | inl e ↦ inl (e.0, sym (ended_logged f (sym e.1)))
+  | inr r ↦ inr (beside_logged x lives fates r)
+]
+
+-- what is logged of fates loses nothing where they don't
+closes_logged : (log : List Crossing) (lives : List Life) (handed : List (List Bool)) (fates : List Fate) → ClosesWhole log lives handed fates → ClosesWhole log lives handed (map logged_fate fates)
+closes_logged log lives handed fates w = record {
+  took_sent = λ x y beside c m. w.took_sent x y (beside_logged x lives fates beside) c m;
+  took_handed = λ x y text beside there m some. w.took_handed x y text (beside_logged x lives fates beside) there m some;
+}
+
+-- the lives and fates of the log of a world are those of its book
+says_logged : (k : Kept) → AreFated k.book.lives k.fates → Judged kept (reverse k.book.crossings) k.book.lives k.handed (map logged_fate k.fates) → SaysOf kept (world_book k)
+says_logged k are j =
+    subst (λ (xs : List Life). Judged kept (reverse k.book.crossings) xs k.handed (fates_of (world_book k))) (sym (lives_back k.book.lives k.fates are))
+    (subst (λ (fs : List Fate). Judged kept (reverse k.book.crossings) k.book.lives k.handed fs) (sym (fates_back k.book.lives k.fates are)) j)
+
 kept_from : {C : Type 0} (calls : Calls C) (opening : C) (events : Asked) (octets : List ℕ) → LogsFrom calls opening events (Some []) (Some octets) → IsKeptLog octets
 kept_from calls opening (Raw events) octets h = record {
   book = raw_book (calls.seen h.last).log;
   log = record { spelled = h.written; valid = h.valid };
   says =
-      kept_from_safe (reverse (calls.seen h.last).log) [] [] (run_twice (calls.seen h.last).hosts (calls.seen h.last).log h.run) (λ x there. absurd (none_there x there))
-      (turned audit.Kept (calls.seen h.last).log [] [] (kept_alone (calls.seen h.last).log h.messages));
+      kept_from_safe (reverse (calls.seen h.last).log) [] [] [] (run_twice (calls.seen h.last).hosts (calls.seen h.last).log h.run) (λ x there. absurd (none_there x there))
+      (turned audit.Kept (calls.seen h.last).log [] [] (kept_alone (calls.seen h.last).log h.messages)) (none_closes (reverse (reverse (calls.seen h.last).log)));
 }
 kept_from calls opening (World events) octets h = record {
   book = world_book h.last.kept;
   log = record { spelled = h.written; valid = h.valid };
   says =
-      kept_from_safe (reverse h.last.kept.book.crossings) h.last.kept.book.lives h.last.kept.handed
+      says_logged h.last.kept h.fated
+      (kept_from_safe (reverse h.last.kept.book.crossings) h.last.kept.book.lives h.last.kept.handed (map logged_fate h.last.kept.fates)
       (run_twice (calls.seen h.last.carrier).hosts h.last.kept.book.crossings (world_run calls.seen h.last h.promise.lawful)) (made_twice h.last.kept.book.crossings h.last.kept.book.lives h.promise.firsts)
-      (turned audit.Kept h.last.kept.book.crossings h.last.kept.book.lives h.last.kept.handed (kept_promise (calls.seen h.last.carrier).hosts h.last.kept.book h.last.kept.handed (parted calls.seen h.last h.promise).0));
+      (turned audit.Kept h.last.kept.book.crossings h.last.kept.book.lives h.last.kept.handed (kept_promise (calls.seen h.last.carrier).hosts h.last.kept.book h.last.kept.handed (parted calls.seen h.last h.promise).0))
+      (closes_logged (reverse (reverse h.last.kept.book.crossings)) h.last.kept.book.lives h.last.kept.handed h.last.kept.fates
+      (subst (λ (cs : List Crossing). ClosesWhole cs h.last.kept.book.lives h.last.kept.handed h.last.kept.fates) (sym (reverse-reverse h.last.kept.book.crossings)) h.whole)));
 }
 
 kept_over : (carrier : CarrierKind) (t : TopologyFields) (events : Asked) (octets : List ℕ) → LogsOver carrier t events (Some []) (Some octets) → IsKeptLog octets
@@ -71,7 +111,7 @@ logged_kept octets h = kept_over h.network.carrier h.network h.events octets h.l
 said_kept : (octets : List ℕ) (v : Verdict) (before after : Option (List ℕ)) → AuditsLog octets v before after → IsKeptLog octets → v ≡ kept
 said_kept octets v before after a k =
     let same : a.book ≡ k.book = book_once octets a.book k.book a.log k.log in
-    only_kept v k.book.crossings k.book.lives k.book.handed k.says (subst (λ (b : Book). SaysOf v b) same a.says)
+    only_kept v k.book.crossings (lives_of k.book) k.book.handed (fates_of k.book) k.says (subst (λ (b : Book). SaysOf v b) same a.says)
 
 -- where octets are a log, its lines are not bad
 never_bad : (octets : List ℕ) (f : AuditFault) → IsAuditFault octets f → IsKeptLog octets → SaysKept octets (Err f)

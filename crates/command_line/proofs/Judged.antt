@@ -1,12 +1,15 @@
 -- What is written of a log is what its audit says.
-use Rattle.std.proofs.Common.{◌≡◌, ℕ, Bool, true, false, List, ◌++◌, Option, Some, None, IfSome, Result, Ok, Err, MatchResult, OnOk, ap, refl, sym, ◌∙◌, subst}
+use Rattle.std.proofs.Common.{◌≡◌, ℕ, Bool, true, false, List, ◌++◌, Option, Some, None, IfSome, Result, Ok, Err, MatchResult, OnOk, ap, codes, refl, sym, ◌∙◌, subst}
 use Rattle.std.proofs.lemmas.Bool.{false≢true}
 use Rattle.std.proofs.lemmas.List.{append_assoc}
 use Rattle.std.specs.Io.KnownBytes.{Appends, Keeps}
-use Rattle.book_log.specs.Log.{Book, IsLog}
+use Rattle.book_log.specs.Log.{Book, IsLog, fates_of, lives_of}
 use Rattle.interface.specs.declared.crossing.Crossing.{Crossing}
+use Rattle.promise.specs.declared.life.Fate.{Fate}
 use Rattle.promise.specs.declared.life.Life.{Life}
-use Rattle.command_line.specs.Audits.{Audited, AuditsLog, IsAuditFault, IsBookFault, IsLogReadFault, IsSomeLog, Judged, SaysOf, verdict_text}
+use Rattle.command_line.specs.Audits.{Audited, AuditsLog, IsAuditFault, IsBookFault, IsLogReadFault, IsSomeLog, Judged, SaysOf, closes_text, lines_of, lines_text, verdict_text}
+use Rattle.command_line.specs.declared.verdict.Lines.{Lines}
+use Rattle.net_sim.specs.declared.auditing.findings.Finding.{Finding}
 use Rattle.command_line.specs.declared.verdict.Verdict.{Verdict}
 use Rattle.command_line.specs.declared.auditing.AuditFault.{AuditFault}
 use Rattle.command_line.specs.declared.auditing.AuditFault.TheVariants as fault
@@ -26,10 +29,12 @@ some_log None octets b same log = tt
 some_log (Some k) octets b same log = subst IsSomeLog same (b, log)
 
 -- what is judged is what was read
-pub says_of : (b : Book) (v : Verdict) (crossings : List Crossing) (lives : List Life) (handed : List (List Bool)) → crossings ≡ b.crossings → lives ≡ b.lives → handed ≡ b.handed → Judged v crossings lives handed → SaysOf v b
-says_of b v crossings lives handed p q r j =
-    subst (λ (cs : List Crossing). Judged v cs b.lives b.handed) p
-    (subst (λ (xs : List Life). Judged v crossings xs b.handed) q (subst (λ (hs : List (List Bool)). Judged v crossings lives hs) r j))
+pub says_of : (b : Book) (v : Verdict) (crossings : List Crossing) (lives : List Life) (handed : List (List Bool)) (fates : List Fate) → crossings ≡ b.crossings → lives ≡ lives_of b → handed ≡ b.handed → fates ≡ fates_of b
+    → Judged v crossings lives handed fates → SaysOf v b
+says_of b v crossings lives handed fates p q r s j =
+    subst (λ (cs : List Crossing). Judged v cs (lives_of b) b.handed (fates_of b)) p
+    (subst (λ (xs : List Life). Judged v crossings xs b.handed (fates_of b)) q
+    (subst (λ (hs : List (List Bool)). Judged v crossings lives hs (fates_of b)) r (subst (λ (fs : List Fate). Judged v crossings lives handed fs) s j)))
 
 pub whether_ok : {T E Q : Type 0} (r : Result T E) → Q → OnOk r Q
 whether_ok (Ok x) q = q
@@ -48,6 +53,13 @@ joins None b c text more h k = tt
 joins (Some x) None c text more h k = absurd h
 joins (Some x) (Some y) None text more h k = absurd k
 joins (Some x) (Some y) (Some z) text more h k = k ∙ ap (λ (w : List ℕ). w ++ more) h ∙ append_assoc x text more
+
+-- what is written of closes, by the lines that are found
+pub closes_told : {T E : Type 0} (r : Result T E) (b : Book) (o : Option Finding) (found : Finding) (l : Lines) (before after : Option (List ℕ)) → o ≡ Some found → l ≡ lines_of b found
+    → OnOk r (Appends before after (codes "broken closes " ++ (lines_text l ++ codes "\n"))) → OnOk r (Appends before after (closes_text b o))
+closes_told r b o found l before after e f h =
+    subst (λ (q : Option Finding). OnOk r (Appends before after (closes_text b q))) (sym e)
+    (subst (λ (k : Lines). OnOk r (Appends before after (codes "broken closes " ++ (lines_text k ++ codes "\n")))) f h)
 
 -- ---- faults
 

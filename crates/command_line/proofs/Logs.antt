@@ -1,7 +1,9 @@
 -- What `--log` writes is the log of the book that a replay leaves.
-use Rattle.std.proofs.Common.{◌≡◌, ℕ, Bool, List, [], Option, Some, None, IfSome, Result, Ok, Err, OnOk, reverse, subst}
+use Rattle.std.proofs.Common.{◌≡◌, ℕ, Bool, List, [], Option, Some, None, IfSome, Result, Ok, Err, OnOk, refl, reverse, subst, sym}
 use Rattle.std.specs.Io.KnownBytes.{Appends}
-use Rattle.book_log.specs.Log.{Book, IsBook, log_text}
+use Rattle.book_log.specs.Log.{Book, IsBook, log_text, logged_book}
+use Rattle.promise.specs.Fates.{AreFated, ClosesWhole}
+use Rattle.promise.specs.declared.life.Fate.{Fate}
 use Rattle.headline.specs.Promise.{KeepsPromise}
 use Rattle.interface.specs.Mailboxes.{IsRun}
 use Rattle.interface.specs.Messages.{SafeMessages}
@@ -25,28 +27,33 @@ use Rattle.command_line.specs.declared.fault.ScriptFault.{ScriptFault}
 use Rattle.command_line.specs.declared.fault.ScriptFault.TheVariants as fault
 
 pub logs_raw : {C : Type 0} (calls : Calls C) (opening last : C) (events : List RawEvent) (detail : Detail) (log : List Crossing) (x y before after : Option (List ℕ)) → Writes detail (Replays calls opening events last) x y
-    → SafeMessages (calls.seen last).log → IsRun (calls.seen last).hosts (calls.seen last).log → log ≡ reverse (calls.seen last).log → Appends before after (log_text (record { crossings = log; lives = []; handed = [] })) → IsBook (record { crossings = log; lives = []; handed = [] }) → LogsRaw calls opening events before after
+    → SafeMessages (calls.seen last).log → IsRun (calls.seen last).hosts (calls.seen last).log → log ≡ reverse (calls.seen last).log → Appends before after (log_text (logged_book log [] [] [])) → (AreFated [] [] → IsBook (logged_book log [] [] [])) → LogsRaw calls opening events before after
 logs_raw calls opening last events detail log x y before after w safe run is written valid = record {
   last = last;
   shown = w.shown;
   replayed = w.is_shown;
   messages = safe;
   run = run;
-  written = subst (λ (cs : List Crossing). Appends before after (log_text (record { crossings = cs; lives = []; handed = [] }))) is written;
-  valid = subst (λ (cs : List Crossing). IsBook (record { crossings = cs; lives = []; handed = [] })) is valid;
+  written = subst (λ (cs : List Crossing). Appends before after (log_text (logged_book cs [] [] []))) is written;
+  valid = subst (λ (cs : List Crossing). IsBook (logged_book cs [] [] [])) is (valid refl);
 }
 
-pub logs_world : {C : Type 0} (calls : Calls C) (opening : C) (first last : WorldState C) (events : List WorldEvent) (detail : Detail) (log : List Crossing) (lives : List Life) (handed : List (List Bool)) (x y before after : Option (List ℕ))
+fated_back : (lives : List Life) (fates : List Fate) (others : List Life) (other : List Fate) → lives ≡ others → fates ≡ other → AreFated others other → AreFated lives fates
+fated_back lives fates others other e f are = subst (λ (xs : List Life). AreFated xs fates) (sym e) (subst (λ (fs : List Fate). AreFated others fs) (sym f) are)
+
+pub logs_world : {C : Type 0} (calls : Calls C) (opening : C) (first last : WorldState C) (events : List WorldEvent) (detail : Detail) (log : List Crossing) (lives : List Life) (handed : List (List Bool)) (fates : List Fate) (x y before after : Option (List ℕ))
     → first ≡ opening_world (shown calls) opening → lines.Writes detail (worlds.Replays (shown calls) first events last) x y → KeepsPromise calls.seen last
-    → log ≡ reverse last.kept.book.crossings → lives ≡ last.kept.book.lives → handed ≡ last.kept.handed → Appends before after (log_text (record { crossings = log; lives = lives; handed = handed })) → IsBook (record { crossings = log; lives = lives; handed = handed })
+    → log ≡ reverse last.kept.book.crossings → lives ≡ last.kept.book.lives → handed ≡ last.kept.handed → fates ≡ last.kept.fates → AreFated last.kept.book.lives last.kept.fates → ClosesWhole last.kept.book.crossings last.kept.book.lives last.kept.handed last.kept.fates → Appends before after (log_text (logged_book log lives handed fates)) → (AreFated lives fates → IsBook (logged_book log lives handed fates))
     → LogsWorld calls opening events before after
-logs_world {C} calls opening first last events detail log lives handed x y before after begins w promise crossings alive given written valid = record {
+logs_world {C} calls opening first last events detail log lives handed fates x y before after begins w promise crossings alive given how are whole written valid = record {
   last = last;
   shows = w.shown;
   replayed = subst (λ (s : WorldState C). worlds.Replays (shown calls) s events last w.shown) begins w.is_shown;
   promise = promise;
-  written = subst (λ (b : Book). Appends before after (log_text b)) (λ i. record { crossings = crossings i; lives = alive i; handed = given i }) written;
-  valid = subst IsBook (λ i. record { crossings = crossings i; lives = alive i; handed = given i }) valid;
+  fated = are;
+  whole = whole;
+  written = subst (λ (b : Book). Appends before after (log_text b)) (λ i. logged_book (crossings i) (alive i) (given i) (how i)) written;
+  valid = subst IsBook (λ i. logged_book (crossings i) (alive i) (given i) (how i)) (valid (fated_back lives fates last.kept.book.lives last.kept.fates alive how are));
 }
 
 pub logged : (network : TopologyFields) (events : Asked) (before after : Option (List ℕ)) → LogsOn network events before after → Logged before after

@@ -4,10 +4,10 @@ use Rattle.std.specs.List.{Contains}
 use Rattle.std.specs.Prelude.{◌↔◌}
 use Rattle.std.proofs.lemmas.List.{append_assoc, take-append-drop}
 use Rattle.std.proofs.lemmas.List.Elements.{Contains-append_left}
-use Rattle.book_judge.specs.Broken.{IfFormed}
+use Rattle.book_judge.specs.Broken.{IfFormed, first_closed}
 use Rattle.book_judge.specs.Lives.{AreMade, UnmadeAt}
 use Rattle.book_judge.specs.Runs.{IsSomeRun, StraysAt}
-use Rattle.book_judge.proofs.lemmas.{made_front, run_front}
+use Rattle.book_judge.proofs.lemmas.{closed_front, made_front, run_front}
 use Rattle.interface.proofs.lemmas.{safe_messages}
 use Rattle.interface.specs.Messages.{SafeMessages}
 use Rattle.interface.specs.declared.crossing.Answer.TheVariants as answer
@@ -19,6 +19,8 @@ use Rattle.net_sim.specs.declared.auditing.findings.Finding.{Finding}
 use Rattle.net_sim.specs.declared.auditing.findings.Finding.TheVariants as finding
 use Rattle.net_sim.specs.declared.auditing.said.Audit.TheVariants as audit
 use Rattle.promise.specs.Safe.{AreHanded, AreTwo, Name, SafeGrants, SafePartners, SafeStreams, own_request}
+use Rattle.promise.specs.Fates.{ClosesWhole}
+use Rattle.promise.specs.declared.life.Fate.{Fate}
 use Rattle.promise.specs.declared.life.Life.{Life}
 use Rattle.command_line.specs.Audits.{Judged, kept}
 use Rattle.command_line.specs.declared.verdict.Verdict.{Verdict}
@@ -105,6 +107,9 @@ shown_grants found log lives g h =
       sent = λ x y c d m. g.sent x y (contains_front (h.place + 1) lives x c) d m;
     })
 
+shown_closes : (found : Finding) (log : List Crossing) (lives : List Life) (handed : List (List Bool)) (fates : List Fate) → ClosesWhole log lives handed fates → ShowsLife (first_closed log lives handed fates) found log lives → ⊥
+shown_closes found log lives handed fates w h = h.first.1 (closed_front log lives handed fates (h.place + 1) w)
+
 -- ---- named or not
 
 -- a part isn't named exactly where it holds
@@ -117,42 +122,49 @@ looked_at : (malformed found : Option Finding) (A : Type 0) (ShowsAt : Finding �
 looked_at None found A ShowsAt e h = h
 looked_at (Some at) found A ShowsAt e h = absurd (cc)
 
-pub run_named : (v : Verdict) (log : List Crossing) (lives : List Life) (handed : List (List Bool)) → Judged v log lives handed → (v.stray ≡ None) ↔ IsSomeRun (reverse log)
-run_named v log lives handed j = unnamed v.stray (λ place. StraysAt log place) (λ place run at. at.1 (run_front log (place + 1) run)) j.run
+pub run_named : (v : Verdict) (log : List Crossing) (lives : List Life) (handed : List (List Bool)) (fates : List Fate) → Judged v log lives handed fates → (v.stray ≡ None) ↔ IsSomeRun (reverse log)
+run_named v log lives handed fates j = unnamed v.stray (λ place. StraysAt log place) (λ place run at. at.1 (run_front log (place + 1) run)) j.run
 
-pub lives_named : (v : Verdict) (log : List Crossing) (lives : List Life) (handed : List (List Bool)) → Judged v log lives handed → (v.unmade ≡ None) ↔ AreMade (reverse log) lives
-lives_named v log lives handed j =
+pub lives_named : (v : Verdict) (log : List Crossing) (lives : List Life) (handed : List (List Bool)) (fates : List Fate) → Judged v log lives handed fates → (v.unmade ≡ None) ↔ AreMade (reverse log) lives
+lives_named v log lives handed fates j =
     unnamed v.unmade (λ place. UnmadeAt (reverse log) lives place) (λ place made at. at.1 (made_front (reverse log) lives (place + 1) made)) j.made
 
-pub formed_named : (v : Verdict) (log : List Crossing) (lives : List Life) (handed : List (List Bool)) → Judged v log lives handed → (v.malformed ≡ None) ↔ IsWellFormed (reverse log) lives handed
-formed_named v log lives handed j =
+pub formed_named : (v : Verdict) (log : List Crossing) (lives : List Life) (handed : List (List Bool)) (fates : List Fate) → Judged v log lives handed fates → (v.malformed ≡ None) ↔ IsWellFormed (reverse log) lives handed
+formed_named v log lives handed fates j =
     unnamed v.malformed (λ found. ShowsMalformed found (reverse log) lives handed) (λ found w h. shown_formed found (reverse log) lives handed w h) j.formed
 
-pub messages_named : (v : Verdict) (log : List Crossing) (lives : List Life) (handed : List (List Bool)) → Judged v log lives handed → (v.messages ≡ None) ↔ SafeMessages (reverse log)
-messages_named v log lives handed j = unnamed v.messages (λ found. ShowsCrossing found (reverse log)) (λ found s h. shown_messages found (reverse log) s h) j.messages
+pub messages_named : (v : Verdict) (log : List Crossing) (lives : List Life) (handed : List (List Bool)) (fates : List Fate) → Judged v log lives handed fates → (v.messages ≡ None) ↔ SafeMessages (reverse log)
+messages_named v log lives handed fates j = unnamed v.messages (λ found. ShowsCrossing found (reverse log)) (λ found s h. shown_messages found (reverse log) s h) j.messages
 
-pub partners_named : (v : Verdict) (log : List Crossing) (lives : List Life) (handed : List (List Bool)) → Judged v log lives handed → v.malformed ≡ None
+pub partners_named : (v : Verdict) (log : List Crossing) (lives : List Life) (handed : List (List Bool)) (fates : List Fate) → Judged v log lives handed fates → v.malformed ≡ None
     → (v.partners ≡ None) ↔ SafePartners (reverse log) lives
-partners_named v log lives handed j e =
+partners_named v log lives handed fates j e =
     unnamed v.partners (λ found. ShowsTwo found (reverse log) lives) (λ found s h. shown_partners found (reverse log) lives s h)
     (looked_at v.malformed v.partners (SafePartners (reverse log) lives) (λ found. ShowsTwo found (reverse log) lives) e j.partners)
 
-pub streams_named : (v : Verdict) (log : List Crossing) (lives : List Life) (handed : List (List Bool)) → Judged v log lives handed → v.malformed ≡ None
+pub streams_named : (v : Verdict) (log : List Crossing) (lives : List Life) (handed : List (List Bool)) (fates : List Fate) → Judged v log lives handed fates → v.malformed ≡ None
     → (v.streams ≡ None) ↔ AreFed (reverse log) lives lives handed
-streams_named v log lives handed j e =
+streams_named v log lives handed fates j e =
     unnamed v.streams (λ found. ShowsLife (first_fed (reverse log) lives handed) found (reverse log) lives) (λ found f h. shown_streams found (reverse log) lives handed f h)
     (looked_at v.malformed v.streams (AreFed (reverse log) lives lives handed) (λ found. ShowsLife (first_fed (reverse log) lives handed) found (reverse log) lives) e j.streams)
 
-pub grants_named : (v : Verdict) (log : List Crossing) (lives : List Life) (handed : List (List Bool)) → Judged v log lives handed → v.malformed ≡ None
+pub grants_named : (v : Verdict) (log : List Crossing) (lives : List Life) (handed : List (List Bool)) (fates : List Fate) → Judged v log lives handed fates → v.malformed ≡ None
     → (v.grants ≡ None) ↔ SafeGrants (reverse log) lives
-grants_named v log lives handed j e =
+grants_named v log lives handed fates j e =
     unnamed v.grants (λ found. ShowsLife (first_granted (reverse log) lives) found (reverse log) lives) (λ found g h. shown_grants found (reverse log) lives g h)
     (looked_at v.malformed v.grants (SafeGrants (reverse log) lives) (λ found. ShowsLife (first_granted (reverse log) lives) found (reverse log) lives) e j.grants)
 
+pub closes_named : (v : Verdict) (log : List Crossing) (lives : List Life) (handed : List (List Bool)) (fates : List Fate) → Judged v log lives handed fates → v.malformed ≡ None
+    → (v.closes ≡ None) ↔ ClosesWhole (reverse log) lives handed fates
+closes_named v log lives handed fates j e =
+    unnamed v.closes (λ found. ShowsLife (first_closed (reverse log) lives handed fates) found (reverse log) lives) (λ found w h. shown_closes found (reverse log) lives handed fates w h)
+    (looked_at v.malformed v.closes (ClosesWhole (reverse log) lives handed fates) (λ found. ShowsLife (first_closed (reverse log) lives handed fates) found (reverse log) lives) e j.closes)
+
 -- ---- nothing is named exactly of a safe book
 
-pub kept_from_safe : (log : List Crossing) (lives : List Life) (handed : List (List Bool)) → IsSomeRun (reverse log) → AreMade (reverse log) lives → Says audit.Kept (reverse log) lives handed → Judged kept log lives handed
-kept_from_safe log lives handed run made safe = record {
+pub kept_from_safe : (log : List Crossing) (lives : List Life) (handed : List (List Bool)) (fates : List Fate) → IsSomeRun (reverse log) → AreMade (reverse log) lives → Says audit.Kept (reverse log) lives handed
+    → ClosesWhole (reverse log) lives handed fates → Judged kept log lives handed fates
+kept_from_safe log lives handed fates run made safe closes = record {
   run = run;
   made = made;
   formed = safe.0;
@@ -160,6 +172,7 @@ kept_from_safe log lives handed run made safe = record {
   partners = safe.1.partners;
   streams = record { source = safe.1.streams.source; sent = safe.1.streams.sent };
   grants = safe.1.grants;
+  closes = closes;
 }
 
 some_one : (a b : Name) → Some a ≡ Some b → a ≡ b
@@ -173,20 +186,21 @@ streams_safe log lives handed s f = record {
   sent = f.sent;
 }
 
-pub safe_from_kept : (log : List Crossing) (lives : List Life) (handed : List (List Bool)) → Judged kept log lives handed → Says audit.Kept (reverse log) lives handed
-safe_from_kept log lives handed j = (
+pub safe_from_kept : (log : List Crossing) (lives : List Life) (handed : List (List Bool)) (fates : List Fate) → Judged kept log lives handed fates → Says audit.Kept (reverse log) lives handed
+safe_from_kept log lives handed fates j = (
   j.formed,
   record { messages = j.messages; partners = j.partners; streams = streams_safe (reverse log) lives handed j.partners j.streams; grants = j.grants },
 )
 
 -- and of such a log nothing else is said
-pub only_kept : (v : Verdict) (log : List Crossing) (lives : List Life) (handed : List (List Bool)) → Judged kept log lives handed → Judged v log lives handed → v ≡ kept
-only_kept v log lives handed k j =
-    let malformed : v.malformed ≡ None = (formed_named v log lives handed j).1 k.formed in
-    let stray : v.stray ≡ None = (run_named v log lives handed j).1 k.run in
-    let unmade : v.unmade ≡ None = (lives_named v log lives handed j).1 k.made in
-    let messages : v.messages ≡ None = (messages_named v log lives handed j).1 k.messages in
-    let partners : v.partners ≡ None = (partners_named v log lives handed j malformed).1 k.partners in
-    let streams : v.streams ≡ None = (streams_named v log lives handed j malformed).1 k.streams in
-    let grants : v.grants ≡ None = (grants_named v log lives handed j malformed).1 k.grants in
-    (λ i. record { stray = stray i; unmade = unmade i; malformed = malformed i; messages = messages i; partners = partners i; streams = streams i; grants = grants i })
+pub only_kept : (v : Verdict) (log : List Crossing) (lives : List Life) (handed : List (List Bool)) (fates : List Fate) → Judged kept log lives handed fates → Judged v log lives handed fates → v ≡ kept
+only_kept v log lives handed fates k j =
+    let malformed : v.malformed ≡ None = (formed_named v log lives handed fates j).1 k.formed in
+    let stray : v.stray ≡ None = (run_named v log lives handed fates j).1 k.run in
+    let unmade : v.unmade ≡ None = (lives_named v log lives handed fates j).1 k.made in
+    let messages : v.messages ≡ None = (messages_named v log lives handed fates j).1 k.messages in
+    let partners : v.partners ≡ None = (partners_named v log lives handed fates j malformed).1 k.partners in
+    let streams : v.streams ≡ None = (streams_named v log lives handed fates j malformed).1 k.streams in
+    let grants : v.grants ≡ None = (grants_named v log lives handed fates j malformed).1 k.grants in
+    let closes : v.closes ≡ None = (closes_named v log lives handed fates j malformed).1 k.closes in
+    (λ i. record { stray = stray i; unmade = unmade i; malformed = malformed i; messages = messages i; partners = partners i; streams = streams i; grants = grants i; closes = closes i })

@@ -2,15 +2,17 @@
 use Rattle.std.specs.Prelude.{◌≡◌, ℕ, ◌+◌, ◌&&◌, Bool, List, [], ◌++◌, length, reverse, if◌then◌else◌, is_none, MatchOption, Option, Some, None, Result, Ok, Err, codes}
 use Rattle.std.specs.Fmt.{decimal}
 use Rattle.std.specs.Io.KnownBytes.{Appends}
-use Rattle.book_log.specs.Log.{Book, IsBadLine, IsLog}
-use Rattle.book_judge.specs.Broken.{IfFormed}
+use Rattle.book_log.specs.Log.{Book, IsBadLine, IsLog, fates_of, lives_of}
+use Rattle.book_judge.specs.Broken.{IfFormed, first_closed}
 use Rattle.book_judge.specs.Lives.{AreMade, UnmadeAt}
 use Rattle.book_judge.specs.Runs.{IsSomeRun, StraysAt}
 use Rattle.interface.specs.Messages.{SafeMessages}
 use Rattle.interface.specs.declared.crossing.Crossing.{Crossing}
 use Rattle.net_sim.specs.Audit.{IsWellFormed, part_text}
 use Rattle.net_sim.specs.Findings.{AreFed, ShowsCrossing, ShowsLife, ShowsMalformed, ShowsTwo, first_fed, first_granted}
+use Rattle.promise.specs.Fates.{ClosesWhole}
 use Rattle.promise.specs.Safe.{SafeGrants, SafePartners}
+use Rattle.promise.specs.declared.life.Fate.{Fate}
 use Rattle.promise.specs.declared.life.Life.{Life}
 use Rattle.net_sim.specs.declared.auditing.findings.Finding.{Finding}
 use Rattle.net_sim.specs.declared.auditing.findings.Finding.TheVariants as finding
@@ -25,7 +27,7 @@ use Rattle.command_line.specs.declared.auditing.AuditFault.TheVariants as fault
 -- ---- what is said
 
 -- what is said of a log, the oldest crossing first: a part that isn't named holds, and of one that is it is said where it shows
-pub record Judged (v : Verdict) (crossings : List Crossing) (lives : List Life) (handed : List (List Bool)) : Type 0 where
+pub record Judged (v : Verdict) (crossings : List Crossing) (lives : List Life) (handed : List (List Bool)) (fates : List Fate) : Type 0 where
   -- what crossed is a run of the mailboxes
   pub run : MatchOption v.stray (IsSomeRun (reverse crossings)) (λ place. StraysAt crossings place)
   -- the lives are made of what crossed
@@ -37,16 +39,18 @@ pub record Judged (v : Verdict) (crossings : List Crossing) (lives : List Life) 
   pub partners : IfFormed v.malformed v.partners (SafePartners (reverse crossings) lives) (λ found. ShowsTwo found (reverse crossings) lives)
   pub streams : IfFormed v.malformed v.streams (AreFed (reverse crossings) lives lives handed) (λ found. ShowsLife (first_fed (reverse crossings) lives handed) found (reverse crossings) lives)
   pub grants : IfFormed v.malformed v.grants (SafeGrants (reverse crossings) lives) (λ found. ShowsLife (first_granted (reverse crossings) lives) found (reverse crossings) lives)
+  -- what lives that their partners ended have lost
+  pub closes : IfFormed v.malformed v.closes (ClosesWhole (reverse crossings) lives handed fates) (λ found. ShowsLife (first_closed (reverse crossings) lives handed fates) found (reverse crossings) lives)
 
 abbrev pub SaysOf : Verdict → Book → Type 0
-SaysOf v b = Judged v b.crossings b.lives b.handed
+SaysOf v b = Judged v b.crossings (lives_of b) b.handed (fates_of b)
 
 -- nothing is wrong with it
 abbrev pub kept : Verdict
-kept = record { stray = None; unmade = None; malformed = None; messages = None; partners = None; streams = None; grants = None }
+kept = record { stray = None; unmade = None; malformed = None; messages = None; partners = None; streams = None; grants = None; closes = None }
 
 abbrev pub is_kept : Verdict → Bool
-is_kept v = is_none v.stray && is_none v.unmade && is_none v.malformed && is_none v.messages && is_none v.partners && is_none v.streams && is_none v.grants
+is_kept v = is_none v.stray && is_none v.unmade && is_none v.malformed && is_none v.messages && is_none v.partners && is_none v.streams && is_none v.grants && is_none v.closes
 
 -- ---- what is written
 
@@ -55,7 +59,7 @@ abbrev pub lines_of : Book → Finding → Lines
 lines_of b (finding.Crossing place) = lines.One (place + 1)
 lines_of b (finding.Life place) = lines.One (length b.crossings + place + 1)
 lines_of b (finding.Lives place other) = lines.Two (length b.crossings + place + 1) (length b.crossings + other + 1)
-lines_of b (finding.List place) = lines.One (length b.crossings + length b.lives + place + 1)
+lines_of b (finding.List place) = lines.One (length b.crossings + length (lives_of b) + place + 1)
 
 abbrev pub lines_text : Lines → List ℕ
 lines_text (lines.One line) = codes "line " ++ decimal line
@@ -81,9 +85,14 @@ abbrev pub broken_text : Book → Part → Option Finding → List ℕ
 broken_text b p None = []
 broken_text b p (Some found) = codes "broken " ++ (part_text p ++ (codes " " ++ (lines_text (lines_of b found) ++ codes "\n")))
 
+-- of a life that its partner ended and that lost anything, its line and that of the life that it matches
+abbrev pub closes_text : Book → Option Finding → List ℕ
+closes_text b None = []
+closes_text b (Some found) = codes "broken closes " ++ (lines_text (lines_of b found) ++ codes "\n")
+
 abbrev pub parts_text : Book → Verdict → List ℕ
 parts_text b v =
-    broken_text b part.Messages v.messages ++ (broken_text b part.Partners v.partners ++ (broken_text b part.Streams v.streams ++ broken_text b part.Grants v.grants))
+    broken_text b part.Messages v.messages ++ (broken_text b part.Partners v.partners ++ (broken_text b part.Streams v.streams ++ (broken_text b part.Grants v.grants ++ closes_text b v.closes)))
 
 -- that a book is kept, where nothing is wrong
 abbrev pub kept_text : Verdict → List ℕ

@@ -1,13 +1,14 @@
 -- What is written of a replay as a log.
 use Rattle.std.specs.Prelude.{ℕ, List, [], reverse, Option}
 use Rattle.std.specs.Io.KnownBytes.{Appends}
-use Rattle.book_log.specs.Log.{Book, IsBook, log_text}
+use Rattle.book_log.specs.Log.{Book, IsBook, log_text, logged_book}
 use Rattle.headline.specs.Promise.{KeepsPromise}
 use Rattle.interface.specs.Mailboxes.{IsRun}
 use Rattle.interface.specs.Messages.{SafeMessages}
 use Rattle.net_sim.specs.Book.{Kept}
 use Rattle.net_sim.specs.Carriers.{shown}
 use Rattle.net_sim.specs.World.{WorldState, opening_world}
+use Rattle.promise.specs.Fates.{AreFated, ClosesWhole}
 use Rattle.interface.specs.declared.crossing.Crossing.{Crossing}
 use Rattle.replay.specs.Output.{Shown}
 use Rattle.replay.specs.Replay.{Replays}
@@ -33,7 +34,7 @@ raw_book log = record { crossings = reverse log; lives = []; handed = [] }
 
 -- what a log says of a world
 abbrev pub world_book : Kept → Book
-world_book k = record { crossings = reverse k.book.crossings; lives = k.book.lives; handed = k.handed }
+world_book k = logged_book (reverse k.book.crossings) k.book.lives k.handed k.fates
 
 -- events are replayed over a carrier with such calls, and the log of what crossed is written, and nothing else. It says all values as they are
 pub record LogsRaw {C : Type 0} (calls : Calls C) (opening : C) (events : List RawEvent) (before after : Option (List ℕ)) : Type 0 where
@@ -45,13 +46,15 @@ pub record LogsRaw {C : Type 0} (calls : Calls C) (opening : C) (events : List R
   pub written : Appends before after (log_text (raw_book (calls.seen last).log))
   pub valid : IsBook (raw_book (calls.seen last).log)
 
--- events are replayed in a world over such a carrier, whose book keeps its promise, and only the log of this book is written. It says all
--- values as they are
+-- events are replayed in a world over such a carrier, whose book keeps its promise, in which an orderly close loses nothing, and only the log of this book is
+-- written. It says all values as they are
 pub record LogsWorld {C : Type 0} (calls : Calls C) (opening : C) (events : List WorldEvent) (before after : Option (List ℕ)) : Type 0 where
   pub last : WorldState C
   pub shows : List lines.Shown
   pub replayed : worlds.Replays (shown calls) (opening_world (shown calls) opening) events last shows
   pub promise : KeepsPromise calls.seen last
+  pub fated : AreFated last.kept.book.lives last.kept.fates
+  pub whole : ClosesWhole last.kept.book.crossings last.kept.book.lives last.kept.handed last.kept.fates
   pub written : Appends before after (log_text (world_book last.kept))
   pub valid : IsBook (world_book last.kept)
 

@@ -104,14 +104,16 @@ pub fn audit_status(found: Verdict) -> u8
     if found.is_kept() { 0 } else { 4 }
 }
 
-/// Reads a log, and writes `kept` where its book is safe, what crossed is a run of the mailboxes, and its lives are made of the messages that
-/// crossed. Else it writes all that isn't so, a line each, in this order:
+/// Reads a log, and writes `kept` where its book is safe, what crossed is a run of the mailboxes, its lives are made of the messages that
+/// crossed, and those that their partners ended lost nothing. Else it writes all that isn't so, a line each, in this order:
 ///
 /// - `broken run line N`, the line of the first crossing that finds no box as it needs it;
 /// - `broken lives line N`, the line of the first life whose messages aren't the first on its link;
 /// - `malformed line N` where line `N` shows that it is no book;
 /// - `broken PART line N` or `broken PART lines M N` for each part of a safe book that fails, with the lines of the crossing or of the one or
-///   two lives that show it: messages, and of a book that isn't malformed partners, streams and grants.
+///   two lives that show it: messages, and of a book that isn't malformed partners, streams and grants;
+/// - `broken closes lines N M`, of such a book, with the lines of the first life that its partner ended and that lost anything, and of the one that
+///   it matches.
 ///
 /// It answers what it found.
 ///
@@ -154,7 +156,13 @@ pub fn run_audit<R: Source, W: Output>(
 {
     let octets = read_octets(alloc, reader)?;
     let book = read_book(alloc, &octets)?;
-    let found = judge(alloc, book.crossings(), book.lives(), book.handed())?;
+    let found = judge(
+        alloc,
+        book.crossings(),
+        book.lives(),
+        book.handed(),
+        book.fates(),
+    )?;
     write_found(&book, found, writer)?;
     Ok(found)
 }

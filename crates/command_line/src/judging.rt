@@ -10,6 +10,7 @@ use crate::verdict::Verdict;
 use book_judge::{Broken, broken_at, broken_message, stray_at, unmade_at};
 use interface::Crossing;
 use net_sim::{BitLog, Finding, Life};
+use promise::Fate;
 use std::alloc::{AllocError, Global};
 
 /// Returns the first crossing with which messages are broken; `None` where they are kept. A run of the mailboxes keeps them, so
@@ -30,9 +31,9 @@ fn unkept(
     }
 }
 
-/// Returns what is wrong with a log, its lives and what was handed over in them. The log is the oldest first.
+/// Returns what is wrong with a log, its lives with their fates, and what was handed over in them. The log is the oldest first.
 ///
-/// Partners, streams and grants are about the requests that stamps name, so nothing is said of them in a malformed book.
+/// Partners, streams, grants and closes are about the requests that stamps name, so nothing is said of them in a malformed book.
 ///
 /// Errors: `AllocError`.
 pub(crate) fn judge(
@@ -40,8 +41,9 @@ pub(crate) fn judge(
     log: &[Crossing],
     lives: &[Life],
     handed: &[BitLog],
+    fates: &[Fate],
 ) -> Result<Verdict, AllocError>
-    ensures { IfOk result (λ v. Judged v log.now lives.now handed.now) }
+    ensures { IfOk result (λ v. Judged v log.now lives.now handed.now fates.now) }
 {
     let stray = stray_at(alloc, log)?;
     let unmade = unmade_at(alloc, log, lives)?;
@@ -51,7 +53,8 @@ pub(crate) fn judge(
         partners,
         streams,
         grants,
-    } = broken_at(alloc, log, lives, handed)?;
+        closes,
+    } = broken_at(alloc, log, lives, handed, fates)?;
     Ok(Verdict {
         stray,
         unmade,
@@ -60,5 +63,6 @@ pub(crate) fn judge(
         partners,
         streams,
         grants,
+        closes,
     })
 }

@@ -15,6 +15,7 @@ ghost use Rattle.interface.specs.declared.message.HostMessage.{HostMessage};
 ghost use Rattle.net_sim.specs.Audit.{IsWellFormed, Says};
 ghost use Rattle.net_sim.specs.Findings.{AreFed};
 ghost use Rattle.net_sim.specs.declared.auditing.said.Audit.TheVariants as audit;
+ghost use Rattle.promise.specs.Fates.{ClosesWhole};
 ghost use Rattle.promise.specs.Formed.{FormedBook};
 ghost use Rattle.promise.specs.Notices.{FormedNotices};
 ghost use Rattle.promise.specs.Safe.{SafeBook, SafeGrants, SafePartners};
@@ -132,19 +133,20 @@ pub fn logs_are_kept()
     ensures { (octets : List ℕ) → Logged (Some []) (Some octets) → IsKeptLog octets }
 {}
 
-/// What an audit names is broken, and what it doesn't name holds. A malformed book has requests that nothing names, so its partners, streams and grants
-/// aren't looked at.
+/// What an audit names is broken, and what it doesn't name holds. A malformed book has requests that nothing names, so its partners, streams, grants and
+/// closes aren't looked at.
 pub fn named_parts()
     ensures run { (b : log.Book) (v : Verdict) → SaysOf v b → (v.stray ≡ None) ↔ IsSomeRun (reverse b.crossings) }
-    ensures lives { (b : log.Book) (v : Verdict) → SaysOf v b → (v.unmade ≡ None) ↔ AreMade (reverse b.crossings) b.lives }
-    ensures formed { (b : log.Book) (v : Verdict) → SaysOf v b → (v.malformed ≡ None) ↔ IsWellFormed (reverse b.crossings) b.lives b.handed }
+    ensures lives { (b : log.Book) (v : Verdict) → SaysOf v b → (v.unmade ≡ None) ↔ AreMade (reverse b.crossings) (log.lives_of b) }
+    ensures formed { (b : log.Book) (v : Verdict) → SaysOf v b → (v.malformed ≡ None) ↔ IsWellFormed (reverse b.crossings) (log.lives_of b) b.handed }
     ensures messages { (b : log.Book) (v : Verdict) → SaysOf v b → (v.messages ≡ None) ↔ SafeMessages (reverse b.crossings) }
-    ensures partners { (b : log.Book) (v : Verdict) → SaysOf v b → v.malformed ≡ None → (v.partners ≡ None) ↔ SafePartners (reverse b.crossings) b.lives }
-    ensures streams { (b : log.Book) (v : Verdict) → SaysOf v b → v.malformed ≡ None → (v.streams ≡ None) ↔ AreFed (reverse b.crossings) b.lives b.lives b.handed }
-    ensures grants { (b : log.Book) (v : Verdict) → SaysOf v b → v.malformed ≡ None → (v.grants ≡ None) ↔ SafeGrants (reverse b.crossings) b.lives }
+    ensures partners { (b : log.Book) (v : Verdict) → SaysOf v b → v.malformed ≡ None → (v.partners ≡ None) ↔ SafePartners (reverse b.crossings) (log.lives_of b) }
+    ensures streams { (b : log.Book) (v : Verdict) → SaysOf v b → v.malformed ≡ None → (v.streams ≡ None) ↔ AreFed (reverse b.crossings) (log.lives_of b) (log.lives_of b) b.handed }
+    ensures grants { (b : log.Book) (v : Verdict) → SaysOf v b → v.malformed ≡ None → (v.grants ≡ None) ↔ SafeGrants (reverse b.crossings) (log.lives_of b) }
+    ensures closes { (b : log.Book) (v : Verdict) → SaysOf v b → v.malformed ≡ None → (v.closes ≡ None) ↔ ClosesWhole (reverse b.crossings) (log.lives_of b) b.handed (log.fates_of b) }
 
     // where nothing is named the book is safe, and nothing is named of a safe book
-    ensures safe { (b : log.Book) → SaysOf kept b → Says audit.Kept (reverse b.crossings) b.lives b.handed }
+    ensures safe { (b : log.Book) → SaysOf kept b → Says audit.Kept (reverse b.crossings) (log.lives_of b) b.handed }
     ensures kept { (b : log.Book) (v : Verdict) → SaysOf kept b → SaysOf v b → v ≡ kept }
 {}
 

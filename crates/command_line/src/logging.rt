@@ -2,7 +2,8 @@
 
 ghost use Rattle.std.specs.Prelude.{◌≡◌, ◌≢◌, ◌↔◌, Err, IfErr, IfSome, MatchResult, OnOk, None, [], false, true};
 ghost use Rattle.std.specs.Io.KnownBytes.{Appends};
-ghost use Rattle.book_log.specs.Log.{IsBook, log_text};
+ghost use Rattle.book_log.specs.Log.{IsBook, log_text, logged_book};
+ghost use Rattle.promise.specs.Fates.{AreFated};
 ghost use Rattle.replay.specs.Failing.{TellsFailure};
 ghost use Rattle.command_line.specs.Events.{asked_of};
 ghost use Rattle.command_line.specs.Input.{IsInputFault, IsSomeInput};
@@ -19,6 +20,7 @@ use headline::book_of;
 use interface::{Carrier, Crossing};
 use leader1822::PlainBoxes;
 use net_sim::{BitLog, Life, World};
+use promise::Fate;
 use replay::{Detail, Output, WriteFailed};
 use script::RawEvent;
 use std::alloc::Global;
@@ -60,7 +62,7 @@ impl Output for Silent {
 }
 
 /// Reads a topology, the marker line `%` and a script, replays the script, and writes the log of the book that it leaves: what
-/// crossed with its texts, the lives of connections, and what was handed over in each.
+/// crossed with its texts, the lives of connections with their fates, and what was handed over in each.
 ///
 /// Errors: as [`crate::run_script`]. Nothing is written before the replay has come to its end.
 pub fn run_log<R: Source, W: Output>(
@@ -177,7 +179,7 @@ fn log_raw<C: Carrier, W: Output>(
         Detail::Sizes,
         &mut Silent { flushed: false },
     ) {
-        Ok(()) => Ok(write_log(carrier.log(), &[], &[], writer)?),
+        Ok(()) => Ok(write_log(carrier.log(), &[], &[], &[], writer)?),
         Err(_) => Err(ScriptFault::OutOfMemory),
     }
 }
@@ -210,7 +212,14 @@ fn log_world<C: Carrier, W: Output>(
     ) {
         Ok(()) => {
             let book = book_of(&world);
-            Ok(write_log(book.crossings(), book.lives(), world.handed(), writer)?)
+            let fates = world.fates();
+            Ok(write_log(
+                book.crossings(),
+                book.lives(),
+                world.handed(),
+                fates,
+                writer,
+            )?)
         }
         Err(_) => Err(ScriptFault::OutOfMemory),
     }
@@ -223,14 +232,15 @@ fn write_log<W: Output>(
     crossings: &[Crossing],
     lives: &[Life],
     handed: &[BitLog],
+    fates: &[Fate],
     writer: &mut W,
 ) -> Result<(), WriteFailed>
     requires { W.failed writer.old ≡ false }
-    ensures written { OnOk result (Appends (W.contents writer.old) (W.contents writer.new) (log_text (record { crossings = crossings.now; lives = lives.now; handed = handed.now }))) }
-    ensures valid { OnOk result (IsBook (record { crossings = crossings.now; lives = lives.now; handed = handed.now })) }
+    ensures written { OnOk result (Appends (W.contents writer.old) (W.contents writer.new) (log_text (logged_book crossings.now lives.now handed.now fates.now))) }
+    ensures valid { OnOk result (AreFated lives.now fates.now → IsBook (logged_book crossings.now lives.now handed.now fates.now)) }
     ensures failed { TellsFailure result (W.failed writer.new) }
     ensures flushed { OnOk result (W.flushed writer.new ≡ true) }
 {
-    print_log(crossings, lives, handed, writer)?;
+    print_log(crossings, lives, handed, fates, writer)?;
     writer.flush()
 }

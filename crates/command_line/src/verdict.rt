@@ -3,7 +3,7 @@
 ghost use Rattle.std.specs.Prelude.{◌≡◌, OnOk, false, true};
 ghost use Rattle.replay.specs.Failing.{TellsFailure};
 ghost use Rattle.std.specs.Io.KnownBytes.{Appends};
-ghost use Rattle.command_line.specs.Audits.{broken_text, is_kept, kept_text, lines_of, lives_text, malformed_text, parts_text, run_text, verdict_text};
+ghost use Rattle.command_line.specs.Audits.{broken_text, closes_text, is_kept, kept_text, lines_of, lives_text, malformed_text, parts_text, run_text, verdict_text};
 
 use book_log::LoggedBook;
 use net_sim::{Finding, Part};
@@ -27,6 +27,8 @@ pub struct Verdict {
     pub streams: Option<Finding>,
     /// Where it shows that grants are broken; `None` where they are kept, or the book is malformed.
     pub grants: Option<Finding>,
+    /// Where it shows that closes are broken; `None` where they are kept, or the book is malformed.
+    pub closes: Option<Finding>,
 }
 
 impl Verdict {
@@ -41,6 +43,7 @@ impl Verdict {
             && self.partners.is_none()
             && self.streams.is_none()
             && self.grants.is_none()
+            && self.closes.is_none()
     }
 }
 
@@ -187,7 +190,28 @@ fn write_broken<W: Output>(
     }
 }
 
-/// Writes a line for each part of a safe book that is broken.
+/// Writes the lines where it shows that a life which its partner ended lost anything, if one did.
+///
+/// Errors: `WriteFailed`.
+fn write_closes<W: Output>(
+    book: &LoggedBook,
+    closes: Option<Finding>,
+    writer: &mut W,
+) -> Result<(), WriteFailed>
+    requires whole { W.failed writer.old ≡ false }
+    ensures written { OnOk result (Appends (W.contents writer.old) (W.contents writer.new) (closes_text book.now closes)) }
+    ensures failed { TellsFailure result (W.failed writer.new) }
+{
+    match closes {
+        Some(found) => {
+            let lines = lines_of(book, found);
+            writeln!(writer, "broken closes {lines}")
+        }
+        None => Ok(()),
+    }
+}
+
+/// Writes a line for each part of a safe book that is broken, and for closes.
 ///
 /// Errors: `WriteFailed`.
 fn write_parts<W: Output>(
@@ -202,7 +226,8 @@ fn write_parts<W: Output>(
     write_broken(book, Part::Messages, found.messages, writer)?;
     write_broken(book, Part::Partners, found.partners, writer)?;
     write_broken(book, Part::Streams, found.streams, writer)?;
-    write_broken(book, Part::Grants, found.grants, writer)
+    write_broken(book, Part::Grants, found.grants, writer)?;
+    write_closes(book, found.closes, writer)
 }
 
 /// Writes that a book is kept, where nothing is wrong.

@@ -12,7 +12,7 @@ pub returns-clause-audited : goal.returns-clause-audited
 returns-clause-audited g c =
     let v : Verdict = c.in_ok-found.found in
     let says : SaysOf v c.in_ok-book.book =
-    says_of c.in_ok-book.book v c.crossings.result.now c.lives.result.now c.handed.result.now c.crossings.ensures c.lives.ensures c.handed.ensures c.in_ok-found.ensures in
+    says_of c.in_ok-book.book v c.crossings.result.now c.lives.result.now c.handed.result.now c.fates.result.now c.crossings.ensures c.lives.ensures c.handed.ensures c.fates.ensures c.in_ok-found.ensures in
     let log : IsLog c.in_ok-octets.octets.items c.in_ok-book.book = subst (λ (o : List ℕ). IsLog o c.in_ok-book.book) c.deref.ensures.value c.in_ok-book.ensures in
     audited c.in_ok-octets.octets.items v (g.W.Output.contents c.args.writer.now) (g.W.Output.contents c.write_found.new.writer)
     (audits c.in_ok-octets.octets.items c.in_ok-book.book v (g.W.Output.contents c.args.writer.now) (g.W.Output.contents c.write_found.new.writer) log says c.in_ok-write_found.ensures.written)
@@ -21,7 +21,7 @@ pub returns-clause-says : goal.returns-clause-says
 returns-clause-says g c =
     let v : Verdict = c.in_ok-found.found in
     let says : SaysOf v c.in_ok-book.book =
-    says_of c.in_ok-book.book v c.crossings.result.now c.lives.result.now c.handed.result.now c.crossings.ensures c.lives.ensures c.handed.ensures c.in_ok-found.ensures in
+    says_of c.in_ok-book.book v c.crossings.result.now c.lives.result.now c.handed.result.now c.fates.result.now c.crossings.ensures c.lives.ensures c.handed.ensures c.fates.ensures c.in_ok-found.ensures in
     let log : IsLog c.in_ok-octets.octets.items c.in_ok-book.book = subst (λ (o : List ℕ). IsLog o c.in_ok-book.book) c.deref.ensures.value c.in_ok-book.ensures in
     known_audited (g.R.Source.remaining c.args.reader.now) c.in_ok-octets.octets.items v (g.W.Output.contents c.args.writer.now) (g.W.Output.contents c.write_found.new.writer) c.in_ok-octets.ensures.whole
     (audits c.in_ok-octets.octets.items c.in_ok-book.book v (g.W.Output.contents c.args.writer.now) (g.W.Output.contents c.write_found.new.writer) log says c.in_ok-write_found.ensures.written)
