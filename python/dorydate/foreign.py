@@ -3,7 +3,8 @@
 A trace is what two programs might write down, a JSON value in each line, in the order in which it happened. Each names its `host`.
 `put` and `got` say a message that went out and one that came in, as the other host, the link and the octets of the text; with `asks` it has
 the request of the first of two sockets to the second. `answer` is what became of a message. The others are about a socket: `open` with its peer
-and the peer's socket, `grants`, `took`, `sent`, and `user` with what a user handed over. No end is over in such a trace.
+and the peer's socket, `grants`, `took`, `sent`, `user` with what a user handed over, `closes` where somebody at the host closes the end, and `over` with
+why the user was informed that it is over: `cls`, `reset` or `stopped`.
 """
 
 from __future__ import annotations
@@ -18,6 +19,7 @@ from dorydate import ending
 
 Event = dict[str, Any]
 CROSSINGS = "put", "got", "answer"
+OVER = {"cls": None, "reset": "reset", "stopped": "stopped"}  # over by CLS it is closed or ended, by who closed it
 
 
 @dataclass
@@ -30,6 +32,8 @@ class End:
     messages: int = 0
     granted: list[int] = field(default_factory=lambda: [0, 0])
     handed: str = ""
+    closing: bool = False
+    fate: str = "open"
 
     def keep(self, event: Event) -> None:
         """Adds what happened."""
@@ -37,6 +41,10 @@ class End:
             self.granted = [had + more for had, more in zip(self.granted, event["grants"])]
         elif "user" in event:
             self.handed += event["user"]
+        elif "closes" in event:
+            self.closing = True
+        elif "over" in event:
+            self.fate = OVER[event["over"]] or ("closed" if self.closing else "ended")
         else:
             self.octets += event["sent" if self.sends else "took"]
             self.messages += 1
@@ -44,7 +52,7 @@ class End:
     def life(self) -> str:
         """The line of its life."""
         kind, bits = "send" if self.sends else "receive", 4 * len(self.octets)
-        return f"life {self.words} {kind} {self.messages} {bits} {self.granted[0]} {self.granted[1]} 0 0 open {self.octets or '-'}"
+        return f"life {self.words} {kind} {self.messages} {bits} {self.granted[0]} {self.granted[1]} 0 0 {self.fate} {self.octets or '-'}"
 
 
 def log_of(events: Iterable[Event]) -> Iterator[str]:

@@ -4,6 +4,7 @@ from __future__ import annotations
 
 import json
 import unittest
+from typing import Any
 
 from dorydate.foreign import log_of
 from dorydate.model.verdict import says
@@ -15,6 +16,12 @@ EVENTS = [json.loads(line) for line in text_of(f"{ROOT}/python/tests/two-program
 def written(*lacking: int) -> str:
     """The log of the trace without some of its lines, counted from 1."""
     return "".join(f"{line}\n" for line in log_of(it for number, it in enumerate(EVENTS, 1) if number not in lacking))
+
+
+def ended(more: list[dict[str, Any]]) -> tuple[list[str], str]:
+    """The words for how the lives of the trace are, where this happens after it, and what is said of its log."""
+    log = "".join(f"{line}\n" for line in log_of([*EVENTS, *more]))
+    return [line.split()[-2] for line in log.splitlines() if line.startswith("life ")], says(log.encode())
 
 
 class Foreign(unittest.TestCase):
@@ -32,6 +39,13 @@ class Foreign(unittest.TestCase):
         }
         found = {lacking: says(written(lacking).encode()) for lacking in wanted}
         self.assertEqual(found, wanted)
+
+    def test_how_lives_end(self) -> None:
+        closes, over = [{"host": "0/2", "socket": 33, "closes": True}], [{"host": "0/1", "socket": 16, "over": "cls"}, {"host": "0/2", "socket": 33, "over": "cls"}]
+        self.assertEqual(ended([*closes, *over]), (["ended", "closed"], "broken closes lines 10 11"))
+        self.assertEqual(ended([{"host": "0/1", "socket": 16, "closes": True}, *over]), (["closed", "ended"], "kept"))
+        self.assertEqual(ended([{**over[0], "over": "stopped"}, {**over[1], "over": "reset"}]), (["stopped", "reset"], "kept"))
+        self.assertEqual(ended(closes), (["open", "open"], "kept"))
 
 
 if __name__ == "__main__":

@@ -19,6 +19,8 @@ with open(f"{ROOT}/logs/two-octets", encoding="utf-8") as log, open(f"{ROOT}/doc
 RECEIVER, SENDER = SHORT.splitlines()[9:11]
 LIST, LISTS, LISTS_TURNED = "handed 0 -\n", "handed 0 -\nhanded 24 484950\n", "handed 24 484950\nhanded 0 -\n"
 BOTH = f"{RECEIVER}\n{SENDER}\n{LISTS}"
+ENDED, NONE_TAKEN, NONE_SENT = RECEIVER.replace("open", "ended"), RECEIVER.replace("1 16 1", "0 0 1").replace("4849", "-"), SENDER.replace("1 16 0", "0 0 0").replace("4849", "-")
+ALL_TAKEN = "handed 0 -\nhanded 16 4849\n"  # the lists where no more was handed over than was taken
 ASKS, OFFERS, DATA = ("".join(f"{line}\n" for line in SHORT.splitlines()[at : at + 3]) for at in (0, 3, 6))
 MORE = DATA.replace("56 00080002004849", "48 000800010051")
 
@@ -57,7 +59,7 @@ VERDICTS = [
     ("", "", "kept"),
     # what isn't promised
     ("484950\n", "4849FF\n", "kept"),
-    ("1 100 0 0 open", "2 999 0 0 ended", "kept"),
+    ("1 100 0 0 open", "2 999 0 0 closed", "kept"),
     ("1 16 1 100 0 0 open 4849\n", "1 7 1 100 0 0 open 48\n", "broken lives line 10"),
     ("receive 1 16 1 100 0 0 open 4849", "receive 0 0 1 16 0 0 open -", "kept"),
     (LIST, "handed 8 FF\n", "kept"),
@@ -123,6 +125,23 @@ VERDICTS = [
     ("1 100 0 0", "2 100 1 84", "kept"),
     ("receive 1 16 1 100", "receive 2 16 1 100", "broken lives line 10\nbroken grants lines 10 11"),
     ("send 1 16", "send 2 16", "broken lives line 11\nbroken grants lines 10 11"),
+    # closes: a receiving life that its partner ended took all that was sent, and if that was anything, all that was handed over there
+    (BOTH, f"{ENDED}\n{SENDER}\n{LISTS}", "broken closes lines 10 11"),
+    (BOTH, f"{ENDED}\n{SENDER}\n{ALL_TAKEN}", "kept"),
+    (BOTH, f"{ENDED}\n{SENDER.replace('open', 'ended')}\n{ALL_TAKEN}", "kept"),
+    *((BOTH, f"{RECEIVER.replace('open', word)}\n{SENDER.replace('open', 'ended')}\n{LISTS}", "kept") for word in ("closed", "reset", "stopped")),
+    *((BOTH, f"{NONE_TAKEN.replace('open', word)}\n{SENDER}\n{LISTS}", "kept") for word in ("open", "closed", "reset", "stopped")),
+    (BOTH, f"{NONE_TAKEN.replace('open', 'ended')}\n{SENDER}\n{LISTS}", "broken closes lines 10 11"),
+    (DATA + BOTH, f"{NONE_TAKEN.replace('open', 'ended')}\n{NONE_SENT}\n{LISTS}", "kept"),
+    (BOTH, f"{SENDER}\n{ENDED}\n{LISTS_TURNED}", "broken closes lines 11 10"),
+    (BOTH, f"{ENDED}\n{LIST}", "broken streams line 10"),
+    (BOTH, f"{NONE_TAKEN.replace('open', 'ended')}\n{LIST}", "kept"),
+    (BOTH, f"{ENDED.replace('receive 1', 'receive 0')}\n{SENDER}\n{ALL_TAKEN}", "broken lives line 10\nbroken closes lines 10 11"),
+    (BOTH, f"{ENDED}\n{SENDER.replace('4849', '4848')}\n{ALL_TAKEN.replace('4849', '4848')}", "broken lives line 11\nbroken streams lines 10 11\nbroken closes lines 10 11"),
+    (BOTH, f"{ENDED}\n{SENDER.replace('33 0/1 16', '33 0/1 18')}\n{LISTS}", "broken lives line 11\nbroken streams line 10"),
+    (BOTH, f"{ENDED}\n{SENDER}\n{SENDER}\n{LIST}handed 16 4849\nhanded 24 484950\n", "broken partners lines 11 12\nbroken closes lines 10 11"),
+    (BOTH, f"{ENDED}\n{ENDED}\n{SENDER}\n{LIST}{LISTS}", "broken partners lines 10 11\nbroken closes lines 10 12"),
+    (BOTH, f"{ENDED}\n{ENDED.replace('1 16 1', '0 0 1').replace('4849', '-')}\n{SENDER}\n{LIST}{ALL_TAKEN}", "broken partners lines 10 11\nbroken closes lines 11 12"),
     # the life that fails is the receiving one, wherever it is
     (BOTH, f"{SENDER}\n{RECEIVER[:-1]}8\n{LISTS_TURNED}", "broken lives line 11\nbroken streams lines 11 10"),
     (BOTH, f"{SENDER}\n{RECEIVER.replace('1 100', '1 15')}\n{LISTS_TURNED}", "broken grants lines 11 10"),
@@ -149,7 +168,10 @@ LINES = {
     ],
     "broken run line 1": ["answer dead 0/1 0/2 0", "answer incomplete 3/63 0/1 255", "answer nottaken 0/1 0/2 0", "up 3/63"],
     "broken run line 1\nbroken messages line 1": ["in 0/1 0/2 5 0 -", "answer rfnm 0/1 0/2 5"],
-    "broken lives line 1\nmalformed line 1": [LIFE, GREATEST, LIFE.replace("16 1 100", "13 1 100").replace("4849", "4848")],
+    "broken lives line 1\nmalformed line 1": [
+        *(LIFE, GREATEST, LIFE.replace("16 1 100", "13 1 100").replace("4849", "4848")),
+        *(LIFE.replace("open", word) for word in ("closed", "ended", "reset", "stopped")),
+    ],
     "malformed line 1": ["handed 0 -", "handed 9 FF80"],
 }
 BAD_LINES = [
@@ -165,7 +187,8 @@ BAD_LINES = [
     *(LIFE.replace(" 0 4 ", f" {2**64} 4 "), LIFE.replace(" 0 4 ", f" 0 {2**64} "), LIFE.replace(" 0 4 ", " 00 4 "), LIFE.replace(" 0 4 ", " 0 -4 ")),
     *(LIFE.replace("receive 1 ", f"receive {2**128} "), LIFE.replace(" 1 100", f" {2**128} 100"), LIFE.replace(" 1 100", f" 1 {2**128}")),
     *(LIFE.replace("0 0 open", f"{2**128} 0 open"), LIFE.replace("0 0 open", f"0 {2**128} open"), LIFE.replace("0 0 open", f"0 {'9' * 5000} open")),
-    *(LIFE.replace("receive", "send"), LIFE.replace("0/1 16", "0/1 17"), LIFE.replace("receive", "recv"), LIFE.replace("open", "closed")),
+    *(LIFE.replace("receive", "send"), LIFE.replace("0/1 16", "0/1 17"), LIFE.replace("receive", "recv")),
+    *(LIFE.replace("open", word) for word in ("closing", "Ended", "over", "end", "0", "ended ended", "resets", "stop")),
     *(LIFE.replace(" 4849", ""), LIFE + " ", LIFE.replace("1 16 1", "1 17 1"), LIFE.replace("1 16 1", "1 15 1"), LIFE.replace("1 16 1", "1 8 1")),
     *(LIFE.replace("1 16 1", "1 0 1"), LIFE.replace("4849", "-"), LIFE.replace("0/1 16", "0/0 16"), LIFE.replace("life 0/1", "life 4/1"), LIFE.replace(" open", "")),
 ]

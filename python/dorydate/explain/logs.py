@@ -29,16 +29,16 @@ FORMS = {
     "answer": "ANSWER S D N",
     "down": "H",
     "up": "H",
-    "life": "H SOCKET P FOREIGN PLACE PLACE KIND AMOUNT LENGTH AMOUNT AMOUNT AMOUNT AMOUNT STATE OCTETS",
+    "life": "H SOCKET P FOREIGN PLACE PLACE KIND AMOUNT LENGTH AMOUNT AMOUNT AMOUNT AMOUNT FATE OCTETS",
     "handed": "LENGTH OCTETS",
     "end": "",
 }
 WRITTEN = {  # how a form is shown
-    "life": "HOST SOCKET PEER FOREIGN OWN PARTNER KIND MESSAGES BITS GM GB RM RB STATE OCTETS",
+    "life": "HOST SOCKET PEER FOREIGN OWN PARTNER KIND MESSAGES BITS GM GB RM RB FATE OCTETS",
     "handed": "BITS OCTETS",
     "answer": "rfnm|dead|incomplete|nottaken S D N",
 }
-WORDS = {"ANSWER": ["rfnm", "dead", "incomplete", "nottaken"], "KIND": ["send", "receive"], "STATE": ["open", "ended"]}
+WORDS = {"ANSWER": ["rfnm", "dead", "incomplete", "nottaken"], "KIND": ["send", "receive"], "FATE": ["open", "closed", "ended", "reset", "stopped"]}
 BITS_OF = {"PLACE": 64, "LENGTH": 64, "AMOUNT": 128}
 PARTS = [("out", "in", "answer", "down", "up"), ("life",), ("handed",), ("end",)]  # a log's lines, in this order
 NAMES = ["crossings", "lives", "what was handed over", "the end"]
@@ -213,6 +213,7 @@ def why_so(book: Book, verdict: str) -> str:
         "broken partners": why_partners,
         "broken streams": why_streams,
         "broken grants": why_grants,
+        "broken closes": why_closes,
     }
     if verdict == "kept":
         return f"The book is safe: {counted(len(book.log), 'crossing')}, a run of the mailboxes, and {counted(len(book.lives), 'life', 'lives')} made of them."
@@ -356,3 +357,24 @@ def why_grants(book: Book, numbers: list[int]) -> str:
     used = [(number, life_at(book, number)[0]) for number in numbers]
     passed = [f"line {number} {'took' if it.receives() else 'sent'} {counted(it.messages, 'message')} with {counted(len(it.bits), 'bit')}" for number, it in used]
     return f"{left}: at most {max(messages, 0)} with {counted(max(bits, 0), 'bit')} may pass. But {' and '.join(passed)}."
+
+
+def why_closes(book: Book, numbers: list[int]) -> str:
+    """What a life that its partner ended has lost."""
+    life, *_ = life_at(book, numbers[0])
+    start = f"Line {numbers[0]} is `{life.fate}`: its partner ended it, and nobody at its host had closed it. So it took all that line {numbers[-1]} sent"
+    sender, handed, list_line = life_at(book, numbers[-1])
+    if life.bits != sender.bits:
+        return f"{start}, but {lost(life.bits, sender.bits, 'what was sent')}"
+    if life.messages != sender.messages:
+        return f"{start}, but it counts {counted(life.messages, 'message')}, and line {numbers[-1]} {sender.messages}."
+    return f"{start}, and all that was handed over in line {list_line}, but {lost(life.bits, handed, 'what was handed over')}"
+
+
+def lost(taken: Bits, given: Bits, what: str) -> str:
+    """The first octet that was given and not taken, in words."""
+    found = difference(taken, given, "what was taken", what)
+    octet = len(taken) // 8
+    if given.startswith(taken) and given != taken:
+        return f"octet {octet + 1} of {what}, {hexadecimal(given[8 * octet : 8 * octet + 8])}, was not taken: {found}"
+    return found

@@ -3,9 +3,14 @@
 from __future__ import annotations
 
 from dataclasses import dataclass, field
+from typing import Literal
 
 from dorydate.model.bits import Bits, read_bits
 from dorydate.model.names import HostName, read_host, spell_host
+
+# How far a life is: it continues (and somebody at its host has closed it), it is over by CLS (and somebody at its host had closed it, or nobody
+# had), its pair was reset, its host stopped
+Fate = Literal["open", "closing", "closed", "ended", "reset", "stopped"]
 
 
 @dataclass
@@ -22,11 +27,16 @@ class Life:
     messages: int = 0
     granted: list[int] = field(default_factory=lambda: [0, 0])  # messages and bits
     returned: list[int] = field(default_factory=lambda: [0, 0])
-    has_ended: bool = False
+    fate: Fate = "open"
     handed: Bits = ""  # what the user gave to be sent
 
     def receives(self) -> bool:
         return self.socket % 2 == 0
+
+    @property
+    def has_ended(self) -> bool:
+        """Whether it is over."""
+        return self.fate not in ("open", "closing")
 
     def carry(self, bits: Bits) -> None:
         """A message of the connection went out, or was taken."""
@@ -42,11 +52,15 @@ class Life:
         self.returned = [self.returned[0] + messages, self.returned[1] + bits]
 
     def spell(self) -> str:
-        """Its line, without its bits."""
+        """Its line in a book, which only says whether it is over."""
+        return self.spell_as("ended" if self.has_ended else "open")
+
+    def spell_as(self, word: str) -> str:
+        """Its line without its bits, and with this last word."""
         kind = "receive" if self.receives() else "send"
         ends = f"{spell_host(self.host)} {self.socket} {spell_host(self.peer)} {self.foreign} {self.own} {self.partner}"
         counts = [self.messages, len(self.bits), *self.granted, *self.returned]
-        return " ".join(["life", ends, kind, *map(str, counts), "ended" if self.has_ended else "open"])
+        return " ".join(["life", ends, kind, *map(str, counts), word])
 
 
 class Book:
@@ -67,11 +81,32 @@ class Book:
         self.strays += 1
         return Life(host, socket, host, 0, 0, 0)
 
-    def end(self, host: HostName, peer: HostName | None = None, sockets: tuple[int, int] | None = None) -> None:
-        """Ends the lives of a host, of a host with a peer, or of one end."""
-        for life in self.lives:
-            if life.host == host and peer in (None, life.peer) and sockets in (None, (life.socket, life.foreign)):
-                life.has_ended = True
+    def close(self, host: HostName, socket: int) -> None:
+        """Somebody at a host closes the end of its socket. It may have no life."""
+        for life in self.going(host):
+            if life.socket == socket:
+                life.fate = "closing"
+
+    def going(self, host: HostName) -> list[Life]:
+        """The lives of a host that aren't over."""
+        return [life for life in self.lives if life.host == host and not life.has_ended]
+
+    def stop(self, host: HostName) -> None:
+        """The host of these lives stops."""
+        for life in self.going(host):
+            life.fate = "stopped"
+
+    def reset(self, host: HostName, peer: HostName) -> None:
+        """All connections of a host with a peer are gone."""
+        for life in self.going(host):
+            if life.peer == peer:
+                life.fate = "reset"
+
+    def end(self, host: HostName, peer: HostName, sockets: tuple[int, int]) -> None:
+        """An end is over by CLS."""
+        for life in self.going(host):
+            if life.peer == peer and sockets == (life.socket, life.foreign):
+                life.fate = "closed" if life.fate == "closing" else "ended"
 
     def hear(self, host: HostName, words: list[str]) -> None:
         """Changes the lives by a notice."""
@@ -81,7 +116,7 @@ class Book:
             case ["ended", own, peer, foreign]:
                 self.end(host, read_host(peer), (int(own), int(foreign)))
             case ["pairreset", peer]:
-                self.end(host, read_host(peer))
+                self.reset(host, read_host(peer))
             case ["sent" | "arrived", own, count, digits]:
                 self.life(host, int(own)).carry(read_bits(count, digits))
             case ["returned", own, messages, bits]:

@@ -12,7 +12,7 @@ from collections.abc import Iterable, Iterator, Sequence
 from typing import NamedTuple, Union
 
 from dorydate.model.bits import Bits, spell_bits, spelled_text
-from dorydate.model.book import Life
+from dorydate.model.book import Fate, Life
 from dorydate.model.crossings import Answer, Answered, Crossing, Passed, Turned, spell_crossing
 from dorydate.model.names import spell_flow
 from dorydate.model.runs import End, Place, log_of, opened
@@ -25,7 +25,8 @@ OCTETS = r"(-|(?:[0-9A-F][0-9A-F])+)"
 MESSAGE = re.compile(f"(out|in) {FLOW} {NUMBER} {OCTETS}")
 ANSWER = re.compile(f"answer (rfnm|dead|incomplete|nottaken) {FLOW}")
 OF_HOST = re.compile(f"(down|up) {HOST}")
-LIFE = re.compile(f"life {HOST} {NUMBER} {HOST} {NUMBER} {NUMBER} {NUMBER} (send|receive)" + f" {NUMBER}" * 6 + f" (open|ended) {OCTETS}")
+FATES: dict[str, Fate] = {"open": "open", "closed": "closed", "ended": "ended", "reset": "reset", "stopped": "stopped"}
+LIFE = re.compile(f"life {HOST} {NUMBER} {HOST} {NUMBER} {NUMBER} {NUMBER} (send|receive)" + f" {NUMBER}" * 6 + f" ({'|'.join(FATES)}) {OCTETS}")
 HANDED = re.compile(f"handed {NUMBER} {OCTETS}")
 ANSWERS: dict[str, Answer] = {"rfnm": "rfnm", "dead": "dead", "incomplete": "incomplete", "nottaken": "nottaken"}
 
@@ -71,6 +72,10 @@ class LogReader:
     def kind_fits(self, life: Life, kind: str) -> bool:
         """Whether a life is of the kind that its line says."""
         return life.receives() == (kind == "receive")
+
+    def fate_of(self, word: str) -> Fate:
+        """The fate that a word names."""
+        return FATES[word]
 
     def read_log(self, octets: bytes) -> Book:
         """The book of a log."""
@@ -128,7 +133,7 @@ class LogReader:
         own, partner = (read_number(word, self.stamp_bits) for word in words[6:8])
         kind, count, bits, *counts, state, octets = words[8:]
         messages, *amounts = (read_number(word, self.amount_bits) for word in [count, *counts])
-        life = Life(host, socket, peer, foreign, own, partner, read_text(bits, octets), messages, amounts[:2], amounts[2:], state == "ended")
+        life = Life(host, socket, peer, foreign, own, partner, read_text(bits, octets), messages, amounts[:2], amounts[2:], self.fate_of(state))
         if not self.kind_fits(life, kind):
             raise BadLine
         return life
@@ -149,10 +154,15 @@ def lines_of(book: Book) -> Iterator[str]:
     """The lines of a log."""
     yield from map(spell_entry, book.log)
     for life in book.lives:
-        yield f"{life.spell()} {spelled_text(life.bits)}"
+        yield f"{life.spell_as(logged_fate(life.fate))} {spelled_text(life.bits)}"
     for bits in book.handed:
         yield f"handed {spell_bits(bits)}"
     yield "end"
+
+
+def logged_fate(fate: Fate) -> Fate:
+    """What a log says of a fate: of a life that continues it doesn't say whether somebody has closed it."""
+    return "open" if fate == "closing" else fate
 
 
 def spell_entry(crossing: Crossing) -> str:

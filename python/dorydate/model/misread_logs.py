@@ -3,11 +3,12 @@
 from __future__ import annotations
 
 from collections.abc import Callable, Iterable, Iterator, Sequence
+from dataclasses import replace
 from typing import TypeVar
 
 from dorydate.model.audit import Lives, Log, match, partners_are_kept
 from dorydate.model.bits import Bits, octets
-from dorydate.model.book import Life
+from dorydate.model.book import Fate, Life
 from dorydate.model.commands import HEADER, LENGTHS, RTS, STR
 from dorydate.model.crossings import Answered, Crossing, Turned
 from dorydate.model.firsts import Data, Firsts
@@ -98,6 +99,20 @@ class AnyKind(LogReader):
 
     def kind_fits(self, life: Life, kind: str) -> bool:
         return True
+
+
+class TwoFates(LogReader):
+    """A life that is over is ended."""
+
+    def fate_of(self, word: str) -> Fate:
+        return "open" if word == "open" else "ended"
+
+
+class AnyFate(LogReader):
+    """How a life ended is not looked at."""
+
+    def fate_of(self, word: str) -> Fate:
+        return "open"
 
 
 # ---- judges
@@ -193,6 +208,87 @@ class SenderOfGrant(Judge):
 
     def grant_fails(self, log: Log, lives: Lives, life: Life) -> bool:
         return not life.receives() or super().grant_fails(log, lives, life)
+
+
+# ---- judges of closes
+
+
+class SenderEnded(Judge):
+    """It counts whether the partner's life was ended."""
+
+    def close_fails(self, log: Log, lives: Lives, life: Life) -> bool:
+        return life.receives() and any(match(log, life, it) and it.fate == "ended" and not self.took_all(life, it) for it in lives)
+
+
+class AllWhole(Judge):
+    """A life that is open has to have taken all."""
+
+    def is_judged(self, life: Life) -> bool:
+        return super().is_judged(life) or life.receives() and life.fate == "open"
+
+
+class WholeWhereClosed(Judge):
+    """A life that its own user closed has to have taken all."""
+
+    def is_judged(self, life: Life) -> bool:
+        return super().is_judged(life) or life.receives() and life.fate == "closed"
+
+
+class WholeWhereReset(Judge):
+    """A life that was reset has to have taken all."""
+
+    def is_judged(self, life: Life) -> bool:
+        return super().is_judged(life) or life.receives() and life.fate == "reset"
+
+
+class WholeWhereStopped(Judge):
+    """A life whose host stopped has to have taken all."""
+
+    def is_judged(self, life: Life) -> bool:
+        return super().is_judged(life) or life.receives() and life.fate == "stopped"
+
+
+class BitsOnly(Judge):
+    """The messages of a life that was ended are not counted."""
+
+    def took_all(self, life: Life, sender: Life) -> bool:
+        return super().took_all(replace(life, messages=sender.messages), sender)
+
+
+class MessagesOnly(Judge):
+    """The bits of a life that was ended are only counted."""
+
+    def took_all(self, life: Life, sender: Life) -> bool:
+        return (life.messages, len(life.bits)) == (sender.messages, len(sender.bits)) and len(life.bits) in (0, len(sender.handed))
+
+
+class SentOnly(Judge):
+    """What was handed over to be sent to a life that was ended is not looked at."""
+
+    def took_all(self, life: Life, sender: Life) -> bool:
+        return super().took_all(life, replace(sender, handed=life.bits))
+
+
+class HandedAtAll(Judge):
+    """A life that was ended and took nothing has to have taken all that was handed over."""
+
+    def took_all(self, life: Life, sender: Life) -> bool:
+        return super().took_all(life, sender) and life.bits == sender.handed
+
+
+class LostOfTheFirst(Judge):
+    """Only the first life that one matches is looked at."""
+
+    def close_fails(self, log: Log, lives: Lives, life: Life) -> bool:
+        matching = [it for it in lives if match(log, life, it)][:1]
+        return self.is_judged(life) and not all(self.took_all(life, it) for it in matching)
+
+
+class LostWithoutPartner(Judge):
+    """A life that was ended has to match one."""
+
+    def close_fails(self, log: Log, lives: Lives, life: Life) -> bool:
+        return super().close_fails(log, lives, life) or self.is_judged(life) and not any(match(log, life, it) for it in lives)
 
 
 # ---- judges of the run of the mailboxes
@@ -400,11 +496,12 @@ class RequestsAnywhere(Judge):
 
 
 READERS: list[type[LogReader]] = [
-    GoesOn, NoLineFeed, NoEnd, EndAtLastLine, AnyOrder, AnyText, AnySocket, AnyStamp, ShortStamp, AnyAmount, ShortAmount, AnyKind,
+    GoesOn, NoLineFeed, NoEnd, EndAtLastLine, AnyOrder, AnyText, AnySocket, AnyStamp, ShortStamp, AnyAmount, ShortAmount, AnyKind, TwoFates, AnyFate,
 ]  # fmt: skip
 JUDGES: list[type[Judge]] = [
     FewerLists, MoreLists, ToldOfItsList, LineOfItsNumber, BreakBefore, LastMalformed, FirstAtOdds, WrongWayRound, FirstOfAll, NoMatch, MatchFirst,
-    SenderOfStream, SenderOfGrant, NoRun, RunAlone, FirstPartOnly, FormAlone, TwoSenders, RunBefore, BoxesStay, BoxesToItGo, BoxesGoAtOnce, NobodyIsDown, AnyAnswer,
+    SenderOfStream, SenderOfGrant, SenderEnded, AllWhole, WholeWhereClosed, WholeWhereReset, WholeWhereStopped, BitsOnly, MessagesOnly, SentOnly, HandedAtAll,
+    LostOfTheFirst, LostWithoutPartner, NoRun, RunAlone, FirstPartOnly, FormAlone, TwoSenders, RunBefore, BoxesStay, BoxesToItGo, BoxesGoAtOnce, NobodyIsDown, AnyAnswer,
     NoLives, CountsAreTrusted, LinkOfTheLastRequest, FirstRequestOnly, NoSize, AllOnTheLink, LastMessages, RequestsAnywhere,
 ]  # fmt: skip
 

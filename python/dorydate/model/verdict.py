@@ -17,6 +17,7 @@ from dorydate.model.log import BadLog, Book, LogReader
 from dorydate.model.mailboxes import Mailboxes, first_break, hosts_of
 from dorydate.model.runs import End
 
+LIVES = [*PARTS[1:], "closes"]  # the parts that are about lives
 T = TypeVar("T")
 
 
@@ -58,11 +59,11 @@ class Judge:
         return None if place is None else f"broken lives line {self.line(book.log, place)}"
 
     def of_book(self, book: Book) -> list[str | None]:
-        """What is wrong with a book. Partners, streams and grants are about requests, so they are judged where each stamp names one."""
+        """What is wrong with a book. Partners, streams, grants and closes are about requests, so they are judged where each stamp names one."""
         log = book.log
         lives = [replace(life, handed=bits) for life, bits in zip(book.lives, book.handed)]
         found = [self.of_form(book), self.of_messages(log)]
-        return found if found[0] else [*found, *(self.of_part(part, log, lives) for part in PARTS[1:])]
+        return found if found[0] else [*found, *(self.of_part(part, log, lives) for part in LIVES)]
 
     def of_form(self, book: Book) -> str | None:
         """Where a book is malformed: the first life or list without the other, or else the first life whose stamps name no requests."""
@@ -132,7 +133,8 @@ class Judge:
 
     def fails(self, part: str, log: Log, lives: Lives, life: Life) -> bool:
         """Whether a part fails at a life."""
-        return self.stream_fails(log, lives, life) if part == "streams" else self.grant_fails(log, lives, life)
+        fails = {"streams": self.stream_fails, "grants": self.grant_fails, "closes": self.close_fails}
+        return fails[part](log, lives, life)
 
     def stream_fails(self, log: Log, lives: Lives, life: Life) -> bool:
         """A sending life sent something else than was handed over; a receiving one took something that no life sent that it matches. That it matches one at most is of partners."""
@@ -144,6 +146,18 @@ class Judge:
         """A receiving life took more than it granted, or its sender sent more."""
         passed = [life, *(it for it in lives if match(log, life, it))] if life.receives() else []
         return not all(is_granted(life, it.messages, len(it.bits)) for it in passed)
+
+    def close_fails(self, log: Log, lives: Lives, life: Life) -> bool:
+        """A receiving life that its partner ended took less than a life sent that it matches, or, if it took anything, than was handed over there."""
+        return self.is_judged(life) and any(match(log, life, it) and not self.took_all(life, it) for it in lives)
+
+    def is_judged(self, life: Life) -> bool:
+        """Whether a life is one that has to have taken all."""
+        return life.receives() and life.fate == "ended"
+
+    def took_all(self, life: Life, sender: Life) -> bool:
+        """Whether a life took all that another sent, and, if that is anything, all that was handed over there."""
+        return (life.messages, life.bits) == (sender.messages, sender.bits) and life.bits in ("", sender.handed)
 
 
 def in_words(numbers: Iterable[int]) -> str:

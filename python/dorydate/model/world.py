@@ -84,7 +84,7 @@ class World:
         self.hosts[host] = None
         self.programs[host] = []
         self.terminals.pop(host, None)
-        self.book.end(host)
+        self.book.stop(host)
 
     def program(self, host: HostName) -> Host:
         """The program of a host, which has to be there and up."""
@@ -149,6 +149,8 @@ class World:
             self.book.life(host, parts[0]).handed += parts[1]
         elif kind == "grant":
             self.book.life(host, parts[0]).grant(parts[1], parts[2])
+        elif kind == "close":
+            self.book.close(host, parts[0])
         return notices
 
     # ---- what runs on hosts

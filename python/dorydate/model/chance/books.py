@@ -98,7 +98,7 @@ def some_life(chance: Random, log: Sequence[Crossing], lives: Sequence[Life]) ->
         life = matching(chance, log, other) if kind == "match" else replace(other, partner=taken_on(chance, log, other.peer, other.host))
     life.messages = chance.choice([0, 1, 1, 2])
     life.granted, life.returned = [chance.choice([2, 2, 3, 1]), chance.choice([9, 9, 4, 1])], [chance.choice([0, 0, 1]), chance.choice([0, 0, 2])]
-    life.has_ended = chance.random() < 0.5
+    life.fate = chance.choice(["open", "open", "ended", "ended", "ended", "closed", "reset", "stopped"])
     return life
 
 

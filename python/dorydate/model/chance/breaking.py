@@ -9,9 +9,9 @@ from collections.abc import Callable, Sequence
 from dataclasses import replace
 from random import Random
 
-from dorydate.model.audit import CONTROL
+from dorydate.model.audit import CONTROL, match
 from dorydate.model.bits import Bits
-from dorydate.model.book import Life
+from dorydate.model.book import Fate, Life
 from dorydate.model.crossings import Answer, Answered, Crossing, Passed, Turned
 from dorydate.model.log import Book
 from dorydate.model.names import Flow, HostName
@@ -19,6 +19,7 @@ from dorydate.model.names import Flow, HostName
 SOCKETS = 2**32
 STAMPS = 2**64
 AMOUNTS = 2**128
+FATES: list[Fate] = ["open", "closed", "ended", "reset", "stopped"]
 STRANGER = HostName(3, 63)
 
 Change = Callable[[Random, Book], None]
@@ -234,7 +235,7 @@ def life_missing(chance: Random, book: Book) -> None:
 @way("a life is there twice, with its list")
 def life_twice(chance: Random, book: Book) -> None:
     at, to = chance.randrange(len(book.lives)), chance.randint(0, len(book.lives))
-    book.lives.insert(to, replace(book.lives[at], has_ended=chance.random() < 0.5))
+    book.lives.insert(to, replace(book.lives[at], fate=chance.choice(FATES)))
     book.handed.insert(to, book.handed[at])
 
 
@@ -374,6 +375,73 @@ def other_data(chance: Random, book: Book) -> None:
         book.log[after] = other._replace(kind="in")
 
 
+# ---- what an end by CLS loses
+
+
+def matched(book: Book) -> list[tuple[Life, int]]:
+    """The receiving lives, each with the place of a sending one that it matches."""
+    return [(life, at) for life in book.lives if life.receives() for at, it in enumerate(book.lives) if match(book.log, life, it)]
+
+
+def ended(book: Book) -> list[tuple[Life, int]]:
+    """Those that their partners ended."""
+    return [(life, at) for life, at in matched(book) if life.fate == "ended"]
+
+
+def said_to_be_ended(chance: Random, book: Book, *fates: Fate) -> None:
+    """Says of a life with one of these fates, which lost something, that its partner ended it."""
+    lost = [life for life, at in matched(book) if life.fate in fates and (life.bits != book.lives[at].bits or life.bits and life.bits != book.handed[at])]
+    chance.choice(lost).fate = "ended"
+
+
+@way("a life that was closed and lost something is said to be ended")
+def ended_for_closed(chance: Random, book: Book) -> None:
+    said_to_be_ended(chance, book, "closed")
+
+
+@way("a life that was reset or stopped and lost something is said to be ended")
+def ended_for_reset(chance: Random, book: Book) -> None:
+    said_to_be_ended(chance, book, "reset", "stopped")
+
+
+@way("an open life that has not taken all is said to be ended")
+def ended_for_open(chance: Random, book: Book) -> None:
+    said_to_be_ended(chance, book, "open")
+
+
+@way("an ended life lacks its last bits")
+def ended_with_fewer(chance: Random, book: Book) -> None:
+    life, _ = chance.choice([(life, at) for life, at in ended(book) if life.bits])
+    life.bits = life.bits[: chance.randrange(len(life.bits))]
+
+
+@way("an ended life took nothing")
+def ended_with_none(chance: Random, book: Book) -> None:
+    life, _ = chance.choice([(life, at) for life, at in ended(book) if life.bits])
+    life.bits, life.messages = "", 0
+
+
+@way("an ended life counts another number of messages")
+def ended_with_messages(chance: Random, book: Book) -> None:
+    life, _ = chance.choice(ended(book))
+    life.messages = abs(life.messages + chance.choice([-1, 1]))
+
+
+@way("more was handed over than an ended life took")
+def ended_handed_more(chance: Random, book: Book) -> None:
+    _, at = chance.choice([(life, at) for life, at in ended(book) if life.bits])
+    book.handed[at] += some_bits(chance)
+
+
+@way("more was sent than an ended life took")
+def ended_sent_more(chance: Random, book: Book) -> None:
+    life, at = chance.choice(ended(book))
+    sender = book.lives[at]
+    sender.bits += some_bits(chance)
+    book.handed[at] = sender.bits
+    life.granted = [AMOUNTS - 1, AMOUNTS - 1]
+
+
 # ---- changes that break nothing: what they change is not promised
 
 
@@ -384,15 +452,16 @@ def granted_more(chance: Random, book: Book) -> None:
 
 def ended_otherwise(chance: Random, book: Book) -> None:
     life = a_life(chance, book)
-    life.has_ended = not life.has_ended
+    life.fate = chance.choice([it for it in FATES if it != "ended" or sends(life)])
 
 
 def handed_more(chance: Random, book: Book) -> None:
-    book.handed[chance.randrange(len(book.handed))] += some_bits(chance)
+    taken = {at for life, at in ended(book) if life.bits}
+    book.handed[chance.choice([at for at in range(len(book.handed)) if at not in taken])] += some_bits(chance)
 
 
 def taken_less(chance: Random, book: Book) -> None:
-    life = a_life(chance, book, lambda it: it.receives() and it.bits)
+    life = a_life(chance, book, lambda it: it.receives() and it.bits and it.fate != "ended")
     life.bits, life.messages = "", 0
 
 
