@@ -1,7 +1,7 @@
-//! Logs that are runs between some hosts, and logs that stop being one; a book that is whole, and one that is malformed; lives that
-//! are made of what crossed, and one that isn't. The functions here do nothing: each clause is a row.
+//! Logs that are runs between some hosts, and logs that stop being one; a book that is whole, and one that is malformed; a life that
+//! lost something where it closed, and one that didn't; lives that are made of what crossed, and one that isn't. The functions here do nothing: each clause is a row.
 
-ghost use Rattle.std.specs.Prelude.{ℕ, Bool, List, Some, [], ◌∷◌};
+ghost use Rattle.std.specs.Prelude.{ℕ, Bool, List, Some, [], ◌∷◌, ◌++◌};
 ghost use Rattle.interface.specs.Host.{Host};
 ghost use Rattle.interface.specs.declared.address.Flow.{Flow};
 ghost use Rattle.interface.specs.declared.crossing.Answer.{Answer};
@@ -10,9 +10,13 @@ ghost use Rattle.interface.specs.declared.crossing.Crossing.TheVariants as cross
 ghost use Rattle.interface.specs.declared.message.HostMessage.{HostMessage};
 ghost use Rattle.net_sim.specs.declared.auditing.findings.Finding.{Finding};
 ghost use Rattle.net_sim.specs.declared.auditing.findings.Finding.TheVariants as finding;
+ghost use Rattle.net_sim.specs.Findings.{ShowsLife};
+ghost use Rattle.net_sim.specs.Worked.{eight, four};
+ghost use Rattle.promise.specs.Fates.{ClosesWhole};
+ghost use Rattle.promise.specs.declared.life.Fate.TheVariants as fate;
 ghost use Rattle.promise.specs.declared.life.Life.{Life};
 ghost use Rattle.world_keeps_lives.specs.WorkedFormed.{gave, sent_log, took};
-ghost use Rattle.book_judge.specs.Broken.{IsBroken, only_malformed, unbroken};
+ghost use Rattle.book_judge.specs.Broken.{IsBroken, first_closed, only_malformed, unbroken};
 ghost use Rattle.book_judge.specs.Lives.{AreMade, UnmadeAt};
 ghost use Rattle.book_judge.specs.Runs.{IsSomeRun, StraysAt};
 
@@ -46,6 +50,16 @@ pub fn worked_broken()
     ensures no_life { (h : List Bool) (n : ℕ) → IsBroken (only_malformed (finding.Life n)) [] [] (h ∷ []) [] → ⊥ }
     ensures not_whole { (h : List Bool) → IsBroken unbroken [] [] (h ∷ []) [] → ⊥ }
     ensures no_part { (h : List Bool) (found : Finding) → IsBroken (record (only_malformed (finding.List 0)) { grants = Some found }) [] [] (h ∷ []) [] → ⊥ }
+{}
+
+/// Of the lives of a world in which eight bits were sent, and twelve handed over, the one that took the eight.
+pub fn worked_closes()
+    // its partner ended it, so it took all that was handed over: eight bits, and not twelve
+    ensures whole { ClosesWhole sent_log (took ∷ gave ∷ []) ([] ∷ eight ∷ []) (fate.Ended ∷ fate.Open ∷ []) }
+    ensures lost { ShowsLife (first_closed sent_log (took ∷ gave ∷ []) ([] ∷ (eight ++ four) ∷ []) (fate.Ended ∷ fate.Open ∷ [])) (finding.Lives 0 1) sent_log (took ∷ gave ∷ []) }
+
+    // its own user closed it, or only the other life was ended: then it need not
+    ensures closed { ClosesWhole sent_log (took ∷ gave ∷ []) ([] ∷ (eight ++ four) ∷ []) (fate.Closed ∷ fate.Ended ∷ []) }
 {}
 
 /// Lives of small logs, the newest crossing first.

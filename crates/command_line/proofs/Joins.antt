@@ -1,7 +1,8 @@
 -- An input has one log, and its outputs are of one replay.
 use Rattle.std.proofs.Common.{◌≡◌, Bool, List, [], ◌++◌, Some, codes, reverse, sym, ap, ap₂, subst, ◌∙◌, ℕ}
 use Rattle.std.proofs.lemmas.List.{reverse-reverse}
-use Rattle.book_log.specs.Log.{log_text}
+use Rattle.book_log.specs.Log.{lives_of, log_text}
+use Rattle.book_log.proofs.lemmas.{lives_back}
 use Rattle.interface.specs.declared.crossing.Crossing.{Crossing}
 use Rattle.net_sim.specs.Carriers.{shown}
 use Rattle.net_sim.specs.World.{WorldState, opening_world}
@@ -107,7 +108,8 @@ told_from {C} calls settled opening (Raw events) book detail out log h k =
 told_from {C} calls settled opening (World events) book detail out log h k =
     let one : (h.shows.last ≡ k.last) × (h.shown ≡ k.shows) =
     worlds.one_replay calls settled (opening_world (shown calls) opening) h.shows.last k.last events h.shown k.shows h.shows.replayed k.replayed in
-    let alive : h.lives ≡ k.last.kept.book.lives = h.shows.left ∙ ap (λ (w : WorldState C). w.kept.book.lives) one.0 in
+    let alive : h.lives ≡ lives_of (world_book k.last.kept) =
+    h.shows.left ∙ ap (λ (w : WorldState C). w.kept.book.lives) one.0 ∙ sym (lives_back k.last.kept.book.lives k.last.kept.fates k.fated) in
     record {
       shown = h.shown;
       told = world_book k.last.kept;

@@ -1,5 +1,5 @@
 -- What is written of a log is what its audit says.
-use Rattle.std.proofs.Common.{◌≡◌, ℕ, Bool, true, false, List, ◌++◌, Option, Some, None, IfSome, Result, Ok, Err, MatchResult, OnOk, ap, refl, sym, ◌∙◌, subst}
+use Rattle.std.proofs.Common.{◌≡◌, ℕ, Bool, true, false, List, ◌++◌, Option, Some, None, IfSome, Result, Ok, Err, MatchResult, OnOk, ap, codes, refl, sym, ◌∙◌, subst}
 use Rattle.std.proofs.lemmas.Bool.{false≢true}
 use Rattle.std.proofs.lemmas.List.{append_assoc}
 use Rattle.std.specs.Io.KnownBytes.{Appends, Keeps}
@@ -7,7 +7,9 @@ use Rattle.book_log.specs.Log.{Book, IsLog, fates_of, lives_of}
 use Rattle.interface.specs.declared.crossing.Crossing.{Crossing}
 use Rattle.promise.specs.declared.life.Fate.{Fate}
 use Rattle.promise.specs.declared.life.Life.{Life}
-use Rattle.command_line.specs.Audits.{Audited, AuditsLog, IsAuditFault, IsBookFault, IsLogReadFault, IsSomeLog, Judged, SaysOf, verdict_text}
+use Rattle.command_line.specs.Audits.{Audited, AuditsLog, IsAuditFault, IsBookFault, IsLogReadFault, IsSomeLog, Judged, SaysOf, closes_text, lines_of, lines_text, verdict_text}
+use Rattle.command_line.specs.declared.verdict.Lines.{Lines}
+use Rattle.net_sim.specs.declared.auditing.findings.Finding.{Finding}
 use Rattle.command_line.specs.declared.verdict.Verdict.{Verdict}
 use Rattle.command_line.specs.declared.auditing.AuditFault.{AuditFault}
 use Rattle.command_line.specs.declared.auditing.AuditFault.TheVariants as fault
@@ -51,6 +53,13 @@ joins None b c text more h k = tt
 joins (Some x) None c text more h k = absurd h
 joins (Some x) (Some y) None text more h k = absurd k
 joins (Some x) (Some y) (Some z) text more h k = k ∙ ap (λ (w : List ℕ). w ++ more) h ∙ append_assoc x text more
+
+-- what is written of closes, by the lines that are found
+pub closes_told : {T E : Type 0} (r : Result T E) (b : Book) (o : Option Finding) (found : Finding) (l : Lines) (before after : Option (List ℕ)) → o ≡ Some found → l ≡ lines_of b found
+    → OnOk r (Appends before after (codes "broken closes " ++ (lines_text l ++ codes "\n"))) → OnOk r (Appends before after (closes_text b o))
+closes_told r b o found l before after e f h =
+    subst (λ (q : Option Finding). OnOk r (Appends before after (closes_text b q))) (sym e)
+    (subst (λ (k : Lines). OnOk r (Appends before after (codes "broken closes " ++ (lines_text k ++ codes "\n")))) f h)
 
 -- ---- faults
 

@@ -1,6 +1,6 @@
 -- That several outputs are of one replay.
 use Rattle.std.specs.Prelude.{◌≡◌, ℕ, Bool, List, ◌++◌, codes}
-use Rattle.book_log.specs.Log.{Book, IsLog}
+use Rattle.book_log.specs.Log.{Book, IsLog, lives_of}
 use Rattle.promise.specs.declared.life.Life.{Life}
 use Rattle.replay.specs.declared.print.Detail.{Detail}
 use Rattle.world_replay.specs.Output.{Shown, crossings_of, output}
@@ -21,6 +21,6 @@ pub record PrintTheSame (book other : Bool) (detail more : Detail) (one two : Li
 pub record TellTheSame (book : Bool) (detail : Detail) (out log : List ℕ) : Type 0 where
   pub shown : List Shown
   pub told : Book
-  pub prints : out ≡ printed book detail shown told.lives
+  pub prints : out ≡ printed book detail shown (lives_of told)
   pub logs : IsLog log told
   pub crossed : told.crossings ≡ crossings_of shown

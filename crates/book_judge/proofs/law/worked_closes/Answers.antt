@@ -1,0 +1,100 @@
+use Rattle.std.proofs.Common.{◌≡◌, ◌++◌, ◌∙◌, Bool, true, false, List, [], ◌∷◌, ap, refl, sym, subst, inl, inr, arith}
+use Rattle.std.specs.List.{Contains}
+use Rattle.net_sim.specs.Worked.{eight, four}
+use Rattle.promise.specs.Fates.{IsBeside}
+use Rattle.promise.specs.Safe.{Match, receives, sends}
+use Rattle.promise.specs.declared.life.Fate.{Fate}
+use Rattle.promise.specs.declared.life.Fate.TheVariants as fate
+use Rattle.promise.specs.declared.life.Life.{Life}
+use Rattle.world_keeps_lives.specs.WorkedFormed.{gave, sent_log, took}
+use Rattle.book_judge.proofs.Elements.{place_contains}
+use Rattle.book_judge.proofs.Named.{contains_cases, contains_none}
+use Rattle.book_judge.proofs.law.worked_closes.Goals as goal
+
+-- the one receives, and the other sends: so it is the first that matches the second
+matched : Match sent_log took gave
+matched = record { receiving = refl; sending = refl; peers = (refl, refl); sockets = (refl, refl); asked = refl; answered = refl }
+
+not_receiving : (x : Life) → x ≡ gave → receives x ≡ true → ⊥
+not_receiving x e r = let other : false ≡ true = subst (λ (z : Life). receives z ≡ true) e r in absurd (cc)
+
+not_sending : (y : Life) → y ≡ took → sends y ≡ true → ⊥
+not_sending y e s = let other : false ≡ true = subst (λ (z : Life). sends z ≡ true) e s in absurd (cc)
+
+taker_is : (x y : Life) (f a b : Fate) → IsBeside x f (took ∷ gave ∷ []) (a ∷ b ∷ []) → Match sent_log x y → (x ≡ took) × (f ≡ a)
+taker_is x y f a b beside m = elim beside [
+  | inl e ↦ e
+  | inr more ↦ elim more [
+    | inl e ↦ absurd (not_receiving x e.0 m.receiving)
+    | inr none ↦ absurd none
+  ]
+]
+
+giver_is : (x y : Life) (t s : List Bool) → IsBeside y t (took ∷ gave ∷ []) ([] ∷ s ∷ []) → Match sent_log x y → (y ≡ gave) × (t ≡ s)
+giver_is x y t s beside m = elim beside [
+  | inl e ↦ absurd (not_sending y e.0 m.sending)
+  | inr more ↦ elim more [
+    | inl e ↦ e
+    | inr none ↦ absurd none
+  ]
+]
+
+sender_is : (x y : Life) → Contains (took ∷ gave ∷ []) y → Match sent_log x y → y ≡ gave
+sender_is x y there m = elim (contains_cases took (gave ∷ []) y there) [
+  | inl e ↦ absurd (not_sending y (sym e) m.sending)
+  | inr more ↦ elim (contains_cases gave [] y more) [
+    | inl e ↦ sym e
+    | inr none ↦ absurd (contains_none y none)
+  ]
+]
+
+other_fate : fate.Ended ≡ fate.Closed → ⊥
+other_fate e = absurd (cc)
+
+none_eight : eight ≡ [] → ⊥
+none_eight e = absurd (cc)
+
+not_twelve : eight ≡ eight ++ four → ⊥
+not_twelve e = absurd (cc)
+
+pub returns-clause-whole : goal.returns-clause-whole
+returns-clause-whole c = record {
+  took_sent = λ x y beside there m.
+      (let p = taker_is x y fate.Ended fate.Ended fate.Open beside m in
+      let q = sender_is x y there m in
+      (ap (λ (z : Life). z.bits) (p.0 ∙ refl) ∙ sym (ap (λ (z : Life). z.bits) q), ap (λ (z : Life). z.messages) p.0 ∙ sym (ap (λ (z : Life). z.messages) q)));
+  took_handed = λ x y text beside given m some.
+      (let p = taker_is x y fate.Ended fate.Ended fate.Open beside m in
+      let q = giver_is x y text eight given m in
+      ap (λ (z : Life). z.bits) p.0 ∙ sym q.1);
+}
+
+pub returns-clause-closed : goal.returns-clause-closed
+returns-clause-closed c = record {
+  took_sent = λ x y beside there m. absurd (other_fate (taker_is x y fate.Ended fate.Closed fate.Ended beside m).1);
+  took_handed = λ x y text beside given m some. absurd (other_fate (taker_is x y fate.Ended fate.Closed fate.Ended beside m).1);
+}
+
+pub returns-clause-lost : goal.returns-clause-lost
+returns-clause-lost c = record {
+  place = 0;
+  first = (
+    record { took_sent = λ x y beside there m. absurd beside; took_handed = λ x y text beside given m some. absurd beside },
+    λ w. not_twelve (w.took_handed took gave (eight ++ four) (inl (refl, refl)) (inr (inl (refl, refl))) matched none_eight),
+  );
+  at = (
+    refl,
+    (
+      took,
+      refl,
+      omega arith,
+      (
+        λ y there m. elim (contains_cases took [] y there) [
+          | inl e ↦ not_sending y (sym e) m.sending
+          | inr none ↦ contains_none y none
+        ],
+        λ none. none gave (place_contains (took ∷ gave ∷ []) 1 gave refl) matched,
+      ),
+    ),
+  );
+}

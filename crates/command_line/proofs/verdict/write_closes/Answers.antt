@@ -1,0 +1,7 @@
+use Rattle.command_line.proofs.Judged.{closes_told}
+use Rattle.command_line.proofs.verdict.write_closes.Goals as goal
+
+pub returns-in-Some-clause-written : goal.returns-in-Some-clause-written
+returns-in-Some-clause-written g c =
+    closes_told c.writeln.result c.args.book.now c.args.closes c.in-Some.found c.lines_of-lines.result (g.W.Output.contents c.args.writer.now) (g.W.Output.contents c.writeln.new.self) c.in-Some.is c.lines_of-lines.ensures
+    c.writeln.ensures.written
