@@ -1,9 +1,10 @@
 -- Plain boxes rest while their map by flow is empty.
-use Rattle.std.proofs.Common.{◌≡◌, Bool, true, false, ◌||◌, List, [], ◌∷◌, Option, None, is_some, Ok, Err, refl, ap, sym, ◌∙◌}
+use Rattle.std.proofs.Common.{◌≡◌, inl, inr, Bool, true, false, ◌||◌, List, [], ◌∷◌, Option, Some, None, is_some, Ok, Err, refl, ap, sym, ◌∙◌}
 use Rattle.std.specs.FinMap.{empty, get, get-empty}
 use Rattle.interface.specs.Host.{Host, is_host}
 use Rattle.interface.specs.Flow.{flow_cmp}
 use Rattle.interface.specs.Rest.{Rests, TakesNothing}
+use Rattle.leader1822.specs.Answered.{AllAnswered}
 use Rattle.leader1822.specs.Boxes.{Boxes, BoxesRound, BoxesTake, WaitingAnswer, for_host, first_of_list, next_for, answer_first}
 use Rattle.leader1822.specs.Inside.Held.{Flows, Held, IsIndexed, IsKept}
 use Rattle.leader1822.specs.Inside.Soundness.{texts_of, kinds_of, texts_for, kinds_for, AreTo, AreToldTo, Matches}
@@ -68,3 +69,25 @@ boxes_rest b goes none = record {
   round = (goes, refl);
   takings = λ h. taking b h goes (none h);
 }
+
+-- and each message of a host that is up was answered
+first_none : {A : Type 0} (xs : List A) → first_of_list xs ≡ None → xs ≡ []
+first_none [] e = refl
+first_none (x ∷ xs) e = absurd (cc)
+
+pub all_answered : (b : Boxes) → Matches b → ((h : Host) → next_for b h ≡ None) → AllAnswered b
+all_answered b m none f up =
+    elim ((m.flows f).told (sym (m.up f.source) ∙ up) (ap (texts_of f) (messages f.destination))) [
+      | inl empty ↦ empty.1
+      | inr one ↦ absurd (let no : one.0 ∷ [] ≡ [] = sym one.1 ∙ ap (kinds_of f) (answers f.source) in cc)
+    ] where
+      by : (h : Host) → (a : Option WaitingAnswer) (o : Option HostMessage) → first_of_list (for_host b.answers h) ≡ a → first_of_list (for_host b.messages h) ≡ o → answer_first a o ≡ None → (for_host b.answers h ≡ []) × (for_host b.messages h ≡ [])
+      by h None None e g n = (first_none (for_host b.answers h) e, first_none (for_host b.messages h) g)
+      by h (Some a) o e g n = absurd (cc)
+      by h None (Some x) e g n = absurd (cc)
+
+      answers : (h : Host) → for_host b.answers h ≡ []
+      answers h = (by h (first_of_list (for_host b.answers h)) (first_of_list (for_host b.messages h)) refl refl (none h)).0
+
+      messages : (h : Host) → for_host b.messages h ≡ []
+      messages h = (by h (first_of_list (for_host b.answers h)) (first_of_list (for_host b.messages h)) refl refl (none h)).1

@@ -1,4 +1,5 @@
 pub mod Boxes
+pub mod Answered
 pub mod Inside
 pub mod Leader
 pub use Rattle.interface.specs.Calls

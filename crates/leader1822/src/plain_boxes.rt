@@ -1,7 +1,8 @@
 //! The plainest carrier: mailboxes and nothing else.
 
-ghost use Rattle.std.specs.Prelude.{◌≡◌, true, length, option_copied, slice_get};
+ghost use Rattle.std.specs.Prelude.{◌≡◌, false, true, length, option_copied, slice_get};
 ghost use Rattle.interface.specs.Host.{InOrder};
+ghost use Rattle.leader1822.specs.Answered.{AllAnswered};
 ghost use Rattle.leader1822.specs.Boxes as boxes;
 ghost use Rattle.leader1822.specs.Boxes.{BoxesDecided, opening_boxes};
 
@@ -80,6 +81,15 @@ impl PlainBoxes {
         ensures { result ≡ slice_get (boxes.for_host self.now.answers host.now) place }
     {
         self.contents.answers().at(host, place).copied()
+    }
+
+    /// Returns whether memory has lasted and nothing waits for any host. Then each message of a host that is up was
+    /// answered.
+    pub fn is_empty(&self) -> bool
+        ensures running { result ≡ true → self.now.stopped ≡ false }
+        ensures answered { result ≡ true → AllAnswered self.now }
+    {
+        !self.contents.has_stopped() && self.contents.is_empty()
     }
 
     /// Gives up the outstanding message of a flow.

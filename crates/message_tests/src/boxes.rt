@@ -350,7 +350,7 @@ fn acted(alloc: Global, boxes: &mut PlainBoxes, act: Act) -> Result<Outcome, Bit
         Act::MessageAt(who, place) => found(boxes.message_at(&host_of(who), place)),
         Act::AnswerAt(who, place) => told(boxes.answer_at(&host_of(who), place)),
         Act::DownAt(place) => named(boxes.down().get(place)),
-        Act::Rests => Outcome::AtRest(boxes.rests()),
+        Act::Rests => Outcome::AtRest(boxes.rests() && boxes.is_empty()),
     })
 }
 

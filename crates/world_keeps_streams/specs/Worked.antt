@@ -14,7 +14,6 @@ use Rattle.sockets.specs.Pairs.{opening_state}
 use Rattle.sockets.specs.Requests.{served}
 use Rattle.sockets.specs.Worked.{control, first, on_link, second}
 use Rattle.sockets.specs.declared.request.Request.TheVariants as request
-use Rattle.net_sim.specs.Book.{all_crossed, opening_kept}
 use Rattle.net_sim.specs.Story.{Asked, Crossed, Moment}
 use Rattle.net_sim.specs.World.{WorldState, seated}
 use Rattle.net_sim.specs.Worked.{eight, fresh, receiver, sender}
@@ -103,9 +102,9 @@ draining_end = record giving_opened { closing = closing.Due; bits = eight }
 abbrev pub heard_moments : List Moment
 heard_moments = Crossed (crossing.Answer answer.Rfnm (on_link first second 0)) ∷ taken_moments
 
--- a world with the book of these crossings, newest first
+-- a world whose carrier's log is this, newest first
 abbrev pub after_crossings : List Crossing → WorldState Seen → WorldState Seen
-after_crossings crossings w = record w { kept = all_crossed crossings opening_kept }
+after_crossings log w = record w { carrier = record w.carrier { log = log } }
 
 -- and one whose first host has an RST to say
 abbrev pub contacting : WorldState Seen

@@ -1,5 +1,5 @@
 -- In a world that has settled all lives that match agree.
-use Rattle.std.proofs.Common.{◌≡◌, ◌<◌, ℕ, zero, suc, Bool, true, false, List, [], ◌∷◌, length, map, slice_get, Option, Some, None, refl, ap, sym, subst, ◌∙◌, arith}
+use Rattle.std.proofs.Common.{◌≡◌, ◌<◌, ℕ, zero, suc, Bool, true, false, List, [], ◌∷◌, ◌++◌, length, map, slice_get, Option, Some, None, refl, ap, sym, subst, ◌∙◌, arith}
 use Rattle.std.specs.List.{Contains}
 use Rattle.interface.specs.Calls.{Seen}
 use Rattle.interface.specs.Host.{Host, is_host, same_host}
@@ -71,11 +71,15 @@ module _ {C : Type 0} (seen : C → Seen) (hosts : List Host) (w : WorldState C)
       sym (up_same hosts x.host lawful.whole.moments)
       ∙ up_ready hosts (events_of lawful.whole.moments) (coupled_in hosts lawful.whole.moments l).run x.host x.peer (stays_ready (events_of lawful.whole.moments) x.host x.peer (stays_of hosts lawful.whole.moments l x there goes))
 
+  log_is : (seen w.carrier).log ≡ crossings_of lawful.whole.moments
+  log_is = lawful.booked.book ∙ ap (λ (more : List Crossing). more ++ w.kept.book.crossings) (lawful.booked.all settled.running) ∙ lawful.whole.crossings
+
   none_out : (a b : Host) → mail.is_up hosts a (crossings_of lawful.whole.moments) ≡ true → mail.is_up hosts b (crossings_of lawful.whole.moments) ≡ true → NoneOut a b (crossings_of lawful.whole.moments)
-  none_out a b there back =
-      subst (λ (log : List Crossing). NoneOut a b log) lawful.whole.crossings
-      (settled.answered a b (subst (λ (hs : List Host). mail.is_up hs a w.kept.book.crossings ≡ true) (sym lawful.whole.network) (subst (λ (log : List Crossing). mail.is_up hosts a log ≡ true) (sym lawful.whole.crossings) there))
-      (subst (λ (hs : List Host). mail.is_up hs b w.kept.book.crossings ≡ true) (sym lawful.whole.network) (subst (λ (log : List Crossing). mail.is_up hosts b log ≡ true) (sym lawful.whole.crossings) back)))
+  none_out a b there back link =
+      subst (λ (log : List Crossing). mail.box_of (record { source = a; destination = b; link = record { 0 = link } }) log ≡ mail.Empty) log_is
+      (settled.answered (record { source = a; destination = b; link = record { 0 = link } }) (up_there a there) (up_there b back)) where
+        up_there : (h : Host) → mail.is_up hosts h (crossings_of lawful.whole.moments) ≡ true → mail.is_up (seen w.carrier).hosts h (seen w.carrier).log ≡ true
+        up_there h up = subst (λ (hs : List Host). mail.is_up hs h (seen w.carrier).log ≡ true) (sym lawful.whole.network) (subst (λ (log : List Crossing). mail.is_up hosts h log ≡ true) (sym log_is) up)
 
   pub world_settles : EachAgrees lawful.whole.moments
   world_settles x s here there matches goes sender_goes end giver =

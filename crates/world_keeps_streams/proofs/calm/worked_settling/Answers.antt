@@ -1,6 +1,7 @@
-use Rattle.std.proofs.Common.{◌≡◌, ℕ, zero, suc, ◌==◌, ◌&&◌, Bool, true, false, if◌then◌else◌, [], ◌∷◌, Option, Some, None, is_some, refl, ap, subst, ◌∙◌, arith}
+use Rattle.std.proofs.Common.{◌≡◌, zero, suc, ◌==◌, ◌&&◌, Bool, true, false, if◌then◌else◌, [], ◌∷◌, Option, Some, None, is_some, refl, ap, subst, ◌∙◌, arith}
 use Rattle.interface.specs.Host.{Host, same_host}
 use Rattle.interface.specs.Mailboxes.{Box, Empty, Taken, Waiting, box_of, is_up}
+use Rattle.interface.specs.declared.address.Flow.{Flow}
 use Rattle.interface.specs.declared.crossing.Crossing.TheVariants as crossing
 use Rattle.interface.specs.declared.message.HostMessage.{HostMessage}
 use Rattle.sockets.specs.Sending.{next_out}
@@ -44,19 +45,19 @@ two_silent false (suc zero) below seat is s has = absurd (let no : None ≡ Some
 two_silent b (suc (suc at)) below seat is s has = absurd (omega (arith, below))
 
 pub returns-clause-fresh : goal.returns-clause-fresh
-returns-clause-fresh c = record { running = refl; silent = two_silent true; answered = λ a b up back link. refl }
+returns-clause-fresh c = record { running = refl; silent = two_silent true; answered = λ f up back. refl }
 
 -- of the message to the second host, which is down, nothing is asked
-to_second : (a b : Host) (link : ℕ) → (v : Bool) → same_host b second ≡ v → is_up (first ∷ second ∷ []) b (crossing.Down second ∷ crossing.Out (rst first second) ∷ []) ≡ true
-    → box_of (record { source = a; destination = b; link = record { 0 = link } }) (crossing.Down second ∷ crossing.Out (rst first second) ∷ []) ≡ Empty
-to_second a b link true e back = absurd (let no : false ≡ true = rw e at back in cc)
-to_second a b link false e back = rw e (by (same_host a first) (link == 0)) where
+to_second : (f : Flow) → (v : Bool) → same_host f.destination second ≡ v → is_up (first ∷ second ∷ []) f.destination (crossing.Down second ∷ crossing.Out (rst first second) ∷ []) ≡ true
+    → box_of f (crossing.Down second ∷ crossing.Out (rst first second) ∷ []) ≡ Empty
+to_second f true e back = absurd (let no : false ≡ true = rw e at back in cc)
+to_second f false e back = rw e (by (same_host f.source first) (f.link.0 == 0)) where
   by : (u v : Bool) → (if (u && false && v) then Waiting 0 (rst first second).text else Empty) ≡ Empty
   by true v = refl
   by false v = refl
 
 pub returns-clause-down : goal.returns-clause-down
-returns-clause-down c = record { running = refl; silent = two_silent false; answered = λ a b up back link. to_second a b link (same_host b second) refl back }
+returns-clause-down c = record { running = refl; silent = two_silent false; answered = λ f up back. to_second f (same_host f.destination second) refl back }
 
 pub returns-clause-speaks : goal.returns-clause-speaks
 unfolding next_out served
@@ -64,7 +65,7 @@ returns-clause-speaks c f = not_some (ap (λ (o : Option HostMessage). is_some o
 
 pub returns-clause-waits : goal.returns-clause-waits
 unfolding is_empty
-returns-clause-waits c f = not_both (ap is_empty (f.answered first second refl refl 0))
+returns-clause-waits c f = not_both (ap is_empty (f.answered (record { source = first; destination = second; link = record { 0 = 0 } }) refl refl))
 
 pub returns-clause-halted : goal.returns-clause-halted
 returns-clause-halted c f = not_some f.running
