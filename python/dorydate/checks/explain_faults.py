@@ -126,7 +126,7 @@ BAD_LOG_LINES = [
     (1, b"in 0/1 0/2 5 8064 " + b"FF" * 1008, "the number of bits is 0 to 8063"),
     (1, b"down 0/64", "the IMP's number is 1 to 63. The form is `down H`."),
     (1, b"up\t0/1", "not printable ASCII"),
-    (10, b"life 0/1 16 0/2 33 0 4 receive 1 16 1 100 0 0 OPEN 4849", "`OPEN` is none of open, ended. Is `open` meant?"),
+    (10, b"life 0/1 16 0/2 33 0 4 receive 1 16 1 100 0 0 OPEN 4849", "`OPEN` is none of open, closed, ended, reset, stopped. Is `open` meant?"),
     (10, b"life 0/1 16 0/2 33 0 4 receive 1 016 1 100 0 0 open 4849", "`016` can't be read as a number"),
     (10, b"life 0/1 16 0/2 33 0 4 send 1 16 1 100 0 0 open 4849", "Socket 16 is even and receives"),
     (10, b"life 0/1 4294967296 0/2 33 0 4 receive 1 16 1 100 0 0 open 4849", "out of range: the socket is 0 to 4294967295"),
