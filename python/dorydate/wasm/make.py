@@ -54,7 +54,7 @@ def compiled(module: str, folder: str) -> tuple[str, str]:
         read = file.read()
     with open(changed, "wb") as file:
         file.write(for_wasm(read))
-    clang(*TARGET, "-O3", "-c", "-x", "ir", changed, "-o", made)
+    clang(*TARGET, "-O2", "-c", "-x", "ir", changed, "-o", made)
     return made, mark_of(read)
 
 
