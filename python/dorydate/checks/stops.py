@@ -7,7 +7,7 @@ with a new contact, on the same sockets. `./check stops 10` stops after every te
 dorydate.checks.stopping makes the scripts by the independent model, and the program runs them. It has to print what the model prints,
 refusals included. In the book the hosts have stopped that should; after the new contact both services are done and the typed line comes
 back; and the audit in Python (python/dorydate/model/audit.py) finds the promise kept. What was sent and taken is read off the printed messages,
-and what was handed over, which isn't printed there, is the model's. So spelled as a log, this book has to be what the program prints
+and what was handed over and how lives ended, which isn't printed there, is the model's. So spelled as a log, this book has to be what the program prints
 with `--log`, and its own `--audit` has to say `kept`. Of books that are spoiled in one place both audits have to name the part.
 
 It takes the proved program, or where ./build has not made that the one that was built without proofs, which is slow.
@@ -38,7 +38,7 @@ from dorydate.model.runs import End, with_texts
 from dorydate.model.script import read_flow
 from dorydate.model.names import read_host
 from dorydate.checks.stopping import Dialogue, Stop, Stuck
-from dorydate.model.book import Life
+from dorydate.model.book import Fate, Life
 from dorydate.model.world import World
 
 EXAMPLE = f"{ROOT}/examples/from-a-terminal-to-a-server"
@@ -106,19 +106,19 @@ def carried(lines: Sequence[str]) -> list[Bits]:
     return bits
 
 
-def life_of(line: str, bits: Bits, handed: Bits) -> Life:
-    """A life by its line."""
+def life_of(line: str, bits: Bits, fate: Fate, handed: Bits) -> Life:
+    """A life by its line, which only says whether it is over, and by how far it is."""
     _, host, socket, peer, foreign, own, partner, _, messages, _, *rest = line.split(" ")
     counts = [*map(int, rest[:4])]
     ends = read_host(host), int(socket), read_host(peer), int(foreign), int(own), int(partner)
-    return Life(*ends, bits, int(messages), counts[:2], counts[2:], rest[4] == "ended", handed)
+    return Life(*ends, bits, int(messages), counts[:2], counts[2:], fate, handed)
 
 
 def book_of(lines: Sequence[str], model: World) -> BookOfRun:
     """The crossings and the lives that were printed."""
     lives = [it for it in lines if it.startswith("life ")]
-    handed = [it.handed for it in model.book.lives]
-    return [it for it in map(crossing_of, lines) if it is not None], [life_of(*it) for it in zip(lives, carried(lines), handed)]
+    fates, handed = [it.fate for it in model.book.lives], [it.handed for it in model.book.lives]
+    return [it for it in map(crossing_of, lines) if it is not None], [life_of(*it) for it in zip(lives, carried(lines), fates, handed)]
 
 
 # ---- what is wrong with it
