@@ -19,6 +19,7 @@ from collections import Counter
 from collections.abc import Callable, Iterator, Sequence
 from glob import glob
 from itertools import count, groupby
+from operator import itemgetter
 from typing import Any
 
 from dorydate.model.chance.worlds import Script, some_world
@@ -34,8 +35,8 @@ from dorydate.parts import ROOT
 
 MOST_ROUNDS = 400  # of calms in an example that the model follows
 EVENTS = 40  # of a random script, about
-MOST_IMPS = 16  # of a network of which all parts are looked at after each line
-MOST = {"quiet": 1, "take": TAKES, "offer": OFFERS}  # so many lines a round has at most: of these takings and offers for each host
+MOST_IMPS = 16  # of a network that is looked at after each line, and event by event once more
+MOST = {"quiet": 1, "take": TAKES, "offer": OFFERS}  # how many lines a round has at most: of takings and offers for each host
 
 Records = list[Object]
 
@@ -126,7 +127,8 @@ def look_at(network: Topology, lines: Sequence[str], first: Object, records: Rec
     in_order(lines, first, records)
     if sum(event[1] for event in (read_line(it, False) for it in lines) if event and event[0] == "calm") <= MOST_ROUNDS:
         follow(network, lines, first, records)
-        by_events(network, first, records)
+        if len(network.imps) <= MOST_IMPS:
+            by_events(network, first, records)
 
 
 # ---- rounds
@@ -136,7 +138,7 @@ def in_order(lines: Sequence[str], first: Object, records: Records) -> None:
     """Whether each event has one line, and each calm those that its rounds may have; and nothing is named that is as it was."""
     events = [(line, event, it) for line, it in enumerate(lines, 1) if (event := read_line(it, False))]
     held: Object = {key: dict(first[key]) for key in KINDS}
-    of_events = {number: [*them] for number, them in groupby(records, lambda it: it["number"])}
+    of_events = {number: [*them] for number, them in groupby(records, itemgetter("number"))}
     if [number for number, them in of_events.items() for _ in them] != sorted(it["number"] for it in records) or not {*of_events} <= {*range(1, len(events) + 1)}:
         raise WrongWorld("the lines are not in the order of their events")
     for number, (line, event, spelled) in enumerate(events, 1):
@@ -152,8 +154,8 @@ def in_order(lines: Sequence[str], first: Object, records: Records) -> None:
 
 
 def is_a_calm(records: Records, most: int, hosts: Sequence[str], where: str) -> None:
-    """Whether lines may be those of a calm of so many rounds."""
-    rounds = [(number, [*them]) for number, them in groupby(records, lambda it: it["round"])]
+    """Whether lines may be those of a calm of this many rounds."""
+    rounds = [(number, [*them]) for number, them in groupby(records, itemgetter("round"))]
     numbers = [number for number, _ in rounds]
     if numbers != sorted({*numbers}) or not {*numbers} <= {*range(1, most + 1)}:
         raise WrongWorld(f"the rounds of {where} are not in their order")
@@ -232,8 +234,9 @@ def same_place(owed: Object, record: Object) -> bool:
 def same_line(owed: Object, record: Object) -> None:
     """Whether a line is the one of the model, octet for octet."""
     for key, value in owed.items():
-        if text(record.get(key)) != text(value):
-            raise WrongWorld(f"in line {owed.get('line', 0)}, round {owed.get('round', 0)}, `{key}` is {text(record.get(key))}, and {text(value)} in the model")
+        found, wanted = text({key: record.get(key)}), text({key: value})
+        if found != wanted:
+            raise WrongWorld(f"in line {owed.get('line', 0)}, round {owed.get('round', 0)}, there is {found}, and {wanted} in the model")
     if [*owed] != [*record]:
         raise WrongWorld(f"a line has the keys {', '.join(record)}")
 
@@ -300,7 +303,7 @@ def repeating(records: Records) -> Records:
 def in_whole_rounds(records: Records) -> Records:
     """The events of a round as one line."""
     found: Records = []
-    for (_, round_of), them in groupby(records, lambda it: (it["number"], it["round"])):
+    for (_, round_of), them in groupby(records, itemgetter("number", "round")):
         last, *more = reversed([*them])
         for it in more if round_of else ():
             joined = {key: [*it[key], *last[key]] for key in ("crossed", "printed")}
@@ -325,7 +328,7 @@ def exchanged(first: str, second: str) -> Change:
 
 def with_silent(records: Records) -> Records:
     """A quiet round before the first event of each calm, of which nothing comes."""
-    silent = {"event": "quiet", "crossed": [], "printed": [], **dict.fromkeys(KINDS, {})}
+    silent: Object = {"event": "quiet", "crossed": [], "printed": [], "parts": {}, "programs": {}, "services": {}}
     return [it for record in records for it in ([{**record, **silent}, record] if record["round"] == 1 else [record])]
 
 
