@@ -5,6 +5,7 @@ use Rattle.std.proofs.lemmas.List.{append-nil, length-append, map-append}
 use Rattle.std.proofs.lemmas.List.Folds.{flat_map-map}
 use Rattle.std.specs.List.{flat_map}
 use Rattle.interface.specs.Calls.{Calls}
+use Rattle.interface.specs.declared.crossing.Crossing.{Crossing}
 use Rattle.leader1822.specs.Boxes.{plain_calls}
 use Rattle.net_sim.specs.Carriers.{shown}
 use Rattle.net_sim.specs.World.{WorldState, opening_world}
@@ -30,14 +31,16 @@ use Rattle.trace.specs.Elements.{elements_in, events_of}
 use Rattle.trace.specs.Traces.{Inside, TellsElement, TellsEvent, change_text, numbered_from, plain_inside}
 use Rattle.trace.specs.declared.element.Element.{Element}
 use Rattle.trace.specs.declared.element.Spot.{Spot}
+use Rattle.world_replay.proofs.lemmas.Again.{AreParts, ShowsAs, round_as}
 use Rattle.world_replay.proofs.lemmas.CalmRounds.{calm_rounds}
+use Rattle.world_replay.proofs.lemmas.RoundCalm.{round_calm}
 use Rattle.world_replay.proofs.lemmas.Replays.{happens_once, shown_settled}
 use Rattle.world_replay.specs.Output.{Shown, shown_text}
-use Rattle.world_replay.specs.Replay.{Happens, Replays, rounds_of}
+use Rattle.world_replay.specs.Replay.{Happens, HappensInCalm, Replays, rounds_of}
 use Rattle.world_script.specs.declared.event.WorldEvent.{WorldEvent}
 use Rattle.world_script.specs.declared.event.WorldEvent.TheVariants as worlds
-use Rattle.world_trace.specs.Texts.{opening_text}
-use Rattle.world_trace.specs.Traces.{TellsIn, TellsOne, TellsRound, change_of, first_rounds, state_of}
+use Rattle.world_trace.specs.Texts.{opening_text, world_line}
+use Rattle.world_trace.specs.Traces.{TellsIn, TellsInCalm, TellsOne, TellsRound, change_of, first_rounds, state_of}
 use Rattle.command_line.specs.Carriers.{ends_of, plain_of, subnet_of}
 use Rattle.command_line.specs.Events.{Asked, Raw, World}
 use Rattle.command_line.specs.Recorded.{OfElement, OfWorld, PrintsTrace, Recorded, printed_lines, recorded_text}
@@ -129,25 +132,48 @@ texts lines = map (shown_text Sizes) lines
 abbrev Passes : {C : Type 0} → WorldState C → WorldState C → List (List ℕ) → List Shown → Type 0
 Passes new other lines prints = (new ≡ other) × HavePrinted lines (texts prints)
 
-one_printed : {C : Type 0} (calls : Calls C) (members : C → List (List ℕ)) (spot : Spot) (round : ℕ) (e : WorldEvent) (old new : WorldState C) (lines : List (List ℕ)) (h : TellsOne calls members spot round old e new lines) → HavePrinted lines (texts h.0)
+-- lines in turn
+parts_printed : AreParts (λ (lines : List (List ℕ)) (prints : List Shown). HavePrinted lines (texts prints))
 unfolding texts
-one_printed calls members spot round e old new lines (prints, h, is) = (OfWorld spot round e h.gains.crossings prints (change_of members old new) ∷ [], is, sym (append-nil (texts prints)))
+parts_printed = record {
+  none = none_printed;
+  more = λ first rest begin later here there. subst (λ (ts : List (List ℕ)). HavePrinted (first ++ rest) ts) (sym (map-append (shown_text Sizes) begin later)) (more_printed first rest (texts begin) (texts later) here there);
+}
+
+-- a line has the lines that are printed
+line_printed : (spot : Spot) (round : ℕ) (e : WorldEvent) (crossings : List Crossing) (prints : List Shown) (state : List (List ℕ)) (lines : List (List ℕ)) → lines ≡ world_line spot round e crossings prints state ∷ [] → HavePrinted lines (texts prints)
+unfolding texts
+line_printed spot round e crossings prints state lines is = (OfWorld spot round e crossings prints state ∷ [], is, sym (append-nil (texts prints)))
+
+-- an event that has none prints nothing
+unprinted : (lines : List (List ℕ)) → lines ≡ [] → HavePrinted lines (texts [])
+unfolding texts
+unprinted lines none = subst (λ (ls : List (List ℕ)). HavePrinted ls []) (sym none) none_printed
+
+one_printed : {C : Type 0} (calls : Calls C) (members : C → List (List ℕ)) (spot : Spot) (round : ℕ) (e : WorldEvent) (old new : WorldState C) (lines : List (List ℕ)) (h : TellsOne calls members spot round old e new lines) → HavePrinted lines (texts h.0)
+one_printed calls members spot round e old new lines (prints, h, is) = line_printed spot round e h.gains.crossings prints (change_of members old new) lines is
+
+-- an event of a calm
+step_printed : {C : Type 0} (calls : Calls C) (members : C → List (List ℕ)) (spot : Spot) (round : ℕ) → ShowsAs (TellsInCalm calls members spot round) (HappensInCalm calls) (λ (lines : List (List ℕ)) (prints : List Shown). HavePrinted lines (texts prints))
+step_printed calls members spot round old e new lines (inl (h, same, none)) = ([], h, unprinted lines none)
+step_printed calls members spot round old e new lines (inr ((prints, h, is), heard)) = (prints, h, line_printed spot round (worlds.Happen e) h.gains.crossings prints (change_of members old new) lines is)
+
+-- a round is a calm of one round
+round_printed : {C : Type 0} (calls : Calls C) (members : C → List (List ℕ)) (spot : Spot) (round : ℕ) (old new : WorldState C) (lines : List (List ℕ)) → TellsRound calls members spot old round new lines
+    → (prints : List Shown) × Happens calls old (worlds.Calm 1) new prints × HavePrinted lines (texts prints)
+round_printed calls members spot round old new lines h =
+    let (prints, events, has) =
+    round_as (TellsInCalm calls members spot round) (HappensInCalm calls) (λ (ls : List (List ℕ)) (ps : List Shown). HavePrinted ls (texts ps)) parts_printed (step_printed calls members spot round) old new lines h in
+    (prints, round_calm calls old new prints events, has)
 
 -- rounds are a replay of calms of one round each
 rounds_printed : {C : Type 0} (calls : Calls C) (members : C → List (List ℕ)) (spot : Spot) (numbers : List ℕ) (old new : WorldState C) (lines : List (List ℕ)) → InTurn (TellsRound calls members spot) old numbers new lines
     → (prints : List Shown) × Replays calls old (rounds_of (length numbers)) new prints × HavePrinted lines (texts prints)
-unfolding texts
-rounds_printed calls members spot [] old new lines (left, none) = ([], (left, refl), subst (λ (ls : List (List ℕ)). HavePrinted ls []) (sym none) none_printed)
-rounds_printed calls members spot (n ∷ numbers) old new lines (mid, first, rest, inl (h, same, none), more, all) =
-    let (later, replays, has) = rounds_printed calls members spot numbers mid new rest more in
-    (later, (mid, [], later, h, replays, refl), subst (λ (ls : List (List ℕ)). HavePrinted ls (texts later)) (sym (all ∙ ap (λ (ls : List (List ℕ)). ls ++ rest) none)) has)
-rounds_printed calls members spot (n ∷ numbers) old new lines (mid, first, rest, inr (h, heard), more, all) =
-    let (later, replays, has) = rounds_printed calls members spot numbers mid new rest more in (
-      h.0 ++ later,
-      (mid, h.0, later, h.1, replays, refl),
-      subst (λ (ls : List (List ℕ)). HavePrinted ls (texts (h.0 ++ later))) (sym all)
-          (subst (λ (ts : List (List ℕ)). HavePrinted (first ++ rest) ts) (sym (map-append (shown_text Sizes) h.0 later)) (more_printed first rest (texts h.0) (texts later) (one_printed calls members spot n (worlds.Calm 1) old mid first h) has)),
-    )
+rounds_printed calls members spot [] old new lines (left, none) = ([], (left, refl), unprinted lines none)
+rounds_printed calls members spot (n ∷ numbers) old new lines (mid, first, rest, one, more, all) =
+    let (begin, round, here) = round_printed calls members spot n old mid first one in
+    let (later, replays, there) = rounds_printed calls members spot numbers mid new rest more in
+    (begin ++ later, (mid, begin, later, round, replays, refl), subst (λ (ls : List (List ℕ)). HavePrinted ls (texts (begin ++ later))) (sym all) (parts_printed.more first rest begin later here there))
 
 all_rounds : (rounds : ℕ) → length (first_rounds rounds) ≡ rounds
 all_rounds zero = refl
