@@ -14,7 +14,6 @@ use Rattle.topology.specs.declared.network.CarrierKind.TheVariants as kind
 use Rattle.net_sim.specs.Carriers.{shown}
 use Rattle.net_sim.specs.World.{WorldState, opening_world}
 use Rattle.net_sim.specs.declared.event.Event.{Event}
-use Rattle.world_replay.proofs.lemmas.Again.{in_calm_once, round_front, round_once}
 use Rattle.world_replay.proofs.lemmas.Replays.{SameGains, gains_once, happens_once, shown_settled}
 use Rattle.world_replay.specs.Gains.{Gains}
 use Rattle.world_replay.specs.Output.{Shown as Printed}
@@ -33,6 +32,7 @@ use Rattle.subnet_trace.specs.Traced.{subnet_inside}
 use Rattle.command_line.specs.Carriers.{plain_of, subnet_of}
 use Rattle.command_line.specs.Events.{Asked, Raw, World}
 use Rattle.command_line.specs.Traced.{EndsAll, EndsFrom, EndsOn, EndsOver, IsScripted, TraceStops, TracesAll, TracesFrom, TracesInput, TracesOn, TracesOver, WorldEndsFrom, WorldTracesFrom}
+use Rattle.command_line.proofs.InCalm.{in_calm_once, round_front, round_once}
 use Rattle.command_line.proofs.OneInput.{OneInput, input_once}
 use Rattle.command_line.proofs.Settled.{plain_settled, subnet_settled}
 
