@@ -39,7 +39,7 @@ one_is_event calls detail old e (Err fault.CannotWrite) new a b h = ([], record 
 abbrev Answer : Type 0
 Answer = Result (Unit {0}) WorldFault
 
-when_true : (P Q : Type 0) (b : Bool) → b ≡ true → P → MatchBool b P Q
+pub when_true : (P Q : Type 0) (b : Bool) → b ≡ true → P → MatchBool b P Q
 when_true P Q true e p = p
 when_true P Q false e p = absurd (false≢true e)
 

@@ -8,7 +8,7 @@ ghost use Rattle.world_replay.specs.Output.{Shown};
 ghost use Rattle.world_replay.specs.Replay.{Happens, Replays, rounds_of};
 ghost use Rattle.world_script.specs.declared.event.WorldEvent.TheVariants.{Calm};
 ghost use Rattle.world_replay.specs.Laws.OneReplay.{OneReplayFirstPart, OneReplaySame};
-ghost use Rattle.world_replay.specs.Laws.Calm.{CalmEvents, CalmWhole};
+ghost use Rattle.world_replay.specs.Laws.Calm.{CalmEvents, CalmTurns, CalmWhole};
 
 use interface::Carrier;
 
@@ -27,4 +27,7 @@ pub fn calm<C: Carrier>()
 
     // and each round is a quiet round of the network, takings and offers
     ensures events { CalmEvents C.calls }
+
+    // in this order
+    ensures turns { CalmTurns C.calls }
 {}

@@ -1,10 +1,15 @@
+mod Calms
 mod CommandTexts
 mod Ends
 mod Failures
 mod Fields
 mod Lines
 mod Lists
+mod Passing
 mod Programs
+mod Resting
 mod Running
+mod Stays
 mod Telling
+mod Turns
 mod Whole

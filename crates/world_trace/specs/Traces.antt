@@ -1,8 +1,7 @@
 -- What is written as the trace of a world, over any carrier whose inside can be traced.
-use Rattle.std.specs.Prelude.{◌≡◌, ◌⊎◌, ℕ, zero, suc, List, [], ◌∷◌, ◌++◌, Option, Result, map}
-use Rattle.net_sim.specs.World.{StepGives, WorldState}
+use Rattle.std.specs.Prelude.{◌≡◌, ◌⊎◌, ℕ, zero, suc, List, [], ◌∷◌, ◌++◌, Option, map}
+use Rattle.net_sim.specs.World.{WorldState}
 use Rattle.net_sim.specs.declared.event.Event.{Event}
-use Rattle.net_sim.specs.declared.event.WorldFault.{WorldFault}
 use Rattle.interface.specs.Calls.{Calls}
 use Rattle.replay.specs.InTurn.{EndsInTurn, Happening, InTurn}
 use Rattle.topology.specs.Topology.{TopologyFields}
@@ -10,7 +9,7 @@ use Rattle.trace.specs.Changes.{changed}
 use Rattle.trace.specs.Traces.{WritesTrace, numbered_from}
 use Rattle.trace.specs.declared.element.Spot.{Spot}
 use Rattle.world_replay.specs.Output.{Shown}
-use Rattle.world_replay.specs.Replay.{Happens, HappensInCalm}
+use Rattle.world_replay.specs.Replay.{Happens, HappensInCalm, MayStep}
 use Rattle.world_replay.specs.Rounds.{EndsRound, RoundOf}
 use Rattle.world_script.specs.declared.event.WorldEvent.{WorldEvent}
 use Rattle.world_script.specs.declared.event.WorldEvent.TheVariants as world
@@ -84,7 +83,7 @@ AfterOpening members t opening AreLines lines = (others : List (List ℕ)) × (l
 
 -- the world processed it, whatever came of it, and it has no line
 abbrev pub MayTell : {C : Type 0} → Calls C → Happening (WorldState C) Event (List ℕ)
-MayTell calls old e new lines = (lines ≡ []) × (outcome : Result (Unit {0}) WorldFault) × StepGives calls old e outcome new
+MayTell calls old e new lines = (lines ≡ []) × MayStep calls old e new
 
 -- memory ran out before it happened, in it, or for its line
 abbrev pub StopsOne : {C : Type 0} → Calls C → Happening (WorldState C) Event (List ℕ)
