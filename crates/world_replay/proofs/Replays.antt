@@ -125,7 +125,7 @@ refusal_gained : (k : Kept) (r : Result (Unit {0}) WorldFault) → HaveGains k k
 refusal_gained k (Ok done) = nothing_gained k
 refusal_gained k (Err f) = record { crossed = refl; told = sym (append-nil k.book.notices); said = sym (append-nil k.book.reports) }
 
-news_gained : (old new : Kept) (g : Gains old new) → HaveGains old new (gained g)
+pub news_gained : (old new : Kept) (g : Gains old new) → HaveGains old new (gained g)
 news_gained old new g =
     let crossings : ℕ = length old.book.crossings in
     let notices : ℕ = length old.book.notices in

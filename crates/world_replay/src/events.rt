@@ -92,15 +92,8 @@ pub fn replay_in_calm<C: Carrier, W: Output>(
     let told = world.book().notices().len();
     let said = world.book().reports().len();
     let outcome = world.step(event);
-    print_news(
-        &mut Line::new(),
-        world.book(),
-        crossed,
-        told,
-        said,
-        detail,
-        writer,
-    )?;
+    let mut line = Line::new();
+    print_news(&mut line, world.book(), crossed, told, said, detail, writer)?;
     check_memory(outcome)
 }
 

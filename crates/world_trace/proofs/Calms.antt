@@ -42,9 +42,9 @@ leads_none Goes e w = λ left new rest h. let same : left ≡ 0 + left = omega a
 leads_more : {C : Type 0} (Goes : Event → ℕ → WorldState C → WorldState C → List (List ℕ) → Type 0) (e : Event) (count : ℕ) (old now mid : WorldState C) (lines first : List (List ℕ)) → Leads Goes e count old now lines
     → ((left : ℕ) (new : WorldState C) (rest : List (List ℕ)) → Goes e left mid new rest → Goes e (suc left) now new (first ++ rest)) → Leads Goes e (count + 1) old mid (lines ++ first)
 leads_more Goes e count old now mid lines first leads one = λ left new rest h. (
-  let all : Goes e (count + suc left) old new (lines ++ (first ++ rest)) = leads (suc left) new (first ++ rest) (one left new rest h) in
-  let same : count + suc left ≡ (count + 1) + left = omega arith in
-  subst (λ n. Goes e n old new ((lines ++ first) ++ rest)) same (subst (λ (ls : List (List ℕ)). Goes e (count + suc left) old new ls) (sym (append_assoc lines first rest)) all))
+    let all : Goes e (count + suc left) old new (lines ++ (first ++ rest)) = leads (suc left) new (first ++ rest) (one left new rest h) in
+    let same : count + suc left ≡ (count + 1) + left = omega arith in
+    subst (λ n. Goes e n old new ((lines ++ first) ++ rest)) same (subst (λ (ls : List (List ℕ)). Goes e (count + suc left) old new ls) (sym (append_assoc lines first rest)) all))
 
 pub no_steps : {C : Type 0} (calls : Calls C) (members : C → List (List ℕ)) (spot : Spot) (round : ℕ) (e : Event) (w : WorldState C) (a : Option (List ℕ)) → HaveSteps calls members spot round e 0 w w a a
 no_steps calls members spot round e w a = record {

@@ -17,7 +17,7 @@ use Rattle.topology.specs.Topology.{TopologyFields}
 use Rattle.trace.specs.Traces.{WritesTrace, numbered_from}
 use Rattle.trace.specs.declared.element.Spot.{Spot}
 use Rattle.world_replay.specs.Output.{Shown, Writes, output, shown_text}
-use Rattle.world_replay.proofs.lemmas.{gains_once, same_news}
+use Rattle.world_replay.proofs.lemmas.Replays.{gains_once, same_news}
 use Rattle.world_replay.specs.Gains.{Gains}
 use Rattle.world_replay.specs.Replay.{EndsIn, EventGives, Happens, HappensInCalm, MayDo, Replays, StopsIn}
 use Rattle.world_script.specs.declared.event.WorldEvent.{WorldEvent}
@@ -170,13 +170,13 @@ none_gained calls old new e shown h same =
 pub step_still : {C : Type 0} (calls : Calls C) (members : C → List (List ℕ)) (spot : Spot) (round : ℕ) (old new : WorldState C) (e : Event) (printed : List ℕ) (a : Option (List ℕ))
     → ShowsInCalm calls old e new printed → ((shown : List Shown) → HappensInCalm calls old e new shown → IsAsBefore members old new) → StepEnds calls members spot round old e (Ok tt) new a a
 step_still {C} calls members spot round old new e printed a (shown, happens, says) still =
-    let as = still shown happens in
+    let all = still shown happens in
     no_line (TellsInCalm calls members spot round old e new) a (inl (
-      subst (λ (ls : List Shown). HappensInCalm calls old e new ls) (none_gained calls old new e shown happens as.kept) happens,
+      subst (λ (ls : List Shown). HappensInCalm calls old e new ls) (none_gained calls old new e shown happens all.kept) happens,
       record {
-        parts = ap (changed (members old.carrier)) as.parts ∙ none_changed (members old.carrier);
-        programs = ap (λ seats. changed (map seat_member old.seats) (map seat_member seats)) as.seats ∙ none_changed (map seat_member old.seats);
-        services = ap (λ all. changed (map services_member old.services) (map services_member all)) as.services ∙ none_changed (map services_member old.services);
+        parts = ap (changed (members old.carrier)) all.parts ∙ none_changed (members old.carrier);
+        programs = ap (λ seats. changed (map seat_member old.seats) (map seat_member seats)) all.seats ∙ none_changed (map seat_member old.seats);
+        services = ap (λ served. changed (map services_member old.services) (map services_member served)) all.services ∙ none_changed (map services_member old.services);
       },
       refl,
     ))
@@ -184,8 +184,8 @@ step_still {C} calls members spot round old new e printed a (shown, happens, say
 pub texts_still : {C : Type 0} (calls : Calls C) (members : C → List (List ℕ)) (old new : WorldState C) (e : Event) (printed : List ℕ) (texts : Texts)
     → ShowsInCalm calls old e new printed → ((shown : List Shown) → HappensInCalm calls old e new shown → IsAsBefore members old new) → AreTextsOf members old texts → AreTextsOf members new texts
 texts_still calls members old new e printed texts (shown, happens, says) still was =
-    let as = still shown happens in
-    record { parts = was.parts ∙ sym as.parts; programs = was.programs ∙ ap (map seat_member) (sym as.seats); services = was.services ∙ ap (map services_member) (sym as.services) }
+    let all = still shown happens in
+    record { parts = was.parts ∙ sym all.parts; programs = was.programs ∙ ap (map seat_member) (sym all.seats); services = was.services ∙ ap (map services_member) (sym all.services) }
 
 -- ---- an event that is no calm
 

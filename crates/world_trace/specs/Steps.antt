@@ -1,5 +1,5 @@
 -- What the contracts of private functions say. No public clause cites this file.
-use Rattle.std.specs.Prelude.{◌≡◌, ℕ, ◌≤◌, false, if◌then◌else◌, is_some, List, [], ◌∷◌, ◌++◌, Option, Result, Ok, Err, codes, drop, length, map, reverse}
+use Rattle.std.specs.Prelude.{◌≡◌, ℕ, ◌≤◌, false, if◌then◌else◌, is_some, List, [], ◌∷◌, ◌++◌, Bool, Option, Some, None, Result, Ok, Err, codes, drop, length, map, reverse}
 use Rattle.std.specs.Fmt.{decimal}
 use Rattle.std.specs.List.{flat_map}
 use Rattle.interface.specs.declared.crossing.Crossing.{Crossing}
@@ -8,6 +8,8 @@ use Rattle.net_sim.specs.World.{WorldState}
 use Rattle.net_sim.specs.declared.event.Event.{Event}
 use Rattle.net_sim.specs.declared.event.Event.TheVariants as net
 use Rattle.net_sim.specs.declared.seat.Seat.{Seat}
+use Rattle.net_sim.specs.declared.seat.ServiceSeat.{ServiceSeat}
+use Rattle.interface.specs.Host.{Host, same_host}
 use Rattle.interface.specs.Calls.{Calls}
 use Rattle.interface.specs.Rest.{Rests}
 use Rattle.replay.specs.InTurn.{Happening}
@@ -103,6 +105,26 @@ pub record AreUnchanged (old new : Texts) : Type 0 where
   pub programs : changed old.programs new.programs ≡ []
   pub services : changed old.services new.services ≡ []
 
+-- ---- what is at hosts
+
+abbrev pub seat_place : Seat → Host
+seat_place s = s.host
+
+abbrev pub service_place : ServiceSeat → Host
+service_place s = s.host
+
+-- something is at a host, if there is one
+abbrev pub at_host : {T : Type 0} → (T → Host) → Option Host → T → Bool
+at_host place None x = false
+at_host place (Some h) x = same_host h (place x)
+
+-- these are the texts of all but some of these items
+abbrev pub AreOthers : {T : Type 0} → (T → Bool) → (T → List ℕ) → List (List ℕ) → List T → Type 0
+AreOthers may text [] [] = Unit {0}
+AreOthers may text [] (x ∷ items) = ⊥
+AreOthers may text (t ∷ texts) [] = ⊥
+AreOthers may text (t ∷ texts) (x ∷ items) = (may x ≡ false → text x ≡ t) × AreOthers may text texts items
+
 -- ---- what happens
 
 -- an event happened, and a replay prints this text for it
@@ -132,6 +154,12 @@ abbrev pub event_of : CalmEvent → Event
 event_of calm.Quiet = net.Quiet
 event_of (calm.Take h) = net.Take h
 event_of (calm.Offer h) = net.Offer h
+
+-- the host at which it is
+abbrev pub host_of : CalmEvent → Option Host
+host_of calm.Quiet = None
+host_of (calm.Take h) = Some h
+host_of (calm.Offer h) = Some h
 
 -- with how often they happen at most
 abbrev pub turn : CalmEvent × ℕ → Event × ℕ

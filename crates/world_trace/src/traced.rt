@@ -104,9 +104,7 @@ fn trace_event<C: Inspect, W: Output>(
 {
     match event {
         WorldEvent::Calm(rounds) => trace_calm(alloc, world, spot, rounds, known, writer),
-        WorldEvent::Happen(event) => {
-            trace_one(alloc, world, spot, event, known, writer)
-        }
+        WorldEvent::Happen(event) => { trace_one(alloc, world, spot, event, known, writer) }
     }
 }
 
@@ -133,11 +131,7 @@ fn trace_one<C: Inspect, W: Output>(
 }
 
 /// Lets an event happen that is no calm. Returns the texts of its line.
-fn pass<C: Inspect>(
-    alloc: Global,
-    world: &mut World<C>,
-    event: Event,
-) -> Result<Passed, AllocError>
+fn pass<C: Inspect>(alloc: Global, world: &mut World<C>, event: Event) -> Result<Passed, AllocError>
     ensures passed { IfOk result (λ p. HasPassed (shown C.calls) C.inside.members world.old event world.new p.event.items p.crossed p.printed.items p.texts) }
     ensures memory { IfErr result (λ _. StopsOne (shown C.calls) world.old event world.new []) }
 {
