@@ -189,13 +189,15 @@ in_turns {C} calls (h ∷ hosts) old new r on (first, taken, takes, rest) = by (
       let turned = is_false _ _ (stops first) is rest in
       sent_by k is turned.0 turned.1 turned.2 turned.3 (stops turned.0) refl
 
-no_more : {C : Type 0} (w : WorldState C) (rest : List Shown) (b : Bool) → rest ≡ [] → MatchBool b ((w ≡ w) × (rest ≡ [])) ((w ≡ w) × (rest ≡ []))
-no_more w rest true is = (refl, is)
-no_more w rest false is = (refl, is)
+either_way : (P : Type 0) (b : Bool) → P → MatchBool b P P
+either_way P true p = p
+either_way P false p = p
 
 -- a quiet round that isn't followed by another
 alone : {C : Type 0} (calls : Calls C) (old quiet : WorldState C) (lines : List Shown) → HappensInCalm calls old Quiet quiet lines → Repeated (HappensInCalm calls) Quiet 1 old quiet lines
-alone calls old quiet lines h = (quiet, lines, [], h, no_more quiet [] (crosses old quiet) refl, sym (append-nil lines))
+alone calls old quiet lines h =
+    let none : List Shown = [] in
+    (quiet, lines, none, h, either_way ((quiet ≡ quiet) × (none ≡ [])) (crosses old quiet) (refl, refl), sym (append-nil lines))
 
 -- the events of a round, and that it is done
 abbrev RoundSo : {C : Type 0} → Calls C → WorldState C → Answer → WorldState C → Type 0
