@@ -1,5 +1,6 @@
 -- A world that rests: the events of a round change nothing.
 use Rattle.std.proofs.Common.{◌≡◌, inl, ℕ, suc, Bool, true, false, ◌||◌, cond, if◌then◌else◌, List, [], ◌∷◌, find, length, map, le-ltb, Option, Some, None, Result, Ok, Err, arith, ap, refl, sym, subst, ◌∙◌}
+use Rattle.std.proofs.lemmas.Bool.{false≢true}
 use Rattle.std.proofs.lemmas.List.{append-nil}
 use Rattle.std.specs.List.{flat_map}
 use Rattle.interface.specs.Calls.{Calls, Seen, ShowsTake, halted, is_halt, is_memory}
@@ -50,8 +51,8 @@ silent_of h seat (x ∷ seats) all found =
     (λ f. silent_of h seat seats (λ at lt y got. all (suc at) (omega (arith, lt)) y got) f)
 
 neither : (a b : Bool) → a ≡ false → b ≡ false → (a || b) ≡ false
-neither true b is no = absurd (cc)
-neither false b is no = no
+neither true b e n = absurd (false≢true (sym e))
+neither false b e n = n
 
 module _ {C : Type 0} (own : Calls C) where
   -- an event that leaves the world as it is

@@ -1,5 +1,5 @@
 -- Events are traced one after the other, and one of them may be the last.
-use Rattle.std.proofs.Common.{◌≡◌, inl, inr, ℕ, suc, ◌+◌, ◌-◌, List, [], ◌∷◌, ◌++◌, drop, get_or, length, reverse, Option, Some, Result, Ok, Err, arith, refl, sym, ap, ap₂, map, subst, ◌∙◌}
+use Rattle.std.proofs.Common.{◌≡◌, inl, inr, ℕ, suc, ◌+◌, List, [], ◌∷◌, ◌++◌, drop, get_or, length, reverse, Option, Some, Result, Ok, Err, arith, refl, sym, ap, ap₂, map, subst, ◌∙◌}
 use Rattle.std.proofs.lemmas.List.{append_assoc, append-nil, length-append, length-reverse, reverse-append, reverse-reverse}
 use Rattle.std.proofs.Math.Seq.{drop-append_seam}
 use Rattle.std.specs.Io.KnownBytes.{Appends}
@@ -19,7 +19,7 @@ use Rattle.trace.specs.declared.element.Spot.{Spot}
 use Rattle.world_replay.specs.Output.{Shown, Writes, output, shown_text}
 use Rattle.world_replay.proofs.lemmas.Replays.{gains_once, same_news}
 use Rattle.world_replay.specs.Gains.{Gains}
-use Rattle.world_replay.specs.Replay.{EndsIn, EventGives, Happens, HappensInCalm, MayDo, Replays, StopsIn}
+use Rattle.world_replay.specs.Replay.{EndsIn, EventGives, Happens, HappensInCalm, MayDo, MayStep, Replays, StopsIn}
 use Rattle.world_script.specs.declared.event.WorldEvent.{WorldEvent}
 use Rattle.world_script.specs.declared.event.WorldEvent.TheVariants as world
 use Rattle.world_trace.specs.Steps.{AreTextsOf, AreUnchanged, EventEnds, HasPassed, IsAsBefore, OneEnds, Shows, ShowsInCalm, StepEnds, changed_texts}
@@ -27,7 +27,7 @@ use Rattle.world_trace.specs.Texts.{event_text, line_of, opening_text, seat_memb
 use Rattle.world_trace.specs.declared.texts.Texts.{Texts}
 use Rattle.trace.specs.Changes.{changed}
 use Rattle.trace.proofs.lemmas.{none_changed}
-use Rattle.world_trace.specs.Traces.{AfterOpening, IsUnchanged, MayTell, TellsInCalm, TellsOne, change_of, state_of}
+use Rattle.world_trace.specs.Traces.{AfterOpening, IsUnchanged, MayTell, StopsOne, TellsInCalm, TellsOne, change_of, state_of}
 
 -- ---- one event
 
@@ -65,6 +65,20 @@ pub unwritten : {C : Type 0} (calls : Calls C) (old new : WorldState C) (e : Eve
 unwritten calls old new e shown h =
     let (own, may) = last_one calls (MayDo calls) old new (world.Happen e) shown h in
     (refl, (may.outcome, subst (λ (x : WorldEvent). EventGives calls old x may.outcome new) may.begins may.gives))
+
+abbrev pub failed_by : ReplayFault → Result (Unit {0}) ReplayFault
+failed_by f = Err f
+
+-- whichever fault ended it
+pub ended : {C : Type 0} (calls : Calls C) (old new : WorldState C) (e : Event) (f : ReplayFault) → (failed_by f ≡ Err fault.OutOfMemory → (shown : List Shown) × EndsIn calls (StopsIn calls) old (world.Happen e ∷ []) new shown)
+    → (failed_by f ≡ Err fault.CannotWrite → (shown : List Shown) × EndsIn calls (MayDo calls) old (world.Happen e ∷ []) new shown) → StopsOne calls old e new []
+ended calls old new e fault.OutOfMemory memory failed = let w = memory refl in inr (stopped calls old new e w.0 w.1)
+ended calls old new e fault.CannotWrite memory failed = let w = failed refl in inr (unwritten calls old new e w.0 w.1)
+
+pub ended_in_calm : {C : Type 0} (calls : Calls C) (old new : WorldState C) (e : Event) (f : ReplayFault) (a b : Option (List ℕ)) → (failed_by f ≡ Err fault.OutOfMemory → Writes Sizes (StopsIn calls old (world.Happen e) new) a b)
+    → (failed_by f ≡ Err fault.CannotWrite → MayStep calls old e new) → MayTell calls old e new []
+ended_in_calm calls old new e fault.OutOfMemory a b memory failed = let w = (memory refl).is_shown in (refl, (w.outcome, w.gives))
+ended_in_calm calls old new e fault.CannotWrite a b memory failed = (refl, failed refl)
 
 pub shows : {C : Type 0} (calls : Calls C) (old new : WorldState C) (e : WorldEvent) (written : List ℕ) → Writes Sizes (Replays calls old (e ∷ []) new) (Some []) (Some written) → Shows calls old e new written
 shows calls old new e written h = (h.shown, replayed calls old new e h.shown h.is_shown, h.written)

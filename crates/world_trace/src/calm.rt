@@ -27,7 +27,7 @@ const TAKINGS: u8 = 16;
 const OFFERS: u8 = 32;
 
 /// An event of a calm.
-#[derive(Clone, Copy, Drop)]
+#[derive(Clone, Copy)]
 pub(crate) enum CalmEvent {
     /// A quiet round of the network.
     Quiet,
@@ -135,7 +135,7 @@ fn trace_round<C: Inspect, W: Output>(
 {
     let turns = turns_in(alloc, world.seats())?;
     for (event, times) in turns {
-        trace_again(alloc, world, spot, round, event, times, texts, writer)?;
+        trace_again(alloc, world, spot, round, &event, times, texts, writer)?;
     }
     Ok(())
 }
@@ -146,20 +146,20 @@ fn trace_again<C: Inspect, W: Output>(
     world: &mut World<C>,
     spot: Spot,
     round: u32,
-    event: CalmEvent,
+    event: &CalmEvent,
     times: u8,
     texts: &mut Texts,
     writer: &mut W,
 ) -> Result<(), ReplayFault>
     requires whole { W.failed writer.old ≡ false }
     requires known { AreTextsOf C.inside.members world.old texts.old }
-    ensures ends { AgainEnds (shown C.calls) C.inside.members spot round world.old (step.turn (event, times)) result world.new (W.contents writer.old) (W.contents writer.new) }
+    ensures ends { AgainEnds (shown C.calls) C.inside.members spot round world.old (step.turn (event.now, times)) result world.new (W.contents writer.old) (W.contents writer.new) }
     ensures known { OnOk result (AreTextsOf C.inside.members world.new texts.new) }
     ensures failed { TellsCannotWrite result (W.failed writer.new) }
 {
     for _ in 0..times {
         let before = count_crossings(world);
-        trace_step(alloc, world, spot, round, event, texts, writer)?;
+        trace_step(alloc, world, spot, round, *event, texts, writer)?;
         if count_crossings(world) <= before {
             return Ok(());
         }

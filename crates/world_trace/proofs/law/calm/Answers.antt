@@ -3,7 +3,7 @@ use Rattle.interface.specs.Calls.{Calls}
 use Rattle.world_trace.proofs.Passing.{round_passes}
 use Rattle.world_trace.proofs.law.calm.Goals as goal
 
-pub returns-clause-round : goal.returns-clause-round
-returns-clause-round g c = λ members spot old new round lines h.
+pub returns : goal.returns
+returns g c =
     let calls : Calls g.row.C.Denot = shown g.C.Carrier.calls in
-    round_passes calls members spot round old new lines h
+    record { round = λ members spot old new round lines h. round_passes calls members spot round old new lines h }
