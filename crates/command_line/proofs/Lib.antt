@@ -1,6 +1,7 @@
 mod CommandLine
 mod Faults
 mod Hyphens
+mod InCalm
 mod Jobs
 mod Joined
 mod Joins

@@ -1,5 +1,5 @@
 -- An input leaves a replay no choice.
-use Rattle.std.proofs.Common.{◌≡◌, Bool, List, ◌++◌, Some, codes, sym, ap, ap₂, subst, ◌∙◌, ℕ}
+use Rattle.std.proofs.Common.{◌≡◌, Bool, List, ◌++◌, Some, codes, sym, ap, subst, ◌∙◌, ℕ}
 use Rattle.std.proofs.lemmas.List.{append_assoc}
 use Rattle.net_sim.specs.Carriers.{shown}
 use Rattle.net_sim.specs.World.{WorldState, opening_world}

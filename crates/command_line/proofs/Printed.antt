@@ -1,5 +1,5 @@
 -- What a replay prints is a formed and safe book.
-use Rattle.std.proofs.Common.{arith, ◌≡◌, ◌+◌, ◌⊎◌, inl, inr, ℕ, Bool, true, false, List, [], ◌∷◌, ◌++◌, Option, length, map, reverse, codes, refl, ap, ap₂, sym, subst, ◌∙◌}
+use Rattle.std.proofs.Common.{arith, ◌≡◌, ◌+◌, inl, inr, ℕ, Bool, true, false, List, [], ◌∷◌, ◌++◌, Option, length, reverse, codes, refl, ap, sym, subst, ◌∙◌}
 use Rattle.std.proofs.lemmas.List.{length-append}
 use Rattle.std.specs.Io.KnownBytes.{Appends}
 use Rattle.std.specs.List.{Contains}
@@ -29,14 +29,14 @@ use Rattle.script.specs.Input.{ended_line}
 use Rattle.topology.specs.Topology.{TopologyFields}
 use Rattle.topology.specs.declared.network.CarrierKind.{CarrierKind}
 use Rattle.topology.specs.declared.network.CarrierKind.TheVariants as kind
-use Rattle.promise.specs.Connections.{HasReported, IsConnected, IsEnd, JoinedBook}
+use Rattle.promise.specs.Connections.{HasReported, IsEnd, JoinedBook}
 use Rattle.world_replay.specs.Output as lines
 use Rattle.world_script.specs.declared.event.WorldEvent.{WorldEvent}
 use Rattle.subnet.specs.Working.{subnet_calls}
 use Rattle.command_line.specs.Carriers.{plain_of, subnet_of}
 use Rattle.command_line.specs.Events.{Asked, Raw, World}
-use Rattle.command_line.specs.Lived.{AreLived, lives_in, ungranted}
-use Rattle.command_line.specs.Printed.{AreOneBook, AreRaw, PrintsBook, PrintsPart, log_of, shown_book}
+use Rattle.command_line.specs.Lived.{AreLived, lives_in}
+use Rattle.command_line.specs.Printed.{AreOneBook, PrintsBook, PrintsPart, log_of, shown_book}
 use Rattle.command_line.specs.Replayed.{EndsFrom, EndsOver, Ran, RanInPart, ReplaysFrom, ReplaysOver, ShowsBook, WorldShowsFrom, book_text}
 use Rattle.command_line.proofs.Lived.{lived, none_lived}
 use Rattle.command_line.proofs.Once.{world_once}

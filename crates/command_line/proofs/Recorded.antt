@@ -5,6 +5,7 @@ use Rattle.std.proofs.lemmas.List.{append-nil, length-append, map-append}
 use Rattle.std.proofs.lemmas.List.Folds.{flat_map-map}
 use Rattle.std.specs.List.{flat_map}
 use Rattle.interface.specs.Calls.{Calls}
+use Rattle.interface.specs.declared.crossing.Crossing.{Crossing}
 use Rattle.leader1822.specs.Boxes.{plain_calls}
 use Rattle.net_sim.specs.Carriers.{shown}
 use Rattle.net_sim.specs.World.{WorldState, opening_world}
@@ -31,19 +32,21 @@ use Rattle.trace.specs.Traces.{Inside, TellsElement, TellsEvent, change_text, nu
 use Rattle.trace.specs.declared.element.Element.{Element}
 use Rattle.trace.specs.declared.element.Spot.{Spot}
 use Rattle.world_replay.proofs.lemmas.CalmRounds.{calm_rounds}
+use Rattle.world_replay.proofs.lemmas.{round_calm}
 use Rattle.world_replay.proofs.lemmas.Replays.{happens_once, shown_settled}
 use Rattle.world_replay.specs.Output.{Shown, shown_text}
-use Rattle.world_replay.specs.Replay.{Happens, Replays, rounds_of}
+use Rattle.world_replay.specs.Replay.{Happens, HappensInCalm, Replays, rounds_of}
 use Rattle.world_script.specs.declared.event.WorldEvent.{WorldEvent}
 use Rattle.world_script.specs.declared.event.WorldEvent.TheVariants as worlds
-use Rattle.world_trace.specs.Texts.{opening_text}
-use Rattle.world_trace.specs.Traces.{TellsIn, TellsOne, TellsRound, change_of, first_rounds, state_of}
+use Rattle.world_trace.specs.Texts.{opening_text, world_line}
+use Rattle.world_trace.specs.Traces.{TellsIn, TellsInCalm, TellsOne, TellsRound, change_of, first_rounds, state_of}
 use Rattle.command_line.specs.Carriers.{ends_of, plain_of, subnet_of}
 use Rattle.command_line.specs.Events.{Asked, Raw, World}
 use Rattle.command_line.specs.Recorded.{OfElement, OfWorld, PrintsTrace, Recorded, printed_lines, recorded_text}
 use Rattle.command_line.specs.Replayed.{ReplaysFrom, ReplaysInput, ReplaysOn, ReplaysOver, book_text}
 use Rattle.command_line.specs.Traced.{TracesAll, TracesFrom, TracesInput, TracesOver, WorldTracesFrom, asked_count}
 use Rattle.command_line.proofs.Printed.{no_lives}
+use Rattle.command_line.proofs.InCalm.{AreParts, ShowsAs, round_as}
 use Rattle.command_line.proofs.OneInput.{OneInput, input_once}
 use Rattle.command_line.proofs.Settled.{plain_settled, subnet_settled}
 
@@ -126,28 +129,50 @@ events_printed {C} calls inside Holds settled each number (e ∷ events) old new
 texts : List Shown → List (List ℕ)
 texts lines = map (shown_text Sizes) lines
 
-abbrev Passes : {C : Type 0} → WorldState C → WorldState C → List (List ℕ) → List Shown → Type 0
-Passes new other lines prints = (new ≡ other) × HavePrinted lines (texts prints)
+-- lines of a trace that have these as printed
+abbrev Prints : List (List ℕ) → List Shown → Type 0
+Prints lines prints = HavePrinted lines (texts prints)
 
-one_printed : {C : Type 0} (calls : Calls C) (members : C → List (List ℕ)) (spot : Spot) (round : ℕ) (e : WorldEvent) (old new : WorldState C) (lines : List (List ℕ)) (h : TellsOne calls members spot round old e new lines) → HavePrinted lines (texts h.0)
+abbrev Passes : {C : Type 0} → WorldState C → WorldState C → List (List ℕ) → List Shown → Type 0
+Passes new other lines prints = (new ≡ other) × Prints lines prints
+
+nothing_printed : (lines : List (List ℕ)) → lines ≡ [] → Prints lines []
 unfolding texts
-one_printed calls members spot round e old new lines (prints, h, is) = (OfWorld spot round e h.gains.crossings prints (change_of members old new) ∷ [], is, sym (append-nil (texts prints)))
+nothing_printed lines none = subst (λ (ls : List (List ℕ)). HavePrinted ls []) (sym none) none_printed
+
+both_printed : (first rest : List (List ℕ)) (begin later : List Shown) → Prints first begin → Prints rest later → Prints (first ++ rest) (begin ++ later)
+unfolding texts
+both_printed first rest begin later here there =
+    subst (λ (ts : List (List ℕ)). HavePrinted (first ++ rest) ts) (sym (map-append (shown_text Sizes) begin later)) (more_printed first rest (texts begin) (texts later) here there)
+
+line_printed : (spot : Spot) (round : ℕ) (e : WorldEvent) (crossings : List Crossing) (prints : List Shown) (state lines : List (List ℕ)) → lines ≡ world_line spot round e crossings prints state ∷ [] → Prints lines prints
+unfolding texts
+line_printed spot round e crossings prints state lines is = (OfWorld spot round e crossings prints state ∷ [], is, sym (append-nil (texts prints)))
+
+one_printed : {C : Type 0} (calls : Calls C) (members : C → List (List ℕ)) (spot : Spot) (round : ℕ) (e : WorldEvent) (old new : WorldState C) (lines : List (List ℕ)) (h : TellsOne calls members spot round old e new lines) → Prints lines h.0
+one_printed calls members spot round e old new lines (prints, h, is) = line_printed spot round e h.gains.crossings prints (change_of members old new) lines is
+
+-- an event of a calm
+step_printed : {C : Type 0} (calls : Calls C) (members : C → List (List ℕ)) (spot : Spot) (round : ℕ) → ShowsAs (TellsInCalm calls members spot round) (HappensInCalm calls) Prints
+step_printed calls members spot round old e new lines (inl (h, same, none)) = ([], h, nothing_printed lines none)
+step_printed calls members spot round old e new lines (inr ((prints, h, is), heard)) = (prints, h, line_printed spot round (worlds.Happen e) h.gains.crossings prints (change_of members old new) lines is)
+
+-- a round is a calm of one round
+round_printed : {C : Type 0} (calls : Calls C) (members : C → List (List ℕ)) (spot : Spot) (round : ℕ) (old new : WorldState C) (lines : List (List ℕ)) → TellsRound calls members spot old round new lines
+    → (prints : List Shown) × Happens calls old (worlds.Calm 1) new prints × Prints lines prints
+round_printed calls members spot round old new lines h =
+    let parts : AreParts Prints = record { none = nothing_printed [] refl; more = both_printed } in
+    let (prints, events, has) = round_as (TellsInCalm calls members spot round) (HappensInCalm calls) Prints parts (step_printed calls members spot round) old new lines h in
+    (prints, round_calm calls old new prints events, has)
 
 -- rounds are a replay of calms of one round each
 rounds_printed : {C : Type 0} (calls : Calls C) (members : C → List (List ℕ)) (spot : Spot) (numbers : List ℕ) (old new : WorldState C) (lines : List (List ℕ)) → InTurn (TellsRound calls members spot) old numbers new lines
-    → (prints : List Shown) × Replays calls old (rounds_of (length numbers)) new prints × HavePrinted lines (texts prints)
-unfolding texts
-rounds_printed calls members spot [] old new lines (left, none) = ([], (left, refl), subst (λ (ls : List (List ℕ)). HavePrinted ls []) (sym none) none_printed)
-rounds_printed calls members spot (n ∷ numbers) old new lines (mid, first, rest, inl (h, same, none), more, all) =
-    let (later, replays, has) = rounds_printed calls members spot numbers mid new rest more in
-    (later, (mid, [], later, h, replays, refl), subst (λ (ls : List (List ℕ)). HavePrinted ls (texts later)) (sym (all ∙ ap (λ (ls : List (List ℕ)). ls ++ rest) none)) has)
-rounds_printed calls members spot (n ∷ numbers) old new lines (mid, first, rest, inr (h, heard), more, all) =
-    let (later, replays, has) = rounds_printed calls members spot numbers mid new rest more in (
-      h.0 ++ later,
-      (mid, h.0, later, h.1, replays, refl),
-      subst (λ (ls : List (List ℕ)). HavePrinted ls (texts (h.0 ++ later))) (sym all)
-          (subst (λ (ts : List (List ℕ)). HavePrinted (first ++ rest) ts) (sym (map-append (shown_text Sizes) h.0 later)) (more_printed first rest (texts h.0) (texts later) (one_printed calls members spot n (worlds.Calm 1) old mid first h) has)),
-    )
+    → (prints : List Shown) × Replays calls old (rounds_of (length numbers)) new prints × Prints lines prints
+rounds_printed calls members spot [] old new lines (left, none) = ([], (left, refl), nothing_printed lines none)
+rounds_printed calls members spot (n ∷ numbers) old new lines (mid, first, rest, one, more, all) =
+    let (begin, round, here) = round_printed calls members spot n old mid first one in
+    let (later, replays, there) = rounds_printed calls members spot numbers mid new rest more in
+    (begin ++ later, (mid, begin, later, round, replays, refl), subst (λ (ls : List (List ℕ)). Prints ls (begin ++ later)) (sym all) (both_printed first rest begin later here there))
 
 all_rounds : (rounds : ℕ) → length (first_rounds rounds) ≡ rounds
 all_rounds zero = refl
@@ -160,25 +185,20 @@ at_printed : {C : Type 0} (calls : Calls C) (members : C → List (List ℕ)) �
     → TellsIn calls members old (spot, e) new lines → Happens calls old e other prints → Passes new other lines prints
 at_printed calls members settled spot (worlds.Happen e) old new other lines prints h k =
     let one : (new ≡ other) × (h.0 ≡ prints) = happens_once calls settled old (worlds.Happen e) new other h.0 prints h.1 k in
-    (one.0, subst (λ (ps : List Shown). HavePrinted lines (texts ps)) one.1 (one_printed calls members spot 0 (worlds.Happen e) old new lines h))
+    (one.0, subst (λ (ps : List Shown). Prints lines ps) one.1 (one_printed calls members spot 0 (worlds.Happen e) old new lines h))
 at_printed {C} calls members settled spot (worlds.Calm rounds) old new other lines prints h k =
     let (own, replays, has) = rounds_printed calls members spot (first_rounds rounds) old new lines h in
     let passed : Replays calls old (rounds_of rounds) new own = subst (λ (n : ℕ). Replays calls old (rounds_of n) new own) (all_rounds rounds) replays in
     let one : (new ≡ other) × (own ≡ prints) = in_turn_once (Happens calls) (happens_once calls settled) old (rounds_of rounds) new other own prints passed (calm_rounds calls rounds old other prints k) in
-    (one.0, subst (λ (ps : List Shown). HavePrinted lines (texts ps)) one.1 has)
+    (one.0, subst (λ (ps : List Shown). Prints lines ps) one.1 has)
 
 world_printed : {C : Type 0} (calls : Calls C) (members : C → List (List ℕ)) → AreSettled calls → (number : ℕ) (events : List (ℕ × WorldEvent)) (old new other : WorldState C) (lines : List (List ℕ)) (prints : List Shown)
     → InTurn (TellsIn calls members) old (numbered_from number events) new lines → Replays calls old (alone events) other prints → Passes new other lines prints
-unfolding texts
-world_printed calls members settled number [] old new other lines prints (left, none) (same, nothing) =
-    (left ∙ sym same, subst (λ (ls : List (List ℕ)). HavePrinted ls (texts prints)) (sym none) (subst (λ (ps : List Shown). HavePrinted [] (texts ps)) (sym nothing) none_printed))
+world_printed calls members settled number [] old new other lines prints (left, none) (same, nothing) = (left ∙ sym same, subst (λ (ps : List Shown). Prints lines ps) (sym nothing) (nothing_printed lines none))
 world_printed {C} calls members settled number (e ∷ events) old new other lines prints (mid, first, rest, one, more, all) (between, begin, later, happens, follow, end) =
     let here : Passes mid between first begin = at_printed calls members settled (record { line = e.0; number = number }) e.1 old mid between first begin one happens in
-    let there : Passes new other rest later = world_printed calls members settled (suc number) events mid new other rest later more (subst (λ (w : WorldState C). Replays calls w (alone events) other later) (sym here.0) follow) in (
-      there.0,
-      subst (λ (ls : List (List ℕ)). HavePrinted ls (texts prints)) (sym all)
-          (subst (λ (ts : List (List ℕ)). HavePrinted (first ++ rest) ts) (sym (ap texts end ∙ map-append (shown_text Sizes) begin later)) (more_printed first rest (texts begin) (texts later) here.1 there.1)),
-    )
+    let there : Passes new other rest later = world_printed calls members settled (suc number) events mid new other rest later more (subst (λ (w : WorldState C). Replays calls w (alone events) other later) (sym here.0) follow) in
+    (there.0, subst (λ (ls : List (List ℕ)). Prints ls prints) (sym all) (subst (λ (ps : List Shown). Prints (first ++ rest) ps) (sym end) (both_printed first rest begin later here.1 there.1)))
 
 -- ---- an output and a trace
 

@@ -15,7 +15,7 @@ use Rattle.world_script.specs.declared.event.WorldEvent.{WorldEvent}
 use Rattle.world_trace.specs.Texts.{world_line}
 use Rattle.command_line.specs.Replayed.{book_text}
 
--- a line of a trace after the first: of an elementary event of a network without host programs, or of an event or a round with them
+-- a line of a trace after the first: of an elementary event of a network without host programs, or of an event with them, of the script or of a calm
 pub data Recorded : Type 0 where
   OfElement : Spot → Element → Option Fate → List raw.Shown → List ℕ → Recorded
   OfWorld : Spot → ℕ → WorldEvent → List Crossing → List Shown → List (List ℕ) → Recorded

@@ -31,7 +31,7 @@ pub record EndsFrom {C : Type 0} (calls : Calls C) (inside : Inside C) (t : Topo
   pub traced : WritesTrace (AfterOpening inside t opening (TraceEnds calls inside (StopsElement calls) opening events last)) before after
 
 -- events of hosts with programs are replayed over a carrier that shows all its parts as these members of an object, and their trace is written, first
--- the network and then a line for each event and each round of a calm, and nothing else
+-- the network and then a line for each event, of a calm for each of its own that prints or changes something, and nothing else
 pub record WorldTracesFrom {C : Type 0} (calls : Calls C) (members : C → List (List ℕ)) (t : TopologyFields) (opening : C) (events : List (ℕ × WorldEvent)) (before after : Option (List ℕ)) : Type 0 where
   pub last : WorldState C
   pub traced : WritesTrace (worlds.AfterOpening members t (opening_world calls opening) (TracesWorld calls members (opening_world calls opening) events last)) before after
