@@ -21,7 +21,7 @@ use Rattle.imp_node.specs.Lines.{resend, route}
 use Rattle.imp_node.specs.Queries.{holds_packet}
 use Rattle.imp_node.specs.State.{ImpTurn, State}
 use Rattle.imp_node.specs.Taking.{to_host}
-use Rattle.replay.specs.Output.{Shown, Crossed}
+use Rattle.replay.specs.Output.{Shown, Crossed, shown_crossings}
 use Rattle.replay.specs.Replay.{AllTake, GoesOn, Happens, IsOneCall, Quiet, Replays, calmly, outcome_of}
 use Rattle.script.specs.declared.event.RawEvent.{RawEvent}
 use Rattle.script.specs.declared.event.RawEvent.TheVariants as event
@@ -30,6 +30,7 @@ use Rattle.subnet.specs.Calls.{Fails, Kept, refusal_of, round_grows, running, ta
 use Rattle.subnet.specs.Events.{all_refreshed, all_turns, at_imp, carried, crossings_of, deliver, delivered, drop_frame, first_of, frame_refusal, imp_refusal, is_imp, quiet_round, refreshed, step_refusal, stepped, take_refusal, taken_by_host, turn_of}
 use Rattle.subnet.specs.Flows.{imp_is_up}
 use Rattle.subnet.specs.Net.{Net, Wire, far_end, frames_on, imp_at, no_wire, port_of, wire_at}
+use Rattle.subnet.proofs.lemmas.{round_log}
 use Rattle.subnet_trace.specs.Elements.{all_refreshing, all_turning, calling, can_resend, carrying, delivering, dropping, elements_of, from_subnet, is_heard, is_working, live_frames, numbers_from, refreshing, round_from_line, round_of, round_of_hosts, sending, telling, turning}
 use Rattle.subnet.specs.Working.{subnet_calls}
 use Rattle.subnet_trace.specs.Told.{IsPlaced}
@@ -37,7 +38,7 @@ use Rattle.subnet_trace.proofs.Rest.{is_there, network, not_some, placed, some_i
 use Rattle.subnet_trace.proofs.Settled.{IsSettled, quiet_settled, take_settled}
 use Rattle.subnet_trace.proofs.Nothing.{none_carried, none_resent, none_taken, still_live}
 use Rattle.trace.specs.Elements.{Course, all_takings, events_of, no_course, then_course}
-use Rattle.trace.proofs.lemmas.{AllEvents, AllRoundsGo, AllTakeSo, Goes, TakesSo, Traced, all_takings_events, calm_holds, elementary_of, goes_all, goes_calmly, goes_chain, goes_none, goes_then, none_events, one_events, or_first, rounds_events, run_one, then_events, then_twice}
+use Rattle.trace.proofs.lemmas.{AllEvents, AllRoundsGo, AllTakeSo, Goes, TakesSo, Traced, all_takings_events, calm_holds, crossings_are, elementary_of, goes_all, goes_calmly, goes_chain, goes_none, goes_then, none_events, one_events, or_first, rounds_events, run_one, then_events, then_twice}
 
 -- ---- what holds all the while
 
@@ -426,3 +427,18 @@ all_one_call n (event.Out m) = All-cons IsOneCall (event.Out m) [] tt (All-nil I
 all_one_call n (event.Take h) = All-cons IsOneCall (event.Take h) [] tt (All-nil IsOneCall)
 all_one_call n (event.Net e) = All-cons IsOneCall (event.Net e) [] tt (All-nil IsOneCall)
 all_one_call n (event.Calm rounds) = rounds_events Once round_of (λ round m. round_once round m) 1 rounds n
+
+-- ---- a quiet round by itself
+
+-- is events of the network, each of which is one call, and by which nothing crosses
+pub quiet_replays : (n : Net) → IsPlaced n → (events : List RawEvent) × All IsOneCall events × Replays subnet_calls (running n) events (running (quiet_round n)) []
+unfolding lines_part
+quiet_replays n placed =
+    let imps : Course Net = all_refreshing 0 (numbers_from 0 (length n.imps)) n in
+    let course : Course Net = then_course imps (lines_part 0) in
+    let g : Goes (traced n.hosts (length n.lines)) (running n) course (Ok tt) (running (quiet_round n)) = does_quiet n.hosts (length n.lines) 0 n (held_by n placed) in
+    let none : g.run.crossings ≡ [] = crossings_are g.run.crossings [] n.log (quiet_round n).log g.run.grown (round_log n) in (
+      events_of course.elements,
+      then_events Once imps (lines_part 0) (refresh_once 0 (numbers_from 0 (length n.imps)) n) (λ m. turns_once 0 (numbers_from 0 (length m.lines)) m),
+      subst (λ (cs : List Crossing). Replays subnet_calls (running n) (events_of course.elements) (running (quiet_round n)) (shown_crossings cs)) none g.run.replays,
+    )

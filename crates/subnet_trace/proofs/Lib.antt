@@ -13,6 +13,7 @@ pub mod Scopes
 pub mod Pump
 pub mod Settled
 pub mod Nothing
+pub mod Silent
 pub mod AllMembers
 pub mod Calms
 pub mod Stages

@@ -19,7 +19,7 @@ use Rattle.subnet.specs.Net.{Net, Wire, far_end, followed_by, frames_on, imp_at,
 use Rattle.subnet.specs.Net as lines
 use Rattle.subnet_trace.specs.Elements.{live_frames}
 use Rattle.subnet_trace.proofs.Rest.{not_some}
-use Rattle.subnet_trace.proofs.Settled.{IsSettled, set_at}
+use Rattle.subnet_trace.proofs.Settled.{IsSettled, IsSettledAt, set_at}
 
 -- a call after which the IMP is as before, and no frame is on a line
 unmoved : (n : Net) (i : ℕ) (s : State) → imp_at n.imps i ≡ Some s → with_turn i (record { state = s; frames = [] }) n ≡ n
@@ -38,14 +38,17 @@ nothing_waits s h [] [] none = refl
 nothing_waits s h [] (m ∷ others) none = absurd (not_some (sym none))
 nothing_waits s h (t ∷ others) queue none = absurd (not_some (sym none))
 
--- a host that finds nothing changes nothing
-pub none_taken : (n : Net) (h : Host) → IsSettled n → taken_by_host n h ≡ None → take_in n h ≡ n
-none_taken n h settled none = ap (λ o. logging (crossings_of o) (at_imp (imp_at n.imps h.imp) h.imp (λ s. to_host s h.host) n)) none ∙ by (imp_at n.imps h.imp) refl none where
+-- a host that finds nothing changes nothing, where its IMP has nothing to move
+pub none_taken_at : (n : Net) (h : Host) → IsSettledAt n h.imp → taken_by_host n h ≡ None → take_in n h ≡ n
+none_taken_at n h settled none = ap (λ o. logging (crossings_of o) (at_imp (imp_at n.imps h.imp) h.imp (λ s. to_host s h.host) n)) none ∙ by (imp_at n.imps h.imp) refl none where
   by : (o : Option State) → imp_at n.imps h.imp ≡ o → given_at o h.host ≡ None → at_imp o h.imp (λ s. to_host s h.host) n ≡ n
   by None down none = refl
   by (Some s) up none =
       let same : taken_by h.host (host_at s h.host).answers (host_at s h.host).queue s ≡ s = nothing_waits s h.host (host_at s h.host).answers (host_at s h.host).queue none in
-      ap (λ (t : ImpTurn). with_turn h.imp t n) (ap (λ (t : State). pump [] t) same ∙ settled h.imp s up) ∙ unmoved n h.imp s up
+      ap (λ (t : ImpTurn). with_turn h.imp t n) (ap (λ (t : State). pump [] t) same ∙ settled s up) ∙ unmoved n h.imp s up
+
+pub none_taken : (n : Net) (h : Host) → IsSettled n → taken_by_host n h ≡ None → take_in n h ≡ n
+none_taken n h settled none = none_taken_at n h (settled h.imp) none
 
 -- ---- a line without frames
 

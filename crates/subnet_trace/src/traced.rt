@@ -1,6 +1,7 @@
 //! A subnet as a carrier whose inside can be traced.
 
-ghost use Rattle.std.specs.Prelude.{◌≡◌};
+ghost use Rattle.std.specs.Prelude.{◌≡◌, IfSome, length, true};
+ghost use Rattle.subnet.specs.Net.{imp_at};
 ghost use Rattle.subnet.specs.Working.{subnet_calls};
 ghost use Rattle.subnet_trace.specs.Elements.{calm_left};
 ghost use Rattle.subnet_trace.specs.Traced.{subnet_inside};
@@ -124,5 +125,22 @@ impl Inspect for TracedSubnet {
             Ok(()) => change(&self.subnet, event, known, room),
             Err(_) => ended(room),
         }
+    }
+
+    fn keeps(&self) {}
+
+    /// It is known where no packet waits in the host's IMP: the pump, with which each taking ends, then moves none.
+    fn is_still(&self, host: &HostAddr) -> bool {
+        stores_none(&self.subnet, host.imp())
+    }
+}
+
+/// Returns whether the IMP of this number is down, or no packet waits in it.
+fn stores_none(subnet: &Subnet, number: u8) -> bool
+    ensures { result ≡ true → IfSome (imp_at subnet.now.net.imps number) (λ s. length s.store ≡ 0) }
+{
+    match subnet.imp(number) {
+        Some(imp) => imp.store().is_empty(),
+        None => true,
     }
 }

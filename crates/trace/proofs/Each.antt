@@ -28,6 +28,11 @@ went refusal grows Gives old (Err fault.OutOfMemory) new h goes = absurd (cc)
 went refusal grows Gives old (Err fault.Stopped) new h goes = absurd (cc)
 went refusal grows Gives old (Err c) new h goes = h
 
+-- a call that is refused, though memory lasts, leaves the mailboxes as they were
+pub refused_leaves : {T : Type 0} (refusal : Option CarrierFault) (grows : Bool) (Gives : T → Type 0) (old : Boxes) (e : CarrierFault) (new : Boxes) → is_memory e ≡ false → BoxesDecided refusal grows Gives old (Err e) new → new ≡ old
+refused_leaves refusal grows Gives old fault.OutOfMemory new lasts h = absurd (cc)
+refused_leaves refusal grows Gives old e new lasts h = h.1
+
 pub goes_after : (r : Result (Unit {0}) CarrierFault) → GoesOn r → GoesOnAfter r
 goes_after (Ok done) goes = tt
 goes_after (Err f) goes = goes

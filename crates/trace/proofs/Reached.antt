@@ -1,9 +1,11 @@
 -- What an event doesn't reach in plain mailboxes stays, and the parts that it reaches are put in their places.
-use Rattle.std.proofs.Common.{◌≡◌, ℕ, ◌<◌, ◌≤◌, ◌+◌, ◌∷◌, ◌++◌, Bool, true, false, List, [], drop, get_or, codes, is_ok, length, map, Option, Result, Ok, Err, refl, sym, ap, ap₂, subst, ◌∙◌}
+use Rattle.std.proofs.Common.{◌≡◌, ℕ, ◌<◌, ◌≤◌, ◌+◌, ◌∷◌, ◌++◌, Bool, true, false, List, [], drop, get_or, codes, is_ok, length, map, Option, None, Result, Ok, Err, refl, sym, ap, ap₂, subst, ◌∙◌}
 use Rattle.std.proofs.lemmas.Bool.{false≢true}
 use Rattle.std.proofs.lemmas.List.{drop_all, drop_more}
+use Rattle.interface.specs.Calls.{is_memory}
 use Rattle.interface.specs.Host.{Host}
 use Rattle.interface.specs.declared.CarrierFault.{CarrierFault}
+use Rattle.interface.specs.declared.HostMessage.{HostMessage}
 use Rattle.interface.specs.declared.Inbound.{Inbound}
 use Rattle.interface.specs.declared.crossing.Crossing.{Crossing}
 use Rattle.leader1822.specs.Boxes.{Boxes, host_refusal, inbound_taken, next_for, offer_refusal, offered, plain_calls, step_grows, step_refusal, stepped, take_grows}
@@ -19,7 +21,7 @@ use Rattle.trace.specs.Texts.{all_members, member, object, part_name, part_text,
 use Rattle.trace.specs.Traces.{HasHappened, change_text, plain_inside}
 use Rattle.trace.proofs.Calling.{happens}
 use Rattle.trace.proofs.Changed.{none_changed}
-use Rattle.trace.proofs.Each.{left_of, went}
+use Rattle.trace.proofs.Each.{left_of, refused_leaves, went}
 use Rattle.trace.proofs.Putting.{PutSoFar, none_put, put_more}
 use Rattle.trace.proofs.Rest.{down_left, frame, queues_left}
 
@@ -46,6 +48,17 @@ refused_parts old new e shown one h refused = by h.outcome h.gives h.goes_on ref
   by : (r : Result (Unit {0}) CarrierFault) → EventGives plain_calls old e r new → GoesOn r → is_ok r ≡ false → change_text plain_inside old new ≡ codes "{}"
   by (Ok done) gives goes r_err = absurd (false≢true (sym r_err))
   by (Err f) gives goes r_err = ap (λ (b : Boxes). change_text plain_inside old b) (refused_same old new e f one gives goes) ∙ ap object (none_changed (all_members old))
+
+-- ---- calls that keep all parts
+
+pub offer_keeps : (old new : Boxes) (m : HostMessage) (e : CarrierFault) → is_memory e ≡ false → plain_calls.offers old m (Err e) new → all_members new ≡ all_members old
+offer_keeps old new m e lasts h = ap all_members (refused_leaves {T = Unit {0}} (offer_refusal old m.flow) true (λ done. new ≡ offered old m) old e new lasts h)
+
+pub take_keeps : (old new : Boxes) (h : Host) (e : CarrierFault) → is_memory e ≡ false → plain_calls.takes old h (Err e) new → all_members new ≡ all_members old
+take_keeps old new h e lasts t = ap all_members (refused_leaves {T = Option Inbound} (host_refusal old h) (take_grows old h) (λ o. (o ≡ next_for old h) × (new ≡ inbound_taken old h o)) old e new lasts t)
+
+pub none_keeps : (old new : Boxes) (h : Host) → plain_calls.takes old h (Ok None) new → all_members new ≡ all_members old
+none_keeps old new h t = ap all_members t.1.1
 
 -- ---- any event
 

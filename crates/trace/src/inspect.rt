@@ -1,7 +1,11 @@
 //! Carriers whose inside can be traced.
 
-ghost use Rattle.std.specs.Prelude.{◌≡◌, [], IfOk, List, OnOk, false};
+ghost use Rattle.std.specs.Prelude.{◌≡◌, [], Err, IfOk, List, None, Ok, OnOk, false, true};
 ghost use Rattle.std.specs.Io.KnownBytes.{Appends};
+ghost use Rattle.interface.specs.Calls.{is_memory};
+ghost use Rattle.interface.specs.Host.{Host};
+ghost use Rattle.interface.specs.declared.CarrierFault.{CarrierFault};
+ghost use Rattle.interface.specs.declared.HostMessage.{HostMessage};
 ghost use Rattle.replay.specs.Failing.{TellsFailure};
 ghost use Rattle.trace.specs.Changes.{changed};
 ghost use Rattle.trace.specs.Texts.{object};
@@ -11,7 +15,7 @@ ghost use Rattle.trace.specs.declared.element.Element.{Element};
 use crate::element::Element;
 use crate::fate::Fate;
 use crate::members::Members;
-use interface::{Carrier, CarrierFault, Crossing};
+use interface::{Carrier, CarrierFault, Crossing, HostAddr};
 use replay::{Output, WriteFailed};
 use script::RawEvent;
 use std::alloc::{AllocError, Global};
@@ -70,4 +74,13 @@ pub trait Inspect: Carrier {
         requires empty { room.items ≡ [] }
         ensures known { OnOk result (known.new ≡ inside.members self.now) }
         ensures changed { IfOk result (λ text. text.items ≡ object (changed known.old (inside.members self.now))) };
+
+    /// Proves that an offer and a taking which are refused, though memory lasts, change no part. It does nothing.
+    fn keeps(&self)
+        ensures offered { (old new : Self) (m : HostMessage) (e : CarrierFault) → is_memory e ≡ false → Self.calls.offers old m (Err e) new → inside.members new ≡ inside.members old }
+        ensures refused { (old new : Self) (h : Host) (e : CarrierFault) → is_memory e ≡ false → Self.calls.takes old h (Err e) new → inside.members new ≡ inside.members old };
+
+    /// Returns whether it is known that a taking by which a host gets nothing changes no part. This takes no memory.
+    fn is_still(&self, host: &HostAddr) -> bool
+        ensures { result ≡ true → (new : Self) → Self.calls.takes self.now host.now (Ok None) new → inside.members new ≡ inside.members self.now };
 }

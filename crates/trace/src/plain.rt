@@ -116,4 +116,11 @@ impl Inspect for PlainBoxes {
             Err(_) => ended(room),
         }
     }
+
+    fn keeps(&self) {}
+
+    /// A taking that brings nothing changes nothing.
+    fn is_still(&self, _host: &HostAddr) -> bool {
+        true
+    }
 }

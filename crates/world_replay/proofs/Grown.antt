@@ -254,7 +254,7 @@ module _ {C : Type 0} (calls : Calls C) where
   at_program Gives G None old r new same k h = same h.1
   at_program Gives G (Some s) old r new same k h = k s h
 
-  at_seat : (Gives : NcpState → Type 0) (G : Type 0) (o : Option Seat) (old : WorldState C) (r : Result (Unit {0}) WorldFault) (new : WorldState C)
+  pub at_seat : (Gives : NcpState → Type 0) (G : Type 0) (o : Option Seat) (old : WorldState C) (r : Result (Unit {0}) WorldFault) (new : WorldState C)
       → (new ≡ old → G) → ((s : NcpState) → Gives s → G) → AtSeat Gives o old r new → G
   at_seat Gives G None old r new same k h = same h.1
   at_seat Gives G (Some seat) old r new same k h = at_program Gives G seat.program old r new same k h

@@ -1,6 +1,8 @@
+pub mod AtHosts
 pub mod CalmRounds
 mod CalmEvents
 mod Counting
+pub mod Driven
 pub mod Grown
 pub mod News
 pub mod Replays

@@ -139,14 +139,14 @@ or_falls true b e = absurd (false≢true (sym e))
 or_falls false true e = absurd (false≢true (sym e))
 or_falls false false e = refl
 
-passes_goes : {C : Type 0} (f : CarrierFault) (c : C) (old : WorldState C) (r : Result (Unit {0}) WorldFault) (new : WorldState C) → Passes f c old r new → stops r ≡ false → (is_halt f || is_memory f) ≡ false
+pub passes_goes : {C : Type 0} (f : CarrierFault) (c : C) (old : WorldState C) (r : Result (Unit {0}) WorldFault) (new : WorldState C) → Passes f c old r new → stops r ≡ false → (is_halt f || is_memory f) ≡ false
 passes_goes f c old r new h goes = or_falls (is_memory f) (is_halt f) (ap stops (sym h.0) ∙ goes)
 
 memory_stops : (f : WorldFault) → wants_memory f ≡ true → stops (Err f) ≡ true
 memory_stops (Carrier f) h = rw h refl
 memory_stops (Program f) h = h
 
-halts_stop : {C : Type 0} (c : C) (old : WorldState C) (r : Result (Unit {0}) WorldFault) (new : WorldState C) → Halts c old r new → stops r ≡ false → ⊥
+pub halts_stop : {C : Type 0} (c : C) (old : WorldState C) (r : Result (Unit {0}) WorldFault) (new : WorldState C) → Halts c old r new → stops r ≡ false → ⊥
 halts_stop c old r new h goes = no_stop r (ap stops h.answer ∙ memory_stops h.fault h.memory) goes
 
 -- ---- one event

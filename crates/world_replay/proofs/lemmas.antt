@@ -1,4 +1,6 @@
--- The lemmas of this crate that others may use: the proofs of command_line do. All others in proofs/ are its own.
+-- The lemmas of this crate that others may use: the proofs of command_line and world_trace do. All others in proofs/ are its own.
+pub use Rattle.world_replay.proofs.AtHosts
 pub use Rattle.world_replay.proofs.CalmRounds
+pub use Rattle.world_replay.proofs.Driven
 pub use Rattle.world_replay.proofs.News
 pub use Rattle.world_replay.proofs.Replays

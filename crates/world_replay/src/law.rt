@@ -9,6 +9,7 @@ ghost use Rattle.world_replay.specs.Replay.{Happens, Replays, rounds_of};
 ghost use Rattle.world_script.specs.declared.event.WorldEvent.TheVariants.{Calm};
 ghost use Rattle.world_replay.specs.Laws.OneReplay.{OneReplayFirstPart, OneReplaySame};
 ghost use Rattle.world_replay.specs.Laws.Calm.{CalmEvents, CalmWhole};
+ghost use Rattle.world_replay.specs.Laws.Driven.{DrivenEvent, DrivenWhole};
 
 use interface::Carrier;
 
@@ -27,4 +28,13 @@ pub fn calm<C: Carrier>()
 
     // and each round is a quiet round of the network, takings and offers
     ensures events { CalmEvents C.calls }
+{}
+
+/// A world's carrier is the network that its crossings drive: it changes by its own calls only, and what crosses says by which.
+pub fn driven<C: Carrier>()
+    // each event of a script, be it refused or a calm, makes those calls that its crossings name
+    ensures event { DrivenEvent C.calls }
+
+    // so does a whole replay: the carrier is what these calls make of it, and what crosses by them is what the book gains
+    ensures whole { DrivenWhole C.calls }
 {}

@@ -1,3 +1,4 @@
+mod Carriers
 mod CommandTexts
 mod Ends
 mod Failures

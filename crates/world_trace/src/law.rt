@@ -4,6 +4,7 @@ ghost use Rattle.std.specs.List.{All};
 ghost use Rattle.std.specs.Prelude.{◌≡◌};
 ghost use Rattle.net_sim.specs.World.{WorldState, opening_world};
 ghost use Rattle.trace.specs.Named.{IsHostNamed};
+ghost use Rattle.world_trace.specs.Carriers.{PlainCarriers, SubnetCarriers};
 ghost use Rattle.world_trace.specs.Told.{HaveSameTexts, IsWorldTold};
 
 use interface::Carrier;
@@ -15,4 +16,11 @@ pub fn whole<C: Carrier>()
 
     // so is each world at its opening whose hosts can be named
     ensures opening { (c : C) → All IsHostNamed (C.calls.seen c).hosts → IsWorldTold (opening_world C.calls c) }
+{}
+
+/// The carrier of a world is a raw network, to which events lead that are one call each, and its log is the book's: so what is said
+/// of raw networks after a replay is said of the carriers of worlds too.
+pub fn carriers()
+    ensures plain { PlainCarriers }
+    ensures subnets { SubnetCarriers }
 {}

@@ -1,0 +1,9 @@
+use Rattle.std.proofs.Common.{◌≡◌, ℕ, IfSome, length, subst}
+use Rattle.subnet.specs.Calls.{Kept}
+use Rattle.subnet.specs.Net.{imp_at}
+use Rattle.subnet_trace.proofs.Silent.{still_taken}
+use Rattle.subnet_trace.proofs.traced.TracedSubnetInspect.is_still.Goals as goal
+
+pub returns : goal.returns
+returns c = λ known new t.
+    still_taken c.args.self.now new c.args.host.now (subst (λ (k : Kept). IfSome (imp_at k.net.imps c.args.host.now.imp) (λ s. length s.store ≡ 0)) c.self.view_is (c.stores_none.ensures known)) t

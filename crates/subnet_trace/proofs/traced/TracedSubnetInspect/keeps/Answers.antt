@@ -1,0 +1,8 @@
+use Rattle.subnet_trace.proofs.Silent.{offer_keeps, take_keeps}
+use Rattle.subnet_trace.proofs.traced.TracedSubnetInspect.keeps.Goals as goal
+
+pub returns-clause-offered : goal.returns-clause-offered
+returns-clause-offered c = offer_keeps
+
+pub returns-clause-refused : goal.returns-clause-refused
+returns-clause-refused c = take_keeps
