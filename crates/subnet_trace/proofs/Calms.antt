@@ -3,7 +3,7 @@ use Rattle.std.proofs.Common.{◌≡◌, ◌<◌, ◌≤◌, ◌-◌, ◌&&◌, 
 use Rattle.std.proofs.lemmas.Bool.{false≢true, lt-ltb}
 use Rattle.std.proofs.lemmas.Bool.Decides.{nat_tests}
 use Rattle.std.proofs.lemmas.List.{get_or_past, length-map}
-use Rattle.std.proofs.lemmas.List.Elements.{All-cons, All-nil}
+use Rattle.std.proofs.lemmas.List.Elements.{All-cons, All-nil, All-weaker}
 use Rattle.std.specs.List.{All, range_with_len}
 use Rattle.interface.specs.Calls.{crossing_of, is_halt, is_memory}
 use Rattle.interface.specs.Host.{Host}
@@ -31,7 +31,7 @@ use Rattle.subnet.specs.Events.{all_refreshed, all_turns, at_imp, carried, cross
 use Rattle.subnet.specs.Flows.{imp_is_up}
 use Rattle.subnet.specs.Net.{Net, Wire, far_end, frames_on, imp_at, no_wire, port_of, wire_at}
 use Rattle.subnet.proofs.lemmas.{round_log}
-use Rattle.subnet_trace.specs.Elements.{all_refreshing, all_turning, calling, can_resend, carrying, delivering, dropping, elements_of, from_subnet, is_heard, is_working, live_frames, numbers_from, refreshing, round_from_line, round_of, round_of_hosts, sending, telling, turning}
+use Rattle.subnet_trace.specs.Elements.{IsOfRound, all_refreshing, all_turning, calling, can_resend, carrying, delivering, dropping, elements_of, from_subnet, is_heard, is_working, live_frames, numbers_from, refreshing, round_from_line, round_of, round_of_hosts, sending, telling, turning}
 use Rattle.subnet.specs.Working.{subnet_calls}
 use Rattle.subnet_trace.specs.Told.{IsPlaced}
 use Rattle.subnet_trace.proofs.Rest.{is_there, network, not_some, placed, some_is}
@@ -388,34 +388,48 @@ placed_later (e ∷ events) old new shown is (mid, first, rest, one, more, whole
 abbrev Once : RawEvent → Type 0
 Once e = IsOneCall e
 
-if_once : (b : Bool) (c : Course Net) (n : Net) → AllEvents Once c → AllEvents Once (if b then c else no_course n)
-if_once true c n h = h
-if_once false c n h = none_events Once n
+pub once : (e : RawEvent) → IsOfRound e → IsOneCall e
+once (event.Out m) is = tt
+once (event.Take h) is = tt
+once (event.Net e) is = tt
+once (event.Calm rounds) is = absurd is
 
-call_once : (round : ℕ) (e : NetEvent) (n : Net) → AllEvents Once (calling round e n)
-call_once round e n = one_events Once round (event.Net e) (stepped n e) tt
+-- those of a quiet round are calls of IMPs and of lines
+
+if_quiet : (b : Bool) (c : Course Net) (n : Net) → AllEvents IsOfRound c → AllEvents IsOfRound (if b then c else no_course n)
+if_quiet true c n h = h
+if_quiet false c n h = none_events IsOfRound n
+
+call_quiet : (round : ℕ) (e : NetEvent) (n : Net) → IsOfRound (event.Net e) → AllEvents IsOfRound (calling round e n)
+call_quiet round e n is = one_events IsOfRound round (event.Net e) (stepped n e) is
+
+refresh_quiet : (round : ℕ) (numbers : List ℕ) (n : Net) → AllEvents IsOfRound (all_refreshing round numbers n)
+refresh_quiet round [] n = none_events IsOfRound n
+refresh_quiet round (i ∷ numbers) n =
+    then_events IsOfRound (refreshing round i n) (all_refreshing round numbers)
+    (then_events IsOfRound (telling round i n) (sending round i) (if_quiet (is_working n i) _ n (call_quiet round (net.Route i) n tt)) (λ m. if_quiet (can_resend m i) _ m (call_quiet round (net.Resend i) m tt)))
+    (λ m. refresh_quiet round numbers m)
+
+carry_quiet : (round l : ℕ) (d : Direction) (frames : ℕ) (n : Net) → AllEvents IsOfRound (carrying round l d frames n)
+carry_quiet round l d zero n = none_events IsOfRound n
+carry_quiet round l d (suc frames) n =
+    if_quiet (nat_lt 0 (live_frames n l d)) (then_course (then_course (delivering round l d n) (dropping round l d)) (carrying round l d frames)) n
+    (then_events IsOfRound (then_course (delivering round l d n) (dropping round l d)) (carrying round l d frames)
+    (then_events IsOfRound (delivering round l d n) (dropping round l d) (if_quiet (is_heard n l d) _ n (call_quiet round (net.Deliver l d 0) n tt)) (λ m. call_quiet round (net.Drop l d 0) m tt))
+    (λ m. carry_quiet round l d frames m))
+
+turns_quiet : (round : ℕ) (lines : List ℕ) (n : Net) → AllEvents IsOfRound (all_turning round lines n)
+turns_quiet round [] n = none_events IsOfRound n
+turns_quiet round (l ∷ lines) n =
+    then_events IsOfRound (then_course (turning round l way.Forward n) (turning round l way.Back)) (all_turning round lines)
+    (then_events IsOfRound (turning round l way.Forward n) (turning round l way.Back) (carry_quiet round l way.Forward (live_frames n l way.Forward) n) (λ m. carry_quiet round l way.Back (live_frames m l way.Back) m))
+    (λ m. turns_quiet round lines m)
 
 refresh_once : (round : ℕ) (numbers : List ℕ) (n : Net) → AllEvents Once (all_refreshing round numbers n)
-refresh_once round [] n = none_events Once n
-refresh_once round (i ∷ numbers) n =
-    then_events Once (refreshing round i n) (all_refreshing round numbers)
-    (then_events Once (telling round i n) (sending round i) (if_once (is_working n i) _ n (call_once round (net.Route i) n)) (λ m. if_once (can_resend m i) _ m (call_once round (net.Resend i) m)))
-    (λ m. refresh_once round numbers m)
-
-carry_once : (round l : ℕ) (d : Direction) (frames : ℕ) (n : Net) → AllEvents Once (carrying round l d frames n)
-carry_once round l d zero n = none_events Once n
-carry_once round l d (suc frames) n =
-    if_once (nat_lt 0 (live_frames n l d)) (then_course (then_course (delivering round l d n) (dropping round l d)) (carrying round l d frames)) n
-    (then_events Once (then_course (delivering round l d n) (dropping round l d)) (carrying round l d frames)
-    (then_events Once (delivering round l d n) (dropping round l d) (if_once (is_heard n l d) _ n (call_once round (net.Deliver l d 0) n)) (λ m. call_once round (net.Drop l d 0) m))
-    (λ m. carry_once round l d frames m))
+refresh_once round numbers n = All-weaker IsOfRound Once once (events_of (all_refreshing round numbers n).elements) (refresh_quiet round numbers n)
 
 turns_once : (round : ℕ) (lines : List ℕ) (n : Net) → AllEvents Once (all_turning round lines n)
-turns_once round [] n = none_events Once n
-turns_once round (l ∷ lines) n =
-    then_events Once (then_course (turning round l way.Forward n) (turning round l way.Back)) (all_turning round lines)
-    (then_events Once (turning round l way.Forward n) (turning round l way.Back) (carry_once round l way.Forward (live_frames n l way.Forward) n) (λ m. carry_once round l way.Back (live_frames m l way.Back) m))
-    (λ m. turns_once round lines m)
+turns_once round lines n = All-weaker IsOfRound Once once (events_of (all_turning round lines n).elements) (turns_quiet round lines n)
 
 round_once : (round : ℕ) (n : Net) → AllEvents Once (round_of round n)
 round_once round n =
@@ -430,8 +444,8 @@ all_one_call n (event.Calm rounds) = rounds_events Once round_of (λ round m. ro
 
 -- ---- a quiet round by itself
 
--- is events of the network, each of which is one call, and by which nothing crosses
-pub quiet_replays : (n : Net) → IsPlaced n → (events : List RawEvent) × All IsOneCall events × Replays subnet_calls (running n) events (running (quiet_round n)) []
+-- is calls of IMPs and of lines, by which nothing crosses
+pub quiet_replays : (n : Net) → IsPlaced n → (events : List RawEvent) × All IsOfRound events × Replays subnet_calls (running n) events (running (quiet_round n)) []
 unfolding lines_part
 quiet_replays n placed =
     let imps : Course Net = all_refreshing 0 (numbers_from 0 (length n.imps)) n in
@@ -439,6 +453,6 @@ quiet_replays n placed =
     let g : Goes (traced n.hosts (length n.lines)) (running n) course (Ok tt) (running (quiet_round n)) = does_quiet n.hosts (length n.lines) 0 n (held_by n placed) in
     let none : g.run.crossings ≡ [] = crossings_are g.run.crossings [] n.log (quiet_round n).log g.run.grown (round_log n) in (
       events_of course.elements,
-      then_events Once imps (lines_part 0) (refresh_once 0 (numbers_from 0 (length n.imps)) n) (λ m. turns_once 0 (numbers_from 0 (length m.lines)) m),
+      then_events IsOfRound imps (lines_part 0) (refresh_quiet 0 (numbers_from 0 (length n.imps)) n) (λ m. turns_quiet 0 (numbers_from 0 (length m.lines)) m),
       subst (λ (cs : List Crossing). Replays subnet_calls (running n) (events_of course.elements) (running (quiet_round n)) (shown_crossings cs)) none g.run.replays,
     )

@@ -92,6 +92,14 @@ abbrev pub all_turning : ℕ → List ℕ → Net → Course Net
 all_turning round [] n = no_course n
 all_turning round (l ∷ lines) n = then_course (then_course (turning round l way.Forward n) (turning round l way.Back)) (all_turning round lines)
 
+-- the calls of which a quiet round is made
+abbrev pub IsOfRound : RawEvent → Type 0
+IsOfRound (event.Net (net.Route i)) = Unit {0}
+IsOfRound (event.Net (net.Resend i)) = Unit {0}
+IsOfRound (event.Net (net.Deliver l d k)) = Unit {0}
+IsOfRound (event.Net (net.Drop l d k)) = Unit {0}
+IsOfRound e = ⊥
+
 -- ---- a round
 
 -- all hosts take

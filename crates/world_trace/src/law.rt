@@ -18,8 +18,8 @@ pub fn whole<C: Carrier>()
     ensures opening { (c : C) → All IsHostNamed (C.calls.seen c).hosts → IsWorldTold (opening_world C.calls c) }
 {}
 
-/// The carrier of a world is a raw network, to which events lead that are one call each, and its log is the book's: so what is said
-/// of raw networks after a replay is said of the carriers of worlds too.
+/// The carrier of a world is a raw network, to which events lead from its opening: the calls that its script makes by what crosses.
+/// Its log is that of the book.
 pub fn carriers()
     ensures plain { PlainCarriers }
     ensures subnets { SubnetCarriers }
