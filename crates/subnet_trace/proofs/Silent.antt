@@ -32,4 +32,4 @@ take_keeps old new h e lasts t = ap subnet_inside.members (refused_leaves (refus
 pub still_taken : (k new : Kept) (h : Host) → IfSome (imp_at k.net.imps h.imp) (λ s. length s.store ≡ 0) → subnet_calls.takes k h (Ok None) new → subnet_inside.members new ≡ subnet_inside.members k
 still_taken k new h empty t = ap (λ (n : Net). parts_members n (all_parts n)) (ap (λ (j : Kept). j.net) t.1.1 ∙ none_taken_at k.net h settled (sym t.1.0)) where
   settled : IsSettledAt k.net h.imp
-  settled s up = pump_rests s (subst (λ (o : Option State). IfSome o (λ s. length s.store ≡ 0)) up empty)
+  settled = λ s up. pump_rests s (subst (λ (o : Option State). IfSome o (λ s. length s.store ≡ 0)) up empty)

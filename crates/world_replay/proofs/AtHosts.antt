@@ -67,7 +67,13 @@ TookOne calls h old new = (c : Crossing) × CrossedOnce calls old new c × raw_r
 abbrev pub OfferedOne : {C : Type 0} → Calls C → WorldState C → WorldState C → Type 0
 OfferedOne calls old new = (m : HostMessage) × CrossedOnce calls old new (crossing.Out m) × raw_replay.EventGives calls old.carrier (raw.Out m) (Ok tt) new.carrier
 
--- a host of which nothing is said here is as it was
+-- an event of the network is one call of the carrier
+pub record SteppedOnce {C : Type 0} (calls : Calls C) (e : NetEvent) (old new : C) : Type 0 where
+  pub answer : Result (Unit {0}) CarrierFault
+  pub gives : calls.steps old e answer new
+  pub goes_on : GoesOn answer
+
+-- all hosts but this one are as they were
 pub record OthersStay {C : Type 0} (h : Host) (old new : WorldState C) : Type 0 where
   pub seats : (i : ℕ) (s : Seat) → slice_get old.seats i ≡ Some s → same_host h s.host ≡ false → slice_get new.seats i ≡ Some s
   pub services : (i : ℕ) (s : ServiceSeat) → slice_get old.services i ≡ Some s → same_host h s.host ≡ false → slice_get new.services i ≡ Some s
@@ -269,14 +275,8 @@ module _ {C : Type 0} (calls : Calls C) where
 
   -- ---- the network's own events
 
-  -- the carrier's call ended as the event did
-  pub record Stepped (e : NetEvent) (old : WorldState C) (r : Answer) (new : WorldState C) : Type 0 where
-    pub answer : Result (Unit {0}) CarrierFault
-    pub gives : calls.steps old.carrier e answer new.carrier
-    pub goes_on : GoesOn answer
-
   net_ends : (e : NetEvent) (answer : Result (Unit {0}) CarrierFault) (c : C) (old : WorldState C) (r : Answer) (new : WorldState C) → stops r ≡ false → calls.steps old.carrier e answer c → NetEnds (calls.seen old.carrier) e answer c old r new
-      → Stepped e old r new
+      → SteppedOnce calls e old.carrier new.carrier
   net_ends e (Ok done) c old r new on step ends = elim ends [
     | inl d ↦ record { answer = Ok done; gives = subst (λ (x : C). calls.steps old.carrier e (Ok done) x) (sym (ap (λ (w : WorldState C). w.carrier) d.1)) step; goes_on = tt }
     | inr x ↦ absurd (halts_stop c old r new x.1 on)
@@ -284,7 +284,7 @@ module _ {C : Type 0} (calls : Calls C) where
   net_ends e (Err f) c old r new on step ends =
       record { answer = Err f; gives = subst (λ (x : C). calls.steps old.carrier e (Err f) x) (sym (ap (λ (w : WorldState C). w.carrier) ends.1)) step; goes_on = passes_goes f c old r new ends on }
 
-  pub stepped : (e : NetEvent) (old : WorldState C) (r : Answer) (new : WorldState C) → stops r ≡ false → StepGives (shown calls) old (Net e) r new → Stepped e old r new
+  pub stepped : (e : NetEvent) (old : WorldState C) (r : Answer) (new : WorldState C) → stops r ≡ false → StepGives (shown calls) old (Net e) r new → SteppedOnce calls e old.carrier new.carrier
   stepped e old r new on step =
       let t = step_runs calls (Net e) old r new on step in
       net_ends e t.0 t.1 old r new on t.2.0 t.3
