@@ -1,7 +1,9 @@
 -- An event at one host: what it does to the carrier, and that it leaves all other hosts as they are.
 use Rattle.std.proofs.Common.{◌≡◌, ◌⊎◌, inl, inr, ◌<◌, ◌≤◌, ℕ, zero, suc, Bool, true, false, List, [], ◌∷◌, Option, Some, None, Result, Ok, Err, length, slice_get, refl, ap, sym, subst, ◌∙◌, arith}
 use Rattle.std.proofs.lemmas.List.{length-map}
-use Rattle.host_services.specs.Services.{ServiceDeskState, ServicesState}
+use Rattle.host_pairs.specs.declared.notice.Notice.{Notice}
+use Rattle.host_services.specs.Services.{ServiceDeskState, ServicesState, opening_desk}
+use Rattle.host_services.specs.Turns as services
 use Rattle.host_services.specs.TypedLines.{line_bits}
 use Rattle.interface.specs.Calls.{Calls, ShowsOffer, ShowsStep, ShowsTake, crossing_of, is_halt, is_memory, step_crossings}
 use Rattle.interface.specs.Host.{Host, same_host}
@@ -13,9 +15,9 @@ use Rattle.interface.specs.declared.NetEvent.{NetEvent}
 use Rattle.interface.specs.declared.crossing.Crossing.{Crossing}
 use Rattle.interface.specs.declared.crossing.Crossing.TheVariants as crossing
 use Rattle.interface.proofs.lemmas.{or_false}
-use Rattle.net_sim.specs.Book.{Kept, crossed}
+use Rattle.net_sim.specs.Book.{Kept, all_told, asked, crossed}
 use Rattle.net_sim.specs.Carriers.{shown}
-use Rattle.net_sim.specs.World.{AskGives, AtSeat, Does, DoesOrHalts, EventGives, Halts, NetEnds, OfferEnds, OfferGives, Passes, StepGives, TakeEnds, TakeGives, TypeGives, WorldState, seat_of, seated, served_at, serviced, services_of, stops, tended, with_carrier, with_program, with_server, with_services, with_user, world_moved}
+use Rattle.net_sim.specs.World.{AskGives, AtSeat, Does, DoesOrHalts, EventGives, Halts, NetEnds, OfferEnds, OfferGives, Passes, StepGives, TakeEnds, TakeGives, TypeGives, WorldState, noticed, seat_of, seated, served_at, serviced, services_of, stops, tended, turn_of, with_carrier, with_program, with_server, with_services, with_user, world_heard, world_moved}
 use Rattle.net_sim.specs.declared.event.Event.{Event}
 use Rattle.net_sim.specs.declared.event.Event.TheVariants.{Ask, Net, Offer, Quiet, Server, Take, Typed, User}
 use Rattle.net_sim.specs.declared.event.WorldFault.{WorldFault}
@@ -27,12 +29,12 @@ use Rattle.replay.specs.Replay as raw_replay
 use Rattle.script.specs.declared.event.RawEvent.TheVariants as raw
 use Rattle.sockets.specs.Accepting.{accepted}
 use Rattle.sockets.specs.Pairs.{NcpState}
-use Rattle.sockets.specs.Requests.{refusal}
+use Rattle.sockets.specs.Requests.{refusal, served, served_notices}
 use Rattle.sockets.specs.Sending.{next_out, offered}
 use Rattle.sockets.specs.declared.fault.NcpFault.{NcpFault}
 use Rattle.sockets.specs.declared.request.Request.{Request}
 use Rattle.sockets.specs.declared.request.Request.TheVariants as request
-use Rattle.world_replay.proofs.Driven.{by_crossings, by_refusal, heard_log, step_runs}
+use Rattle.world_replay.proofs.Driven.{by_crossings, moved_log, step_runs}
 use Rattle.world_replay.proofs.Grown.{at_seat}
 use Rattle.world_replay.proofs.Steady.{halts_stop, passes_goes}
 
@@ -115,6 +117,15 @@ others_tended h t old w seats services = record {
   service_count = length-map w.services _ ∙ ap (λ (all : List ServiceSeat). length all) services;
 }
 
+others_heard : {C : Type 0} (h : Host) (turn : NcpState × List Notice) (old w : WorldState C) → w.seats ≡ old.seats → w.services ≡ old.services → OthersStay h old (world_heard h turn w)
+others_heard h turn old w seats services = others_tended h (turn_of h (noticed w) (services_of h w.services) turn) old (record w { kept = all_told h turn.1 w.kept }) seats services
+
+others_moved : {C : Type 0} (c : C) (h : Host) (x : Crossing) (turn : NcpState × List Notice) (old : WorldState C) → OthersStay h old (world_moved c h x turn old)
+others_moved c h x turn old = others_heard h turn old (record old { carrier = c; kept = crossed x old.kept }) refl refl
+
+others_served : {C : Type 0} (h : Host) (q : Request) (s : NcpState) (old : WorldState C) → OthersStay h old (served_at h q s old)
+others_served h q s old = others_heard h (served s q, served_notices s q) old (record old { kept = asked h q old.kept }) refl refl
+
 others_done : {C : Type 0} (h : Host) (old done : WorldState C) (r : Answer) (new : WorldState C) → OthersStay h old done → Does done r new → OthersStay h old new
 others_done {C} h old done r new stay d = subst (λ (w : WorldState C). OthersStay h old w) (sym d.1) stay
 
@@ -136,7 +147,10 @@ IsAt h e = ⊥
 
 module _ {C : Type 0} (calls : Calls C) where
   offer_others : (h : Host) (s : NcpState) (m : HostMessage) (answer : Result (Unit {0}) CarrierFault) (c : C) (old : WorldState C) (r : Answer) (new : WorldState C) → stops r ≡ false → OfferEnds h s m answer c old r new → OthersStay h old new
-  offer_others h s m (Ok done) c old r new on ends = elim ends [ inl d ↦ others_done h old _ r new (others_tended h _ old _ refl refl) d | inr x ↦ absurd (halts_stop c old r new x on) ]
+  offer_others h s m (Ok done) c old r new on ends = elim ends [
+    | inl d ↦ let turn = offered s (length old.kept.book.crossings) in others_done h old (world_moved c h (crossing.Out m) turn old) r new (others_moved c h (crossing.Out m) turn old) d
+    | inr x ↦ absurd (halts_stop c old r new x on)
+  ]
   offer_others h s m (Err f) c old r new on ends = others_passed h f c old r new ends
 
   offering_others : (h : Host) (s : NcpState) (o : Option HostMessage) (old : WorldState C) (r : Answer) (new : WorldState C) → stops r ≡ false → OfferGives (shown calls) h s o old r new → OthersStay h old new
@@ -145,12 +159,15 @@ module _ {C : Type 0} (calls : Calls C) where
 
   take_others : (h : Host) (s : NcpState) (answer : Result (Option Inbound) CarrierFault) (c : C) (old : WorldState C) (r : Answer) (new : WorldState C) → stops r ≡ false → TakeEnds h s answer c old r new → OthersStay h old new
   take_others h s (Ok None) c old r new on ends = others_done h old (with_carrier c old) r new (others_same h old (with_carrier c old) refl refl) ends
-  take_others h s (Ok (Some i)) c old r new on ends = elim ends [ inl d ↦ others_done h old _ r new (others_tended h _ old _ refl refl) d | inr x ↦ absurd (halts_stop c old r new x on) ]
+  take_others h s (Ok (Some i)) c old r new on ends = elim ends [
+    | inl d ↦ let turn = accepted s i (length old.kept.book.crossings) in others_done h old (world_moved c h (crossing_of i) turn old) r new (others_moved c h (crossing_of i) turn old) d
+    | inr x ↦ absurd (halts_stop c old r new x on)
+  ]
   take_others h s (Err f) c old r new on ends = others_passed h f c old r new ends
 
   ask_others : (h : Host) (q : Request) (s : NcpState) (o : Option NcpFault) (old : WorldState C) (r : Answer) (new : WorldState C) → stops r ≡ false → AskGives h q s o old r new → OthersStay h old new
   ask_others h q s (Some f) old r new on gives = others_unchanged h old new gives.1
-  ask_others h q s None old r new on gives = elim gives [ inl d ↦ others_done h old _ r new (others_tended h _ old _ refl refl) d | inr x ↦ absurd (halts_stop old.carrier old r new x on) ]
+  ask_others h q s None old r new on gives = elim gives [ inl d ↦ others_done h old (served_at h q s old) r new (others_served h q s old) d | inr x ↦ absurd (halts_stop old.carrier old r new x on) ]
 
   type_others : (h : Host) (line : List ℕ) (s : NcpState) (o : Option ℕ) (old : WorldState C) (r : Answer) (new : WorldState C) → stops r ≡ false → TypeGives h line s o old r new → OthersStay h old new
   type_others h line s None old r new on gives = others_unchanged h old new gives.1
@@ -172,9 +189,9 @@ module _ {C : Type 0} (calls : Calls C) where
   event_others g (Ask h q) old r new at on t =
       subst (λ (x : Host). OthersStay x old new) at (host_others (λ s. AskGives h q s (refusal s q) old r new) h old r new (λ s k. ask_others h q s (refusal s q) old r new on k) t)
   event_others g (Server h listen base) old r new at on t =
-      subst (λ (x : Host). OthersStay x old new) at (host_others (λ s. DoesOrHalts (with_server h listen base s old) old r new) h old r new (λ s k. begun_others h _ old r new on k) t)
+      subst (λ (x : Host). OthersStay x old new) at (host_others (λ s. DoesOrHalts (with_server h listen base s old) old r new) h old r new (λ s k. begun_others h (services.server_begun listen base (services_of h old.services) (opening_desk h (noticed old) s)) old r new on k) t)
   event_others g (User h peer listen own) old r new at on t =
-      subst (λ (x : Host). OthersStay x old new) at (host_others (λ s. DoesOrHalts (with_user h peer listen own s old) old r new) h old r new (λ s k. begun_others h _ old r new on k) t)
+      subst (λ (x : Host). OthersStay x old new) at (host_others (λ s. DoesOrHalts (with_user h peer listen own s old) old r new) h old r new (λ s k. begun_others h (services.user_begun peer listen own (services_of h old.services) (opening_desk h (noticed old) s)) old r new on k) t)
   event_others g (Typed h line) old r new at on t =
       subst (λ (x : Host). OthersStay x old new) at
       (host_others (λ s. TypeGives h line s (services_of h old.services).typing old r new) h old r new (λ s k. type_others h line s (services_of h old.services).typing old r new on k) t)
@@ -202,7 +219,7 @@ module _ {C : Type 0} (calls : Calls C) where
   take_ends h s (Ok (Some i)) c old r new on take shows ends = elim ends [
     | inl d ↦ let turn = accepted s i (length old.kept.book.crossings) in
         subst (λ (w : WorldState C). Taken h old w) (sym d.1)
-        (inr (crossing_of i, record { book = heard_log h _ turn.1 (crossed (crossing_of i) old.kept); log = by_crossings (calls.seen old.carrier) (calls.seen c) (crossing_of i ∷ []) shows.0 }, (Ok (Some i), take, refl)))
+        (inr (crossing_of i, record { book = moved_log h (crossing_of i) turn old c; log = by_crossings (calls.seen old.carrier) (calls.seen c) (crossing_of i ∷ []) shows.0 }, (Ok (Some i), take, refl)))
     | inr x ↦ absurd (halts_stop c old r new x on)
   ]
   take_ends h s (Err f) c old r new on take shows ends =
@@ -226,7 +243,7 @@ module _ {C : Type 0} (calls : Calls C) where
   offer_ends h s m (Ok done) c old r new on offer shows ends = elim ends [
     | inl d ↦ let turn = offered s (length old.kept.book.crossings) in
         subst (λ (w : WorldState C). Offered old w) (sym d.1)
-        (inr (m, record { book = heard_log h _ turn.1 (crossed (crossing.Out m) old.kept); log = by_crossings (calls.seen old.carrier) (calls.seen c) (crossing.Out m ∷ []) shows }, offer))
+        (inr (m, record { book = moved_log h (crossing.Out m) turn old c; log = by_crossings (calls.seen old.carrier) (calls.seen c) (crossing.Out m ∷ []) shows }, offer))
     | inr x ↦ absurd (halts_stop c old r new x on)
   ]
   offer_ends h s m (Err f) c old r new on offer shows ends =

@@ -6,7 +6,8 @@ use Rattle.std.proofs.lemmas.List.Elements.{All-append, All-cons, All-nil}
 use Rattle.std.specs.Bool.{MatchBool}
 use Rattle.std.specs.List.{All}
 use Rattle.host_pairs.specs.declared.notice.Notice.{Notice}
-use Rattle.host_services.specs.Services.{ServiceDeskState, ServicesState}
+use Rattle.host_services.specs.Services.{ServiceDeskState, opening_desk}
+use Rattle.host_services.specs.Turns as services
 use Rattle.host_services.specs.TypedLines.{line_bits}
 use Rattle.interface.specs.Calls.{Calls, Seen, ShowsCrossings, ShowsOffer, ShowsRefusal, ShowsRound, ShowsStep, ShowsTake, crossing_of, halted, is_memory, step_crossings}
 use Rattle.interface.specs.Host.{Host}
@@ -19,7 +20,7 @@ use Rattle.interface.specs.declared.crossing.Crossing.{Crossing}
 use Rattle.interface.specs.declared.crossing.Crossing.TheVariants as crossing
 use Rattle.net_sim.specs.Book.{Kept, all_asked, all_crossed, all_told, asked, book_told, crossed}
 use Rattle.net_sim.specs.Carriers.{shown}
-use Rattle.net_sim.specs.World.{AskGives, AtSeat, Does, DoesOrHalts, EventGives, Halts, NetEnds, OfferEnds, OfferGives, Passes, QuietEnds, Refuses, StepGives, TakeEnds, TakeGives, TypeGives, WorldState, changed, done_by, seat_of, served_at, services_of, stops, with_carrier, with_server, with_user, world_moved}
+use Rattle.net_sim.specs.World.{AskGives, AtSeat, Does, DoesOrHalts, EventGives, Halts, NetEnds, OfferEnds, OfferGives, Passes, QuietEnds, Refuses, StepGives, TakeEnds, TakeGives, TypeGives, WorldState, changed, done_by, noticed, seat_of, served_at, services_of, stops, turn_of, with_carrier, with_server, with_user, world_moved}
 use Rattle.net_sim.specs.declared.event.Event.{Event}
 use Rattle.net_sim.specs.declared.event.Event.TheVariants.{Ask, Net, Offer, Quiet, Server, Take, Typed, User}
 use Rattle.net_sim.specs.declared.event.WorldFault.{WorldFault}
@@ -34,7 +35,7 @@ use Rattle.script.specs.declared.event.RawEvent.{RawEvent}
 use Rattle.script.specs.declared.event.RawEvent.TheVariants as raw
 use Rattle.sockets.specs.Accepting.{accepted}
 use Rattle.sockets.specs.Pairs.{NcpState}
-use Rattle.sockets.specs.Requests.{refusal}
+use Rattle.sockets.specs.Requests.{refusal, served, served_notices}
 use Rattle.sockets.specs.Sending.{next_out, offered}
 use Rattle.sockets.specs.declared.fault.NcpFault.{NcpFault}
 use Rattle.sockets.specs.declared.fault.NcpFault.TheVariants as problem
@@ -84,15 +85,25 @@ asked_log : (h : Host) (rs : List Request) (k : Kept) → (all_asked h rs k).boo
 asked_log h [] k = refl
 asked_log h (r ∷ rs) k = asked_log h rs (asked h r k)
 
-pub heard_log : (h : Host) (d : ServiceDeskState) (ns : List Notice) (k : Kept) → (done_by h d (all_told h ns k)).book.crossings ≡ k.book.crossings
+heard_log : (h : Host) (d : ServiceDeskState) (ns : List Notice) (k : Kept) → (done_by h d (all_told h ns k)).book.crossings ≡ k.book.crossings
 heard_log h d ns k = asked_log h d.asked (all_told h ns k) ∙ told_log h ns k
+
+pub moved_log : {C : Type 0} (h : Host) (x : Crossing) (turn : NcpState × List Notice) (old : WorldState C) → (c : C) → (world_moved c h x turn old).kept.book.crossings ≡ x ∷ old.kept.book.crossings
+moved_log {C} h x turn old c =
+    let w : WorldState C = record old { carrier = c; kept = crossed x old.kept } in
+    heard_log h (turn_of h (noticed w) (services_of h w.services) turn).1 turn.1 w.kept
+
+served_log : {C : Type 0} (h : Host) (q : Request) (s : NcpState) (old : WorldState C) → (served_at h q s old).kept.book.crossings ≡ old.kept.book.crossings
+served_log {C} h q s old =
+    let w : WorldState C = record old { kept = asked h q old.kept } in
+    heard_log h (turn_of h (noticed w) (services_of h w.services) (served s q, served_notices s q)).1 (served_notices s q) w.kept
 
 -- ---- what the carrier's log has
 
 pub by_crossings : (old new : Seen) (cs : List Crossing) → ShowsCrossings old cs new → new.log ≡ cs ++ old.log
 by_crossings old new cs h = ap (λ (s : Seen). s.log) h.shown
 
-pub by_refusal : (old new : Seen) (e : CarrierFault) → ShowsRefusal old e new → new.log ≡ old.log
+by_refusal : (old new : Seen) (e : CarrierFault) → ShowsRefusal old e new → new.log ≡ old.log
 by_refusal old new e h = ap (λ (s : Seen). s.log) h.shown ∙ by (is_memory e) where
   by : (b : Bool) → (if b then halted old else old).log ≡ old.log
   by true = refl
@@ -163,7 +174,7 @@ module _ {C : Type 0} (calls : Calls C) where
   offer_end h s m (Ok done) c old r new on offer shows ends = elim ends [
     | inl d ↦ let turn = offered s (length old.kept.book.crossings) in
         subst (λ (w : WorldState C). Driven old (Offer h) w) (sym d.1)
-        (driven old (world_moved c h (crossing.Out m) turn old) (Offer h) (Raw (raw.Out m) ∷ []) (crossing.Out m ∷ []) (heard_log h _ turn.1 (crossed (crossing.Out m) old.kept)) refl
+        (driven old (world_moved c h (crossing.Out m) turn old) (Offer h) (Raw (raw.Out m) ∷ []) (crossing.Out m ∷ []) (moved_log h (crossing.Out m) turn old c) refl
         (raw_made old.carrier c (raw.Out m) (Ok done) (crossing.Out m ∷ []) offer tt (by_crossings (calls.seen old.carrier) (calls.seen c) (crossing.Out m ∷ []) shows)))
     | inr x ↦ absurd (halts_stop c old r new x on)
   ]
@@ -184,7 +195,7 @@ module _ {C : Type 0} (calls : Calls C) where
   take_end h s (Ok (Some i)) c old r new on take shows ends = elim ends [
     | inl d ↦ let turn = accepted s i (length old.kept.book.crossings) in
         subst (λ (w : WorldState C). Driven old (Take h) w) (sym d.1)
-        (driven old (world_moved c h (crossing_of i) turn old) (Take h) (Raw (raw.Take h) ∷ []) (crossing_of i ∷ []) (heard_log h _ turn.1 (crossed (crossing_of i) old.kept)) refl
+        (driven old (world_moved c h (crossing_of i) turn old) (Take h) (Raw (raw.Take h) ∷ []) (crossing_of i ∷ []) (moved_log h (crossing_of i) turn old c) refl
         (raw_made old.carrier c (raw.Take h) (Ok tt) (crossing_of i ∷ []) (Ok (Some i), take, refl) tt (by_crossings (calls.seen old.carrier) (calls.seen c) (crossing_of i ∷ []) shows.0)))
     | inr x ↦ absurd (halts_stop c old r new x on)
   ]
@@ -196,7 +207,7 @@ module _ {C : Type 0} (calls : Calls C) where
   ask_driven : (e : Event) → Makes e [] [] → (h : Host) (q : Request) (s : NcpState) (o : Option NcpFault) (old : WorldState C) (r : Answer) (new : WorldState C) → stops r ≡ false → AskGives h q s o old r new → Driven old e new
   ask_driven e makes h q s (Some f) old r new on gives = unchanged old new e makes gives.1
   ask_driven e makes h q s None old r new on gives = elim gives [
-    | inl d ↦ subst (λ (w : WorldState C). Driven old e w) (sym d.1) (undriven old (served_at h q s old) e makes refl (heard_log h _ _ (asked h q old.kept)))
+    | inl d ↦ subst (λ (w : WorldState C). Driven old e w) (sym d.1) (undriven old (served_at h q s old) e makes refl (served_log h q s old))
     | inr x ↦ absurd (halts_stop old.carrier old r new x on)
   ]
 
@@ -228,10 +239,10 @@ module _ {C : Type 0} (calls : Calls C) where
       at_host (Ask h q) (refl, refl) (λ s. AskGives h q s (refusal s q) old r new) h old r new (λ s g. ask_driven (Ask h q) (refl, refl) h q s (refusal s q) old r new on g) t
   event_driven (Server h listen base) old r new on t =
       at_host (Server h listen base) (refl, refl) (λ s. DoesOrHalts (with_server h listen base s old) old r new) h old r new
-      (λ s g. begun_driven (Server h listen base) (refl, refl) (with_server h listen base s old) old r new on refl (asked_log h _ old.kept) g) t
+      (λ s g. begun_driven (Server h listen base) (refl, refl) (with_server h listen base s old) old r new on refl (asked_log h (services.server_begun listen base (services_of h old.services) (opening_desk h (noticed old) s)).1.asked old.kept) g) t
   event_driven (User h peer listen own) old r new on t =
       at_host (User h peer listen own) (refl, refl) (λ s. DoesOrHalts (with_user h peer listen own s old) old r new) h old r new
-      (λ s g. begun_driven (User h peer listen own) (refl, refl) (with_user h peer listen own s old) old r new on refl (asked_log h _ old.kept) g) t
+      (λ s g. begun_driven (User h peer listen own) (refl, refl) (with_user h peer listen own s old) old r new on refl (asked_log h (services.user_begun peer listen own (services_of h old.services) (opening_desk h (noticed old) s)).1.asked old.kept) g) t
   event_driven (Typed h line) old r new on t =
       at_host (Typed h line) (refl, refl) (λ s. TypeGives h line s (services_of h old.services).typing old r new) h old r new (λ s g. type_driven h line s (services_of h old.services).typing old r new on g) t
 
