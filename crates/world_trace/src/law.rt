@@ -10,7 +10,7 @@ ghost use Rattle.world_trace.specs.Told.{HaveSameTexts, IsWorldTold};
 use interface::Carrier;
 
 /// The texts of programs and services say all of a world but its carrier, which has parts of its own, and what is kept: two worlds of the same hosts
-/// with the same texts differ in nothing else. That each world to which a replay comes is one of which `IsWorldTold` holds isn't proved.
+/// with the same texts differ in nothing else. Of a world at hand [`crate::lasts`] says whether `IsWorldTold` holds.
 pub fn whole<C: Carrier>()
     ensures texts { (one other : WorldState C) → IsWorldTold one → IsWorldTold other → HaveSameTexts one other → other ≡ record one { carrier = other.carrier; kept = other.kept } }
 

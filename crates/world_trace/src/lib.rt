@@ -9,6 +9,7 @@
 #![tactic(auto)]
 
 mod commands;
+mod lasting;
 pub mod law;
 mod line;
 mod pairs;
@@ -19,4 +20,5 @@ mod traced;
 mod values;
 pub mod worked;
 
+pub use lasting::lasts;
 pub use traced::trace_world;
