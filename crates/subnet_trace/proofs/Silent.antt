@@ -1,5 +1,5 @@
 -- Offers and takings that change no part.
-use Rattle.std.proofs.Common.{◌≡◌, ◌∙◌, ℕ, List, [], Bool, false, IfSome, length, Option, Some, None, Result, Ok, Err, ap, sym, subst}
+use Rattle.std.proofs.Common.{◌≡◌, ◌∙◌, ℕ, List, [], Bool, true, false, IfSome, length, Option, Some, None, Result, Ok, Err, ap, sym, subst}
 use Rattle.interface.specs.Calls.{is_memory}
 use Rattle.interface.specs.Host.{Host}
 use Rattle.interface.specs.declared.CarrierFault.{CarrierFault}
