@@ -1,5 +1,5 @@
 -- Offers and takings that change no part.
-use Rattle.std.proofs.Common.{◌≡◌, ◌∙◌, ℕ, List, [], Bool, true, false, IfSome, length, Option, Some, None, Result, Ok, Err, ap, sym, subst}
+use Rattle.std.proofs.Common.{◌≡◌, ◌∙◌, Bool, true, false, IfSome, length, Option, None, Ok, Err, ap, sym, subst}
 use Rattle.interface.specs.Calls.{is_memory}
 use Rattle.interface.specs.Host.{Host}
 use Rattle.interface.specs.declared.CarrierFault.{CarrierFault}
@@ -7,7 +7,7 @@ use Rattle.interface.specs.declared.HostMessage.{HostMessage}
 use Rattle.imp_node.specs.State.{State}
 use Rattle.imp_node.proofs.lemmas.{pump_rests}
 use Rattle.subnet.specs.Calls.{Fails, Kept, refusal_of, take_grows}
-use Rattle.subnet.specs.Events.{offer_refusal, take_in, take_refusal}
+use Rattle.subnet.specs.Events.{offer_refusal, take_refusal}
 use Rattle.subnet.specs.Net.{Net, imp_at}
 use Rattle.subnet.specs.Working.{subnet_calls}
 use Rattle.subnet_trace.specs.Parts.{all_parts, parts_members}
