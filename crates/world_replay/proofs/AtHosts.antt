@@ -1,11 +1,11 @@
 -- An event at one host: what it does to the carrier, and that it leaves all other hosts as they are.
-use Rattle.std.proofs.Common.{◌≡◌, ◌⊎◌, inl, inr, ◌<◌, ◌≤◌, ℕ, zero, suc, Bool, true, false, List, [], ◌∷◌, Option, Some, None, Result, Ok, Err, length, slice_get, refl, ap, sym, subst, ◌∙◌, arith}
+use Rattle.std.proofs.Common.{◌≡◌, ◌⊎◌, inl, inr, ◌<◌, ◌≤◌, ℕ, zero, suc, Bool, false, List, [], ◌∷◌, Option, Some, None, Result, Ok, Err, length, slice_get, refl, ap, sym, subst, ◌∙◌, arith}
 use Rattle.std.proofs.lemmas.List.{length-map}
 use Rattle.host_pairs.specs.declared.notice.Notice.{Notice}
 use Rattle.host_services.specs.Services.{ServiceDeskState, ServicesState, opening_desk}
 use Rattle.host_services.specs.Turns as services
 use Rattle.host_services.specs.TypedLines.{line_bits}
-use Rattle.interface.specs.Calls.{Calls, ShowsOffer, ShowsStep, ShowsTake, crossing_of, is_halt, is_memory, step_crossings}
+use Rattle.interface.specs.Calls.{Calls, ShowsOffer, ShowsTake, crossing_of, is_halt, is_memory}
 use Rattle.interface.specs.Host.{Host, same_host}
 use Rattle.interface.specs.Rest.{BringsNothing}
 use Rattle.interface.specs.declared.CarrierFault.{CarrierFault}
@@ -17,11 +17,10 @@ use Rattle.interface.specs.declared.crossing.Crossing.TheVariants as crossing
 use Rattle.interface.proofs.lemmas.{or_false}
 use Rattle.net_sim.specs.Book.{Kept, all_told, asked, crossed}
 use Rattle.net_sim.specs.Carriers.{shown}
-use Rattle.net_sim.specs.World.{AskGives, AtSeat, Does, DoesOrHalts, EventGives, Halts, NetEnds, OfferEnds, OfferGives, Passes, StepGives, TakeEnds, TakeGives, TypeGives, WorldState, noticed, seat_of, seated, served_at, serviced, services_of, stops, tended, turn_of, with_carrier, with_program, with_server, with_services, with_user, world_heard, world_moved}
+use Rattle.net_sim.specs.World.{AskGives, AtSeat, Does, DoesOrHalts, EventGives, NetEnds, OfferEnds, OfferGives, Passes, StepGives, TakeEnds, TakeGives, TypeGives, WorldState, noticed, seat_of, seated, served_at, serviced, services_of, stops, tended, turn_of, with_carrier, with_program, with_server, with_services, with_user, world_heard, world_moved}
 use Rattle.net_sim.specs.declared.event.Event.{Event}
 use Rattle.net_sim.specs.declared.event.Event.TheVariants.{Ask, Net, Offer, Quiet, Server, Take, Typed, User}
 use Rattle.net_sim.specs.declared.event.WorldFault.{WorldFault}
-use Rattle.net_sim.specs.declared.event.WorldFault.TheVariants.{Carrier}
 use Rattle.net_sim.specs.declared.seat.Seat.{Seat}
 use Rattle.net_sim.specs.declared.seat.ServiceSeat.{ServiceSeat}
 use Rattle.replay.specs.Replay.{GoesOn}

@@ -9,7 +9,7 @@ use Rattle.host_pairs.specs.declared.notice.Notice.{Notice}
 use Rattle.host_services.specs.Services.{ServiceDeskState, opening_desk}
 use Rattle.host_services.specs.Turns as services
 use Rattle.host_services.specs.TypedLines.{line_bits}
-use Rattle.interface.specs.Calls.{Calls, Seen, ShowsCrossings, ShowsOffer, ShowsRefusal, ShowsRound, ShowsStep, ShowsTake, crossing_of, halted, is_memory, step_crossings}
+use Rattle.interface.specs.Calls.{Calls, Seen, ShowsCrossings, ShowsOffer, ShowsRefusal, ShowsStep, ShowsTake, crossing_of, halted, is_memory, step_crossings}
 use Rattle.interface.specs.Host.{Host}
 use Rattle.interface.specs.declared.CarrierFault.{CarrierFault}
 use Rattle.interface.specs.declared.CarrierFault.TheVariants as fault
@@ -20,11 +20,11 @@ use Rattle.interface.specs.declared.crossing.Crossing.{Crossing}
 use Rattle.interface.specs.declared.crossing.Crossing.TheVariants as crossing
 use Rattle.net_sim.specs.Book.{Kept, all_asked, all_crossed, all_told, asked, book_told, crossed}
 use Rattle.net_sim.specs.Carriers.{shown}
-use Rattle.net_sim.specs.World.{AskGives, AtSeat, Does, DoesOrHalts, EventGives, Halts, NetEnds, OfferEnds, OfferGives, Passes, QuietEnds, Refuses, StepGives, TakeEnds, TakeGives, TypeGives, WorldState, changed, done_by, noticed, seat_of, served_at, services_of, stops, turn_of, with_carrier, with_server, with_user, world_moved}
+use Rattle.net_sim.specs.World.{AskGives, AtSeat, DoesOrHalts, EventGives, NetEnds, OfferEnds, OfferGives, Passes, QuietEnds, Refuses, StepGives, TakeEnds, TakeGives, TypeGives, WorldState, changed, done_by, noticed, seat_of, served_at, services_of, stops, turn_of, with_carrier, with_server, with_user, world_moved}
 use Rattle.net_sim.specs.declared.event.Event.{Event}
 use Rattle.net_sim.specs.declared.event.Event.TheVariants.{Ask, Net, Offer, Quiet, Server, Take, Typed, User}
 use Rattle.net_sim.specs.declared.event.WorldFault.{WorldFault}
-use Rattle.net_sim.specs.declared.event.WorldFault.TheVariants.{Carrier, Program}
+use Rattle.net_sim.specs.declared.event.WorldFault.TheVariants.{Carrier}
 use Rattle.replay.specs.InTurn.{Happening, InTurn}
 use Rattle.replay.specs.Output.{Crossed, Refused, crossings_of, shown_crossings, shown_refusal}
 use Rattle.replay.specs.Output as raw_output
@@ -38,10 +38,9 @@ use Rattle.sockets.specs.Pairs.{NcpState}
 use Rattle.sockets.specs.Requests.{refusal, served, served_notices}
 use Rattle.sockets.specs.Sending.{next_out, offered}
 use Rattle.sockets.specs.declared.fault.NcpFault.{NcpFault}
-use Rattle.sockets.specs.declared.fault.NcpFault.TheVariants as problem
 use Rattle.sockets.specs.declared.request.Request.{Request}
 use Rattle.sockets.specs.declared.request.Request.TheVariants as request
-use Rattle.world_replay.specs.Driven.{Drive, Drives, Goes, IsCall, IsCourse, IsDriven, IsDrivenIn, IsOffer, IsTaking, Makes, Raw, Round}
+use Rattle.world_replay.specs.Driven.{Drive, Drives, Goes, IsCall, IsDriven, IsDrivenIn, IsOffer, IsTaking, Makes, Raw, Round}
 use Rattle.world_replay.specs.Output.{Shown}
 use Rattle.world_replay.specs.Replay.{HappensInCalm, Replays}
 use Rattle.world_replay.specs.Replay as world_replay
