@@ -22,7 +22,7 @@ use Rattle.subnet_trace.specs.Elements.{IsOfRound}
 use Rattle.subnet_trace.specs.Told.{IsPlaced}
 use Rattle.subnet_trace.proofs.lemmas.{once, opening, placed_after, quiet_replays, refused}
 use Rattle.world_replay.specs.Driven.{Drive, Drives, Goes, IsCall, Raw, Round}
-use Rattle.world_replay.specs.Output as world
+use Rattle.world_replay.specs.Output as world_lines
 use Rattle.world_replay.specs.Replay as world
 use Rattle.world_replay.proofs.lemmas.Driven.{crossings_then, in_turn_then, replay_drives}
 use Rattle.world_script.specs.declared.event.WorldEvent.{WorldEvent}
@@ -79,7 +79,7 @@ raw_run calls Holds quiets (Round ∷ drives) old new lines holds only (mid, fir
       same = later.same ∙ sym (ap crossings_of all ∙ crossings_then first rest ∙ ap (λ cs. cs ++ crossings_of rest) none);
     }
 
-raw_network : {C : Type 0} (calls : Calls C) (Holds : C → Type 0) → Quiets calls Holds → (opening : C) (script : List WorldEvent) (w : WorldState C) (lines : List world.Shown)
+raw_network : {C : Type 0} (calls : Calls C) (Holds : C → Type 0) → Quiets calls Holds → (opening : C) (script : List WorldEvent) (w : WorldState C) (lines : List world_lines.Shown)
     → Holds opening → world.Replays (shown calls) (opening_world calls opening) script w lines → IsRawNetwork calls opening script w
 raw_network calls Holds quiets opening script w lines holds h =
     let (drives, driven, all) = replay_drives calls script (opening_world calls opening) w lines h in

@@ -3,7 +3,7 @@ mod CommandTexts
 mod Ends
 mod Failures
 mod Fields
-pub mod Lasting
+mod Blocks
 mod Lines
 mod Lists
 mod Programs

@@ -8,7 +8,7 @@ use Rattle.net_sim.specs.Carriers.{shown}
 use Rattle.net_sim.specs.World.{WorldState, opening_world}
 use Rattle.replay.specs.InTurn.{InTurn}
 use Rattle.replay.specs.Output.{crossings_of}
-use Rattle.replay.specs.Output as raw
+use Rattle.replay.specs.Output as raw_lines
 use Rattle.replay.specs.Replay as raw
 use Rattle.replay.specs.Replay.{IsOneCall}
 use Rattle.script.specs.declared.event.RawEvent.{RawEvent}
@@ -37,7 +37,7 @@ pub record IsRawNetwork {C : Type 0} (calls : Calls C) (opening : C) (script : L
   pub made : AreMade drives events
   pub one_call : All IsOneCall events
   -- they lead to the carrier, and what crosses by them is what the world's book has
-  pub lines : List raw.Shown
+  pub lines : List raw_lines.Shown
   pub replays : raw.Replays calls opening events w.carrier lines
   pub crossed : w.kept.book.crossings ≡ reverse (crossings_of lines)
 

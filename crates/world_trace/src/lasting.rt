@@ -15,7 +15,7 @@ use icp::{Partner, Server, User};
 use interface::{Carrier, HostAddr};
 use ncp_control::{Allocation, ByteSize, Command, ConnectionLink, ReceiveSocket, SendSocket};
 use net_sim::{Seat, ServiceSeat, World};
-use sockets::{Entry, Listener, Ncp, Peer};
+use sockets::{Entry, Listener, Ncp, Pair, Peer};
 use terminal::{EchoService, LineTerminal};
 
 /// What texts say all of, while memory lasts in it.
@@ -263,14 +263,27 @@ impl Lasting for Entry {
     }
 }
 
+/// Returns whether memory lasts in what a host knows of another one, which it always does.
+fn pair_lasts(pair: &Pair) -> bool
+    ensures busy { result ≡ true → All IsShort pair.now.busy }
+    ensures ends { result ≡ true → All told.IsEndTold pair.now.entries }
+    ensures commands { result ≡ true → All told.IsCommandTold pair.now.queue }
+{
+    if !all_last(&pair.busy) {
+        return false;
+    }
+    if !all_last(pair.entries.as_slice()) {
+        return false;
+    }
+    all_last(pair.queue.as_slice())
+}
+
 impl Lasting for Peer {
     ghost told = { told.IsPairTold };
 
     fn lasts(&self) -> bool {
         host(&self.host);
-        all_last(&self.pair.busy)
-            && all_last(self.pair.entries.as_slice())
-            && all_last(self.pair.queue.as_slice())
+        pair_lasts(&self.pair)
     }
 }
 
