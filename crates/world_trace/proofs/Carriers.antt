@@ -1,5 +1,5 @@
 -- A world's carrier is a raw network.
-use Rattle.std.proofs.Common.{◌≡◌, Bool, true, false, List, [], ◌∷◌, ◌++◌, Option, None, Some, Result, Ok, Err, reverse, refl, ap, sym, subst, ◌∙◌}
+use Rattle.std.proofs.Common.{◌≡◌, Bool, true, false, List, [], ◌∷◌, ◌++◌, None, Result, Ok, Err, reverse, refl, ap, sym, subst, ◌∙◌}
 use Rattle.std.proofs.lemmas.List.{append-nil}
 use Rattle.std.proofs.lemmas.List.Elements.{All-append, All-cons, All-head, All-nil, All-tail, All-weaker}
 use Rattle.std.specs.List.{All}
@@ -11,7 +11,7 @@ use Rattle.leader1822.specs.Boxes.{Boxes, plain_calls}
 use Rattle.net_sim.specs.Carriers.{shown}
 use Rattle.net_sim.specs.World.{WorldState, opening_world}
 use Rattle.replay.specs.InTurn.{InTurn}
-use Rattle.replay.specs.Output.{Shown, crossings_of, shown_refusal}
+use Rattle.replay.specs.Output.{Shown, crossings_of}
 use Rattle.replay.specs.Replay.{GoesOn, Happens, IsOneCall, Replays}
 use Rattle.replay.proofs.lemmas.{crossings_shown}
 use Rattle.script.specs.declared.event.RawEvent.{RawEvent}
@@ -21,7 +21,7 @@ use Rattle.subnet.specs.Working.{subnet_calls}
 use Rattle.subnet_trace.specs.Elements.{IsOfRound}
 use Rattle.subnet_trace.specs.Told.{IsPlaced}
 use Rattle.subnet_trace.proofs.lemmas.{once, opening, placed_after, quiet_replays, refused}
-use Rattle.world_replay.specs.Driven.{Drive, Drives, Goes, IsCall, Raw, Round}
+use Rattle.world_replay.specs.Driven.{Drive, Goes, IsCall, Raw, Round}
 use Rattle.world_replay.specs.Output as world_lines
 use Rattle.world_replay.specs.Replay as world
 use Rattle.world_replay.proofs.lemmas.Driven.{crossings_then, in_turn_then, replay_drives}

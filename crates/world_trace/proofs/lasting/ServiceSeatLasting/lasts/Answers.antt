@@ -1,4 +1,4 @@
-use Rattle.std.proofs.Common.{◌≡◌, ◌++◌, IfSome, List, Option, ℕ, subst, sym}
+use Rattle.std.proofs.Common.{◌++◌, IfSome, List, Option, ℕ, subst, sym}
 use Rattle.std.proofs.lemmas.List.Elements.{All-append, All-same}
 use Rattle.host_services.specs.Ears.{all_in}
 use Rattle.host_services.specs.declared.service.Service.{Service}
