@@ -17,7 +17,7 @@ use Rattle.interface.specs.declared.crossing.Crossing.TheVariants as crossing
 use Rattle.interface.proofs.lemmas.{or_false}
 use Rattle.net_sim.specs.Book.{Kept, all_told, asked, crossed}
 use Rattle.net_sim.specs.Carriers.{shown}
-use Rattle.net_sim.specs.World.{AskGives, AtSeat, Does, DoesOrHalts, EventGives, NetEnds, OfferEnds, OfferGives, Passes, StepGives, TakeEnds, TakeGives, TypeGives, WorldState, noticed, seat_of, seated, served_at, serviced, services_of, stops, tended, turn_of, with_carrier, with_program, with_server, with_services, with_user, world_heard, world_moved}
+use Rattle.net_sim.specs.World.{AskGives, AtSeat, Does, DoesOrHalts, EventGives, NetEnds, OfferEnds, OfferGives, Passes, QuietEnds, StepGives, TakeEnds, TakeGives, TypeGives, WorldState, noticed, seat_of, seated, served_at, serviced, services_of, stops, tended, turn_of, with_carrier, with_program, with_server, with_services, with_user, world_heard, world_moved}
 use Rattle.net_sim.specs.declared.event.Event.{Event}
 use Rattle.net_sim.specs.declared.event.Event.TheVariants.{Ask, Net, Offer, Quiet, Server, Take, Typed, User}
 use Rattle.net_sim.specs.declared.event.WorldFault.{WorldFault}
