@@ -60,7 +60,7 @@ rounds_calm calls rounds old new lines on h =
 -- ---- a calm is made of its rounds
 
 -- in a world that has stopped no round goes well
-steps_run : {C : Type 0} (calls : Calls C) (old quiet : WorldState C) (answer : Answer) → StepGives calls old Quiet answer quiet → stops answer ≡ false → (b : Bool) → old.stopped ≡ b → old.stopped ≡ false
+pub steps_run : {C : Type 0} (calls : Calls C) (old quiet : WorldState C) (answer : Answer) → StepGives calls old Quiet answer quiet → stops answer ≡ false → (b : Bool) → old.stopped ≡ b → old.stopped ≡ false
 steps_run calls old quiet answer h on false is = is
 steps_run calls old quiet answer h on true is =
     let refused : Refuses (Carrier carrier.Stopped) old answer quiet = is_true _ _ old.stopped is h in

@@ -1,5 +1,5 @@
 -- Worlds over a carrier that counts its calls.
-use Rattle.std.proofs.Common.{◌≡◌, ℕ, ◌+◌, zero, suc, List, [], ◌∷◌, length, Result, Ok, Err, refl, ap, sym, subst, ◌∙◌, add-zero, arith}
+use Rattle.std.proofs.Common.{◌≡◌, ℕ, ◌+◌, zero, suc, Bool, true, false, List, [], ◌∷◌, length, Result, Ok, Err, refl, ap, sym, subst, ◌∙◌, add-zero, arith}
 use Rattle.std.specs.Bool.{MatchBool}
 use Rattle.interface.specs.declared.carrier.CarrierFault.{CarrierFault}
 use Rattle.net_sim.specs.World.{Calms, QuietEnds, StepGives, TurnsOf, WorldState, stops, up_in, with_carrier}
@@ -13,6 +13,7 @@ use Rattle.world_replay.specs.Gains.{Gains}
 use Rattle.world_replay.proofs.Replays.{gained, gains_once, same_news}
 use Rattle.world_replay.specs.Output.{Shown}
 use Rattle.world_replay.specs.Replay.{BeginsWith, EventGives, HappensInCalm, MayDo}
+use Rattle.world_replay.specs.Rounds.{Again, Repeated, crosses}
 use Rattle.world_replay.specs.Worked.{after, counting}
 use Rattle.world_script.specs.declared.event.WorldEvent.{WorldEvent}
 use Rattle.world_script.specs.declared.event.WorldEvent.TheVariants.{Calm, Happen}
@@ -119,3 +120,16 @@ refusal_unshown s h =
     let none : s ∷ [] ≡ [] = h.lines ∙ same in
     let long : length (s ∷ []) ≡ 0 = ap length none in
     omega (arith, long)
+
+-- nothing crosses by it, and so it happens once
+pub again_once : Again (HappensInCalm counting) (after 3) (Quiet, 16) (after 4) []
+again_once = (after 4, [], [], quiet_once, (refl, refl), refl)
+
+pub again_twice : (shown : List Shown) → Again (HappensInCalm counting) (after 3) (Quiet, 16) (after 5) shown → ⊥
+again_twice shown (mid, first, rest, happens, left, all) = quiet_twice first (subst (λ (w : WorldState ℕ). HappensInCalm counting (after 3) Quiet w first) (sym (no_more (crosses (after 3) mid) (same happens) left)) happens) where
+  same : HappensInCalm counting (after 3) Quiet mid first → crosses (after 3) mid ≡ false
+  same h = ap (λ (w : WorldState ℕ). crosses (after 3) w) (quiet_counts 3 h.outcome mid h.gives).counted
+
+  no_more : (b : Bool) → b ≡ false → MatchBool b (Repeated (HappensInCalm counting) Quiet 15 mid (after 5) rest) ((after 5 ≡ mid) × (rest ≡ [])) → after 5 ≡ mid
+  no_more true is k = absurd (cc)
+  no_more false is k = k.0

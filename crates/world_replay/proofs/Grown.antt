@@ -1,5 +1,5 @@
 -- What a book gains, event by event.
-use Rattle.std.proofs.Common.{◌≡◌, inl, inr, ℕ, ◌+◌, ◌≤◌, Bool, true, false, List, [], ◌∷◌, ◌++◌, length, Option, Some, None, Result, Ok, Err, reverse, refl, ap, sym, subst, ◌∙◌, arith}
+use Rattle.std.proofs.Common.{◌≡◌, inl, inr, ℕ, suc, ◌+◌, ◌≤◌, Bool, true, false, List, [], ◌∷◌, ◌++◌, length, Option, Some, None, Result, Ok, Err, reverse, refl, ap, sym, subst, ◌∙◌, arith}
 use Rattle.std.proofs.lemmas.List.{append-nil, append_assoc, length-append, reverse-append}
 use Rattle.std.proofs.lemmas.Bool.{false≢true}
 use Rattle.std.specs.Bool.{MatchBool}
@@ -125,6 +125,15 @@ asked_same h (r ∷ rs) k =
     let rest : SameNews (asked h r k) (all_asked h rs (asked h r k)) = asked_same h rs (asked h r k) in
     record { crossings = rest.crossings; notices = rest.notices; reports = rest.reports }
 
+-- nor do notices cross
+told_crossings : (h : Host) (ns : List Notice) (k : Kept) → (all_told h ns k).book.crossings ≡ k.book.crossings
+told_crossings h [] k = refl
+told_crossings h (n ∷ ns) k = told_crossings h ns (book_told h n k)
+
+-- after a crossing, its notices, and what services did
+pub one_crossed : (h : Host) (d : ServiceDeskState) (ns : List Notice) (c : Crossing) (k : Kept) → length (done_by h d (all_told h ns (crossed c k))).book.crossings ≡ suc (length k.book.crossings)
+one_crossed h d ns c k = ap length ((asked_same h d.asked (all_told h ns (crossed c k))).crossings ∙ told_crossings h ns (crossed c k))
+
 -- notices count up, and are no reports
 told_reports : (h : Host) (ns : List Notice) (k : Kept) → (all_told h ns k).book.reports ≡ k.book.reports
 told_reports h [] k = refl
@@ -249,7 +258,7 @@ module _ {C : Type 0} (calls : Calls C) where
   type_grows h line s None old r new gives = refuses_grow (Program problem.NotOpen) old r new gives
   type_grows h line s (Some socket) old r new gives = ask_grows h (request.Send socket (line_bits line)) s (refusal s (request.Send socket (line_bits line))) old r new gives
 
-  at_program : (Gives : NcpState → Type 0) (G : Type 0) (o : Option NcpState) (old : WorldState C) (r : Result (Unit {0}) WorldFault) (new : WorldState C)
+  pub at_program : (Gives : NcpState → Type 0) (G : Type 0) (o : Option NcpState) (old : WorldState C) (r : Result (Unit {0}) WorldFault) (new : WorldState C)
       → (new ≡ old → G) → ((s : NcpState) → Gives s → G) → AtProgram Gives o old r new → G
   at_program Gives G None old r new same k h = same h.1
   at_program Gives G (Some s) old r new same k h = k s h
@@ -259,7 +268,7 @@ module _ {C : Type 0} (calls : Calls C) where
   at_seat Gives G None old r new same k h = same h.1
   at_seat Gives G (Some seat) old r new same k h = at_program Gives G seat.program old r new same k h
 
-  if_stopped : (P G : Type 0) (old : WorldState C) (r : Result (Unit {0}) WorldFault) (new : WorldState C) (b : Bool) → (new ≡ old → G) → (P → G) → MatchBool b (Refuses (Carrier fault.Stopped) old r new) P → G
+  pub if_stopped : (P G : Type 0) (old : WorldState C) (r : Result (Unit {0}) WorldFault) (new : WorldState C) (b : Bool) → (new ≡ old → G) → (P → G) → MatchBool b (Refuses (Carrier fault.Stopped) old r new) P → G
   if_stopped P G old r new true same k h = same h.1
   if_stopped P G old r new false same k h = k h
 

@@ -7,7 +7,8 @@ pub mod Grown
 pub mod News
 pub mod Replays
 pub mod Reports
-mod Rounds
+pub mod Rounds
 pub mod Steady
 pub mod ToldLines
+pub mod Turns
 pub mod lemmas

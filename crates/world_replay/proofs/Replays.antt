@@ -5,7 +5,8 @@ use Rattle.std.specs.Io.KnownBytes.{Appends}
 use Rattle.std.proofs.KnownBytes.{Appends-trans}
 use Rattle.net_sim.specs.Book.{Kept}
 use Rattle.net_sim.specs.Carriers.{shown}
-use Rattle.net_sim.specs.World.{CalmGives, WorldState, stops}
+use Rattle.net_sim.specs.World.{CalmGives, StepGives, WorldState, stops}
+use Rattle.net_sim.specs.declared.event.Event.{Event}
 use Rattle.interface.specs.Calls.{Calls}
 use Rattle.net_sim.specs.declared.event.WorldFault.{WorldFault}
 use Rattle.replay.specs.InTurn.{HappensOnce, ShowsFront}
@@ -14,8 +15,8 @@ use Rattle.replay.specs.Settled.{AreSettled, Grows}
 use Rattle.world_script.specs.declared.event.WorldEvent.{WorldEvent}
 use Rattle.world_script.specs.declared.event.WorldEvent.TheVariants as event
 use Rattle.world_replay.specs.Gains.{Gains, news}
-use Rattle.world_replay.specs.Output.{Shown, crossings_of, notices_of, output, reports_of, shown_in_turn, shown_refusal, told_in_turn}
-use Rattle.world_replay.specs.Replay.{EndsIn, EventGives, Happens, Replays, StopsIn}
+use Rattle.world_replay.specs.Output.{Shown, Writes, crossings_of, notices_of, output, reports_of, shown_in_turn, shown_refusal, told_in_turn}
+use Rattle.world_replay.specs.Replay.{EndsIn, EventGives, Happens, HappensInCalm, Replays, StopsIn}
 use Rattle.net_sim.proofs.lemmas.{calm_keeps}
 use Rattle.replay.specs.declared.events.ReplayFault.{ReplayFault}
 use Rattle.replay.specs.declared.events.ReplayFault.TheVariants as fault
@@ -124,7 +125,7 @@ refusal_gained : (k : Kept) (r : Result (Unit {0}) WorldFault) → HaveGains k k
 refusal_gained k (Ok done) = nothing_gained k
 refusal_gained k (Err f) = record { crossed = refl; told = sym (append-nil k.book.notices); said = sym (append-nil k.book.reports) }
 
-news_gained : (old new : Kept) (g : Gains old new) → HaveGains old new (gained g)
+pub news_gained : (old new : Kept) (g : Gains old new) → HaveGains old new (gained g)
 news_gained old new g =
     let crossings : ℕ = length old.book.crossings in
     let notices : ℕ = length old.book.notices in
@@ -220,6 +221,29 @@ event_ends contents calls detail old e outcome new (Err fault.OutOfMemory) cross
     }
 event_ends contents calls detail old e outcome new (Err fault.CannotWrite) crossed told said a mid last gives is same alike lines refusal goes memory =
     (outcome, gives)
+
+-- an event of a calm, whose printing leaves out a refusal
+pub calm_shown : {C W : Type 0} (contents : W → Option (List ℕ)) (calls : Calls C) (detail : Detail) (old : WorldState C) (e : Event) (outcome : Result (Unit {0}) WorldFault) (new : WorldState C) (crossed told said : ℕ) (a : Option (List ℕ)) (mid : W)
+    → StepGives calls old e outcome new → crossed ≡ length old.kept.book.crossings → told ≡ length old.kept.book.notices → said ≡ length old.kept.book.reports
+    → News contents detail crossed told said a mid new.kept → stops outcome ≡ false → Writes detail (HappensInCalm calls old e new) a (contents mid)
+calm_shown contents calls detail old e outcome new crossed told said a mid gives is same alike lines goes =
+    let gains : Gains old.kept new.kept = step_gains calls e old outcome new gives in
+    record {
+      shown = gained gains;
+      is_shown = record { outcome = outcome; gives = gives; goes_on = goes; gains = gains; lines = refl };
+      written = subst (λ xs. Appends a (contents mid) (output detail xs)) (news_is old.kept new.kept gains crossed told said is same alike) lines;
+    }
+
+pub calm_stopped : {C W : Type 0} (contents : W → Option (List ℕ)) (calls : Calls C) (detail : Detail) (old : WorldState C) (e : Event) (outcome : Result (Unit {0}) WorldFault) (new : WorldState C) (crossed told said : ℕ) (a : Option (List ℕ)) (mid : W)
+    → StepGives calls old e outcome new → crossed ≡ length old.kept.book.crossings → told ≡ length old.kept.book.notices → said ≡ length old.kept.book.reports
+    → News contents detail crossed told said a mid new.kept → stops outcome ≡ true → Writes detail (StopsIn calls old (event.Happen e) new) a (contents mid)
+calm_stopped contents calls detail old e outcome new crossed told said a mid gives is same alike lines halts =
+    let gains : Gains old.kept new.kept = step_gains calls e old outcome new gives in
+    record {
+      shown = gained gains;
+      is_shown = record { outcome = outcome; gives = gives; stops = halts; gains = gains; lines = refl };
+      written = subst (λ xs. Appends a (contents mid) (output detail xs)) (news_is old.kept new.kept gains crossed told said is same alike) lines;
+    }
 
 -- ---- a carrier that shows what every carrier shows is settled where it is settled without that
 

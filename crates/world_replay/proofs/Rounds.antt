@@ -1,5 +1,5 @@
 -- A calm that is printed round by round shows what the whole calm shows.
-use Rattle.std.proofs.Common.{◌≡◌, inl, inr, ℕ, ◌+◌, ◌-◌, ◌<◌, ◌≤◌, zero, suc, Bool, true, false, List, [], ◌++◌, Option, Result, Ok, Err, refl, ap, sym, subst, ◌∙◌, arith}
+use Rattle.std.proofs.Common.{◌≡◌, ℕ, ◌+◌, ◌-◌, ◌<◌, ◌≤◌, zero, suc, Bool, true, false, List, [], ◌++◌, Option, Result, Ok, Err, refl, ap, sym, subst, ◌∙◌, arith}
 use Rattle.std.proofs.lemmas.List.{append-nil}
 use Rattle.std.proofs.lemmas.Bool.{false≢true}
 use Rattle.std.specs.Bool.{MatchBool}
@@ -14,8 +14,7 @@ use Rattle.replay.specs.declared.events.ReplayFault.{ReplayFault}
 use Rattle.replay.specs.declared.events.ReplayFault.TheVariants as fault
 use Rattle.replay.specs.declared.print.Detail.{Detail}
 use Rattle.world_replay.specs.Output.{Shown, output, shown_refusal}
-use Rattle.world_replay.specs.Replay.{BeginsWith, MayDo}
-use Rattle.world_replay.specs.Replay as replay
+use Rattle.world_replay.specs.Replay.{BeginsWith}
 use Rattle.world_replay.specs.Steps.{EventEnds, OneEnds}
 use Rattle.world_replay.proofs.Grown.{Grew, grew_more, grew_none}
 use Rattle.world_replay.proofs.News.{output-append}
@@ -39,7 +38,7 @@ one_is_event calls detail old e (Err fault.CannotWrite) new a b h = ([], record 
 abbrev Answer : Type 0
 Answer = Result (Unit {0}) WorldFault
 
-when_true : (P Q : Type 0) (b : Bool) → b ≡ true → P → MatchBool b P Q
+pub when_true : (P Q : Type 0) (b : Bool) → b ≡ true → P → MatchBool b P Q
 when_true P Q true e p = p
 when_true P Q false e p = absurd (false≢true e)
 

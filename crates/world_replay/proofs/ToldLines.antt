@@ -1,5 +1,5 @@
 -- The lines of what users are notified of, put together from their ends.
-use Rattle.std.proofs.Common.{◌≡◌, ℕ, ◌++◌, List, [], ◌∷◌, codes, append_assoc}
+use Rattle.std.proofs.Common.{◌≡◌, ℕ, ◌++◌, List, [], ◌∷◌, append_assoc}
 use Rattle.script.specs.Input.{ended_line}
 use Rattle.world_replay.specs.Printed.{words}
 

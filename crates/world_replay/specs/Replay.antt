@@ -82,6 +82,10 @@ pub record MayDo {C : Type 0} (calls : Calls C) (old : WorldState C) (e : WorldE
   pub gives : EventGives calls old processed outcome new
   pub unknown : shown ≡ []
 
+-- the world processed this event, whatever it answered
+abbrev pub MayStep : {C : Type 0} → Calls C → WorldState C → Event → WorldState C → Type 0
+MayStep calls old e new = (outcome : Result (Unit {0}) WorldFault) × StepGives calls old e outcome new
+
 -- the events before the last one happened, the last one went as is said, and these lines were shown by then
 abbrev pub EndsIn : {C : Type 0} → Calls C → (WorldState C → WorldEvent → WorldState C → List Shown → Type 0) → WorldState C → List WorldEvent → WorldState C → List Shown → Type 0
 EndsIn calls Goes old events new shown = EndsInTurn (Happens calls) Goes old events new shown

@@ -6,13 +6,13 @@ ghost use Rattle.net_sim.specs.Carriers.{shown};
 ghost use Rattle.net_sim.specs.World.{CalmGives};
 ghost use Rattle.replay.specs.Failing.{TellsCannotWrite};
 ghost use Rattle.world_replay.specs.Output.{Shown, Writes};
-ghost use Rattle.world_replay.specs.Replay.{EndsIn, EventGives, MayDo, Replays, StopsIn};
+ghost use Rattle.world_replay.specs.Replay.{EndsIn, EventGives, HappensInCalm, MayDo, MayStep, Replays, StopsIn};
 ghost use Rattle.world_replay.specs.Steps.{EventEnds, OneEnds};
 ghost use Rattle.world_script.specs.declared.event.WorldEvent.TheVariants as world_event;
 
-use crate::print::{print_news, print_refusal};
+use crate::print::{check_memory, print_news, print_refusal};
 use interface::Carrier;
-use net_sim::{World, WorldFault};
+use net_sim::{Event, World, WorldFault};
 use replay::{Detail, Line, Output, ReplayFault};
 use world_script::WorldEvent;
 
@@ -59,6 +59,42 @@ pub fn replay_events<C: Carrier, W: Output>(
     // for the proof only: by `World::book` the world is lawful, from which the promise about messages follows
     let _book = world.book();
     outcome
+}
+
+/// Lets one event happen as an event of a calm, and prints what it shows: its crossings, notices and reports. A refusal changes nothing,
+/// and isn't printed.
+///
+/// Errors:
+/// - `OutOfMemory`: memory ran out at the event. Nothing was written.
+/// - `CannotWrite`: a write failed. The event had already happened. Nothing more was asked of the writer, which is the only one to know
+///   how much of its lines it wrote.
+pub fn replay_in_calm<C: Carrier, W: Output>(
+    world: &mut World<C>,
+    event: Event,
+    detail: Detail,
+    writer: &mut W,
+) -> Result<(), ReplayFault>
+    requires { W.failed writer.old ≡ false }
+
+    // it went as the world says that its calls may go, and what the book gained was printed
+    ensures replayed { OnOk result (Writes detail (HappensInCalm (shown C.calls) world.old event world.new) (W.contents writer.old) (W.contents writer.new)) }
+
+    // memory ran out at it
+    ensures memory { result ≡ Err ReplayFault.OutOfMemory → Writes detail (StopsIn (shown C.calls) world.old (world_event.Happen event) world.new) (W.contents writer.old) (W.contents writer.new) }
+
+    // `CannotWrite` is answered where a write failed, and nowhere else
+    ensures failed { TellsCannotWrite result (W.failed writer.new) }
+
+    // a write failed: the event had already happened
+    ensures cannot_write { result ≡ Err ReplayFault.CannotWrite → MayStep (shown C.calls) world.old event world.new }
+{
+    let crossed = world.book().crossings().len();
+    let told = world.book().notices().len();
+    let said = world.book().reports().len();
+    let outcome = world.step(event);
+    let mut line = Line::new();
+    print_news(&mut line, world.book(), crossed, told, said, detail, writer)?;
+    check_memory(outcome)
 }
 
 /// Lets each event happen in order, and prints what it shows.

@@ -9,7 +9,7 @@ ghost use Rattle.world_replay.specs.Replay.{Happens, Replays, rounds_of};
 ghost use Rattle.world_script.specs.declared.event.WorldEvent.TheVariants.{Calm};
 ghost use Rattle.world_replay.specs.Laws.OneReplay.{OneReplayFirstPart, OneReplaySame};
 ghost use Rattle.world_replay.specs.Laws.Apart.{ApartOthers, ApartSilent};
-ghost use Rattle.world_replay.specs.Laws.Calm.{CalmEvents, CalmWhole};
+ghost use Rattle.world_replay.specs.Laws.Calm.{CalmEvents, CalmTurns, CalmWhole};
 ghost use Rattle.world_replay.specs.Laws.Driven.{DrivenEvent, DrivenWhole};
 
 use interface::Carrier;
@@ -29,6 +29,9 @@ pub fn calm<C: Carrier>()
 
     // and each round is a quiet round of the network, takings and offers
     ensures events { CalmEvents C.calls }
+
+    // in this order
+    ensures turns { CalmTurns C.calls }
 {}
 
 /// A world's carrier is the network that its crossings drive: it changes by its own calls only, and what crosses says by which.

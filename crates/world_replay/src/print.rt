@@ -1,6 +1,6 @@
 //! Printing what an event shows, and the lives of connections.
 
-ghost use Rattle.std.specs.Prelude.{◌≡◌, ◌↔◌, ◌≤◌, ◌-◌, Err, OnOk, IfSome, IsSome, drop, false, length, max, reverse, take, true};
+ghost use Rattle.std.specs.Prelude.{◌≡◌, ◌↔◌, ◌≤◌, ◌-◌, Err, OnErr, OnOk, IfSome, IsSome, drop, false, length, max, reverse, take, true};
 ghost use Rattle.std.specs.Io.KnownBytes.{Appends};
 ghost use Rattle.host_services.specs.declared.report.Report.TheVariants as report;
 ghost use Rattle.net_sim.specs.World.{stops};
@@ -236,6 +236,20 @@ pub(crate) fn print_refusal<W: Output>(
         None => return Err(ReplayFault::OutOfMemory),
     };
     Ok(writeln!(writer, "refused {name}")?)
+}
+
+/// Returns an error where running out of memory has stopped the world.
+pub(crate) fn check_memory(outcome: Result<(), WorldFault>) -> Result<(), ReplayFault>
+    ensures goes_on { OnOk result (stops outcome ≡ false) }
+    ensures memory { OnErr result ((result ≡ Err ReplayFault.OutOfMemory) × (stops outcome ≡ true)) }
+{
+    let Err(fault) = outcome else {
+        return Ok(());
+    };
+    match name_of(fault) {
+        Some(_) => Ok(()),
+        None => Err(ReplayFault::OutOfMemory),
+    }
 }
 
 /// Returns the name of a refusal. `None` where running out of memory has stopped the world.

@@ -1,5 +1,5 @@
 -- The pieces of an end and of a user.
-use Rattle.std.proofs.Common.{◌≡◌, ℕ, List, [], ◌∷◌, ◌++◌, codes, refl, ◌∙◌}
+use Rattle.std.proofs.Common.{◌≡◌, ℕ, List, [], ◌∷◌, ◌++◌, codes}
 use Rattle.std.proofs.lemmas.List.{append_assoc}
 use Rattle.trace.specs.Texts.{member, object, of_kind}
 

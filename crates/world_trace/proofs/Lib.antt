@@ -1,3 +1,4 @@
+mod Calms
 mod Carriers
 mod CommandTexts
 mod Ends
@@ -6,7 +7,11 @@ mod Fields
 mod Blocks
 mod Lines
 mod Lists
+mod Passing
 mod Programs
+mod Resting
 mod Running
+mod Stays
 mod Telling
+mod Turns
 mod Whole

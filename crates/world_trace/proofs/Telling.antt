@@ -1,11 +1,10 @@
 -- Events are traced one after the other, and one of them may be the last.
-use Rattle.std.proofs.Common.{◌≡◌, inl, inr, ℕ, zero, suc, ◌<◌, ◌≤◌, ◌+◌, ◌-◌, List, [], ◌∷◌, ◌++◌, drop, get_or, length, reverse, Option, Some, Result, Ok, Err, arith, refl, sym, ap, ap₂, map, subst, ◌∙◌}
-use Rattle.std.proofs.lemmas.Bool.{cases_lt}
+use Rattle.std.proofs.Common.{◌≡◌, inl, inr, ℕ, suc, ◌+◌, List, [], ◌∷◌, ◌++◌, drop, get_or, length, reverse, Option, Some, Result, Ok, Err, arith, refl, sym, ap, ap₂, map, subst, ◌∙◌}
 use Rattle.std.proofs.lemmas.List.{append_assoc, append-nil, length-append, length-reverse, reverse-append, reverse-reverse}
 use Rattle.std.proofs.Math.Seq.{drop-append_seam}
 use Rattle.std.specs.Io.KnownBytes.{Appends}
 use Rattle.interface.specs.declared.crossing.Crossing.{Crossing}
-use Rattle.net_sim.specs.World.{CalmGives, WorldState}
+use Rattle.net_sim.specs.World.{WorldState}
 use Rattle.interface.specs.Calls.{Calls}
 use Rattle.net_sim.specs.declared.event.Event.{Event}
 use Rattle.replay.proofs.lemmas.{appends_more, appends_none, last_shown, last_written, one_written}
@@ -18,15 +17,17 @@ use Rattle.topology.specs.Topology.{TopologyFields}
 use Rattle.trace.specs.Traces.{WritesTrace, numbered_from}
 use Rattle.trace.specs.declared.element.Spot.{Spot}
 use Rattle.world_replay.specs.Output.{Shown, Writes, output, shown_text}
-use Rattle.world_replay.specs.Replay.{BeginsWith, EndsIn, Happens, MayDo, Replays, StopsIn}
+use Rattle.world_replay.proofs.lemmas.Replays.{gains_once, same_news}
+use Rattle.world_replay.specs.Gains.{Gains}
+use Rattle.world_replay.specs.Replay.{EndsIn, EventGives, Happens, HappensInCalm, MayDo, MayStep, Replays, StopsIn}
 use Rattle.world_script.specs.declared.event.WorldEvent.{WorldEvent}
 use Rattle.world_script.specs.declared.event.WorldEvent.TheVariants as world
-use Rattle.world_trace.specs.Steps.{AreTextsOf, AreUnchanged, EventEnds, HasPassed, OneEnds, RoundEnds, Shows, changed_texts}
+use Rattle.world_trace.specs.Steps.{AreTextsOf, AreUnchanged, EventEnds, HasPassed, IsAsBefore, OneEnds, Shows, ShowsInCalm, StepEnds, changed_texts}
 use Rattle.world_trace.specs.Texts.{event_text, line_of, opening_text, seat_member, services_member, state_members, world_line}
 use Rattle.world_trace.specs.declared.texts.Texts.{Texts}
 use Rattle.trace.specs.Changes.{changed}
 use Rattle.trace.proofs.lemmas.{none_changed}
-use Rattle.world_trace.specs.Traces.{AfterOpening, IsUnchanged, MayTell, StopsOne, TellsOne, TellsRound, change_of, first_rounds, state_of}
+use Rattle.world_trace.specs.Traces.{AfterOpening, IsUnchanged, MayTell, StopsOne, TellsInCalm, TellsOne, change_of, state_of}
 
 -- ---- one event
 
@@ -55,19 +56,29 @@ last_one {C} calls Goes old new e shown h =
     let first : InTurn (Happens calls) old [] h.mid h.front = subst (λ (es : List WorldEvent). InTurn (Happens calls) old es h.mid h.front) none h.before in
     (h.own, subst (λ (w : WorldState C). Goes w e new h.own) first.0 (subst (λ (x : WorldEvent). Goes h.mid x new h.own) (sym is) h.goes))
 
-whole_event : (e : WorldEvent) → BeginsWith e e
-whole_event (world.Happen e) = refl
-whole_event (world.Calm rounds) = (rounds, refl, omega arith)
-
-pub stopped : {C : Type 0} (calls : Calls C) (old new : WorldState C) (e : WorldEvent) (shown : List Shown) → EndsIn calls (StopsIn calls) old (e ∷ []) new shown → MayTell calls old e new []
+pub stopped : {C : Type 0} (calls : Calls C) (old new : WorldState C) (e : Event) (shown : List Shown) → EndsIn calls (StopsIn calls) old (world.Happen e ∷ []) new shown → MayTell calls old e new []
 stopped calls old new e shown h =
-    let (own, stops) = last_one calls (StopsIn calls) old new e shown h in
-    (refl, record { processed = e; begins = whole_event e; outcome = stops.outcome; gives = stops.gives; unknown = refl })
+    let (own, stops) = last_one calls (StopsIn calls) old new (world.Happen e) shown h in
+    (refl, (stops.outcome, stops.gives))
 
-pub unwritten : {C : Type 0} (calls : Calls C) (old new : WorldState C) (e : WorldEvent) (shown : List Shown) → EndsIn calls (MayDo calls) old (e ∷ []) new shown → MayTell calls old e new []
+pub unwritten : {C : Type 0} (calls : Calls C) (old new : WorldState C) (e : Event) (shown : List Shown) → EndsIn calls (MayDo calls) old (world.Happen e ∷ []) new shown → MayTell calls old e new []
 unwritten calls old new e shown h =
-    let (own, may) = last_one calls (MayDo calls) old new e shown h in
-    (refl, subst (λ xs. MayDo calls old e new xs) may.unknown may)
+    let (own, may) = last_one calls (MayDo calls) old new (world.Happen e) shown h in
+    (refl, (may.outcome, subst (λ (x : WorldEvent). EventGives calls old x may.outcome new) may.begins may.gives))
+
+abbrev pub failed_by : ReplayFault → Result (Unit {0}) ReplayFault
+failed_by f = Err f
+
+-- whichever fault ended it
+pub ended : {C : Type 0} (calls : Calls C) (old new : WorldState C) (e : Event) (f : ReplayFault) → (failed_by f ≡ Err fault.OutOfMemory → (shown : List Shown) × EndsIn calls (StopsIn calls) old (world.Happen e ∷ []) new shown)
+    → (failed_by f ≡ Err fault.CannotWrite → (shown : List Shown) × EndsIn calls (MayDo calls) old (world.Happen e ∷ []) new shown) → StopsOne calls old e new []
+ended calls old new e fault.OutOfMemory memory failed = let w = memory refl in inr (stopped calls old new e w.0 w.1)
+ended calls old new e fault.CannotWrite memory failed = let w = failed refl in inr (unwritten calls old new e w.0 w.1)
+
+pub ended_in_calm : {C : Type 0} (calls : Calls C) (old new : WorldState C) (e : Event) (f : ReplayFault) (a b : Option (List ℕ)) → (failed_by f ≡ Err fault.OutOfMemory → Writes Sizes (StopsIn calls old (world.Happen e) new) a b)
+    → (failed_by f ≡ Err fault.CannotWrite → MayStep calls old e new) → MayTell calls old e new []
+ended_in_calm calls old new e fault.OutOfMemory a b memory failed = let w = (memory refl).is_shown in (refl, (w.outcome, w.gives))
+ended_in_calm calls old new e fault.CannotWrite a b memory failed = (refl, failed refl)
 
 pub shows : {C : Type 0} (calls : Calls C) (old new : WorldState C) (e : WorldEvent) (written : List ℕ) → Writes Sizes (Replays calls old (e ∷ []) new) (Some []) (Some written) → Shows calls old e new written
 shows calls old new e written h = (h.shown, replayed calls old new e h.shown h.is_shown, h.written)
@@ -102,36 +113,32 @@ texts_unchanged : {C : Type 0} (members : C → List (List ℕ)) (old new : Worl
 texts_unchanged members old new before texts h k u =
     record { parts = ap₂ changed h.parts k.parts ∙ u.parts; programs = ap₂ changed h.programs k.programs ∙ u.programs; services = ap₂ changed h.services k.services ∙ u.services }
 
--- what crossed in an event that has passed
-crossed_in : {C : Type 0} (calls : Calls C) (members : C → List (List ℕ)) (old new : WorldState C) (e : WorldEvent) (event printed : List ℕ) (texts : Texts) (crossed : ℕ) (h : HasPassed calls members old e new event crossed printed texts)
-    → drop crossed (reverse new.kept.book.crossings) ≡ h.shows.1.gains.crossings
-crossed_in calls members old new e event printed texts crossed h =
-    let gains = h.shows.1.gains in
-    ap (λ n. drop n (reverse new.kept.book.crossings)) h.crossed ∙ crossings_gained old.kept.book.crossings new.kept.book.crossings gains.crossings gains.crossed
+-- the line of an event
+line_is : {C : Type 0} (members : C → List (List ℕ)) (spot : Spot) (round : ℕ) (old new : WorldState C) (e : WorldEvent) (event printed : List ℕ) (before texts : Texts) (crossed : ℕ) (shown : List Shown) (gains : Gains old.kept new.kept)
+    → event ≡ event_text e → printed ≡ output Sizes shown → crossed ≡ length old.kept.book.crossings → AreTextsOf members old before → AreTextsOf members new texts
+    → line_of spot round event (drop crossed (reverse new.kept.book.crossings)) printed (changed_texts before texts) ≡ world_line spot round e gains.crossings shown (change_of members old new)
+line_is members spot round old new e event printed before texts crossed shown gains named says count was state =
+    let change : List (List ℕ) = changed_texts before texts in
+    let crossings : drop crossed (reverse new.kept.book.crossings) ≡ gains.crossings =
+    ap (λ n. drop n (reverse new.kept.book.crossings)) count ∙ crossings_gained old.kept.book.crossings new.kept.book.crossings gains.crossings gains.crossed in
+    ap (λ (cs : List Crossing). line_of spot round event cs printed change) crossings
+    ∙ ap (λ (t : List ℕ). line_of spot round t gains.crossings printed change) named
+    ∙ ap (λ (p : List ℕ). line_of spot round (event_text e) gains.crossings p change) says
+    ∙ ap (λ (s : List (List ℕ)). world_line spot round e gains.crossings shown s) (same_change members old new before texts was state)
 
--- the line of an event that has passed
-line_passed : {C : Type 0} (calls : Calls C) (members : C → List (List ℕ)) (spot : Spot) (round : ℕ) (old new : WorldState C) (e : WorldEvent) (event printed : List ℕ) (before texts : Texts) (crossed : ℕ) (h : HasPassed calls members old e new event crossed printed texts)
-    → AreTextsOf members old before
-    → line_of spot round event (drop crossed (reverse new.kept.book.crossings)) printed (changed_texts before texts) ≡ world_line spot round e h.shows.1.gains.crossings h.shows.0 (change_of members old new)
-line_passed calls members spot round old new e event printed before texts crossed h was =
-    let state : List (List ℕ) = changed_texts before texts in
-    ap (λ (cs : List Crossing). line_of spot round event cs printed state) (crossed_in calls members old new e event printed texts crossed h)
-    ∙ ap (λ (t : List ℕ). line_of spot round t h.shows.1.gains.crossings printed state) h.event
-    ∙ ap (λ (p : List ℕ). line_of spot round (event_text e) h.shows.1.gains.crossings p state) h.shows.2
-    ∙ ap (λ (s : List (List ℕ)). world_line spot round e h.shows.1.gains.crossings h.shows.0 s) (same_change members old new before texts was h.state)
-
-pub tells : {C : Type 0} (calls : Calls C) (members : C → List (List ℕ)) (spot : Spot) (round : ℕ) (old new : WorldState C) (e : WorldEvent) (event printed : List ℕ) (before texts : Texts) (crossed : ℕ) (a b : Option (List ℕ))
+pub tells : {C : Type 0} (calls : Calls C) (members : C → List (List ℕ)) (spot : Spot) (old new : WorldState C) (e : Event) (event printed : List ℕ) (before texts : Texts) (crossed : ℕ) (a b : Option (List ℕ))
     → HasPassed calls members old e new event crossed printed texts → AreTextsOf members old before
-    → Appends a b (ended_line (line_of spot round event (drop crossed (reverse new.kept.book.crossings)) printed (changed_texts before texts))) → WritesTrace (TellsOne calls members spot round old e new) a b
-tells {C} calls members spot round old new e event printed before texts crossed a b h was written =
-    one_line (world_line spot round e h.shows.1.gains.crossings h.shows.0 (change_of members old new)) (TellsOne calls members spot round old e new) a b (h.shows.0, h.shows.1, refl)
-    (subst (λ (line : List ℕ). Appends a b (ended_line line)) (line_passed calls members spot round old new e event printed before texts crossed h was) written)
+    → Appends a b (ended_line (line_of spot 0 event (drop crossed (reverse new.kept.book.crossings)) printed (changed_texts before texts))) → OneEnds calls members spot old e (Ok tt) new a b
+tells {C} calls members spot old new e event printed before texts crossed a b h was written =
+    let (shown, happens, says) = h.shows in
+    one_line (world_line spot 0 (world.Happen e) happens.gains.crossings shown (change_of members old new)) (TellsOne calls members spot 0 old (world.Happen e) new) a b (shown, happens, refl)
+    (subst (λ (line : List ℕ). Appends a b (ended_line line)) (line_is members spot 0 old new (world.Happen e) event printed before texts crossed shown happens.gains h.event says h.crossed was h.state) written)
 
 -- it may have happened, too, where its line was not written
-pub passed_may : {C : Type 0} (calls : Calls C) (members : C → List (List ℕ)) (old new : WorldState C) (e : WorldEvent) (event printed : List ℕ) (texts : Texts) (crossed : ℕ) → HasPassed calls members old e new event crossed printed texts → MayTell calls old e new []
-passed_may calls members old new e event printed texts crossed h = (refl, record { processed = e; begins = whole_event e; outcome = h.shows.1.outcome; gives = h.shows.1.gives; unknown = refl })
+pub passed_may : {C : Type 0} (calls : Calls C) (members : C → List (List ℕ)) (old new : WorldState C) (e : Event) (event printed : List ℕ) (texts : Texts) (crossed : ℕ) → HasPassed calls members old e new event crossed printed texts → MayTell calls old e new []
+passed_may calls members old new e event printed texts crossed h = let (shown, happens, says) = h.shows in (refl, (happens.outcome, happens.gives))
 
--- ---- a round
+-- ---- an event of a calm
 
 -- lines that are no text are no lines
 none_shown : (shown : List Shown) → output Sizes shown ≡ [] → shown ≡ []
@@ -142,118 +149,65 @@ none_shown (s ∷ shown) is =
     let end : length (ended_line (shown_text Sizes s)) ≡ length (shown_text Sizes s) + 1 = length-append (shown_text Sizes s) (10 ∷ []) in
     absurd (omega (arith, long, first, end))
 
--- a round that prints nothing and leaves all as it was
-pub round_silent : {C : Type 0} (calls : Calls C) (members : C → List (List ℕ)) (spot : Spot) (round : ℕ) (old new : WorldState C) (event printed : List ℕ) (before texts : Texts) (crossed : ℕ) (a : Option (List ℕ))
-    → HasPassed calls members old (world.Calm 1) new event crossed printed texts → AreTextsOf members old before → printed ≡ [] → AreUnchanged before texts → WritesTrace (TellsRound calls members spot old round new) a a
-round_silent {C} calls members spot round old new event printed before texts crossed a h was none same =
-    let nothing : h.shows.0 ≡ [] = none_shown h.shows.0 (sym h.shows.2 ∙ none) in
-    no_line (TellsRound calls members spot old round new) a (inl (
-      subst (λ (shown : List Shown). Happens calls old (world.Calm 1) new shown) nothing h.shows.1,
-      unchanged members old new before texts was h.state same,
+-- one that prints nothing and leaves all as it was
+pub step_silent : {C : Type 0} (calls : Calls C) (members : C → List (List ℕ)) (spot : Spot) (round : ℕ) (old new : WorldState C) (e : Event) (printed : List ℕ) (before texts : Texts) (a : Option (List ℕ))
+    → ShowsInCalm calls old e new printed → AreTextsOf members old before → AreTextsOf members new texts → printed ≡ [] → AreUnchanged before texts → StepEnds calls members spot round old e (Ok tt) new a a
+step_silent {C} calls members spot round old new e printed before texts a (shown, happens, says) was state none same =
+    let nothing : shown ≡ [] = none_shown shown (sym says ∙ none) in
+    no_line (TellsInCalm calls members spot round old e new) a (inl (
+      subst (λ (ls : List Shown). HappensInCalm calls old e new ls) nothing happens,
+      unchanged members old new before texts was state same,
       refl,
     ))
 
--- any other round
-pub round_heard : {C : Type 0} (calls : Calls C) (members : C → List (List ℕ)) (spot : Spot) (round : ℕ) (old new : WorldState C) (event printed : List ℕ) (before texts : Texts) (crossed : ℕ) (a b : Option (List ℕ))
-    → HasPassed calls members old (world.Calm 1) new event crossed printed texts → AreTextsOf members old before → (printed ≡ [] → AreUnchanged before texts → ⊥)
-    → Appends a b (ended_line (line_of spot round event (drop crossed (reverse new.kept.book.crossings)) printed (changed_texts before texts))) → WritesTrace (TellsRound calls members spot old round new) a b
-round_heard {C} calls members spot round old new event printed before texts crossed a b h was heard written =
-    let line : List ℕ = world_line spot round (world.Calm 1) h.shows.1.gains.crossings h.shows.0 (change_of members old new) in
-    one_line line (TellsRound calls members spot old round new) a b
-    (inr ((h.shows.0, h.shows.1, refl), λ none same. heard (h.shows.2 ∙ ap (output Sizes) none) (texts_unchanged members old new before texts was h.state same)))
-    (subst (λ (line : List ℕ). Appends a b (ended_line line)) (line_passed calls members spot round old new (world.Calm 1) event printed before texts crossed h was) written)
+-- any other
+pub step_heard : {C : Type 0} (calls : Calls C) (members : C → List (List ℕ)) (spot : Spot) (round : ℕ) (old new : WorldState C) (e : Event) (event printed : List ℕ) (before texts : Texts) (crossed : ℕ) (a b : Option (List ℕ))
+    → ShowsInCalm calls old e new printed → event ≡ event_text (world.Happen e) → crossed ≡ length old.kept.book.crossings → AreTextsOf members old before → AreTextsOf members new texts → (printed ≡ [] → AreUnchanged before texts → ⊥)
+    → Appends a b (ended_line (line_of spot round event (drop crossed (reverse new.kept.book.crossings)) printed (changed_texts before texts))) → StepEnds calls members spot round old e (Ok tt) new a b
+step_heard {C} calls members spot round old new e event printed before texts crossed a b (shown, happens, says) named count was state heard written =
+    let line : List ℕ = world_line spot round (world.Happen e) happens.gains.crossings shown (change_of members old new) in
+    one_line line (TellsInCalm calls members spot round old e new) a b
+    (inr ((shown, happens, refl), λ none same. heard (says ∙ ap (output Sizes) none) (texts_unchanged members old new before texts was state same)))
+    (subst (λ (line : List ℕ). Appends a b (ended_line line)) (line_is members spot round old new (world.Happen e) event printed before texts crossed shown happens.gains named says count was state) written)
 
--- a round that leaves all as it was
-resting : {C : Type 0} (calls : Calls C) (members : C → List (List ℕ)) (spot : Spot) (round : ℕ) (now : WorldState C) (a : Option (List ℕ)) → CalmGives calls 1 now (Ok tt) now → WritesTrace (TellsRound calls members spot now round now) a a
-resting calls members spot round now a gives =
-    let book = now.kept.book in
-    no_line (TellsRound calls members spot now round now) a (inl (
+pub step_may : {C : Type 0} (calls : Calls C) (old new : WorldState C) (e : Event) (printed : List ℕ) → ShowsInCalm calls old e new printed → MayTell calls old e new []
+step_may calls old new e printed (shown, happens, says) = (refl, (happens.outcome, happens.gives))
+
+-- the book gained nothing, and so nothing is shown
+none_gained : {C : Type 0} (calls : Calls C) (old new : WorldState C) (e : Event) (shown : List Shown) → HappensInCalm calls old e new shown → new.kept ≡ old.kept → shown ≡ []
+none_gained calls old new e shown h same =
+    let book = old.kept.book in
+    let none : Gains old.kept old.kept = record { crossings = []; notices = []; reports = []; crossed = refl; told = sym (append-nil book.notices); said = sym (append-nil book.reports) } in
+    h.lines ∙ same_news old.kept new.kept old.kept h.gains none (gains_once old.kept new.kept old.kept h.gains none same)
+
+-- all that is printed is as before, and has no line
+pub step_still : {C : Type 0} (calls : Calls C) (members : C → List (List ℕ)) (spot : Spot) (round : ℕ) (old new : WorldState C) (e : Event) (printed : List ℕ) (a : Option (List ℕ))
+    → ShowsInCalm calls old e new printed → ((shown : List Shown) → HappensInCalm calls old e new shown → IsAsBefore members old new) → StepEnds calls members spot round old e (Ok tt) new a a
+step_still {C} calls members spot round old new e printed a (shown, happens, says) still =
+    let all = still shown happens in
+    no_line (TellsInCalm calls members spot round old e new) a (inl (
+      subst (λ (ls : List Shown). HappensInCalm calls old e new ls) (none_gained calls old new e shown happens all.kept) happens,
       record {
-        outcome = Ok tt;
-        gives = gives;
-        goes_on = refl;
-        gains = record { crossings = []; notices = []; reports = []; crossed = refl; told = sym (append-nil book.notices); said = sym (append-nil book.reports) };
-        lines = refl;
+        parts = ap (changed (members old.carrier)) all.parts ∙ none_changed (members old.carrier);
+        programs = ap (λ seats. changed (map seat_member old.seats) (map seat_member seats)) all.seats ∙ none_changed (map seat_member old.seats);
+        services = ap (λ served. changed (map services_member old.services) (map services_member served)) all.services ∙ none_changed (map services_member old.services);
       },
-      record { parts = none_changed (members now.carrier); programs = none_changed (map seat_member now.seats); services = none_changed (map services_member now.services) },
       refl,
     ))
+
+pub texts_still : {C : Type 0} (calls : Calls C) (members : C → List (List ℕ)) (old new : WorldState C) (e : Event) (printed : List ℕ) (texts : Texts)
+    → ShowsInCalm calls old e new printed → ((shown : List Shown) → HappensInCalm calls old e new shown → IsAsBefore members old new) → AreTextsOf members old texts → AreTextsOf members new texts
+texts_still calls members old new e printed texts (shown, happens, says) still was =
+    let all = still shown happens in
+    record { parts = was.parts ∙ sym all.parts; programs = was.programs ∙ ap (map seat_member) (sym all.seats); services = was.services ∙ ap (map services_member) (sym all.services) }
 
 -- ---- an event that is no calm
 
-pub happen_ends : {C : Type 0} (calls : Calls C) (members : C → List (List ℕ)) (spot : Spot) (old new : WorldState C) (e : Event) (r : Result (Unit {0}) ReplayFault) (a b : Option (List ℕ)) → OneEnds calls members spot 0 old (world.Happen e) r new a b
+pub happen_ends : {C : Type 0} (calls : Calls C) (members : C → List (List ℕ)) (spot : Spot) (old new : WorldState C) (e : Event) (r : Result (Unit {0}) ReplayFault) (a b : Option (List ℕ)) → OneEnds calls members spot old e r new a b
     → EventEnds calls members spot old (world.Happen e) r new a b
 happen_ends calls members spot old new e (Ok done) a b h = h
 happen_ends calls members spot old new e (Err fault.OutOfMemory) a b h = h
 happen_ends calls members spot old new e (Err fault.CannotWrite) a b h = h
-
--- ---- a calm
-
--- this many rounds have passed
-abbrev pub Passed : {C : Type 0} → Calls C → (C → List (List ℕ)) → Spot → ℕ → WorldState C → WorldState C → Option (List ℕ) → Option (List ℕ) → Type 0
-Passed calls members spot passed old now a b = WritesTrace (InTurn (TellsRound calls members spot) old (first_rounds passed) now) a b
-
-pub none_passed : {C : Type 0} (calls : Calls C) (members : C → List (List ℕ)) (spot : Spot) (old : WorldState C) (a : Option (List ℕ)) → Passed calls members spot 0 old old a a
-none_passed calls members spot old a = no_line (InTurn (TellsRound calls members spot) old [] old) a (refl, refl)
-
-next_round : (passed : ℕ) → first_rounds (passed + 1) ≡ first_rounds passed ++ (passed + 1) ∷ []
-next_round passed =
-    let is : suc passed ≡ passed + 1 = omega arith in
-    ap first_rounds (sym is) ∙ ap (λ n. first_rounds passed ++ n ∷ []) is
-
-pub one_passed : {C : Type 0} (calls : Calls C) (members : C → List (List ℕ)) (spot : Spot) (passed : ℕ) (old mid new : WorldState C) (a b c : Option (List ℕ)) → Passed calls members spot passed old mid a b
-    → WritesTrace (TellsRound calls members spot mid (passed + 1) new) b c → Passed calls members spot (passed + 1) old new a c
-one_passed {C} calls members spot passed old mid new a b c h k =
-    subst (λ (rounds : List ℕ). WritesTrace (InTurn (TellsRound calls members spot) old rounds new) a c) (sym (next_round passed))
-    (one_written (TellsRound calls members spot) (λ line. line) old mid new (first_rounds passed) (passed + 1) a b c h k)
-
--- they are the first of more
-first_of : (passed rounds : ℕ) → passed < rounds → (left : List ℕ) × (first_rounds rounds ≡ first_rounds passed ++ (passed + 1) ∷ left)
-first_of passed zero lt = absurd (omega (arith, lt))
-first_of passed (suc rounds) lt = elim (cases_lt passed rounds) [
-  | inl less ↦
-      let (left, is) = first_of passed rounds less in
-      (left ++ suc rounds ∷ [], ap (λ xs. xs ++ suc rounds ∷ []) is ∙ append_assoc (first_rounds passed) ((passed + 1) ∷ left) (suc rounds ∷ []))
-  | inr more ↦
-      let same : rounds ≡ passed = omega (arith, lt, more) in
-      let next : suc passed ≡ passed + 1 = omega arith in
-      ([], ap (λ n. first_rounds (suc n)) same ∙ ap (λ n. first_rounds passed ++ n ∷ []) next)
-]
-
--- further rounds, which leave all as it is
-rested : {C : Type 0} (calls : Calls C) (members : C → List (List ℕ)) (spot : Spot) (left passed rounds : ℕ) (old now : WorldState C) (a b : Option (List ℕ)) → passed + left ≡ rounds → CalmGives calls 1 now (Ok tt) now → Passed calls members spot passed old now a b
-    → Passed calls members spot rounds old now a b
-rested calls members spot zero passed rounds old now a b all gives h =
-    let same : passed ≡ rounds = omega (arith, all) in
-    subst (λ n. Passed calls members spot n old now a b) same h
-rested calls members spot (suc left) passed rounds old now a b all gives h =
-    let more : passed + 1 + left ≡ rounds = omega (arith, all) in
-    rested calls members spot left (passed + 1) rounds old now a b more gives (one_passed calls members spot passed old now now a b b h (resting calls members spot (passed + 1) now b gives))
-
-pub calm_rests : {C : Type 0} (calls : Calls C) (members : C → List (List ℕ)) (spot : Spot) (passed rounds : ℕ) (old now : WorldState C) (a b : Option (List ℕ)) → passed ≤ rounds → CalmGives calls 1 now (Ok tt) now → Passed calls members spot passed old now a b
-    → EventEnds calls members spot old (world.Calm rounds) (Ok tt) now a b
-calm_rests calls members spot passed rounds old now a b few gives h =
-    let all : passed + (rounds - passed) ≡ rounds = omega (arith, few) in
-    rested calls members spot (rounds - passed) passed rounds old now a b all gives h
-
-pub calm_passed : {C : Type 0} (calls : Calls C) (members : C → List (List ℕ)) (spot : Spot) (passed rounds : ℕ) (old now : WorldState C) (a b : Option (List ℕ)) → passed ≡ rounds → Passed calls members spot passed old now a b → EventEnds calls members spot old (world.Calm rounds) (Ok tt) now a b
-calm_passed calls members spot passed rounds old now a b all h = subst (λ n. Passed calls members spot n old now a b) all h
-
-pub calm_early : {C : Type 0} (calls : Calls C) (members : C → List (List ℕ)) (spot : Spot) (passed rounds : ℕ) (old mid new : WorldState C) (f : ReplayFault) (a b c : Option (List ℕ)) → passed < rounds → Passed calls members spot passed old mid a b
-    → RoundEnds calls members spot (passed + 1) mid (Err f) new b c → EventEnds calls members spot old (world.Calm rounds) (Err f) new a c
-calm_early {C} calls members spot passed rounds old mid new fault.OutOfMemory a b c lt h k =
-    let (left, is) = first_of passed rounds lt in
-    last_written (TellsRound calls members spot) (λ (o : WorldState C) (n : ℕ) (w : WorldState C) (ls : List (List ℕ)). StopsOne calls o (world.Calm 1) w ls) (λ line. line) old mid new (first_rounds rounds) (first_rounds passed) (passed + 1) left a b c is h k
-calm_early {C} calls members spot passed rounds old mid new fault.CannotWrite a b c lt h (lines, k) =
-    let (left, is) = first_of passed rounds lt in (
-      h.shown ++ lines,
-      last_shown (TellsRound calls members spot) (λ (o : WorldState C) (n : ℕ) (w : WorldState C) (ls : List (List ℕ)). MayTell calls o (world.Calm 1) w ls) old mid new (first_rounds rounds) (first_rounds passed) (passed + 1) left h.shown lines is h.is_shown k,
-    )
-
--- memory ran out before the first round
-pub calm_unbegun : {C : Type 0} (calls : Calls C) (members : C → List (List ℕ)) (spot : Spot) (rounds : ℕ) (old : WorldState C) (a : Option (List ℕ)) → 0 < rounds → EventEnds calls members spot old (world.Calm rounds) (Err fault.OutOfMemory) old a a
-calm_unbegun calls members spot rounds old a some =
-    calm_early calls members spot 0 rounds old old old fault.OutOfMemory a a a some (none_passed calls members spot old a) (no_line (StopsOne calls old (world.Calm 1) old) a (inl (refl, refl)))
 
 -- ---- all events
 

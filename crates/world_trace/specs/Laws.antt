@@ -1,3 +1,4 @@
 -- Statements and rows that are too long for a line in src/, each named after its function and clause.
+pub mod Calm
 pub mod WorkedPairs
 pub mod WorkedHosts

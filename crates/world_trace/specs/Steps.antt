@@ -1,10 +1,17 @@
 -- What the contracts of private functions say. No public clause cites this file.
-use Rattle.std.specs.Prelude.{◌≡◌, ℕ, ◌≤◌, List, [], ◌∷◌, ◌++◌, Option, Result, Ok, Err, codes, drop, length, map, reverse}
+use Rattle.std.specs.Prelude.{◌≡◌, ℕ, ◌≤◌, false, if◌then◌else◌, is_some, List, [], ◌∷◌, ◌++◌, Bool, Option, Some, None, Result, Ok, Err, codes, drop, length, map, reverse}
 use Rattle.std.specs.Fmt.{decimal}
 use Rattle.std.specs.List.{flat_map}
 use Rattle.interface.specs.declared.crossing.Crossing.{Crossing}
+use Rattle.net_sim.specs.Silent.{AllSilent}
 use Rattle.net_sim.specs.World.{WorldState}
+use Rattle.net_sim.specs.declared.event.Event.{Event}
+use Rattle.net_sim.specs.declared.event.Event.TheVariants as net
+use Rattle.net_sim.specs.declared.seat.Seat.{Seat}
+use Rattle.net_sim.specs.declared.seat.ServiceSeat.{ServiceSeat}
+use Rattle.interface.specs.Host.{Host, same_host}
 use Rattle.interface.specs.Calls.{Calls}
+use Rattle.interface.specs.Rest.{Rests}
 use Rattle.replay.specs.InTurn.{Happening}
 use Rattle.replay.specs.declared.events.ReplayFault.{ReplayFault}
 use Rattle.replay.specs.declared.events.ReplayFault.TheVariants as fault
@@ -15,14 +22,17 @@ use Rattle.trace.specs.Texts.{array, bits_members, bool_text, crossing_object, o
 use Rattle.world_replay.specs.Printed.{kind_text}
 use Rattle.replay.specs.declared.print.Detail.TheVariants.{Sizes}
 use Rattle.world_replay.specs.Output.{Shown, output}
-use Rattle.world_replay.specs.Replay.{Happens}
+use Rattle.world_replay.specs.Replay.{Happens, HappensInCalm}
+use Rattle.world_replay.specs.Rounds.{Again, EndsAgain, EndsRound, turn_of}
 use Rattle.world_trace.specs.Texts.{allocation_object, asked_object, closings_object, ends_object, event_text, line_of, lines_text, number_text, requests_object, seat_member, services_member, sockets_object, state_members}
 use Rattle.world_script.specs.declared.event.WorldEvent.{WorldEvent}
 use Rattle.world_script.specs.declared.event.WorldEvent.TheVariants as world
+use Rattle.world_trace.specs.declared.calm.CalmEvent.{CalmEvent}
+use Rattle.world_trace.specs.declared.calm.CalmEvent.TheVariants as calm
 use Rattle.world_trace.specs.declared.line.Passed.{Passed}
 use Rattle.world_trace.specs.declared.texts.Texts.{Texts}
 use Rattle.trace.specs.Changes.{changed}
-use Rattle.world_trace.specs.Traces.{EndsAt, MayTell, StopsOne, TellsAt, TellsOne, TellsRound}
+use Rattle.world_trace.specs.Traces.{EndsAt, MayTell, StopsOne, TellsAt, TellsInCalm, TellsOne, TellsRound}
 use Rattle.trace.specs.declared.element.Spot.{Spot}
 
 -- ---- lists
@@ -95,17 +105,41 @@ pub record AreUnchanged (old new : Texts) : Type 0 where
   pub programs : changed old.programs new.programs ≡ []
   pub services : changed old.services new.services ≡ []
 
+-- ---- what is at hosts
+
+abbrev pub seat_place : Seat → Host
+seat_place s = s.host
+
+abbrev pub service_place : ServiceSeat → Host
+service_place s = s.host
+
+-- something is at a host, if there is one
+abbrev pub at_host : {T : Type 0} → (T → Host) → Option Host → T → Bool
+at_host place None x = false
+at_host place (Some h) x = same_host h (place x)
+
+-- these are the texts of all but some of these items
+abbrev pub AreOthers : {T : Type 0} → (T → Bool) → (T → List ℕ) → List (List ℕ) → List T → Type 0
+AreOthers may text [] [] = Unit {0}
+AreOthers may text [] (x ∷ items) = ⊥
+AreOthers may text (t ∷ texts) [] = ⊥
+AreOthers may text (t ∷ texts) (x ∷ items) = (may x ≡ false → text x ≡ t) × AreOthers may text texts items
+
 -- ---- what happens
 
 -- an event happened, and a replay prints this text for it
 abbrev pub Shows : {C : Type 0} → Calls C → WorldState C → WorldEvent → WorldState C → List ℕ → Type 0
 Shows calls old e new text = (lines : List Shown) × Happens calls old e new lines × (text ≡ output Sizes lines)
 
--- it happened, with this many crossings in the book before it, and these are the texts of its line: the event, what a replay prints, and those
--- of the state after it
-pub record HasPassed {C : Type 0} (calls : Calls C) (members : C → List (List ℕ)) (old : WorldState C) (e : WorldEvent) (new : WorldState C) (name : List ℕ) (before : ℕ) (printed : List ℕ) (texts : Texts) : Type 0 where
-  pub event : name ≡ event_text e
-  pub shows : Shows calls old e new printed
+-- the same of an event of a calm
+abbrev pub ShowsInCalm : {C : Type 0} → Calls C → WorldState C → Event → WorldState C → List ℕ → Type 0
+ShowsInCalm calls old e new text = (lines : List Shown) × HappensInCalm calls old e new lines × (text ≡ output Sizes lines)
+
+-- an event that is no calm happened, with this many crossings in the book before it, and these are the texts of its line: the event, what a
+-- replay prints, and those of the state after it
+pub record HasPassed {C : Type 0} (calls : Calls C) (members : C → List (List ℕ)) (old : WorldState C) (e : Event) (new : WorldState C) (name : List ℕ) (before : ℕ) (printed : List ℕ) (texts : Texts) : Type 0 where
+  pub event : name ≡ event_text (world.Happen e)
+  pub shows : Shows calls old (world.Happen e) new printed
   pub crossed : before ≡ length old.kept.book.crossings
   pub few : before ≤ length new.kept.book.crossings
   pub state : AreTextsOf members new texts
@@ -114,21 +148,73 @@ pub record HasPassed {C : Type 0} (calls : Calls C) (members : C → List (List 
 abbrev pub passed_line : {C : Type 0} → Spot → ℕ → WorldState C → Texts → Passed → List ℕ
 passed_line spot round new before p = line_of spot round p.event.items (drop p.crossed (reverse new.kept.book.crossings)) p.printed.items (changed_texts before p.texts)
 
+-- ---- events of a calm
+
+abbrev pub event_of : CalmEvent → Event
+event_of calm.Quiet = net.Quiet
+event_of (calm.Take h) = net.Take h
+event_of (calm.Offer h) = net.Offer h
+
+-- the host at which it is
+abbrev pub host_of : CalmEvent → Option Host
+host_of calm.Quiet = None
+host_of (calm.Take h) = Some h
+host_of (calm.Offer h) = Some h
+
+-- with how often they happen at most
+abbrev pub turn : CalmEvent × ℕ → Event × ℕ
+turn t = (event_of t.0, t.1)
+
+-- those of a host, if it is up
+abbrev pub turns_at : Seat → List (Event × ℕ)
+turns_at seat = if is_some seat.program then turn_of seat.host else []
+
+-- all that is printed of a state is as before
+pub record IsAsBefore {C : Type 0} (members : C → List (List ℕ)) (old new : WorldState C) : Type 0 where
+  pub parts : members new.carrier ≡ members old.carrier
+  pub seats : new.seats ≡ old.seats
+  pub services : new.services ≡ old.services
+  pub kept : new.kept ≡ old.kept
+
+-- after an event of a calm it is, if nothing crossed by it
+abbrev pub IsStill : {C : Type 0} → Calls C → (C → List (List ℕ)) → WorldState C → Event → Type 0
+IsStill {C} calls members old e =
+    (new : WorldState C) (shown : List Shown) → HappensInCalm calls old e new shown → length new.kept.book.crossings ≤ length old.kept.book.crossings → IsAsBefore members old new
+
+-- a world rests: the carrier does, and no host that is up has anything to say
+pub record IsAtRest {C : Type 0} (calls : Calls C) (w : WorldState C) : Type 0 where
+  pub running : w.stopped ≡ false
+  pub works : (calls.seen w.carrier).stopped ≡ false
+  pub carrier : Rests calls.rounds calls.takes w.carrier
+  pub hosts : AllSilent w.seats
+
 -- ---- endings
 
 -- how something may end that happens, or in which memory runs out or a write fails
-abbrev pub EndsAs : {S : Type 0} → Happening S WorldEvent (List ℕ) → Happening S WorldEvent (List ℕ) → Happening S WorldEvent (List ℕ) → S → WorldEvent → Result (Unit {0}) ReplayFault → S → Option (List ℕ) → Option (List ℕ) → Type 0
+abbrev pub EndsAs : {S E : Type 0} → Happening S E (List ℕ) → Happening S E (List ℕ) → Happening S E (List ℕ) → S → E → Result (Unit {0}) ReplayFault → S → Option (List ℕ) → Option (List ℕ) → Type 0
 EndsAs Happens Stops Fails old e (Ok done) new before after = WritesTrace (Happens old e new) before after
 EndsAs Happens Stops Fails old e (Err fault.OutOfMemory) new before after = WritesTrace (Stops old e new) before after
 EndsAs Happens Stops Fails old e (Err fault.CannotWrite) new before after = (lines : List (List ℕ)) × Fails old e new lines
 
--- an event that is no calm, a round, and any event
-abbrev pub OneEnds : {C : Type 0} → Calls C → (C → List (List ℕ)) → Spot → ℕ → WorldState C → WorldEvent → Result (Unit {0}) ReplayFault → WorldState C → Option (List ℕ) → Option (List ℕ) → Type 0
-OneEnds calls members spot round old e r new before after = EndsAs (TellsOne calls members spot round) (StopsOne calls) (MayTell calls) old e r new before after
+-- an event that is no calm
+abbrev pub OneEnds : {C : Type 0} → Calls C → (C → List (List ℕ)) → Spot → WorldState C → Event → Result (Unit {0}) ReplayFault → WorldState C → Option (List ℕ) → Option (List ℕ) → Type 0
+OneEnds calls members spot old e r new before after = EndsAs (λ old e new lines. TellsOne calls members spot 0 old (world.Happen e) new lines) (StopsOne calls) (MayTell calls) old e r new before after
 
-abbrev pub RoundEnds : {C : Type 0} → Calls C → (C → List (List ℕ)) → Spot → ℕ → WorldState C → Result (Unit {0}) ReplayFault → WorldState C → Option (List ℕ) → Option (List ℕ) → Type 0
-RoundEnds calls members spot round old r new before after =
-    EndsAs (λ old e new lines. TellsRound calls members spot old round new lines) (StopsOne calls) (MayTell calls) old (world.Calm 1) r new before after
+-- an event of a calm, once, and again and again
+abbrev pub StepEnds : {C : Type 0} → Calls C → (C → List (List ℕ)) → Spot → ℕ → WorldState C → Event → Result (Unit {0}) ReplayFault → WorldState C → Option (List ℕ) → Option (List ℕ) → Type 0
+StepEnds calls members spot round old e r new before after = EndsAs (TellsInCalm calls members spot round) (StopsOne calls) (MayTell calls) old e r new before after
 
+abbrev pub AgainEnds : {C : Type 0} → Calls C → (C → List (List ℕ)) → Spot → ℕ → WorldState C → Event × ℕ → Result (Unit {0}) ReplayFault → WorldState C → Option (List ℕ) → Option (List ℕ) → Type 0
+AgainEnds calls members spot round old e r new before after =
+    EndsAs (Again (TellsInCalm calls members spot round)) (EndsAgain (TellsInCalm calls members spot round) (StopsOne calls)) (EndsAgain (TellsInCalm calls members spot round) (MayTell calls)) old e r new before after
+
+-- a round, by its number
+abbrev pub EndsRoundAt : {C : Type 0} → Calls C → (C → List (List ℕ)) → Spot → Happening (WorldState C) Event (List ℕ) → Happening (WorldState C) ℕ (List ℕ)
+EndsRoundAt calls members spot Goes old round new lines = EndsRound (TellsInCalm calls members spot round) Goes old new lines
+
+abbrev pub RoundEnds : {C : Type 0} → Calls C → (C → List (List ℕ)) → Spot → WorldState C → ℕ → Result (Unit {0}) ReplayFault → WorldState C → Option (List ℕ) → Option (List ℕ) → Type 0
+RoundEnds calls members spot old round r new before after = EndsAs (TellsRound calls members spot) (EndsRoundAt calls members spot (StopsOne calls)) (EndsRoundAt calls members spot (MayTell calls)) old round r new before after
+
+-- any event
 abbrev pub EventEnds : {C : Type 0} → Calls C → (C → List (List ℕ)) → Spot → WorldState C → WorldEvent → Result (Unit {0}) ReplayFault → WorldState C → Option (List ℕ) → Option (List ℕ) → Type 0
 EventEnds calls members spot old e r new before after = EndsAs (TellsAt calls members spot) (EndsAt calls members (StopsOne calls) spot) (EndsAt calls members (MayTell calls) spot) old e r new before after

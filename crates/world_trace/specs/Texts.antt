@@ -1,5 +1,5 @@
 -- What the trace of a world says of events, and of the programs and services of hosts, in JSON.
-use Rattle.std.specs.Prelude.{ℕ, ◌==◌, ◌-◌, Bool, true, false, if◌then◌else◌, List, [], ◌∷◌, ◌++◌, Option, Some, None, codes, length, map, take}
+use Rattle.std.specs.Prelude.{ℕ, ◌==◌, ◌-◌, true, false, if◌then◌else◌, List, [], ◌∷◌, ◌++◌, Option, Some, None, codes, length, map, take}
 use Rattle.std.specs.List.{flat_map}
 use Rattle.std.specs.Fmt.{decimal}
 use Rattle.hex.specs.Hex.{encode_upper}
@@ -185,11 +185,11 @@ services_text all = object (map services_member all)
 
 -- ---- lines
 
--- an event as a line of a script, within a string. Only a typed line can have an octet to escape
+-- an event as a line of a script, within a string. Only a typed line can have an octet to escape, and a quiet round is in no script
 abbrev pub event_text : WorldEvent → List ℕ
 event_text (world.Happen (event.Typed h text)) = codes "type " ++ (host_text h ++ (codes " " ++ escaped text))
 event_text (world.Happen (event.Net e)) = world_spelling (world.Happen (event.Net e))
-event_text (world.Happen event.Quiet) = world_spelling (world.Happen event.Quiet)
+event_text (world.Happen event.Quiet) = codes "quiet"
 event_text (world.Happen (event.Offer h)) = world_spelling (world.Happen (event.Offer h))
 event_text (world.Happen (event.Take h)) = world_spelling (world.Happen (event.Take h))
 event_text (world.Happen (event.Ask h r)) = world_spelling (world.Happen (event.Ask h r))
@@ -201,7 +201,7 @@ event_text (world.Calm rounds) = world_spelling (world.Calm rounds)
 abbrev pub state_members : List (List ℕ) → List (List ℕ) → List (List ℕ) → List (List ℕ)
 state_members parts programs services = member (codes "parts") (object parts) ∷ member (codes "programs") (object programs) ∷ member (codes "services") (object services) ∷ []
 
--- The line of an event, or of a round of a calm, without its end: where the script's event is; the round; the event, as a line of a
+-- The line of an event, or of an event of a calm, without its end: where the script's event is; the round, or 0; the event, as a line of a
 -- script; what crossed; the lines that a replay prints for it; and what of the state is other than before
 abbrev pub line_of : Spot → ℕ → List ℕ → List Crossing → List ℕ → List (List ℕ) → List ℕ
 line_of spot round event crossings printed state =

@@ -1,6 +1,7 @@
 -- What is written as the trace of a world, over any carrier whose inside can be traced.
 use Rattle.std.specs.Prelude.{◌≡◌, ◌⊎◌, ℕ, zero, suc, List, [], ◌∷◌, ◌++◌, Option, map}
 use Rattle.net_sim.specs.World.{WorldState}
+use Rattle.net_sim.specs.declared.event.Event.{Event}
 use Rattle.interface.specs.Calls.{Calls}
 use Rattle.replay.specs.InTurn.{EndsInTurn, Happening, InTurn}
 use Rattle.topology.specs.Topology.{TopologyFields}
@@ -8,7 +9,8 @@ use Rattle.trace.specs.Changes.{changed}
 use Rattle.trace.specs.Traces.{WritesTrace, numbered_from}
 use Rattle.trace.specs.declared.element.Spot.{Spot}
 use Rattle.world_replay.specs.Output.{Shown}
-use Rattle.world_replay.specs.Replay.{Happens, MayDo}
+use Rattle.world_replay.specs.Replay.{Happens, HappensInCalm, MayStep}
+use Rattle.world_replay.specs.Rounds.{EndsRound, RoundOf}
 use Rattle.world_script.specs.declared.event.WorldEvent.{WorldEvent}
 use Rattle.world_script.specs.declared.event.WorldEvent.TheVariants as world
 use Rattle.world_trace.specs.Texts.{opening_text, seat_member, services_member, state_members, world_line}
@@ -21,7 +23,7 @@ state_of members w = state_members (members w.carrier) (map seat_member w.seats)
 abbrev pub change_of : {C : Type 0} → (C → List (List ℕ)) → WorldState C → WorldState C → List (List ℕ)
 change_of members old new = state_members (changed (members old.carrier) (members new.carrier)) (changed (map seat_member old.seats) (map seat_member new.seats)) (changed (map services_member old.services) (map services_member new.services))
 
--- an event that is no calm, or one round of a calm, happens as in a replay and has one line, with what of the state is other than before
+-- an event that is no calm happens as in a replay and has one line, with what of the state is other than before
 abbrev pub TellsOne : {C : Type 0} → Calls C → (C → List (List ℕ)) → Spot → ℕ → Happening (WorldState C) WorldEvent (List ℕ)
 TellsOne calls members spot round old e new lines =
     (shown : List Shown) × (h : Happens calls old e new shown) × (lines ≡ world_line spot round e h.gains.crossings shown (change_of members old new) ∷ [])
@@ -32,18 +34,28 @@ pub record IsUnchanged {C : Type 0} (members : C → List (List ℕ)) (old new :
   pub programs : changed (map seat_member old.seats) (map seat_member new.seats) ≡ []
   pub services : changed (map services_member old.services) (map services_member new.services) ≡ []
 
--- a round that prints nothing and after which nothing is other than before. It has no line
-abbrev pub IsSilent : {C : Type 0} → Calls C → (C → List (List ℕ)) → WorldState C → WorldState C → List (List ℕ) → Type 0
-IsSilent calls members old new lines = Happens calls old (world.Calm 1) new [] × IsUnchanged members old new × (lines ≡ [])
+-- ---- a calm
 
--- any other round has one
-abbrev pub IsHeard : {C : Type 0} → Calls C → (C → List (List ℕ)) → Spot → Happening (WorldState C) ℕ (List ℕ)
-IsHeard calls members spot old round new lines =
-    (told : TellsOne calls members spot round old (world.Calm 1) new lines) × (told.0 ≡ [] → IsUnchanged members old new → ⊥)
+-- an event of a calm happens, in the round of this number, and has such a line. No refusal is in it
+abbrev pub TellsStep : {C : Type 0} → Calls C → (C → List (List ℕ)) → Spot → ℕ → Happening (WorldState C) Event (List ℕ)
+TellsStep calls members spot round old e new lines =
+    (shown : List Shown) × (h : HappensInCalm calls old e new shown) × (lines ≡ world_line spot round (world.Happen e) h.gains.crossings shown (change_of members old new) ∷ [])
 
--- a round of a calm, by its number
+-- it prints nothing and after it nothing is other than before. It has no line
+abbrev pub IsSilent : {C : Type 0} → Calls C → (C → List (List ℕ)) → Happening (WorldState C) Event (List ℕ)
+IsSilent calls members old e new lines = HappensInCalm calls old e new [] × IsUnchanged members old new × (lines ≡ [])
+
+-- any other has one
+abbrev pub IsHeard : {C : Type 0} → Calls C → (C → List (List ℕ)) → Spot → ℕ → Happening (WorldState C) Event (List ℕ)
+IsHeard calls members spot round old e new lines =
+    (told : TellsStep calls members spot round old e new lines) × (told.0 ≡ [] → IsUnchanged members old new → ⊥)
+
+abbrev pub TellsInCalm : {C : Type 0} → Calls C → (C → List (List ℕ)) → Spot → ℕ → Happening (WorldState C) Event (List ℕ)
+TellsInCalm calls members spot round old e new lines = IsSilent calls members old e new lines ⊎ IsHeard calls members spot round old e new lines
+
+-- a round of a calm, by its number: the quiet round of the network, and then the takings and the offers of each host that is up
 abbrev pub TellsRound : {C : Type 0} → Calls C → (C → List (List ℕ)) → Spot → Happening (WorldState C) ℕ (List ℕ)
-TellsRound calls members spot old round new lines = IsSilent calls members old new lines ⊎ IsHeard calls members spot old round new lines
+TellsRound calls members spot old round new lines = RoundOf (TellsInCalm calls members spot round) old new lines
 
 -- the numbers of this many rounds, counted from 1
 abbrev pub first_rounds : ℕ → List ℕ
@@ -67,25 +79,26 @@ TracesWorld calls members old events new lines = InTurn (TellsIn calls members) 
 abbrev pub AfterOpening : {C : Type 0} → (C → List (List ℕ)) → TopologyFields → WorldState C → (List (List ℕ) → Type 0) → List (List ℕ) → Type 0
 AfterOpening members t opening AreLines lines = (others : List (List ℕ)) × (lines ≡ opening_text t (state_of members opening) ∷ others) × AreLines others
 
--- ---- a trace that ends early, in an event or in a round
+-- ---- a trace that ends early, in an event of the script or of a calm
 
 -- the world processed it, whatever came of it, and it has no line
-abbrev pub MayTell : {C : Type 0} → Calls C → Happening (WorldState C) WorldEvent (List ℕ)
-MayTell calls old e new lines = (lines ≡ []) × MayDo calls old e new []
+abbrev pub MayTell : {C : Type 0} → Calls C → Happening (WorldState C) Event (List ℕ)
+MayTell calls old e new lines = (lines ≡ []) × MayStep calls old e new
 
 -- memory ran out before it happened, in it, or for its line
-abbrev pub StopsOne : {C : Type 0} → Calls C → Happening (WorldState C) WorldEvent (List ℕ)
+abbrev pub StopsOne : {C : Type 0} → Calls C → Happening (WorldState C) Event (List ℕ)
 StopsOne calls old e new lines = ((lines ≡ []) × (new ≡ old)) ⊎ MayTell calls old e new lines
 
--- the rounds before one had their lines, and that one went as is said
-abbrev pub EndsAt : {C : Type 0} → Calls C → (C → List (List ℕ)) → Happening (WorldState C) WorldEvent (List ℕ) → Spot → Happening (WorldState C) WorldEvent (List ℕ)
-EndsAt calls members Goes spot old (world.Happen e) new lines = Goes old (world.Happen e) new lines
-EndsAt calls members Goes spot old (world.Calm rounds) new lines = EndsInTurn (TellsRound calls members spot) (λ old round new lines. Goes old (world.Calm 1) new lines) old (first_rounds rounds) new lines
+-- the events of a calm before one had their lines, and that one went as is said. So did an event that is no calm
+abbrev pub EndsAt : {C : Type 0} → Calls C → (C → List (List ℕ)) → Happening (WorldState C) Event (List ℕ) → Spot → Happening (WorldState C) WorldEvent (List ℕ)
+EndsAt calls members Goes spot old (world.Happen e) new lines = Goes old e new lines
+EndsAt calls members Goes spot old (world.Calm rounds) new lines =
+    EndsInTurn (TellsRound calls members spot) (λ old round new lines. EndsRound (TellsInCalm calls members spot round) Goes old new lines) old (first_rounds rounds) new lines
 
-abbrev pub EndsIn : {C : Type 0} → Calls C → (C → List (List ℕ)) → Happening (WorldState C) WorldEvent (List ℕ) → Happening (WorldState C) (Spot × WorldEvent) (List ℕ)
+abbrev pub EndsIn : {C : Type 0} → Calls C → (C → List (List ℕ)) → Happening (WorldState C) Event (List ℕ) → Happening (WorldState C) (Spot × WorldEvent) (List ℕ)
 EndsIn calls members Goes old e new lines = EndsAt calls members Goes e.0 old e.1 new lines
 
-abbrev pub WorldTraceEnds : {C : Type 0} → Calls C → (C → List (List ℕ)) → Happening (WorldState C) WorldEvent (List ℕ) → WorldState C → List (ℕ × WorldEvent) → WorldState C → List (List ℕ) → Type 0
+abbrev pub WorldTraceEnds : {C : Type 0} → Calls C → (C → List (List ℕ)) → Happening (WorldState C) Event (List ℕ) → WorldState C → List (ℕ × WorldEvent) → WorldState C → List (List ℕ) → Type 0
 WorldTraceEnds calls members Goes old events new lines =
     EndsInTurn (TellsIn calls members) (EndsIn calls members Goes) old (numbered_from 1 events) new lines
 

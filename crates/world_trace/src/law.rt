@@ -5,6 +5,7 @@ ghost use Rattle.std.specs.Prelude.{◌≡◌};
 ghost use Rattle.net_sim.specs.World.{WorldState, opening_world};
 ghost use Rattle.trace.specs.Named.{IsHostNamed};
 ghost use Rattle.world_trace.specs.Carriers.{PlainCarriers, SubnetCarriers};
+ghost use Rattle.world_trace.specs.Laws.Calm.{CalmRound};
 ghost use Rattle.world_trace.specs.Told.{HaveSameTexts, IsWorldTold};
 
 use interface::Carrier;
@@ -16,6 +17,11 @@ pub fn whole<C: Carrier>()
 
     // so is each world at its opening whose hosts can be named
     ensures opening { (c : C) → All IsHostNamed (C.calls.seen c).hosts → IsWorldTold (opening_world C.calls c) }
+{}
+
+/// The events of a round that a trace has, with those that have no line, are a calm of one round as a replay lets it happen.
+pub fn calm<C: Carrier>()
+    ensures round { CalmRound C.calls }
 {}
 
 /// The carrier of a world is a raw network, to which events lead from its opening: the calls that its script makes by what crosses.

@@ -2,12 +2,14 @@
 //!
 //! [`trace_world`] lets each event of a world's script happen as a replay does, and prints a JSON object for each: the event, what
 //! it printed, and the state after it. That is all parts of the carrier, which is traced as a raw network is (crate `trace`), the
-//! program of each host with its pairs, ends and counters, and its services. A calm has one object for each of its rounds. The first
-//! line is the network with the state at the opening.
+//! program of each host with its pairs, ends and counters, and its services. A calm has one object for each of its events by which
+//! something is printed or changes: quiet rounds of the network, takings and offers. The first line is the network with the state at
+//! the opening.
 //!
 //! The texts are definitions (`specs/Texts.antt`), and each line is exactly that text of the state after its event.
 #![tactic(auto)]
 
+mod calm;
 mod commands;
 mod lasting;
 pub mod law;

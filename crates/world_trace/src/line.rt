@@ -31,7 +31,7 @@ fn print_hosts<C: Inspect, W: Output>(world: &World<C>, writer: &mut W) -> Resul
     )
 }
 
-/// Prints where an event is in a script, its round, and the event.
+/// Prints where an event is in a script, its round of a calm, and the event.
 fn print_head<W: Output>(
     spot: Spot,
     round: u32,
@@ -76,7 +76,7 @@ fn print_state<C: Inspect, W: Output>(world: &World<C>, writer: &mut W) -> Resul
     print_hosts(world, writer)
 }
 
-/// An event that has happened, or a round of a calm: the texts of its line.
+/// An event that has happened: the texts of its line.
 #[derive(Drop)]
 pub(crate) struct Passed {
     /// The event, within a string.
@@ -89,7 +89,7 @@ pub(crate) struct Passed {
     pub texts: Texts,
 }
 
-/// Prints the line of an event that has just happened in a world, or of a round of a calm. The state had these texts before it.
+/// Prints the line of an event that has just happened in a world, in this round of a calm, or 0. The state had these texts before it.
 pub(crate) fn print_line<C: Inspect, W: Output>(
     world: &World<C>,
     spot: Spot,

@@ -1,6 +1,6 @@
 //! Printing an event of a world as a line of a script, within a string.
 
-ghost use Rattle.std.specs.Prelude.{◌≡◌, OnOk, false};
+ghost use Rattle.std.specs.Prelude.{◌≡◌, IfOk, OnOk, false};
 ghost use Rattle.std.specs.List.{flat_map};
 ghost use Rattle.std.specs.Io.KnownBytes.{Appends};
 ghost use Rattle.replay.specs.Failing.{TellsFailure};
@@ -13,10 +13,10 @@ ghost use Rattle.world_trace.specs.Texts.{escaped, event_text, lines_octet, line
 use bit_messages::Bits;
 use interface::HostAddr;
 use net_sim::Event;
-use replay::{Output, WriteFailed, print_bits};
+use replay::{Output, Printer, WriteFailed, print_bits};
 use sockets::Request;
+use std::alloc::{AllocError, Global};
 use trace::print_net_event;
-use world_script::WorldEvent;
 
 /// Prints octets of a string, with a backslash before quotation marks and backslashes.
 fn print_escaped<W: Output>(octets: &[u8], writer: &mut W) -> Result<(), WriteFailed>
@@ -131,7 +131,7 @@ fn print_typed<W: Output>(host: &HostAddr, text: &[u8], writer: &mut W) -> Resul
     print_escaped(text, writer)
 }
 
-/// Prints something that may happen in a world. It prints nothing for a quiet round by itself, for which no script asks.
+/// Prints something that may happen in a world. A quiet round is an event of a calm, for which no script asks by itself.
 fn print_happening<W: Output>(event: &Event, writer: &mut W) -> Result<(), WriteFailed>
     requires { W.failed writer.old ≡ false }
     ensures written { OnOk result (Appends (W.contents writer.old) (W.contents writer.new) (event_text (world.Happen event.now))) }
@@ -139,7 +139,7 @@ fn print_happening<W: Output>(event: &Event, writer: &mut W) -> Result<(), Write
 {
     match event {
         Event::Net(event) => print_net_event(event, writer),
-        Event::Quiet => writer.write_all(b""),
+        Event::Quiet => writer.write_all(b"quiet"),
         Event::Offer(host) => write!(writer, "offer {host}"),
         Event::Take(host) => write!(writer, "take {host}"),
         Event::Ask(host, request) => print_request(host, request, writer),
@@ -154,14 +154,13 @@ fn print_happening<W: Output>(event: &Event, writer: &mut W) -> Result<(), Write
     }
 }
 
-/// Prints an event as a line of a script, without its end.
-pub(crate) fn print_event<W: Output>(event: &WorldEvent, writer: &mut W) -> Result<(), WriteFailed>
-    requires { W.failed writer.old ≡ false }
-    ensures written { OnOk result (Appends (W.contents writer.old) (W.contents writer.new) (event_text event.now)) }
-    ensures failed { TellsFailure result (W.failed writer.new) }
+/// Returns an event as a line of a script, within a string.
+pub(crate) fn spelled(alloc: Global, event: &Event) -> Result<Vec<u8>, AllocError>
+    ensures { IfOk result (λ text. text.items ≡ event_text (world.Happen event.now)) }
 {
-    match event {
-        WorldEvent::Happen(event) => print_happening(event, writer),
-        WorldEvent::Calm(rounds) => write!(writer, "calm {rounds}"),
+    let mut printer = Printer::new(Vec::new(alloc));
+    match print_happening(event, &mut printer) {
+        Ok(()) => Ok(printer.into_inner()),
+        Err(_) => Err(AllocError),
     }
 }

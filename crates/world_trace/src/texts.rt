@@ -1,6 +1,6 @@
 //! The texts of a world's state, and which of them have changed.
 
-ghost use Rattle.std.specs.Prelude.{◌≡◌, ◌↔◌, IfOk, OnOk, false, map, true};
+ghost use Rattle.std.specs.Prelude.{◌≡◌, ◌↔◌, IfOk, IfSome, OnOk, false, map, true};
 ghost use Rattle.std.specs.Io.KnownBytes.{Appends};
 ghost use Rattle.replay.specs.Failing.{TellsFailure};
 ghost use Rattle.world_trace.specs.Steps.{AreTextsOf, AreUnchanged, changed_end};
@@ -43,6 +43,21 @@ pub(crate) fn texts_of<C: Inspect>(alloc: Global, world: &World<C>) -> Result<Te
         programs: members_of(alloc, world.seats())?,
         services: members_of(alloc, world.services())?,
     })
+}
+
+/// Returns the texts of a world's state, which may be known.
+pub(crate) fn known_texts<C: Inspect>(
+    alloc: Global,
+    world: &World<C>,
+    known: Option<Texts>,
+) -> Result<Texts, AllocError>
+    requires { IfSome known (AreTextsOf C.inside.members world.now) }
+    ensures { IfOk result (AreTextsOf C.inside.members world.now) }
+{
+    match known {
+        Some(texts) => Ok(texts),
+        None => texts_of(alloc, world),
+    }
 }
 
 /// Returns whether all texts are as they were.

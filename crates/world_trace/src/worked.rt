@@ -5,13 +5,14 @@ ghost use Rattle.std.specs.Prelude.{◌≡◌, ℕ, List, [], ◌∷◌, None, S
 ghost use Rattle.ncp_control.specs.declared.command.Command.TheVariants as command;
 ghost use Rattle.net_sim.specs.Carriers.{shown};
 ghost use Rattle.net_sim.specs.World.{WorldState};
+ghost use Rattle.net_sim.specs.declared.event.Event.{Event};
 ghost use Rattle.net_sim.specs.declared.event.Event.TheVariants as event;
 ghost use Rattle.sockets.specs.Pairs.{NcpState, opening_state};
 ghost use Rattle.sockets.specs.Worked.{first, second};
-ghost use Rattle.world_script.specs.declared.event.WorldEvent.{WorldEvent};
+ghost use Rattle.trace.specs.declared.element.Spot.{Spot};
 ghost use Rattle.world_script.specs.declared.event.WorldEvent.TheVariants as world;
 ghost use Rattle.world_trace.specs.Texts.{command_object, event_text, lines_text, program_text};
-ghost use Rattle.world_trace.specs.Traces.{MayTell};
+ghost use Rattle.world_trace.specs.Traces.{EndsAt, MayTell};
 ghost use Rattle.world_trace.specs.Laws.WorkedPairs.{WorkedPairsCommands, WorkedPairsPair, WorkedPairsReceiver, WorkedPairsRefused};
 ghost use Rattle.world_trace.specs.Laws.WorkedHosts.{WorkedHostsRunning, WorkedHostsServer};
 
@@ -44,16 +45,16 @@ pub fn worked_lines()
     // what is typed can have octets to escape
     ensures typed { event_text (world.Happen (event.Typed first (codes "A\"\\"))) ≡ codes "type 0/1 A\\\"\\\\" }
     ensures offered { event_text (world.Happen (event.Offer second)) ≡ codes "offer 0/2" }
-    ensures round { event_text (world.Calm 1) ≡ codes "calm 1" }
+    ensures quiet { event_text (world.Happen event.Quiet) ≡ codes "quiet" }
 
     // a line feed ends a line, and no string is empty after the last one
     ensures lines { lines_text (codes "line 0/1 \"\nend\n") ≡ codes "[\"line 0/1 \\\"\",\"end\"]" }
     ensures nothing { lines_text [] ≡ codes "[]" }
 {}
 
-/// What is known of a world where a write failed: the event or round had happened, and its line is not among those that are known.
+/// What is known of a world where a write failed: the event had happened, and its line is not among those that are known.
 pub fn worked_failures<C: Carrier>()
-    // over no carrier does a calm of no rounds change anything
-    ensures nothing { (old new : WorldState C) (lines : List (List ℕ)) → MayTell (shown C.calls) old (world.Calm 0) new lines → new ≡ old }
-    ensures no_line { (old new : WorldState C) (e : WorldEvent) (line : List ℕ) → MayTell (shown C.calls) old e new (line ∷ []) → ⊥ }
+    // no write fails in a calm of no rounds
+    ensures nothing { (members : C → List (List ℕ)) (spot : Spot) (old new : WorldState C) (lines : List (List ℕ)) → EndsAt (shown C.calls) members (MayTell (shown C.calls)) spot old (world.Calm 0) new lines → ⊥ }
+    ensures no_line { (old new : WorldState C) (e : Event) (line : List ℕ) → MayTell (shown C.calls) old e new (line ∷ []) → ⊥ }
 {}

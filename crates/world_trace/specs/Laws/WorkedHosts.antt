@@ -1,5 +1,5 @@
 -- Programs and services.
-use Rattle.std.specs.Prelude.{◌≡◌, [], ◌∷◌, Some, codes, false}
+use Rattle.std.specs.Prelude.{◌≡◌, [], ◌∷◌, Some, codes}
 use Rattle.host_services.specs.declared.service.Service.TheVariants as service
 use Rattle.host_services.specs.Services.{no_services}
 use Rattle.icp.specs.Server.{opening_server}

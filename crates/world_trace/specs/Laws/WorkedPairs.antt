@@ -1,5 +1,5 @@
 -- Pairs, ends and commands.
-use Rattle.std.specs.Prelude.{◌≡◌, [], ◌∷◌, codes, true, false}
+use Rattle.std.specs.Prelude.{◌≡◌, [], ◌∷◌, codes, true}
 use Rattle.host_pairs.specs.Entries.{receiving_end, refused_end}
 use Rattle.host_pairs.specs.Pair.{opening_pair}
 use Rattle.ncp_control.specs.declared.phase.Phase.TheVariants as phase

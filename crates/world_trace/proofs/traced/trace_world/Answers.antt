@@ -1,4 +1,3 @@
-use Rattle.std.proofs.Common.{List, ℕ}
 use Rattle.net_sim.specs.Carriers.{shown}
 use Rattle.interface.specs.Calls.{Calls}
 use Rattle.replay.proofs.lemmas.{on_ok}

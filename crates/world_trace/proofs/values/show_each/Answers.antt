@@ -1,4 +1,4 @@
-use Rattle.std.proofs.Common.{◌≡◌, ◌+◌, List, ℕ, [], ◌∷◌, ◌++◌, ap, map, rules, subst, sym, take, ◌∙◌}
+use Rattle.std.proofs.Common.{◌≡◌, ◌+◌, List, ℕ, [], ◌∷◌, ◌++◌, ap, map, rules, sym, take, ◌∙◌}
 use Rattle.std.proofs.Output.{has_written_append, has_written_of_eq}
 use Rattle.world_trace.specs.Steps.{mark_after, marked}
 use Rattle.world_trace.proofs.Lists.{map_take, mark_more, marked_more}

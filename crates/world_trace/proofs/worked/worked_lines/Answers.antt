@@ -9,7 +9,3 @@ returns-clause-typed c = refl
 pub returns-clause-offered : goal.returns-clause-offered
 unfolding digits
 returns-clause-offered c = refl
-
-pub returns-clause-round : goal.returns-clause-round
-unfolding digits
-returns-clause-round c = refl

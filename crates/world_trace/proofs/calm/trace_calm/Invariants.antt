@@ -2,8 +2,8 @@ use Rattle.std.proofs.Common.{◌≡◌, ◌≤◌, false}
 use Rattle.net_sim.specs.Carriers.{shown}
 use Rattle.interface.specs.Calls.{Calls}
 use Rattle.world_trace.specs.Steps.{AreTextsOf}
-use Rattle.world_trace.proofs.Telling.{Passed}
-use Rattle.world_trace.proofs.traced.trace_calm.Given as goal
+use Rattle.world_trace.proofs.Calms.{Passed}
+use Rattle.world_trace.proofs.calm.trace_calm.Given as goal
 
 -- this many rounds have passed, and their lines are written; the texts are those of the state; no write has failed
 abbrev pub invariant-loop-passed : goal.invariant-loop-passed

@@ -1,0 +1,242 @@
+//! Tracing a calm of a world, event by event.
+
+ghost use Rattle.std.specs.Prelude.{◌≡◌, ◌↔◌, ◌++◌, [], IfErr, IfOk, IfSome, OnOk, false, length, map, true};
+ghost use Rattle.net_sim.specs.Carriers.{shown};
+ghost use Rattle.replay.specs.Failing.{TellsCannotWrite};
+ghost use Rattle.replay.specs.declared.print.Detail.TheVariants.{Sizes};
+ghost use Rattle.world_replay.specs.Rounds as events;
+ghost use Rattle.world_script.specs.declared.event.WorldEvent.TheVariants as world_event;
+ghost use Rattle.world_trace.specs.Steps as step;
+ghost use Rattle.world_trace.specs.Steps.{AgainEnds, AreTextsOf, AreUnchanged, EventEnds, IsAtRest, IsStill, RoundEnds, ShowsInCalm, StepEnds};
+ghost use Rattle.world_trace.specs.Traces.{MayTell};
+
+use crate::line::{Passed, print_line};
+use crate::spelling::spelled;
+use crate::texts::{Texts, are_unchanged, known_texts, texts_of};
+use interface::{Carrier, HostAddr};
+use net_sim::{Event, Seat, World};
+use replay::{Detail, Output, Printer, ReplayFault};
+use std::alloc::{AllocError, Global};
+use trace::{Inspect, Spot};
+use world_replay::replay_in_calm;
+
+/// How often a host takes in one round at most.
+const TAKINGS: u8 = 16;
+
+/// How often a host offers in one round at most.
+const OFFERS: u8 = 32;
+
+/// An event of a calm.
+#[derive(Clone, Copy)]
+pub(crate) enum CalmEvent {
+    /// A quiet round of the network.
+    Quiet,
+    /// A host takes what came for it.
+    Take(HostAddr),
+    /// A host's next message goes to the network.
+    Offer(HostAddr),
+}
+
+/// Returns an event of a calm as an event of a world.
+fn event_of(event: CalmEvent) -> Event
+    ensures { result ≡ step.event_of event }
+{
+    match event {
+        CalmEvent::Quiet => Event::Quiet,
+        CalmEvent::Take(host) => Event::Take(host),
+        CalmEvent::Offer(host) => Event::Offer(host),
+    }
+}
+
+/// Adds the events of a host, if it is up, each with how often it happens at most.
+fn add_turn(turns: &mut Vec<(CalmEvent, u8)>, seat: &Seat) -> Result<(), AllocError>
+    ensures { OnOk result (map step.turn turns.new.items ≡ map step.turn turns.old.items ++ step.turns_at seat.now) }
+{
+    if seat.program.is_none() {
+        return Ok(());
+    }
+    turns.push((CalmEvent::Take(seat.host), TAKINGS))?;
+    Ok(turns.push((CalmEvent::Offer(seat.host), OFFERS))?)
+}
+
+/// Returns the events of a round in which these are the seats, each with how often it happens at most.
+fn turns_in(alloc: Global, seats: &[Seat]) -> Result<Vec<(CalmEvent, u8)>, AllocError>
+    ensures { IfOk result (λ turns. map step.turn turns.items ≡ events.turns_in seats.now) }
+{
+    let mut turns = Vec::new(alloc);
+    turns.push((CalmEvent::Quiet, 1))?;
+    for seat in seats {
+        add_turn(&mut turns, seat)?;
+    }
+    Ok(turns)
+}
+
+/// Traces a calm round by round, until all have passed or the world rests. The rounds that are left then have no lines. The texts of the
+/// state may be known.
+pub(crate) fn trace_calm<C: Inspect, W: Output>(
+    alloc: Global,
+    world: &mut World<C>,
+    spot: Spot,
+    rounds: u32,
+    known: &mut Option<Texts>,
+    writer: &mut W,
+) -> Result<(), ReplayFault>
+    requires whole { W.failed writer.old ≡ false }
+    requires known { IfSome known.old (AreTextsOf C.inside.members world.old) }
+    ensures ends { EventEnds (shown C.calls) C.inside.members spot world.old (world_event.Calm rounds) result world.new (W.contents writer.old) (W.contents writer.new) }
+    ensures known { OnOk result (IfSome known.new (AreTextsOf C.inside.members world.new)) }
+    ensures failed { TellsCannotWrite result (W.failed writer.new) }
+{
+    if rounds == 0 {
+        return Ok(());
+    }
+    let mut texts = known_texts(alloc, world, known.take())?;
+    for passed in 0..rounds {
+        let before = count_crossings(world);
+        trace_round(alloc, world, spot, passed + 1, &mut texts, writer)?;
+        if has_calmed(world, before) {
+            *known = Some(texts);
+            return Ok(());
+        }
+    }
+    *known = Some(texts);
+    Ok(())
+}
+
+/// Returns how many crossings are in the book of a world.
+fn count_crossings<C: Carrier>(world: &World<C>) -> usize
+    ensures { result ≡ length world.now.kept.book.crossings }
+{
+    world.book().crossings().len()
+}
+
+/// Returns whether the events of more rounds of a calm are known to change nothing: nothing has crossed since the book had this many
+/// crossings, and the world rests.
+fn has_calmed<C: Carrier>(world: &World<C>, before: usize) -> bool
+    ensures { result ≡ true → IsAtRest C.calls world.now }
+{
+    count_crossings(world) == before && world.rests() && world.carrier().rests()
+}
+
+/// Lets the events of a round happen, and prints their lines. `texts` are those of the state.
+fn trace_round<C: Inspect, W: Output>(
+    alloc: Global,
+    world: &mut World<C>,
+    spot: Spot,
+    round: u32,
+    texts: &mut Texts,
+    writer: &mut W,
+) -> Result<(), ReplayFault>
+    requires whole { W.failed writer.old ≡ false }
+    requires known { AreTextsOf C.inside.members world.old texts.old }
+    ensures ends { RoundEnds (shown C.calls) C.inside.members spot world.old round result world.new (W.contents writer.old) (W.contents writer.new) }
+    ensures known { OnOk result (AreTextsOf C.inside.members world.new texts.new) }
+    ensures failed { TellsCannotWrite result (W.failed writer.new) }
+{
+    let turns = turns_in(alloc, world.seats())?;
+    for (event, times) in turns {
+        trace_again(alloc, world, spot, round, &event, times, texts, writer)?;
+    }
+    Ok(())
+}
+
+/// Lets an event of a calm happen again and again, at most this many times, until nothing crosses by it, and prints the lines.
+fn trace_again<C: Inspect, W: Output>(
+    alloc: Global,
+    world: &mut World<C>,
+    spot: Spot,
+    round: u32,
+    event: &CalmEvent,
+    times: u8,
+    texts: &mut Texts,
+    writer: &mut W,
+) -> Result<(), ReplayFault>
+    requires whole { W.failed writer.old ≡ false }
+    requires known { AreTextsOf C.inside.members world.old texts.old }
+    ensures ends { AgainEnds (shown C.calls) C.inside.members spot round world.old (step.turn (event.now, times)) result world.new (W.contents writer.old) (W.contents writer.new) }
+    ensures known { OnOk result (AreTextsOf C.inside.members world.new texts.new) }
+    ensures failed { TellsCannotWrite result (W.failed writer.new) }
+{
+    for _ in 0..times {
+        let before = count_crossings(world);
+        trace_step(alloc, world, spot, round, *event, texts, writer)?;
+        if count_crossings(world) <= before {
+            return Ok(());
+        }
+    }
+    Ok(())
+}
+
+/// Lets an event of a calm happen, and prints its line, unless it prints nothing and leaves all as it was. `texts` are those of the state.
+fn trace_step<C: Inspect, W: Output>(
+    alloc: Global,
+    world: &mut World<C>,
+    spot: Spot,
+    round: u32,
+    event: CalmEvent,
+    texts: &mut Texts,
+    writer: &mut W,
+) -> Result<(), ReplayFault>
+    requires whole { W.failed writer.old ≡ false }
+    requires known { AreTextsOf C.inside.members world.old texts.old }
+    ensures ends { StepEnds (shown C.calls) C.inside.members spot round world.old (step.event_of event) result world.new (W.contents writer.old) (W.contents writer.new) }
+    ensures known { OnOk result (AreTextsOf C.inside.members world.new texts.new) }
+    ensures failed { TellsCannotWrite result (W.failed writer.new) }
+{
+    let crossed = count_crossings(world);
+    let still = is_still(world, event);
+    let printed = happen_in_calm(alloc, world, event)?;
+    if still && count_crossings(world) <= crossed {
+        return Ok(());
+    }
+    let now = texts_of(alloc, world)?;
+    if is_silent(&printed, texts, &now) {
+        *texts = now;
+        return Ok(());
+    }
+    let passed = Passed {
+        event: spelled(alloc, &event_of(event))?,
+        crossed,
+        printed,
+        texts: now,
+    };
+    print_line(world, spot, round, texts, &passed, writer)?;
+    *texts = passed.texts;
+    Ok(())
+}
+
+/// Returns whether it is known that an event of a calm leaves all as it is if nothing crosses by it.
+fn is_still<C: Inspect>(world: &World<C>, event: CalmEvent) -> bool
+    ensures { result ≡ true → IsStill (shown C.calls) C.inside.members world.now (step.event_of event) }
+{
+    // for the proof only: what is refused changes no part
+    world.carrier().keeps();
+    match event {
+        CalmEvent::Quiet => false,
+        CalmEvent::Take(host) => world.carrier().is_still(&host),
+        CalmEvent::Offer(_) => true,
+    }
+}
+
+/// Returns whether an event printed nothing and left all as it was.
+fn is_silent(printed: &[u8], before: &Texts, now: &Texts) -> bool
+    ensures { (result ≡ true) ↔ ((printed.now ≡ []) × AreUnchanged before.now now.now) }
+{
+    printed.is_empty() && are_unchanged(before, now)
+}
+
+/// Lets an event of a calm happen. Returns the lines that a replay prints for it, without a refusal.
+fn happen_in_calm<C: Carrier>(
+    alloc: Global,
+    world: &mut World<C>,
+    event: CalmEvent,
+) -> Result<Vec<u8>, AllocError>
+    ensures shown { IfOk result (λ text. ShowsInCalm (shown C.calls) world.old (step.event_of event) world.new text.items) }
+    ensures memory { IfErr result (λ _. MayTell (shown C.calls) world.old (step.event_of event) world.new []) }
+{
+    let mut printer = Printer::new(Vec::new(alloc));
+    match replay_in_calm(world, event_of(event), Detail::Sizes, &mut printer) {
+        Ok(()) => Ok(printer.into_inner()),
+        Err(_) => Err(AllocError),
+    }
+}
