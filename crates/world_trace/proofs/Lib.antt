@@ -1,8 +1,10 @@
 mod Calms
+mod Carriers
 mod CommandTexts
 mod Ends
 mod Failures
 mod Fields
+mod Blocks
 mod Lines
 mod Lists
 mod Passing
