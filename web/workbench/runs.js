@@ -52,7 +52,7 @@ export const LIMITS = { seconds: 8, octets: 36_000_000 };
 const MOST_WITHIN = 8_000_000;
 
 /** The most lines of the trace of an input with host programs that are followed. */
-const MOST_STEPS = 12_000;
+const MOST_STEPS = 6_000;
 
 /**
  * Replays an input.
