@@ -1,4 +1,5 @@
 mod Calms
+mod Changing
 mod CommandTexts
 mod Ends
 mod Failures
