@@ -25,12 +25,14 @@ trait Lasting {
 
     /// Returns whether memory lasts in it.
     fn lasts(&self) -> bool
-        ensures { result ≡ true → told self.now };
+        ensures lasting { result ≡ true → told self.now }
+        ensures exact { told self.now → result ≡ true };
 }
 
 /// Returns whether memory lasts in each of these.
 fn all_last<T: Lasting>(items: &[T]) -> bool
-    ensures { result ≡ true → All T.told items.now }
+    ensures lasting { result ≡ true → All T.told items.now }
+    ensures exact { All T.told items.now → result ≡ true }
 {
     for item in items {
         if !item.lasts() {
@@ -268,6 +270,7 @@ fn pair_lasts(pair: &Pair) -> bool
     ensures busy { result ≡ true → All IsShort pair.now.busy }
     ensures ends { result ≡ true → All told.IsEndTold pair.now.entries }
     ensures commands { result ≡ true → All told.IsCommandTold pair.now.queue }
+    ensures exact { All IsShort pair.now.busy → All told.IsEndTold pair.now.entries → All told.IsCommandTold pair.now.queue → result ≡ true }
 {
     if !all_last(&pair.busy) {
         return false;
@@ -299,7 +302,8 @@ impl Lasting for Listener {
 
 /// Returns whether a program is of this host, and memory lasts in it.
 fn program_lasts(host: &HostAddr, program: &Ncp) -> bool
-    ensures { result ≡ true → IsProgramTold host.now program.now }
+    ensures lasting { result ≡ true → IsProgramTold host.now program.now }
+    ensures exact { IsProgramTold host.now program.now → result ≡ true }
 {
     program.own() == *host
         && !program.is_spent()
@@ -416,7 +420,8 @@ impl Lasting for ServiceSeat {
 /// Returns whether memory lasts in all programs and services of a world. While it lasts in the world too, the texts of these then
 /// say all of them ([`crate::law::whole`]).
 pub fn lasts<C: Carrier>(world: &World<C>) -> bool
-    ensures { result ≡ true → world.now.stopped ≡ false → IsWorldTold world.now }
+    ensures lasting { result ≡ true → world.now.stopped ≡ false → IsWorldTold world.now }
+    ensures exact { IsWorldTold world.now → result ≡ true }
 {
     all_last(world.seats()) && all_last(world.services())
 }
