@@ -24,7 +24,7 @@ use Rattle.replay.specs.declared.print.Detail.TheVariants.{Sizes}
 use Rattle.world_replay.specs.Output.{Shown, output}
 use Rattle.world_replay.specs.Replay.{Happens, HappensInCalm}
 use Rattle.world_replay.specs.Rounds.{Again, EndsAgain, EndsRound, turn_of}
-use Rattle.world_trace.specs.Texts.{allocation_object, asked_object, closings_object, ends_object, event_text, line_of, lines_text, number_text, requests_object, seat_member, services_member, sockets_object, state_members}
+use Rattle.world_trace.specs.Texts.{allocation_object, asked_object, closings_object, ends_object, event_text, line_of, lines_text, number_text, requests_object, seat_member, services_member, sockets_object}
 use Rattle.world_script.specs.declared.event.WorldEvent.{WorldEvent}
 use Rattle.world_script.specs.declared.event.WorldEvent.TheVariants as world
 use Rattle.world_trace.specs.declared.calm.CalmEvent.{CalmEvent}

@@ -1,4 +1,4 @@
-use Rattle.std.proofs.Common.{◌≡◌, ◌<◌, ◌≤◌, ◌⊎◌, ◌∙◌, [], inl, inr, Err, List, Option, Bool, false, length, ℕ, ap, ap₂, arith, map, rules, subst, sym}
+use Rattle.std.proofs.Common.{◌≡◌, ◌<◌, ◌≤◌, ◌⊎◌, ◌∙◌, [], inl, inr, Err, List, Option, length, ℕ, ap, ap₂, arith, map, rules, subst, sym}
 use Rattle.interface.specs.Host.{Host}
 use Rattle.net_sim.specs.Carriers.{shown}
 use Rattle.net_sim.specs.World.{WorldState}
@@ -7,7 +7,7 @@ use Rattle.interface.specs.Calls.{Calls}
 use Rattle.replay.specs.declared.events.ReplayFault.TheVariants as fault
 use Rattle.trace.specs.Changes.{changed}
 use Rattle.world_script.specs.declared.event.WorldEvent.TheVariants as world
-use Rattle.world_trace.specs.Steps.{AreOthers, AreTextsOf, StepEnds, at_host, event_of, host_of, seat_place, service_place}
+use Rattle.world_trace.specs.Steps.{AreOthers, AreTextsOf, StepEnds, at_host, event_of, seat_place, service_place}
 use Rattle.world_trace.specs.Texts.{event_text, seat_member, services_member}
 use Rattle.world_trace.specs.Traces.{StopsOne}
 use Rattle.world_trace.specs.declared.texts.Texts.{Texts}
