@@ -1,4 +1,4 @@
-pub mod AtHosts
+mod AtHosts
 pub mod CalmRounds
 mod CalmEvents
 mod Counting

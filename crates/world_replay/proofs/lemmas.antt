@@ -1,5 +1,4 @@
 -- The lemmas of this crate that others may use: the proofs of command_line and world_trace do. All others in proofs/ are its own.
-pub use Rattle.world_replay.proofs.AtHosts
 pub use Rattle.world_replay.proofs.CalmRounds
 pub use Rattle.world_replay.proofs.Driven
 pub use Rattle.world_replay.proofs.Grown.{at_seat, if_stopped, one_crossed}

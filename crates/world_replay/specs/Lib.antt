@@ -1,3 +1,4 @@
+pub mod Apart
 pub mod Driven
 pub mod Gains
 pub mod Output

@@ -8,6 +8,7 @@ ghost use Rattle.world_replay.specs.Output.{Shown};
 ghost use Rattle.world_replay.specs.Replay.{Happens, Replays, rounds_of};
 ghost use Rattle.world_script.specs.declared.event.WorldEvent.TheVariants.{Calm};
 ghost use Rattle.world_replay.specs.Laws.OneReplay.{OneReplayFirstPart, OneReplaySame};
+ghost use Rattle.world_replay.specs.Laws.Apart.{ApartOthers, ApartSilent};
 ghost use Rattle.world_replay.specs.Laws.Calm.{CalmEvents, CalmTurns, CalmWhole};
 ghost use Rattle.world_replay.specs.Laws.Driven.{DrivenEvent, DrivenWhole};
 
@@ -40,4 +41,13 @@ pub fn driven<C: Carrier>()
 
     // so does a whole replay: the carrier is what these calls make of it, and what crosses by them is what the book gains
     ensures whole { DrivenWhole C.calls }
+{}
+
+/// An event at a host concerns no other one, and an event of a calm by which nothing crosses concerns no host.
+pub fn apart<C: Carrier>()
+    // programs and services of all others are as they were
+    ensures others { ApartOthers C.calls }
+
+    // and where nothing crosses nothing but the carrier changes
+    ensures silent { ApartSilent C.calls }
 {}

@@ -14,6 +14,7 @@ ghost use Rattle.host_pairs.specs.declared.notice.Notice.TheVariants as notice;
 ghost use Rattle.host_services.specs.declared.report.Report.TheVariants as report;
 ghost use Rattle.icp.specs.declared.outcome.Failure.TheVariants as failure;
 ghost use Rattle.icp.specs.declared.outcome.Outcome.TheVariants as outcome;
+ghost use Rattle.world_replay.specs.Apart.{IsAt};
 ghost use Rattle.world_replay.specs.Driven.{Drive, Goes, IsCourse, Makes, Raw, Round};
 ghost use Rattle.world_replay.specs.Output.{Crossed, Noticed, Refused, Said, Shown, lives_output, notices_of, reports_of, shown_in_turn, told_in_turn};
 ghost use Rattle.world_replay.specs.Printed.{life_text, notice_text, refusal_text, report_text};
@@ -168,4 +169,8 @@ pub fn worked_drives()
 
     // a calm has its quiet rounds
     ensures calm { ¬ (IsCourse (Calm 1) []) }
+
+    // an event at one host is at no other, and a quiet round at none
+    ensures at { ¬ (IsAt first (event.Take second)) }
+    ensures nowhere { ¬ (IsAt first event.Quiet) }
 {}

@@ -1,8 +1,11 @@
 mod Calms
+mod Carriers
+mod Changing
 mod CommandTexts
 mod Ends
 mod Failures
 mod Fields
+mod Blocks
 mod Lines
 mod Lists
 mod Passing

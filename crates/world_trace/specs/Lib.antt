@@ -1,3 +1,4 @@
+pub mod Carriers
 pub mod Steps
 pub mod Texts
 pub mod Told

@@ -4,13 +4,14 @@ ghost use Rattle.std.specs.List.{All};
 ghost use Rattle.std.specs.Prelude.{◌≡◌};
 ghost use Rattle.net_sim.specs.World.{WorldState, opening_world};
 ghost use Rattle.trace.specs.Named.{IsHostNamed};
+ghost use Rattle.world_trace.specs.Carriers.{PlainCarriers, SubnetCarriers};
 ghost use Rattle.world_trace.specs.Laws.Calm.{CalmRound};
 ghost use Rattle.world_trace.specs.Told.{HaveSameTexts, IsWorldTold};
 
 use interface::Carrier;
 
 /// The texts of programs and services say all of a world but its carrier, which has parts of its own, and what is kept: two worlds of the same hosts
-/// with the same texts differ in nothing else. That each world to which a replay comes is one of which `IsWorldTold` holds isn't proved.
+/// with the same texts differ in nothing else. Of a world at hand [`crate::lasts`] says whether `IsWorldTold` holds.
 pub fn whole<C: Carrier>()
     ensures texts { (one other : WorldState C) → IsWorldTold one → IsWorldTold other → HaveSameTexts one other → other ≡ record one { carrier = other.carrier; kept = other.kept } }
 
@@ -21,4 +22,11 @@ pub fn whole<C: Carrier>()
 /// The events of a round that a trace has, with those that have no line, are a calm of one round as a replay lets it happen.
 pub fn calm<C: Carrier>()
     ensures round { CalmRound C.calls }
+{}
+
+/// The carrier of a world is a raw network, to which events lead from its opening: the calls that its script makes by what crosses.
+/// Its log is that of the book.
+pub fn carriers()
+    ensures plain { PlainCarriers }
+    ensures subnets { SubnetCarriers }
 {}

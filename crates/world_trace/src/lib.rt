@@ -11,6 +11,7 @@
 
 mod calm;
 mod commands;
+mod lasting;
 pub mod law;
 mod line;
 mod pairs;
@@ -21,4 +22,5 @@ mod traced;
 mod values;
 pub mod worked;
 
+pub use lasting::lasts;
 pub use traced::trace_world;
