@@ -1,5 +1,6 @@
 mod Calms
 mod Carriers
+mod Changing
 mod CommandTexts
 mod Ends
 mod Failures

@@ -106,3 +106,14 @@ pub first_printed : (carrier raw imps lines parts programs services : List ℕ) 
 first_printed carrier raw imps lines parts programs services a b c first last =
     subst (Appends a c) (first_pieces carrier raw imps lines parts programs services ∙ first_words carrier raw imps lines parts programs services ∙ sym (first_end carrier raw imps lines parts programs services) ∙ first_object carrier raw imps lines parts programs services)
     (appends_more a b c (front carrier raw imps lines) (parts ++ hosts programs services) first last)
+
+-- ---- the end of a line
+
+pub objects_printed : (parts programs services : List ℕ) (a b c d e f g : Option (List ℕ)) → Appends a b parts → Appends b c (codes ",\"programs\":") → Appends c d programs → Appends d e (codes ",\"services\":") → Appends e f services → Appends f g (codes "}\n")
+    → Appends a g (parts ++ hosts programs services)
+objects_printed parts programs services a b c d e f g first second third fourth fifth last =
+    appends_more a b g parts (codes ",\"programs\":" ++ (programs ++ (codes ",\"services\":" ++ (services ++ codes "}\n")))) first
+    (appends_more b c g (codes ",\"programs\":") (programs ++ (codes ",\"services\":" ++ (services ++ codes "}\n"))) second
+    (appends_more c d g programs (codes ",\"services\":" ++ (services ++ codes "}\n")) third
+    (appends_more d e g (codes ",\"services\":") (services ++ codes "}\n") fourth
+    (appends_more e f g services (codes "}\n") fifth last))))

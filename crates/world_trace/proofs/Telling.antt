@@ -1,5 +1,6 @@
 -- Events are traced one after the other, and one of them may be the last.
-use Rattle.std.proofs.Common.{◌≡◌, inl, inr, ℕ, suc, ◌+◌, List, [], ◌∷◌, ◌++◌, drop, get_or, length, reverse, Option, Some, Result, Ok, Err, arith, refl, sym, ap, ap₂, map, subst, ◌∙◌}
+use Rattle.std.proofs.Common.{Bool, true, false, nat_lt, lt-ltb, ◌≡◌, ◌⊎◌, inl, inr, ℕ, suc, ◌<◌, ◌+◌, List, [], ◌∷◌, ◌++◌, drop, get_or, length, reverse, Option, Some, Result, Ok, Err, arith, refl, sym, ap, ap₂, map, subst, ◌∙◌}
+use Rattle.std.proofs.lemmas.Bool.{false≢true}
 use Rattle.std.proofs.lemmas.List.{append_assoc, append-nil, length-append, length-reverse, reverse-append, reverse-reverse}
 use Rattle.std.proofs.Math.Seq.{drop-append_seam}
 use Rattle.std.specs.Io.KnownBytes.{Appends}
@@ -16,17 +17,22 @@ use Rattle.script.specs.Input.{ended_line}
 use Rattle.topology.specs.Topology.{TopologyFields}
 use Rattle.trace.specs.Traces.{WritesTrace, numbered_from}
 use Rattle.trace.specs.declared.element.Spot.{Spot}
-use Rattle.world_replay.specs.Output.{Shown, Writes, output, shown_text}
-use Rattle.world_replay.proofs.lemmas.Replays.{gains_once, same_news}
+use Rattle.world_replay.specs.Output.{Shown, Writes, crossings_of, output}
+use Rattle.world_replay.proofs.lemmas.Replays.{HaveGains, gains_once, news_gained, same_news}
 use Rattle.world_replay.specs.Gains.{Gains}
 use Rattle.world_replay.specs.Replay.{EndsIn, EventGives, Happens, HappensInCalm, MayDo, MayStep, Replays, StopsIn}
 use Rattle.world_script.specs.declared.event.WorldEvent.{WorldEvent}
 use Rattle.world_script.specs.declared.event.WorldEvent.TheVariants as world
-use Rattle.world_trace.specs.Steps.{AreTextsOf, AreUnchanged, EventEnds, HasPassed, IsAsBefore, OneEnds, Shows, ShowsInCalm, StepEnds, changed_texts}
-use Rattle.world_trace.specs.Texts.{event_text, line_of, opening_text, seat_member, services_member, state_members, world_line}
+use Rattle.world_trace.specs.Steps.{AreChanged, AreChanges, AreTextsOf, EventEnds, HasPassed, IsAsBefore, OneEnds, Shows, ShowsInCalm, StepEnds, passed_line, state_objects}
+use Rattle.world_trace.specs.Texts.{event_text, line_of, opening_text, seat_member, services_member, world_line}
+use Rattle.world_trace.specs.declared.line.Passed.{Passed}
+use Rattle.world_trace.specs.declared.texts.Changes.{Changes}
 use Rattle.world_trace.specs.declared.texts.Texts.{Texts}
 use Rattle.trace.specs.Changes.{changed}
 use Rattle.trace.proofs.lemmas.{none_changed}
+use Rattle.trace.specs.Texts.{object}
+use Rattle.net_sim.specs.Carriers.{shown}
+use Rattle.world_trace.proofs.Stays.{IsQuiet}
 use Rattle.world_trace.specs.Traces.{AfterOpening, IsUnchanged, MayTell, StopsOne, TellsInCalm, TellsOne, change_of, state_of}
 
 -- ---- one event
@@ -98,77 +104,74 @@ one_line line IsLine a b is written = record { shown = line ∷ []; is_shown = i
 pub no_line : (AreLines : List (List ℕ) → Type 0) (a : Option (List ℕ)) → AreLines [] → WritesTrace AreLines a a
 no_line AreLines a is = record { shown = []; is_shown = is; written = appends_none a }
 
--- the texts of two states say what of the later one is other than before
-same_change : {C : Type 0} (members : C → List (List ℕ)) (old new : WorldState C) (before texts : Texts) → AreTextsOf members old before → AreTextsOf members new texts → changed_texts before texts ≡ change_of members old new
-same_change members old new before texts h k =
-    ap₂ (λ (a b : List (List ℕ)). state_members (changed a b) (changed before.programs texts.programs) (changed before.services texts.services)) h.parts k.parts
-    ∙ ap₂ (λ (a b : List (List ℕ)). state_members (changed (members old.carrier) (members new.carrier)) (changed a b) (changed before.services texts.services)) h.programs k.programs
-    ∙ ap₂ (λ (a b : List (List ℕ)). state_members (changed (members old.carrier) (members new.carrier)) (changed (map seat_member old.seats) (map seat_member new.seats)) (changed a b)) h.services k.services
-
-unchanged : {C : Type 0} (members : C → List (List ℕ)) (old new : WorldState C) (before texts : Texts) → AreTextsOf members old before → AreTextsOf members new texts → AreUnchanged before texts → IsUnchanged members old new
-unchanged members old new before texts h k u =
-    record { parts = sym (ap₂ changed h.parts k.parts) ∙ u.parts; programs = sym (ap₂ changed h.programs k.programs) ∙ u.programs; services = sym (ap₂ changed h.services k.services) ∙ u.services }
-
-texts_unchanged : {C : Type 0} (members : C → List (List ℕ)) (old new : WorldState C) (before texts : Texts) → AreTextsOf members old before → AreTextsOf members new texts → IsUnchanged members old new → AreUnchanged before texts
-texts_unchanged members old new before texts h k u =
-    record { parts = ap₂ changed h.parts k.parts ∙ u.parts; programs = ap₂ changed h.programs k.programs ∙ u.programs; services = ap₂ changed h.services k.services ∙ u.services }
+-- what the texts of two states have that is other than before
+pub changes_are : {C : Type 0} (members : C → List (List ℕ)) (old new : WorldState C) (before texts : Texts) (c : Changes) → AreTextsOf members old before → AreTextsOf members new texts → AreChanged before texts c → AreChanges members old new c.parts.items c.programs.items c.services.items
+changes_are members old new before texts c h k are = record {
+  parts_are = are.parts ∙ ap object (ap₂ changed h.parts k.parts);
+  programs_are = are.programs ∙ ap object (ap₂ changed h.programs k.programs);
+  services_are = are.services ∙ ap object (ap₂ changed h.services k.services);
+}
 
 -- the line of an event
-line_is : {C : Type 0} (members : C → List (List ℕ)) (spot : Spot) (round : ℕ) (old new : WorldState C) (e : WorldEvent) (event printed : List ℕ) (before texts : Texts) (crossed : ℕ) (shown : List Shown) (gains : Gains old.kept new.kept)
-    → event ≡ event_text e → printed ≡ output Sizes shown → crossed ≡ length old.kept.book.crossings → AreTextsOf members old before → AreTextsOf members new texts
-    → line_of spot round event (drop crossed (reverse new.kept.book.crossings)) printed (changed_texts before texts) ≡ world_line spot round e gains.crossings shown (change_of members old new)
-line_is members spot round old new e event printed before texts crossed shown gains named says count was state =
-    let change : List (List ℕ) = changed_texts before texts in
+line_is : {C : Type 0} (members : C → List (List ℕ)) (spot : Spot) (round : ℕ) (old new : WorldState C) (e : WorldEvent) (event printed parts programs services : List ℕ) (crossed : ℕ) (shown : List Shown) (gains : Gains old.kept new.kept)
+    → event ≡ event_text e → printed ≡ output Sizes shown → crossed ≡ length old.kept.book.crossings → AreChanges members old new parts programs services
+    → line_of spot round event (drop crossed (reverse new.kept.book.crossings)) printed (state_objects parts programs services) ≡ world_line spot round e gains.crossings shown (change_of members old new)
+line_is members spot round old new e event printed parts programs services crossed shown gains named says count are =
+    let change : List (List ℕ) = state_objects parts programs services in
     let crossings : drop crossed (reverse new.kept.book.crossings) ≡ gains.crossings =
     ap (λ n. drop n (reverse new.kept.book.crossings)) count ∙ crossings_gained old.kept.book.crossings new.kept.book.crossings gains.crossings gains.crossed in
+    let new_parts : List ℕ = object (changed (members old.carrier) (members new.carrier)) in
+    let new_programs : List ℕ = object (changed (map seat_member old.seats) (map seat_member new.seats)) in
+    let state : change ≡ change_of members old new =
+    ap (λ (t : List ℕ). state_objects t programs services) are.parts_are ∙ ap (λ (t : List ℕ). state_objects new_parts t services) are.programs_are ∙ ap (λ (t : List ℕ). state_objects new_parts new_programs t) are.services_are in
     ap (λ (cs : List Crossing). line_of spot round event cs printed change) crossings
     ∙ ap (λ (t : List ℕ). line_of spot round t gains.crossings printed change) named
     ∙ ap (λ (p : List ℕ). line_of spot round (event_text e) gains.crossings p change) says
-    ∙ ap (λ (s : List (List ℕ)). world_line spot round e gains.crossings shown s) (same_change members old new before texts was state)
+    ∙ ap (λ (s : List (List ℕ)). world_line spot round e gains.crossings shown s) state
 
-pub tells : {C : Type 0} (calls : Calls C) (members : C → List (List ℕ)) (spot : Spot) (old new : WorldState C) (e : Event) (event printed : List ℕ) (before texts : Texts) (crossed : ℕ) (a b : Option (List ℕ))
-    → HasPassed calls members old e new event crossed printed texts → AreTextsOf members old before
-    → Appends a b (ended_line (line_of spot 0 event (drop crossed (reverse new.kept.book.crossings)) printed (changed_texts before texts))) → OneEnds calls members spot old e (Ok tt) new a b
-tells {C} calls members spot old new e event printed before texts crossed a b h was written =
+pub tells : {C : Type 0} (calls : Calls C) (members : C → List (List ℕ)) (spot : Spot) (old new : WorldState C) (e : Event) (p : Passed) (a b : Option (List ℕ)) → HasPassed calls members old e new p
+    → Appends a b (ended_line (passed_line spot 0 new p)) → OneEnds calls members spot old e (Ok tt) new a b
+tells {C} calls members spot old new e p a b h written =
     let (shown, happens, says) = h.shows in
     one_line (world_line spot 0 (world.Happen e) happens.gains.crossings shown (change_of members old new)) (TellsOne calls members spot 0 old (world.Happen e) new) a b (shown, happens, refl)
-    (subst (λ (line : List ℕ). Appends a b (ended_line line)) (line_is members spot 0 old new (world.Happen e) event printed before texts crossed shown happens.gains h.event says h.crossed was h.state) written)
+    (subst (λ (line : List ℕ). Appends a b (ended_line line))
+    (line_is members spot 0 old new (world.Happen e) p.event.items p.printed.items p.changes.parts.items p.changes.programs.items p.changes.services.items p.crossed shown happens.gains h.event says h.crossed h.changes) written)
 
 -- it may have happened, too, where its line was not written
-pub passed_may : {C : Type 0} (calls : Calls C) (members : C → List (List ℕ)) (old new : WorldState C) (e : Event) (event printed : List ℕ) (texts : Texts) (crossed : ℕ) → HasPassed calls members old e new event crossed printed texts → MayTell calls old e new []
-passed_may calls members old new e event printed texts crossed h = let (shown, happens, says) = h.shows in (refl, (happens.outcome, happens.gives))
+pub passed_may : {C : Type 0} (calls : Calls C) (members : C → List (List ℕ)) (old new : WorldState C) (e : Event) (p : Passed) → HasPassed calls members old e new p → MayTell calls old e new []
+passed_may calls members old new e p h = let (shown, happens, says) = h.shows in (refl, (happens.outcome, happens.gives))
 
 -- ---- an event of a calm
 
--- lines that are no text are no lines
-none_shown : (shown : List Shown) → output Sizes shown ≡ [] → shown ≡ []
-none_shown [] is = refl
-none_shown (s ∷ shown) is =
-    let long : length (ended_line (shown_text Sizes s) ++ output Sizes shown) ≡ 0 = ap length is in
-    let first : length (ended_line (shown_text Sizes s) ++ output Sizes shown) ≡ length (ended_line (shown_text Sizes s)) + length (output Sizes shown) = length-append (ended_line (shown_text Sizes s)) (output Sizes shown) in
-    let end : length (ended_line (shown_text Sizes s)) ≡ length (shown_text Sizes s) + 1 = length-append (shown_text Sizes s) (10 ∷ []) in
-    absurd (omega (arith, long, first, end))
+-- where something crossed a line is shown
+shown_crossed : {C : Type 0} (calls : Calls C) (old new : WorldState C) (e : Event) (shown : List Shown) → HappensInCalm calls old e new shown → length old.kept.book.crossings < length new.kept.book.crossings → shown ≡ [] → ⊥
+shown_crossed calls old new e shown h more none =
+    let all : HaveGains old.kept new.kept shown = subst (HaveGains old.kept new.kept) (sym h.lines) (news_gained old.kept new.kept h.gains) in
+    let same : new.kept.book.crossings ≡ old.kept.book.crossings = all.crossed ∙ ap (λ (ls : List Shown). reverse (crossings_of ls) ++ old.kept.book.crossings) none in
+    let long : length new.kept.book.crossings ≡ length old.kept.book.crossings = ap length same in
+    absurd (omega (arith, more, long))
 
--- one that prints nothing and leaves all as it was
-pub step_silent : {C : Type 0} (calls : Calls C) (members : C → List (List ℕ)) (spot : Spot) (round : ℕ) (old new : WorldState C) (e : Event) (printed : List ℕ) (before texts : Texts) (a : Option (List ℕ))
-    → ShowsInCalm calls old e new printed → AreTextsOf members old before → AreTextsOf members new texts → printed ≡ [] → AreUnchanged before texts → StepEnds calls members spot round old e (Ok tt) new a a
-step_silent {C} calls members spot round old new e printed before texts a (shown, happens, says) was state none same =
-    let nothing : shown ≡ [] = none_shown shown (sym says ∙ none) in
-    no_line (TellsInCalm calls members spot round old e new) a (inl (
-      subst (λ (ls : List Shown). HappensInCalm calls old e new ls) nothing happens,
-      unchanged members old new before texts was state same,
-      refl,
-    ))
+-- whether members are other than before
+pub none_changed_by : (r : Bool) (xs : List (List ℕ)) → r ≡ nat_lt 0 (length xs) → r ≡ false → xs ≡ []
+none_changed_by r [] said is = refl
+none_changed_by r (x ∷ xs) said is = absurd (false≢true (sym is ∙ said ∙ lt-ltb 0 (suc (length xs)) (omega arith)))
 
--- any other
-pub step_heard : {C : Type 0} (calls : Calls C) (members : C → List (List ℕ)) (spot : Spot) (round : ℕ) (old new : WorldState C) (e : Event) (event printed : List ℕ) (before texts : Texts) (crossed : ℕ) (a b : Option (List ℕ))
-    → ShowsInCalm calls old e new printed → event ≡ event_text (world.Happen e) → crossed ≡ length old.kept.book.crossings → AreTextsOf members old before → AreTextsOf members new texts → (printed ≡ [] → AreUnchanged before texts → ⊥)
-    → Appends a b (ended_line (line_of spot round event (drop crossed (reverse new.kept.book.crossings)) printed (changed_texts before texts))) → StepEnds calls members spot round old e (Ok tt) new a b
-step_heard {C} calls members spot round old new e event printed before texts crossed a b (shown, happens, says) named count was state heard written =
+pub is_changed : (r : Bool) (xs : List (List ℕ)) → r ≡ nat_lt 0 (length xs) → r ≡ true → xs ≡ [] → ⊥
+is_changed r xs said is none = absurd (false≢true (sym (said ∙ ap (λ (ys : List (List ℕ)). nat_lt 0 (length ys)) none) ∙ is))
+
+-- an event by which something crosses, or a part changes
+pub step_heard : {C : Type 0} (calls : Calls C) (members : C → List (List ℕ)) (spot : Spot) (round : ℕ) (old new : WorldState C) (e : Event) (event printed parts programs services : List ℕ) (crossed : ℕ) (a b : Option (List ℕ))
+    → ShowsInCalm calls old e new printed → event ≡ event_text (world.Happen e) → crossed ≡ length old.kept.book.crossings → AreChanges members old new parts programs services
+    → (length old.kept.book.crossings < length new.kept.book.crossings) ⊎ (changed (members old.carrier) (members new.carrier) ≡ [] → ⊥)
+    → Appends a b (ended_line (line_of spot round event (drop crossed (reverse new.kept.book.crossings)) printed (state_objects parts programs services))) → StepEnds calls members spot round old e (Ok tt) new a b
+step_heard {C} calls members spot round old new e event printed parts programs services crossed a b (shown, happens, says) named count are some written =
     let line : List ℕ = world_line spot round (world.Happen e) happens.gains.crossings shown (change_of members old new) in
-    one_line line (TellsInCalm calls members spot round old e new) a b
-    (inr ((shown, happens, refl), λ none same. heard (says ∙ ap (output Sizes) none) (texts_unchanged members old new before texts was state same)))
-    (subst (λ (line : List ℕ). Appends a b (ended_line line)) (line_is members spot round old new (world.Happen e) event printed before texts crossed shown happens.gains named says count was state) written)
+    one_line line (TellsInCalm calls members spot round old e new) a b (inr ((shown, happens, refl), λ none same. heard none same some))
+    (subst (λ (line : List ℕ). Appends a b (ended_line line)) (line_is members spot round old new (world.Happen e) event printed parts programs services crossed shown happens.gains named says count are) written)
+  where
+    heard : shown ≡ [] → IsUnchanged members old new → (length old.kept.book.crossings < length new.kept.book.crossings) ⊎ (changed (members old.carrier) (members new.carrier) ≡ [] → ⊥) → ⊥
+    heard none same (inl more) = shown_crossed calls old new e shown happens more none
+    heard none same (inr other) = other same.parts
 
 pub step_may : {C : Type 0} (calls : Calls C) (old new : WorldState C) (e : Event) (printed : List ℕ) → ShowsInCalm calls old e new printed → MayTell calls old e new []
 step_may calls old new e printed (shown, happens, says) = (refl, (happens.outcome, happens.gives))
@@ -180,6 +183,24 @@ none_gained calls old new e shown h same =
     let none : Gains old.kept old.kept = record { crossings = []; notices = []; reports = []; crossed = refl; told = sym (append-nil book.notices); said = sym (append-nil book.reports) } in
     h.lines ∙ same_news old.kept new.kept old.kept h.gains none (gains_once old.kept new.kept old.kept h.gains none same)
 
+-- only parts may have changed, and none is other than before
+quiet_unchanged : {C : Type 0} (members : C → List (List ℕ)) (old new : WorldState C) → changed (members old.carrier) (members new.carrier) ≡ [] → new.seats ≡ old.seats → new.services ≡ old.services → IsUnchanged members old new
+quiet_unchanged members old new parts seats services = record {
+  parts = parts;
+  programs = ap (λ seats. changed (map seat_member old.seats) (map seat_member seats)) seats ∙ none_changed (map seat_member old.seats);
+  services = ap (λ served. changed (map services_member old.services) (map services_member served)) services ∙ none_changed (map services_member old.services);
+}
+
+pub step_quiet : {C : Type 0} (own : Calls C) (members : C → List (List ℕ)) (spot : Spot) (round : ℕ) (old new : WorldState C) (e : Event) (printed : List ℕ) (a : Option (List ℕ))
+    → ShowsInCalm (shown own) old e new printed → ((lines : List Shown) → HappensInCalm (shown own) old e new lines → IsQuiet own old new) → changed (members old.carrier) (members new.carrier) ≡ [] → StepEnds (shown own) members spot round old e (Ok tt) new a a
+step_quiet {C} own members spot round old new e printed a (lines, happens, says) quiet none =
+    let q = quiet lines happens in
+    no_line (TellsInCalm (shown own) members spot round old e new) a (inl (
+      subst (λ (ls : List Shown). HappensInCalm (shown own) old e new ls) (none_gained (shown own) old new e lines happens q.kept) happens,
+      quiet_unchanged members old new none q.seats q.services,
+      refl,
+    ))
+
 -- all that is printed is as before, and has no line
 pub step_still : {C : Type 0} (calls : Calls C) (members : C → List (List ℕ)) (spot : Spot) (round : ℕ) (old new : WorldState C) (e : Event) (printed : List ℕ) (a : Option (List ℕ))
     → ShowsInCalm calls old e new printed → ((shown : List Shown) → HappensInCalm calls old e new shown → IsAsBefore members old new) → StepEnds calls members spot round old e (Ok tt) new a a
@@ -187,13 +208,16 @@ step_still {C} calls members spot round old new e printed a (shown, happens, say
     let all = still shown happens in
     no_line (TellsInCalm calls members spot round old e new) a (inl (
       subst (λ (ls : List Shown). HappensInCalm calls old e new ls) (none_gained calls old new e shown happens all.kept) happens,
-      record {
-        parts = ap (changed (members old.carrier)) all.parts ∙ none_changed (members old.carrier);
-        programs = ap (λ seats. changed (map seat_member old.seats) (map seat_member seats)) all.seats ∙ none_changed (map seat_member old.seats);
-        services = ap (λ served. changed (map services_member old.services) (map services_member served)) all.services ∙ none_changed (map services_member old.services);
-      },
+      quiet_unchanged members old new (ap (changed (members old.carrier)) all.parts ∙ none_changed (members old.carrier)) all.seats all.services,
       refl,
     ))
+
+-- the texts of what is as before
+pub texts_quiet : {C : Type 0} (own : Calls C) (members : C → List (List ℕ)) (old new : WorldState C) (e : Event) (printed : List ℕ) (texts : Texts) → ShowsInCalm (shown own) old e new printed → ((lines : List Shown) → HappensInCalm (shown own) old e new lines → IsQuiet own old new)
+    → AreTextsOf members old texts → (texts.programs ≡ map seat_member new.seats) × (texts.services ≡ map services_member new.services)
+texts_quiet own members old new e printed texts (lines, happens, says) quiet was =
+    let q = quiet lines happens in
+    (was.programs ∙ ap (map seat_member) (sym q.seats), was.services ∙ ap (map services_member) (sym q.services))
 
 pub texts_still : {C : Type 0} (calls : Calls C) (members : C → List (List ℕ)) (old new : WorldState C) (e : Event) (printed : List ℕ) (texts : Texts)
     → ShowsInCalm calls old e new printed → ((shown : List Shown) → HappensInCalm calls old e new shown → IsAsBefore members old new) → AreTextsOf members old texts → AreTextsOf members new texts

@@ -18,19 +18,20 @@ use Rattle.replay.specs.declared.events.ReplayFault.TheVariants as fault
 use Rattle.trace.specs.Traces.{WritesTrace}
 use Rattle.host_pairs.specs.declared.entry.Entry.{Entry}
 use Rattle.icp.specs.User.{UserState}
-use Rattle.trace.specs.Texts.{array, bits_members, bool_text, crossing_object, object, quoted}
+use Rattle.trace.specs.Texts.{array, bits_members, bool_text, crossing_object, member, object, quoted}
 use Rattle.world_replay.specs.Printed.{kind_text}
 use Rattle.replay.specs.declared.print.Detail.TheVariants.{Sizes}
 use Rattle.world_replay.specs.Output.{Shown, output}
 use Rattle.world_replay.specs.Replay.{Happens, HappensInCalm}
 use Rattle.world_replay.specs.Rounds.{Again, EndsAgain, EndsRound, turn_of}
-use Rattle.world_trace.specs.Texts.{allocation_object, asked_object, closings_object, ends_object, event_text, line_of, lines_text, number_text, requests_object, seat_member, services_member, sockets_object, state_members}
+use Rattle.world_trace.specs.Texts.{allocation_object, asked_object, closings_object, ends_object, event_text, line_of, lines_text, number_text, requests_object, seat_member, services_member, sockets_object}
 use Rattle.world_script.specs.declared.event.WorldEvent.{WorldEvent}
 use Rattle.world_script.specs.declared.event.WorldEvent.TheVariants as world
 use Rattle.world_trace.specs.declared.calm.CalmEvent.{CalmEvent}
 use Rattle.world_trace.specs.declared.calm.CalmEvent.TheVariants as calm
 use Rattle.world_trace.specs.declared.line.Passed.{Passed}
 use Rattle.world_trace.specs.declared.texts.Texts.{Texts}
+use Rattle.world_trace.specs.declared.texts.Changes.{Changes}
 use Rattle.trace.specs.Changes.{changed}
 use Rattle.world_trace.specs.Traces.{EndsAt, MayTell, StopsOne, TellsAt, TellsInCalm, TellsOne, TellsRound}
 use Rattle.trace.specs.declared.element.Spot.{Spot}
@@ -92,18 +93,15 @@ pub record AreTextsOf {C : Type 0} (members : C → List (List ℕ)) (w : WorldS
   pub programs : t.programs ≡ map seat_member w.seats
   pub services : t.services ≡ map services_member w.services
 
--- and what of these is other than before
-abbrev pub changed_texts : Texts → Texts → List (List ℕ)
-changed_texts old new = state_members (changed old.parts new.parts) (changed old.programs new.programs) (changed old.services new.services)
+-- these objects are what of these is other than before
+pub record AreChanged (old new : Texts) (c : Changes) : Type 0 where
+  pub parts : c.parts.items ≡ object (changed old.parts new.parts)
+  pub programs : c.programs.items ≡ object (changed old.programs new.programs)
+  pub services : c.services.items ≡ object (changed old.services new.services)
 
-abbrev pub changed_end : Texts → Texts → List ℕ
-changed_end old new = ended_state (changed old.parts new.parts) (changed old.programs new.programs) (changed old.services new.services)
-
--- nothing is
-pub record AreUnchanged (old new : Texts) : Type 0 where
-  pub parts : changed old.parts new.parts ≡ []
-  pub programs : changed old.programs new.programs ≡ []
-  pub services : changed old.services new.services ≡ []
+-- and the end of a line with them
+abbrev pub changed_end : Changes → List ℕ
+changed_end c = c.parts.items ++ (codes ",\"programs\":" ++ (c.programs.items ++ (codes ",\"services\":" ++ (c.services.items ++ codes "}\n"))))
 
 -- ---- what is at hosts
 
@@ -135,18 +133,28 @@ Shows calls old e new text = (lines : List Shown) × Happens calls old e new lin
 abbrev pub ShowsInCalm : {C : Type 0} → Calls C → WorldState C → Event → WorldState C → List ℕ → Type 0
 ShowsInCalm calls old e new text = (lines : List Shown) × HappensInCalm calls old e new lines × (text ≡ output Sizes lines)
 
--- an event that is no calm happened, with this many crossings in the book before it, and these are the texts of its line: the event, what a
--- replay prints, and those of the state after it
-pub record HasPassed {C : Type 0} (calls : Calls C) (members : C → List (List ℕ)) (old : WorldState C) (e : Event) (new : WorldState C) (name : List ℕ) (before : ℕ) (printed : List ℕ) (texts : Texts) : Type 0 where
-  pub event : name ≡ event_text (world.Happen e)
-  pub shows : Shows calls old (world.Happen e) new printed
-  pub crossed : before ≡ length old.kept.book.crossings
-  pub few : before ≤ length new.kept.book.crossings
-  pub state : AreTextsOf members new texts
+-- what of a state is other than before, by these objects
+pub record AreChanges {C : Type 0} (members : C → List (List ℕ)) (old new : WorldState C) (parts programs services : List ℕ) : Type 0 where
+  pub parts_are : parts ≡ object (changed (members old.carrier) (members new.carrier))
+  pub programs_are : programs ≡ object (changed (map seat_member old.seats) (map seat_member new.seats))
+  pub services_are : services ≡ object (changed (map services_member old.services) (map services_member new.services))
 
--- the line of an event that has passed, without its end, where the state had these texts before it
-abbrev pub passed_line : {C : Type 0} → Spot → ℕ → WorldState C → Texts → Passed → List ℕ
-passed_line spot round new before p = line_of spot round p.event.items (drop p.crossed (reverse new.kept.book.crossings)) p.printed.items (changed_texts before p.texts)
+-- three objects of a state
+abbrev pub state_objects : List ℕ → List ℕ → List ℕ → List (List ℕ)
+state_objects parts programs services = member (codes "parts") parts ∷ member (codes "programs") programs ∷ member (codes "services") services ∷ []
+
+-- an event that is no calm happened, and these are the texts of its line, with this many crossings in the book before it
+pub record HasPassed {C : Type 0} (calls : Calls C) (members : C → List (List ℕ)) (old : WorldState C) (e : Event) (new : WorldState C) (p : Passed) : Type 0 where
+  pub event : p.event.items ≡ event_text (world.Happen e)
+  pub shows : Shows calls old (world.Happen e) new p.printed.items
+  pub crossed : p.crossed ≡ length old.kept.book.crossings
+  pub few : p.crossed ≤ length new.kept.book.crossings
+  pub changes : AreChanges members old new p.changes.parts.items p.changes.programs.items p.changes.services.items
+
+-- the line of an event that has passed, without its end
+abbrev pub passed_line : {C : Type 0} → Spot → ℕ → WorldState C → Passed → List ℕ
+passed_line spot round new p =
+    line_of spot round p.event.items (drop p.crossed (reverse new.kept.book.crossings)) p.printed.items (state_objects p.changes.parts.items p.changes.programs.items p.changes.services.items)
 
 -- ---- events of a calm
 

@@ -1,18 +1,18 @@
 //! Tracing a calm of a world, event by event.
 
-ghost use Rattle.std.specs.Prelude.{◌≡◌, ◌↔◌, ◌++◌, [], IfErr, IfOk, IfSome, OnOk, false, length, map, true};
+ghost use Rattle.std.specs.Prelude.{◌≡◌, ◌++◌, [], IfErr, IfOk, IfSome, OnOk, false, length, map, true};
 ghost use Rattle.net_sim.specs.Carriers.{shown};
 ghost use Rattle.replay.specs.Failing.{TellsCannotWrite};
 ghost use Rattle.replay.specs.declared.print.Detail.TheVariants.{Sizes};
 ghost use Rattle.world_replay.specs.Rounds as events;
 ghost use Rattle.world_script.specs.declared.event.WorldEvent.TheVariants as world_event;
 ghost use Rattle.world_trace.specs.Steps as step;
-ghost use Rattle.world_trace.specs.Steps.{AgainEnds, AreTextsOf, AreUnchanged, EventEnds, IsAtRest, IsStill, RoundEnds, ShowsInCalm, StepEnds};
+ghost use Rattle.world_trace.specs.Steps.{AgainEnds, AreTextsOf, EventEnds, IsAtRest, IsStill, RoundEnds, ShowsInCalm, StepEnds};
 ghost use Rattle.world_trace.specs.Traces.{MayTell};
 
 use crate::line::{Passed, print_line};
 use crate::spelling::spelled;
-use crate::texts::{Texts, are_unchanged, known_texts, texts_of};
+use crate::texts::{Texts, change, known_texts};
 use interface::{Carrier, HostAddr};
 use net_sim::{Event, Seat, World};
 use replay::{Detail, Output, Printer, ReplayFault};
@@ -45,6 +45,16 @@ fn event_of(event: CalmEvent) -> Event
         CalmEvent::Quiet => Event::Quiet,
         CalmEvent::Take(host) => Event::Take(host),
         CalmEvent::Offer(host) => Event::Offer(host),
+    }
+}
+
+/// Returns the host at which an event of a calm is, if it is at one.
+fn host_of(event: CalmEvent) -> Option<HostAddr>
+    ensures { result ≡ step.host_of event }
+{
+    match event {
+        CalmEvent::Quiet => None,
+        CalmEvent::Take(host) | CalmEvent::Offer(host) => Some(host),
     }
 }
 
@@ -186,22 +196,25 @@ fn trace_step<C: Inspect, W: Output>(
     let crossed = count_crossings(world);
     let still = is_still(world, event);
     let printed = happen_in_calm(alloc, world, event)?;
-    if still && count_crossings(world) <= crossed {
+    let moved = count_crossings(world) > crossed;
+    if still && !moved {
         return Ok(());
     }
-    let now = texts_of(alloc, world)?;
-    if is_silent(&printed, texts, &now) {
-        *texts = now;
+    let parts = world.carrier().members(alloc)?;
+    let other = parts.have_changed(&texts.parts);
+    if !moved && !other {
+        texts.parts = parts;
         return Ok(());
     }
+    let changes = change(alloc, world, &host_of(event), &parts, texts)?;
+    texts.parts = parts;
     let passed = Passed {
         event: spelled(alloc, &event_of(event))?,
         crossed,
         printed,
-        texts: now,
+        changes,
     };
-    print_line(world, spot, round, texts, &passed, writer)?;
-    *texts = passed.texts;
+    print_line(world, spot, round, &passed, writer)?;
     Ok(())
 }
 
@@ -216,13 +229,6 @@ fn is_still<C: Inspect>(world: &World<C>, event: CalmEvent) -> bool
         CalmEvent::Take(host) => world.carrier().is_still(&host),
         CalmEvent::Offer(_) => true,
     }
-}
-
-/// Returns whether an event printed nothing and left all as it was.
-fn is_silent(printed: &[u8], before: &Texts, now: &Texts) -> bool
-    ensures { (result ≡ true) ↔ ((printed.now ≡ []) × AreUnchanged before.now now.now) }
-{
-    printed.is_empty() && are_unchanged(before, now)
 }
 
 /// Lets an event of a calm happen. Returns the lines that a replay prints for it, without a refusal.

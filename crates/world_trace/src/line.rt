@@ -9,7 +9,7 @@ ghost use Rattle.world_trace.specs.Texts.{opening_text, seat_member, services_me
 ghost use Rattle.world_trace.specs.Traces.{state_of};
 
 use crate::spelling::print_lines;
-use crate::texts::{Texts, print_changes};
+use crate::texts::{Changes, print_changes};
 use crate::values::Object;
 use interface::Crossing;
 use net_sim::World;
@@ -85,29 +85,28 @@ pub(crate) struct Passed {
     pub crossed: usize,
     /// The lines that a replay prints for it.
     pub printed: Vec<u8>,
-    /// The texts of the state after it.
-    pub texts: Texts,
+    /// What of the state is other than before.
+    pub changes: Changes,
 }
 
-/// Prints the line of an event that has just happened in a world, in this round of a calm, or 0. The state had these texts before it.
+/// Prints the line of an event that has just happened in a world, in this round of a calm, or 0.
 pub(crate) fn print_line<C: Inspect, W: Output>(
     world: &World<C>,
     spot: Spot,
     round: u32,
-    before: &Texts,
     passed: &Passed,
     writer: &mut W,
 ) -> Result<(), WriteFailed>
     requires crossed { passed.now.crossed ≤ length world.now.kept.book.crossings }
     requires whole { W.failed writer.old ≡ false }
-    ensures written { OnOk result (Appends (W.contents writer.old) (W.contents writer.new) (ended_line (passed_line spot round world.now before.now passed.now))) }
+    ensures written { OnOk result (Appends (W.contents writer.old) (W.contents writer.new) (ended_line (passed_line spot round world.now passed.now))) }
     ensures failed { TellsFailure result (W.failed writer.new) }
 {
     let (_, crossings) = world.book().crossings().split_at(passed.crossed);
     print_head(spot, round, &passed.event, writer)?;
     print_outcome(crossings, &passed.printed, writer)?;
     writer.write_all(b",\"parts\":")?;
-    print_changes(before, &passed.texts, writer)
+    print_changes(&passed.changes, writer)
 }
 
 /// Prints the first line of a trace: the network, and the state of a world.

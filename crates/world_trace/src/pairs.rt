@@ -4,12 +4,13 @@ ghost use Rattle.std.specs.Prelude.{◌≡◌, Some};
 ghost use Rattle.std.specs.Fmt.{WritesOnOk};
 ghost use Rattle.trace.specs.Texts.{bits_members, object, quoted};
 ghost use Rattle.world_replay.specs.Printed.{kind_text};
-ghost use Rattle.world_trace.specs.Steps.{end_data, end_sockets, end_state};
+ghost use Rattle.world_trace.specs.Steps.{end_data, end_sockets, end_state, seat_place};
 ghost use Rattle.world_trace.specs.Texts.{allocation_object, closing_word, closings_object, end_object, listener_object, number_text, pair_object, phase_word, program_text, requests_object};
 ghost use Rattle.world_trace.specs.Texts.{seat_member};
 
-use crate::values::{Array, Flag, HexString, Json, Name};
+use crate::values::{Array, Flag, HexString, Json, Name, Placed};
 use bit_messages::Bits;
+use interface::HostAddr;
 use ncp_control::{Allocation, ByteSize, ConnectionLink};
 use net_sim::Seat;
 use sockets::{Closing, Entry, Listener, Ncp, Peer, Phase};
@@ -253,5 +254,13 @@ impl Json for Seat {
     fn show<W: fmt::Write>(&self, f: &mut Formatter<W>) -> fmt::Result {
         let (host, program) = (Name(&self.host), Program(&self.program));
         write!(f, "{host}:{program}")
+    }
+}
+
+impl Placed for Seat {
+    ghost place = { seat_place };
+
+    fn is_at(&self, host: &HostAddr) -> bool {
+        *host == self.host
     }
 }

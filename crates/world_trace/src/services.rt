@@ -5,14 +5,15 @@ ghost use Rattle.std.specs.Fmt.{HasWritten, IsPlainFormatter, WritesOnOk};
 ghost use Rattle.host_services.specs.Ears.{all_in};
 ghost use Rattle.host_services.specs.declared.service.Service.TheVariants as service;
 ghost use Rattle.trace.specs.Texts.{array, bits_members, object};
-ghost use Rattle.world_trace.specs.Steps.{mark_after, marked, user_rest, user_sockets};
+ghost use Rattle.world_trace.specs.Steps.{mark_after, marked, service_place, user_rest, user_sockets};
 ghost use Rattle.world_trace.specs.Texts.{asked_object, ends_object, met_object, number_text, partner_text, running_object, server_object, service_object, services_member, sockets_object};
 ghost use Rattle.world_trace.specs.Texts.{user_object};
 
-use crate::values::{Flag, HexString, Json, Name, show_each};
+use crate::values::{Flag, HexString, Json, Name, Placed, show_each};
 use bit_messages::Bits;
 use host_services::{Block, Service, Services};
 use icp::{Partner, Server, User};
+use interface::HostAddr;
 use ncp_control::{ReceiveSocket, SendSocket};
 use net_sim::ServiceSeat;
 use std::fmt;
@@ -260,5 +261,13 @@ impl Json for ServiceSeat {
         let (host, services) = (Name(&self.host), &self.services);
         let (typing, running) = (Sending(services.typing()), Running(services));
         write!(f, "{host}:{{\"typing\":{typing},\"running\":{running}}}")
+    }
+}
+
+impl Placed for ServiceSeat {
+    ghost place = { service_place };
+
+    fn is_at(&self, host: &HostAddr) -> bool {
+        *host == self.host
     }
 }

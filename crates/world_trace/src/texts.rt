@@ -1,16 +1,20 @@
 //! The texts of a world's state, and which of them have changed.
 
-ghost use Rattle.std.specs.Prelude.{◌≡◌, ◌↔◌, IfOk, IfSome, OnOk, false, map, true};
+ghost use Rattle.std.specs.Prelude.{◌≡◌, IfOk, IfSome, OnOk, false, map};
 ghost use Rattle.std.specs.Io.KnownBytes.{Appends};
 ghost use Rattle.replay.specs.Failing.{TellsFailure};
-ghost use Rattle.world_trace.specs.Steps.{AreTextsOf, AreUnchanged, changed_end};
+ghost use Rattle.trace.specs.Changes.{changed};
+ghost use Rattle.trace.specs.Texts.{object};
+ghost use Rattle.world_trace.specs.Steps.{AreChanged, AreOthers, AreTextsOf, at_host, changed_end, seat_place, service_place};
+ghost use Rattle.world_trace.specs.Texts.{seat_member, services_member};
 
-use crate::values::{Json, Printed};
+use crate::values::{Json, Placed, Printed};
+use interface::HostAddr;
 use net_sim::World;
-use replay::{Output, WriteFailed};
+use replay::{Output, Printer, WriteFailed};
 use std::alloc::{AllocError, Global};
 use trace::json::Item;
-use trace::{Inspect, Members};
+use trace::{Inspect, Members, ended};
 
 /// The texts of a world's state, each with its name.
 #[derive(Drop)]
@@ -60,29 +64,100 @@ pub(crate) fn known_texts<C: Inspect>(
     }
 }
 
-/// Returns whether all texts are as they were.
-pub(crate) fn are_unchanged(before: &Texts, texts: &Texts) -> bool
-    ensures { (result ≡ true) ↔ AreUnchanged before.now texts.now }
-{
-    !texts.parts.have_changed(&before.parts)
-        && !texts.programs.have_changed(&before.programs)
-        && !texts.services.have_changed(&before.services)
+/// What of a state is other than before: three objects, each as its text.
+#[derive(Drop)]
+pub(crate) struct Changes {
+    /// Parts of the carrier.
+    pub parts: Vec<u8>,
+    /// Programs.
+    pub programs: Vec<u8>,
+    /// Services.
+    pub services: Vec<u8>,
 }
 
-/// Prints the texts that are other than before, after other members, and the end of the line.
-pub(crate) fn print_changes<W: Output>(
-    before: &Texts,
-    texts: &Texts,
-    writer: &mut W,
-) -> Result<(), WriteFailed>
+/// Returns the object of the members that are other than before.
+fn changed_object(alloc: Global, before: &Members, now: &Members) -> Result<Vec<u8>, AllocError>
+    ensures { IfOk result (λ text. text.items ≡ object (changed before.now now.now)) }
+{
+    let mut printer = Printer::new(Vec::new(alloc));
+    match now.print_changed(before, &mut printer) {
+        Ok(()) => Ok(printer.into_inner()),
+        Err(_) => Err(AllocError),
+    }
+}
+
+/// Returns what is other than before.
+pub(crate) fn changes_of(alloc: Global, before: &Texts, now: &Texts) -> Result<Changes, AllocError>
+    ensures { IfOk result (λ c. AreChanged before.now now.now c) }
+{
+    Ok(Changes {
+        parts: changed_object(alloc, &before.parts, &now.parts)?,
+        programs: changed_object(alloc, &before.programs, &now.programs)?,
+        services: changed_object(alloc, &before.services, &now.services)?,
+    })
+}
+
+/// Returns whether something is at a host, if there is one.
+fn is_at<T: Placed>(host: &Option<HostAddr>, item: &T) -> bool
+    ensures { result ≡ at_host T.place host.now item.now }
+{
+    match host {
+        Some(host) => item.is_at(host),
+        None => false,
+    }
+}
+
+/// Puts the texts of what is at a host in the place of those before them. Returns the object of those that are other than before.
+fn change_at<T: Placed>(
+    alloc: Global,
+    host: &Option<HostAddr>,
+    items: &[T],
+    known: &mut Members,
+) -> Result<Vec<u8>, AllocError>
+    requires others { AreOthers (at_host T.place host.now) T.text known.old items.now }
+    ensures known { OnOk result (known.new ≡ map T.text items.now) }
+    ensures changed { IfOk result (λ text. text.items ≡ object (changed known.old (map T.text items.now))) }
+{
+    let mut text = Vec::new(alloc);
+    for place in 0..items.len() {
+        let item = &items[place];
+        text = known.put(is_at(host, item), place, &Printed(item), text)?;
+    }
+    ended(text)
+}
+
+/// Puts the texts of the program and the services of a host in the place of those before them. Returns what is other than before, these
+/// parts too.
+pub(crate) fn change<C: Inspect>(
+    alloc: Global,
+    world: &World<C>,
+    host: &Option<HostAddr>,
+    parts: &Members,
+    texts: &mut Texts,
+) -> Result<Changes, AllocError>
+    requires programs { AreOthers (at_host seat_place host.now) seat_member texts.old.programs world.now.seats }
+    requires services { AreOthers (at_host service_place host.now) services_member texts.old.services world.now.services }
+    ensures programs { OnOk result (texts.new.programs ≡ map seat_member world.now.seats) }
+    ensures services { OnOk result (texts.new.services ≡ map services_member world.now.services) }
+    ensures changes { IfOk result (λ c. AreChanged texts.old (record texts.new { parts = parts.now }) c) }
+{
+    Ok(Changes {
+        parts: changed_object(alloc, &texts.parts, parts)?,
+        programs: change_at(alloc, host, world.seats(), &mut texts.programs)?,
+        services: change_at(alloc, host, world.services(), &mut texts.services)?,
+    })
+}
+
+/// Prints what is other than before, after other members, and the end of the line.
+pub(crate) fn print_changes<W: Output>(changes: &Changes, writer: &mut W) -> Result<(), WriteFailed>
     requires { W.failed writer.old ≡ false }
-    ensures written { OnOk result (Appends (W.contents writer.old) (W.contents writer.new) (changed_end before.now texts.now)) }
+    ensures written { OnOk result (Appends (W.contents writer.old) (W.contents writer.new) (changed_end changes.now)) }
     ensures failed { TellsFailure result (W.failed writer.new) }
 {
-    texts.parts.print_changed(&before.parts, writer)?;
+    writer.write_all(&changes.parts)?;
     writer.write_all(b",\"programs\":")?;
-    texts.programs.print_changed(&before.programs, writer)?;
+    writer.write_all(&changes.programs)?;
     writer.write_all(b",\"services\":")?;
-    texts.services.print_changed(&before.services, writer)?;
+    writer.write_all(&changes.services)?;
     writer.write_all(b"}\n")
 }

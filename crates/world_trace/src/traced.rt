@@ -13,7 +13,7 @@ ghost use Rattle.world_trace.specs.Traces.{StopsOne, TracesWorld, WorldTraceFail
 use crate::calm::trace_calm;
 use crate::line::{Passed, print_line, print_opening};
 use crate::spelling::spelled;
-use crate::texts::{Texts, known_texts, texts_of};
+use crate::texts::{Texts, changes_of, known_texts, texts_of};
 use interface::Carrier;
 use net_sim::{Event, World};
 use replay::{Detail, Output, Printer, ReplayFault};
@@ -124,27 +124,36 @@ fn trace_one<C: Inspect, W: Output>(
     ensures failed { TellsCannotWrite result (W.failed writer.new) }
 {
     let before = known_texts(alloc, world, known.take())?;
-    let passed = pass(alloc, world, event)?;
-    print_line(world, spot, 0, &before, &passed, writer)?;
-    *known = Some(passed.texts);
+    let (passed, texts) = pass(alloc, world, event, &before)?;
+    print_line(world, spot, 0, &passed, writer)?;
+    *known = Some(texts);
     Ok(())
 }
 
-/// Lets an event happen that is no calm. Returns the texts of its line.
-fn pass<C: Inspect>(alloc: Global, world: &mut World<C>, event: Event) -> Result<Passed, AllocError>
-    ensures passed { IfOk result (λ p. HasPassed (shown C.calls) C.inside.members world.old event world.new p.event.items p.crossed p.printed.items p.texts) }
+/// Lets an event happen that is no calm. Returns the texts of its line, and of the state after it. The state had these texts before it.
+fn pass<C: Inspect>(
+    alloc: Global,
+    world: &mut World<C>,
+    event: Event,
+    before: &Texts,
+) -> Result<(Passed, Texts), AllocError>
+    requires known { AreTextsOf C.inside.members world.old before.now }
+    ensures passed { IfOk result (λ p. HasPassed (shown C.calls) C.inside.members world.old event world.new p.0) }
+    ensures texts { IfOk result (λ p. AreTextsOf C.inside.members world.new p.1) }
     ensures memory { IfErr result (λ _. StopsOne (shown C.calls) world.old event world.new []) }
 {
     let text = spelled(alloc, &event)?;
     let crossed = world.book().crossings().len();
     let printed = happen(alloc, world, event)?;
     let texts = texts_of(alloc, world)?;
-    Ok(Passed {
+    let changes = changes_of(alloc, before, &texts)?;
+    let passed = Passed {
         event: text,
         crossed,
         printed,
-        texts,
-    })
+        changes,
+    };
+    Ok((passed, texts))
 }
 
 /// Lets an event happen that is no calm. Returns the lines that a replay prints for it.

@@ -3,6 +3,7 @@
 ghost use Rattle.std.specs.Prelude.{◌≡◌, ◌<◌, ◌∷◌, [], IfOk, IsOk, List, Some, map, slice_index, ℕ};
 ghost use Rattle.std.specs.Fmt.{HasWritten, IsPlainFormatter, WritesOnOk, decimal};
 ghost use Rattle.hex.specs.Hex.{upper_digits};
+ghost use Rattle.interface.specs.Host.{Host, same_host};
 ghost use Rattle.trace.specs.Texts.{array, bool_text, object, quoted};
 ghost use Rattle.world_trace.specs.Steps.{mark_after, marked};
 
@@ -20,6 +21,16 @@ pub(crate) trait Json {
     /// Shows its text.
     fn show<W: fmt::Write>(&self, f: &mut Formatter<W>) -> fmt::Result
         ensures { WritesOnOk W.write_str_gives f.old result (text self.now) f.new };
+}
+
+/// What is at a host, and has a JSON text.
+pub(crate) trait Placed: Json {
+    /// The host.
+    ghost place: { Self → Host };
+
+    /// Returns whether it is at this host.
+    fn is_at(&self, host: &HostAddr) -> bool
+        ensures { result ≡ same_host host.now (place self.now) };
 }
 
 impl Json for u8 {

@@ -1,52 +1,75 @@
-use Rattle.std.proofs.Common.{ap, ◌≡◌, ◌∙◌, ◌≤◌, [], inr, Err, length, arith, rules, subst, sym}
-use Rattle.std.proofs.lemmas.Bool.{false≢true}
+use Rattle.std.proofs.Common.{◌≡◌, ◌<◌, ◌≤◌, ◌⊎◌, ◌∙◌, [], inl, inr, Err, List, Option, length, ℕ, ap, ap₂, arith, map, rules, subst, sym}
+use Rattle.interface.specs.Host.{Host}
 use Rattle.net_sim.specs.Carriers.{shown}
+use Rattle.net_sim.specs.World.{WorldState}
 use Rattle.net_sim.specs.declared.event.Event.{Event}
 use Rattle.interface.specs.Calls.{Calls}
 use Rattle.replay.specs.declared.events.ReplayFault.TheVariants as fault
-use Rattle.world_trace.specs.Steps.{StepEnds, event_of}
+use Rattle.trace.specs.Changes.{changed}
 use Rattle.world_script.specs.declared.event.WorldEvent.TheVariants as world
-use Rattle.world_trace.specs.Texts.{event_text}
+use Rattle.world_trace.specs.Steps.{AreOthers, AreTextsOf, StepEnds, at_host, event_of, seat_place, service_place}
+use Rattle.world_trace.specs.Texts.{event_text, seat_member, services_member}
 use Rattle.world_trace.specs.Traces.{StopsOne}
-use Rattle.world_trace.proofs.Telling.{no_line, step_heard, step_may, step_silent, step_still, texts_still}
+use Rattle.world_trace.specs.declared.texts.Texts.{Texts}
+use Rattle.world_trace.proofs.Stays.{others_by, quiet_by}
+use Rattle.world_trace.proofs.Telling.{changes_are, is_changed, none_changed_by, no_line, step_heard, step_may, step_quiet, step_still, texts_quiet, texts_still}
 use Rattle.world_trace.proofs.calm.trace_step.Goals as goal
+use Rattle.world_trace.proofs.calm.trace_step.Goals.{else-not-moved-2-via-then-not-moved-2+else-not-other, else-not-moved-2-via-else-not-moved-2}
 
 -- nothing crossed, and it is known that nothing changes then
-pub returns-then-count_crossings-crossed-clause-ends : goal.returns-then-count_crossings-crossed-clause-ends
-returns-then-count_crossings-crossed-clause-ends g c =
+pub returns-then-not-moved-clause-ends : goal.returns-then-not-moved-clause-ends
+returns-then-not-moved-clause-ends g c =
     let calls : Calls g.row.C.Denot = shown g.C.Carrier.calls in
-    let few : length c.happen_in_calm.new.world.kept.book.crossings ≤ length c.args.world.now.kept.book.crossings = omega (arith, c.count_crossings-crossed.ensures, c.count_crossings.ensures, c.if-count_crossings-crossed.true) in
-    step_still calls g.C.Inspect.inside.members c.args.spot c.args.round c.args.world.now c.happen_in_calm.new.world (event_of c.args.event) c.in_ok-printed.printed.items (g.W.Output.contents c.args.writer.now) c.in_ok-printed.ensures.shown
-    (λ shown happens. c.is_still-still.ensures c.if-still.true c.happen_in_calm.new.world shown happens few)
+    let w : WorldState g.row.C.Denot = c.happen_in_calm.new.world in
+    let few : length w.kept.book.crossings ≤ length c.args.world.now.kept.book.crossings = omega (arith, c.count_crossings-crossed.ensures, c.count_crossings.ensures, c.if-not-moved.true) in
+    step_still calls g.C.Inspect.inside.members c.args.spot c.args.round c.args.world.now w (event_of c.args.event) c.in_ok-printed.printed.items (g.W.Output.contents c.args.writer.now) c.in_ok-printed.ensures.shown
+    (λ lines happens. c.is_still-still.ensures c.if-still.true w lines happens few)
 
-pub returns-then-is_silent-clause-ends : goal.returns-then-is_silent-clause-ends
-returns-then-is_silent-clause-ends g c =
+pub returns-then-not-moved-clause-known : goal.returns-then-not-moved-clause-known
+returns-then-not-moved-clause-known g c =
     let calls : Calls g.row.C.Denot = shown g.C.Carrier.calls in
-    let silent = c.is_silent.ensures.0 c.if-is_silent.true in
-    step_silent calls g.C.Inspect.inside.members c.args.spot c.args.round c.args.world.now c.happen_in_calm.new.world (event_of c.args.event) c.in_ok-printed.printed.items c.args.texts.now c.in_ok-now.now
-    (g.W.Output.contents c.args.writer.now) c.in_ok-printed.ensures.shown c.requires.known c.in_ok-now.ensures (sym c.deref.ensures.value ∙ silent.0) silent.1
+    let w : WorldState g.row.C.Denot = c.happen_in_calm.new.world in
+    let few : length w.kept.book.crossings ≤ length c.args.world.now.kept.book.crossings = omega (arith, c.count_crossings-crossed.ensures, c.count_crossings.ensures, c.if-not-moved.true) in
+    texts_still calls g.C.Inspect.inside.members c.args.world.now w (event_of c.args.event) c.in_ok-printed.printed.items c.args.texts.now c.in_ok-printed.ensures.shown (λ lines happens. c.is_still-still.ensures c.if-still.true w lines happens few) c.requires.known
 
-pub returns-in_err-print_line-clause-ends : goal.returns-in_err-print_line-clause-ends
-returns-in_err-print_line-clause-ends g c =
-    let calls : Calls g.row.C.Denot = shown g.C.Carrier.calls in
-    let same : c.from_residual-in_err-print_line.result ≡ Err fault.CannotWrite = search rules in
-    subst (λ r. StepEnds calls g.C.Inspect.inside.members c.args.spot c.args.round c.args.world.now (event_of c.args.event) r c.happen_in_calm.new.world (g.W.Output.contents c.args.writer.now) (g.W.Output.contents c.print_line.new.writer)) (sym same)
-    ([], step_may calls c.args.world.now c.happen_in_calm.new.world (event_of c.args.event) c.in_ok-printed.printed.items c.in_ok-printed.ensures.shown)
+-- nothing crossed, and no part is other than before
+pub returns-then-not-other-clause-ends : goal.returns-then-not-other-clause-ends
+returns-then-not-other-clause-ends g c =
+    let own : Calls g.row.C.Denot = g.C.Carrier.calls in
+    let members : g.row.C.Denot → List (List ℕ) = g.C.Inspect.inside.members in
+    let w : WorldState g.row.C.Denot = c.happen_in_calm.new.world in
+    let few : length w.kept.book.crossings ≤ length c.args.world.now.kept.book.crossings = omega (arith, c.count_crossings-crossed.ensures, c.count_crossings.ensures, c.if-not-moved-2.true) in
+    let parts : c.in_ok-parts.parts ≡ members w.carrier = c.in_ok-parts.ensures ∙ ap members c.carrier.ensures in
+    let none : changed (members c.args.world.now.carrier) (members w.carrier) ≡ [] =
+    sym (ap₂ changed c.requires.known.parts parts) ∙ none_changed_by c.have_changed-other.result (changed c.args.texts.now.parts c.in_ok-parts.parts) c.have_changed-other.ensures c.if-not-other.true in
+    step_quiet own members c.args.spot c.args.round c.args.world.now w (event_of c.args.event) c.in_ok-printed.printed.items (g.W.Output.contents c.args.writer.now) c.in_ok-printed.ensures.shown
+    (λ lines happens. quiet_by own c.args.event c.args.world.now w lines happens few) none
 
-pub returns-clause-ends : goal.returns-clause-ends
-returns-clause-ends g c =
-    let calls : Calls g.row.C.Denot = shown g.C.Carrier.calls in
-    step_heard calls g.C.Inspect.inside.members c.args.spot c.args.round c.args.world.now c.happen_in_calm.new.world (event_of c.args.event) c.in_ok-spelled.field-0.items c.in_ok-printed.printed.items c.args.texts.now c.in_ok-now.now c.count_crossings-crossed.result
-    (g.W.Output.contents c.args.writer.now) (g.W.Output.contents c.print_line.new.writer) c.in_ok-printed.ensures.shown (c.in_ok-spelled.ensures ∙ ap (λ (e : Event). event_text (world.Happen e)) c.event_of.ensures) c.count_crossings-crossed.ensures c.requires.known c.in_ok-now.ensures
-    (λ none same. false≢true (sym c.if-is_silent.false ∙ c.is_silent.ensures.1 (c.deref.ensures.value ∙ none, same)))
-    c.in_ok-print_line.ensures.written
+pub returns-then-not-other-clause-known : goal.returns-then-not-other-clause-known
+returns-then-not-other-clause-known g c =
+    let own : Calls g.row.C.Denot = g.C.Carrier.calls in
+    let members : g.row.C.Denot → List (List ℕ) = g.C.Inspect.inside.members in
+    let w : WorldState g.row.C.Denot = c.happen_in_calm.new.world in
+    let few : length w.kept.book.crossings ≤ length c.args.world.now.kept.book.crossings = omega (arith, c.count_crossings-crossed.ensures, c.count_crossings.ensures, c.if-not-moved-2.true) in
+    let rest = texts_quiet own members c.args.world.now w (event_of c.args.event) c.in_ok-printed.printed.items c.args.texts.now c.in_ok-printed.ensures.shown (λ lines happens. quiet_by own c.args.event c.args.world.now w lines happens few) c.requires.known in
+    record { parts = c.in_ok-parts.ensures ∙ ap members c.carrier.ensures; programs = rest.0; services = rest.1 }
 
-pub returns-then-count_crossings-crossed-clause-known : goal.returns-then-count_crossings-crossed-clause-known
-returns-then-count_crossings-crossed-clause-known g c =
-    let calls : Calls g.row.C.Denot = shown g.C.Carrier.calls in
-    let few : length c.happen_in_calm.new.world.kept.book.crossings ≤ length c.args.world.now.kept.book.crossings = omega (arith, c.count_crossings-crossed.ensures, c.count_crossings.ensures, c.if-count_crossings-crossed.true) in
-    texts_still calls g.C.Inspect.inside.members c.args.world.now c.happen_in_calm.new.world (event_of c.args.event) c.in_ok-printed.printed.items c.args.texts.now c.in_ok-printed.ensures.shown
-    (λ shown happens. c.is_still-still.ensures c.if-still.true c.happen_in_calm.new.world shown happens few) c.requires.known
+-- what is at other hosts is as before
+pub change-requires-clause-programs : goal.change-requires-clause-programs
+change-requires-clause-programs g c =
+    let own : Calls g.row.C.Denot = g.C.Carrier.calls in
+    let w : WorldState g.row.C.Denot = c.happen_in_calm.new.world in
+    let (lines, happens, says) = c.in_ok-printed.ensures.shown in
+    subst (λ (texts : List (List ℕ)). AreOthers (at_host seat_place c.host_of.result) seat_member texts w.seats) (sym c.requires.known.programs)
+    (subst (λ (o : Option Host). AreOthers (at_host seat_place o) seat_member (map seat_member c.args.world.now.seats) w.seats) (sym c.host_of.ensures) (others_by own c.args.event c.args.world.now w lines happens).programs)
+
+pub change-requires-clause-services : goal.change-requires-clause-services
+change-requires-clause-services g c =
+    let own : Calls g.row.C.Denot = g.C.Carrier.calls in
+    let w : WorldState g.row.C.Denot = c.happen_in_calm.new.world in
+    let (lines, happens, says) = c.in_ok-printed.ensures.shown in
+    subst (λ (texts : List (List ℕ)). AreOthers (at_host service_place c.host_of.result) services_member texts w.services) (sym c.requires.known.services)
+    (subst (λ (o : Option Host). AreOthers (at_host service_place o) services_member (map services_member c.args.world.now.services) w.services) (sym c.host_of.ensures) (others_by own c.args.event c.args.world.now w lines happens).services)
 
 pub returns-in_err-printed-clause-ends : goal.returns-in_err-printed-clause-ends
 returns-in_err-printed-clause-ends g c =
@@ -62,3 +85,29 @@ returns-in_err-spelled-clause-ends g c =
     subst (λ r. StepEnds calls g.C.Inspect.inside.members c.args.spot c.args.round c.args.world.now (event_of c.args.event) r c.happen_in_calm.new.world (g.W.Output.contents c.args.writer.now) (g.W.Output.contents c.args.writer.now)) (sym same)
     (no_line (StopsOne calls c.args.world.now (event_of c.args.event) c.happen_in_calm.new.world) (g.W.Output.contents c.args.writer.now)
     (inr (step_may calls c.args.world.now c.happen_in_calm.new.world (event_of c.args.event) c.in_ok-printed.printed.items c.in_ok-printed.ensures.shown)))
+
+pub returns-in_err-print_line-clause-ends : goal.returns-in_err-print_line-clause-ends
+returns-in_err-print_line-clause-ends g c =
+    let calls : Calls g.row.C.Denot = shown g.C.Carrier.calls in
+    let same : c.from_residual-in_err-print_line.result ≡ Err fault.CannotWrite = search rules in
+    subst (λ r. StepEnds calls g.C.Inspect.inside.members c.args.spot c.args.round c.args.world.now (event_of c.args.event) r c.happen_in_calm.new.world (g.W.Output.contents c.args.writer.now) (g.W.Output.contents c.print_line.new.writer)) (sym same)
+    ([], step_may calls c.args.world.now c.happen_in_calm.new.world (event_of c.args.event) c.in_ok-printed.printed.items c.in_ok-printed.ensures.shown)
+
+pub returns-clause-ends : goal.returns-clause-ends
+returns-clause-ends g c =
+    let calls : Calls g.row.C.Denot = shown g.C.Carrier.calls in
+    let members : g.row.C.Denot → List (List ℕ) = g.C.Inspect.inside.members in
+    let old : WorldState g.row.C.Denot = c.args.world.now in
+    let w : WorldState g.row.C.Denot = c.happen_in_calm.new.world in
+    let parts : c.in_ok-parts.parts ≡ members w.carrier = c.in_ok-parts.ensures ∙ ap members c.carrier.ensures in
+    let texts : Texts = record c.change.new.texts { parts = c.in_ok-parts.parts } in
+    let state : AreTextsOf members w texts = record { parts = parts; programs = c.in_ok-changes.ensures.programs; services = c.in_ok-changes.ensures.services } in
+    let some : (length old.kept.book.crossings < length w.kept.book.crossings) ⊎ (changed (members old.carrier) (members w.carrier) ≡ [] → ⊥) =
+    elim c.else-not-moved-2.branch [
+      | else-not-moved-2-via-then-not-moved-2+else-not-other b ↦ inr (λ none. is_changed c.have_changed-other.result (changed c.args.texts.now.parts c.in_ok-parts.parts) c.have_changed-other.ensures b.if-not-other.false (ap₂ changed c.requires.known.parts parts ∙ none))
+      | else-not-moved-2-via-else-not-moved-2 b ↦ inl (omega (arith, c.count_crossings-crossed.ensures, c.count_crossings.ensures, b.if-not-moved-2.false))
+    ] in
+    let changes = c.in_ok-changes.changes in
+    step_heard calls members c.args.spot c.args.round old w (event_of c.args.event) c.in_ok-spelled.field-0.items c.in_ok-printed.printed.items changes.parts.items changes.programs.items changes.services.items c.count_crossings-crossed.result
+    (g.W.Output.contents c.args.writer.now) (g.W.Output.contents c.print_line.new.writer) c.in_ok-printed.ensures.shown (c.in_ok-spelled.ensures ∙ ap (λ (e : Event). event_text (world.Happen e)) c.event_of.ensures) c.count_crossings-crossed.ensures
+    (changes_are members old w c.args.texts.now texts changes c.requires.known state c.in_ok-changes.ensures.changes) some c.in_ok-print_line.ensures.written

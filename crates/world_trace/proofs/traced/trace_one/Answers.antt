@@ -6,6 +6,5 @@ use Rattle.world_trace.proofs.traced.trace_one.Goals as goal
 pub returns-clause-ends : goal.returns-clause-ends
 returns-clause-ends g c =
     let calls : Calls g.row.C.Denot = shown g.C.Carrier.calls in
-    let p = c.in_ok-passed.passed in
-    tells calls g.C.Inspect.inside.members c.args.spot c.args.world.now c.pass.new.world c.args.event p.event.items p.printed.items c.in_ok-before.before p.texts p.crossed
-    (g.W.Output.contents c.args.writer.now) (g.W.Output.contents c.print_line.new.writer) c.in_ok-passed.ensures.passed c.in_ok-before.ensures c.in_ok-print_line.ensures.written
+    tells calls g.C.Inspect.inside.members c.args.spot c.args.world.now c.pass.new.world c.args.event c.in_ok-passed.passed
+    (g.W.Output.contents c.args.writer.now) (g.W.Output.contents c.print_line.new.writer) c.in_ok-passed.ensures.passed c.in_ok-print_line.ensures.written
