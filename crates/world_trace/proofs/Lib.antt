@@ -8,6 +8,7 @@ mod Fields
 mod Blocks
 mod Lines
 mod Lists
+mod Made
 mod Passing
 mod Programs
 mod Resting

@@ -7,10 +7,13 @@ ghost use Rattle.net_sim.specs.Carriers.{shown};
 ghost use Rattle.net_sim.specs.World.{WorldState};
 ghost use Rattle.net_sim.specs.declared.event.Event.{Event};
 ghost use Rattle.net_sim.specs.declared.event.Event.TheVariants as event;
+ghost use Rattle.script.specs.declared.event.RawEvent.TheVariants as raw;
 ghost use Rattle.sockets.specs.Pairs.{NcpState, opening_state};
 ghost use Rattle.sockets.specs.Worked.{first, second};
 ghost use Rattle.trace.specs.declared.element.Spot.{Spot};
+ghost use Rattle.world_replay.specs.Driven.{Raw, Round};
 ghost use Rattle.world_script.specs.declared.event.WorldEvent.TheVariants as world;
+ghost use Rattle.world_trace.specs.Carriers.{AreMade};
 ghost use Rattle.world_trace.specs.Texts.{command_object, event_text, lines_text, program_text};
 ghost use Rattle.world_trace.specs.Traces.{EndsAt, MayTell};
 ghost use Rattle.world_trace.specs.Laws.WorkedPairs.{WorkedPairsCommands, WorkedPairsPair, WorkedPairsReceiver, WorkedPairsRefused};
@@ -57,4 +60,15 @@ pub fn worked_failures<C: Carrier>()
     // no write fails in a calm of no rounds
     ensures nothing { (members : C → List (List ℕ)) (spot : Spot) (old new : WorldState C) (lines : List (List ℕ)) → EndsAt (shown C.calls) members (MayTell (shown C.calls)) spot old (world.Calm 0) new lines → ⊥ }
     ensures no_line { (old new : WorldState C) (e : Event) (line : List ℕ) → MayTell (shown C.calls) old e new (line ∷ []) → ⊥ }
+{}
+
+/// Calls of a carrier as events of a raw network.
+pub fn worked_carriers()
+    // each event is itself, and none is left out
+    ensures event { AreMade (Raw (raw.Take first) ∷ []) (raw.Take first ∷ []) }
+    ensures another { AreMade (Raw (raw.Take first) ∷ []) (raw.Take second ∷ []) → ⊥ }
+    ensures left_out { AreMade (Raw (raw.Take first) ∷ []) [] → ⊥ }
+
+    // a quiet round takes nothing for a host
+    ensures quiet { AreMade (Round ∷ []) (raw.Take first ∷ []) → ⊥ }
 {}
