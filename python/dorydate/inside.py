@@ -20,7 +20,7 @@ def state_of(program: Program, network: Network, events: Sequence[Event]) -> Sta
 
 
 def trace_of(program: Program, network: Network, events: Sequence[Event]) -> str:
-    """The trace of events; of a network with host programs it has a line for each event and each round of a calm."""
+    """The trace of events; in a network with host programs a quiet round of the network is one of them."""
     ran = program.run(Script.of(network, events).octets(), "--trace")
     if ran.status:
         raise CannotFollow(ran.said.strip())

@@ -204,6 +204,17 @@ class Timelines(unittest.TestCase):
             answers = sorted(it["args"]["answer"] for it in flows if "answer" in it["args"])
             self.assertEqual(answers, sorted(it[1] for it in words if it[0] == "answer"), name)
 
+    def test_takings_and_offers_of_a_calm_have_their_own_times(self) -> None:
+        what, events = self.events("lo-of-login")
+        of_calms = [it for it in what.moments() if str(it.happened.event).startswith("calm ")]
+        self.assertEqual({it.event.split(" ")[0] for it in of_calms}, {"quiet", "take", "offer"})
+        for it in of_calms:
+            crossed = [line.kind for line in it.lines if line.kind in ("out", "in", "answer")]
+            self.assertEqual(len(crossed), 0 if it.event == "quiet" else 1, it.event)
+        times = [it.time for it in what.moments()]
+        self.assertEqual(times, sorted({*times}))
+        self.assertTrue(all(it["dur"] > 0 for it in events if it["ph"] == "X" and it["pid"] == perfetto.FLOWS))
+
     def test_counters_end_as_the_state_says(self) -> None:
         for name in TRACED[1:4]:
             what, events = self.events(name)

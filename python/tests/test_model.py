@@ -21,6 +21,7 @@ from dorydate.model.runs import expected, network_is_good, opened
 from dorydate.model.script import BadLine, read_event, read_line
 from dorydate.model.subnet import Subnet
 from dorydate.model.topology import Topology, network_of, spelled
+from dorydate.model.trace_world import TracedWorld, state_of, traced_world
 from dorydate.model.verdict import says
 from dorydate.model.without import LACKING, opened_without
 from dorydate.model.world import World
@@ -160,3 +161,53 @@ class Lacked(unittest.TestCase):
         whole = opened(PAIR)
         assert isinstance(whole, Subnet)
         self.assertEqual(whole.numbers, NUMBERS)
+
+
+class TracesOfWorlds(unittest.TestCase):
+    def told(self, network: Topology, *lines: str) -> list[str]:
+        """Of each line of a trace its event, its round, and what is printed or changes."""
+        world = opened(network)
+        assert isinstance(world, World)
+        return [f"{it['number']}.{it['round']} {it['event']}: {', '.join([*it['printed'], *it['parts'], *it['programs']])}" for it in traced_world(world, lines)]
+
+    def test_takings_and_offers_by_which_something_crosses(self) -> None:
+        wanted = [
+            "1.0 contact 0/1 1/1: 0/1",
+            "2.1 offer 0/1: out 0/1 1/1 0 48, host 1/1, 0/1",
+            "2.1 take 1/1: in 0/1 1/1 0 48, ready 1/1 0/1, host 0/1, host 1/1, 1/1",
+            "2.1 offer 1/1: out 1/1 0/1 0 48, host 0/1, 1/1",
+            "2.2 take 0/1: answer rfnm 0/1 1/1 0, host 0/1, 0/1",
+            "2.2 take 0/1: in 1/1 0/1 0 48, ready 0/1 1/1, host 0/1, host 1/1, 0/1",
+            "2.2 take 1/1: answer rfnm 1/1 0/1 0, host 1/1, 1/1",
+            "4.0 take 0/1: ",
+        ]
+        self.assertEqual(self.told(Topology("plain", False, [(1, 2)], []), "contact 0/1 1/1", "calm 5", "calm 9", "take 0/1"), wanted)
+
+    def test_quiet_rounds_that_change_something(self) -> None:
+        wanted = [
+            "1.1 quiet: imp 1, imp 2",
+            "1.2 quiet: imp 1, imp 2",
+            "2.0 contact 0/1 0/2: 0/1",
+            "3.1 offer 0/1: out 0/1 0/2 0 48, imp 1, line 0, 0/1",
+            "3.2 quiet: imp 1, imp 2, line 0",
+            "3.2 take 0/2: in 0/1 0/2 0 48, ready 0/2 0/1, imp 2, line 0, 0/2",
+        ]
+        network = Topology("subnet", False, [(1, 1), (2, 1)], [(1, 2)])
+        self.assertEqual(self.told(network, "calm 9", "contact 0/1 0/2", "calm 2")[:6], wanted)
+
+    def test_what_a_calm_names_is_all_that_changes(self) -> None:
+        class Whole(TracedWorld):
+            def left(self, event: tuple[object, ...]) -> dict[str, object]:
+                return state_of(self.world)
+
+        for network in Topology("plain", False, [(1, 2)], []), Topology("subnet", False, [(1, 1), (2, 1)], [(1, 2)]):
+            host = "1/1" if network.carrier == "plain" else "0/2"
+            lines = ["calm 3", f"server {host} 7 100", f"contact 0/1 {host}", "calm 9", f"user 0/1 {host} 7 16", "calm 40", "type 0/1 A", "calm 9"]
+            traces = []
+            for kind in TracedWorld, Whole:
+                world = opened(network)
+                assert isinstance(world, World)
+                trace = kind(world)
+                traces.append([it for number, line in enumerate(lines, 1) for it in trace.happen(number, number, read_event(line, False), line)])
+            self.assertEqual(*traces)
+            self.assertTrue(any(it["services"] for it in traces[0] if it["round"]))

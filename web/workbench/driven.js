@@ -1,31 +1,37 @@
 /**
- * What happens within the rounds of a network whose hosts have programs, by a raw script that their crossings drive.
+ * What happens within the quiet rounds of a network whose hosts have programs, by a raw script that their crossings
+ * drive.
  *
- * The trace of such a network has its state after each event and each round, but no events within rounds, and not what
- * becomes of a frame. But each `out` that crosses is a line of a raw script. So a raw script over the same topology
- * does inside what the programs did: each crossing in its order, each inner event of the script as it is, and of each
- * round in which a host sends the network's part of it, event by event. Its trace is used only if it prints exactly the
- * crossings of the real one, and leaves exactly the network that the real one has after each event and each round.
+ * The trace of such a network has a quiet round as one event, and not what becomes of a frame. But each `out` that
+ * crosses is a line of a raw script. So a raw script over the same topology does inside what the programs did: each
+ * crossing in its order, each inner event of the script as it is, and each quiet round that changed something event by
+ * event. Its trace is used only if it prints exactly the crossings of the real one, and leaves exactly the network that
+ * the real one has after each event.
  */
 
-import { areAlike, between } from "./between.js";
 import { octetsOf, textOf } from "./octets.js";
-import { isOfHost, readTrace } from "./trace.js";
+import { isOfHost, isQuiet, readTrace } from "./trace.js";
 
 /** @typedef {import("../run/runner.js").Runner} Runner */
 /** @typedef {import("./topology.js").Network} Network */
 /** @typedef {import("./script.js").Input} Input */
 /** @typedef {import("./runs.js").Moment} Moment */
+/** @typedef {import("./trace.js").Part} Part */
 /** @typedef {import("./trace.js").Record} Record */
 /** @typedef {import("./trace.js").Trace} Trace */
-/** @typedef {import("./between.js").Traced} Traced */
 /** @typedef {{seconds: number, octets: number}} Limits */
 
-/** A line of a raw script, the step that it belongs to, and whether it is of the network's part of a round. */
+/** The trace of a network with host programs: its parts at the opening, and its events with all that each changed. */
+/** @typedef {{opening: {[name: string]: Part}, steps: Moment[]}} Traced */
+
+/** A line of a raw script, the step that it belongs to, and whether it is of a quiet round that is spelled out. */
 /** @typedef {{text: string, step: number, quiet: boolean}} Line */
 
 /** The most octets of an input that the program reads. */
 const MOST_OCTETS = 1_048_576;
+
+/** What does a round in which no host sends. */
+const ROUND = "calm 1";
 
 const INNER = [
     "take",
@@ -46,7 +52,7 @@ const INNER = [
 ];
 
 /**
- * The moments of a replay, event by event within its rounds; null where they can't be had.
+ * The moments of a replay, event by event within its quiet rounds; null where they can't be had.
  *
  * @param {Runner["run"]} run
  * @param {Input} input
@@ -56,13 +62,13 @@ const INNER = [
  * @returns {Promise<Moment[] | null>}
  */
 export async function driven(run, input, network, traced, limits) {
+    if (network.plain) return traced.steps;
     const head = rawHead(input);
     const frames = await framesOfRounds(run, head, network, traced.steps, limits);
     if (!frames) return null;
-    const lines = rawScript(network, traced.steps, frames);
+    const lines = rawScript(traced.steps, (step) => quietRound(network, frames.get(step) ?? []));
     const trace = await traceOf(run, head, lines, limits);
-    const moments = trace && joinedMoments(lines, trace.records, traced);
-    return moments && between(run, input, traced, moments, limits);
+    return trace && joinedMoments(lines, trace.records, traced);
 }
 
 /**
@@ -81,57 +87,62 @@ function isOut(line) {
 }
 
 /**
- * Whether a step is a round in which some host sends.
+ * The place after the last step of a round, or after an event in no calm.
+ *
+ * @param {Moment[]} steps
+ * @param {number} from its first step
+ */
+function endOfRound(steps, from) {
+    const { event, round } = steps[from];
+    let to = from + 1;
+    while (round && to < steps.length && steps[to].event === event && steps[to].round === round) to += 1;
+    return to;
+}
+
+/**
+ * The raw script. A quiet round is one line with the takings after it, unless some host sends in its round.
+ *
+ * @param {Moment[]} steps
+ * @param {(step: number) => string[]} quietLines the lines of a quiet round that is spelled out
+ * @returns {Line[]}
+ */
+function rawScript(steps, quietLines) {
+    /** @type {Line[]} */
+    const lines = [];
+    for (let from = 0; from < steps.length; ) {
+        const to = endOfRound(steps, from);
+        const mine = steps.slice(from, to);
+        if (isQuiet(mine[0]) && !mine.some((it) => it.words[0] === "offer")) {
+            lines.push({ text: ROUND, step: from, quiet: false });
+        } else {
+            mine.forEach((it, place) => {
+                const step = from + place;
+                const texts = isQuiet(it) ? quietLines(step) : linesOf(it);
+                lines.push(...texts.map((text) => ({ text, step, quiet: isQuiet(it) })));
+            });
+        }
+        from = to;
+    }
+    return lines;
+}
+
+/**
+ * The lines that do inside what an event did that is no quiet round.
  *
  * @param {Moment} step
  */
-function isSending({ round, printed }) {
-    return round > 0 && printed.some(isOut);
+function linesOf({ words, printed }) {
+    if (words[0] === "offer") return printed.filter(isOut);
+    return INNER.includes(words[0]) ? [words.join(" ")] : [];
 }
 
 /**
- * The crossings of a round as lines of a raw script.
- *
- * @param {string[]} printed
- */
-function crossings(printed) {
-    return printed.flatMap((line) => {
-        const words = line.split(" ");
-        if (words[0] === "out") return [line];
-        return words[0] === "in" ? [`take ${words[2]}`] : words[0] === "answer" ? [`take ${words[2]}`] : [];
-    });
-}
-
-/**
- * The raw script: `frames` has for each round in which a host sends how many frames arrive, line by line, first `+` and
- * then `-`.
+ * A quiet round, event by event.
  *
  * @param {Network} network
- * @param {Moment[]} steps
- * @param {Map<number, number[]>} frames
- * @returns {Line[]}
- */
-function rawScript(network, steps, frames) {
-    return steps.flatMap((it, step) => {
-        if (isSending(it)) {
-            const quiet = quietRound(network, frames.get(step) ?? []).map((text) => ({ text, step, quiet: true }));
-            return [...quiet, ...crossings(it.printed).map((text) => ({ text, step, quiet: false }))];
-        }
-        const { words } = it;
-        if (words[0] === "calm") return [{ text: words.join(" "), step, quiet: false }];
-        if (words[0] === "offer") return it.printed.filter(isOut).map((text) => ({ text, step, quiet: false }));
-        return INNER.includes(words[0]) ? [{ text: words.join(" "), step, quiet: false }] : [];
-    });
-}
-
-/**
- * The network's part of a round.
- *
- * @param {Network} network
- * @param {number[]} frames
+ * @param {number[]} frames how many arrive, line by line, first `+` and then `-`
  */
 function quietRound(network, frames) {
-    if (network.plain) return [];
     const lines = network.sites.flatMap(({ number }) => [`route ${number}`, `resend ${number}`]);
     frames.forEach((count, place) => {
         const way = `${place >> 1} ${place % 2 ? "-" : "+"} 0`;
@@ -141,8 +152,8 @@ function quietRound(network, frames) {
 }
 
 /**
- * How many frames arrive in each round in which a host sends: the raw script is run with more deliveries than there are
- * frames, and those beyond are refused.
+ * How many frames arrive in each quiet round that is spelled out: the raw script is run with more deliveries than there
+ * are frames, and those beyond are refused.
  *
  * @param {Runner["run"]} run
  * @param {string[]} head
@@ -152,18 +163,18 @@ function quietRound(network, frames) {
  * @returns {Promise<Map<number, number[]> | null>}
  */
 async function framesOfRounds(run, head, network, steps, limits) {
-    const sending = steps.flatMap((it, step) => (isSending(it) ? [step] : []));
-    if (network.plain || sending.length === 0) return new Map();
+    const spelled = [...new Set(rawScript(steps, () => [ROUND]).flatMap((it) => (it.quiet ? [it.step] : [])))];
+    if (spelled.length === 0) return new Map();
     for (let most = 8; most <= 256; most *= 2) {
-        const padded = paddedScript(network, steps, most);
-        const text = [...head, ...padded, ""].join("\n");
+        const padded = rawScript(steps, () => paddedRound(network, most));
+        const text = [...head, ...padded.map((line) => line.text), ""].join("\n");
         if (text.length > MOST_OCTETS) return null;
         const outcome = await run([], octetsOf(text), limits);
         if (outcome.ended !== "exit" || outcome.status !== 0) return null;
         const counts = counted(textOf(outcome).split("\n"), 2 * network.lines.length, most);
-        if (counts.length !== sending.length) return null;
+        if (counts.length !== spelled.length) return null;
         if (counts.every((it) => it.every((count) => count < most))) {
-            return new Map(sending.map((step, place) => [step, counts[place]]));
+            return new Map(spelled.map((step, place) => [step, counts[place]]));
         }
     }
     return null;
@@ -188,24 +199,19 @@ function beginning(network) {
 }
 
 /**
- * The raw script with `most` deliveries for each direction of a line, and a mark after each direction.
+ * A quiet round with `most` deliveries for each direction of a line, and a mark after each direction.
  *
  * @param {Network} network
- * @param {Moment[]} steps
  * @param {number} most
  */
-function paddedScript(network, steps, most) {
-    const empty = network.lines.flatMap(() => [0, 0]);
-    return steps.flatMap((it) => {
-        if (!isSending(it)) return rawScript(network, [it], new Map()).map((line) => line.text);
-        const lines = [...quietRound(network, empty), ...beginning(network)];
-        empty.forEach((_, place) => {
-            const way = `${place >> 1} ${place % 2 ? "-" : "+"} 0`;
-            for (let frame = 0; frame < most; frame += 1) lines.push(`deliver ${way}`, `drop ${way}`);
-            lines.push(separator(network));
-        });
-        return [...lines, ...crossings(it.printed)];
-    });
+function paddedRound(network, most) {
+    const lines = [...quietRound(network, []), ...beginning(network)];
+    for (let place = 0; place < 2 * network.lines.length; place += 1) {
+        const way = `${place >> 1} ${place % 2 ? "-" : "+"} 0`;
+        for (let frame = 0; frame < most; frame += 1) lines.push(`deliver ${way}`, `drop ${way}`);
+        lines.push(separator(network));
+    }
+    return lines;
 }
 
 /**
@@ -253,30 +259,28 @@ async function traceOf(run, head, lines, limits) {
 }
 
 /**
- * The moments of the real replay, joined with the records of the raw script; null where a crossing or a part differs.
+ * The moments of the real replay, with what happens within its quiet rounds; null where a crossing or a part differs.
  *
  * @param {Line[]} lines
  * @param {Record[]} records
  * @param {Traced} traced
  * @returns {Moment[] | null}
  */
-export function joinedMoments(lines, records, { opening, steps }) {
+function joinedMoments(lines, records, { opening, steps }) {
     const ofStep = recordsOfSteps(lines, records);
     const [inside, real] = [{ ...opening }, { ...opening }];
     /** @type {Moment[]} */
     const found = [];
     for (const [place, step] of steps.entries()) {
         const moments = momentsOfStep(step, ofStep.get(place) ?? []);
-        if (!moments) return null;
-        const ofNetwork = step.parts.filter(([name]) => !isOfHost(name));
-        if (!areAlike(inside, moments.flatMap((it) => it.parts), real, ofNetwork)) return null;
+        if (!moments || !areAlike(inside, moments.flatMap((it) => it.parts), real, step.parts)) return null;
         found.push(...moments);
     }
     return found;
 }
 
 /**
- * The records of each step. Of the network's part of a round that is spelled out, what was refused is left out.
+ * The records of each step. Of a quiet round that is spelled out, what was refused is left out.
  *
  * @param {Line[]} lines
  * @param {Record[]} records
@@ -284,68 +288,45 @@ export function joinedMoments(lines, records, { opening, steps }) {
 function recordsOfSteps(lines, records) {
     /** @type {Map<number, Record[]>} */
     const found = new Map();
-    for (const record of records) {
-        const { quiet, step } = lines[record.event];
-        if (quiet && record.printed.length) continue;
-        found.set(step, [...(found.get(step) ?? []), record]);
-    }
-    return found;
-}
-
-/**
- * The moments of a step, with the parts of the network that each left; null where a crossing differs.
- *
- * @param {Moment} step
- * @param {Record[]} left
- * @returns {Moment[] | null}
- */
-function momentsOfStep(step, left) {
-    /** @type {Moment[]} */
-    const found = [];
-    for (const moment of crossingMoments(step)) {
-        const wanted = moment.printed.filter((line) => /^(?:out|in|answer|down|up|refused) /.test(line));
-        for (let it = left[0]; it && it.printed.length === 0 && step.round; it = left[0]) {
-            const { words, fate, parts } = it;
-            found.push({ ...moment, words, fate, parts, printed: [], kinds: [] });
-            left.shift();
-        }
-        const record = isOfNetwork(moment) ? left.shift() : undefined;
-        if (record && JSON.stringify(record.printed) !== JSON.stringify(wanted)) return null;
-        if (!record && wanted.some((line) => !line.startsWith("refused "))) return null;
-        if (moment.words[0] === "calm" && found.length) continue;
-        found.push({ ...moment, fate: record?.fate ?? "", parts: record?.parts ?? [] });
-    }
-    return left.length ? null : found;
-}
-
-/**
- * The moments of a step: in a round each crossing is one, with the notices to users and services about it.
- *
- * @param {Moment} step
- * @returns {Moment[]}
- */
-function crossingMoments(step) {
-    if (step.round === 0 || step.printed.length === 0) return [{ ...step, parts: [] }];
-    /** @type {Moment[]} */
-    const found = [];
-    step.printed.forEach((line, place) => {
-        const [kind, first, second] = line.split(" ");
-        const deed = kind === "out" ? ["offer", first] : kind === "in" || kind === "answer" ? ["take", second] : null;
-        if (deed || found.length === 0) {
-            found.push({ ...step, words: deed ?? step.words, printed: [], kinds: [], parts: [] });
-        }
-        found[found.length - 1].printed.push(line);
-        found[found.length - 1].kinds.push(step.kinds[place]);
+    let taken = 0;
+    records.forEach((record, place) => {
+        const { text, quiet, step } = lines[record.event];
+        if (record.event !== records[place - 1]?.event) taken = 0;
+        if (text === ROUND && record.words[0] === "take") taken += 1;
+        if (quiet && record.printed.length) return;
+        found.set(step + taken, [...(found.get(step + taken) ?? []), record]);
     });
     return found;
 }
 
 /**
- * Whether a moment has a record of the raw script: it crosses, or happens inside.
+ * The moments of a step, with the parts that each left; null where a crossing differs.
  *
- * @param {Moment} moment
+ * @param {Moment} step
+ * @param {Record[]} records
+ * @returns {Moment[] | null}
  */
-function isOfNetwork(moment) {
-    if (moment.words[0] === "offer") return moment.printed.some(isOut);
-    return INNER.includes(moment.words[0]);
+function momentsOfStep(step, records) {
+    if (isQuiet(step)) return records.map(({ words, fate, parts }) => ({ ...step, words, fate, parts }));
+    const crossed = step.printed.filter((line) => /^(?:out|in|answer|down|up|refused) /.test(line));
+    const [record, ...more] = records;
+    if (more.length || (!record && crossed.some((line) => !line.startsWith("refused ")))) return null;
+    if (record && JSON.stringify(record.printed) !== JSON.stringify(crossed)) return null;
+    const ofHosts = step.parts.filter(([name]) => isOfHost(name));
+    return [{ ...step, fate: record?.fate ?? "", parts: [...(record?.parts ?? []), ...ofHosts] }];
+}
+
+/**
+ * Whether two folds of parts are alike after what each of them is given.
+ *
+ * @param {{[name: string]: Part}} one
+ * @param {[string, Part][]} left
+ * @param {{[name: string]: Part}} other
+ * @param {[string, Part][]} right
+ */
+function areAlike(one, left, other, right) {
+    for (const [name, part] of left) one[name] = part;
+    for (const [name, part] of right) other[name] = part;
+    const names = new Set([...left, ...right].map(([name]) => name));
+    return [...names].every((name) => JSON.stringify(one[name]) === JSON.stringify(other[name]));
 }

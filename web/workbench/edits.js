@@ -3,18 +3,22 @@
  *
  * Between two lines of the script the lines are put after the first. At the end of round r of `calm N` it becomes `calm
  * r`, the lines, and `calm N-r`. Within round r it becomes `calm r-1`, the events of round r that are done, as script
- * lines below a comment, the lines, and `calm N-r+1`: the rest of the round begins anew, so nothing is left lying.
+ * lines below a comment, the lines, and `calm N-r+1`: the rest of the round begins anew, so nothing is left lying. Where
+ * a quiet round as a whole is among the events that are done, which is no script line, the lines are put at the end of
+ * round r.
  */
 
 import { inPairs } from "./alike.js";
 import { withScript } from "./script.js";
+import { isQuiet } from "./trace.js";
 
 /** @typedef {import("./fold.js").History} History */
 
 /**
  * @typedef {object} Edit
  * @property {string} text the whole input
- * @property {number} position the position after what was done before, which is the same as it was
+ * @property {number} position the position after what was done before: the one that was asked for, or the end of its
+ *   round
  * @property {number} added how many lines of the script were added
  * @property {number} line the first of them
  */
@@ -31,16 +35,35 @@ import { withScript } from "./script.js";
 export function goOn(history, position, lines, cutOff = false) {
     const { input } = history.replay;
     const script = input.lines.map((it) => it.text);
-    const place = placeOf(history, position);
+    const at = spelledFrom(history, position);
+    const place = placeOf(history, at);
     const before = script.slice(0, place.line);
     const left = cutOff ? [] : [...place.after, ...script.slice(place.next)];
     const begun = [...before, ...place.before];
     return {
         text: withScript(input, [...begun, ...lines, ...left]),
-        position,
+        position: at,
         added: lines.length,
         line: begun.length + 1,
     };
+}
+
+/**
+ * The first position from a given one on at which what is done has script lines.
+ *
+ * @param {History} history
+ * @param {number} position
+ */
+function spelledFrom({ replay: { moments } }, position) {
+    const isSame = (/** @type {number} */ one, /** @type {number} */ other) => moments[one]?.round > 0
+        && moments[one].event === moments[other]?.event
+        && moments[one].round === moments[other].round;
+    let from = position;
+    while (isSame(from - 1, from - 2)) from -= 1;
+    if (!moments.slice(from - 1, position).some(isQuiet)) return position;
+    let to = position;
+    while (isSame(to - 1, to)) to += 1;
+    return to;
 }
 
 /**

@@ -7,6 +7,7 @@
 
 import { FAR } from "./state.js";
 import { farEnd, wayOf } from "./topology.js";
+import { isQuiet } from "./trace.js";
 
 /** @typedef {import("./runs.js").Moment} Moment */
 /** @typedef {import("./state.js").State} State */
@@ -36,7 +37,7 @@ import { farEnd, wayOf } from "./topology.js";
  * @property {number} to the IMP to which it came
  * @property {Packet[]} freed the packets that its acknowledgement bits freed
  * @property {{frame: Frame, line: number, to: number}[]} sent the frames that the moment put on lines, without bare
- *   acknowledgements; none of a whole round
+ *   acknowledgements; none of a quiet round as a whole
  * @property {0 | 1 | 2} weight 2: it printed something; 1: something new happened; 0: the rest
  */
 
@@ -144,7 +145,7 @@ function freedBy(line, imp, before, after) {
  * @param {State} after
  */
 function sentBy(moment, before, after) {
-    if (before.network.plain || moment.words[0] === "drop" || moment.words[0] === "calm") return [];
+    if (before.network.plain || moment.words[0] === "drop" || isQuiet(moment)) return [];
     return moment.parts.flatMap(([name]) => {
         if (!name.startsWith("line ")) return [];
         const line = Number(name.slice(5));
@@ -157,15 +158,6 @@ function sentBy(moment, before, after) {
 }
 
 /**
- * Whether a moment is a whole round, in which something changed.
- *
- * @param {Moment} moment
- */
-function isWholeRound({ words, parts }) {
-    return words[0] === "calm" && parts.length > 0;
-}
-
-/**
  * How much a moment matters.
  *
  * @param {Moment} moment
@@ -174,7 +166,7 @@ function isWholeRound({ words, parts }) {
  */
 function weightOf(moment, note) {
     if (moment.printed.length) return 2;
-    if (moment.round === 0 || isWholeRound(moment)) return 1;
+    if (moment.round === 0 || isQuiet(moment)) return 1;
     return note.fate === "fresh" || note.fate === "lost" || note.fate === "news" ? 1 : 0;
 }
 

@@ -2,8 +2,8 @@
  * Runs the program on an input and gives its moments: the elementary events in turn, what each printed, and the parts
  * that it left.
  *
- * The trace of a raw network is all that is needed. Where hosts have programs it has no events within rounds;
- * `driven.js` finds them out.
+ * The trace of a raw network is all that is needed. Where hosts have programs it has a quiet round as one event;
+ * `driven.js` finds out what happens within it.
  */
 
 import { driven } from "./driven.js";
@@ -22,7 +22,7 @@ import { readTrace } from "./trace.js";
  * @typedef {object} Moment
  * @property {number} event the place of its event among those of the script
  * @property {number} round the round of its calm, from 1; 0 in no calm
- * @property {string[]} words the elementary event, or `calm 1` for a whole round of host programs
+ * @property {string[]} words the elementary event, or `quiet` for a quiet round as a whole
  * @property {string[]} printed with the octets of messages
  * @property {string[]} kinds of each printed line what crossed; "" of a notice
  * @property {string} fate of a frame that was delivered, as the program judged it; "" of anything else
@@ -48,11 +48,11 @@ import { readTrace } from "./trace.js";
 /** How long a run may take and how much it may print. */
 export const LIMITS = { seconds: 8, octets: 36_000_000 };
 
-/** The most octets of a trace whose rounds are shown event by event. */
+/** The most octets of a trace whose quiet rounds are shown event by event. */
 const MOST_WITHIN = 8_000_000;
 
-/** The most events and rounds of an input with host programs that are followed. */
-const MOST_STEPS = 4_000;
+/** The most lines of the trace of an input with host programs that are followed. */
+const MOST_STEPS = 6_000;
 
 /**
  * Replays an input.
@@ -115,8 +115,8 @@ async function rawReplay(run, input, network, limits) {
 }
 
 /**
- * The replay of a network with host programs, by its trace: event by event within rounds where `driven.js` finds that
- * out, otherwise round by round.
+ * The replay of a network with host programs, by its trace: event by event within quiet rounds where `driven.js` finds
+ * that out, otherwise with each of them as a whole.
  *
  * @param {Runner["run"]} run
  * @param {Input} input
@@ -131,7 +131,7 @@ async function programReplay(run, input, network, limits) {
     if (!printed.includes("\n")) return { input, network, moments: [], opening: {}, cut: why };
     const { opening, records } = readTrace(printed, MOST_STEPS);
     const steps = records.map((it) => (it.round ? it : { ...it, words: input.events[it.event].words }));
-    const cut = why || (steps.length < MOST_STEPS ? "" : `Only the first ${MOST_STEPS} events and rounds are shown.`);
+    const cut = why || (steps.length < MOST_STEPS ? "" : `Only the first ${MOST_STEPS} events are shown.`);
     const isLarge = printed.length > MOST_WITHIN;
     const moments = cut || isLarge ? null : await driven(run, input, network, { opening, steps }, limits);
     return { input, network, moments: moments ?? steps, opening, cut };

@@ -274,15 +274,11 @@ export function hopsBetween(state, from, to) {
  */
 function silent(it) {
     const { words, parts } = it.moment;
-    const [kind, what, other] = words;
+    const [kind, what] = words;
     if (Object.hasOwn(TABLE["forms of programs"], kind) || kind === "take") {
         return filled(SILENT[kind === "take" || kind === "offer" ? kind : "asked"], { host: it.host(what) });
     }
-    if (kind === "calm") {
-        return other === "0" || what === "0"
-            ? SILENT["no round"]
-            : filled(SILENT.round, { round: it.moment.round || 1 });
-    }
+    if (kind === "quiet") return filled(SILENT.quiet, { round: it.moment.round });
     if (!it.network.plain && !parts.some(([name]) => !isOfHost(name))) return outside(it);
     return (INNER[kind] ?? outside)(it);
 }

@@ -129,7 +129,7 @@ export function stopWords(history, stop) {
     }
     const { words } = history.replay.moments[stop.main];
     const { frame, line, from, to } = history.notes[stop.main];
-    if (words[0] === "calm" && stop.round > 0) return "the round passes";
+    if (words[0] === "quiet") return "a quiet round";
     if (words[0] !== "deliver" && words[0] !== "drop") return words.join(" ");
     if (!frame || line < 0) return words.join(" ");
     const [a, b] = from ? [from, to] : wayOf(history.network, line, words[2]);

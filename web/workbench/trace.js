@@ -257,6 +257,15 @@ function partsOf({ parts, programs, services }) {
 }
 
 /**
+ * Whether an event is a quiet round of the network as a whole, which is no line of a script.
+ *
+ * @param {{words: string[]}} event
+ */
+export function isQuiet({ words }) {
+    return words[0] === "quiet";
+}
+
+/**
  * Whether a printed line tells of a crossing.
  *
  * @param {string} line

@@ -55,7 +55,7 @@ took_stable : (x y : Life) (h : List Bool) → ((TookAll x y h → ⊥) → ⊥)
 took_stable x y h never = (
   bits_stable x.bits y.bits (λ f. never (λ t. f t.0)),
   count_stable x.messages y.messages (λ f. never (λ t. f t.1)),
-  λ some. bits_stable x.bits h (λ f. never (λ t. f (t.2 some))),
+  bits_stable x.bits h (λ f. never (λ t. f t.2)),
 )
 
 -- ---- lives by their places
@@ -97,11 +97,11 @@ closed_first names lives handed fates log n are counts all = record {
       let h = read_at handed j.0 (omega (arith, counts, slice_get_within lives j.0 y j.1)) in
       let took = took_at names lives handed fates log n t.0 j.0 x y h.0 are all k.0 t.1 k.1 j.1 h.1 m in
       (took.0, took.1));
-  took_handed = λ x y text beside there m some.
+  took_handed = λ x y text beside there m.
       (let t = beside_place x fate.Ended lives (take n fates) beside in
       let k = get_took n fates t.0 fate.Ended t.2 in
       let j = beside_place y text lives handed there in
-      (took_at names lives handed fates log n t.0 j.0 x y text are all k.0 t.1 k.1 j.1 j.2 m).2 some);
+      (took_at names lives handed fates log n t.0 j.0 x y text are all k.0 t.1 k.1 j.1 j.2 m).2);
 }
 
 pub closed_at : (names : List Name) (lives : List Life) (handed : List (List Bool)) (fates : List Fate) (log : List Crossing) (n i : ℕ) → AreNamed (length lives) names lives log
@@ -114,7 +114,7 @@ closed_at names lives handed fates log n i are l w a x e f g r j (b, y, p, q, fi
     let m : Match log x y = fits_match log a x b y (c.2 ∙ ap (λ (z : Name). Some z) same) (d.2 ∙ ap (λ (z : Name). Some z) one) fit in
     let beside : IsBeside x fate.Ended lives (take n fates) = place_beside x fate.Ended lives (take n fates) i f (get_take n fates i fate.Ended l g) in
     let sent = w.took_sent x y beside (place_contains lives j y q) m in
-    lost (sent.0, sent.1, λ some. w.took_handed x y h beside (place_beside y h lives handed j q k) m some)
+    lost (sent.0, sent.1, w.took_handed x y h beside (place_beside y h lives handed j q k) m)
 
 -- fates past the lives are of none
 all_beside : (x : Life) (f : Fate) (lives : List Life) (fates : List Fate) → IsBeside x f lives fates → IsBeside x f lives (take (length lives) fates)
@@ -132,7 +132,7 @@ front_beside n x f lives fates h =
 pub closed_front : (log : List Crossing) (lives : List Life) (handed : List (List Bool)) (fates : List Fate) (n : ℕ) → ClosesWhole log lives handed fates → first_closed log lives handed fates n
 closed_front log lives handed fates n w = record {
   took_sent = λ x y beside c m. w.took_sent x y (front_beside n x fate.Ended lives fates beside) c m;
-  took_handed = λ x y text beside there m some. w.took_handed x y text (front_beside n x fate.Ended lives fates beside) there m some;
+  took_handed = λ x y text beside there m. w.took_handed x y text (front_beside n x fate.Ended lives fates beside) there m;
 }
 
 -- ---- what is found
@@ -143,7 +143,7 @@ closed_none names lives handed fates log are counts all =
     let w : ClosesWhole log lives handed (take (length lives) fates) = closed_first names lives handed fates log (length lives) are counts all in
     record {
       took_sent = λ x y beside c m. w.took_sent x y (all_beside x fate.Ended lives fates beside) c m;
-      took_handed = λ x y text beside there m some. w.took_handed x y text (all_beside x fate.Ended lives fates beside) there m some;
+      took_handed = λ x y text beside there m. w.took_handed x y text (all_beside x fate.Ended lives fates beside) there m;
     }
 
 pub closed_some : (names : List Name) (lives : List Life) (handed : List (List Bool)) (fates : List Fate) (log : List Crossing) (p : ℕ) (found : Finding) → AreNamed (length lives) names lives log
@@ -168,7 +168,7 @@ pub again_taken : (a : Name) (x : Life) (names : List Name) (lives : List Life) 
 again_taken a x names lives handed fates p (b, y, e, f, g, h, messages, bits) closed r i (c, z, s, t, fit, (text, at, lost)) =
     let u = repeats_true a x b y h in
     let kind : receives y ≡ true = ap (λ (n : Name). is_receive_socket n.own) (sym u.1) ∙ r in
-    closed b y e f g kind i (c, z, s, t, sym (fits_too a x b y c z u.0 u.1 u.2 u.3) ∙ fit, (text, at, λ took. lost (bits ∙ took.0, messages ∙ took.1, λ some. bits ∙ took.2 (λ none. some (bits ∙ none)))))
+    closed b y e f g kind i (c, z, s, t, sym (fits_too a x b y c z u.0 u.1 u.2 u.3) ∙ fit, (text, at, λ took. lost (bits ∙ took.0, messages ∙ took.1, bits ∙ took.2)))
 
 -- and so of the place of an earlier one that was found
 pub earlier_closed : (names : List Name) (lives : List Life) (handed : List (List Bool)) (fates : List Fate) (o : Option ℕ) (p : ℕ) → o ≡ Some p → IfSome o (ClosedAt names lives handed fates) → ClosedAt names lives handed fates p

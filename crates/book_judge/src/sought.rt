@@ -37,7 +37,7 @@ pub(crate) fn is_granted(life: &Life, messages: u128, bits: usize) -> bool
         && is_within(bits as u128, life.returned.bits, life.granted.bits)
 }
 
-/// Returns whether a life took all that another sent, and if it took any bit, all that was handed over there.
+/// Returns whether a life took all that another sent, and all that was handed over there.
 fn took_all(life: &Life, other: &Life, handed: &BitLog) -> bool
     ensures { MatchBool result (TookAll life.now other.now handed.now) (TookAll life.now other.now handed.now → ⊥) }
 {
@@ -47,7 +47,7 @@ fn took_all(life: &Life, other: &Life, handed: &BitLog) -> bool
     if !same_bits(&life.bits, &other.bits) {
         return false;
     }
-    life.bits.len() == 0 || same_bits(&life.bits, handed)
+    same_bits(&life.bits, handed)
 }
 
 /// Returns whether a life lost something that the one at a place sent, or that was handed over there.

@@ -48,7 +48,7 @@ kept_alone log messages = (record { counts = refl; stamped = λ x there. absurd 
 
 -- where there is no life nothing is lost
 none_closes : (log : List Crossing) → ClosesWhole log [] [] []
-none_closes log = record { took_sent = λ x y beside c m. absurd beside; took_handed = λ x y text beside there m some. absurd beside }
+none_closes log = record { took_sent = λ x y beside c m. absurd beside; took_handed = λ x y text beside there m. absurd beside }
 
 ended_logged : (f : Fate) → logged_fate f ≡ fate.Ended → f ≡ fate.Ended
 ended_logged fate.Open e = absurd (cc)
@@ -70,7 +70,7 @@ beside_logged x (y ∷ lives) (f ∷ fates) h = elim h [
 closes_logged : (log : List Crossing) (lives : List Life) (handed : List (List Bool)) (fates : List Fate) → ClosesWhole log lives handed fates → ClosesWhole log lives handed (map logged_fate fates)
 closes_logged log lives handed fates w = record {
   took_sent = λ x y beside c m. w.took_sent x y (beside_logged x lives fates beside) c m;
-  took_handed = λ x y text beside there m some. w.took_handed x y text (beside_logged x lives fates beside) there m some;
+  took_handed = λ x y text beside there m. w.took_handed x y text (beside_logged x lives fates beside) there m;
 }
 
 -- the lives and fates of the log of a world are those of its book

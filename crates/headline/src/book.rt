@@ -25,19 +25,19 @@ use net_sim::{Book, World};
 /// for the one that it matches (`comes`). Where a host gets RFNM of data, they were taken at an earlier moment,
 /// once (`answered`): so it means that they arrived, unless the receiving end was closing or gone. And a receiving
 /// life whose end its partner has closed, and no user of its host, took all that its partner sent (`closes`), also
-/// once it is over. It took all that was handed over in the life that it matches, if that had begun when the CLS
-/// was taken (`handed`), since a sender that closes first has sent all of that (`drained`). A receiving life whose
-/// end is open has all that was sent while nothing waits for it and its partner continues (`rests`). While no
-/// command is on its way between their hosts either, both have the same counters: what was granted and neither used
-/// nor returned (`agree`). So it is of every pair where each message between the two hosts was answered, and neither
-/// program has anything to say: no end closes there, but for a sender that drains (`calm`). So it is of all pairs once
-/// no host has anything to say (see [`World::rests`]), and each message between hosts that are up was answered
-/// (`settled`). The crossings determine the bits of all lives (`firsts`): a life's messages are the first on its link
-/// after both of its requests, and each message that went out is one of a sending life.
+/// once it is over. It took all that was handed over in the life that it matches (`handed`), since a sender that
+/// closes first has sent all of that (`drained`). A receiving life whose end is open has all that was sent while
+/// nothing waits for it and its partner continues (`rests`). While no command is on its way between their hosts
+/// either, both have the same counters: what was granted and neither used nor returned (`agree`). So it is of every
+/// pair where each message between the two hosts was answered, and neither program has anything to say: no end closes
+/// there, but for a sender that drains (`calm`). So it is of all pairs once no host has anything to say (see
+/// [`World::rests`]), and each message between hosts that are up was answered (`settled`). The crossings determine the
+/// bits of all lives (`firsts`): a life's messages are the first on its link after both of its requests, and each
+/// message that went out is one of a sending life.
 ///
 /// By `fated` there is one fate for each life, and it says whether the life is over. By `whole` an orderly close loses
 /// nothing: a receiving life that is over by CLS, and that nobody at its host had closed (its fate is `Ended`), took
-/// all that the life which it matches sent, and if it took any bit, all that was handed over there.
+/// all that the life which it matches sent, and all that was handed over there.
 pub fn book_of<C: Carrier>(world: &World<C>) -> &Book
     ensures value { result.now ≡ world.now.kept }
     ensures promise { Promised (C.calls.seen world.now.carrier).hosts result.now.book result.now.handed }

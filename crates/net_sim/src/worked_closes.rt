@@ -19,7 +19,8 @@ pub fn whole_closes()
     ensures less { ClosesWhole crossings (over giver ∷ over taker_of_nothing ∷ []) (eight ∷ [] ∷ []) (fate.Closed ∷ fate.Ended ∷ []) → ⊥ }
     ensures messages { ClosesWhole crossings (over giver ∷ over (record taker { messages = 2 }) ∷ []) (eight ∷ [] ∷ []) (fate.Closed ∷ fate.Ended ∷ []) → ⊥ }
 
-    // nor may more have been handed over than was sent, if it took any bit
+    // nor may more have been handed over than was sent, also if nothing was
     ensures handed { ClosesWhole crossings (over giver ∷ over taker ∷ []) ((eight ++ four) ∷ [] ∷ []) (fate.Closed ∷ fate.Ended ∷ []) → ⊥ }
-    ensures nothing { ClosesWhole crossings (over giver_of_nothing ∷ over taker_of_nothing ∷ []) (eight ∷ [] ∷ []) (fate.Closed ∷ fate.Ended ∷ []) }
+    ensures unsent { ClosesWhole crossings (over giver_of_nothing ∷ over taker_of_nothing ∷ []) (eight ∷ [] ∷ []) (fate.Closed ∷ fate.Ended ∷ []) → ⊥ }
+    ensures nothing { ClosesWhole crossings (over giver_of_nothing ∷ over taker_of_nothing ∷ []) ([] ∷ [] ∷ []) (fate.Closed ∷ fate.Ended ∷ []) }
 {}

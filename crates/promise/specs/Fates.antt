@@ -25,8 +25,8 @@ IsBeside x a [] others = ⊥
 IsBeside x a (y ∷ lives) [] = ⊥
 IsBeside x a (y ∷ lives) (b ∷ others) = ((x ≡ y) × (a ≡ b)) ⊎ IsBeside x a lives others
 
--- a receiving life that is over by CLS, and that nobody at its host had closed, took all that the life which it matches sent; and if it took any bit, all
--- that was handed over there
+-- a receiving life that is over by CLS, and that nobody at its host had closed, took all that the life which it matches sent, and all that was handed over
+-- there
 pub record ClosesWhole (log : List Crossing) (lives : List Life) (handed : List (List Bool)) (fates : List Fate) : Type 0 where
   pub took_sent : (receiver sender : Life) → IsBeside receiver fate.Ended lives fates → Contains lives sender → Match log receiver sender → (receiver.bits ≡ sender.bits) × (receiver.messages ≡ sender.messages)
-  pub took_handed : (receiver sender : Life) (text : List Bool) → IsBeside receiver fate.Ended lives fates → IsBeside sender text lives handed → Match log receiver sender → (receiver.bits ≡ [] → ⊥) → receiver.bits ≡ text
+  pub took_handed : (receiver sender : Life) (text : List Bool) → IsBeside receiver fate.Ended lives fates → IsBeside sender text lives handed → Match log receiver sender → receiver.bits ≡ text

@@ -22,6 +22,7 @@ pub mod Notices
 pub mod FirstLists
 pub mod Texts
 pub mod Stamps
+pub mod Unopened
 pub mod Calms
 pub mod FirstEnds
 pub mod Firsts

@@ -8,12 +8,14 @@ pub use Rattle.world_keeps_lives.proofs.FirstEnds.{HasOwner, Together}
 pub use Rattle.world_keeps_lives.proofs.Formed.{world_formed}
 pub use Rattle.world_keeps_lives.proofs.Goes.{IsOfTwo, Waits, all_go, unasked_by}
 pub use Rattle.world_keeps_lives.proofs.Hosts.{Holds, same_turned, waits}
-pub use Rattle.world_keeps_lives.proofs.Laws.{live, taken, world_handed, world_taken}
+pub use Rattle.world_keeps_lives.proofs.Laws.{handed, live, taken, world_handed, world_taken}
 pub use Rattle.world_keeps_lives.proofs.Moments.{has_ends, held}
 pub use Rattle.world_keeps_lives.proofs.Notices.{world_told}
 pub use Rattle.world_keeps_lives.proofs.Owners.{owner_found}
+pub use Rattle.world_keeps_lives.proofs.Requests.{Each, each_of, each_weaker}
 pub use Rattle.world_keeps_lives.proofs.Rows.{none_there}
 pub use Rattle.world_keeps_lives.proofs.Steps.{called_less, closed_less, good_queued, heard_less, sent_less}
 pub use Rattle.world_keeps_lives.proofs.Takes.{G, good_data, good_taken}
 pub use Rattle.world_keeps_lives.proofs.Texts.{texts_none, texts_one, texts_same}
 pub use Rattle.world_keeps_lives.proofs.Turns.{GoodTurn, good_ready, good_reset}
+pub use Rattle.world_keeps_lives.proofs.Unopened.{IsNoOpening, unopened}

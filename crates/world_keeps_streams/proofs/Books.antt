@@ -4,6 +4,7 @@ pub mod All
 pub mod Agree
 pub mod Answered
 pub mod Arrives
+pub mod Began
 pub mod Books
 pub mod Clauses
 pub mod Calm
@@ -32,4 +33,5 @@ pub mod Starts
 pub mod Streams
 pub mod Unasked
 pub mod Unclosed
+pub mod Went
 pub mod Whole

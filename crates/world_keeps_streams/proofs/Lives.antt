@@ -9,5 +9,7 @@ pub mod LeavesLists
 pub mod LeavesTold
 pub mod Left
 pub mod Lists
+pub mod Opened
 pub mod Present
 pub mod Since
+pub mod Unended

@@ -43,13 +43,10 @@ AllClose moments =
 
 -- ---- what was handed over
 
--- and of the sending life that it matches: that had begun by then
+-- so it was of this receiving life, by the sending life that it matches
 pub record WasClosedBy (moments : List Moment) (sender receiver : Life) : Type 0 where
   pub closed : WasClosedByPartner moments receiver
   pub matches : Match (crossings_of moments) receiver sender
-  pub partner : Life
-  pub there : Contains (kept_in closed.earlier).book.lives partner
-  pub same : own_request sender ≡ own_request partner
 
 -- it took all that was handed over in that life
 abbrev pub TookHanded : List Moment → Life → List Life → List (List Bool) → Type 0

@@ -73,13 +73,13 @@ pub fn lives()
     // some of them
     ensures came { (hosts : List Host) (moments : List Moment) → HaveAddresses hosts → mail.IsRun hosts (crossings_of moments) → IsTimeline hosts moments → AllCame moments }
 
-    // and all that was handed over in the life that it matches, if that had begun when the CLS was taken
+    // and all that was handed over in the life that it matches
     ensures handed { (hosts : List Host) (moments : List Moment) → HaveAddresses hosts → mail.IsRun hosts (crossings_of moments) → IsTimeline hosts moments → EachHanded moments }
 
-    // a receiving life whose fate is that it has ended was closed by its partner and by no user of its host, if it took any bit
+    // a receiving life whose fate is that it has ended was closed by its partner and by no user of its host
     ensures ended { LivesEnded }
 
-    // so an orderly close loses nothing: such a life took all that its partner sent, and if it took any bit, all that was handed over there
+    // so an orderly close loses nothing: such a life took all that its partner sent, and all that was handed over there
     ensures whole { LivesWhole }
 
     // the messages of each life are the first on its link after both of its requests, and each message that goes out is one of a sending life: so crossings
@@ -206,7 +206,7 @@ pub fn worked_closes()
     ensures stopped { WasClosedByPartner (Crossed (crossing.Down dialogue.first) ∷ ended_moments) over_eight }
     ensures open { IsClosedByPartner sent_moments took_eight → ⊥ }
 
-    // the life that it matches had begun, and isn't over, or is since its host has stopped: all that was handed over there is what was taken, and not less
+    // the life that it matches isn't over, or is since its host has stopped: all that was handed over there is what was taken, and not less
     ensures whole { WasClosedBy ended_moments gave took_eight }
     ensures left { WasClosedBy stopped_moments over_gave took_eight }
     ensures handed { TookHanded ended_moments took_eight (gave ∷ []) (eight ∷ []) }

@@ -137,10 +137,6 @@ tells {C} calls members spot old new e p a b h written =
     (subst (λ (line : List ℕ). Appends a b (ended_line line))
     (line_is members spot 0 old new (world.Happen e) p.event.items p.printed.items p.changes.parts.items p.changes.programs.items p.changes.services.items p.crossed shown happens.gains h.event says h.crossed h.changes) written)
 
--- it may have happened, too, where its line was not written
-pub passed_may : {C : Type 0} (calls : Calls C) (members : C → List (List ℕ)) (old new : WorldState C) (e : Event) (p : Passed) → HasPassed calls members old e new p → MayTell calls old e new []
-passed_may calls members old new e p h = let (shown, happens, says) = h.shows in (refl, (happens.outcome, happens.gives))
-
 -- ---- an event of a calm
 
 -- where something crossed a line is shown

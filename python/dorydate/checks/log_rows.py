@@ -125,14 +125,15 @@ VERDICTS = [
     ("1 100 0 0", "2 100 1 84", "kept"),
     ("receive 1 16 1 100", "receive 2 16 1 100", "broken lives line 10\nbroken grants lines 10 11"),
     ("send 1 16", "send 2 16", "broken lives line 11\nbroken grants lines 10 11"),
-    # closes: a receiving life that its partner ended took all that was sent, and if that was anything, all that was handed over there
+    # closes: a receiving life that its partner ended took all that was sent, and all that was handed over there
     (BOTH, f"{ENDED}\n{SENDER}\n{LISTS}", "broken closes lines 10 11"),
     (BOTH, f"{ENDED}\n{SENDER}\n{ALL_TAKEN}", "kept"),
     (BOTH, f"{ENDED}\n{SENDER.replace('open', 'ended')}\n{ALL_TAKEN}", "kept"),
     *((BOTH, f"{RECEIVER.replace('open', word)}\n{SENDER.replace('open', 'ended')}\n{LISTS}", "kept") for word in ("closed", "reset", "stopped")),
     *((BOTH, f"{NONE_TAKEN.replace('open', word)}\n{SENDER}\n{LISTS}", "kept") for word in ("open", "closed", "reset", "stopped")),
     (BOTH, f"{NONE_TAKEN.replace('open', 'ended')}\n{SENDER}\n{LISTS}", "broken closes lines 10 11"),
-    (DATA + BOTH, f"{NONE_TAKEN.replace('open', 'ended')}\n{NONE_SENT}\n{LISTS}", "kept"),
+    (DATA + BOTH, f"{NONE_TAKEN.replace('open', 'ended')}\n{NONE_SENT}\n{LISTS}", "broken closes lines 7 8"),
+    (DATA + BOTH, f"{NONE_TAKEN.replace('open', 'ended')}\n{NONE_SENT}\n{LIST}{LIST}", "kept"),
     (BOTH, f"{SENDER}\n{ENDED}\n{LISTS_TURNED}", "broken closes lines 11 10"),
     (BOTH, f"{ENDED}\n{LIST}", "broken streams line 10"),
     (BOTH, f"{NONE_TAKEN.replace('open', 'ended')}\n{LIST}", "kept"),

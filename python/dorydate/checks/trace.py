@@ -16,7 +16,7 @@ The traces of all examples over raw networks, and of random scripts, as the mode
 
 Then rules are broken in turn, and some script has to show it: events left out of a calm or given as one, parts that changed and are not
 named, parts compared with another state than the one before, values left out of the texts of parts, lines left out of the first line, and other fates of frames; and of networks with host programs
-traces without an RRP that is owed, without a service, and without others of what they tell have to be found wrong.
+traces in another order, without an RRP that is owed, without a service, and without others of what they tell have to be found wrong.
 """
 
 from __future__ import annotations
@@ -45,8 +45,9 @@ from dorydate.model.script import BadLine, Event, read_line
 from dorydate.model.subnet import Subnet
 from dorydate.model.topology import Topology, network_of
 from dorydate.model.topology import spelled as spelled_network
-from dorydate.model.trace import OF_BOXES, OF_SUBNET, Traced, all_parts, made_of, network_in, opening, spelled, text, traced
+from dorydate.model.trace import OF_BOXES, OF_SUBNET, Traced, all_parts, ends_trace, made_of, network_in, opening, spelled, text, traced
 from dorydate.model.trace_values import Object
+from dorydate.model.trace_world import ends_world
 from dorydate.parts import ROOT
 
 RUNS = 300
@@ -567,10 +568,10 @@ def document_is_right() -> bool:
     for given, told in examples:
         marker = given.index("%")
         network = network_of("\n".join(given[:marker]))
-        whole = [text(it) for it in [opening(network, opened_carrier(network)), *traced(opened_carrier(network), given[marker + 1 :])]]
+        whole = (ends_trace if network.raw else ends_world)(network, given[marker + 1 :])[1].splitlines()
         if not told or whole[-len(told) :] != told or told[0].startswith('{"trace"') and whole != told:
             return False
-    return len(examples) >= 2
+    return len(examples) >= 3
 
 
 def main() -> int:

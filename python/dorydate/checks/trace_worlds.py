@@ -1,31 +1,44 @@
-"""What ./check trace says of networks with host programs: each line of the program's trace is JSON, its lines and crossings are those
-of a replay and of its log, and who puts what it has in the place of what was before has, after each event and each round, the network,
-programs and services of the independent model, by which a round has a line only where it prints something or changes some of this. What is
-as it was is in no line."""
+"""What ./check trace says of networks with host programs: the program's trace is JSON, and its lines and crossings are those of a replay
+and of its log.
+
+- A calm has its lines in the order of its rounds: one quiet round at most, which comes first; then of each host, in order, 16 takings at
+  most and then 32 offers at most. By each something is printed or changed, a taking and an offer are of what crossed, and nothing is named
+  that is as it was.
+- The trace is that of the independent model, line by line, and who puts what a line has in the place of what was before has all that the
+  model has then of network, programs and services.
+- The column of events does the same again: in the model, where `quiet` is a quiet round of the network, and in the program where no line
+  has one. `quiet` is no line of a script.
+"""
 
 from __future__ import annotations
 
 import json
 import random
 import subprocess
+from collections import Counter
 from collections.abc import Callable, Iterator, Sequence
 from glob import glob
-from itertools import count
+from itertools import count, groupby
+from operator import itemgetter
 from typing import Any
 
 from dorydate.model.chance.worlds import Script, some_world
 from dorydate.model.runs import opened
-from dorydate.model.script import Event, read_line
+from dorydate.model.script import read_event, read_line
 from dorydate.model.topology import Topology, network_of
 from dorydate.model.topology import spelled as spelled_network
+from dorydate.model.trace import text
 from dorydate.model.trace_values import Object
-from dorydate.model.trace_world import state_of
-from dorydate.model.world import World
+from dorydate.model.trace_world import KINDS, opening_of, state_of, traced_world
+from dorydate.model.world import OFFERS, TAKES, World
 from dorydate.parts import ROOT
 
 MOST_ROUNDS = 400  # of calms in an example that the model follows
 EVENTS = 40  # of a random script, about
-KINDS = "parts", "programs", "services"  # what a line has of the state
+MOST_IMPS = 16  # of a network that is looked at after each line, and event by event once more
+MOST = {"quiet": 1, "take": TAKES, "offer": OFFERS}  # how many lines a round has at most: of takings and offers for each host
+
+Records = list[Object]
 
 
 class WrongWorld(Exception):
@@ -103,35 +116,76 @@ def held_up(program: str, octets: bytes) -> int:
     crossed = [it for it in printed(program, octets, "--log") if it.split(" ")[0] in ("out", "in", "answer", "down", "up")]
     if [as_logged(it) for record in records for it in record["crossed"]] != crossed:
         raise WrongWorld("the crossings are not those of the log")
-    follow(network, script.split("\n"), first, records)
+    look_at(network, script.split("\n"), first, records)
+    if all(it["event"] != "quiet" for it in records):
+        happens_again(program, document, first, records)
     return len(records)
 
 
-def follow(network: Topology, lines: Sequence[str], first: Object, records: Sequence[Object]) -> None:
-    """Compares the state after each event and round with that of the model, where that comes to the end."""
-    events = [(number, event) for number, event in enumerate((read_line(it, False) for it in lines), 1) if event]
-    if sum(event[1] for _, event in events if event[0] == "calm") > MOST_ROUNDS:
-        return
-    world = opened(network)
-    assert isinstance(world, World)
-    left = list(records)
+def look_at(network: Topology, lines: Sequence[str], first: Object, records: Records) -> None:
+    """Whether a trace has the lines that the rounds of its script have, and those of the model, where that comes to the end."""
+    in_order(lines, first, records)
+    if sum(event[1] for event in (read_line(it, False) for it in lines) if event and event[0] == "calm") <= MOST_ROUNDS:
+        follow(network, lines, first, records)
+        if len(network.imps) <= MOST_IMPS:
+            by_events(network, first, records)
+
+
+# ---- rounds
+
+
+def in_order(lines: Sequence[str], first: Object, records: Records) -> None:
+    """Whether each event has one line, and each calm those that its rounds may have; and nothing is named that is as it was."""
+    events = [(line, event, it) for line, it in enumerate(lines, 1) if (event := read_line(it, False))]
     held: Object = {key: dict(first[key]) for key in KINDS}
-    compare(state_of(world), held, "the opening")
-    for number, (line, event) in enumerate(events, 1):
-        rounds: list[tuple[int, Event]] = [(place, ("calm", 1)) for place in range(1, event[1] + 1)] if event[0] == "calm" else [(0, event)]
-        for place, happening in rounds:
-            before, shown = state_of(world), len(world.printed)
-            world.happen(*happening)
-            after = state_of(world)
-            if place and before == after and len(world.printed) == shown:
-                continue
-            record = left.pop(0) if left else {}
-            if (record.get("line"), record.get("number"), record.get("round")) != (line, number, place):
-                raise WrongWorld(f"line {line} has no line of its own in round {place}, or another round has one")
-            put_in(held, record, f"line {line}, round {place}")
-            compare(after, held, f"line {line}, round {place}")
-    if left:
-        raise WrongWorld("a round has a line that prints nothing and changes nothing")
+    of_events = {number: [*them] for number, them in groupby(records, itemgetter("number"))}
+    if [number for number, them in of_events.items() for _ in them] != sorted(it["number"] for it in records) or not {*of_events} <= {*range(1, len(events) + 1)}:
+        raise WrongWorld("the lines are not in the order of their events")
+    for number, (line, event, spelled) in enumerate(events, 1):
+        mine = of_events.get(number, [])
+        if any(it["line"] != line for it in mine):
+            raise WrongWorld(f"event {number} is not of line {line}")
+        if event[0] == "calm":
+            is_a_calm(mine, event[1], [*first["programs"]], f"line {line}")
+        elif [(it["round"], it["event"]) for it in mine] != [(0, spelled)]:
+            raise WrongWorld(f"line {line} has no line of its own")
+        for record in mine:
+            put_in(held, record, f"line {line}, round {record['round']}")
+
+
+def is_a_calm(records: Records, most: int, hosts: Sequence[str], where: str) -> None:
+    """Whether lines may be those of a calm of this many rounds."""
+    rounds = [(number, [*them]) for number, them in groupby(records, itemgetter("round"))]
+    numbers = [number for number, _ in rounds]
+    if numbers != sorted({*numbers}) or not {*numbers} <= {*range(1, most + 1)}:
+        raise WrongWorld(f"the rounds of {where} are not in their order")
+    for number, them in rounds:
+        is_a_round(them, hosts, f"{where}, round {number}")
+
+
+def is_a_round(records: Records, hosts: Sequence[str], where: str) -> None:
+    """Whether lines may be those of a round: a quiet round, and then of each host takings and offers."""
+    order = ["quiet", *(f"{kind} {host}" for host in hosts for kind in ("take", "offer"))]
+    places = [order.index(it["event"]) if it["event"] in order else -1 for it in records]
+    if -1 in places or places != sorted(places):
+        raise WrongWorld(f"in {where} something else happens, or in another order")
+    for event, times in Counter(it["event"] for it in records).items():
+        if times > MOST[event.split(" ")[0]]:
+            raise WrongWorld(f"in {where} there is `{event}` more often than a round has it")
+    for record in records:
+        kind, *of = record["event"].split(" ")
+        if crossed_by(record) != ([] if kind == "quiet" else [(kind, *of)]):
+            raise WrongWorld(f"in {where} `{record['event']}` is not of what crossed")
+        if not record["printed"] and not any(record[key] for key in KINDS):
+            raise WrongWorld(f"in {where} `{record['event']}` prints nothing and changes nothing")
+        if not {*record["programs"], *record["services"]} <= {*of} or kind == "quiet" and record["printed"]:
+            raise WrongWorld(f"in {where} `{record['event']}` is of another host, too")
+
+
+def crossed_by(record: Object) -> list[tuple[str, str]]:
+    """By which takings and offers something crossed."""
+    ends = {"out": ("offer", "from"), "in": ("take", "to")}
+    return [(kind, it.get(end, "")) for it in record["crossed"] for kind, end in [ends.get(it["kind"], ("take", "from"))]]
 
 
 def put_in(held: Object, record: Object, where: str) -> None:
@@ -143,79 +197,180 @@ def put_in(held: Object, record: Object, where: str) -> None:
             held[key][name] = value
 
 
-def compare(state: Object, record: Object, where: str) -> None:
-    """Compares what is known by a trace with what the model has."""
-    owed = json.loads(json.dumps(state))
-    if record["parts"] != owed["parts"]:
-        raise WrongWorld(f"after {where} the network has other parts")
-    for name, program in owed["programs"].items():
-        if in_order(record["programs"][name]) != in_order(program):
-            raise WrongWorld(f"after {where} the program of host {name} is {json.dumps(in_order(record['programs'][name]))}, and {json.dumps(in_order(program))} in the model")
-    for name, services in owed["services"].items():
-        if record["services"][name] != services:
-            raise WrongWorld(f"after {where} the services of host {name} are {json.dumps(record['services'][name])}, and {json.dumps(services)} in the model")
+# ---- beside the model
 
 
-def in_order(program: Object | None) -> Object | None:
-    """A program with its pairs and listeners in one order, and without pairs of which nothing is known."""
-    if program is None:
-        return None
-    pairs: list[Object] = [{**it, "busy": sorted(it["busy"])} for it in program["pairs"]]
-    known = [it for it in pairs if it["phase"] != "closed" or it["owed"] or it["busy"] or it["ends"] or it["commands"]]
-    return {"pairs": sorted(known, key=lambda it: str(it["peer"])), "listening": sorted(program["listening"], key=lambda it: int(it["socket"]))}
+def opened_world(network: Topology) -> World:
+    """A world of the model at its opening."""
+    world = opened(network)
+    assert isinstance(world, World)
+    return world
+
+
+def follow(network: Topology, lines: Sequence[str], first: Object, records: Records) -> None:
+    """Compares each line with that of the model, and the state after it with all that the model has."""
+    world, held = opened_world(network), {key: dict(first[key]) for key in KINDS}
+    same_line(opening_of(network, world), first)
+    left = iter(records)
+    for owed in traced_world(world, lines):
+        record = next(left, None)
+        where = f"line {owed['line']}, round {owed['round']}"
+        if record is None or not same_place(owed, record):
+            raise WrongWorld(f"in {where} `{owed['event']}` has no line of its own, or another event has one")
+        same_line(owed, record)
+        put_in(held, record, where)
+        if len(network.imps) <= MOST_IMPS:
+            same_state(world, held, where)
+    same_state(world, held, "the last line")
+    if next(left, None) is not None:
+        raise WrongWorld("there are lines after the last")
+
+
+def same_place(owed: Object, record: Object) -> bool:
+    """Whether two lines are about the same event."""
+    return all(owed[key] == record.get(key) for key in ("line", "number", "round", "event"))
+
+
+def same_line(owed: Object, record: Object) -> None:
+    """Whether a line is the one of the model, octet for octet."""
+    for key, value in owed.items():
+        found, wanted = text({key: record.get(key)}), text({key: value})
+        if found != wanted:
+            raise WrongWorld(f"in line {owed.get('line', 0)}, round {owed.get('round', 0)}, there is {found}, and {wanted} in the model")
+    if [*owed] != [*record]:
+        raise WrongWorld(f"a line has the keys {', '.join(record)}")
+
+
+def same_state(world: World, held: Object, where: str) -> None:
+    """Whether what is known by a trace is what the model has."""
+    if {key: dict(it) for key, it in state_of(world).items()} != held:
+        raise WrongWorld(f"after {where} the network, its programs or its services are other than those of the model")
+
+
+def by_events(network: Topology, first: Object, records: Records) -> None:
+    """Whether the column of events prints the same in the model and comes to the same."""
+    world, held = opened_world(network), {key: dict(first[key]) for key in KINDS}
+    for record in records:
+        if record["event"] == "quiet":
+            world.carry(world.carrier.quiet_round)
+        else:
+            world.happen(*read_event(record["event"], False))
+        put_in(held, record, f"line {record['line']}")
+    if world.printed != [line for record in records for line in record["printed"]]:
+        raise WrongWorld("the column of events prints other lines")
+    same_state(world, held, "the column of events")
+
+
+def happens_again(program: str, document: str, first: Object, records: Records) -> None:
+    """Whether the column of events, as a script, has the same trace but for where its events are."""
+    script = "\n".join([document, "%", *(it["event"] for it in records), ""])
+    told = [*map(read_json, printed(program, script.encode("latin-1"), "--trace"))]
+    as_script = [{**it, "line": place, "number": place, "round": 0} for place, it in enumerate(records, 1)]
+    if told != [first, *as_script]:
+        raise WrongWorld("the column of events has another trace")
 
 
 # ---- broken traces
 
-
-def of_pairs(change: Callable[[Object], Object]) -> Callable[[Object], Object]:
-    """A record with other pairs in the programs of its hosts."""
-    return lambda record: {**record, "programs": {host: it and {**it, "pairs": [*map(change, it["pairs"])]} for host, it in record["programs"].items()}}
+Change = Callable[[Records], Records]
 
 
-def of_ends(change: Callable[[Object], Object]) -> Callable[[Object], Object]:
+def each(change: Callable[[Object], Object]) -> Change:
+    """A trace with other records."""
+    return lambda records: [*map(change, records)]
+
+
+def of_pairs(change: Callable[[Object], Object]) -> Change:
+    """A trace with other pairs in the programs of its hosts."""
+    return each(lambda record: {**record, "programs": {host: it and {**it, "pairs": [*map(change, it["pairs"])]} for host, it in record["programs"].items()}})
+
+
+def of_ends(change: Callable[[Object], Object]) -> Change:
     return of_pairs(lambda pair: {**pair, "ends": [*map(change, pair["ends"])]})
 
 
-def of_services(change: Callable[[Object], Object]) -> Callable[[Object], Object]:
-    """A record with other services of its hosts."""
-    return lambda record: {**record, "services": {host: change(it) for host, it in record["services"].items()}}
+def of_services(change: Callable[[Object], Object]) -> Change:
+    """A trace with other services of its hosts."""
+    return each(lambda record: {**record, "services": {host: change(it) for host, it in record["services"].items()}})
 
 
-class Repeating:
+def repeating(records: Records) -> Records:
     """Each record with what the one before it has, too."""
+    before = [dict.fromkeys(KINDS, {}), *records]
+    return [{**record, **{key: {**last[key], **record[key]} for key in KINDS}} for last, record in zip(before, records)]
 
-    def __init__(self) -> None:
-        self.last: Object = {key: {} for key in KINDS}
 
-    def __call__(self, record: Object) -> Object:
-        found = {**record, **{key: {**self.last[key], **record[key]} for key in KINDS}}
-        self.last = record
+def in_whole_rounds(records: Records) -> Records:
+    """The events of a round as one line."""
+    found: Records = []
+    for (_, round_of), them in groupby(records, itemgetter("number", "round")):
+        last, *more = reversed([*them])
+        for it in more if round_of else ():
+            joined = {key: [*it[key], *last[key]] for key in ("crossed", "printed")}
+            last = {**last, **joined, **{key: {**it[key], **last[key]} for key in KINDS}}
+        found += [last] if round_of else [*reversed(more), last]
+    return found
+
+
+def exchanged(first: str, second: str) -> Change:
+    """Events of a round exchanged where one follows the other at once."""
+
+    def change(records: Records) -> Records:
+        found = [*records]
+        for at, (one, other) in enumerate(zip(records, records[1:])):
+            if one["round"] and (one["number"], one["round"]) == (other["number"], other["round"]) and one["event"].startswith(first) and other["event"].startswith(second):
+                found[at : at + 2] = [other, one]
+                return found
         return found
 
+    return change
 
-BROKEN: dict[str, Callable[[Object], Object]] = {
+
+def with_silent(records: Records) -> Records:
+    """A quiet round before the first event of each calm, of which nothing comes."""
+    silent: Object = {"event": "quiet", "crossed": [], "printed": [], "parts": {}, "programs": {}, "services": {}}
+    return [it for record in records for it in ([{**record, **silent}, record] if record["round"] == 1 else [record])]
+
+
+OF_ROUNDS: dict[str, Change] = {  # what the order of rounds shows without a model
+    "events of a round by themselves": in_whole_rounds,
+    "a quiet round before the takings": exchanged("quiet", "take"),
+    "takings before offers": exchanged("take", "offer"),
+    "the order of hosts": exchanged("offer", "take"),
+    "the rounds of calms": each(lambda record: {**record, "round": min(record["round"], 1)}),
+    "the calms of rounds": each(lambda record: {**record, "round": 0}),
+    "whose event it is": each(lambda record: {**record, "event": record["event"].replace("take ", "offer ") if record["round"] else record["event"]}),
+    "leaving out what shows nothing": with_silent,
+    "leaving out what is as it was": repeating,
+}
+BROKEN: dict[str, Change] = {
+    **OF_ROUNDS,
     "an RRP that is owed": of_pairs(lambda pair: {**pair, "owed": False}),
     "a command that waits": of_pairs(lambda pair: {**pair, "commands": pair["commands"][1:]}),
+    "the order of links": of_pairs(lambda pair: {**pair, "busy": sorted(pair["busy"])}),
     "the bits of an allocation": of_ends(lambda end: {**end, "allocation": {**end["allocation"], "bits": end["allocation"]["messages"]}}),
     "a closing that is due": of_ends(lambda end: {**end, "closing": {"own": "no", "peer": end["closing"]["peer"]}}),
     "the last service": of_services(lambda it: {**it, "running": it["running"][:-1]}),
     "that a service is over": of_services(lambda it: {**it, "running": [{**one, "over": False} if "over" in one else one for one in it["running"]]}),
     "where a typed line goes": of_services(lambda it: {**it, "typing": None}),
-    "leaving out what is as it was": Repeating(),
-    "a part of the network": lambda record: {**record, "parts": dict([*record["parts"].items()][1:])},
+    "a part of the network": each(lambda record: {**record, "parts": dict([*record["parts"].items()][1:])}),
+    "quiet rounds": lambda records: [it for it in records if it["event"] != "quiet"],
+    "offers": lambda records: [it for it in records if not it["round"] or not it["event"].startswith("offer ")],
 }
 
-WITH_ALL = "two-users-at-one-server", "a-reset-that-fails-and-one-that-works"  # in the traces of these examples is each of these
+WITH_ALL = "two-users-at-one-server", "a-reset-that-fails-and-one-that-works", "a-service-that-is-not-there"  # in these traces is each of these
 
 
-def is_found(program: str, change: Callable[[Object], Object]) -> bool:
-    """Whether a trace that is broken so is found to be wrong."""
+def is_found(program: str, change: Change, by_rounds: bool) -> bool:
+    """Whether a trace that is broken so is found to be wrong, perhaps by the order of its rounds without a model."""
     for octets in (octets for name, octets in examples() if name in WITH_ALL):
         document, script = octets.decode("latin-1").split("\n%\n", 1)
         first, *records = map(read_json, printed(program, octets, "--trace"))
         try:
-            follow(network_of(document), script.split("\n"), first, [*map(change, records)])
+            if by_rounds:
+                in_order(script.split("\n"), first, change(records))
+            else:
+                look_at(network_of(document), script.split("\n"), first, change(records))
         except WrongWorld:
             return True
     return False
@@ -229,4 +384,6 @@ def faults(program: str, runs: int) -> tuple[int, list[str]]:
             lines += held_up(program, octets)
         except (WrongWorld, json.JSONDecodeError) as why:
             wrong.append(f"{name}: {why}")
-    return lines, wrong + [f"traces without {name} pass" for name, change in BROKEN.items() if not is_found(program, change)]
+    passing = [name for name, change in BROKEN.items() if not is_found(program, change, False)]
+    passing += [f"{name}, by rounds," for name, change in OF_ROUNDS.items() if not is_found(program, change, True)]
+    return lines, wrong + [f"traces without {name} pass" for name in passing]

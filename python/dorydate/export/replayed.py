@@ -50,7 +50,7 @@ class Happened:
 
 @dataclass(frozen=True)
 class Moment:
-    """An elementary event: when it happened, what it printed, what became of its frame, and the parts that it left."""
+    """An event of a trace: when it happened, what it printed, what became of its frame, and the parts that it left."""
 
     time: int  # in microseconds
     happened: Happened
@@ -80,7 +80,7 @@ class Replayed:
         return dict(opening(self.trace)["parts"]) if self.trace else {}
 
     def moments(self) -> Iterator[Moment]:
-        """The elementary events of the trace, one microsecond after another; without a trace the events themselves."""
+        """The events of the trace, one microsecond after another; without a trace those of the script."""
         if not self.trace:
             yield from (Moment(it.second * MICROSECONDS, it, str(it.event), it.lines) for it in self.events)
             return

@@ -17,6 +17,7 @@ from dorydate.model.log import ends_log
 from dorydate.model.runs import End, expected, network_is_good
 from dorydate.model.topology import network_of
 from dorydate.model.trace import ends_trace
+from dorydate.model.trace_world import ends_world
 from dorydate.model.verdict import ends_audit
 
 
@@ -35,9 +36,7 @@ def ends(octets: bytes, options: Sequence[str]) -> End:
     if [*options] == ["--log"] and network_is_good(network, ["worlds"]):
         return ends_log(network, script)
     if [*options] == ["--trace"] and network_is_good(network, ["worlds"]):
-        if not network.raw:
-            sys.exit("model: here only raw networks have traces; ./check trace follows the program's of others")
-        return ends_trace(network, script)
+        return ends_trace(network, script) if network.raw else ends_world(network, script)
     return expected(options, network, script)
 
 
@@ -51,8 +50,6 @@ def check_cases(folder: str) -> int:
     wrong, names = 0, [it.with_suffix("") for it in sorted(Path(folder).glob("*.stdout"))]
     for name in names:
         options = read(name.with_name(f"{name.name}.args")).decode().split()
-        if options == ["--trace"] and b"raw = true" not in read(name):
-            continue  # the model has no traces of hosts with programs
         status, output, said = ends(read(name), options)
         if output != read(name.with_name(f"{name.name}.stdout")).decode():
             wrong += 1

@@ -59,7 +59,7 @@ class Pair:
         self.phase = CLOSED
         self.early = False  # whether an RRP was taken since the RST that is out
         self.owed = False  # whether an RRP is to go out
-        self.busy: set[int] = set()  # links with a message that has no answer
+        self.busy: list[int] = []  # links with a message that has no answer, the newest first
         self.ends: list[End] = []
         self.queue: list[bytes] = []  # commands that are to go out
 

@@ -73,7 +73,7 @@ class Host(HostRequests):
         self.told = []
         peer, (link, _, what) = found
         pair = self.pairs[peer]
-        pair.busy.add(link)
+        pair.busy = [link, *(it for it in pair.busy if it != link)]
         if isinstance(what, End):
             self.data_gone(what)
         elif what == "reset":

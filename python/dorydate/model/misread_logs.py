@@ -259,7 +259,7 @@ class MessagesOnly(Judge):
     """The bits of a life that was ended are only counted."""
 
     def took_all(self, life: Life, sender: Life) -> bool:
-        return (life.messages, len(life.bits)) == (sender.messages, len(sender.bits)) and len(life.bits) in (0, len(sender.handed))
+        return (life.messages, len(life.bits)) == (sender.messages, len(sender.bits)) and len(life.bits) == len(sender.handed)
 
 
 class SentOnly(Judge):
@@ -269,11 +269,11 @@ class SentOnly(Judge):
         return super().took_all(life, replace(sender, handed=life.bits))
 
 
-class HandedAtAll(Judge):
-    """A life that was ended and took nothing has to have taken all that was handed over."""
+class NothingExcuses(Judge):
+    """A life that was ended and took nothing needn't have taken what was handed over."""
 
     def took_all(self, life: Life, sender: Life) -> bool:
-        return super().took_all(life, sender) and life.bits == sender.handed
+        return super().took_all(life, sender if life.bits else replace(sender, handed=""))
 
 
 class LostOfTheFirst(Judge):
@@ -500,7 +500,7 @@ READERS: list[type[LogReader]] = [
 ]  # fmt: skip
 JUDGES: list[type[Judge]] = [
     FewerLists, MoreLists, ToldOfItsList, LineOfItsNumber, BreakBefore, LastMalformed, FirstAtOdds, WrongWayRound, FirstOfAll, NoMatch, MatchFirst,
-    SenderOfStream, SenderOfGrant, SenderEnded, AllWhole, WholeWhereClosed, WholeWhereReset, WholeWhereStopped, BitsOnly, MessagesOnly, SentOnly, HandedAtAll,
+    SenderOfStream, SenderOfGrant, SenderEnded, AllWhole, WholeWhereClosed, WholeWhereReset, WholeWhereStopped, BitsOnly, MessagesOnly, SentOnly, NothingExcuses,
     LostOfTheFirst, LostWithoutPartner, NoRun, RunAlone, FirstPartOnly, FormAlone, TwoSenders, RunBefore, BoxesStay, BoxesToItGo, BoxesGoAtOnce, NobodyIsDown, AnyAnswer,
     NoLives, CountsAreTrusted, LinkOfTheLastRequest, FirstRequestOnly, NoSize, AllOnTheLink, LastMessages, RequestsAnywhere,
 ]  # fmt: skip

@@ -1,19 +1,28 @@
-"""What a trace says of hosts, independently implemented: of their programs the pairs, ends, commands that wait, and what listens; and
-their services.
+"""Traces of networks whose hosts have programs, independently implemented: tools/model --trace < FILE prints the trace of an input.
 
-It was written from docs/trace.md over the independent model of a host's program. `check trace` compares the program with it.
+It was written from docs/trace.md over the independent model of hosts: of programs a trace has the pairs, ends, commands that wait, and what
+listens; and it has their services. `check trace` compares the program with it.
 """
 
 from __future__ import annotations
 
+from collections.abc import Iterable, Iterator
+
 from dorydate.model.commands import ALL, CLS, ECO, ERP, ERR, GVB, INR, INS, NAMES, RET, RTS, STR, read_numbers
-from dorydate.model.connections import GONE, End, Pair
+from dorydate.model.connections import CLOSED, GONE, End, Pair
 from dorydate.model.host import Host
+from dorydate.model.crossings import Passed
 from dorydate.model.names import HostName, address, spell_host
+from dorydate.model.runs import End as Ending
+from dorydate.model.runs import opened
+from dorydate.model.script import Event, read_line
 from dorydate.model.services import Echo, Running, Server, Terminal, User
-from dorydate.model.trace import all_parts
-from dorydate.model.trace_values import Object, text_of
+from dorydate.model.topology import Topology
+from dorydate.model.trace import all_parts, of, opening, text
+from dorydate.model.trace_values import Object, crossing_of, text_of
 from dorydate.model.world import World
+
+KINDS = "parts", "programs", "services"  # what a line has of the state
 
 # of each command that has fields: their names, and the octets of each
 FIELDS = {
@@ -60,18 +69,23 @@ def pair_of(peer: HostName, pair: Pair) -> Object:
         "peer": spell_host(peer),
         "phase": "early" if pair.phase == GONE and pair.early else pair.phase,
         "owed": pair.owed,
-        "busy": sorted(pair.busy),
+        "busy": [*pair.busy],
         "ends": [end_of(it) for it in pair.ends],
         "commands": [command_of(it) for it in pair.queue],
     }
+
+
+def is_known(pair: Pair) -> bool:
+    """Whether anything is known of a peer."""
+    return pair.phase != CLOSED or bool(pair.owed or pair.busy or pair.ends or pair.queue)
 
 
 def program_of(host: Host | None) -> Object | None:
     """The program of a host, None where the host is down."""
     if host is None:
         return None
-    pairs = [pair_of(peer, host.pairs[peer]) for peer in sorted(host.pairs, key=address)]
-    return {"pairs": pairs, "listening": [{"socket": socket, "size": size} for socket, size in sorted(host.listening.items())]}
+    pairs = [pair_of(peer, host.pairs[peer]) for peer in sorted(host.pairs, key=address) if is_known(host.pairs[peer])]
+    return {"pairs": pairs, "listening": [{"socket": socket, "size": size} for socket, size in host.listening.items()]}
 
 
 # ---- services
@@ -148,3 +162,76 @@ def state_of(world: World) -> Object:
         "programs": {spell_host(host): program_of(program) for host, program in world.hosts.items()},
         "services": {spell_host(host): services_of(world, host) for host in world.hosts},
     }
+
+
+# ---- lines
+
+
+class TracedWorld:
+    """The trace of a script: a record for each event, and in a calm for each event by which something is printed or changes."""
+
+    def __init__(self, world: World) -> None:
+        self.world, self.state = world, state_of(world)
+        self.shown = self.crossed = 0  # how much of what is printed and of what crossed is in records
+
+    def happen(self, line: int, number: int, event: Event, spelled: str) -> Iterator[Object]:
+        """The records of an event of the script: its line, which event it is, and that line's text. Each happens when it is asked for."""
+        if event[0] != "calm":
+            self.world.happen(*event)
+            yield self.record((line, number, 0), spelled, state_of(self.world))
+            return
+        for round_of, within in self.world.in_calm(event[1]):
+            record = self.record((line, number, round_of), " ".join([within[0], *map(spell_host, within[1:])]), self.left(within))
+            if self.has_line(record):
+                yield record
+
+    def has_line(self, record: Object) -> bool:
+        """Whether an event of a calm has a line."""
+        return bool(record["printed"] or any(record[kind] for kind in KINDS))
+
+    def left(self, event: Event) -> Object:
+        """What an event of a calm may have changed: a quiet round all parts of the network, and a host by which something crosses what
+        `take` and `out` may change, its program and its services."""
+        carrier, crossed = self.world.carrier, self.world.carrier.log[self.crossed :]
+        if event[0] == "quiet":
+            return {**dict.fromkeys(KINDS, {}), "parts": all_parts(carrier)}
+        if not crossed:
+            return dict.fromkeys(KINDS, {})
+        name, first = spell_host(event[1]), crossed[0]
+        inside = ("out", *first[1:]) if event[0] == "offer" and isinstance(first, Passed) else event
+        return {
+            "parts": {it: of(carrier).part(carrier, it) for it in of(carrier).names(carrier, inside, crossed)},
+            "programs": {name: program_of(self.world.hosts[event[1]])},
+            "services": {name: services_of(self.world, event[1])},
+        }
+
+    def record(self, numbers: tuple[int, int, int], spelled: str, now: Object) -> Object:
+        """The record of an event that has happened, with what of these texts is other than it was."""
+        shown, crossed = self.world.printed[self.shown :], self.world.carrier.log[self.crossed :]
+        self.shown, self.crossed = len(self.world.printed), len(self.world.carrier.log)
+        changed = {kind: {name: it for name, it in now[kind].items() if it != self.state[kind][name]} for kind in KINDS}
+        for kind in KINDS:
+            self.state[kind].update(changed[kind])
+        told = dict(zip(("line", "number", "round"), numbers))
+        return {**told, "event": spelled, "crossed": [crossing_of(it) for it in crossed], "printed": shown, **changed}
+
+
+def traced_world(world: World, lines: Iterable[str]) -> Iterator[Object]:
+    """The trace of a script, record by record, over a world that is at its opening: each happens when it is asked for."""
+    trace = TracedWorld(world)
+    events = [(line, event, spelled) for line, spelled in enumerate(lines, 1) if (event := read_line(spelled, False))]
+    for number, (line, event, spelled) in enumerate(events, 1):
+        yield from trace.happen(line, number, event, spelled)
+
+
+def opening_of(network: Topology, world: World) -> Object:
+    """The first record of a trace: the network, and the state at its opening."""
+    return {**opening(network, world.carrier), **state_of(world)}
+
+
+def ends_world(network: Topology, lines: Iterable[str]) -> Ending:
+    """How the program ends when it is asked for the trace of a network with host programs and a script."""
+    world = opened(network)
+    assert isinstance(world, World)
+    first = text(opening_of(network, world))
+    return 0, "".join(f"{it}\n" for it in [first, *map(text, traced_world(world, lines))]), ""

@@ -148,7 +148,7 @@ class Judge:
         return not all(is_granted(life, it.messages, len(it.bits)) for it in passed)
 
     def close_fails(self, log: Log, lives: Lives, life: Life) -> bool:
-        """A receiving life that its partner ended took less than a life sent that it matches, or, if it took anything, than was handed over there."""
+        """A receiving life that its partner ended took less than a life sent that it matches, or than was handed over there."""
         return self.is_judged(life) and any(match(log, life, it) and not self.took_all(life, it) for it in lives)
 
     def is_judged(self, life: Life) -> bool:
@@ -156,8 +156,8 @@ class Judge:
         return life.receives() and life.fate == "ended"
 
     def took_all(self, life: Life, sender: Life) -> bool:
-        """Whether a life took all that another sent, and, if that is anything, all that was handed over there."""
-        return (life.messages, life.bits) == (sender.messages, sender.bits) and life.bits in ("", sender.handed)
+        """Whether a life took all that another sent, and all that was handed over there."""
+        return (life.messages, life.bits) == (sender.messages, sender.bits) and life.bits == sender.handed
 
 
 def in_words(numbers: Iterable[int]) -> str:

@@ -8,7 +8,7 @@ their programs report, or why the event is refused.
 
 from __future__ import annotations
 
-from collections.abc import Callable
+from collections.abc import Callable, Iterator
 from typing import Any, TypeVar
 
 from dorydate.model.bits import bits_of
@@ -17,6 +17,7 @@ from dorydate.model.crossings import Carrier, Turned
 from dorydate.model.host import Host
 from dorydate.model.names import HostName, Refused, spell_host
 from dorydate.model.resting import is_looked_at
+from dorydate.model.script import Event
 from dorydate.model.services import Machine, Report, Request, Running, Server, Terminal, User, program_after
 
 TAKES, OFFERS = 16, 32  # so often a host takes and offers in a round of `calm` at most
@@ -119,24 +120,33 @@ class World:
 
     def calm(self, rounds: int) -> None:
         """Rounds, in each of which every host that is up takes what waits and then offers what it has. Refusals are not printed."""
+        for _ in self.in_calm(rounds):
+            pass
+
+    def in_calm(self, rounds: int) -> Iterator[tuple[int, Event]]:
+        """The events of a calm, each after it has happened, with the round that it is in: quiet rounds of the network, takings and offers."""
         for round_of in range(1, rounds + 1):
             before = len(self.carrier.log)
             state = self.carrier.state() if is_looked_at(round_of) else None
             self.carry(self.carrier.quiet_round)
+            yield round_of, ("quiet",)
             for host in [host for host, program in self.hosts.items() if program is not None]:
-                self.repeat(self.take, host, TAKES)
-                self.repeat(self.offer, host, OFFERS)
+                for event in self.turn(host):
+                    yield round_of, event
             if len(self.carrier.log) == before and (self.carrier.is_quiet() or state is not None and state == self.carrier.state()):
                 break  # nothing is left for a later round: nothing crossed, so no program has changed either
 
-    def repeat(self, event: Callable[[HostName], bool], host: HostName, times: int) -> None:
-        """Lets an event of a host happen as long as something comes of it, so often at most."""
-        for _ in range(times):
-            try:
-                if not event(host):
-                    return
-            except Refused:
-                return
+    def turn(self, host: HostName) -> Iterator[Event]:
+        """A host's takings and offers in a round, each after it has happened: as long as something comes of it, so often at most."""
+        for kind, event, times in ("take", self.take, TAKES), ("offer", self.offer, OFFERS):
+            is_more = True
+            while is_more and times:
+                try:
+                    is_more = event(host)
+                except Refused:
+                    is_more = False
+                times -= 1
+                yield kind, host
 
     # ---- what users ask for
 

@@ -54,7 +54,7 @@ export const TABLE = {
 "asked": "{Host's} program notes what its user asks for. What it has to send goes out when the host offers.",
 "no round": "No round passes.",
 "one round": "One round passes, and no host takes anything.",
-"round": "Round {round} passes, and no host takes anything.",
+"quiet": "Round {round} begins with a quiet round of the network: IMPs send, and frames arrive.",
 "rounds": "{rounds} rounds pass, and no host takes anything.",
 "giveup": "The network gives up {message}. Incomplete waits for {source}, unless that host is down.",
 "ask": "The IMP of {source} asks that of {destination} what became of the message on link {link}, if a route leads there.",

@@ -3,6 +3,7 @@ import { test } from "node:test";
 
 import { addedLines, goOn } from "../edits.js";
 import { stopsOf } from "../stops.js";
+import { isQuiet } from "../trace.js";
 import { exampleNames, historyOf, historyOfText } from "./examples.js";
 
 /** @typedef {import("../fold.js").History} History */
@@ -35,12 +36,12 @@ function printedBefore(history, position) {
 }
 
 /**
- * Whether a replay has rounds as a whole, and not what happens within them.
+ * Whether a replay has quiet rounds as a whole, and not what happens within them.
  *
  * @param {History} history
  */
-function isByRounds({ replay }) {
-    return replay.moments.some(({ words, printed }) => words[0] === "calm" && printed.length > 1);
+function hasQuiet({ replay }) {
+    return replay.moments.some(isQuiet);
 }
 
 /**
@@ -70,7 +71,7 @@ async function wrongWith(history, position, edit) {
         found.push("printed");
     }
     if (rounds(edit.text) !== rounds(history.replay.input.text)) found.push("rounds");
-    if (isByRounds(after) !== isByRounds(history)) found.push("inside");
+    if (hasQuiet(after) !== hasQuiet(history)) found.push("inside");
     const script = edit.text.split("\n%\n")[1].split("\n");
     if (script[edit.line - 1] !== "calm 0") found.push("place");
     return position < 0 ? [] : found;
@@ -95,6 +96,19 @@ for (const name of NAMES) {
         }
     });
 }
+
+test("after a quiet round as a whole, which is no script line, one goes on at the end of its round", async () => {
+    const history = await historyOf("arpanet-of-the-late-seventies");
+    assert(history);
+    const { moments } = history.replay;
+    const isSame = (/** @type {number} */ at) => moments[at].event === moments[at - 1].event
+        && moments[at].round === moments[at - 1].round;
+    const position = moments.findIndex((_, at) => at > 1 && isQuiet(moments[at - 1]) && isSame(at));
+    const edit = goOn(history, position, ["calm 0"]);
+    assert(edit.position > position && isSame(edit.position - 1) && !isSame(edit.position));
+    assert.deepEqual(await wrongWith(history, edit.position, edit), []);
+    assert.deepEqual(goOn(history, edit.position, ["calm 0"]), edit);
+});
 
 test("planted faults of going on are found", async () => {
     const history = await historyOf("arpanet-of-december-1969");

@@ -1,11 +1,23 @@
 import assert from "node:assert/strict";
 import { test } from "node:test";
 
+import { sentenceOf } from "../sentences.js";
+import { stopWords } from "../sheet.js";
 import { stopAt, stopsOf } from "../stops.js";
+import { isQuiet } from "../trace.js";
 import { exampleNames, exampleText, historyOf, historyOfText, storedOutput, twoImps } from "./examples.js";
 
-/** Examples that are too large for what happens within their rounds. */
-const BY_ROUNDS = ["arpanet-of-the-late-seventies"];
+/** Examples that are too large for what happens within their quiet rounds. */
+const WITH_QUIET = ["arpanet-of-the-late-seventies"];
+
+/**
+ * Whether what crosses in a moment is one thing if it is a taking or an offer, and otherwise nothing.
+ *
+ * @param {import("../runs.js").Moment} moment
+ */
+function crossesOnce({ words, kinds }) {
+    return kinds.filter((kind) => kind !== "").length === (words[0] === "take" || words[0] === "offer" ? 1 : 0);
+}
 
 for (const name of exampleNames()) {
     test(`${name}: the moments print what is stored, each stop once`, async () => {
@@ -13,8 +25,9 @@ for (const name of exampleNames()) {
         if (!history) return assert(/a-bad-line|an-unknown-event/.test(name), "only bad scripts have no replay");
         const { moments, cut } = history.replay;
         assert.equal(cut, "");
-        const isWhole = moments.some(({ words, printed }) => words[0] === "calm" && printed.length > 1);
-        assert.equal(isWhole, BY_ROUNDS.includes(name), "whether rounds are shown as a whole");
+        assert.equal(moments.some(isQuiet), WITH_QUIET.includes(name), "whether quiet rounds are shown as a whole");
+        const ofCalms = moments.filter(({ round }) => round > 0);
+        assert(ofCalms.every(crossesOnce), "in a calm each crossing has its taking or its offer");
         const brief = (/** @type {string} */ line) => (
             /^(?:in|out) /.test(line) ? line.split(" ").slice(0, 5).join(" ") : line
         );
@@ -93,4 +106,20 @@ test("the numbers of stops of December 1969", async () => {
     assert(history);
     assert.equal(history.length, 2244);
     assert.equal(exampleText("arpanet-of-december-1969").includes("calm 63"), true);
+});
+
+test("a quiet round that is shown as a whole is a step with a sentence, and takings follow it one by one", async () => {
+    const history = await historyOf("arpanet-of-the-late-seventies");
+    assert(history);
+    const { moments } = history.replay;
+    const stop = stopsOf(history, "arrival").find(({ main }) => main >= 0 && isQuiet(moments[main]));
+    assert(stop && stop.main === stop.from && stopWords(history, stop) === "a quiet round");
+    const { round } = moments[stop.main];
+    assert(sentenceOf(history, stop.main).startsWith(`Round ${round} begins with a quiet round of the network`));
+    const isFirst = (/** @type {number} */ at) => moments[at - 1]?.event !== moments[at].event
+        || moments[at - 1].round !== moments[at].round;
+    assert(moments.every((it, at) => !isQuiet(it) || isFirst(at)), "it is the first event of its round");
+    const taking = moments.findIndex((it, at) => it.words[0] === "take" && at > 0 && isQuiet(moments[at - 1]));
+    assert.equal(moments[taking].round, moments[taking - 1].round);
+    assert(/[.”]$/.test(sentenceOf(history, taking)));
 });

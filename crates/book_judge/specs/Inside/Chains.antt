@@ -59,9 +59,9 @@ FoundFirst Holds n (Some place) = (place < n) × ((i : ℕ) → i < place → Ho
 abbrev pub is_granted : Life → ℕ → ℕ → Bool
 is_granted x count size = nat_le (count + x.returned.messages) x.granted.messages && nat_le (size + x.returned.bits) x.granted.bits
 
--- a receiving life took all that a sending one sent, and if it took any bit, all that was handed over there
+-- a receiving life took all that a sending one sent, and all that was handed over there
 abbrev pub TookAll : Life → Life → List Bool → Type 0
-TookAll x y handed = (x.bits ≡ y.bits) × (x.messages ≡ y.messages) × ((x.bits ≡ [] → ⊥) → x.bits ≡ handed)
+TookAll x y handed = (x.bits ≡ y.bits) × (x.messages ≡ y.messages) × (x.bits ≡ handed)
 
 abbrev pub LosesOf : Life → Life → List (List Bool) → ℕ → Type 0
 LosesOf x y handed i = (h : List Bool) × (slice_get handed i ≡ Some h) × (TookAll x y h → ⊥)

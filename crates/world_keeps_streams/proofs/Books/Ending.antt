@@ -1,14 +1,13 @@
--- A receiving life that ended by its partner's CLS took all that its partner sent: an open one is of a connection that no user closed, and where its end
--- goes, the sender's CLS was heard.
-use Rattle.std.proofs.Common.{◌≡◌, ◌⊎◌, inl, inr, ℕ, zero, suc, ◌+◌, ◌≤◌, ◌==◌, not, Bool, true, false, List, [], ◌∷◌, ◌++◌, length, map, take, drop, filter, Some, None, refl, ap, sym, subst, ◌∙◌, arith}
+-- A receiving life that ended by CLS was closed by its partner: an open one is of a connection that no user has closed, and where its end goes, the sender's
+-- CLS was heard before.
+use Rattle.std.proofs.Common.{◌≡◌, ◌⊎◌, inl, inr, ℕ, suc, ◌≤◌, ◌==◌, Bool, true, false, if◌then◌else◌, List, [], ◌∷◌, ◌++◌, map, drop, filter, Some, None, refl, ap, sym, subst, ◌∙◌, arith}
 use Rattle.std.proofs.lemmas.Bool.{eqb-true}
-use Rattle.std.specs.List.{Contains}
 use Rattle.interface.specs.Host.{Host}
-use Rattle.ncp_control.specs.Numbers.{is_receive_socket}
+use Rattle.interface.proofs.lemmas.{or_false}
+use Rattle.ncp_control.specs.Numbers.{is_receive_socket, is_send_socket}
 use Rattle.stream_law.specs.Receivers.{Receiver}
-use Rattle.stream_law.specs.Within.{IsSafe}
-use Rattle.stream_law.proofs.lemmas.{Inv, safe_inv, some_is}
-use Rattle.host_pairs.specs.Entries.{is_mine_on, receives_on}
+use Rattle.stream_law.proofs.lemmas.{Inv, some_is}
+use Rattle.host_pairs.specs.Entries.{has_cls, is_ending, is_mine_on, receives_on}
 use Rattle.host_pairs.specs.declared.entry.Entry.{Entry}
 use Rattle.host_pairs.proofs.lemmas.{both}
 use Rattle.host_keeps_streams.specs.Ends.{AreReceiver}
@@ -21,44 +20,43 @@ use Rattle.sockets.specs.Requests.{served_notices}
 use Rattle.sockets.specs.declared.request.Request.TheVariants as request
 use Rattle.pairing_law.proofs.lemmas.{begins_fresh}
 use Rattle.promise.specs.Fates.{IsBeside, is_over}
-use Rattle.promise.specs.Safe.{IsGranted, Match, own_request, receives}
-use Rattle.promise.specs.declared.life.Amount.{Amount}
+use Rattle.promise.specs.Safe.{own_request, receives}
 use Rattle.promise.specs.declared.life.Fate.{Fate}
 use Rattle.promise.specs.declared.life.Fate.TheVariants as fate
 use Rattle.promise.specs.declared.life.Life.{Life}
-use Rattle.net_sim.specs.Book.{nothing}
 use Rattle.net_sim.specs.Story.{Asked, Moment, event_in, events_of, program}
-use Rattle.net_sim.specs.Timeline.{crossings_of}
 use Rattle.net_sim.specs.Told.{host_in, kept_in, notices_by}
-use Rattle.net_sim.proofs.lemmas.{kept_fated}
+use Rattle.net_sim.proofs.lemmas.{Coupled, kept_fated}
 use Rattle.world_keeps_lives.specs.Lives.{HasOpenEnd}
-use Rattle.world_keeps_lives.proofs.lemmas.{live, taken}
+use Rattle.world_keeps_lives.proofs.lemmas.{live}
 use Rattle.world_keeps_pairing.specs.Steps.{keeps}
+use Rattle.world_keeps_pairing.proofs.lemmas.{life_paired, served_in}
 use Rattle.world_keeps_streams.specs.Calls.{calls_by, own_calls}
 use Rattle.world_keeps_streams.specs.Closes.{IsClosedByPartner, WasClosedByPartner}
-use Rattle.world_keeps_streams.proofs.Carried.Streams.{all_bits}
 use Rattle.world_keeps_streams.proofs.Calls.Chain.{chain}
-use Rattle.world_keeps_streams.proofs.Deeds.Effects.{Among}
-use Rattle.world_keeps_streams.proofs.Lives.Fates.{Came, IsClose, IsGrant, Moved, TellsEnd, beside_of, beside_over, came}
+use Rattle.world_keeps_streams.proofs.Deeds.Effects.{Among, among_filter}
+use Rattle.world_keeps_streams.proofs.Lives.Fates.{Came, IsBegun, IsClose, Moved, TellsEnd, TellsOpening, beside_of, beside_over, came}
 use Rattle.world_keeps_streams.proofs.Lives.LeavesEnds.{still_stays}
-use Rattle.world_keeps_streams.proofs.Lives.Lists.{IsOf, Named, contains, drop_grown, grown, of_drop, of_left, of_map, of_parts}
+use Rattle.world_keeps_streams.proofs.Lives.Lists.{IsOf, Named, contains, drop_grown, grown, of_left, of_map, of_parts}
+use Rattle.world_keeps_streams.proofs.Lives.Opened.{lasts, was_open}
+use Rattle.world_keeps_streams.proofs.Requests.Own.{foreign_sends}
 use Rattle.world_keeps_streams.proofs.Requests.Sides.{Heard, Lawful, Own, coupled_in, lives_in}
 use Rattle.world_keeps_streams.proofs.Stays.Resets.{stays_on}
 use Rattle.world_keeps_streams.proofs.Steps.Kinds.{closed_by, kinds}
-use Rattle.world_keeps_streams.proofs.Steps.Overs.{AllHearNone, kept_calls, over_alike, over_same}
-use Rattle.world_keeps_streams.proofs.Steps.Shut.{IsBare, IsShut, asked_calls, bare_calls, closed_shut, has_closed, known_calls}
+use Rattle.world_keeps_streams.proofs.Steps.Overs.{AllHearNone, over_same}
+use Rattle.world_keeps_streams.proofs.Steps.Shut.{IsShut, asked_calls, closed_shut, end_back, known_calls}
 use Rattle.world_keeps_streams.proofs.Steps.Streams.{all_allowed, has_receiver}
 use Rattle.world_keeps_streams.proofs.Steps.Unsaid.{AllHear, IsHere, here_calls}
 use Rattle.world_keeps_streams.proofs.Books.All.{all_given}
 use Rattle.world_keeps_streams.proofs.Books.Arrives.{end_at, stays_of, unlike}
-use Rattle.world_keeps_streams.proofs.Books.Books.{one_own, same_name, sent}
-use Rattle.world_keeps_streams.proofs.Books.Clauses.{OldGranter, settled_r, settled_s}
+use Rattle.world_keeps_streams.proofs.Books.Books.{one_own}
+use Rattle.world_keeps_streams.proofs.Books.Clauses.{settled_r}
 use Rattle.world_keeps_streams.proofs.Books.Closes as closes
 use Rattle.world_keeps_streams.proofs.Books.Closes.{AtLink}
 use Rattle.world_keeps_streams.proofs.Books.Given.{off}
 use Rattle.world_keeps_streams.proofs.Books.Goes.{since_bound, since_on}
 use Rattle.world_keeps_streams.proofs.Books.Later as later
-use Rattle.world_keeps_streams.proofs.Books.Later.{named_request, same_link, took_all}
+use Rattle.world_keeps_streams.proofs.Books.Later.{named_request}
 use Rattle.world_keeps_streams.proofs.Books.Run.{below, whole}
 use Rattle.world_keeps_streams.proofs.Books.Whole.{GoesOn, PresentR, Receives, Whole, present_in, since}
 
@@ -80,56 +78,17 @@ at_link hosts ms l x i goes kind =
     let o : GoesOn x.host x.peer (Own x.host x.peer) (Heard x.host x.peer) ms w.j p.link p.g x = p.going goes in
     record { there = contains x (lives_in ms) i; receiving = kind; goes = goes; end = h; link = suc p.link; linked = o.linked h.end at.0 parts.0 (eqb-true h.end.own x.socket parts.1) }
 
--- on each link no user has closed its connection; or one had before it opened, and nothing is granted in it
-abbrev IsClear : Host → Host → List Moment → ℕ → Type 0
-IsClear a b ms c = (m : ℕ) → (HasClosed numbered b (suc m) c (own_calls a b ms) → ⊥) ⊎ IsBare (receiver_now numbered b (suc m) (own_calls a b ms)) c
-
 abbrev name_of : List Moment → Life → ℕ
 name_of ms x = name_now numbered x.peer (own_calls x.host x.peer ms) x.socket x.foreign
 
+-- no user has closed a connection on a link on which it has its end
+abbrev NoneShut : Host → Host → List Moment → ℕ → Type 0
+NoneShut a b ms c =
+    (m : ℕ) → (receiver_now numbered b (suc m) (own_calls a b ms)).end ≡ Some c
+    → HasClosed numbered b (suc m) c (own_calls a b ms) → ⊥
+
 IsOpen : List Moment → Life → Type 0
-IsOpen ms x = IsClear x.host x.peer ms (name_now numbered x.peer (own_calls x.host x.peer ms) x.socket x.foreign)
-
--- one in which nothing was granted yet
-clear_new : (hosts : List Host) (ms : List Moment) (l : Lawful hosts ms) (x : Life) → AtLink ms x → x.granted.messages ≡ 0 → IsOpen ms x
-unfolding IsOpen
-clear_new hosts ms l x k none m = by (has_closed numbered numbered_tells x.peer (suc m) (name_of ms x) (own_calls x.host x.peer ms)) where
-  stays : stay.stays x.host x.peer (events_of ms) ≡ true
-  stays = closes.stays hosts ms l x k
-
-  law_is : (j : ℕ) → ((later.at_now hosts x.host x.peer ms l).j j).x.receiver ≡ receiver_now numbered x.peer (suc j) (own_calls x.host x.peer ms)
-  law_is j = ((later.at_now hosts x.host x.peer ms l).j j).received_a stays
-
-  name_is : closes.c hosts ms l x k ≡ name_of ms x
-  name_is = (closes.place hosts ms l x k).1
-
-  here : (((later.at_now hosts x.host x.peer ms l).j (closes.n hosts ms l x k)).x.receiver.granted (closes.c hosts ms l x k)).messages ≡ 0
-  here = sym (closes.known hosts ms l x k).granted_messages ∙ none
-
-  some : (j : ℕ) → (((later.at_now hosts x.host x.peer ms l).j m).x.receiver.granted (closes.c hosts ms l x k)).messages ≡ j → (((later.at_now hosts x.host x.peer ms l).j m).x.receiver.granted (closes.c hosts ms l x k)).messages ≡ 0
-  some zero e = e
-  some (suc j) e =
-      let same : m ≡ closes.n hosts ms l x k = same_link hosts ms l x k m (omega (arith, e)) in
-      ap (λ (v : ℕ). (((later.at_now hosts x.host x.peer ms l).j v).x.receiver.granted (closes.c hosts ms l x k)).messages) same ∙ here
-
-  ungranted : ((receiver_now numbered x.peer (suc m) (own_calls x.host x.peer ms)).granted (name_of ms x)).messages ≡ 0
-  ungranted =
-      ap (λ (r : Receiver). (r.granted (name_of ms x)).messages) (sym (law_is m)) ∙ ap (λ (v : ℕ). (((later.at_now hosts x.host x.peer ms l).j m).x.receiver.granted v).messages) (sym name_is)
-      ∙ some (((later.at_now hosts x.host x.peer ms l).j m).x.receiver.granted (closes.c hosts ms l x k)).messages refl
-
-  by : HasClosed numbered x.peer (suc m) (name_of ms x) (own_calls x.host x.peer ms) ⊎ (HasClosed numbered x.peer (suc m) (name_of ms x) (own_calls x.host x.peer ms) → ⊥)
-      → (HasClosed numbered x.peer (suc m) (name_of ms x) (own_calls x.host x.peer ms) → ⊥) ⊎ IsBare (receiver_now numbered x.peer (suc m) (own_calls x.host x.peer ms)) (name_of ms x)
-  by (inr never) = inl never
-  by (inl closed) = inr (record {
-    shut =
-        closed_shut numbered numbered_tells x.peer (suc m) (name_of ms x) (own_calls x.host x.peer ms) (chain hosts l.0 ms l.1 l.2 x.host x.peer).0
-        (all_allowed hosts l.0 (suc m) (off m) x.host x.peer ms l.1 l.2) closed;
-    none = ungranted;
-  })
-
-none_long : (ts : List (List Bool)) → length ts ≤ 0 → ts ≡ []
-none_long [] e = refl
-none_long (t ∷ ts) e = absurd (omega (arith, e))
+IsOpen ms x = NoneShut x.host x.peer ms (name_now numbered x.peer (own_calls x.host x.peer ms) x.socket x.foreign)
 
 -- ---- a moment more, while its host stays
 
@@ -175,19 +134,24 @@ module _ (hosts : List Host) (y : Moment) (ms : List Moment) (l : Lawful hosts (
   name_is : its_c ≡ name_of ms x
   name_is = (closes.place hosts ms (below hosts y ms l) x (at_link hosts ms (below hosts y ms l) x i goes kind)).1
 
-  -- it stays clear, where no user closes it
-  clear_on : IsOpen ms x → (IsClose y x → ⊥) → IsClear x.host x.peer (y ∷ ms) its_c
+  -- ---- no user closes it
+
+  unshut_on : IsOpen ms x → (IsClose y x → ⊥) → NoneShut x.host x.peer (y ∷ ms) its_c
   unfolding IsOpen
-  clear_on clear un m = elim (clear m) [
-    | inl never ↦
-        inl (λ h. never (subst (λ (j : ℕ). HasClosed numbered x.peer (suc m) j (own_calls x.host x.peer ms)) name_is
-        (closed_by x.host x.peer ms x refl goes its_g (suc m) y (may m) un
-        (subst (λ (cs : List calls.Moment). HasClosed numbered x.peer (suc m) its_c cs) own_is h))))
-    | inr bare ↦
-        inr (subst (λ (cs : List calls.Moment). IsBare (receiver_now numbered x.peer (suc m) cs) its_c) (sym own_is)
-        (bare_calls numbered numbered_tells x.peer (suc m) its_c (calls_by x.host x.peer y ms) (own_calls x.host x.peer ms) history (may m)
-        (subst (λ (j : ℕ). IsBare (receiver_now numbered x.peer (suc m) (own_calls x.host x.peer ms)) j) (sym name_is) bare)))
-  ]
+  unshut_on clear un m end h =
+      clear m (end_was ∙ ap (λ (j : ℕ). Some j) name_is)
+      (subst (λ (j : ℕ). HasClosed numbered x.peer (suc m) j (own_calls x.host x.peer ms)) name_is closed_was) where
+        closed_was : HasClosed numbered x.peer (suc m) its_c (own_calls x.host x.peer ms)
+        closed_was =
+            closed_by x.host x.peer ms x refl goes its_g (suc m) y (may m) un
+            (subst (λ (cs : List calls.Moment). HasClosed numbered x.peer (suc m) its_c cs) own_is h)
+
+        end_was : (receiver_now numbered x.peer (suc m) (own_calls x.host x.peer ms)).end ≡ Some its_c
+        end_was =
+            end_back numbered numbered_tells x.peer (suc m) its_c (calls_by x.host x.peer y ms) (own_calls x.host x.peer ms) history (may m)
+            (closed_shut numbered numbered_tells x.peer (suc m) its_c (own_calls x.host x.peer ms) (chain hosts l.0 ms old.1 old.2 x.host x.peer).0
+            (all_allowed hosts l.0 (suc m) (off m) x.host x.peer ms old.1 old.2) closed_was).asked
+            (subst (λ (cs : List calls.Moment). (receiver_now numbered x.peer (suc m) cs).end ≡ Some its_c) own_is end)
 
   -- ---- the life then
 
@@ -230,12 +194,12 @@ module _ (hosts : List Host) (y : Moment) (ms : List Moment) (l : Lawful hosts (
       let gone_x : gone_now x.peer (own_calls x.host x.peer (y ∷ ms)) x.socket x.foreign ≡ its_g =
       ap (λ (n : ℕ). gone_now x.peer (own_calls x.host x.peer (y ∷ ms)) n x.foreign) (sym names.socket)
       ∙ ap (λ (n : ℕ). gone_now x.peer (own_calls x.host x.peer (y ∷ ms)) ((grown y ms).change x).socket n) (sym names.foreign) ∙ gone in
-      let here : IsClear x.host x.peer (y ∷ ms) (name_now numbered x.peer (own_calls x.host x.peer (y ∷ ms)) x.socket x.foreign) =
-      subst (λ (n : ℕ). IsClear x.host x.peer (y ∷ ms) (numbered x.socket x.foreign n)) (sym gone_x) (clear_on clear un) in
-      subst (λ (h : Host). IsClear h ((grown y ms).change x).peer (y ∷ ms) (name_now numbered ((grown y ms).change x).peer (own_calls h ((grown y ms).change x).peer (y ∷ ms)) ((grown y ms).change x).socket ((grown y ms).change x).foreign)) (sym names.host)
-      (subst (λ (p : Host). IsClear x.host p (y ∷ ms) (name_now numbered p (own_calls x.host p (y ∷ ms)) ((grown y ms).change x).socket ((grown y ms).change x).foreign)) (sym names.peer)
-      (subst (λ (n : ℕ). IsClear x.host x.peer (y ∷ ms) (name_now numbered x.peer (own_calls x.host x.peer (y ∷ ms)) n ((grown y ms).change x).foreign)) (sym names.socket)
-      (subst (λ (n : ℕ). IsClear x.host x.peer (y ∷ ms) (name_now numbered x.peer (own_calls x.host x.peer (y ∷ ms)) x.socket n)) (sym names.foreign) here)))
+      let here : NoneShut x.host x.peer (y ∷ ms) (name_now numbered x.peer (own_calls x.host x.peer (y ∷ ms)) x.socket x.foreign) =
+      subst (λ (n : ℕ). NoneShut x.host x.peer (y ∷ ms) (numbered x.socket x.foreign n)) (sym gone_x) (unshut_on clear un) in
+      subst (λ (h : Host). NoneShut h ((grown y ms).change x).peer (y ∷ ms) (name_now numbered ((grown y ms).change x).peer (own_calls h ((grown y ms).change x).peer (y ∷ ms)) ((grown y ms).change x).socket ((grown y ms).change x).foreign)) (sym names.host)
+      (subst (λ (p : Host). NoneShut x.host p (y ∷ ms) (name_now numbered p (own_calls x.host p (y ∷ ms)) ((grown y ms).change x).socket ((grown y ms).change x).foreign)) (sym names.peer)
+      (subst (λ (n : ℕ). NoneShut x.host x.peer (y ∷ ms) (name_now numbered x.peer (own_calls x.host x.peer (y ∷ ms)) n ((grown y ms).change x).foreign)) (sym names.socket)
+      (subst (λ (n : ℕ). NoneShut x.host x.peer (y ∷ ms) (name_now numbered x.peer (own_calls x.host x.peer (y ∷ ms)) x.socket n)) (sym names.foreign) here)))
 
   -- ---- or it is over
 
@@ -287,58 +251,6 @@ module _ (hosts : List Host) (y : Moment) (ms : List Moment) (l : Lawful hosts (
           absurd (no_end (filter (receives_on (suc its_n)) (pair_with x.peer (program x.host (y ∷ ms)).peers).entries) (receiver_now numbered x.peer (suc its_n) (own_calls x.host x.peer (y ∷ ms)))
           (has_receiver hosts l.0 (suc its_n) (off its_n) x.host x.peer (y ∷ ms) l.1 l.2) (ap (λ (v : Receiver). v.end) (sym (law_is its_n)) ∙ e))
       by (inr e) = ap (λ (v : Receiver). v.over its_c) (sym (law_is its_n)) ∙ e
-
-    shut : IsClear x.host x.peer (y ∷ ms) its_c
-        → later.IsShut hosts x.host x.peer (y ∷ ms) l its_c
-    shut clear m = (heard, by (clear m)) where
-      heard : ((later.at_now hosts x.host x.peer (y ∷ ms) l).j m).x.receiver.over its_c ≡ true
-      heard =
-          ap (λ (v : Receiver). v.over its_c) (law_is m)
-          ∙ ap (λ (f : ℕ → Bool). f its_c)
-          (over_alike numbered x.peer (suc m) (suc its_n) (own_calls x.host x.peer (y ∷ ms))) ∙ over
-
-      late_cls : (v : Bool) → (HasClosed numbered x.peer (suc m) its_c (own_calls x.host x.peer (y ∷ ms)) → ⊥)
-          → (receiver_now numbered x.peer (suc m) (own_calls x.host x.peer (y ∷ ms))).first its_c ≡ v → v ≡ false
-      late_cls true never e = absurd (never (closed_first numbered x.peer (suc m) its_c (own_calls x.host x.peer (y ∷ ms)) e))
-      late_cls false never e = refl
-
-      by : (HasClosed numbered x.peer (suc m) its_c (own_calls x.host x.peer (y ∷ ms)) → ⊥)
-          ⊎ IsBare (receiver_now numbered x.peer (suc m) (own_calls x.host x.peer (y ∷ ms))) its_c
-          → (((later.at_now hosts x.host x.peer (y ∷ ms) l).j m).x.receiver.first its_c ≡ false)
-          ⊎ ((((later.at_now hosts x.host x.peer (y ∷ ms) l).j m).x.receiver.granted its_c).messages ≡ 0)
-      by (inl never) =
-          inl (ap (λ (v : Receiver). v.first its_c) (law_is m) ∙ late_cls ((receiver_now numbered x.peer (suc m) (own_calls x.host x.peer (y ∷ ms))).first its_c) never refl)
-      by (inr bare) = inr (ap (λ (v : Receiver). (v.granted its_c).messages) (law_is m) ∙ bare.none)
-
-    -- no life of before both met last that answers its request has sent anything
-    early : (s : Life) → IsOf s (take (since x.host x.peer (y ∷ ms)) (lives_in (y ∷ ms))) → later.Answers hosts x.host x.peer (y ∷ ms) s (own_request ((grown y ms).change x)) → later.IsNothing hosts x.host x.peer s
-    early s j a = by (settled_s hosts x.host x.peer (Own x.host x.peer) (Heard x.host x.peer) (all_given hosts x.host x.peer) ms (below hosts y ms l) s (before.early none) a.host a.peer a.sending).granted where
-      before : later.Before hosts x.host x.peer y ms l s
-      before = later.before hosts x.host x.peer y ms l s a.host a.peer a.sending j
-
-      answers : later.Answers hosts x.host x.peer ms s (own_request x)
-      answers =
-          later.answers_before hosts x.host x.peer y ms l s (own_request x) before.there
-          (record { sending = a.sending; host = a.host; peer = a.peer; is = a.is ∙ ap (λ (v : _). Some v) (named_request x ((grown y ms).change x) names) })
-
-      by : ((s.messages ≡ 0) × (s.bits ≡ [])) ⊎ OldGranter ms s → (s.messages ≡ 0) × (s.bits ≡ [])
-      by (inl nothing) = nothing
-      by (inr o) =
-          let same : o.receiver ≡ x =
-          one_own hosts Own Heard (λ v w. all_given hosts v w) ms (below hosts y ms l) o.receiver x o.there i (same_name (own_request o.receiver) (own_request x) (sym o.matches.answered ∙ answers.is)) in
-          absurd (unlike x.ended (ap (λ (z : Life). z.ended) (sym same) ∙ o.over) goes)
-
-    through : IsOpen ms x → (IsClose y x → ⊥) → later.Through hosts x.host x.peer (y ∷ ms) l ((grown y ms).change x)
-    through clear un = record {
-      late = late_next;
-      g = rc.g;
-      own = rc.own;
-      shut =
-          subst (λ (v : ℕ). later.IsShut hosts x.host x.peer (y ∷ ms) l (numbered v ((grown y ms).change x).foreign rc.g)) (sym names.socket)
-          (subst (λ (v : ℕ). later.IsShut hosts x.host x.peer (y ∷ ms) l (numbered x.socket v rc.g)) (sym names.foreign)
-          (subst (λ (v : ℕ). later.IsShut hosts x.host x.peer (y ∷ ms) l (numbered x.socket x.foreign v)) (sym number) (shut (clear_on clear un))));
-      early = early;
-    }
 
     -- ---- while it continued its end had taken the sender's CLS
 
@@ -395,95 +307,88 @@ module _ (hosts : List Host) (y : Moment) (ms : List Moment) (l : Lawful hosts (
             (subst (λ (j : ℕ). HasClosed numbered x.peer k.link j (own_calls x.host x.peer ms)) (sym name_is) h));
       }
 
-      -- after that it took nothing more
-      taken_was : (m : ℕ) → (receiver_now numbered x.peer (suc m) (own_calls x.host x.peer (y ∷ ms))).taken its_c ≡ (receiver_now numbered x.peer (suc m) (own_calls x.host x.peer ms)).taken its_c
-      taken_was m =
-          ap (λ (cs : List calls.Moment). (receiver_now numbered x.peer (suc m) cs).taken its_c) own_is
-          ∙ (kept_calls numbered numbered_tells x.peer (suc m) its_c (calls_by x.host x.peer y ms) (own_calls x.host x.peer ms) history (may m)
-          (ap (λ (f : ℕ → Bool). f its_c) (over_alike numbered x.peer (suc m) (suc its_n) (own_calls x.host x.peer ms)) ∙ over_was)).taken
-
-      bits_next : ((grown y ms).change x).bits ≡ all_bits ((receiver_now numbered x.peer (suc rc.link) (own_calls x.host x.peer ms)).taken its_c)
-      bits_next =
-          rc.took.bits
-          ∙ ap (λ (j : ℕ). all_bits ((receiver_now numbered x.peer (suc rc.link) (own_calls x.host x.peer (y ∷ ms))).taken (numbered j ((grown y ms).change x).foreign rc.g))) names.socket
-          ∙ ap (λ (j : ℕ). all_bits ((receiver_now numbered x.peer (suc rc.link) (own_calls x.host x.peer (y ∷ ms))).taken (numbered x.socket j rc.g))) names.foreign
-          ∙ ap (λ (j : ℕ). all_bits ((receiver_now numbered x.peer (suc rc.link) (own_calls x.host x.peer (y ∷ ms))).taken (numbered x.socket x.foreign j))) number ∙ ap all_bits (taken_was rc.link)
-
-      -- so it had no bits then only if it has none now
-      none_then : x.bits ≡ [] → ((grown y ms).change x).bits ≡ []
-      none_then empty = bits_next ∙ by (((later.at_now hosts x.host x.peer ms (below hosts y ms l)).j rc.link).x.receiver.granted its_c).messages refl where
-        here : all_bits ((receiver_now numbered x.peer (suc its_n) (own_calls x.host x.peer ms)).taken its_c) ≡ []
-        here = ap (λ (v : Receiver). all_bits (v.taken its_c)) (sym (law_was its_n)) ∙ sym (closes.going hosts ms (below hosts y ms l) x k).bits ∙ empty
-
-        by : (j : ℕ) → (((later.at_now hosts x.host x.peer ms (below hosts y ms l)).j rc.link).x.receiver.granted its_c).messages ≡ j
-            → all_bits ((receiver_now numbered x.peer (suc rc.link) (own_calls x.host x.peer ms)).taken its_c) ≡ []
-        by zero e =
-            let safe : IsSafe ((later.at_now hosts x.host x.peer ms (below hosts y ms l)).j rc.link).x its_c =
-            safe_inv ((later.at_now hosts x.host x.peer ms (below hosts y ms l)).j rc.link).x ((later.at_now hosts x.host x.peer ms (below hosts y ms l)).j rc.link).joint.inv_x its_c in
-            let within : length (((later.at_now hosts x.host x.peer ms (below hosts y ms l)).j rc.link).x.receiver.taken its_c) + (((later.at_now hosts x.host x.peer ms (below hosts y ms l)).j rc.link).x.receiver.returned its_c).messages
-            ≤ (((later.at_now hosts x.host x.peer ms (below hosts y ms l)).j rc.link).x.receiver.granted its_c).messages = safe.taken.in_messages in
-            ap (λ (v : Receiver). all_bits (v.taken its_c)) (sym (law_was rc.link)) ∙ ap all_bits (none_long (((later.at_now hosts x.host x.peer ms (below hosts y ms l)).j rc.link).x.receiver.taken its_c) (omega (arith, within, e)))
-        by (suc j) e =
-            let same : rc.link ≡ its_n = same_link hosts ms (below hosts y ms l) x k rc.link (omega (arith, e)) in
-            ap (λ (m : ℕ). all_bits ((receiver_now numbered x.peer (suc m) (own_calls x.host x.peer ms)).taken its_c)) same ∙ here
-
-    -- where nothing was granted in it, it has no bits
-    bare_bits : ((grown y ms).change x).granted.messages ≡ 0 → ((grown y ms).change x).bits ≡ []
-    bare_bits none =
-        let t : IsGranted ((grown y ms).change x) ((grown y ms).change x).messages (length ((grown y ms).change x).bits) =
-        taken hosts (y ∷ ms) l.0 l.1 l.2 ((grown y ms).change x)
-        (contains ((grown y ms).change x) (lives_in (y ∷ ms)) (of_drop (since x.host x.peer (y ∷ ms)) ((grown y ms).change x) (lives_in (y ∷ ms)) late_next)) kind_next in
-        let tm : ((grown y ms).change x).messages + ((grown y ms).change x).returned.messages ≤ ((grown y ms).change x).granted.messages = t.messages in
-        let long : ((grown y ms).change x).messages ≡ length ((receiver_now numbered x.peer (suc rc.link) (own_calls x.host x.peer (y ∷ ms))).taken (numbered ((grown y ms).change x).socket ((grown y ms).change x).foreign rc.g)) = rc.took.messages in
-        rc.took.bits ∙ ap all_bits (none_long ((receiver_now numbered x.peer (suc rc.link) (own_calls x.host x.peer (y ∷ ms))).taken (numbered ((grown y ms).change x).socket ((grown y ms).change x).foreign rc.g)) (omega (arith, tm, none, long)))
-
-    -- its partner closed it, if it took any bit
-    took_any : IsOpen ms x → ((grown y ms).change x).granted ≡ x.granted → (((grown y ms).change x).bits ≡ []) ⊎ ((f : IsClosedByPartner ms x) × (x.bits ≡ [] → ((grown y ms).change x).bits ≡ []))
+    -- its partner had closed it, and no user of its host
+    closed_there : IsOpen ms x → IsClosedByPartner ms x
     unfolding IsOpen
-    took_any clear same = by (clear its_n) where
-      by : (HasClosed numbered x.peer (suc its_n) (name_of ms x) (own_calls x.host x.peer ms) → ⊥) ⊎ IsBare (receiver_now numbered x.peer (suc its_n) (own_calls x.host x.peer ms)) (name_of ms x)
-          → (((grown y ms).change x).bits ≡ []) ⊎ ((f : IsClosedByPartner ms x) × (x.bits ≡ [] → ((grown y ms).change x).bits ≡ []))
-      by (inl open_yet) =
-          let never : HasClosed numbered x.peer (suc its_n) its_c (own_calls x.host x.peer ms) → ⊥ = λ h. open_yet (subst (λ (j : ℕ). HasClosed numbered x.peer (suc its_n) j (own_calls x.host x.peer ms)) name_is h) in
-          inr (closed_then never, none_then never)
-      by (inr bare) =
-          inl
-          (bare_bits
-          (ap (λ (v : Amount). v.messages) same ∙ (closes.known hosts ms (below hosts y ms l) x k).granted_messages ∙ ap (λ (v : Receiver). (v.granted its_c).messages) (law_was its_n)
-          ∙ ap (λ (j : ℕ). ((receiver_now numbered x.peer (suc its_n) (own_calls x.host x.peer ms)).granted j).messages) name_is ∙ bare.none))
+    closed_there clear =
+        closed_then
+        (λ h. clear its_n (end_was ∙ ap (λ (j : ℕ). Some j) name_is) (subst (λ (j : ℕ). HasClosed numbered x.peer (suc its_n) j (own_calls x.host x.peer ms)) name_is h))
+
+-- ---- a life that begins
+
+no_close_opening : (y : Moment) (ms : List Moment) (x : Life) → TellsOpening x (notices_by y ms) → IsClose y x → ⊥
+unfolding served_notices
+no_close_opening (Asked h (request.Close socket)) ms x t i = t
+no_close_opening y ms x t i = i
+
+module _ (hosts : List Host) (y : Moment) (ms : List Moment) (l : Lawful hosts (y ∷ ms)) (x : Life) (i : IsOf x (lives_in (y ∷ ms))) (goes : x.ended ≡ false) (kind : receives x ≡ true) (host : host_in y ≡ x.host) (opens : TellsOpening x (notices_by y ms)) where
+  older : Lawful hosts ms
+  older = below hosts y ms l
+
+  sends : is_send_socket x.foreign ≡ true
+  sends =
+      let c : Coupled hosts (y ∷ ms) = coupled_in hosts (y ∷ ms) l in
+      foreign_sends x kind (life_paired hosts (y ∷ ms) c.story c.run l.1 (served_in hosts (y ∷ ms) l.2) x (contains x (lives_in (y ∷ ms)) i))
+
+  abbrev its : ℕ
+  its = name_now numbered x.peer (own_calls x.host x.peer (y ∷ ms)) x.socket x.foreign
+
+  -- on a link where a user had closed its connection before, it had an end whose CLS was said
+  module _ (is : own_calls x.host x.peer (y ∷ ms) ≡ calls_by x.host x.peer y ms ++ own_calls x.host x.peer ms) (m : ℕ) (end : (receiver_now numbered x.peer (suc m) (own_calls x.host x.peer (y ∷ ms))).end ≡ Some its)
+      (closed : HasClosed numbered x.peer (suc m) its (own_calls x.host x.peer (y ∷ ms))) where
+    history_new : IsHistory x.peer (calls_by x.host x.peer y ms ++ own_calls x.host x.peer ms)
+    history_new = subst (λ (cs : List calls.Moment). IsHistory x.peer cs) is (chain hosts l.0 (y ∷ ms) l.1 l.2 x.host x.peer).0
+
+    may_new : AreAllowed numbered x.peer (suc m) (calls_by x.host x.peer y ms ++ own_calls x.host x.peer ms)
+    may_new = subst (λ (cs : List calls.Moment). AreAllowed numbered x.peer (suc m) cs) is (all_allowed hosts l.0 (suc m) (off m) x.host x.peer (y ∷ ms) l.1 l.2)
+
+    closed_was : HasClosed numbered x.peer (suc m) its (own_calls x.host x.peer ms)
+    closed_was =
+        closed_by x.host x.peer ms x refl goes (gone_now x.peer (own_calls x.host x.peer (y ∷ ms)) x.socket x.foreign) (suc m) y may_new (no_close_opening y ms x opens)
+        (subst (λ (cs : List calls.Moment). HasClosed numbered x.peer (suc m) its cs) is closed)
+
+    shut_was : IsShut (receiver_now numbered x.peer (suc m) (own_calls x.host x.peer ms)) its
+    shut_was =
+        closed_shut numbered numbered_tells x.peer (suc m) its (own_calls x.host x.peer ms) (chain hosts l.0 ms older.1 older.2 x.host x.peer).0
+        (all_allowed hosts l.0 (suc m) (off m) x.host x.peer ms older.1 older.2) closed_was
+
+    end_was_new : (receiver_now numbered x.peer (suc m) (own_calls x.host x.peer ms)).end ≡ Some its
+    end_was_new =
+        end_back numbered numbered_tells x.peer (suc m) its (calls_by x.host x.peer y ms) (own_calls x.host x.peer ms) history_new may_new shut_was.asked
+        (subst (λ (cs : List calls.Moment). (receiver_now numbered x.peer (suc m) cs).end ≡ Some its) is end)
+
+    -- and there is none
+    none_said : (es : List Entry) (v : Receiver) → ((e : Entry) → Among e es → e.own ≡ x.socket → e.foreign ≡ x.foreign → is_ending e ≡ false)
+        → AreReceiver (name_now numbered x.peer (own_calls x.host x.peer ms)) es v → v.end ≡ Some its → v.closed ≡ true → ⊥
+    none_said [] v goes_on h e said = let no : None ≡ Some its = sym h ∙ e in absurd (cc)
+    none_said (f ∷ []) v goes_on h e said =
+        let same : name_now numbered x.peer (own_calls x.host x.peer ms) f.own f.foreign ≡ its = some_is _ _ (sym h.end ∙ e) in
+        let own : f.own ≡ x.socket = numbered_tells.own f.own f.foreign (gone_now x.peer (own_calls x.host x.peer ms) f.own f.foreign) x.socket x.foreign (gone_now x.peer (own_calls x.host x.peer (y ∷ ms)) x.socket x.foreign) same in
+        let foreign : f.foreign ≡ x.foreign = numbered_tells.foreign f.own f.foreign (gone_now x.peer (own_calls x.host x.peer ms) f.own f.foreign) x.socket x.foreign (gone_now x.peer (own_calls x.host x.peer (y ∷ ms)) x.socket x.foreign) same in
+        unlike (has_cls f.closing) (sym h.closed ∙ said) (or_false (has_cls f.closing) f.partner_closed (goes_on f (inl refl) own foreign)).0
+    none_said (f ∷ k ∷ more) v goes_on h e said = h
+
+    unshut : ⊥
+    unshut =
+        none_said (filter (receives_on (suc m)) (pair_with x.peer (program x.host ms).peers).entries) (receiver_now numbered x.peer (suc m) (own_calls x.host x.peer ms))
+        (λ e j own foreign. was_open hosts y ms l x kind sends host opens e (among_filter (receives_on (suc m)) (pair_with x.peer (program x.host ms).peers).entries e j).0 own foreign)
+        (has_receiver hosts l.0 (suc m) (off m) x.host x.peer ms older.1 older.2) end_was_new (shut_was.closed end_was_new)
+
+  begins_open : IsOpen (y ∷ ms) x
+  unfolding IsOpen
+  begins_open m end closed = by (keeps x.host x.peer (event_in y) (events_of ms)) refl where
+    by : (v : Bool) → keeps x.host x.peer (event_in y) (events_of ms) ≡ v → ⊥
+    by true on = unshut (later.own_if (keeps x.host x.peer (event_in y) (events_of ms)) (calls_by x.host x.peer y ms ++ own_calls x.host x.peer ms) [] on) m end closed
+    by false away =
+        subst (λ (cs : List calls.Moment). HasClosed numbered x.peer (suc m) its cs)
+        (ap (λ (v : Bool). if v then calls_by x.host x.peer y ms ++ own_calls x.host x.peer ms else []) away) closed
 
 -- ---- at every moment
 
-abbrev Passed : (hosts : List Host) (a b : Host) (ms : List Moment) → Lawful hosts ms → Life → Type 0
-Passed hosts a b ms l x = later.Through hosts a b ms l x ⊎ later.Done hosts a b ms x
-
--- it has no bits; or its partner had closed it, and no user of its host, and then it had bits
-HasHeard : List Moment → Life → Type 0
-HasHeard ms x = (x.bits ≡ []) ⊎ ((w : WasClosedByPartner ms x) × (w.receiver.bits ≡ [] → x.bits ≡ []))
-
--- one that ended so has taken all, or nothing was granted in it
-record IsFated (hosts : List Host) (ms : List Moment) (l : Lawful hosts ms) (x : Life) (f : Fate) : Type 0 where
+-- what the fate of a receiving life says of its connection
+record IsFated (hosts : List Host) (ms : List Moment) (x : Life) (f : Fate) : Type 0 where
   opened : f ≡ fate.Open → IsOpen ms x
-  ended : f ≡ fate.Ended → (x.granted ≡ nothing) ⊎ Passed hosts x.host x.peer ms l x
-  heard : f ≡ fate.Ended → HasHeard ms x
-
-no_close : (y : Moment) (ms : List Moment) (p : Host) (x : Life) → TellsEnd p (notices_by y ms) → IsClose y x → ⊥
-unfolding served_notices
-no_close (Asked h (request.Close socket)) ms p x t i = t
-no_close y ms p x t i = i
-
-no_grant : (y : Moment) (ms : List Moment) (p : Host) → TellsEnd p (notices_by y ms) → IsGrant y → ⊥
-unfolding served_notices
-no_grant (Asked h (request.Grant socket messages bits)) ms p t i = t
-no_grant y ms p t i = i
-
-no_bits : (bs : List Bool) → length bs ≤ 0 → bs ≡ []
-no_bits [] e = refl
-no_bits (b ∷ bs) e = absurd (omega (arith, e))
-
-renamed : (hosts : List Host) (ms : List Moment) (l : Lawful hosts ms) (a b : Host) (x : Life) → x.host ≡ a → x.peer ≡ b → Passed hosts a b ms l x → Passed hosts x.host x.peer ms l x
-renamed hosts ms l a b x host peer s =
-    subst (λ (h : Host). Passed hosts h x.peer ms l x) (sym host) (subst (λ (p : Host). Passed hosts a p ms l x) (sym peer) s)
+  ended : f ≡ fate.Ended → WasClosedByPartner ms x
 
 module _ (hosts : List Host) (y : Moment) (ms : List Moment) (l : Lawful hosts (y ∷ ms)) (z : Life) (g : Fate) (i : IsBeside z g (kept_in (y ∷ ms)).book.lives (kept_in (y ∷ ms)).fates) (kind : receives z ≡ true) where
   z_in : IsOf z (lives_in (y ∷ ms))
@@ -492,17 +397,18 @@ module _ (hosts : List Host) (y : Moment) (ms : List Moment) (l : Lawful hosts (
   z_over : z.ended ≡ is_over g
   z_over = beside_over (lives_in (y ∷ ms)) (kept_in (y ∷ ms)).fates z g (kept_fated (y ∷ ms)) i
 
-  fated_new : z.granted ≡ nothing → IsFated hosts (y ∷ ms) l z g
-  unfolding HasHeard
-  fated_new none = record {
-    opened = λ e. clear_new hosts (y ∷ ms) l z (at_link hosts (y ∷ ms) l z z_in (z_over ∙ ap is_over e) kind) (ap (λ (v : Amount). v.messages) none);
-    ended = λ e. inl none;
-    heard = λ e. inl (no_bits z.bits (omega (arith, within.bits, ap (λ (v : Amount). v.bits) none)));
-  } where
-    within : IsGranted z z.messages (length z.bits)
-    within = taken hosts (y ∷ ms) l.0 l.1 l.2 z (contains z (lives_in (y ∷ ms)) z_in) kind
+  z_sends : is_send_socket z.foreign ≡ true
+  z_sends =
+      let c : Coupled hosts (y ∷ ms) = coupled_in hosts (y ∷ ms) l in
+      foreign_sends z kind (life_paired hosts (y ∷ ms) c.story c.run l.1 (served_in hosts (y ∷ ms) l.2) z (contains z (lives_in (y ∷ ms)) z_in))
 
-  module _ (x : Life) (f : Fate) (j : IsBeside x f (kept_in ms).book.lives (kept_in ms).fates) (m : Moved y ms x f z g) (before : IsFated hosts ms (below hosts y ms l) x f) where
+  fated_new : IsBegun (host_in y) (notices_by y ms) z g → IsFated hosts (y ∷ ms) z g
+  fated_new b = record {
+    opened = λ e. begins_open hosts y ms l z z_in (z_over ∙ ap is_over e) kind b.host b.opens;
+    ended = λ e. absurd (lasts hosts y ms l z kind z_sends b.host b.opens (b.ends e));
+  }
+
+  module _ (x : Life) (f : Fate) (j : IsBeside x f (kept_in ms).book.lives (kept_in ms).fates) (m : Moved y ms x f z g) (before : IsFated hosts ms x f) where
     x_in : IsOf x (lives_in ms)
     x_in = beside_of (lives_in ms) (kept_in ms).fates x f j
 
@@ -511,9 +417,6 @@ module _ (hosts : List Host) (y : Moment) (ms : List Moment) (l : Lawful hosts (
 
     kind_x : receives x ≡ true
     kind_x = ap is_receive_socket (sym m.named.socket) ∙ kind
-
-    changed : Life
-    changed = (grown y ms).change x
 
     changed_in : IsOf ((grown y ms).change x) (lives_in (y ∷ ms))
     changed_in =
@@ -525,14 +428,8 @@ module _ (hosts : List Host) (y : Moment) (ms : List Moment) (l : Lawful hosts (
         one_own hosts Own Heard (λ v w. all_given hosts v w) (y ∷ ms) l ((grown y ms).change x) z changed_in z_in
         (named_request x ((grown y ms).change x) ((grown y ms).names x) ∙ sym (named_request x z m.named))
 
-    of_z : Passed hosts x.host x.peer (y ∷ ms) l ((grown y ms).change x) → Passed hosts z.host z.peer (y ∷ ms) l z
-    of_z s =
-        subst (λ (v : Life). Passed hosts v.host v.peer (y ∷ ms) l v) same
-        (renamed hosts (y ∷ ms) l x.host x.peer ((grown y ms).change x) ((grown y ms).names x).host ((grown y ms).names x).peer s)
-
-    fated_old : IsFated hosts (y ∷ ms) l z g
-    unfolding HasHeard
-    fated_old = record { opened = opens; ended = ends; heard = hears } where
+    fated_old : IsFated hosts (y ∷ ms) z g
+    fated_old = record { opened = opens; ended = ends } where
       opens : g ≡ fate.Open → IsOpen (y ∷ ms) z
       opens e =
           let was : f ≡ fate.Open = m.opens e in
@@ -544,105 +441,41 @@ module _ (hosts : List Host) (y : Moment) (ms : List Moment) (l : Lawful hosts (
           subst (λ (v : Life). IsOpen (y ∷ ms) v) same
           (open_on hosts y ms l x x_in goes kind_x on (ap (λ (v : Life). v.ended) same ∙ goes_z) (before.opened was) (m.unclosed e))
 
-      older : (x.granted ≡ nothing) ⊎ Passed hosts x.host x.peer ms (below hosts y ms l) x → x.ended ≡ true → (z.granted ≡ nothing) ⊎ Passed hosts z.host z.peer (y ∷ ms) l z
-      older (inl none) done = inl (ap (λ (v : Life). v.granted) (m.still done) ∙ none)
-      older (inr s) done = inr (of_z (later.next_is hosts x.host x.peer y ms l x refl refl kind_x x_in s))
+      older : WasClosedByPartner ms x → x.ended ≡ true → WasClosedByPartner (y ∷ ms) z
+      older w done = record {
+        there = contains z (lives_in (y ∷ ms)) z_in;
+        later = y ∷ w.later;
+        earlier = w.earlier;
+        is = ap (λ (ns : List Moment). y ∷ ns) w.is;
+        receiver = w.receiver;
+        then = w.then;
+        same = ap own_request (m.still done) ∙ w.same;
+      }
 
-      now : (f ≡ fate.Open) × (host_in y ≡ x.host) × TellsEnd x.peer (notices_by y ms) → z.ended ≡ true → Passed hosts z.host z.peer (y ∷ ms) l z
+      now : (f ≡ fate.Open) × (host_in y ≡ x.host) × TellsEnd x (notices_by y ms) → z.ended ≡ true → WasClosedByPartner (y ∷ ms) z
       now t over_z =
           let goes : x.ended ≡ false = x_over ∙ ap is_over t.0 in
           let was : stay.stays (host_in y) x.peer (events_of ms) ≡ true =
           subst (λ (h : Host). stay.stays h x.peer (events_of ms) ≡ true) (sym t.1) (stays_of hosts ms (below hosts y ms l) x (contains x (lives_in ms) x_in) goes) in
-          let on : stay.stays x.host x.peer (events_of (y ∷ ms)) ≡ true = subst (λ (h : Host). stay.stays h x.peer (events_of (y ∷ ms)) ≡ true) t.1 (still_stays hosts x.peer y ms l was t.2) in
-          of_z (inl (through hosts y ms l x x_in goes kind_x on (ap (λ (v : Life). v.ended) same ∙ over_z) (before.opened t.0) (no_close y ms x.peer x t.2)))
+          let on : stay.stays x.host x.peer (events_of (y ∷ ms)) ≡ true = subst (λ (h : Host). stay.stays h x.peer (events_of (y ∷ ms)) ≡ true) t.1 (still_stays hosts x.peer x y ms l was t.2) in
+          let closed : IsClosedByPartner ms x = closed_there hosts y ms l x x_in goes kind_x on (ap (λ (v : Life). v.ended) same ∙ over_z) (before.opened t.0) in
+          record { there = contains z (lives_in (y ∷ ms)) z_in; later = y ∷ []; earlier = ms; is = refl; receiver = x; then = closed; same = named_request x z m.named }
 
-      ends : g ≡ fate.Ended → (z.granted ≡ nothing) ⊎ Passed hosts z.host z.peer (y ∷ ms) l z
+      ends : g ≡ fate.Ended → WasClosedByPartner (y ∷ ms) z
       ends e = elim (m.ends e) [
         | inl was ↦ older (before.ended was) (x_over ∙ ap is_over was)
-        | inr t ↦ inr (now t (z_over ∙ ap is_over e))
-      ]
-
-      heard_older : HasHeard ms x → x.ended ≡ true → HasHeard (y ∷ ms) z
-      heard_older (inl none) done = inl (ap (λ (v : Life). v.bits) (m.still done) ∙ none)
-      heard_older (inr w) done = inr (
-        record {
-          there = contains z (lives_in (y ∷ ms)) z_in;
-          later = y ∷ w.0.later;
-          earlier = w.0.earlier;
-          is = ap (λ (ns : List Moment). y ∷ ns) w.0.is;
-          receiver = w.0.receiver;
-          then = w.0.then;
-          same = ap own_request (m.still done) ∙ w.0.same;
-        },
-        λ e. ap (λ (v : Life). v.bits) (m.still done) ∙ w.1 e,
-      )
-
-      ungranted : (z.granted ≡ x.granted) ⊎ IsGrant y → TellsEnd x.peer (notices_by y ms) → z.granted ≡ x.granted
-      ungranted (inl e) t = e
-      ungranted (inr p) t = absurd (no_grant y ms x.peer t p)
-
-      heard_now : (f ≡ fate.Open) × (host_in y ≡ x.host) × TellsEnd x.peer (notices_by y ms) → z.ended ≡ true → HasHeard (y ∷ ms) z
-      heard_now t over_z =
-          let goes : x.ended ≡ false = x_over ∙ ap is_over t.0 in
-          let was : stay.stays (host_in y) x.peer (events_of ms) ≡ true =
-          subst (λ (h : Host). stay.stays h x.peer (events_of ms) ≡ true) (sym t.1) (stays_of hosts ms (below hosts y ms l) x (contains x (lives_in ms) x_in) goes) in
-          let on : stay.stays x.host x.peer (events_of (y ∷ ms)) ≡ true = subst (λ (h : Host). stay.stays h x.peer (events_of (y ∷ ms)) ≡ true) t.1 (still_stays hosts x.peer y ms l was t.2) in
-          elim (took_any hosts y ms l x x_in goes kind_x on (ap (λ (v : Life). v.ended) same ∙ over_z) (before.opened t.0) (ap (λ (v : Life). v.granted) same ∙ ungranted m.granted t.2)) [
-            | inl none ↦ inl (ap (λ (v : Life). v.bits) (sym same) ∙ none)
-            | inr w ↦ inr (
-              record { there = contains z (lives_in (y ∷ ms)) z_in; later = y ∷ []; earlier = ms; is = refl; receiver = x; then = w.0; same = named_request x z m.named },
-              λ e. ap (λ (v : Life). v.bits) (sym same) ∙ w.1 e,
-            )
-          ]
-
-      hears : g ≡ fate.Ended → HasHeard (y ∷ ms) z
-      hears e = elim (m.ends e) [
-        | inl was ↦ heard_older (before.heard was) (x_over ∙ ap is_over was)
-        | inr t ↦ heard_now t (z_over ∙ ap is_over e)
+        | inr t ↦ now t (z_over ∙ ap is_over e)
       ]
 
 fated_next : (hosts : List Host) (y : Moment) (ms : List Moment) (l : Lawful hosts (y ∷ ms)) (z : Life) (g : Fate) → IsBeside z g (kept_in (y ∷ ms)).book.lives (kept_in (y ∷ ms)).fates → receives z ≡ true
-    → ((x : Life) (f : Fate) → IsBeside x f (kept_in ms).book.lives (kept_in ms).fates → receives x ≡ true → IsFated hosts ms (below hosts y ms l) x f) → Came y ms z g → IsFated hosts (y ∷ ms) l z g
-fated_next hosts y ms l z g i kind before (inr none) = fated_new hosts y ms l z g i kind none
+    → ((x : Life) (f : Fate) → IsBeside x f (kept_in ms).book.lives (kept_in ms).fates → receives x ≡ true → IsFated hosts ms x f) → Came y ms z g → IsFated hosts (y ∷ ms) z g
+fated_next hosts y ms l z g i kind before (inr b) = fated_new hosts y ms l z g i kind b
 fated_next hosts y ms l z g i kind before (inl o) = fated_old hosts y ms l z g i kind o.0 o.1 o.2 o.3 (before o.0 o.1 o.2 (ap is_receive_socket (sym o.3.named.socket) ∙ kind))
 
-fated : (hosts : List Host) (ms : List Moment) (l : Lawful hosts ms) (z : Life) (g : Fate) → IsBeside z g (kept_in ms).book.lives (kept_in ms).fates → receives z ≡ true → IsFated hosts ms l z g
+fated : (hosts : List Host) (ms : List Moment) (l : Lawful hosts ms) (z : Life) (g : Fate) → IsBeside z g (kept_in ms).book.lives (kept_in ms).fates → receives z ≡ true → IsFated hosts ms z g
 fated hosts [] l z g i kind = absurd i
 fated hosts (y ∷ ms) l z g i kind = fated_next hosts y ms l z g i kind (λ x f j k. fated hosts ms (below hosts y ms l) x f j k) (came y ms z g i)
 
--- ---- so it took all
-
--- where nothing was granted nothing was sent
-took_nothing : (hosts : List Host) (ms : List Moment) → Lawful hosts ms → (x s : Life) → Contains (lives_in ms) x → Contains (lives_in ms) s → Match (crossings_of ms) x s → x.granted ≡ nothing
-    → (x.bits ≡ s.bits) × (x.messages ≡ s.messages)
-took_nothing hosts ms l x s here there m none =
-    let t : IsGranted x x.messages (length x.bits) = taken hosts ms l.0 l.1 l.2 x here m.receiving in
-    let u : IsGranted x s.messages (length s.bits) = sent hosts Own Heard (λ v w. all_given hosts v w) ms l x s here there m in
-    let gm : x.granted.messages ≡ 0 = ap (λ (v : Amount). v.messages) none in
-    let gb : x.granted.bits ≡ 0 = ap (λ (v : Amount). v.bits) none in
-    let tm : x.messages + x.returned.messages ≤ x.granted.messages = t.messages in
-    let tb : length x.bits + x.returned.bits ≤ x.granted.bits = t.bits in
-    let um : s.messages + x.returned.messages ≤ x.granted.messages = u.messages in
-    let ub : length s.bits + x.returned.bits ≤ x.granted.bits = u.bits in
-    (no_bits x.bits (omega (arith, tb, gb)) ∙ sym (no_bits s.bits (omega (arith, ub, gb))), omega (arith, tm, um, gm))
-
-pub ended_whole : (hosts : List Host) (ms : List Moment) → Lawful hosts ms → (x s : Life) → IsBeside x fate.Ended (kept_in ms).book.lives (kept_in ms).fates → Contains (lives_in ms) s → Match (crossings_of ms) x s
-    → (x.bits ≡ s.bits) × (x.messages ≡ s.messages)
-ended_whole hosts ms l x s i there m = elim ((fated hosts ms l x fate.Ended i m.receiving).ended refl) [
-  | inl none ↦ took_nothing hosts ms l x s (contains x (lives_in ms) x_in) there m none
-  | inr state ↦ took_all hosts x.host x.peer ms l x refl refl m.receiving x_in state s there m
-] where
-  x_in : IsOf x (lives_in ms)
-  x_in = beside_of (lives_in ms) (kept_in ms).fates x fate.Ended i
-
--- where it took any bit its partner had closed it, and no user of its host; and it had bits when it was so
-pub record HeardThen (ms : List Moment) (x : Life) : Type 0 where
-  pub closed : WasClosedByPartner ms x
-  pub some : closed.receiver.bits ≡ [] → ⊥
-
-pub ended_heard : (hosts : List Host) (ms : List Moment) → Lawful hosts ms → (x : Life) → IsBeside x fate.Ended (kept_in ms).book.lives (kept_in ms).fates → receives x ≡ true → (x.bits ≡ [] → ⊥) → HeardThen ms x
-unfolding HasHeard
-ended_heard hosts ms l x i kind some = elim ((fated hosts ms l x fate.Ended i kind).heard refl) [
-  | inl none ↦ absurd (some none)
-  | inr w ↦ record { closed = w.0; some = λ e. some (w.1 e) }
-]
+-- a receiving life that ended so was closed by its partner, and by no user of its host
+pub ended_by_partner : (hosts : List Host) (ms : List Moment) → Lawful hosts ms → (x : Life) → IsBeside x fate.Ended (kept_in ms).book.lives (kept_in ms).fates → receives x ≡ true → WasClosedByPartner ms x
+ended_by_partner hosts ms l x i kind = (fated hosts ms l x fate.Ended i kind).ended refl

@@ -1,51 +1,46 @@
 -- A receiving life that its partner has closed, and no user of its host, took all that was handed over in the life that it matches.
-use Rattle.std.proofs.Common.{◌≡◌, inl, inr, ℕ, ◌+◌, ◌≤◌, ◌==◌, Bool, true, false, List, [], ◌∷◌, ◌++◌, map, Option, Some, None, refl, ap, sym, subst, ◌∙◌, arith}
-use Rattle.std.proofs.lemmas.Bool.{eqb-true}
+use Rattle.std.proofs.Common.{◌≡◌, inl, inr, ℕ, ◌+◌, ◌≤◌, Bool, true, false, List, [], ◌∷◌, ◌++◌, map, refl, ap, sym, subst, ◌∙◌, arith}
 use Rattle.std.proofs.lemmas.List.{append_assoc}
 use Rattle.std.specs.List.{Contains}
 use Rattle.interface.specs.Calls.{Seen}
 use Rattle.interface.specs.Host.{Host}
-use Rattle.interface.specs.declared.crossing.Crossing.{Crossing}
 use Rattle.ncp_control.specs.Numbers.{is_send_socket}
-use Rattle.host_pairs.specs.Entries.{has_cls, is_sent}
-use Rattle.host_pairs.specs.declared.entry.Closing.{Closing}
-use Rattle.host_pairs.specs.declared.entry.Closing.TheVariants as closing
-use Rattle.host_pairs.proofs.lemmas.{both}
+use Rattle.host_pairs.specs.Entries.{is_sent}
 use Rattle.host_keeps_streams.specs.Histories.{gone_now}
 use Rattle.pairing_law.specs.Links.{Receiver}
 use Rattle.pairing_law.specs.Marks.{closes}
 use Rattle.reset_law.specs.Stays as stay
-use Rattle.sockets.specs.Pairs.{NcpState, pair_with}
+use Rattle.sockets.specs.Pairs.{pair_with}
 use Rattle.net_sim.specs.Clean.{IsLawful}
-use Rattle.promise.specs.Safe.{Match, Name, before, control_flow, last_out, named, own_request, sends}
+use Rattle.promise.specs.Fates.{IsBeside}
+use Rattle.promise.specs.Safe.{AreHanded, IsPrefix, Match, own_request, sends}
 use Rattle.net_sim.specs.Story.{Moment, events_of, program}
 use Rattle.net_sim.specs.Timeline.{crossings_of}
 use Rattle.net_sim.specs.Told.{kept_in}
 use Rattle.net_sim.specs.World.{WorldState}
 use Rattle.promise.specs.declared.life.Life.{Life}
-use Rattle.world_keeps_lives.specs.Drained.{AllSent, ClosedFirst}
+use Rattle.world_keeps_lives.specs.Drained.{AllSent, ClosedFirst, ClosesFirst}
 use Rattle.world_keeps_lives.specs.Lives.{HasOpenEnd}
-use Rattle.world_keeps_lives.proofs.lemmas.{drained, live}
-use Rattle.world_keeps_pairing.specs.Free.{origin_in, place_or}
+use Rattle.world_keeps_lives.proofs.lemmas.{drained, handed, live}
+use Rattle.world_keeps_pairing.specs.Free.{origin_in}
 use Rattle.world_keeps_pairing.proofs.lemmas.{IsPair, book_run}
 use Rattle.world_keeps_streams.specs.Calls.{own_calls}
-use Rattle.world_keeps_streams.specs.Closes.{AllHanded, IsClosedByPartner, TookHanded, WasClosedBy}
+use Rattle.world_keeps_streams.specs.Closes.{AllHanded, IsClosedByPartner, TookHanded, WasClosedBy, WasClosedByPartner}
 use Rattle.world_keeps_streams.proofs.Deeds.Effects.{Among}
+use Rattle.world_keeps_streams.proofs.Lives.Fates.{beside_of}
 use Rattle.world_keeps_streams.proofs.Lives.Lists.{IsOf, Named, contains, grown, is_of, named_itself, of_left, of_map}
-use Rattle.world_keeps_streams.proofs.Requests.Names.{origin_grows}
 use Rattle.world_keeps_streams.proofs.Requests.Sides.{Heard, Lawful, Own, lives_in}
 use Rattle.world_keeps_streams.proofs.Books.All.{all_given}
+use Rattle.world_keeps_streams.proofs.Books.Began as began
+use Rattle.world_keeps_streams.proofs.Books.Began.{at_socket, closes_first, sent_cls}
 use Rattle.world_keeps_streams.proofs.Books.Arrives.{end_at, rest_lawful, stays_of}
 use Rattle.world_keeps_streams.proofs.Books.Books.{one_own}
 use Rattle.world_keeps_streams.proofs.Books.Closes.{AtLink, known}
 use Rattle.world_keeps_streams.proofs.Books.Counts.{side_of}
-use Rattle.world_keeps_streams.proofs.Books.Ended.{Back, Last, all_crossings, back, goes, heard_most, last_of}
+use Rattle.world_keeps_streams.proofs.Books.Ended.{Back, Last, back, goes, heard_most, last_of}
 use Rattle.world_keeps_streams.proofs.Books.Parted.{HasLeft, heard_more, sender_closed}
 use Rattle.world_keeps_streams.proofs.Books.Later.{closes_whole, named_request}
-
-sent_cls : (c : Closing) → is_sent c ≡ true → has_cls c ≡ true
-sent_cls closing.Queued e = refl
-sent_cls c e = e
+use Rattle.world_keeps_streams.proofs.Books.Went.{WasThere, Went, WentOrWas, went}
 
 -- ---- the same life later
 
@@ -85,21 +80,6 @@ names_of hosts newer ms l x y i j e =
     (one_own hosts Own Heard (λ v w. all_given hosts v w) (newer ++ ms) l o.life y o.there j
     (named_request x o.life o.names ∙ sym e)) o.names
 
--- ---- the end of a life
-
-at_socket : (x : Life) (s : NcpState) (h : HasOpenEnd s x) → h.end.own ≡ x.socket
-at_socket x s h = eqb-true h.end.own x.socket (both h.end.mine (h.end.own == x.socket) (end_at x s h).1).1
-
--- ---- the place of a request
-
-abbrev place_of : Option Name → ℕ
-place_of None = 0
-place_of (Some n) = n.place
-
-place_named : (s : Life) (o : Option ℕ) → place_of (named s o) ≡ place_or 0 o
-place_named s None = refl
-place_named s (Some n) = refl
-
 -- ---- the sending life closed first
 
 -- where a receiving life has taken the CLS of the life that it matches, whose host stays at the last of these moments
@@ -125,19 +105,19 @@ module _ (hosts : List Host) (newer between ms : List Moment) (l : Lawful hosts 
   of_sender = names_of hosts newer (between ++ ms) l p s p_in (is_of s (lives_in (newer ++ (between ++ ms))) s_in) s_same
 
   host : p.host ≡ r.peer
-  host = sym (sym of_receiver.peer ∙ m.peers.0 ∙ of_sender.host)
+  host = began.host hosts newer (between ++ ms) l x s r p m of_receiver of_sender
 
   peer : p.peer ≡ r.host
-  peer = sym of_sender.peer ∙ m.peers.1 ∙ of_receiver.host
+  peer = began.peer hosts newer (between ++ ms) l x s r p m of_receiver of_sender
 
   socket : p.socket ≡ r.foreign
-  socket = sym (sym of_receiver.foreign ∙ m.sockets.0 ∙ of_sender.socket)
+  socket = began.socket hosts newer (between ++ ms) l x s r p m of_receiver of_sender
 
   foreign : p.foreign ≡ r.socket
-  foreign = sym of_sender.foreign ∙ m.sockets.1 ∙ of_receiver.socket
+  foreign = began.foreign hosts newer (between ++ ms) l x s r p m of_receiver of_sender
 
   sending : sends p ≡ true
-  sending = ap is_send_socket (sym of_sender.socket) ∙ m.sending
+  sending = began.sending hosts newer (between ++ ms) l x s r p m of_receiver of_sender
 
   pair : IsPair (record { receive = r.socket; send = r.foreign })
   pair = (f.receiving, ap is_send_socket (sym socket) ∙ sending)
@@ -167,18 +147,7 @@ module _ (hosts : List Host) (newer between ms : List Moment) (l : Lawful hosts 
       omega (arith, more, most, gone)
 
   answers : origin_in (crossings_of (between ++ ms)) r.peer r.host p.partner_stamp ≡ r.own_stamp
-  answers =
-      let now : origin_in (crossings_of (newer ++ (between ++ ms))) s.host s.peer s.partner_stamp ≡ x.own_stamp =
-      sym (place_named s (last_out (control_flow s.peer s.host) (before s.partner_stamp (crossings_of (newer ++ (between ++ ms)))))) ∙ ap place_of m.answered in
-      let of_p : origin_in (crossings_of (newer ++ (between ++ ms))) s.host s.peer s.partner_stamp ≡ origin_in (crossings_of (newer ++ (between ++ ms))) p.host p.peer p.partner_stamp =
-      ap (λ (h : Host). origin_in (crossings_of (newer ++ (between ++ ms))) h s.peer s.partner_stamp) of_sender.host
-      ∙ ap (λ (h : Host). origin_in (crossings_of (newer ++ (between ++ ms))) p.host h s.partner_stamp) of_sender.peer
-      ∙ ap (λ (n : ℕ). origin_in (crossings_of (newer ++ (between ++ ms))) p.host p.peer n) of_sender.partner in
-      let grown : origin_in (crossings_of (newer ++ (between ++ ms))) p.host p.peer p.partner_stamp ≡ origin_in (crossings_of (between ++ ms)) p.host p.peer p.partner_stamp =
-      ap (λ (log : List Crossing). origin_in log p.host p.peer p.partner_stamp) (all_crossings newer (between ++ ms)) ∙ origin_grows hosts (between ++ ms) old (crossings_of newer) p p_there in
-      ap (λ (h : Host). origin_in (crossings_of (between ++ ms)) h r.host p.partner_stamp) (sym host)
-      ∙ ap (λ (h : Host). origin_in (crossings_of (between ++ ms)) p.host h p.partner_stamp) (sym peer)
-      ∙ sym grown ∙ sym of_p ∙ now ∙ of_receiver.own
+  answers = began.answers hosts newer (between ++ ms) l x s r p m of_receiver of_sender p_there
 
   -- ---- so its partner was there while its host stayed
 
@@ -230,34 +199,86 @@ module _ (hosts : List Host) (newer between ms : List Moment) (l : Lawful hosts 
 
 -- ---- all lives of a book
 
+-- a life of an earlier moment that has the same names
+closed_then : (later earlier : List Moment) (s v : Life) → IsOf v (lives_in earlier) → ClosesFirst earlier v → Named v s → ClosedFirst (later ++ earlier) s
+closed_then later earlier s v i c names =
+    record { later = later; earlier = earlier; is = refl; sender = v; there = contains v (lives_in earlier) i; first = c; same = named_request v s names }
+
 module _ (hosts : List Host) (ms : List Moment) (l : Lawful hosts ms) (x : Life) where
-  first_of : (s : Life) → Contains (lives_in ms) s → WasClosedBy ms s x → ClosedFirst ms s
-  first_of s there w =
-      let k : Lawful hosts (w.closed.later ++ w.closed.earlier) = subst (λ (ns : List Moment). Lawful hosts ns) w.closed.is l in
-      let v : Last w.closed.receiver.host w.closed.receiver.peer w.closed.earlier =
-      last_of w.closed.receiver.host w.closed.receiver.peer w.closed.earlier
-      (stays_of hosts w.closed.earlier (rest_lawful hosts w.closed.later w.closed.earlier k) w.closed.receiver w.closed.then.there w.closed.then.goes) in
+  -- where it was there when the receiver had taken its CLS
+  first_there : (w : WasClosedByPartner ms x) (s : Life) → Contains (lives_in ms) s → Match (crossings_of ms) x s → WasThere w.earlier s → ClosedFirst ms s
+  first_there w s there m p =
+      let k : Lawful hosts (w.later ++ w.earlier) = subst (λ (ns : List Moment). Lawful hosts ns) w.is l in
+      let v : Last w.receiver.host w.receiver.peer w.earlier =
+      last_of w.receiver.host w.receiver.peer w.earlier (stays_of hosts w.earlier (rest_lawful hosts w.later w.earlier k) w.receiver w.then.there w.then.goes) in
       subst
       (λ (ns : List Moment). Lawful hosts ns → Contains (lives_in ns) x → Contains (lives_in ns) s → Match (crossings_of ns) x s → ClosedFirst ns s)
-      (sym (w.closed.is ∙ ap (λ (ns : List Moment). w.closed.later ++ ns) v.is))
-      (λ k i j m. it_closed hosts w.closed.later v.between v.last k x s i j m w.closed.receiver
-      (subst (λ (ns : List Moment). IsClosedByPartner ns w.closed.receiver) v.is w.closed.then) w.closed.same
-      w.partner (subst (λ (ns : List Moment). Contains (lives_in ns) w.partner) v.is w.there) w.same v.left v.stays)
-      l w.closed.there there w.matches
+      (sym (w.is ∙ ap (λ (ns : List Moment). w.later ++ ns) v.is))
+      (λ k i j m. it_closed hosts w.later v.between v.last k x s i j m w.receiver (subst (λ (ns : List Moment). IsClosedByPartner ns w.receiver) v.is w.then) w.same
+      p.life (contains p.life (lives_in (v.between ++ v.last)) (subst (λ (ns : List Moment). IsOf p.life (lives_in ns)) v.is p.there)) (named_request p.life s p.names) v.left v.stays)
+      l w.there there m
+
+  -- where it began later, or was there at least
+  first_went : (w : WasClosedByPartner ms x) (s : Life) → Match (crossings_of ms) x s → Went w.later w.earlier s → ClosedFirst ms s
+  first_went w s m p =
+      subst
+      (λ (ns : List Moment). Lawful hosts ns → IsOf x (lives_in ns) → Match (crossings_of ns) x s → ClosedFirst ns s)
+      (sym (w.is ∙ ap (λ (ns : List Moment). ns ++ w.earlier) p.is ∙ append_assoc p.later p.since w.earlier))
+      (λ k i n.
+      (let long : Lawful hosts ((p.later ++ p.since) ++ w.earlier) = subst (λ (ns : List Moment). Lawful hosts ns) (sym (append_assoc p.later p.since w.earlier)) k in
+      let there : IsOf x (lives_in ((p.later ++ p.since) ++ w.earlier)) = subst (λ (ns : List Moment). IsOf x (lives_in ns)) (sym (append_assoc p.later p.since w.earlier)) i in
+      let r : Named w.receiver x = names_of hosts (p.later ++ p.since) w.earlier long w.receiver x (is_of w.receiver (lives_in w.earlier) w.then.there) there w.same in
+      let old : Lawful hosts (p.since ++ w.earlier) = rest_lawful hosts p.later (p.since ++ w.earlier) k in
+      closed_then p.later (p.since ++ w.earlier) s p.life p.there
+      (closes_first hosts p.since w.earlier old w.receiver w.then p.life p.there p.goes
+      (began.host hosts p.later (p.since ++ w.earlier) k x s w.receiver p.life n r p.names) (began.peer hosts p.later (p.since ++ w.earlier) k x s w.receiver p.life n r p.names)
+      (began.socket hosts p.later (p.since ++ w.earlier) k x s w.receiver p.life n r p.names) (began.foreign hosts p.later (p.since ++ w.earlier) k x s w.receiver p.life n r p.names)
+      (began.sending hosts p.later (p.since ++ w.earlier) k x s w.receiver p.life n r p.names)
+      (began.answers hosts p.later (p.since ++ w.earlier) k x s w.receiver p.life n r p.names (contains p.life (lives_in (p.since ++ w.earlier)) p.there)))
+      p.names))
+      l (is_of x (lives_in ms) w.there) m
+
+  -- all that was handed over in a life was sent
+  sent_beside : (s : Life) (t : List Bool) (lives : List Life) (ts : List (List Bool)) → AllSent ms lives ts → IsBeside s t lives ts → ClosedFirst ms s → s.bits ≡ t
+  sent_beside s t [] ts sent i c = absurd i
+  sent_beside s t (y ∷ lives) [] sent i c = absurd i
+  sent_beside s t (y ∷ lives) (u ∷ ts) sent (inl e) c = ap (λ (v : Life). v.bits) e.0 ∙ sent.0 (subst (λ (v : Life). ClosedFirst ms v) e.0 c) ∙ sym e.1
+  sent_beside s t (y ∷ lives) (u ∷ ts) sent (inr i) c = sent_beside s t lives ts sent.1 i c
+
+  front_beside : (s : Life) (t : List Bool) (lives : List Life) (ts : List (List Bool)) → AreHanded lives ts → IsBeside s t lives ts → sends s ≡ true → IsPrefix s.bits t
+  front_beside s t [] ts h i kind = absurd i
+  front_beside s t (y ∷ lives) [] h i kind = absurd i
+  front_beside s t (y ∷ lives) (u ∷ ts) h (inl e) kind =
+      subst (λ (v : Life). IsPrefix v.bits t) (sym e.0) (subst (λ (b : List Bool). IsPrefix y.bits b) (sym e.1) (h.0 (ap sends (sym e.0) ∙ kind)))
+  front_beside s t (y ∷ lives) (u ∷ ts) h (inr i) kind = front_beside s t lives ts h.1 i kind
+
+  none_front : (bits t : List Bool) → IsPrefix bits t → t ≡ [] → bits ≡ t
+  none_front [] t p none = sym none
+  none_front (b ∷ bits) t p none = absurd (let no : (b ∷ bits) ++ p.0 ≡ [] = p.1 ∙ none in cc)
+
+  sent_all : (w : WasClosedByPartner ms x) (s : Life) (t : List Bool) → IsBeside s t (kept_in ms).book.lives (kept_in ms).handed → Match (crossings_of ms) x s → s.bits ≡ t
+  sent_all w s t i m = by (went w.later w.earlier s t (subst (λ (ns : List Moment). IsBeside s t (kept_in ns).book.lives (kept_in ns).handed) w.is i)) where
+    there : Contains (lives_in ms) s
+    there = contains s (lives_in ms) (beside_of (kept_in ms).book.lives (kept_in ms).handed s t i)
+
+    by : WentOrWas w.later w.earlier s t → s.bits ≡ t
+    by (inl none) = none_front s.bits t (front_beside s t (kept_in ms).book.lives (kept_in ms).handed (handed hosts ms l.0 l.1 l.2) i m.sending) none
+    by (inr (inl p)) = sent_beside s t (kept_in ms).book.lives (kept_in ms).handed (drained hosts ms l.0 l.1 l.2) i (first_there w s there m p)
+    by (inr (inr p)) = sent_beside s t (kept_in ms).book.lives (kept_in ms).handed (drained hosts ms l.0 l.1 l.2) i (first_went w s m p)
+
+  -- so the receiving life took it all
+  pub took_beside : (w : WasClosedByPartner ms x) (s : Life) (t : List Bool) → IsBeside s t (kept_in ms).book.lives (kept_in ms).handed → Match (crossings_of ms) x s → x.bits ≡ t
+  took_beside w s t i m =
+      (closes_whole hosts ms l x w s (contains s (lives_in ms) (beside_of (kept_in ms).book.lives (kept_in ms).handed s t i)) m).0 ∙ sent_all w s t i m
 
   each : (lives : List Life) (ts : List (List Bool)) → AllSent ms lives ts
-      → ((s : Life) → IsOf s lives → IsOf s (lives_in ms)) → TookHanded ms x lives ts
-  each [] ts sent there = tt
-  each (s ∷ lives) [] sent there = sent
-  each (s ∷ lives) (t ∷ ts) sent there = (of_it, each lives ts sent.1 (λ y i. there y (inr i))) where
-    here : Contains (lives_in ms) s
-    here = contains s (lives_in ms) (there s (inl refl))
-
-    of_it : WasClosedBy ms s x → x.bits ≡ t
-    of_it w = (closes_whole hosts ms l x w.closed s here w.matches).0 ∙ sent.0 (first_of s here w)
+      → ((s : Life) (t : List Bool) → IsBeside s t lives ts → WasClosedBy ms s x → x.bits ≡ t) → TookHanded ms x lives ts
+  each [] ts sent took = tt
+  each (s ∷ lives) [] sent took = sent
+  each (s ∷ lives) (t ∷ ts) sent took = (took s t (inl (refl, refl)), each lives ts sent.1 (λ v u i. took v u (inr i)))
 
   pub took_handed : TookHanded ms x (kept_in ms).book.lives (kept_in ms).handed
-  took_handed = each (kept_in ms).book.lives (kept_in ms).handed (drained hosts ms l.0 l.1 l.2) (λ s i. i)
+  took_handed = each (kept_in ms).book.lives (kept_in ms).handed (drained hosts ms l.0 l.1 l.2) (λ s t i w. took_beside w.closed s t i w.matches)
 
 all_handed : (hosts : List Host) (ms : List Moment) → Lawful hosts ms → AllHanded ms
 all_handed hosts ms l newer older is x =

@@ -109,7 +109,7 @@ module _ (s : Sockets) (who : Who) (h p : Host) where
   half_stays : (ms : List Moment) → (side_of s who h p ms).stays ≡ stay.stays h p (events_of ms)
   half_stays ms = side_stays h p (at_texts s who) (at_texts s (other who)) (law_events ms) ∙ stays_same h p (events_of ms)
 
-  grows_by : (y : Moment) (ms : List Moment) → stay.begins h p (event_in y) (events_of ms) ≡ false → closes (side_of s who h p ms).said ≤ closes (side_of s who h p (y ∷ ms)).said
+  pub grows_by : (y : Moment) (ms : List Moment) → stay.begins h p (event_in y) (events_of ms) ≡ false → closes (side_of s who h p ms).said ≤ closes (side_of s who h p (y ∷ ms)).said
   grows_by y ms none =
       grows h p (at_texts s who) (at_texts s (other who)) (placed_event (event_in y) (events_of ms)) (law_events ms) (side_of s who h p ms)
       (begins_same h p (event_in y) (events_of ms) ∙ none)

@@ -9,7 +9,7 @@ use Rattle.ncp_control.specs.declared.command.Command.{Command}
 use Rattle.ncp_control.specs.declared.command.Command.TheVariants as command
 use Rattle.host_pairs.specs.Control.{Legal, Order, Wrong, orders_of}
 use Rattle.host_keeps_pairing.specs.Words.{mark_of, marks_in}
-use Rattle.pairing_law.specs.Links.{Receiver, Sender, Sockets}
+use Rattle.pairing_law.specs.Links.{Receiver, Sender, Sockets, Who}
 use Rattle.pairing_law.specs.Marks.{Ask, Asks, Close, Mark}
 use Rattle.pairing_law.specs.Places.{placed_event, tagged}
 use Rattle.pairing_law.specs.Sides.{Side, says}
@@ -24,7 +24,7 @@ use Rattle.net_sim.specs.Timeline.{crossings_of}
 use Rattle.net_sim.proofs.lemmas.{place_same}
 use Rattle.world_keeps_lives.specs.Firsts.{FirstBook, Linked}
 use Rattle.world_keeps_pairing.specs.Free.{law_events}
-use Rattle.world_keeps_pairing.proofs.lemmas.{IsPair, all_says, at_texts, before, foreign_of, heard_is, met_if, own_of}
+use Rattle.world_keeps_pairing.proofs.lemmas.{IsPair, all_says, at_texts, before, foreign_of, heard_is, met_if, other, own_of}
 use Rattle.world_keeps_streams.proofs.Books.All.{all_given}
 use Rattle.world_keeps_streams.proofs.Books.Clauses.{Older, older, settled_s}
 use Rattle.world_keeps_streams.proofs.Books.Counts.{side_of}
@@ -63,22 +63,22 @@ of_orders n own foreign [] = tt
 of_orders n own foreign (Legal c ∷ orders) = all_at_both n (mark_of n own foreign c) (marks_in n own foreign orders) (of_command n own foreign c) (of_orders n own foreign orders)
 of_orders n own foreign (Wrong code octets ∷ orders) = of_orders n own foreign orders
 
--- what a sender says by an event it says at its place
-module _ (s : Sockets) (q : IsPair s) (h p : Host) where
-  of_event : (e : Event) (events : List Event) → AllAt (place events) (at_texts s Sender (stay.said_by h p 0 (placed_event e events)))
+-- what a host says by an event it says at its place
+module _ (s : Sockets) (q : IsPair s) (who : Who) (h p : Host) where
+  pub of_event : (e : Event) (events : List Event) → AllAt (place events) (at_texts s (other who) (stay.said_by h p 0 (placed_event e events)))
   of_event (Contact x y) events = tt
   of_event (Out x y k Reset) events = tt
   of_event (Out x y k Reply) events = tt
   of_event (Out x y k (Other text)) events = by (are h p x y && 0 == k) where
-    by : (v : Bool) → AllAt (place events) (at_texts s Sender (if v then tagged (place events) text ∷ [] else []))
+    by : (v : Bool) → AllAt (place events) (at_texts s (other who) (if v then tagged (place events) text ∷ [] else []))
     by false = tt
     by true =
-        subst (λ (ms : List Mark). AllAt (place events) ms) (sym (heard_is s q Receiver (place events) text))
-        (of_orders (place events) (foreign_of Receiver s) (own_of Receiver s) (orders_of text))
+        subst (λ (ms : List Mark). AllAt (place events) ms) (sym (heard_is s q who (place events) text))
+        (of_orders (place events) (foreign_of who s) (own_of who s) (orders_of text))
   of_event e events = tt
 
 -- what is asked for after marks was asked for before, or is of their place
-asked_by : (k n there : ℕ) (ms : List Mark) (x : Side) → AllAt there ms → Asks k n (all_says ms x).said → (n ≡ there) ⊎ Asks k n x.said
+pub asked_by : (k n there : ℕ) (ms : List Mark) (x : Side) → AllAt there ms → Asks k n (all_says ms x).said → (n ≡ there) ⊎ Asks k n x.said
 asked_by k n there [] x at a = inr a
 asked_by k n there (Ask j ∷ ms) x at a = elim (asked_by k n there ms (says (Ask j) x) at.1 a) [ inl is ↦ inl is | inr b ↦ by x.stays b ] where
   by : (v : Bool) → Asks k n (if v then Ask j ∷ x.said else x.said) → (n ≡ there) ⊎ Asks k n x.said
@@ -120,20 +120,20 @@ partner_below hosts ms l x i =
 
 -- ---- lives from before both met last
 
-module _ (hosts : List Host) (a b : Host) (s : Sockets) (q : IsPair s) where
-  said_new : (y : Moment) (ms : List Moment) → stay.begins a b (event_in y) (events_of ms) ≡ true → (side_of s Sender b a (y ∷ ms)).said ≡ []
-  said_new y ms new =
-      let begins : stay.begins b a (placed_event (event_in y) (events_of ms)) (law_events ms) ≡ true =
-      begins_same b a (event_in y) (events_of ms) ∙ begins_either b a (event_in y) (events_of ms) ∙ new in
-      ap (λ (v : Bool). (met_if v (before b a (at_texts s Sender) (at_texts s Receiver) (placed_event (event_in y) (events_of ms)) (law_events ms) (side_of s Sender b a ms))).said) begins
+-- where two hosts meet neither has said anything
+pub said_new : (s : Sockets) (who : Who) (h p : Host) (y : Moment) (ms : List Moment) → stay.begins h p (event_in y) (events_of ms) ≡ true → (side_of s who h p (y ∷ ms)).said ≡ []
+said_new s who h p y ms new =
+    ap (λ (v : Bool). (met_if v (before h p (at_texts s who) (at_texts s (other who)) (placed_event (event_in y) (events_of ms)) (law_events ms) (side_of s who h p ms))).said)
+    (begins_same h p (event_in y) (events_of ms) ∙ new)
 
+module _ (hosts : List Host) (a b : Host) (s : Sockets) (q : IsPair s) where
   pub unasked : (ms : List Moment) → Lawful hosts ms → (x : Life) → IsOf x (take (since a b ms) (lives_in ms)) → x.host ≡ b → x.peer ≡ a → sends x ≡ true
       → (k : ℕ) → Asks k x.own_stamp (side_of s Sender b a ms).said → ⊥
   unasked [] l x i host peer kind k asks = absurd i
   unasked (y ∷ ms) l x i host peer kind k asks = by (stay.begins a b (event_in y) (events_of ms)) refl (unasked ms (below hosts y ms l)) where
     by : (v : Bool) → stay.begins a b (event_in y) (events_of ms) ≡ v
         → ((z : Life) → IsOf z (take (since a b ms) (lives_in ms)) → z.host ≡ b → z.peer ≡ a → sends z ≡ true → (k : ℕ) → Asks k z.own_stamp (side_of s Sender b a ms).said → ⊥) → ⊥
-    by true new rest = subst (λ (word : List Mark). Asks k x.own_stamp word) (said_new y ms new) asks
+    by true new rest = subst (λ (word : List Mark). Asks k x.own_stamp word) (said_new s Sender b a y ms (begins_either b a (event_in y) (events_of ms) ∙ new)) asks
     by false none rest =
         let o : Older (since a b ms) ms y x = older (since a b ms) ms y x (since_bound a b ms) (subst (λ (n : ℕ). IsOf x (take n (lives_in (y ∷ ms)))) (since_on a b y ms none) i) in
         let kind_o : sends o.life ≡ true = ap is_send_socket o.socket ∙ kind in
@@ -144,7 +144,7 @@ module _ (hosts : List Host) (a b : Host) (s : Sockets) (q : IsPair s) where
         let spoke : Asks k x.own_stamp (all_says (at_texts s Sender (stay.said_by b a 0 (placed_event (event_in y) (events_of ms)))) (side_of s Sender b a ms)).said =
         subst (λ (word : List Mark). Asks k x.own_stamp word)
         (said_now b a (at_texts s Sender) (at_texts s Receiver) (placed_event (event_in y) (events_of ms)) (law_events ms) (side_of s Sender b a ms) begins) asks in
-        elim (asked_by k x.own_stamp (place (events_of ms)) (at_texts s Sender (stay.said_by b a 0 (placed_event (event_in y) (events_of ms)))) (side_of s Sender b a ms) (of_event s q b a (event_in y) (events_of ms)) spoke) [
+        elim (asked_by k x.own_stamp (place (events_of ms)) (at_texts s Sender (stay.said_by b a 0 (placed_event (event_in y) (events_of ms)))) (side_of s Sender b a ms) (of_event s q Receiver b a (event_in y) (events_of ms)) spoke) [
           | inl new ↦
               (let less : o.life.own_stamp < length (crossings_of ms) = own_below hosts ms (below hosts y ms l) o.life (of_take (since a b ms) o.life (lives_in ms) o.there) in
               let here : place (events_of ms) ≡ length (crossings_of ms) = place_same ms in

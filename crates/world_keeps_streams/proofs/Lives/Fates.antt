@@ -1,5 +1,7 @@
--- How far lives are, and how a moment changes it: an open life ends by CLS only where its host's user is notified of that.
+-- How far lives are, and how a moment changes it: an open life ends by CLS only where its host's user is notified of that, and one begins where the user is
+-- notified of an opening.
 use Rattle.std.proofs.Common.{◌≡◌, ◌⊎◌, inl, inr, ℕ, ◌==◌, ◌&&◌, Bool, true, false, not, if◌then◌else◌, List, [], ◌∷◌, ◌++◌, refl, ap, sym, subst, ◌∙◌}
+use Rattle.std.proofs.lemmas.Bool.{eqb-true}
 use Rattle.interface.specs.Host.{Host, same_host}
 use Rattle.interface.specs.declared.crossing.Crossing.{Crossing}
 use Rattle.interface.specs.declared.crossing.Crossing.TheVariants as crossing
@@ -37,11 +39,12 @@ was_where test change turn (y ∷ lives) (g ∷ fates) x f (inr i) =
     let w : Was x f lives fates test change turn = was_where test change turn lives fates x f i in
     record { life = w.life; how = w.how; there = inr w.there; is = w.is; fate_is = w.fate_is }
 
-was_life : (test : Life → Bool) (change : Life → Life) (lives : List Life) (fates : List Fate) (x : Life) (f : Fate) → IsBeside x f (where_it test change lives) fates → (y : Life) × IsBeside y f lives fates × (x ≡ changed_when (test y) change y)
-was_life test change [] fates x f i = absurd i
-was_life test change (y ∷ lives) [] x f i = absurd i
-was_life test change (y ∷ lives) (g ∷ fates) x f (inl e) = (y, inl (refl, e.1), e.0)
-was_life test change (y ∷ lives) (g ∷ fates) x f (inr i) = let w : (z : Life) × IsBeside z f lives fates × (x ≡ changed_when (test z) change z) = was_life test change lives fates x f i in (w.0, inr w.1, w.2)
+pub was_life : {A : Type 0} (test : Life → Bool) (change : Life → Life) (lives : List Life) (others : List A) (x : Life) (a : A) → IsBeside x a (where_it test change lives) others
+    → (y : Life) × IsBeside y a lives others × (x ≡ changed_when (test y) change y)
+was_life test change [] others x a i = absurd i
+was_life test change (y ∷ lives) [] x a i = absurd i
+was_life test change (y ∷ lives) (b ∷ others) x a (inl e) = (y, inl (refl, e.1), e.0)
+was_life {A} test change (y ∷ lives) (b ∷ others) x a (inr i) = let w : (z : Life) × IsBeside z a lives others × (x ≡ changed_when (test z) change z) = was_life test change lives others x a i in (w.0, inr w.1, w.2)
 
 was_fate : (test : Life → Bool) (turn : Fate → Fate) (lives : List Life) (fates : List Fate) (x : Life) (f : Fate) → IsBeside x f lives (fates_where test turn lives fates) → (g : Fate) × IsBeside x g lives fates × (f ≡ (if test x then turn g else g))
 was_fate test turn [] fates x f i = absurd i
@@ -49,8 +52,8 @@ was_fate test turn (y ∷ lives) [] x f i = absurd i
 was_fate test turn (y ∷ lives) (g ∷ fates) x f (inl e) = (g, inl (e.0, refl), e.1 ∙ ap (λ (z : Life). if test z then turn g else g) (sym e.0))
 was_fate test turn (y ∷ lives) (g ∷ fates) x f (inr i) = let w : (h : Fate) × IsBeside x h lives fates × (f ≡ (if test x then turn h else h)) = was_fate test turn lives fates x f i in (w.0, inr w.1, w.2)
 
-was_more : (lives : List Life) (fates : List Fate) (n : Life) (u : Fate) (x : Life) (f : Fate) → AreFated lives fates → IsBeside x f (lives ++ n ∷ []) (fates ++ u ∷ []) → IsBeside x f lives fates ⊎ (x ≡ n)
-was_more [] [] n u x f a (inl e) = inr e.0
+was_more : (lives : List Life) (fates : List Fate) (n : Life) (u : Fate) (x : Life) (f : Fate) → AreFated lives fates → IsBeside x f (lives ++ n ∷ []) (fates ++ u ∷ []) → IsBeside x f lives fates ⊎ ((x ≡ n) × (f ≡ u))
+was_more [] [] n u x f a (inl e) = inr e
 was_more [] [] n u x f a (inr i) = absurd i
 was_more [] (g ∷ fates) n u x f a i = absurd (let no : g ∷ fates ≡ [] = a in cc)
 was_more (y ∷ lives) [] n u x f a i = absurd a
@@ -73,15 +76,48 @@ beside_of {A} (y ∷ lives) [] x a i = absurd i
 beside_of {A} (y ∷ lives) (b ∷ others) x a (inl e) = inl e.0
 beside_of {A} (y ∷ lives) (b ∷ others) x a (inr i) = inr (beside_of lives others x a i)
 
--- ---- a notice that an end is over
+-- ---- notices that the end of a life is over, and that it is open
 
-abbrev pub IsEnd : Host → Notice → Type 0
-IsEnd p (notice.Ended socket peer foreign) = peer ≡ p
-IsEnd p n = ⊥
+abbrev pub IsEnd : Life → Notice → Type 0
+IsEnd x (notice.Ended socket peer foreign) = (peer ≡ x.peer) × (socket ≡ x.socket) × (foreign ≡ x.foreign)
+IsEnd x n = ⊥
 
-abbrev pub TellsEnd : Host → List Notice → Type 0
-TellsEnd p [] = ⊥
-TellsEnd p (n ∷ ns) = IsEnd p n ⊎ TellsEnd p ns
+abbrev pub TellsEnd : Life → List Notice → Type 0
+TellsEnd x [] = ⊥
+TellsEnd x (n ∷ ns) = IsEnd x n ⊎ TellsEnd x ns
+
+abbrev pub IsOpening : Life → Notice → Type 0
+IsOpening x (notice.Opened socket peer foreign own partner) = (peer ≡ x.peer) × (socket ≡ x.socket) × (foreign ≡ x.foreign)
+IsOpening x n = ⊥
+
+abbrev pub TellsOpening : Life → List Notice → Type 0
+TellsOpening x [] = ⊥
+TellsOpening x (n ∷ ns) = IsOpening x n ⊎ TellsOpening x ns
+
+-- they are of a life by its names
+end_named : (x y : Life) → Named x y → (n : Notice) → (IsEnd x n → IsEnd y n) × (IsEnd y n → IsEnd x n)
+end_named x y m (notice.Ended socket peer foreign) = (
+  λ e. (e.0 ∙ sym m.peer, e.1 ∙ sym m.socket, e.2 ∙ sym m.foreign),
+  λ e. (e.0 ∙ m.peer, e.1 ∙ m.socket, e.2 ∙ m.foreign),
+)
+end_named x y m n = (λ e. absurd e, λ e. absurd e)
+
+ends_named : (x y : Life) → Named x y → (ns : List Notice) → (TellsEnd x ns → TellsEnd y ns) × (TellsEnd y ns → TellsEnd x ns)
+ends_named x y m [] = (λ t. t, λ t. t)
+ends_named x y m (n ∷ ns) = (
+  λ t. elim t [
+    | inl e ↦ inl ((end_named x y m n).0 e)
+    | inr r ↦ inr ((ends_named x y m ns).0 r)
+  ],
+  λ t. elim t [
+    | inl e ↦ inl ((end_named x y m n).1 e)
+    | inr r ↦ inr ((ends_named x y m ns).1 r)
+  ],
+)
+
+opening_named : (x y : Life) → Named x y → (n : Notice) → IsOpening x n → IsOpening y n
+opening_named x y m (notice.Opened socket peer foreign own partner) o = (o.0 ∙ sym m.peer, o.1 ∙ sym m.socket, o.2 ∙ sym m.foreign)
+opening_named x y m n o = absurd o
 
 -- ---- what becomes of a life and its fate by notices
 
@@ -89,7 +125,7 @@ pub record Turned (h : Host) (ns : List Notice) (x : Life) (f : Fate) (y : Life)
   pub named : Named x y
   pub granted : y.granted ≡ x.granted
   pub opens : g ≡ fate.Open → f ≡ fate.Open
-  pub ends : g ≡ fate.Ended → (f ≡ fate.Ended) ⊎ ((f ≡ fate.Open) × (h ≡ x.host) × TellsEnd x.peer ns)
+  pub ends : g ≡ fate.Ended → (f ≡ fate.Ended) ⊎ ((f ≡ fate.Open) × (h ≡ x.host) × TellsEnd x ns)
   pub still : x.ended ≡ true → y ≡ x
 
 turned_same : (h : Host) (ns : List Notice) (x : Life) (f : Fate) → Turned h ns x f x f
@@ -109,14 +145,11 @@ turned_then h n ns x y z f g k a b = record {
   opens = λ e. a.opens (b.opens e);
   ends = λ e. elim (b.ends e) [
     | inl was ↦ first (a.ends was)
-    | inr now ↦ inr (a.opens now.0, now.1 ∙ a.named.host, inr (told (a.named.peer) now.2))
+    | inr now ↦ inr (a.opens now.0, now.1 ∙ a.named.host, inr ((ends_named x y a.named ns).1 now.2))
   ];
   still = λ e. b.still (ap (λ (v : Life). v.ended) (a.still e) ∙ e) ∙ a.still e;
 } where
-  told : y.peer ≡ x.peer → TellsEnd y.peer ns → TellsEnd x.peer ns
-  told e t = subst (λ (p : Host). TellsEnd p ns) e t
-
-  first : (f ≡ fate.Ended) ⊎ ((f ≡ fate.Open) × (h ≡ x.host) × TellsEnd x.peer (n ∷ [])) → (f ≡ fate.Ended) ⊎ ((f ≡ fate.Open) × (h ≡ x.host) × TellsEnd x.peer (n ∷ ns))
+  first : (f ≡ fate.Ended) ⊎ ((f ≡ fate.Open) × (h ≡ x.host) × TellsEnd x (n ∷ [])) → (f ≡ fate.Ended) ⊎ ((f ≡ fate.Open) × (h ≡ x.host) × TellsEnd x (n ∷ ns))
   first (inl e) = inl e
   first (inr (o, host, inl t)) = inr (o, host, inl t)
   first (inr (o, host, inr t)) = absurd t
@@ -134,7 +167,7 @@ turned_life h ns true change x f names keeps goes = record {
 turned_life h ns false change x f names keeps goes = turned_same h ns x f
 
 -- lives that end
-turned_over : (h : Host) (ns : List Notice) (v : Bool) (turn : Fate → Fate) (x : Life) (f : Fate) → (v ≡ true → x.ended ≡ false) → ((g : Fate) → turn g ≡ fate.Open → ⊥) → (v ≡ true → turn f ≡ fate.Ended → (f ≡ fate.Open) × (h ≡ x.host) × TellsEnd x.peer ns)
+turned_over : (h : Host) (ns : List Notice) (v : Bool) (turn : Fate → Fate) (x : Life) (f : Fate) → (v ≡ true → x.ended ≡ false) → ((g : Fate) → turn g ≡ fate.Open → ⊥) → (v ≡ true → turn f ≡ fate.Ended → (f ≡ fate.Open) × (h ≡ x.host) × TellsEnd x ns)
     → Turned h ns x f (changed_when v life_ended x) (if v then turn f else f)
 turned_over h ns true turn x f goes never ends = record {
   named = record { host = refl; socket = refl; peer = refl; foreign = refl; own = refl; partner = refl };
@@ -150,11 +183,15 @@ turned_over h ns false turn x f goes never ends = turned_same h ns x f
 at_goes : (h : Host) (socket : ℕ) (x : Life) → lives_at h socket x ≡ true → x.ended ≡ false
 at_goes h socket x e = not_is x.ended (both (same_host h x.host && x.socket == socket) (not x.ended) e).1
 
-between_at : (h : Host) (socket : ℕ) (peer : Host) (foreign : ℕ) (x : Life) → lives_between h socket peer foreign x ≡ true → (lives_at h socket x ≡ true) × (peer ≡ x.peer)
+-- the life that an end is of
+between_at : (h : Host) (socket : ℕ) (peer : Host) (foreign : ℕ) (x : Life) → lives_between h socket peer foreign x ≡ true
+    → (lives_at h socket x ≡ true) × IsEnd x (notice.Ended socket peer foreign)
 between_at h socket peer foreign x e =
     let p : ((lives_at h socket x && same_host peer x.peer) ≡ true) × ((x.foreign == foreign) ≡ true) = both (lives_at h socket x && same_host peer x.peer) (x.foreign == foreign) e in
     let q : (lives_at h socket x ≡ true) × (same_host peer x.peer ≡ true) = both (lives_at h socket x) (same_host peer x.peer) p.0 in
-    (q.0, same_host-true peer x.peer q.1)
+    let r : ((same_host h x.host && x.socket == socket) ≡ true) × (not x.ended ≡ true) = both (same_host h x.host && x.socket == socket) (not x.ended) q.0 in
+    let at : (x.socket == socket) ≡ true = (both (same_host h x.host) (x.socket == socket) r.0).1 in
+    (q.0, (same_host-true peer x.peer q.1, sym (eqb-true x.socket socket at), sym (eqb-true x.foreign foreign p.1)))
 
 at_host : (h : Host) (socket : ℕ) (x : Life) → lives_at h socket x ≡ true → h ≡ x.host
 at_host h socket x e =
@@ -200,9 +237,16 @@ closing_ended g e = e
 
 -- ---- a notice, and several
 
--- a life and its fate come from such that were there, or nothing is granted in a new life
+-- a life that begins by one of these notices: nothing is granted in it, and it ends only by another
+pub record IsBegun (h : Host) (ns : List Notice) (y : Life) (g : Fate) : Type 0 where
+  pub granted : y.granted ≡ nothing
+  pub host : h ≡ y.host
+  pub opens : TellsOpening y ns
+  pub ends : g ≡ fate.Ended → TellsEnd y ns
+
+-- a life and its fate come from such that were there, or it begins
 abbrev pub Comes : Host → List Notice → List Life → List Fate → Life → Fate → Type 0
-Comes h ns lives fates y g = ((x : Life) × (f : Fate) × IsBeside x f lives fates × Turned h ns x f y g) ⊎ (y.granted ≡ nothing)
+Comes h ns lives fates y g = ((x : Life) × (f : Fate) × IsBeside x f lives fates × Turned h ns x f y g) ⊎ IsBegun h ns y g
 
 lives_come : (h : Host) (ns : List Notice) (test : Life → Bool) (change : Life → Life) (lives : List Life) (fates : List Fate) (y : Life) (g : Fate) → ((z : Life) → Named z (change z)) → ((z : Life) → (change z).granted ≡ z.granted)
     → ((z : Life) → test z ≡ true → z.ended ≡ false) → IsBeside y g (where_it test change lives) fates → Comes h ns lives fates y g
@@ -211,7 +255,7 @@ lives_come h ns test change lives fates y g names keeps goes i =
     inl (w.0, g, w.1, subst (λ (z : Life). Turned h ns w.0 g z g) (sym w.2) (turned_life h ns (test w.0) change w.0 g names keeps (goes w.0)))
 
 over_comes : (h : Host) (ns : List Notice) (test : Life → Bool) (turn : Fate → Fate) (lives : List Life) (fates : List Fate) (y : Life) (g : Fate) → ((z : Life) → test z ≡ true → z.ended ≡ false) → ((k : Fate) → turn k ≡ fate.Open → ⊥)
-    → ((x : Life) (k : Fate) → IsBeside x k lives fates → test x ≡ true → turn k ≡ fate.Ended → (k ≡ fate.Open) × (h ≡ x.host) × TellsEnd x.peer ns)
+    → ((x : Life) (k : Fate) → IsBeside x k lives fates → test x ≡ true → turn k ≡ fate.Ended → (k ≡ fate.Open) × (h ≡ x.host) × TellsEnd x ns)
     → IsBeside y g (where_it test life_ended lives) (fates_where test turn lives fates) → Comes h ns lives fates y g
 over_comes h ns test turn lives fates y g goes never ends i =
     let w : Was y g lives fates test life_ended turn = was_where test life_ended turn lives fates y g i in
@@ -226,12 +270,17 @@ over_comes h ns test turn lives fates y g goes never ends i =
 told_comes : (h : Host) (n : Notice) (lives : List Life) (fates : List Fate) (y : Life) (g : Fate) → AreFated lives fates → IsBeside y g (lives_told h n lives) (fates_told h n lives fates) → Comes h (n ∷ []) lives fates y g
 told_comes h (notice.Opened socket peer foreign own partner) lives fates y g a i = elim (was_more lives fates (new_life h socket peer foreign own partner) fate.Open y g a i) [
   | inl old ↦ inl (y, g, old, turned_same h (notice.Opened socket peer foreign own partner ∷ []) y g)
-  | inr new ↦ inr (ap (λ (z : Life). z.granted) new)
+  | inr new ↦ inr (record {
+    granted = ap (λ (z : Life). z.granted) new.0;
+    host = ap (λ (z : Life). z.host) (sym new.0);
+    opens = inl (ap (λ (z : Life). z.peer) (sym new.0), ap (λ (z : Life). z.socket) (sym new.0), ap (λ (z : Life). z.foreign) (sym new.0));
+    ends = λ e. absurd (let no : fate.Open ≡ fate.Ended = sym new.1 ∙ e in cc);
+  })
 ]
 told_comes h (notice.Ended socket peer foreign) lives fates y g a i =
     over_comes h (notice.Ended socket peer foreign ∷ []) (lives_between h socket peer foreign) over_by_cls lives fates y g (λ z e. at_goes h socket z (between_at h socket peer foreign z e).0) over_never
     (λ x k there e turns.
-    (let p : (lives_at h socket x ≡ true) × (peer ≡ x.peer) = between_at h socket peer foreign x e in
+    (let p : (lives_at h socket x ≡ true) × IsEnd x (notice.Ended socket peer foreign) = between_at h socket peer foreign x e in
     let over : is_over k ≡ false = sym (beside_over lives fates x k a there) ∙ at_goes h socket x p.0 in
     (over_open k over turns, at_host h socket x p.0, inl p.1))) i
 told_comes h (notice.PairReset peer) lives fates y g a i =
@@ -250,11 +299,25 @@ all_come h [] k y g a i = inl (y, g, i, turned_same h [] y g)
 all_come h (n ∷ ns) k y g a i = by (all_come h ns (book_told h n k) y g (told_fated h n k.book.lives k.fates a) i) where
   first : (x : Life) (f : Fate) → Turned h ns x f y g → Comes h (n ∷ []) k.book.lives k.fates x f → Comes h (n ∷ ns) k.book.lives k.fates y g
   first x f t (inl o) = inl (o.0, o.1, o.2, turned_then h n ns o.0 x y o.1 f g o.3 t)
-  first x f t (inr none) = inr (t.granted ∙ none)
+  first x f t (inr b) = inr (record {
+    granted = t.granted ∙ b.granted;
+    host = b.host ∙ sym t.named.host;
+    opens = elim b.opens [
+      | inl o ↦ inl (opening_named x y t.named n o)
+      | inr none ↦ absurd none
+    ];
+    ends = λ e. elim (t.ends e) [
+      | inl was ↦ elim (b.ends was) [
+        | inl o ↦ inl ((end_named x y t.named n).0 o)
+        | inr none ↦ absurd none
+      ]
+      | inr now ↦ inr ((ends_named x y t.named ns).0 now.2)
+    ];
+  })
 
   by : Comes h ns (lives_told h n k.book.lives) (fates_told h n k.book.lives k.fates) y g → Comes h (n ∷ ns) k.book.lives k.fates y g
   by (inl o) = first o.0 o.1 o.3 (told_comes h n k.book.lives k.fates o.0 o.1 a o.2)
-  by (inr none) = inr none
+  by (inr b) = inr (record { granted = b.granted; host = b.host; opens = inr b.opens; ends = λ e. inr (b.ends e) })
 
 -- ---- the moment itself
 
@@ -345,11 +408,11 @@ pub record Moved (m : Moment) (ms : List Moment) (x : Life) (f : Fate) (y : Life
   pub granted : (y.granted ≡ x.granted) ⊎ IsGrant m
   pub opens : g ≡ fate.Open → f ≡ fate.Open
   pub unclosed : g ≡ fate.Open → IsClose m x → ⊥
-  pub ends : g ≡ fate.Ended → (f ≡ fate.Ended) ⊎ ((f ≡ fate.Open) × (host_in m ≡ x.host) × TellsEnd x.peer (notices_by m ms))
+  pub ends : g ≡ fate.Ended → (f ≡ fate.Ended) ⊎ ((f ≡ fate.Open) × (host_in m ≡ x.host) × TellsEnd x (notices_by m ms))
   pub still : x.ended ≡ true → y ≡ x
 
 abbrev pub Came : Moment → List Moment → Life → Fate → Type 0
-Came m ms y g = ((x : Life) × (f : Fate) × IsBeside x f (kept_in ms).book.lives (kept_in ms).fates × Moved m ms x f y g) ⊎ (y.granted ≡ nothing)
+Came m ms y g = ((x : Life) × (f : Fate) × IsBeside x f (kept_in ms).book.lives (kept_in ms).fates × Moved m ms x f y g) ⊎ IsBegun (host_in m) (notices_by m ms) y g
 
 pub came : (m : Moment) (ms : List Moment) (y : Life) (g : Fate) → IsBeside y g (kept_in (m ∷ ms)).book.lives (kept_in (m ∷ ms)).fates → Came m ms y g
 came m ms y g i = by (all_come (host_in m) (notices_by m ms) (kept_by m (kept_in ms)) y g (by_fated m (kept_in ms) (kept_fated ms)) i) where
@@ -375,7 +438,7 @@ came m ms y g i = by (all_come (host_in m) (notices_by m ms) (kept_by m (kept_in
       unclosed = λ e. o.3.unclosed (t.opens e);
       ends = λ e. elim (t.ends e) [
         | inl was ↦ inl (o.3.ends was)
-        | inr now ↦ inr (o.3.opens now.0, now.1 ∙ o.3.named.host, subst (λ (p : Host). TellsEnd p (notices_by m ms)) o.3.named.peer now.2)
+        | inr now ↦ inr (o.3.opens now.0, now.1 ∙ o.3.named.host, (ends_named o.0 z o.3.named (notices_by m ms)).1 now.2)
       ];
       still = λ e. t.still (ap (λ (v : Life). v.ended) (o.3.still e) ∙ e) ∙ o.3.still e;
     },
@@ -383,4 +446,4 @@ came m ms y g i = by (all_come (host_in m) (notices_by m ms) (kept_by m (kept_in
 
   by : Comes (host_in m) (notices_by m ms) (kept_by m (kept_in ms)).book.lives (kept_by m (kept_in ms)).fates y g → Came m ms y g
   by (inl o) = both_steps o.0 o.1 o.3 (by_step m (kept_in ms) o.0 o.1 o.2)
-  by (inr none) = inr none
+  by (inr b) = inr b

@@ -1,5 +1,5 @@
 -- What a program reports by a moment with which its host leaves a peer: of no end with that peer that it is over.
-use Rattle.std.proofs.Common.{◌≡◌, ◌⊎◌, inl, inr, ℕ, ◌==◌, ◌||◌, not, Bool, true, false, if◌then◌else◌, List, [], ◌∷◌, ◌++◌, refl, ap, sym, subst, ◌∙◌}
+use Rattle.std.proofs.Common.{◌≡◌, inl, inr, ℕ, ◌==◌, ◌||◌, not, Bool, true, false, if◌then◌else◌, List, [], ◌∷◌, ◌++◌, refl, sym, subst}
 use Rattle.interface.specs.Host.{Host, same_host}
 use Rattle.interface.specs.declared.address.Flow.{Flow}
 use Rattle.interface.specs.declared.crossing.Answer.{Answer}
@@ -27,6 +27,7 @@ use Rattle.sockets.specs.declared.request.Request.TheVariants as request
 use Rattle.net_sim.specs.Projection.{message_on}
 use Rattle.net_sim.specs.Story.{Asked, Crossed, Moment, event_in, events_of, places, program}
 use Rattle.net_sim.specs.Told.{host_in, notices_by}
+use Rattle.promise.specs.declared.life.Life.{Life}
 use Rattle.net_sim.proofs.lemmas.{Coupled}
 use Rattle.world_keeps_lives.proofs.lemmas.{clash}
 use Rattle.world_keeps_pairing.specs.Steps.{keeps}
@@ -38,22 +39,22 @@ use Rattle.world_keeps_streams.proofs.Stays.Resets.{leaves_by}
 
 -- ---- notices of no such end
 
-abbrev IsQuiet : Notice → Type 0
+abbrev pub IsQuiet : Notice → Type 0
 IsQuiet (notice.Ended socket peer foreign) = ⊥
 IsQuiet n = Unit {0}
 
-abbrev AreQuiet : List Notice → Type 0
+abbrev pub AreQuiet : List Notice → Type 0
 AreQuiet [] = Unit {0}
 AreQuiet (n ∷ ns) = IsQuiet n × AreQuiet ns
 
-not_end : (p : Host) (n : Notice) → IsQuiet n → IsEnd p n → ⊥
-not_end p (notice.Ended socket peer foreign) q e = q
-not_end p n q e = e
+not_end : (x : Life) (n : Notice) → IsQuiet n → IsEnd x n → ⊥
+not_end x (notice.Ended socket peer foreign) q e = q
+not_end x n q e = e
 
-quiet_tells : (p : Host) (ns : List Notice) → AreQuiet ns → TellsEnd p ns → ⊥
-quiet_tells p [] q t = t
-quiet_tells p (n ∷ ns) q (inl e) = not_end p n q.0 e
-quiet_tells p (n ∷ ns) q (inr t) = quiet_tells p ns q.1 t
+pub quiet_tells : (x : Life) (ns : List Notice) → AreQuiet ns → TellsEnd x ns → ⊥
+quiet_tells x [] q t = t
+quiet_tells x (n ∷ ns) q (inl e) = not_end x n q.0 e
+quiet_tells x (n ∷ ns) q (inr t) = quiet_tells x ns q.1 t
 
 -- ---- a program
 
@@ -76,7 +77,7 @@ module _ (s : NcpState) (stamp : ℕ) where
     lost true = fails peer (pair_with peer s.peers).phase (record (turn_of s peer) { pair = freed link (pair_with peer s.peers) }) refl
     lost false = tt
 
-  answer_quiet : (kind : Answer) (f : Flow) → AreQuiet (accepted s (inbound.Answer kind f) stamp).1
+  pub answer_quiet : (kind : Answer) (f : Flow) → AreQuiet (accepted s (inbound.Answer kind f) stamp).1
   unfolding accepted
   answer_quiet kind f =
       if_quiet (same_host s.own f.source) (if is_busy (pair_with f.destination s.peers).busy f.link.0 then after_turn s f.destination (answered_turn f.destination kind f.link.0 (turn_of s f.destination)) else (s, [])) (s, [])
@@ -106,7 +107,7 @@ module _ (s : NcpState) (stamp : ℕ) where
   contact_told peer true = (tt, tt)
   contact_told peer false = tt
 
-  request_quiet : (r : Request) → AreQuiet (served_notices s r)
+  pub request_quiet : (r : Request) → AreQuiet (served_notices s r)
   unfolding served_notices
   request_quiet (request.Contact peer) = contact_told peer (is_ready (pair_with peer s.peers).phase)
   request_quiet r = tt
@@ -142,8 +143,8 @@ module _ (hosts : List Host) (p : Host) where
   quiet (Asked g r) ms l left before = request_quiet (program g ms) (places ms) r
 
   -- so a host that reports the end of a connection with a peer stays with it
-  pub still_stays : (y : Moment) (ms : List Moment) → Lawful hosts (y ∷ ms) → stay.stays (host_in y) p (events_of ms) ≡ true → TellsEnd p (notices_by y ms) → stay.stays (host_in y) p (events_of (y ∷ ms)) ≡ true
-  still_stays y ms l before t = by (stay.stays (host_in y) p (events_of (y ∷ ms))) refl where
+  pub still_stays : (x : Life) (y : Moment) (ms : List Moment) → Lawful hosts (y ∷ ms) → stay.stays (host_in y) p (events_of ms) ≡ true → TellsEnd x (notices_by y ms) → stay.stays (host_in y) p (events_of (y ∷ ms)) ≡ true
+  still_stays x y ms l before t = by (stay.stays (host_in y) p (events_of (y ∷ ms))) refl where
     by : (v : Bool) → stay.stays (host_in y) p (events_of (y ∷ ms)) ≡ v → stay.stays (host_in y) p (events_of (y ∷ ms)) ≡ true
     by true e = e
-    by false e = absurd (quiet_tells p (notices_by y ms) (quiet y ms l e before) t)
+    by false e = absurd (quiet_tells x (notices_by y ms) (quiet y ms l e before) t)

@@ -1,10 +1,10 @@
 -- The lives of a host that doesn't stay with a peer have all ended: it has taken no request of the peer since it left.
-use Rattle.std.proofs.Common.{◌≡◌, ◌⊎◌, inl, inr, ℕ, ◌==◌, Bool, true, false, List, [], ◌∷◌, filter, Some, None, refl, ap, sym, subst, ◌∙◌, eq-eqb}
+use Rattle.std.proofs.Common.{◌≡◌, ◌⊎◌, inl, inr, ℕ, ◌==◌, Bool, true, false, List, [], ◌∷◌, filter, find, map, Option, Some, None, refl, ap, sym, subst, ◌∙◌, eq-eqb}
 use Rattle.std.specs.List.{Contains}
 use Rattle.std.proofs.lemmas.Bool.{eqb-true}
 use Rattle.interface.specs.Host.{Host}
 use Rattle.ncp_control.specs.Numbers.{is_receive_socket, is_send_socket}
-use Rattle.host_pairs.specs.Entries.{is_at, is_mine_on}
+use Rattle.host_pairs.specs.Entries.{entry_at, is_at, is_mine_on}
 use Rattle.host_pairs.specs.declared.entry.Entry.{Entry}
 use Rattle.host_pairs.proofs.lemmas.{both}
 use Rattle.host_keeps_pairing.specs.Ends.{Stand, Standing, at, end_of, is_past, standing}
@@ -23,7 +23,7 @@ use Rattle.world_keeps_lives.specs.Lives.{HasOpenEnd, mine_on}
 use Rattle.world_keeps_lives.proofs.lemmas.{live}
 use Rattle.world_keeps_pairing.specs.Free.{law_events, origin_in}
 use Rattle.world_keeps_pairing.proofs.lemmas.{IsPair, Side_of, Tie, Unheard, all_tied, are_origins, at_texts, foreign_of, life_paired, other, own_of, served_in, unheard}
-use Rattle.world_keeps_streams.proofs.Deeds.Effects.{Among, among_filter, among_kept, among_mapped}
+use Rattle.world_keeps_streams.proofs.Deeds.Effects.{Among, among_filter, among_kept, among_mapped, found_among}
 use Rattle.world_keeps_streams.proofs.Lives.Lists.{IsOf, contains}
 use Rattle.world_keeps_streams.proofs.Requests.Sides.{Lawful, coupled_in, lives_in}
 
@@ -45,6 +45,46 @@ entry_end s q who h p origin ms tie e there own foreign =
     (Side_of s q who h p origin ms).end (standing e) (tie.ends 0)
     (among_mapped standing (filter (is_at (own_of who s) (foreign_of who s)) (pair_with p (program h ms).peers).entries) e
     (among_kept (is_at (own_of who s) (foreign_of who s)) (pair_with p (program h ms).peers).entries e there here))
+
+-- ---- there is one at its two sockets
+
+pub at_it : (own foreign : ℕ) (e : Entry) → e.own ≡ own → e.foreign ≡ foreign → is_at own foreign e ≡ true
+at_it own foreign e is there =
+    let a : (e.own == own) ≡ true = eq-eqb e.own own is in
+    let b : (e.foreign == foreign) ≡ true = eq-eqb e.foreign foreign there in
+    (rw (a, b) refl)
+
+pub none_found : (test : Entry → Bool) (es : List Entry) (e : Entry) → find test es ≡ None → Among e es → test e ≡ true → ⊥
+none_found test [] e none i t = i
+none_found test (f ∷ es) e none i t = by (test f) refl i (none_found test es e) where
+  by : (v : Bool) → test f ≡ v → (f ≡ e) ⊎ Among e es → (find test es ≡ None → Among e es → test e ≡ true → ⊥) → ⊥
+  by true u j rest = let no : Some f ≡ None = rw u at none in absurd (cc)
+  by false u (inl is) rest = absurd (let no : true ≡ false = sym t ∙ ap test (sym is) ∙ u in cc)
+  by false u (inr j) rest = rest (rw u at none) j t
+
+one_of : (origin : ℕ → ℕ) (place : ℕ) (fs : List Entry) (words : List Mark) (x : End) (e f : Entry) → Stand true origin place (map standing fs) words x → Among e fs → Among f fs → e ≡ f
+one_of origin place [] words x e f h i j = absurd i
+one_of origin place (g ∷ []) words x e f h (inl i) (inl j) = sym i ∙ j
+one_of origin place (g ∷ []) words x e f h (inr i) j = absurd i
+one_of origin place (g ∷ []) words x e f h (inl i) (inr j) = absurd j
+one_of origin place (g ∷ k ∷ fs) words x e f h i j = absurd h
+
+module _ (s : Sockets) (q : IsPair s) (who : Who) (h p : Host) (ms : List Moment) (tie : Tie s q who h p (origin_in (crossings_of ms) h p) ms) where
+  pub one_tied : (e f : Entry) → Among e (pair_with p (program h ms).peers).entries → Among f (pair_with p (program h ms).peers).entries → e.own ≡ own_of who s → e.foreign ≡ foreign_of who s → f.own ≡ own_of who s → f.foreign ≡ foreign_of who s → e ≡ f
+  one_tied e f i j e_own e_foreign f_own f_foreign =
+      one_of (origin_in (crossings_of ms) h p) 0 (filter (is_at (own_of who s) (foreign_of who s)) (pair_with p (program h ms).peers).entries) (marks 0 (own_of who s) (foreign_of who s) (pair_with p (program h ms).peers).queue)
+      (Side_of s q who h p (origin_in (crossings_of ms) h p) ms).end e f (tie.ends 0)
+      (among_kept (is_at (own_of who s) (foreign_of who s)) (pair_with p (program h ms).peers).entries e i (at_it (own_of who s) (foreign_of who s) e e_own e_foreign))
+      (among_kept (is_at (own_of who s) (foreign_of who s)) (pair_with p (program h ms).peers).entries f j (at_it (own_of who s) (foreign_of who s) f f_own f_foreign))
+
+  pub found_tied : (e : Entry) → Among e (pair_with p (program h ms).peers).entries → e.own ≡ own_of who s → e.foreign ≡ foreign_of who s → entry_at (own_of who s) (foreign_of who s) (pair_with p (program h ms).peers).entries ≡ Some e
+  found_tied e i own foreign = by (entry_at (own_of who s) (foreign_of who s) (pair_with p (program h ms).peers).entries) refl where
+    by : (o : Option Entry) → entry_at (own_of who s) (foreign_of who s) (pair_with p (program h ms).peers).entries ≡ o → o ≡ Some e
+    by None none = absurd (none_found (is_at (own_of who s) (foreign_of who s)) (pair_with p (program h ms).peers).entries e none i (at_it (own_of who s) (foreign_of who s) e own foreign))
+    by (Some f) found =
+        let g : Among f (pair_with p (program h ms).peers).entries × (is_at (own_of who s) (foreign_of who s) f ≡ true) = found_among (is_at (own_of who s) (foreign_of who s)) (pair_with p (program h ms).peers).entries f found in
+        let parts : ((f.own == own_of who s) ≡ true) × ((f.foreign == foreign_of who s) ≡ true) = both (f.own == own_of who s) (f.foreign == foreign_of who s) g.1 in
+        ap (λ (x : Entry). Some x) (one_tied f e g.0 i (eqb-true f.own (own_of who s) parts.0) (eqb-true f.foreign (foreign_of who s) parts.1) own foreign)
 
 -- ---- a host that doesn't stay
 

@@ -206,7 +206,7 @@ and_off : (v w : Bool) → w ≡ true → (v && not w) ≡ false
 and_off true w e = ap not e
 and_off false w e = refl
 
-at_off : (h : Host) (socket : ℕ) (x : Life) → x.ended ≡ true → lives_at h socket x ≡ false
+pub at_off : (h : Host) (socket : ℕ) (x : Life) → x.ended ≡ true → lives_at h socket x ≡ false
 at_off h socket x e = rw e (by (same_host h x.host) (x.socket == socket)) where
   by : (v w : Bool) → (v && w && false) ≡ false
   by true true = refl

@@ -63,7 +63,7 @@ side_stays h p spoken heard (e ∷ events) =
 -- ---- one end
 
 -- the connection of an end that is there is named by how many are gone
-now_gone : (c now gone : ℕ) (partner_closed : Bool) → c ≡ now + count partner_closed → c ≡ counted partner_closed gone → now ≡ gone
+pub now_gone : (c now gone : ℕ) (partner_closed : Bool) → c ≡ now + count partner_closed → c ≡ counted partner_closed gone → now ≡ gone
 now_gone c now gone true e f = omega (arith, e, f)
 now_gone c now gone false e f = omega (arith, e, f)
 

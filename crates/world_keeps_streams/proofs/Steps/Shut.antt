@@ -1,10 +1,8 @@
--- A receiving end that a user closed grants nothing more, by what the law's receiver has of its connection.
-use Rattle.std.proofs.Common.{◌≡◌, ◌⊎◌, inl, inr, ℕ, ◌==◌, ◌&&◌, Bool, true, false, not, if◌then◌else◌, List, [], ◌∷◌, ◌++◌, length, Option, Some, None, refl, ap, sym, subst, ◌∙◌, eq-eqb}
-use Rattle.std.proofs.lemmas.Bool.{eqb-true}
+-- A receiving end that a user closed has said its CLS, by what the law's receiver has of its connection; and an end that is there later was there already,
+-- where its connection had been asked for.
+use Rattle.std.proofs.Common.{◌≡◌, inl, inr, ℕ, ◌==◌, ◌&&◌, Bool, true, false, if◌then◌else◌, List, [], ◌∷◌, ◌++◌, length, Option, Some, None, refl, ap, sym, subst, ◌∙◌}
 use Rattle.interface.specs.Host.{Host}
-use Rattle.ncp_control.specs.Allocation as counters
-use Rattle.ncp_control.specs.declared.allocation.Allocation.{Allocation}
-use Rattle.stream_law.specs.Words.{Rts, Str, All, Gvb, Ret, Cls, covers, for, holds, is_size}
+use Rattle.stream_law.specs.Words.{Str, Ret, Cls, covers, for, holds, is_size}
 use Rattle.stream_law.specs.Receivers as receivers
 use Rattle.stream_law.specs.Receivers.{Receiver}
 use Rattle.stream_law.proofs.lemmas.{for_here, some_is}
@@ -28,48 +26,39 @@ pub record IsShut (r : Receiver) (c : ℕ) : Type 0 where
   pub asked : r.asked c ≡ true
   pub closed : r.end ≡ Some c → r.closed ≡ true
 
--- and nothing was granted in it
-pub record IsBare (r : Receiver) (c : ℕ) : Type 0 where
-  pub shut : IsShut r c
-  pub none : (r.granted c).messages ≡ 0
-
 -- ---- moves that leave all of this
 
 record Same (r t : Receiver) : Type 0 where
   end : t.end ≡ r.end
   asked : t.asked ≡ r.asked
   closed : t.closed ≡ r.closed
-  granted : t.granted ≡ r.granted
 
 same_itself : (r : Receiver) → Same r r
-same_itself r = record { end = refl; asked = refl; closed = refl; granted = refl }
+same_itself r = record { end = refl; asked = refl; closed = refl }
 
 same_back : (m n : ℕ) (o : Option ℕ) (r : Receiver) → Same r (receivers.takes_back m n o r)
 same_back m n None r = same_itself r
 same_back m n (Some k) r = by (receivers.is_open k r && holds r.allocation m n) refl where
   by : (v : Bool) → (receivers.is_open k r && holds r.allocation m n) ≡ v → Same r (receivers.takes_back m n (Some k) r)
-  by true t = rw t (record { end = refl; asked = refl; closed = refl; granted = refl })
+  by true t = rw t (record { end = refl; asked = refl; closed = refl })
   by false t = rw t (same_itself r)
 
 same_taken : (z : ℕ) (bits : List Bool) (o : Option ℕ) (r : Receiver) → Same r (receivers.takes z bits o r)
 same_taken z bits None r = same_itself r
 same_taken z bits (Some k) r = by (receivers.is_open k r && is_size z (r.size k) && covers r.allocation (length bits)) refl where
   by : (v : Bool) → (receivers.is_open k r && is_size z (r.size k) && covers r.allocation (length bits)) ≡ v → Same r (receivers.takes z bits (Some k) r)
-  by true t = rw t (record { end = refl; asked = refl; closed = refl; granted = refl })
+  by true t = rw t (record { end = refl; asked = refl; closed = refl })
   by false t = rw t (same_itself r)
 
 -- a message that comes counts, and leaves these
 same_come : (z : ℕ) (bits : List Bool) (r : Receiver) → Same r (receivers.moved (receivers.Take z bits) r)
-same_come z bits r = let s : Same r (receivers.takes z bits r.end r) = same_taken z bits r.end r in record { end = s.end; asked = s.asked; closed = s.closed; granted = s.granted }
+same_come z bits r = let s : Same r (receivers.takes z bits r.end r) = same_taken z bits r.end r in record { end = s.end; asked = s.asked; closed = s.closed }
 
 known_same : (r t : Receiver) → Same r t → Known r → Known t
 known_same r t s k c e = ap (λ (f : ℕ → Bool). f c) s.asked ∙ k c (sym s.end ∙ e)
 
 shut_same : (r t : Receiver) (c : ℕ) → Same r t → IsShut r c → IsShut t c
 shut_same r t c s h = record { asked = ap (λ (f : ℕ → Bool). f c) s.asked ∙ h.asked; closed = λ e. s.closed ∙ h.closed (sym s.end ∙ e) }
-
-bare_same : (r t : Receiver) (c : ℕ) → Same r t → IsBare r c → IsBare t c
-bare_same r t c s h = record { shut = shut_same r t c s h.shut; none = ap (λ (f : ℕ → Allocation). (f c).messages) s.granted ∙ h.none }
 
 -- ---- one move
 
@@ -95,17 +84,6 @@ asked_more k c f e = by (c == k) where
   by true = refl
   by false = e
 
-for_other : {A : Type 0} (c k : ℕ) (x : A) (f : ℕ → A) → ((c == k) ≡ true → ⊥) → for k x f c ≡ f c
-for_other {A} c k x f off = by (c == k) refl where
-  by : (v : Bool) → (c == k) ≡ v → (if v then x else f c) ≡ f c
-  by true e = absurd (off e)
-  by false e = refl
-
-open_unclosed : (u v w : Bool) → (u && not v && not w) ≡ true → v ≡ false
-open_unclosed u false w e = refl
-open_unclosed true true w e = absurd (let no : false ≡ true = e in cc)
-open_unclosed false true w e = absurd (let no : false ≡ true = e in cc)
-
 shut_move : (m : receivers.Move) (r : Receiver) (c : ℕ) → receivers.May m r → IsShut r c → IsShut (receivers.moved m r) c
 shut_move (receivers.Ask k) r c may h = record {
   asked = asked_more k c r.asked h.asked;
@@ -121,26 +99,6 @@ shut_move (receivers.Hear (Str k z)) r c may h = record { asked = h.asked; close
 shut_move (receivers.Hear (Ret k m n)) r c may h = shut_same r (receivers.takes_back m n r.end r) c (same_back m n r.end r) h
 shut_move (receivers.Hear (Cls k)) r c may h = record { asked = h.asked; closed = h.closed }
 shut_move (receivers.Hear w) r c may h = h
-
-bare_move : (m : receivers.Move) (r : Receiver) (c : ℕ) → receivers.May m r → IsBare r c → IsBare (receivers.moved m r) c
-bare_move (receivers.Grant k m n) r c may h = record {
-  shut = shut_move (receivers.Grant k m n) r c may h.shut;
-  none = ap (λ (a : Allocation). a.messages) (for_other c k (counters.added (r.granted k) m n) r.granted other) ∙ h.none;
-} where
-  other : (c == k) ≡ true → ⊥
-  other e =
-      let same : c ≡ k = eqb-true c k e in
-      unlike r.closed (h.shut.closed (may.0 ∙ ap (λ (j : ℕ). Some j) (sym same))) (open_unclosed r.opened r.closed (r.over k) may.1)
-bare_move (receivers.Take z bits) r c may h = bare_same r (receivers.moved (receivers.Take z bits) r) c (same_come z bits r) h
-bare_move (receivers.Hear (Ret k m n)) r c may h = bare_same r (receivers.takes_back m n r.end r) c (same_back m n r.end r) h
-bare_move (receivers.Ask k) r c may h = record { shut = shut_move (receivers.Ask k) r c may h.shut; none = h.none }
-bare_move (receivers.Open k) r c may h = record { shut = shut_move (receivers.Open k) r c may h.shut; none = h.none }
-bare_move (receivers.AskBack k m n) r c may h = h
-bare_move (receivers.Close k) r c may h = record { shut = shut_move (receivers.Close k) r c may h.shut; none = h.none }
-bare_move (receivers.Free k) r c may h = record { shut = shut_move (receivers.Free k) r c may h.shut; none = h.none }
-bare_move (receivers.Hear (Str k z)) r c may h = record { shut = shut_move (receivers.Hear (Str k z)) r c may h.shut; none = h.none }
-bare_move (receivers.Hear (Cls k)) r c may h = record { shut = shut_move (receivers.Hear (Cls k)) r c may h.shut; none = h.none }
-bare_move (receivers.Hear w) r c may h = h
 
 -- ---- several
 
@@ -161,13 +119,24 @@ asked_moves : (ms : List receivers.Move) (r : Receiver) (c : ℕ) → r.asked c 
 asked_moves [] r c h = h
 asked_moves (m ∷ ms) r c h = asked_moves ms (receivers.moved m r) c (asked_move m r c h)
 
+-- an end that is there after moves was there before, where its connection had been asked for
+back_move : (m : receivers.Move) (r : Receiver) (c : ℕ) → receivers.May m r → r.asked c ≡ true → (receivers.moved m r).end ≡ Some c → r.end ≡ Some c
+back_move (receivers.Ask k) r c may asked e = absurd (unlike (r.asked c) asked (subst (λ (j : ℕ). r.asked j ≡ false) (some_is k c e) may.1))
+back_move (receivers.Free k) r c may asked e = absurd (let no : None ≡ Some c = e in cc)
+back_move (receivers.Take z bits) r c may asked e = sym (same_come z bits r).end ∙ e
+back_move (receivers.Hear (Ret k m n)) r c may asked e = sym (same_back m n r.end r).end ∙ e
+back_move (receivers.Hear (Str k z)) r c may asked e = e
+back_move (receivers.Hear (Cls k)) r c may asked e = e
+back_move (receivers.Hear w) r c may asked e = e
+back_move m r c may asked e = e
+
+back_moves : (ms : List receivers.Move) (r : Receiver) (c : ℕ) → MayAllReceive ms r → r.asked c ≡ true → (all_received ms r).end ≡ Some c → r.end ≡ Some c
+back_moves [] r c may asked e = e
+back_moves (m ∷ ms) r c may asked e = back_move m r c may.0 asked (back_moves ms (receivers.moved m r) c may.1 (asked_move m r c asked) e)
+
 shut_moves : (ms : List receivers.Move) (r : Receiver) (c : ℕ) → MayAllReceive ms r → IsShut r c → IsShut (all_received ms r) c
 shut_moves [] r c may h = h
 shut_moves (m ∷ ms) r c may h = shut_moves ms (receivers.moved m r) c may.1 (shut_move m r c may.0 h)
-
-bare_moves : (ms : List receivers.Move) (r : Receiver) (c : ℕ) → MayAllReceive ms r → IsBare r c → IsBare (all_received ms r) c
-bare_moves [] r c may h = h
-bare_moves (m ∷ ms) r c may h = bare_moves ms (receivers.moved m r) c may.1 (bare_move m r c may.0 h)
 
 -- ---- calls
 
@@ -195,6 +164,13 @@ module _ (number : ℕ → ℕ → ℕ → ℕ) (tells : IsTelling number) (peer
   asked_calls c [] own h = h
   asked_calls c (m ∷ more) own h = asked_moves (received_at (name_now number peer (more ++ own)) link m.call m.pair m.listening) (receiver_now number peer link (more ++ own)) c (asked_calls c more own h)
 
+  pub end_back : (c : ℕ) (more own : List calls.Moment) → IsHistory peer (more ++ own) → AreAllowed number peer link (more ++ own) → (receiver_now number peer link own).asked c ≡ true → (receiver_now number peer link (more ++ own)).end ≡ Some c
+      → (receiver_now number peer link own).end ≡ Some c
+  end_back c [] own i a h e = e
+  end_back c (m ∷ more) own i a h e =
+      end_back c more own i.1 a.1 h
+      (back_moves (received_at (name_now number peer (more ++ own)) link m.call m.pair m.listening) (receiver_now number peer link (more ++ own)) c (may_call m (more ++ own) i a) (asked_calls c more own h) e)
+
   -- once a user has closed it
   pub closed_shut : (c : ℕ) (own : List calls.Moment) → IsHistory peer own → AreAllowed number peer link own → HasClosed number peer link c own → IsShut (receiver_now number peer link own) c
   closed_shut c [] i a h = absurd h
@@ -202,28 +178,3 @@ module _ (number : ℕ → ℕ → ℕ → ℕ) (tells : IsTelling number) (peer
       shut_here (name_now number peer own) link c m.call m.pair m.listening (receiver_now number peer link own) (known_calls own) (may_call m own i a) here
   closed_shut c (m ∷ own) i a (inr older) =
       shut_moves (received_at (name_now number peer own) link m.call m.pair m.listening) (receiver_now number peer link own) c (may_call m own i a) (closed_shut c own i.1 a.1 older)
-
-  pub bare_calls : (c : ℕ) (more own : List calls.Moment) → IsHistory peer (more ++ own) → AreAllowed number peer link (more ++ own) → IsBare (receiver_now number peer link own) c → IsBare (receiver_now number peer link (more ++ own)) c
-  bare_calls c [] own i a h = h
-  bare_calls c (m ∷ more) own i a h =
-      bare_moves (received_at (name_now number peer (more ++ own)) link m.call m.pair m.listening) (receiver_now number peer link (more ++ own)) c (may_call m (more ++ own) i a)
-      (bare_calls c more own i.1 a.1 h)
-
-  -- ---- whether a user has
-
-  does_close : (c : ℕ) (name : ℕ → ℕ → ℕ) (k : Call) → IsClosing name link c k ⊎ (IsClosing name link c k → ⊥)
-  does_close c name (Closes socket e) = by (receives_on link e) (named name e == c) refl refl where
-    by : (v w : Bool) → receives_on link e ≡ v → (named name e == c) ≡ w → IsClosing name link c (Closes socket e) ⊎ (IsClosing name link c (Closes socket e) → ⊥)
-    by true true f g = inl (f, eqb-true (named name e) c g)
-    by true false f g = inr (λ i. unlike (named name e == c) (eq-eqb (named name e) c i.1) g)
-    by false w f g = inr (λ i. unlike (receives_on link e) i.0 f)
-  does_close c name k = inr (λ i. i)
-
-  pub has_closed : (c : ℕ) (own : List calls.Moment) → HasClosed number peer link c own ⊎ (HasClosed number peer link c own → ⊥)
-  has_closed c [] = inr (λ i. i)
-  has_closed c (m ∷ own) = by (does_close c (name_now number peer own) m.call) (has_closed c own) where
-    by : IsClosing (name_now number peer own) link c m.call ⊎ (IsClosing (name_now number peer own) link c m.call → ⊥) → HasClosed number peer link c own ⊎ (HasClosed number peer link c own → ⊥)
-        → HasClosed number peer link c (m ∷ own) ⊎ (HasClosed number peer link c (m ∷ own) → ⊥)
-    by (inl here) o = inl (inl here)
-    by (inr none) (inl older) = inl (inr older)
-    by (inr none) (inr never) = inr (λ i. elim i [ inl h ↦ none h | inr h ↦ never h ])

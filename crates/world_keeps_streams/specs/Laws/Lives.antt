@@ -75,12 +75,11 @@ LivesAgree =
     (hosts : List Host) (moments : List Moment) → HaveAddresses hosts → mail.IsRun hosts (crossings_of moments) → IsTimeline hosts moments →
     (receiver sender : Life) → (settled : AreSettled moments receiver sender) → Agree receiver settled.rest.end.end settled.giver.end
 
--- a receiving life that has ended, and took any bit, was closed by its partner and by no user of its host
+-- a receiving life that has ended was closed by its partner and by no user of its host
 abbrev pub LivesEnded : Type 0
 LivesEnded =
     (hosts : List Host) (moments : List Moment) → HaveAddresses hosts → mail.IsRun hosts (crossings_of moments) → IsTimeline hosts moments →
-    (receiver : Life) → IsBeside receiver fate.Ended (kept_in moments).book.lives (kept_in moments).fates → receives receiver ≡ true →
-    (receiver.bits ≡ [] → ⊥) → WasClosedByPartner moments receiver
+    (receiver : Life) → IsBeside receiver fate.Ended (kept_in moments).book.lives (kept_in moments).fates → receives receiver ≡ true → WasClosedByPartner moments receiver
 
 -- and an orderly close loses nothing
 abbrev pub LivesWhole : Type 0

@@ -429,7 +429,7 @@ def ended_with_messages(chance: Random, book: Book) -> None:
 
 @way("more was handed over than an ended life took")
 def ended_handed_more(chance: Random, book: Book) -> None:
-    _, at = chance.choice([(life, at) for life, at in ended(book) if life.bits])
+    _, at = chance.choice(ended(book))
     book.handed[at] += some_bits(chance)
 
 

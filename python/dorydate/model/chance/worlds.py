@@ -184,7 +184,7 @@ class Script:
 
     def trouble(self) -> None:
         """Something stops, or is given up or lost."""
-        flows = [Flow(name, peer, link) for name, host in self.up().items() for peer, pair in host.pairs.items() for link in pair.busy]
+        flows = [Flow(name, peer, link) for name, host in self.up().items() for peer, pair in host.pairs.items() for link in sorted(pair.busy)]
         ways: list[Event] = [("hostdown", name) for name in self.up()]
         ways += [("giveup", flow) for flow in flows] * 3
         if self.subnet:

@@ -42,7 +42,7 @@ class ResetsAmidData(Host):
     def next_of(self, pair: Pair) -> Outgoing | None:
         if pair.phase != WANT and not pair.owed:
             return super().next_of(pair)
-        busy, pair.busy = pair.busy, pair.busy & {0}
+        busy, pair.busy = pair.busy, [it for it in pair.busy if it == 0]
         try:
             return super().next_of(pair)
         finally:
@@ -151,7 +151,7 @@ class ClosesEarly(Host):
     """A sending end queues its CLS when all has gone, answered or not."""
 
     def settle(self, pair: Pair) -> None:
-        busy, pair.busy = pair.busy, set()
+        busy, pair.busy = pair.busy, []
         super().settle(pair)
         pair.busy = busy
 

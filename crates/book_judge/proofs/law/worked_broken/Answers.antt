@@ -20,7 +20,7 @@ returns-clause-whole c = record {
   };
   streams = record { source = λ x there r some. absurd (contains_none x there); sent = refl };
   grants = record { taken = λ x there r. absurd (contains_none x there); sent = λ x y there other m. absurd (contains_none x there) };
-  closes = record { took_sent = λ x y beside there m. absurd beside; took_handed = λ x y text beside there m some. absurd beside };
+  closes = record { took_sent = λ x y beside there m. absurd beside; took_handed = λ x y text beside there m. absurd beside };
 }
 
 pub returns-clause-list : goal.returns-clause-list

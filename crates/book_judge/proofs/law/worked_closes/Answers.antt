@@ -51,9 +51,6 @@ sender_is x y there m = elim (contains_cases took (gave ∷ []) y there) [
 other_fate : fate.Ended ≡ fate.Closed → ⊥
 other_fate e = absurd (cc)
 
-none_eight : eight ≡ [] → ⊥
-none_eight e = absurd (cc)
-
 not_twelve : eight ≡ eight ++ four → ⊥
 not_twelve e = absurd (cc)
 
@@ -63,7 +60,7 @@ returns-clause-whole c = record {
       (let p = taker_is x y fate.Ended fate.Ended fate.Open beside m in
       let q = sender_is x y there m in
       (ap (λ (z : Life). z.bits) (p.0 ∙ refl) ∙ sym (ap (λ (z : Life). z.bits) q), ap (λ (z : Life). z.messages) p.0 ∙ sym (ap (λ (z : Life). z.messages) q)));
-  took_handed = λ x y text beside given m some.
+  took_handed = λ x y text beside given m.
       (let p = taker_is x y fate.Ended fate.Ended fate.Open beside m in
       let q = giver_is x y text eight given m in
       ap (λ (z : Life). z.bits) p.0 ∙ sym q.1);
@@ -72,15 +69,15 @@ returns-clause-whole c = record {
 pub returns-clause-closed : goal.returns-clause-closed
 returns-clause-closed c = record {
   took_sent = λ x y beside there m. absurd (other_fate (taker_is x y fate.Ended fate.Closed fate.Ended beside m).1);
-  took_handed = λ x y text beside given m some. absurd (other_fate (taker_is x y fate.Ended fate.Closed fate.Ended beside m).1);
+  took_handed = λ x y text beside given m. absurd (other_fate (taker_is x y fate.Ended fate.Closed fate.Ended beside m).1);
 }
 
 pub returns-clause-lost : goal.returns-clause-lost
 returns-clause-lost c = record {
   place = 0;
   first = (
-    record { took_sent = λ x y beside there m. absurd beside; took_handed = λ x y text beside given m some. absurd beside },
-    λ w. not_twelve (w.took_handed took gave (eight ++ four) (inl (refl, refl)) (inr (inl (refl, refl))) matched none_eight),
+    record { took_sent = λ x y beside there m. absurd beside; took_handed = λ x y text beside given m. absurd beside },
+    λ w. not_twelve (w.took_handed took gave (eight ++ four) (inl (refl, refl)) (inr (inl (refl, refl))) matched),
   );
   at = (
     refl,

@@ -19,7 +19,7 @@ returns-clause-whole c = record {
           | inr none ↦ absurd none
         ]
       ];
-  took_handed = λ x s t i j m some.
+  took_handed = λ x s t i j m.
       elim i [
         | inl e ↦ absurd (let no_fate : fate.Ended ≡ fate.Closed = e.1 in cc)
         | inr k ↦ elim k [
@@ -44,7 +44,7 @@ returns-clause-closed c = record {
       | inr none ↦ absurd none
     ]
   ];
-  took_handed = λ x s t i j m some. elim i [
+  took_handed = λ x s t i j m. elim i [
     | inl e ↦ absurd (let no_fate : fate.Ended ≡ fate.Closed = e.1 in cc)
     | inr k ↦ elim k [
       | inl e ↦ absurd (let no_fate : fate.Ended ≡ fate.Closed = e.1 in cc)
@@ -62,7 +62,7 @@ returns-clause-reset c = record {
       | inr none ↦ absurd none
     ]
   ];
-  took_handed = λ x s t i j m some. elim i [
+  took_handed = λ x s t i j m. elim i [
     | inl e ↦ absurd (let no_fate : fate.Ended ≡ fate.Closed = e.1 in cc)
     | inr k ↦ elim k [
       | inl e ↦ absurd (let no_fate : fate.Ended ≡ fate.Reset = e.1 in cc)
@@ -89,9 +89,16 @@ pub returns-clause-handed : goal.returns-clause-handed
 returns-clause-handed c u =
     let bits : eight ≡ eight ++ four =
     u.took_handed (over taker) (over giver) (eight ++ four) (inr (inl (refl, refl))) (inl (refl, refl))
-    (record { receiving = refl; sending = refl; peers = (refl, refl); sockets = (refl, refl); asked = refl; answered = refl }) (λ e. absurd (cc)) in
+    (record { receiving = refl; sending = refl; peers = (refl, refl); sockets = (refl, refl); asked = refl; answered = refl }) in
     let count : 8 ≡ 12 = ap (λ (bs : List Bool). length bs) bits in
     absurd (omega (arith, count))
+
+pub returns-clause-unsent : goal.returns-clause-unsent
+returns-clause-unsent c u =
+    let bits : [] ≡ eight =
+    u.took_handed (over taker_of_nothing) (over giver_of_nothing) eight (inr (inl (refl, refl))) (inl (refl, refl))
+    (record { receiving = refl; sending = refl; peers = (refl, refl); sockets = (refl, refl); asked = refl; answered = refl }) in
+    absurd (cc)
 
 pub returns-clause-nothing : goal.returns-clause-nothing
 returns-clause-nothing c = record {
@@ -106,11 +113,17 @@ returns-clause-nothing c = record {
           | inr none ↦ absurd none
         ]
       ];
-  took_handed = λ x s t i j m some.
+  took_handed = λ x s t i j m.
       elim i [
         | inl e ↦ absurd (let no_fate : fate.Ended ≡ fate.Closed = e.1 in cc)
         | inr k ↦ elim k [
-          | inl e ↦ absurd (some (ap (λ (z : Life). z.bits) e.0))
+          | inl e ↦ elim j [
+            | inl a ↦ ap (λ (z : Life). z.bits) e.0 ∙ sym a.1
+            | inr b ↦ elim b [
+              | inl a ↦ absurd (not_sending s (ap (λ (z : Life). is_send_socket z.socket) (sym a.0)) m.sending)
+              | inr none ↦ absurd none
+            ]
+          ]
           | inr none ↦ absurd none
         ]
       ];

@@ -6,7 +6,8 @@ use Rattle.world_keeps_streams.proofs.Books.Calm.{all_calm}
 use Rattle.world_keeps_streams.proofs.Books.Came.{all_came}
 use Rattle.world_keeps_streams.proofs.Books.Closes.{rests}
 use Rattle.world_keeps_streams.proofs.Books.Comes.{all_come}
-use Rattle.world_keeps_streams.proofs.Books.EndingHanded.{closes_all, ended_by_partner}
+use Rattle.world_keeps_streams.proofs.Books.Ending.{ended_by_partner}
+use Rattle.world_keeps_streams.proofs.Books.EndingHanded.{closes_all}
 use Rattle.world_keeps_streams.proofs.Books.Handed.{took_handed}
 use Rattle.world_keeps_streams.proofs.Books.Later.{closes_whole}
 use Rattle.world_keeps_streams.proofs.Books.Firsts.{firsts}
@@ -49,7 +50,7 @@ pub returns-clause-came : goal.returns-clause-came
 returns-clause-came c hosts moments addresses run time = all_came hosts moments (addresses, run, time)
 
 pub returns-clause-ended : goal.returns-clause-ended
-returns-clause-ended c hosts moments addresses run time receiver there kind some = ended_by_partner hosts moments (addresses, run, time) receiver there kind some
+returns-clause-ended c hosts moments addresses run time receiver there kind = ended_by_partner hosts moments (addresses, run, time) receiver there kind
 
 pub returns-clause-whole : goal.returns-clause-whole
 returns-clause-whole c hosts moments addresses run time = closes_all hosts moments (addresses, run, time)

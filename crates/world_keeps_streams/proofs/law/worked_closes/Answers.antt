@@ -21,7 +21,7 @@ use Rattle.sockets.specs.Worked.{first, second}
 use Rattle.world_keeps_streams.specs.Calls.{own_calls}
 use Rattle.world_keeps_lives.specs.WorkedFormed.{gave}
 use Rattle.world_keeps_streams.specs.Closes.{IsClosedByPartner, WasClosedBy}
-use Rattle.world_keeps_streams.specs.Worked.{close_back, ended_moments, over_gave, quit_moments, stopped_moments, took_eight}
+use Rattle.world_keeps_streams.specs.Worked.{close_back, ended_moments, quit_moments, stopped_moments, took_eight}
 use Rattle.net_sim.specs.Story.{Crossed, program}
 use Rattle.net_sim.specs.Worked.{eight}
 use Rattle.world_keeps_lives.proofs.lemmas.{none_there}
@@ -111,9 +111,6 @@ unfolding octets_of orders_of read_of command_of packed_count accepted refusal s
 closed_by = record {
   closed = record { there = (1, omega arith, refl); later = []; earlier = ended_moments; is = refl; receiver = took_eight; then = closed_there; same = refl };
   matches = record { receiving = refl; sending = refl; peers = (refl, refl); sockets = (refl, refl); asked = refl; answered = refl };
-  partner = gave;
-  there = (0, omega arith, refl);
-  same = refl;
 }
 
 closed_here : IsClosedByPartner stopped_moments took_eight
@@ -141,9 +138,6 @@ unfolding octets_of orders_of read_of command_of packed_count accepted refusal s
 returns-clause-left c = record {
   closed = record { there = (1, omega arith, refl); later = []; earlier = stopped_moments; is = refl; receiver = took_eight; then = closed_here; same = refl };
   matches = record { receiving = refl; sending = refl; peers = (refl, refl); sockets = (refl, refl); asked = refl; answered = refl };
-  partner = over_gave;
-  there = (0, omega arith, refl);
-  same = refl;
 }
 
 pub returns-clause-whole : goal.returns-clause-whole
