@@ -390,7 +390,7 @@ def ended(book: Book) -> list[tuple[Life, int]]:
 
 def said_to_be_ended(chance: Random, book: Book, *fates: Fate) -> None:
     """Says of a life with one of these fates, which lost something, that its partner ended it."""
-    lost = [life for life, at in matched(book) if life.fate in fates and (life.bits != book.lives[at].bits or life.bits and life.bits != book.handed[at])]
+    lost = [life for life, at in matched(book) if life.fate in fates and (life.bits != book.lives[at].bits or life.bits != book.handed[at])]
     chance.choice(lost).fate = "ended"
 
 
@@ -456,7 +456,7 @@ def ended_otherwise(chance: Random, book: Book) -> None:
 
 
 def handed_more(chance: Random, book: Book) -> None:
-    taken = {at for life, at in ended(book) if life.bits}
+    taken = {at for _, at in ended(book)}
     book.handed[chance.choice([at for at in range(len(book.handed)) if at not in taken])] += some_bits(chance)
 
 
