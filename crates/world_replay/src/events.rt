@@ -1,6 +1,6 @@
 //! Replaying the events of a world's script.
 
-ghost use Rattle.std.specs.Prelude.{◌≡◌, Err, List, Ok, OnOk, false, true, ℕ};
+ghost use Rattle.std.specs.Prelude.{◌≡◌, ◌≤◌, Err, List, Ok, OnOk, false, true, ℕ};
 ghost use Rattle.interface.specs.Messages.{SafeMessages};
 ghost use Rattle.net_sim.specs.Carriers.{shown};
 ghost use Rattle.net_sim.specs.World.{CalmGives};
@@ -15,6 +15,9 @@ use interface::Carrier;
 use net_sim::{Event, World, WorldFault};
 use replay::{Detail, Line, Output, ReplayFault};
 use world_script::WorldEvent;
+
+/// How many rounds of a calm pass before each further one is seen at once.
+const UNSEEN_ROUNDS: u32 = 64;
 
 /// Lets each event happen in order, and prints what it shows: each crossing, each notice after the crossings that
 /// were before it, each report after its notice, and then the refusal, if there is one. Of a message it prints as much
@@ -151,12 +154,33 @@ fn replay_calm<C: Carrier, W: Output>(
     if rounds == 0 {
         return replay_one(world, WorldEvent::Calm(rounds), line, detail, writer);
     }
-    for _ in 0..rounds {
+    for passed in 0..rounds {
         let before = world.book().crossings().len();
-        replay_one(world, WorldEvent::Calm(1), line, detail, writer)?;
+        replay_round(world, passed, line, detail, writer)?;
         if has_calmed(world, before) {
             return Ok(());
         }
+    }
+    Ok(())
+}
+
+/// Lets one more round of a calm pass of which this many have passed, and prints what it showed. Of a long calm it hands on all that was
+/// printed so far, so that it is seen though the calm may never rest.
+fn replay_round<C: Carrier, W: Output>(
+    world: &mut World<C>,
+    passed: u32,
+    line: &mut Line,
+    detail: Detail,
+    writer: &mut W,
+) -> Result<(), ReplayFault>
+    requires { W.failed writer.old ≡ false }
+    ensures ends { OneEnds (shown C.calls) detail world.old (world_event.Calm 1) result world.new (W.contents writer.old) (W.contents writer.new) }
+    ensures seen { 64 ≤ passed → OnOk result (W.flushed writer.new ≡ true) }
+    ensures failed { TellsCannotWrite result (W.failed writer.new) }
+{
+    replay_one(world, WorldEvent::Calm(1), line, detail, writer)?;
+    if passed >= UNSEEN_ROUNDS {
+        writer.flush()?;
     }
     Ok(())
 }

@@ -5,7 +5,7 @@ use Rattle.world_replay.proofs.Rounds.{HaveRounds}
 use Rattle.world_replay.proofs.events.replay_calm.Given as goal
 
 -- this many rounds have passed, and what they showed is written; no write has failed
-abbrev pub invariant-loop : goal.invariant-loop
-invariant-loop g l =
+abbrev pub invariant-loop-passed : goal.invariant-loop-passed
+invariant-loop-passed g l =
     let calls : Calls g.row.C.Denot = shown g.C.Carrier.calls in
-    HaveRounds calls l.detail l.counter l.fn.world l.world (g.W.Output.contents l.fn.writer) (g.W.Output.contents l.writer) × (g.W.Output.failed l.writer ≡ false) × (l.counter ≤ l.rounds)
+    HaveRounds calls l.detail l.passed l.fn.world l.world (g.W.Output.contents l.fn.writer) (g.W.Output.contents l.writer) × (g.W.Output.failed l.writer ≡ false) × (l.passed ≤ l.rounds)
