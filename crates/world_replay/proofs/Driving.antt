@@ -1,23 +1,19 @@
 -- What crosses by calls of small carriers.
-use Rattle.std.proofs.Common.{◌≡◌, inl, inr, ℕ, suc, List, [], ◌∷◌, ◌++◌, length, None, Result, Ok, Err, reverse, refl, ap, sym, subst, ◌∙◌, arith}
+use Rattle.std.proofs.Common.{◌≡◌, inl, inr, ℕ, suc, List, [], ◌∷◌, ◌++◌, length, None, Ok, reverse, refl, ap, subst, ◌∙◌, arith}
 use Rattle.std.proofs.lemmas.List.Elements.{All-cons, All-head, All-nil, All-tail}
 use Rattle.std.specs.List.{All}
 use Rattle.interface.specs.Calls.{IsFor, Seen, crossing_of}
 use Rattle.interface.specs.Host.{Host}
-use Rattle.interface.specs.declared.CarrierFault.{CarrierFault}
-use Rattle.interface.specs.declared.CarrierFault.TheVariants as fault
 use Rattle.interface.specs.declared.HostMessage.{HostMessage}
 use Rattle.interface.specs.declared.Inbound.{Inbound}
 use Rattle.interface.specs.declared.crossing.Inbound.TheVariants as inbound
-use Rattle.interface.specs.declared.crossing.Crossing.{Crossing}
 use Rattle.interface.specs.declared.crossing.Crossing.TheVariants as crossing
 use Rattle.net_sim.specs.Worked.{any_carrier, fresh, message}
 use Rattle.net_sim.specs.World.{WorldState}
 use Rattle.net_sim.specs.declared.event.Event.{Event}
 use Rattle.net_sim.specs.declared.event.Event.TheVariants as event
 use Rattle.replay.specs.InTurn.{InTurn}
-use Rattle.replay.specs.Output.{Crossed, Refused, Shown, crossings_of, shown_crossings, shown_refusal}
-use Rattle.replay.specs.Replay.{Happens}
+use Rattle.replay.specs.Output.{Crossed, Shown, crossings_of, shown_crossings, shown_refusal}
 use Rattle.replay.specs.Worked.{counting}
 use Rattle.script.specs.declared.event.RawEvent.TheVariants as raw
 use Rattle.sockets.specs.Worked.{first, second}
@@ -88,9 +84,12 @@ taken = record {
   makes = refl;
   shown = [];
   goes = (
-    fresh.carrier, [], [],
+    fresh.carrier,
+    [],
+    [],
     (record { outcome = Ok tt; gives = (Ok None, record { running = refl; shown = refl }, refl); goes_on = tt; crossings = []; grown = refl; lines = refl }, inl ([], inl refl, refl)),
-    (refl, refl), refl,
+    (refl, refl),
+    refl,
   );
   crossed = refl;
 }

@@ -1,8 +1,7 @@
 -- Events by which something crosses until two messages have.
-use Rattle.std.proofs.Common.{◌≡◌, inl, inr, ℕ, zero, suc, ◌+◌, ◌<◌, Bool, true, false, List, [], ◌∷◌, ◌++◌, length, refl, ap, sym, subst, ◌∙◌, arith}
+use Rattle.std.proofs.Common.{◌≡◌, ◌⊎◌, inl, inr, ℕ, zero, suc, ◌<◌, List, [], ◌∷◌, ◌++◌, length, refl, ap, sym, subst, ◌∙◌, arith}
 use Rattle.std.proofs.lemmas.Bool.{false≢true}
 use Rattle.std.proofs.lemmas.List.{append_assoc}
-use Rattle.std.specs.Bool.{MatchBool}
 use Rattle.net_sim.specs.World.{WorldState}
 use Rattle.net_sim.specs.declared.event.Event.{Event}
 use Rattle.net_sim.specs.declared.event.Event.TheVariants.{Offer, Quiet, Take}
@@ -10,7 +9,7 @@ use Rattle.replay.specs.InTurn.{EndsInTurn, Happening, HappensOnce, InTurn}
 use Rattle.replay.proofs.lemmas.{in_turn_once}
 use Rattle.sockets.specs.Worked.{first}
 use Rattle.world_replay.specs.Rounds.{Again, EndsAgain, EndsRepeated, EndsRound, Repeated, RoundOf, crosses, turns_in}
-use Rattle.world_replay.specs.Worked.{Fails, Ticks, one_more, tally}
+use Rattle.world_replay.specs.Worked.{Fails, Ticks, tally}
 use Rattle.world_replay.proofs.Turns.{again_once, repeated_once}
 
 ticks_once : HappensOnce Ticks
@@ -90,7 +89,7 @@ too_many new shown (inr (mid, begin, rest, h, is, more, all)) = absurd more
 pub fails_at_once : (e : Event) (times : ℕ) (new : WorldState ℕ) (shown : List Event) → EndsRepeated Ticks Fails e times (tally 2) new shown → shown ≡ []
 fails_at_once e zero new shown h = absurd h
 fails_at_once e (suc times) new shown (inl fails) = fails.1
-fails_at_once e (suc times) new shown (inr (mid, first, rest, h, is, more, all)) = absurd (false≢true (ap (λ (w : WorldState ℕ). crosses (tally 2) w) (sym h.0) ∙ is))
+fails_at_once e (suc times) new shown (inr (mid, begin, rest, h, is, more, all)) = absurd (false≢true (ap (λ (w : WorldState ℕ). crosses (tally 2) w) (sym h.0) ∙ is))
 
 -- and what happens once where nothing crosses shows itself
 shows_itself : (e : Event) (times : ℕ) (new : WorldState ℕ) (shown : List Event) → Repeated Ticks e (suc times) (tally 2) new shown → (new ≡ tally 2) × (shown ≡ e ∷ [])
@@ -110,7 +109,10 @@ ends_cons {S} {E} {L} Happens Goes old e events new shown h = by h.done h.parts 
       let is : d ≡ e = cc in
       let tail : events ≡ done ++ h.last ∷ h.left = cc in
       inr (
-        mid, begin, rest ++ h.own, subst (λ (x : E). Happens old x mid begin) is one,
+        mid,
+        begin,
+        rest ++ h.own,
+        subst (λ (x : E). Happens old x mid begin) is one,
         record { done = done; last = h.last; left = h.left; parts = tail; mid = h.mid; front = rest; before = more; own = h.own; goes = h.goes; lines = refl },
         h.lines ∙ ap (λ ls. ls ++ h.own) all ∙ append_assoc begin rest h.own,
       )

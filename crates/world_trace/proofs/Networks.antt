@@ -39,12 +39,16 @@ pub by_an_event : IsRawNetwork counting 0 (Happen (event.Net again) ∷ []) (aft
 by_an_event = record {
   drives = Raw (raw.Net again) ∷ [];
   driven = (
-    after 1, Raw (raw.Net again) ∷ [], [],
+    after 1,
+    Raw (raw.Net again) ∷ [],
+    [],
     (
-      event.Net again ∷ [], refl,
+      event.Net again ∷ [],
+      refl,
       (after 1, Raw (raw.Net again) ∷ [], [], record { makes = refl; shown = []; goes = (1, [], [], (sent_again, inl ([], refl, refl)), (refl, refl), refl); crossed = refl }, (refl, refl), refl),
     ),
-    (refl, refl), refl,
+    (refl, refl),
+    refl,
   );
   events = raw.Net again ∷ [];
   made = ([], refl, refl);
@@ -58,9 +62,12 @@ pub by_a_round : IsRawNetwork counting 0 (Happen event.Quiet ∷ []) (after 1)
 by_a_round = record {
   drives = Round ∷ [];
   driven = (
-    after 1, Round ∷ [], [],
+    after 1,
+    Round ∷ [],
+    [],
     (event.Quiet ∷ [], refl, (after 1, Round ∷ [], [], record { makes = refl; shown = []; goes = (1, [], [], (Ok tt, (refl, refl), tt, refl), (refl, refl), refl); crossed = refl }, (refl, refl), refl)),
-    (refl, refl), refl,
+    (refl, refl),
+    refl,
   );
   events = raw.Net again ∷ [];
   made = (raw.Net again ∷ [], [], All-cons IsOfRound (raw.Net again) [] tt (All-nil IsOfRound), refl, refl);

@@ -1,15 +1,16 @@
 use Rattle.std.proofs.Common.{◌≡◌, ℕ, Bool, true, false, length, Option, Some, None, arith, is_some, refl, ap}
 use Rattle.std.proofs.lemmas.Bool.{false≢true}
 use Rattle.host_services.specs.Services.{no_services}
-use Rattle.net_sim.specs.Worked.{busy, down, fresh}
+use Rattle.host_services.specs.Turns as turns
+use Rattle.net_sim.specs.Worked.{down, fresh}
 use Rattle.net_sim.specs.World.{with_carrier}
 use Rattle.net_sim.specs.declared.seat.Seat.{Seat}
 use Rattle.net_sim.specs.declared.seat.ServiceSeat.{ServiceSeat}
 use Rattle.sockets.specs.Pairs.{NcpState, opening_state}
-use Rattle.sockets.specs.Requests.{served}
+use Rattle.sockets.specs.Requests.{served, served_notices}
 use Rattle.sockets.specs.Worked.{first, second}
 use Rattle.sockets.specs.declared.request.Request.TheVariants as request
-use Rattle.world_replay.specs.Worked.{booked, typing}
+use Rattle.world_replay.specs.Worked.{booked}
 use Rattle.world_replay.proofs.AtHosts.{others_same, others_served, serviced_elsewhere}
 use Rattle.world_replay.proofs.worked_apart.worked_others.Goals as goal
 
@@ -56,7 +57,7 @@ pub returns-clause-carrier : goal.returns-clause-carrier
 returns-clause-carrier c = others_same first fresh (with_carrier down.carrier fresh) refl refl
 
 pub returns-clause-another : goal.returns-clause-another
-unfolding served peers_at peers_of
+unfolding served served_notices turns.services_told peers_at peers_of
 returns-clause-another c = λ h.
     let same : 1 ≡ 0 = ap peers_at (h.seats 0 (record { host = first; program = Some (opening_state first) }) refl refl) in
     omega (arith, same)

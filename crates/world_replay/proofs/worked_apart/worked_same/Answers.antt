@@ -1,9 +1,10 @@
 use Rattle.std.proofs.Common.{◌≡◌, ℕ, List, [], ◌∷◌, length, Option, Some, None, arith, refl, ap}
+use Rattle.host_services.specs.Turns as turns
 use Rattle.net_sim.specs.declared.seat.Seat.{Seat}
 use Rattle.net_sim.specs.declared.seat.ServiceSeat.{ServiceSeat}
 use Rattle.net_sim.specs.Book.{Kept}
 use Rattle.sockets.specs.Pairs.{NcpState}
-use Rattle.sockets.specs.Requests.{served}
+use Rattle.sockets.specs.Requests.{served, served_notices}
 use Rattle.world_replay.proofs.worked_apart.worked_same.Goals as goal
 
 peers_of : Option NcpState → ℕ
@@ -27,7 +28,7 @@ pub returns-clause-carrier : goal.returns-clause-carrier
 returns-clause-carrier c = record { seats = refl; services = refl; kept = refl }
 
 pub returns-clause-program : goal.returns-clause-program
-unfolding served peers_in peers_of
+unfolding served served_notices turns.services_told peers_in peers_of
 returns-clause-program c = λ h. let same : 1 ≡ 0 = ap peers_in h.seats in omega (arith, same)
 
 pub returns-clause-services : goal.returns-clause-services

@@ -1,7 +1,6 @@
 use Rattle.std.proofs.Common.{refl}
-use Rattle.bit_messages.specs.Octets.{octets_of}
 use Rattle.host_services.specs.Turns as turns
-use Rattle.sockets.specs.Requests.{refusal, served, served_notices}
+use Rattle.sockets.specs.Requests.{served, served_notices}
 use Rattle.sockets.specs.Sending.{next_out}
 use Rattle.world_replay.proofs.worked_drives.worked_calls.Goals as goal
 

@@ -1,4 +1,4 @@
-use Rattle.std.proofs.Common.{◌≡◌, ℕ, arith, refl}
+use Rattle.std.proofs.Common.{refl}
 use Rattle.world_replay.proofs.Driving.{a_calm, calm_called, nobody_takes, not_typed}
 use Rattle.world_replay.proofs.worked_drives.worked_courses.Goals as goal
 

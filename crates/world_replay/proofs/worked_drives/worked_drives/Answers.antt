@@ -1,4 +1,5 @@
-use Rattle.std.proofs.Common.{◌≡◌, ℕ, arith}
+use Rattle.std.proofs.Common.{◌≡◌, [], arith}
+use Rattle.replay.specs.Worked.{counting}
 use Rattle.world_replay.proofs.Driving.{no_calm, not_booked, not_crossed, one_call, one_line, one_taking, quiet_silent, taken, taken_by_another, two_calls, two_takings, uncalled, untaken}
 use Rattle.world_replay.proofs.worked_drives.worked_drives.Goals as goal
 
@@ -12,7 +13,7 @@ pub returns-clause-quiet : goal.returns-clause-quiet
 returns-clause-quiet c = quiet_silent
 
 pub returns-clause-offered : goal.returns-clause-offered
-returns-clause-offered c = λ h. let lengths : 0 ≡ 1 = one_line _ _ h.1 in omega (arith, lengths)
+returns-clause-offered c = λ h. let lengths : 0 ≡ 1 = one_line (counting.seen 3) [] h.1 in omega (arith, lengths)
 
 pub returns-clause-event : goal.returns-clause-event
 returns-clause-event c = taken
