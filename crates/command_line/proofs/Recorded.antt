@@ -31,6 +31,7 @@ use Rattle.trace.specs.Elements.{elements_in, events_of}
 use Rattle.trace.specs.Traces.{Inside, TellsElement, TellsEvent, change_text, numbered_from, plain_inside}
 use Rattle.trace.specs.declared.element.Element.{Element}
 use Rattle.trace.specs.declared.element.Spot.{Spot}
+use Rattle.world_replay.proofs.lemmas.Accounts.{AreParts, ShowsAs, round_as}
 use Rattle.world_replay.proofs.lemmas.CalmRounds.{calm_rounds}
 use Rattle.world_replay.proofs.lemmas.{round_calm}
 use Rattle.world_replay.proofs.lemmas.Replays.{happens_once, shown_settled}
@@ -46,7 +47,6 @@ use Rattle.command_line.specs.Recorded.{OfElement, OfWorld, PrintsTrace, Recorde
 use Rattle.command_line.specs.Replayed.{ReplaysFrom, ReplaysInput, ReplaysOn, ReplaysOver, book_text}
 use Rattle.command_line.specs.Traced.{TracesAll, TracesFrom, TracesInput, TracesOver, WorldTracesFrom, asked_count}
 use Rattle.command_line.proofs.Printed.{no_lives}
-use Rattle.command_line.proofs.InCalm.{AreParts, ShowsAs, round_as}
 use Rattle.command_line.proofs.OneInput.{OneInput, input_once}
 use Rattle.command_line.proofs.Settled.{plain_settled, subnet_settled}
 

@@ -48,14 +48,14 @@ seated_elsewhere h program (x ∷ xs) zero s at away =
     ap (λ (b : Bool). Some (with_program b program x)) other ∙ at
 seated_elsewhere h program (x ∷ xs) (suc i) s at away = seated_elsewhere h program xs i s at away
 
-serviced_elsewhere : (h : Host) (services : ServicesState) (all : List ServiceSeat) (i : ℕ) (s : ServiceSeat) → slice_get all i ≡ Some s → same_host h s.host ≡ false → slice_get (serviced h services all) i ≡ Some s
+pub serviced_elsewhere : (h : Host) (services : ServicesState) (all : List ServiceSeat) (i : ℕ) (s : ServiceSeat) → slice_get all i ≡ Some s → same_host h s.host ≡ false → slice_get (serviced h services all) i ≡ Some s
 serviced_elsewhere h services [] i s at away = at
 serviced_elsewhere h services (x ∷ xs) zero s at away =
     let other : same_host h x.host ≡ false = ap (λ (y : ServiceSeat). same_host h y.host) (some_is at) ∙ away in
     ap (λ (b : Bool). Some (with_services b services x)) other ∙ at
 serviced_elsewhere h services (x ∷ xs) (suc i) s at away = serviced_elsewhere h services xs i s at away
 
-others_same : {C : Type 0} (h : Host) (old new : WorldState C) → new.seats ≡ old.seats → new.services ≡ old.services → OthersStay h old new
+pub others_same : {C : Type 0} (h : Host) (old new : WorldState C) → new.seats ≡ old.seats → new.services ≡ old.services → OthersStay h old new
 others_same h old new seats services = record {
   seats = λ i s at away. ap (λ (all : List Seat). slice_get all i) seats ∙ at;
   services = λ i s at away. ap (λ (all : List ServiceSeat). slice_get all i) services ∙ at;
@@ -77,7 +77,7 @@ others_heard h turn old w seats services = others_tended h (turn_of h (noticed w
 others_moved : {C : Type 0} (c : C) (h : Host) (x : Crossing) (turn : NcpState × List Notice) (old : WorldState C) → OthersStay h old (world_moved c h x turn old)
 others_moved c h x turn old = others_heard h turn old (record old { carrier = c; kept = crossed x old.kept }) refl refl
 
-others_served : {C : Type 0} (h : Host) (q : Request) (s : NcpState) (old : WorldState C) → OthersStay h old (served_at h q s old)
+pub others_served : {C : Type 0} (h : Host) (q : Request) (s : NcpState) (old : WorldState C) → OthersStay h old (served_at h q s old)
 others_served h q s old = others_heard h (served s q, served_notices s q) old (record old { kept = asked h q old.kept }) refl refl
 
 others_done : {C : Type 0} (h : Host) (old done : WorldState C) (r : Answer) (new : WorldState C) → OthersStay h old done → Does done r new → OthersStay h old new

@@ -1,10 +1,11 @@
--- Each event of a world drives its carrier by the calls that its crossings name.
-use Rattle.std.proofs.Common.{◌≡◌, inl, inr, ℕ, Bool, true, false, List, [], ◌∷◌, ◌++◌, if◌then◌else◌, length, Option, Some, None, Result, Ok, Err, reverse, refl, ap, sym, subst, ◌∙◌}
+-- Each event of a world drives its carrier by the call that it makes.
+use Rattle.std.proofs.Common.{◌≡◌, ◌⊎◌, inl, inr, ℕ, Bool, true, false, List, [], ◌∷◌, ◌++◌, if◌then◌else◌, length, Option, Some, None, Result, Ok, Err, reverse, refl, ap, sym, subst, ◌∙◌}
 use Rattle.std.proofs.lemmas.Bool.{false≢true}
 use Rattle.std.proofs.lemmas.List.{append_assoc, append-nil, reverse-reverse}
 use Rattle.std.proofs.lemmas.List.Elements.{All-append, All-cons, All-nil}
 use Rattle.std.specs.Bool.{MatchBool}
 use Rattle.std.specs.List.{All}
+use Rattle.std.specs.Option.{option_and_then, option_map, option_to_list}
 use Rattle.host_pairs.specs.declared.notice.Notice.{Notice}
 use Rattle.host_services.specs.Services.{ServiceDeskState, opening_desk}
 use Rattle.host_services.specs.Turns as services
@@ -20,11 +21,12 @@ use Rattle.interface.specs.declared.crossing.Crossing.{Crossing}
 use Rattle.interface.specs.declared.crossing.Crossing.TheVariants as crossing
 use Rattle.net_sim.specs.Book.{Kept, all_asked, all_crossed, all_told, asked, book_told, crossed}
 use Rattle.net_sim.specs.Carriers.{shown}
-use Rattle.net_sim.specs.World.{AskGives, AtSeat, DoesOrHalts, EventGives, NetEnds, OfferEnds, OfferGives, Passes, QuietEnds, Refuses, StepGives, TakeEnds, TakeGives, TypeGives, WorldState, changed, done_by, noticed, seat_of, served_at, services_of, stops, turn_of, with_carrier, with_server, with_user, world_moved}
+use Rattle.net_sim.specs.World.{AskGives, AtProgram, AtSeat, DoesOrHalts, EventGives, NetEnds, OfferEnds, OfferGives, Passes, QuietEnds, Refuses, StepGives, TakeEnds, TakeGives, TypeGives, WorldState, changed, done_by, noticed, seat_of, served_at, services_of, stops, turn_of, with_carrier, with_server, with_user, world_moved}
 use Rattle.net_sim.specs.declared.event.Event.{Event}
 use Rattle.net_sim.specs.declared.event.Event.TheVariants.{Ask, Net, Offer, Quiet, Server, Take, Typed, User}
 use Rattle.net_sim.specs.declared.event.WorldFault.{WorldFault}
 use Rattle.net_sim.specs.declared.event.WorldFault.TheVariants.{Carrier}
+use Rattle.net_sim.specs.declared.seat.Seat.{Seat}
 use Rattle.replay.specs.InTurn.{Happening, InTurn}
 use Rattle.replay.specs.Output.{Crossed, Refused, crossings_of, shown_crossings, shown_refusal}
 use Rattle.replay.specs.Output as raw_output
@@ -40,12 +42,11 @@ use Rattle.sockets.specs.Sending.{next_out, offered}
 use Rattle.sockets.specs.declared.fault.NcpFault.{NcpFault}
 use Rattle.sockets.specs.declared.request.Request.{Request}
 use Rattle.sockets.specs.declared.request.Request.TheVariants as request
-use Rattle.world_replay.specs.Driven.{Drive, Drives, Goes, IsCall, IsDriven, IsDrivenIn, IsOffer, IsTaking, Makes, Raw, Round}
+use Rattle.world_replay.specs.Driven.{Brings, Drive, Drives, Goes, IsCall, IsDriven, IsDrivenIn, IsShown, Raw, Round, call_of, program_of}
 use Rattle.world_replay.specs.Output.{Shown}
 use Rattle.world_replay.specs.Replay.{HappensInCalm, Replays}
 use Rattle.world_replay.specs.Replay as world_replay
 use Rattle.world_replay.proofs.CalmEvents.{calm_events}
-use Rattle.world_replay.proofs.Grown.{at_seat}
 use Rattle.world_replay.proofs.Steady.{halts_stop, passes_goes}
 use Rattle.world_script.specs.declared.event.WorldEvent.{WorldEvent}
 use Rattle.world_script.specs.declared.event.WorldEvent.TheVariants as script
@@ -118,29 +119,39 @@ module _ {C : Type 0} (calls : Calls C) where
   none_made : (old new : C) → new ≡ old → Made old [] new []
   none_made old new same = ([], (same, refl), refl)
 
-  -- an event of the raw network
-  raw_made : (old new : C) (e : RawEvent) (r : Result (Unit {0}) CarrierFault) (cs : List Crossing) → raw_replay.EventGives calls old e r new → GoesOn r → (calls.seen new).log ≡ reverse cs ++ (calls.seen old).log
-      → Made old (Raw e ∷ []) new cs
-  raw_made old new e r cs gives on grown =
-      let lines : List raw_output.Shown = shown_crossings cs ++ shown_refusal r in
-      let once : Happens calls old e new lines = record { outcome = r; gives = gives; goes_on = on; crossings = cs; grown = grown; lines = refl } in
-      (lines, in_turn_one (Goes calls) old new (Raw e) lines once, crossings_shown cs r)
+  -- an event of the raw network, which is done, or refused
+  raw_done : (old new : C) (e : RawEvent) (cs : List Crossing) → raw_replay.EventGives calls old e (Ok tt) new → (calls.seen new).log ≡ reverse cs ++ (calls.seen old).log → Brings (calls.seen old) e cs → Made old (Raw e ∷ []) new cs
+  raw_done old new e cs gives grown brings =
+      let lines : List raw_output.Shown = shown_crossings cs ++ shown_refusal (Ok tt) in
+      let once : Happens calls old e new lines = record { outcome = Ok tt; gives = gives; goes_on = tt; crossings = cs; grown = grown; lines = refl } in
+      let own : IsShown (calls.seen old) e lines = inl (cs, brings, append-nil (shown_crossings cs)) in
+      (lines, in_turn_one (Goes calls) old new (Raw e) lines (once, own), crossings_shown cs (Ok tt))
+
+  raw_refused : (old new : C) (e : RawEvent) (f : CarrierFault) → raw_replay.EventGives calls old e (Err f) new → GoesOn (Err f) → (calls.seen new).log ≡ (calls.seen old).log → Made old (Raw e ∷ []) new []
+  raw_refused old new e f gives on same =
+      let lines : List raw_output.Shown = Refused f ∷ [] in
+      let once : Happens calls old e new lines = record { outcome = Err f; gives = gives; goes_on = on; crossings = []; grown = same; lines = refl } in
+      (lines, in_turn_one (Goes calls) old new (Raw e) lines (once, inr (f, refl)), refl)
 
   abbrev Driven : WorldState C → Event → WorldState C → Type 0
   Driven old e new = (drives : List Drive) × IsDriven calls old e new drives
 
-  driven : (old new : WorldState C) (e : Event) (drives : List Drive) (cs : List Crossing) → new.kept.book.crossings ≡ reverse cs ++ old.kept.book.crossings → Makes e cs drives → Made old.carrier drives new.carrier cs → Driven old e new
-  driven old new e drives cs log makes (lines, goes, same) = (drives, record { crossings = cs; crossed = log; makes = makes; shown = lines; goes = goes; same = same })
+  -- the event makes this call, or none
+  abbrev Calling : WorldState C → Event → List Drive → Type 0
+  Calling old e drives = option_to_list (call_of old.seats e) ≡ drives
 
-  -- the event makes no call
-  undriven : (old new : WorldState C) (e : Event) → Makes e [] [] → new.carrier ≡ old.carrier → new.kept.book.crossings ≡ old.kept.book.crossings → Driven old e new
+  driven : (old new : WorldState C) (e : Event) (drives : List Drive) (cs : List Crossing) → new.kept.book.crossings ≡ reverse cs ++ old.kept.book.crossings → Calling old e drives → Made old.carrier drives new.carrier cs → Driven old e new
+  driven old new e drives cs log makes (lines, goes, same) =
+      (drives, record { makes = sym makes; shown = lines; goes = goes; crossed = log ∙ ap (λ xs. reverse xs ++ old.kept.book.crossings) (sym same) })
+
+  undriven : (old new : WorldState C) (e : Event) → Calling old e [] → new.carrier ≡ old.carrier → new.kept.book.crossings ≡ old.kept.book.crossings → Driven old e new
   undriven old new e makes same log = driven old new e [] [] log makes (none_made old.carrier new.carrier same)
 
-  unchanged : (old new : WorldState C) (e : Event) → Makes e [] [] → new ≡ old → Driven old e new
+  unchanged : (old new : WorldState C) (e : Event) → Calling old e [] → new ≡ old → Driven old e new
   unchanged old new e makes same = undriven old new e makes (ap (λ (w : WorldState C). w.carrier) same) (ap (λ (w : WorldState C). w.kept.book.crossings) same)
 
   -- the carrier refused
-  refused : (old new : WorldState C) (e : Event) (drives : List Drive) (f : CarrierFault) (c : C) (r : Answer) → Makes e [] drives → Made old.carrier drives c [] → Passes f c old r new → Driven old e new
+  refused : (old new : WorldState C) (e : Event) (drives : List Drive) (f : CarrierFault) (c : C) (r : Answer) → Calling old e drives → Made old.carrier drives c [] → Passes f c old r new → Driven old e new
   refused old new e drives f c r makes made passes =
       driven old new e drives [] (ap (λ (w : WorldState C). w.kept.book.crossings) passes.1) makes (subst (λ (d : C). Made old.carrier drives d []) (sym (ap (λ (w : WorldState C). w.carrier) passes.1)) made)
 
@@ -152,98 +163,120 @@ module _ {C : Type 0} (calls : Calls C) where
     | inl d ↦ let cs : List Crossing = step_crossings (calls.seen old.carrier) e in
         subst (λ (w : WorldState C). Driven old (Net e) w) (sym d.1)
         (driven old (changed c cs old) (Net e) (Raw (raw.Net e) ∷ []) (reverse cs) (crossed_log cs old.kept ∙ ap (λ xs. xs ++ old.kept.book.crossings) (sym (reverse-reverse cs))) refl
-        (raw_made old.carrier c (raw.Net e) (Ok done) (reverse cs) step tt (by_crossings (calls.seen old.carrier) (calls.seen c) cs shows ∙ ap (λ xs. xs ++ (calls.seen old.carrier).log) (sym (reverse-reverse cs)))))
+        (raw_done old.carrier c (raw.Net e) (reverse cs) step (by_crossings (calls.seen old.carrier) (calls.seen c) cs shows ∙ ap (λ xs. xs ++ (calls.seen old.carrier).log) (sym (reverse-reverse cs))) refl))
     | inr x ↦ absurd (halts_stop c old r new x.1 on)
   ]
   net_driven e (Err f) c old r new on step shows ends =
       refused old new (Net e) (Raw (raw.Net e) ∷ []) f c r refl
-      (raw_made old.carrier c (raw.Net e) (Err f) [] step (passes_goes f c old r new ends on) (by_refusal (calls.seen old.carrier) (calls.seen c) f shows)) ends
+      (raw_refused old.carrier c (raw.Net e) f step (passes_goes f c old r new ends on) (by_refusal (calls.seen old.carrier) (calls.seen c) f shows)) ends
 
   quiet_driven : (answer : Result (Unit {0}) CarrierFault) (c : C) (old : WorldState C) (r : Answer) (new : WorldState C) → stops r ≡ false → calls.rounds old.carrier answer c → QuietEnds answer c old r new → Driven old Quiet new
   quiet_driven (Ok done) c old r new on round ends =
       subst (λ (w : WorldState C). Driven old Quiet w) (sym ends.1)
-      (driven old (with_carrier c old) Quiet (Round ∷ []) [] refl (refl, refl) ([], in_turn_one (Goes calls) old.carrier c Round [] (Ok done, round, tt, refl), refl))
+      (driven old (with_carrier c old) Quiet (Round ∷ []) [] refl refl ([], in_turn_one (Goes calls) old.carrier c Round [] (Ok done, round, tt, refl), refl))
   quiet_driven (Err f) c old r new on round ends =
-      refused old new Quiet (Round ∷ []) f c r (refl, refl) (Refused f ∷ [], in_turn_one (Goes calls) old.carrier c Round (Refused f ∷ []) (Err f, round, passes_goes f c old r new ends on, refl), refl) ends
+      refused old new Quiet (Round ∷ []) f c r refl (Refused f ∷ [], in_turn_one (Goes calls) old.carrier c Round (Refused f ∷ []) (Err f, round, passes_goes f c old r new ends on, refl), refl) ends
 
   -- ---- events of a host
 
-  offer_end : (h : Host) (s : NcpState) (m : HostMessage) (answer : Result (Unit {0}) CarrierFault) (c : C) (old : WorldState C) (r : Answer) (new : WorldState C) → stops r ≡ false → calls.offers old.carrier m answer c
-      → ShowsOffer (calls.seen old.carrier) m answer (calls.seen c) → OfferEnds h s m answer c old r new → Driven old (Offer h) new
-  offer_end h s m (Ok done) c old r new on offer shows ends = elim ends [
+  -- a host is down, or isn't there, and nothing changes; or it is up, with its program
+  abbrev Found : (NcpState → Type 0) → Option NcpState → WorldState C → WorldState C → Type 0
+  Found Gives p old new = ((p ≡ None) × (new ≡ old)) ⊎ ((s : NcpState) × (p ≡ Some s) × Gives s)
+
+  found : (Gives : NcpState → Type 0) (h : Host) (old : WorldState C) (r : Answer) (new : WorldState C) → AtSeat Gives (seat_of h old.seats) old r new → Found Gives (program_of h old.seats) old new
+  found Gives h old r new t = by_seat (seat_of h old.seats) t where
+    by_program : (p : Option NcpState) → AtProgram Gives p old r new → Found Gives p old new
+    by_program None t = inl (refl, t.1)
+    by_program (Some s) t = inr (s, refl, t)
+
+    by_seat : (o : Option Seat) → AtSeat Gives o old r new → Found Gives (option_and_then (λ s. s.program) o) old new
+    by_seat None t = inl (refl, t.1)
+    by_seat (Some seat) t = by_program seat.program t
+
+  offer_end : (h : Host) (s : NcpState) (m : HostMessage) (answer : Result (Unit {0}) CarrierFault) (c : C) (old : WorldState C) (r : Answer) (new : WorldState C) → stops r ≡ false → Calling old (Offer h) (Raw (raw.Out m) ∷ [])
+      → calls.offers old.carrier m answer c → ShowsOffer (calls.seen old.carrier) m answer (calls.seen c) → OfferEnds h s m answer c old r new → Driven old (Offer h) new
+  offer_end h s m (Ok done) c old r new on makes offer shows ends = elim ends [
     | inl d ↦ let turn = offered s (length old.kept.book.crossings) in
         subst (λ (w : WorldState C). Driven old (Offer h) w) (sym d.1)
-        (driven old (world_moved c h (crossing.Out m) turn old) (Offer h) (Raw (raw.Out m) ∷ []) (crossing.Out m ∷ []) (moved_log h (crossing.Out m) turn old c) refl
-        (raw_made old.carrier c (raw.Out m) (Ok done) (crossing.Out m ∷ []) offer tt (by_crossings (calls.seen old.carrier) (calls.seen c) (crossing.Out m ∷ []) shows)))
+        (driven old (world_moved c h (crossing.Out m) turn old) (Offer h) (Raw (raw.Out m) ∷ []) (crossing.Out m ∷ []) (moved_log h (crossing.Out m) turn old c) makes
+        (raw_done old.carrier c (raw.Out m) (crossing.Out m ∷ []) offer (by_crossings (calls.seen old.carrier) (calls.seen c) (crossing.Out m ∷ []) shows) refl))
     | inr x ↦ absurd (halts_stop c old r new x on)
   ]
-  offer_end h s m (Err f) c old r new on offer shows ends =
-      refused old new (Offer h) (Raw (raw.Out m) ∷ []) f c r (inr (m, refl))
-      (raw_made old.carrier c (raw.Out m) (Err f) [] offer (passes_goes f c old r new ends on) (by_refusal (calls.seen old.carrier) (calls.seen c) f shows)) ends
+  offer_end h s m (Err f) c old r new on makes offer shows ends =
+      refused old new (Offer h) (Raw (raw.Out m) ∷ []) f c r makes
+      (raw_refused old.carrier c (raw.Out m) f offer (passes_goes f c old r new ends on) (by_refusal (calls.seen old.carrier) (calls.seen c) f shows)) ends
 
-  offer_driven : (h : Host) (s : NcpState) (o : Option HostMessage) (old : WorldState C) (r : Answer) (new : WorldState C) → stops r ≡ false → OfferGives (shown calls) h s o old r new → Driven old (Offer h) new
-  offer_driven h s None old r new on gives = unchanged old new (Offer h) (inl refl) gives.1
-  offer_driven h s (Some m) old r new on gives = elim gives [ inl x ↦ absurd (halts_stop old.carrier old r new x on) | inr t ↦ offer_end h s m t.0 t.1 old r new on t.2.0 t.2.1 t.3 ]
+  offer_driven : (h : Host) (s : NcpState) (o : Option HostMessage) (old : WorldState C) (r : Answer) (new : WorldState C) → stops r ≡ false → Calling old (Offer h) (option_to_list (option_map (λ m. Raw (raw.Out m)) o))
+      → OfferGives (shown calls) h s o old r new → Driven old (Offer h) new
+  offer_driven h s None old r new on makes gives = unchanged old new (Offer h) makes gives.1
+  offer_driven h s (Some m) old r new on makes gives = elim gives [ inl x ↦ absurd (halts_stop old.carrier old r new x on) | inr t ↦ offer_end h s m t.0 t.1 old r new on makes t.2.0 t.2.1 t.3 ]
 
-  take_end : (h : Host) (s : NcpState) (answer : Result (Option Inbound) CarrierFault) (c : C) (old : WorldState C) (r : Answer) (new : WorldState C) → stops r ≡ false → calls.takes old.carrier h answer c
-      → ShowsTake (calls.seen old.carrier) h answer (calls.seen c) → TakeEnds h s answer c old r new → Driven old (Take h) new
-  take_end h s (Ok None) c old r new on take shows ends =
+  offering : (h : Host) (old : WorldState C) (r : Answer) (new : WorldState C) → stops r ≡ false → Found (λ s. OfferGives (shown calls) h s (next_out s) old r new) (program_of h old.seats) old new → Driven old (Offer h) new
+  offering h old r new on (inl (none, same)) = unchanged old new (Offer h) (ap (λ (p : Option NcpState). option_to_list (option_map (λ m. Raw (raw.Out m)) (option_and_then next_out p))) none) same
+  offering h old r new on (inr (s, is, gives)) =
+      offer_driven h s (next_out s) old r new on (ap (λ (p : Option NcpState). option_to_list (option_map (λ m. Raw (raw.Out m)) (option_and_then next_out p))) is) gives
+
+  take_end : (h : Host) (s : NcpState) (answer : Result (Option Inbound) CarrierFault) (c : C) (old : WorldState C) (r : Answer) (new : WorldState C) → stops r ≡ false → Calling old (Take h) (Raw (raw.Take h) ∷ [])
+      → calls.takes old.carrier h answer c → ShowsTake (calls.seen old.carrier) h answer (calls.seen c) → TakeEnds h s answer c old r new → Driven old (Take h) new
+  take_end h s (Ok None) c old r new on makes take shows ends =
       subst (λ (w : WorldState C). Driven old (Take h) w) (sym ends.1)
-      (driven old (with_carrier c old) (Take h) (Raw (raw.Take h) ∷ []) [] refl (inr refl)
-      (raw_made old.carrier c (raw.Take h) (Ok tt) [] (Ok None, take, refl) tt (by_crossings (calls.seen old.carrier) (calls.seen c) [] shows)))
-  take_end h s (Ok (Some i)) c old r new on take shows ends = elim ends [
+      (driven old (with_carrier c old) (Take h) (Raw (raw.Take h) ∷ []) [] refl makes
+      (raw_done old.carrier c (raw.Take h) [] (Ok None, take, refl) (by_crossings (calls.seen old.carrier) (calls.seen c) [] shows) (inl refl)))
+  take_end h s (Ok (Some i)) c old r new on makes take shows ends = elim ends [
     | inl d ↦ let turn = accepted s i (length old.kept.book.crossings) in
         subst (λ (w : WorldState C). Driven old (Take h) w) (sym d.1)
-        (driven old (world_moved c h (crossing_of i) turn old) (Take h) (Raw (raw.Take h) ∷ []) (crossing_of i ∷ []) (moved_log h (crossing_of i) turn old c) refl
-        (raw_made old.carrier c (raw.Take h) (Ok tt) (crossing_of i ∷ []) (Ok (Some i), take, refl) tt (by_crossings (calls.seen old.carrier) (calls.seen c) (crossing_of i ∷ []) shows.0)))
+        (driven old (world_moved c h (crossing_of i) turn old) (Take h) (Raw (raw.Take h) ∷ []) (crossing_of i ∷ []) (moved_log h (crossing_of i) turn old c) makes
+        (raw_done old.carrier c (raw.Take h) (crossing_of i ∷ []) (Ok (Some i), take, refl) (by_crossings (calls.seen old.carrier) (calls.seen c) (crossing_of i ∷ []) shows.0) (inr (i, shows.1, refl))))
     | inr x ↦ absurd (halts_stop c old r new x on)
   ]
-  take_end h s (Err f) c old r new on take shows ends =
-      refused old new (Take h) (Raw (raw.Take h) ∷ []) f c r (inr refl)
-      (raw_made old.carrier c (raw.Take h) (Err f) [] (Err f, take, refl) (passes_goes f c old r new ends on) (by_refusal (calls.seen old.carrier) (calls.seen c) f shows)) ends
+  take_end h s (Err f) c old r new on makes take shows ends =
+      refused old new (Take h) (Raw (raw.Take h) ∷ []) f c r makes
+      (raw_refused old.carrier c (raw.Take h) f (Err f, take, refl) (passes_goes f c old r new ends on) (by_refusal (calls.seen old.carrier) (calls.seen c) f shows)) ends
+
+  taking : (h : Host) (old : WorldState C) (r : Answer) (new : WorldState C) → stops r ≡ false → Found (λ s. TakeGives (shown calls) h s old r new) (program_of h old.seats) old new → Driven old (Take h) new
+  taking h old r new on (inl (none, same)) = unchanged old new (Take h) (ap (λ (p : Option NcpState). option_to_list (option_map (λ s. Raw (raw.Take h)) p)) none) same
+  taking h old r new on (inr (s, is, t)) = take_end h s t.0 t.1 old r new on (ap (λ (p : Option NcpState). option_to_list (option_map (λ s. Raw (raw.Take h)) p)) is) t.2.0 t.2.1 t.3
 
   -- what a user asks for, and what begins
-  ask_driven : (e : Event) → Makes e [] [] → (h : Host) (q : Request) (s : NcpState) (o : Option NcpFault) (old : WorldState C) (r : Answer) (new : WorldState C) → stops r ≡ false → AskGives h q s o old r new → Driven old e new
-  ask_driven e makes h q s (Some f) old r new on gives = unchanged old new e makes gives.1
-  ask_driven e makes h q s None old r new on gives = elim gives [
+  ask_driven : (e : Event) (h : Host) (q : Request) (s : NcpState) (o : Option NcpFault) (old : WorldState C) (r : Answer) (new : WorldState C) → Calling old e [] → stops r ≡ false → AskGives h q s o old r new → Driven old e new
+  ask_driven e h q s (Some f) old r new makes on gives = unchanged old new e makes gives.1
+  ask_driven e h q s None old r new makes on gives = elim gives [
     | inl d ↦ subst (λ (w : WorldState C). Driven old e w) (sym d.1) (undriven old (served_at h q s old) e makes refl (served_log h q s old))
     | inr x ↦ absurd (halts_stop old.carrier old r new x on)
   ]
 
   type_driven : (h : Host) (line : List ℕ) (s : NcpState) (o : Option ℕ) (old : WorldState C) (r : Answer) (new : WorldState C) → stops r ≡ false → TypeGives h line s o old r new → Driven old (Typed h line) new
-  type_driven h line s None old r new on gives = unchanged old new (Typed h line) (refl, refl) gives.1
+  type_driven h line s None old r new on gives = unchanged old new (Typed h line) refl gives.1
   type_driven h line s (Some socket) old r new on gives =
-      ask_driven (Typed h line) (refl, refl) h (request.Send socket (line_bits line)) s (refusal s (request.Send socket (line_bits line))) old r new on gives
+      ask_driven (Typed h line) h (request.Send socket (line_bits line)) s (refusal s (request.Send socket (line_bits line))) old r new refl on gives
 
-  begun_driven : (e : Event) → Makes e [] [] → (done old : WorldState C) (r : Answer) (new : WorldState C) → stops r ≡ false → done.carrier ≡ old.carrier → done.kept.book.crossings ≡ old.kept.book.crossings → DoesOrHalts done old r new → Driven old e new
-  begun_driven e makes done old r new on same log ends = elim ends [
+  begun_driven : (e : Event) (done old : WorldState C) (r : Answer) (new : WorldState C) → Calling old e [] → stops r ≡ false → done.carrier ≡ old.carrier → done.kept.book.crossings ≡ old.kept.book.crossings → DoesOrHalts done old r new → Driven old e new
+  begun_driven e done old r new makes on same log ends = elim ends [
     | inl d ↦ subst (λ (w : WorldState C). Driven old e w) (sym d.1) (undriven old done e makes same log)
     | inr x ↦ absurd (halts_stop old.carrier old r new x on)
   ]
 
-  -- at a host that isn't there, or is down, nothing happens
-  at_host : (e : Event) → Makes e [] [] → (Gives : NcpState → Type 0) (h : Host) (old : WorldState C) (r : Answer) (new : WorldState C) → ((s : NcpState) → Gives s → Driven old e new) → AtSeat Gives (seat_of h old.seats) old r new → Driven old e new
-  at_host e makes Gives h old r new k t = at_seat calls Gives (Driven old e new) (seat_of h old.seats) old r new (λ is. unchanged old new e makes is) k t
+  -- an event by which no call is made
+  at_host : (e : Event) (Gives : NcpState → Type 0) (h : Host) (old : WorldState C) (r : Answer) (new : WorldState C) → Calling old e [] → ((s : NcpState) → Gives s → Driven old e new) → AtSeat Gives (seat_of h old.seats) old r new → Driven old e new
+  at_host e Gives h old r new makes k t = elim (found Gives h old r new t) [ inl none ↦ unchanged old new e makes none.1 | inr up ↦ k up.0 up.2 ]
 
   -- ---- any event
 
   event_driven : (e : Event) (old : WorldState C) (r : Answer) (new : WorldState C) → stops r ≡ false → EventGives (shown calls) old e r new → Driven old e new
   event_driven (Net e) old r new on t = net_driven e t.0 t.1 old r new on t.2.0 t.2.1 t.3
   event_driven Quiet old r new on t = quiet_driven t.0 t.1 old r new on t.2.0 t.3
-  event_driven (Offer h) old r new on t =
-      at_host (Offer h) (inl refl) (λ s. OfferGives (shown calls) h s (next_out s) old r new) h old r new (λ s g. offer_driven h s (next_out s) old r new on g) t
-  event_driven (Take h) old r new on t =
-      at_host (Take h) (inl refl) (λ s. TakeGives (shown calls) h s old r new) h old r new (λ s g. take_end h s g.0 g.1 old r new on g.2.0 g.2.1 g.3) t
+  event_driven (Offer h) old r new on t = offering h old r new on (found (λ s. OfferGives (shown calls) h s (next_out s) old r new) h old r new t)
+  event_driven (Take h) old r new on t = taking h old r new on (found (λ s. TakeGives (shown calls) h s old r new) h old r new t)
   event_driven (Ask h q) old r new on t =
-      at_host (Ask h q) (refl, refl) (λ s. AskGives h q s (refusal s q) old r new) h old r new (λ s g. ask_driven (Ask h q) (refl, refl) h q s (refusal s q) old r new on g) t
+      at_host (Ask h q) (λ s. AskGives h q s (refusal s q) old r new) h old r new refl (λ s g. ask_driven (Ask h q) h q s (refusal s q) old r new refl on g) t
   event_driven (Server h listen base) old r new on t =
-      at_host (Server h listen base) (refl, refl) (λ s. DoesOrHalts (with_server h listen base s old) old r new) h old r new
-      (λ s g. begun_driven (Server h listen base) (refl, refl) (with_server h listen base s old) old r new on refl (asked_log h (services.server_begun listen base (services_of h old.services) (opening_desk h (noticed old) s)).1.asked old.kept) g) t
+      at_host (Server h listen base) (λ s. DoesOrHalts (with_server h listen base s old) old r new) h old r new refl
+      (λ s g. begun_driven (Server h listen base) (with_server h listen base s old) old r new refl on refl (asked_log h (services.server_begun listen base (services_of h old.services) (opening_desk h (noticed old) s)).1.asked old.kept) g) t
   event_driven (User h peer listen own) old r new on t =
-      at_host (User h peer listen own) (refl, refl) (λ s. DoesOrHalts (with_user h peer listen own s old) old r new) h old r new
-      (λ s g. begun_driven (User h peer listen own) (refl, refl) (with_user h peer listen own s old) old r new on refl (asked_log h (services.user_begun peer listen own (services_of h old.services) (opening_desk h (noticed old) s)).1.asked old.kept) g) t
+      at_host (User h peer listen own) (λ s. DoesOrHalts (with_user h peer listen own s old) old r new) h old r new refl
+      (λ s g. begun_driven (User h peer listen own) (with_user h peer listen own s old) old r new refl on refl (asked_log h (services.user_begun peer listen own (services_of h old.services) (opening_desk h (noticed old) s)).1.asked old.kept) g) t
   event_driven (Typed h line) old r new on t =
-      at_host (Typed h line) (refl, refl) (λ s. TypeGives h line s (services_of h old.services).typing old r new) h old r new (λ s g. type_driven h line s (services_of h old.services).typing old r new on g) t
+      at_host (Typed h line) (λ s. TypeGives h line s (services_of h old.services).typing old r new) h old r new refl (λ s g. type_driven h line s (services_of h old.services).typing old r new on g) t
 
   -- a world in which an event goes well has not run out of memory
   pub step_runs : (e : Event) (old : WorldState C) (r : Answer) (new : WorldState C) → stops r ≡ false → StepGives (shown calls) old e r new → EventGives (shown calls) old e r new
@@ -275,31 +308,19 @@ module _ {C : Type 0} (calls : Calls C) where
 
   -- ---- the calls in turn
 
-  offers_only : (cs : List Crossing) (drives : List Drive) → IsOffer cs drives → All IsCall drives
-  offers_only [] drives makes = elim makes [
-    | inl none ↦ subst (All IsCall) (sym none) (All-nil IsCall)
-    | inr one ↦ subst (All IsCall) (sym one.1) (All-cons IsCall (Raw (raw.Out one.0)) [] tt (All-nil IsCall))
-  ]
-  offers_only (crossing.Out m ∷ []) drives makes = subst (All IsCall) (sym makes) (All-cons IsCall (Raw (raw.Out m)) [] tt (All-nil IsCall))
-  offers_only cs drives makes = absurd makes
+  maybe_call : {T : Type 0} (call : T → Drive) → ((x : T) → IsCall (call x)) → (o : Option T) → All IsCall (option_to_list (option_map call o))
+  maybe_call call is None = All-nil IsCall
+  maybe_call call is (Some x) = All-cons IsCall (call x) [] (is x) (All-nil IsCall)
 
-  takes_only : (h : Host) (cs : List Crossing) (drives : List Drive) → IsTaking h cs drives → All IsCall drives
-  takes_only h [] drives makes = elim makes [
-    | inl none ↦ subst (All IsCall) (sym none) (All-nil IsCall)
-    | inr one ↦ subst (All IsCall) (sym one) (All-cons IsCall (Raw (raw.Take h)) [] tt (All-nil IsCall))
-  ]
-  takes_only h (c ∷ []) drives makes = subst (All IsCall) (sym makes) (All-cons IsCall (Raw (raw.Take h)) [] tt (All-nil IsCall))
-  takes_only h (c ∷ d ∷ cs) drives makes = absurd makes
-
-  makes_only : (e : Event) (cs : List Crossing) (drives : List Drive) → Makes e cs drives → All IsCall drives
-  makes_only (Net e) cs drives makes = subst (All IsCall) (sym makes) (All-cons IsCall (Raw (raw.Net e)) [] tt (All-nil IsCall))
-  makes_only Quiet cs drives makes = subst (All IsCall) (sym makes.1) (All-cons IsCall Round [] tt (All-nil IsCall))
-  makes_only (Offer h) cs drives makes = offers_only cs drives makes
-  makes_only (Take h) cs drives makes = takes_only h cs drives makes
-  makes_only (Ask h q) cs drives makes = subst (All IsCall) (sym makes.1) (All-nil IsCall)
-  makes_only (Server h listen base) cs drives makes = subst (All IsCall) (sym makes.1) (All-nil IsCall)
-  makes_only (User h peer listen own) cs drives makes = subst (All IsCall) (sym makes.1) (All-nil IsCall)
-  makes_only (Typed h line) cs drives makes = subst (All IsCall) (sym makes.1) (All-nil IsCall)
+  only_calls : (seats : List Seat) (e : Event) → All IsCall (option_to_list (call_of seats e))
+  only_calls seats (Net e) = All-cons IsCall (Raw (raw.Net e)) [] tt (All-nil IsCall)
+  only_calls seats Quiet = All-cons IsCall Round [] tt (All-nil IsCall)
+  only_calls seats (Offer h) = maybe_call (λ m. Raw (raw.Out m)) (λ m. tt) (option_and_then next_out (program_of h seats))
+  only_calls seats (Take h) = maybe_call (λ s. Raw (raw.Take h)) (λ s. tt) (program_of h seats)
+  only_calls seats (Ask h q) = All-nil IsCall
+  only_calls seats (Server h listen base) = All-nil IsCall
+  only_calls seats (User h peer listen own) = All-nil IsCall
+  only_calls seats (Typed h line) = All-nil IsCall
 
   drives_none : (old new : WorldState C) → new ≡ old → Drives calls old new []
   drives_none old new same = record {
@@ -311,10 +332,10 @@ module _ {C : Type 0} (calls : Calls C) where
 
   drives_once : (e : Event) (old new : WorldState C) (drives : List Drive) → IsDriven calls old e new drives → Drives calls old new drives
   drives_once e old new drives h = record {
-    calls_only = makes_only e h.crossings drives h.makes;
+    calls_only = subst (All IsCall) (sym h.makes) (only_calls old.seats e);
     shown = h.shown;
     goes = h.goes;
-    crossed = h.crossed ∙ ap (λ cs. reverse cs ++ old.kept.book.crossings) (sym h.same);
+    crossed = h.crossed;
   }
 
   drives_then : (old mid new : WorldState C) (xs ys : List Drive) → Drives calls old mid xs → Drives calls mid new ys → Drives calls old new (xs ++ ys)

@@ -1,14 +1,17 @@
+pub mod Accounts
 mod AtHosts
 pub mod CalmRounds
 mod CalmEvents
 mod Counting
 pub mod Driven
+mod Driving
 pub mod Grown
 pub mod News
 pub mod Replays
 pub mod Reports
 pub mod Rounds
 pub mod Steady
+mod Ticking
 pub mod ToldLines
 pub mod Turns
 pub mod lemmas

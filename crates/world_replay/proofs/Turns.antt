@@ -34,7 +34,7 @@ left_once : {S L : Type 0} (P Q : Type 0) (mid new other : S) (rest more : List 
 left_once P Q mid new other rest more true k h g = k h g
 left_once P Q mid new other rest more false k h g = (h.0 ∙ sym g.0, h.1 ∙ sym g.1)
 
-repeated_once : {C : Type 0} {L : Type 0} (Happens : Happening (WorldState C) Event L) → HappensOnce Happens → (e : Event) (times : ℕ) (old new other : WorldState C) (shown more : List L)
+pub repeated_once : {C : Type 0} {L : Type 0} (Happens : Happening (WorldState C) Event L) → HappensOnce Happens → (e : Event) (times : ℕ) (old new other : WorldState C) (shown more : List L)
     → Repeated Happens e times old new shown → Repeated Happens e times old other more → (new ≡ other) × (shown ≡ more)
 repeated_once Happens once e zero old new other shown more h k = (h.0 ∙ sym k.0, h.1 ∙ sym k.1)
 repeated_once {C} {L} Happens once e (suc times) old new other shown more (mid, first, rest, h, hs, whole) (mid', first', rest', k, ks, whole') =

@@ -1,8 +1,9 @@
 //! Replaying the events of a world's script.
 
-ghost use Rattle.std.specs.Prelude.{◌≡◌, ◌≤◌, Err, List, Ok, OnOk, false, true, ℕ};
+ghost use Rattle.std.specs.Prelude.{◌≡◌, ◌≤◌, Err, List, Ok, OnOk, false, length, true, ℕ};
 ghost use Rattle.interface.specs.Messages.{SafeMessages};
 ghost use Rattle.net_sim.specs.Carriers.{shown};
+ghost use Rattle.net_sim.specs.Silent.{AllSilent};
 ghost use Rattle.net_sim.specs.World.{CalmGives};
 ghost use Rattle.replay.specs.Failing.{TellsCannotWrite};
 ghost use Rattle.world_replay.specs.Output.{Shown, Writes};
@@ -186,9 +187,12 @@ fn replay_round<C: Carrier, W: Output>(
 }
 
 /// Returns whether more rounds of a calm are known to change nothing: nothing has crossed since the book had this many
-/// crossings, and the world rests.
-fn has_calmed<C: Carrier>(world: &World<C>, before: usize) -> bool
-    ensures { result ≡ true → (times : ℕ) → CalmGives (shown C.calls) times world.now (Ok tt) world.now }
+/// crossings, and the world rests. It may answer `false` though none would change anything. This takes no memory.
+pub fn has_calmed<C: Carrier>(world: &World<C>, before: usize) -> bool
+    ensures crossed { result ≡ true → length world.now.kept.book.crossings ≡ before }
+    ensures unchanged { result ≡ true → (times : ℕ) → CalmGives (shown C.calls) times world.now (Ok tt) world.now }
+    ensures running { result ≡ true → world.now.stopped ≡ false }
+    ensures silent { result ≡ true → AllSilent world.now.seats }
 {
     world.book().crossings().len() == before && world.rests()
 }

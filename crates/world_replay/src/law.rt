@@ -34,9 +34,10 @@ pub fn calm<C: Carrier>()
     ensures turns { CalmTurns C.calls }
 {}
 
-/// A world's carrier is the network that its crossings drive: it changes by its own calls only, and what crosses says by which.
+/// A world's carrier is the network that its hosts drive: it changes by its own calls only. Each event makes the one that it names, and an offer
+/// that of the message which the host's program has to send next.
 pub fn driven<C: Carrier>()
-    // each event of a script, be it refused or a calm, makes those calls that its crossings name
+    // each event of a script, be it refused or a calm, makes these calls, event by event, and what crosses by them is what the book gains
     ensures event { DrivenEvent C.calls }
 
     // so does a whole replay: the carrier is what these calls make of it, and what crosses by them is what the book gains

@@ -18,8 +18,11 @@ mod lines;
 mod print;
 mod told;
 pub mod worked;
+pub mod worked_apart;
+pub mod worked_drives;
+pub mod worked_rounds;
 
-pub use events::{replay_events, replay_in_calm};
+pub use events::{has_calmed, replay_events, replay_in_calm};
 pub use lines::LifeLine;
 pub use print::print_lives;
 pub use replay::{Detail, Output, ReplayFault, WriteFailed};

@@ -1,25 +1,20 @@
 //! Worked examples of what a world's replay prints. The functions here do nothing: each clause is a row, computed over
 //! the definitions.
 
-ghost use Rattle.std.specs.Prelude.{◌≡◌, List, [], ◌∷◌, ◌++◌, None, Some, codes, replicate};
+ghost use Rattle.std.specs.Prelude.{◌≡◌, List, [], ◌∷◌, ◌++◌, codes, replicate};
 ghost use Rattle.interface.specs.declared.carrier.CarrierFault.TheVariants as fault;
 ghost use Rattle.net_sim.specs.Worked.{eight, four, giver, message, over, taker};
 ghost use Rattle.net_sim.specs.declared.event.Event.TheVariants as event;
 ghost use Rattle.net_sim.specs.declared.event.WorldFault.TheVariants.{Carrier, Program};
-ghost use Rattle.script.specs.declared.event.RawEvent.TheVariants as raw;
-ghost use Rattle.sockets.specs.Pairs.{opening_state};
 ghost use Rattle.sockets.specs.Worked.{first, second};
 ghost use Rattle.sockets.specs.declared.fault.NcpFault.TheVariants as problem;
 ghost use Rattle.host_pairs.specs.declared.notice.Notice.TheVariants as notice;
 ghost use Rattle.host_services.specs.declared.report.Report.TheVariants as report;
 ghost use Rattle.icp.specs.declared.outcome.Failure.TheVariants as failure;
 ghost use Rattle.icp.specs.declared.outcome.Outcome.TheVariants as outcome;
-ghost use Rattle.world_replay.specs.Apart.{IsAt};
-ghost use Rattle.world_replay.specs.Driven.{Drive, Goes, IsCourse, Makes, Raw, Round};
 ghost use Rattle.world_replay.specs.Output.{Crossed, Noticed, Refused, Said, Shown, lives_output, notices_of, reports_of, shown_in_turn, told_in_turn};
 ghost use Rattle.world_replay.specs.Printed.{life_text, notice_text, refusal_text, report_text};
 ghost use Rattle.world_replay.specs.Replay.{HappensInCalm, IsOfCalm, MayDo, quiet_rounds};
-ghost use Rattle.world_replay.specs.Rounds.{Again, turns_in};
 ghost use Rattle.world_replay.specs.Worked.{after, came, counting, went, said_at, told_at};
 ghost use Rattle.world_script.specs.declared.event.WorldEvent.TheVariants.{Calm, Happen};
 ghost use Rattle.world_replay.specs.Laws.WorkedNews.{WorkedNewsReported};
@@ -134,43 +129,4 @@ pub fn worked_calms()
     // quiet rounds are counted, and nobody types a line
     ensures rounds { quiet_rounds (event.Quiet ∷ event.Take first ∷ event.Offer first ∷ event.Quiet ∷ []) ≡ 2 }
     ensures typed { ¬ (IsOfCalm (event.Typed first [])) }
-{}
-
-/// The events of a round.
-pub fn worked_rounds()
-    // the hosts that are up have turns, and take before they offer
-    ensures turns { turns_in (record { host = first; program = Some (opening_state first) } ∷ record { host = second; program = None } ∷ []) ≡ (event.Quiet, 1) ∷ (event.Take first, 16) ∷ (event.Offer first, 32) ∷ [] }
-
-    // what could happen again happens once where nothing crosses by it
-    ensures once { Again (HappensInCalm counting) (after 3) (event.Quiet, 16) (after 4) [] }
-    ensures twice { (shown : List Shown) → ¬ (Again (HappensInCalm counting) (after 3) (event.Quiet, 16) (after 5) shown) }
-{}
-
-/// The calls of its carrier that an event of a world makes.
-pub fn worked_drives()
-    // what went out was offered, and once
-    ensures offer { Makes (event.Offer first) (went ∷ []) (Raw (raw.Out (message first second 0)) ∷ []) }
-    ensures not_offered { ¬ (Makes (event.Offer first) (went ∷ []) []) }
-    ensures another { ¬ (Makes (event.Offer first) (went ∷ []) (Raw (raw.Out (message second first 0)) ∷ [])) }
-    ensures two { (drives : List Drive) → ¬ (Makes (event.Offer first) (went ∷ went ∷ []) drives) }
-
-    // what came in was taken by this host
-    ensures taking { Makes (event.Take second) (came ∷ []) (Raw (raw.Take second) ∷ []) }
-    ensures not_taken { ¬ (Makes (event.Take second) (came ∷ []) []) }
-    ensures taken_by_another { ¬ (Makes (event.Take second) [] (Raw (raw.Take first) ∷ [])) }
-
-    // in a quiet round nothing crosses, and a line that is typed makes no call
-    ensures quiet { ¬ (Makes event.Quiet (came ∷ []) (Round ∷ [])) }
-    ensures typed { ¬ (Makes (event.Typed first []) [] (Round ∷ [])) }
-
-    // each call is made once
-    ensures once { Goes counting 3 Round 4 [] }
-    ensures twice { ¬ (Goes counting 3 Round 5 []) }
-
-    // a calm has its quiet rounds
-    ensures calm { ¬ (IsCourse (Calm 1) []) }
-
-    // an event at one host is at no other, and a quiet round at none
-    ensures at { ¬ (IsAt first (event.Take second)) }
-    ensures nowhere { ¬ (IsAt first event.Quiet) }
 {}

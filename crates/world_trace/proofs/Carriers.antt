@@ -57,13 +57,13 @@ raw_run : {C : Type 0} (calls : Calls C) (Holds : C → Type 0) → Quiets calls
 raw_run calls Holds quiets [] old new lines holds only h =
     record { events = []; made = refl; one_call = All-nil IsOneCall; lines = []; replays = (h.0, refl); same = sym (ap crossings_of h.1) }
 raw_run calls Holds quiets (Raw e ∷ drives) old new lines holds only (mid, first, rest, one, more, all) =
-    let later : RawRun calls mid drives new (crossings_of rest) = raw_run calls Holds quiets drives mid new rest (quiets.keeps old mid e first holds one) (All-tail IsCall (Raw e) drives only) more in
+    let later : RawRun calls mid drives new (crossings_of rest) = raw_run calls Holds quiets drives mid new rest (quiets.keeps old mid e first holds one.0) (All-tail IsCall (Raw e) drives only) more in
     record {
       events = e ∷ later.events;
       made = (later.events, refl, later.made);
       one_call = All-cons IsOneCall e later.events (All-head IsCall (Raw e) drives only) later.one_call;
       lines = first ++ later.lines;
-      replays = (mid, first, later.lines, one, later.replays, refl);
+      replays = (mid, first, later.lines, one.0, later.replays, refl);
       same = crossings_then first later.lines ∙ ap (λ cs. crossings_of first ++ cs) later.same ∙ sym (crossings_then first rest) ∙ ap crossings_of (sym all);
     }
 raw_run calls Holds quiets (Round ∷ drives) old new lines holds only (mid, first, rest, (answer, round, on, is), more, all) =

@@ -9,6 +9,7 @@ mod Blocks
 mod Lines
 mod Lists
 mod Made
+mod Networks
 mod Passing
 mod Programs
 mod Resting

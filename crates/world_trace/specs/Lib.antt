@@ -3,4 +3,5 @@ pub mod Steps
 pub mod Texts
 pub mod Told
 pub mod Traces
+pub mod Worked
 pub mod Laws

@@ -21,6 +21,7 @@ mod texts;
 mod traced;
 mod values;
 pub mod worked;
+pub mod worked_networks;
 
 pub use lasting::lasts;
 pub use traced::trace_world;

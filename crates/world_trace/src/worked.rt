@@ -10,12 +10,12 @@ ghost use Rattle.net_sim.specs.declared.event.Event.TheVariants as event;
 ghost use Rattle.script.specs.declared.event.RawEvent.TheVariants as raw;
 ghost use Rattle.sockets.specs.Pairs.{NcpState, opening_state};
 ghost use Rattle.sockets.specs.Worked.{first, second};
-ghost use Rattle.trace.specs.declared.element.Spot.{Spot};
 ghost use Rattle.world_replay.specs.Driven.{Raw, Round};
 ghost use Rattle.world_script.specs.declared.event.WorldEvent.TheVariants as world;
 ghost use Rattle.world_trace.specs.Carriers.{AreMade};
 ghost use Rattle.world_trace.specs.Texts.{command_object, event_text, lines_text, program_text};
-ghost use Rattle.world_trace.specs.Traces.{EndsAt, MayTell};
+ghost use Rattle.world_trace.specs.Traces.{MayTell};
+ghost use Rattle.world_trace.specs.Laws.WorkedFailures.{WorkedFailuresNothing};
 ghost use Rattle.world_trace.specs.Laws.WorkedPairs.{WorkedPairsCommands, WorkedPairsPair, WorkedPairsReceiver, WorkedPairsRefused};
 ghost use Rattle.world_trace.specs.Laws.WorkedHosts.{WorkedHostsRunning, WorkedHostsServer};
 
@@ -57,8 +57,7 @@ pub fn worked_lines()
 
 /// What is known of a world where a write failed: the event had happened, and its line is not among those that are known.
 pub fn worked_failures<C: Carrier>()
-    // no write fails in a calm of no rounds
-    ensures nothing { (members : C → List (List ℕ)) (spot : Spot) (old new : WorldState C) (lines : List (List ℕ)) → EndsAt (shown C.calls) members (MayTell (shown C.calls)) spot old (world.Calm 0) new lines → ⊥ }
+    ensures nothing { WorkedFailuresNothing (shown C.calls) }
     ensures no_line { (old new : WorldState C) (e : Event) (line : List ℕ) → MayTell (shown C.calls) old e new (line ∷ []) → ⊥ }
 {}
 

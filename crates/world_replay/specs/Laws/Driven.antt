@@ -1,4 +1,4 @@
--- A world's carrier is the network that its crossings drive.
+-- A world's carrier is the network that its hosts drive.
 use Rattle.std.specs.Prelude.{List}
 use Rattle.interface.specs.Calls.{Calls}
 use Rattle.net_sim.specs.Carriers.{shown}
@@ -9,7 +9,7 @@ use Rattle.world_replay.specs.Output.{Shown}
 use Rattle.world_replay.specs.Replay.{Happens, Replays}
 use Rattle.world_script.specs.declared.event.WorldEvent.{WorldEvent}
 
--- each event of a script makes those calls of the carrier that its crossings name, be it refused or a calm
+-- each event of a script, be it refused or a calm, drives the carrier by its calls, event by event
 abbrev pub DrivenEvent : {C : Type 0} → Calls C → Type 0
 DrivenEvent {C} calls =
     (old new : WorldState C) (e : WorldEvent) (lines : List Shown) → Happens (shown calls) old e new lines → (drives : List Drive) × IsDrivenIn calls old e new drives

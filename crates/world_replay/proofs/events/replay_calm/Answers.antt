@@ -38,7 +38,7 @@ returns-then-has_calmed-clause-ends g c =
     let calls : Calls g.row.C.Denot = shown g.C.Carrier.calls in
     rounds_end calls c.args.detail (c.loop-passed.passed + 1) (c.args.rounds - (c.loop-passed.passed + 1)) c.args.rounds c.args.world.now c.replay_round.new.world (g.W.Output.contents c.args.writer.now) (g.W.Output.contents c.replay_round.new.writer)
     (round_more calls c.args.detail c.loop-passed.passed c.args.world.now c.loop-passed.world c.replay_round.new.world (g.W.Output.contents c.args.writer.now) (g.W.Output.contents c.loop-passed.writer) (g.W.Output.contents c.replay_round.new.writer) c.loop-passed.invariant.0 c.in_ok-replay_round.ensures.ends)
-    (omega arith) (omega (arith, c.loop-passed-test.true)) (rest_left calls (c.args.rounds - (c.loop-passed.passed + 1)) c.replay_round.new.world (c.has_calmed.ensures c.if-has_calmed.true (c.args.rounds - (c.loop-passed.passed + 1))))
+    (omega arith) (omega (arith, c.loop-passed-test.true)) (rest_left calls (c.args.rounds - (c.loop-passed.passed + 1)) c.replay_round.new.world (c.has_calmed.ensures.unchanged c.if-has_calmed.true (c.args.rounds - (c.loop-passed.passed + 1))))
 
 pub returns-clause-ends : goal.returns-clause-ends
 returns-clause-ends g c =
