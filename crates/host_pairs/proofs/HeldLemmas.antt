@@ -9,7 +9,8 @@ use Rattle.std.proofs.Common.{Result, Ok, Err, OnOk, OnErr}
 use Rattle.host_pairs.specs.Entries.{called_off, changed_first, close_due, closed_when, is_over, is_sent, must_close}
 use Rattle.host_pairs.specs.declared.entry.Closing.{Closing}
 use Rattle.host_pairs.specs.declared.entry.Closing.TheVariants as closing
-use Rattle.host_pairs.specs.Inside.Index.{AreKept, Kept, end_key}
+use Rattle.host_pairs.specs.Inside.Index.{AreKept, end_key}
+use Rattle.host_pairs.specs.declared.index.Places.{Places}
 use Rattle.host_pairs.specs.Inside.Held.{waits, has_bits, none_but, is_where, AreHeld}
 use Rattle.host_pairs.specs.declared.entry.Entry.{Entry}
 use Rattle.host_pairs.specs.declared.held.Few.{Few}
@@ -156,7 +157,7 @@ pub kept_held : (mark : Entry → Bool) (few : Few) (test : Entry → Bool) (cha
 kept_held mark few test change gone at d y live ends view is changed keeps h =
     rw (changed_behind test change gone at d y live ends view is changed) (where_kept mark test change few live keeps (rw (← view) h))
 
-pub index_held : (index : Kept) (test : Entry → Bool) (change : Entry → Entry) (gone at : ℕ) (d y : Entry) (live ends : List Entry)
+pub index_held : (index : Places) (test : Entry → Bool) (change : Entry → Entry) (gone at : ℕ) (d y : Entry) (live ends : List Entry)
     → drop gone ends ≡ live → position test live ≡ Some at → y ≡ change (slice_index_or ends (gone + at) d) → KeepsKey change
     → AreKept index (drop gone ends) → AreKept index (drop gone (slice_set ends (gone + at) y))
 index_held index test change gone at d y live ends view is changed keeps h =
@@ -169,7 +170,7 @@ pub record KeepsAll (change : Entry → Entry) : Type 0 where
   pub ending : Keeps is_over change
   pub sending : Keeps has_bits change
 
-pub all_held : (test : Entry → Bool) (change : Entry → Entry) (gone at : ℕ) (index : Kept) (due over bits : Few) (d y : Entry) (live ends : List Entry) → KeepsAll change
+pub all_held : (test : Entry → Bool) (change : Entry → Entry) (gone at : ℕ) (index : Places) (due over bits : Few) (d y : Entry) (live ends : List Entry) → KeepsAll change
     → drop gone ends ≡ live → position test live ≡ Some at → y ≡ change (slice_index_or ends (gone + at) d)
     → AreHeld gone index due over bits ends → AreHeld gone index due over bits (slice_set ends (gone + at) y)
 all_held test change gone at index due over bits d y live ends keeps view is changed held = record {
@@ -399,10 +400,10 @@ first_behind gone ends = sym (drop-drop 1 gone ends)
 
 -- ---- what is remembered, changed in part
 
-pub with_due : (gone : ℕ) (index : Kept) (due other over bits : Few) (ends : List Entry) → AreHeld gone index due over bits ends → is_where waits other (drop gone ends) ≡ true → AreHeld gone index other over bits ends
+pub with_due : (gone : ℕ) (index : Places) (due other over bits : Few) (ends : List Entry) → AreHeld gone index due over bits ends → is_where waits other (drop gone ends) ≡ true → AreHeld gone index other over bits ends
 with_due gone index due other over bits ends held h = record { within = held.within; indexed = held.indexed; closing = h; ending = held.ending; sending = held.sending }
 
-pub with_over : (gone : ℕ) (index : Kept) (due over other bits : Few) (ends : List Entry) → AreHeld gone index due over bits ends → is_where is_over other (drop gone ends) ≡ true → AreHeld gone index due other bits ends
+pub with_over : (gone : ℕ) (index : Places) (due over other bits : Few) (ends : List Entry) → AreHeld gone index due over bits ends → is_where is_over other (drop gone ends) ≡ true → AreHeld gone index due other bits ends
 with_over gone index due over other bits ends held h = record { within = held.within; indexed = held.indexed; closing = held.closing; ending = h; sending = held.sending }
 
 -- no end has the mark, since the one that might hasn't
@@ -420,7 +421,7 @@ closed_view busy gone at e y live ends view is h lt by =
     set_behind gone at y ends ∙ ap (λ (es : List Entry). slice_set es at y) view
     ∙ ap (λ (x : Entry). slice_set live at x) (by ∙ ap (closed_by busy) (sym read)) ∙ closed_at busy at e live h lt
 
-pub closed_held : (busy : List ℕ) (gone at : ℕ) (index : Kept) (due over bits : Few) (e y : Entry) (live ends : List Entry) → AreHeld gone index due over bits ends → drop gone ends ≡ live → e ≡ slice_index_or ends (gone + at) e
+pub closed_held : (busy : List ℕ) (gone at : ℕ) (index : Places) (due over bits : Few) (e y : Entry) (live ends : List Entry) → AreHeld gone index due over bits ends → drop gone ends ≡ live → e ≡ slice_index_or ends (gone + at) e
     → none_but waits at live ≡ true → at < length live → y ≡ closed_by busy e → waits y ≡ false → AreHeld gone index few.Nowhere over bits (slice_set ends (gone + at) y)
 closed_held busy gone at index due over bits e y live ends held view is h lt by without =
     let all : drop gone (slice_set ends (gone + at) y) ≡ map (closed_by busy) live = closed_view busy gone at e y live ends view is h lt by in
@@ -432,7 +433,7 @@ closed_held busy gone at index due over bits e y live ends held view is h lt by 
       sending = rw all (map_kept has_bits (closed_by busy) bits live (λ e h. h) (rw (← view) held.sending));
     }
 
-pub each_held : (busy : List ℕ) (gone : ℕ) (index : Kept) (due other over bits : Few) (live ends all : List Entry) → AreHeld gone index due over bits ends → all ≡ map (closed_by busy) (drop gone ends)
+pub each_held : (busy : List ℕ) (gone : ℕ) (index : Places) (due other over bits : Few) (live ends all : List Entry) → AreHeld gone index due over bits ends → all ≡ map (closed_by busy) (drop gone ends)
     → is_where waits other all ≡ true → AreHeld 0 index other over bits all
 each_held busy gone index due other over bits live ends all held is h = record {
   within = omega arith;
@@ -442,7 +443,7 @@ each_held busy gone index due other over bits live ends all held is h = record {
   sending = rw is (map_kept has_bits (closed_by busy) bits (drop gone ends) (λ e h. h) held.sending);
 }
 
-pub removed_held : (gone : ℕ) (index : Kept) (due over bits : Few) (all live : List Entry) → gone ≤ length all → drop gone all ≡ live → AreKept index live
+pub removed_held : (gone : ℕ) (index : Places) (due over bits : Few) (all live : List Entry) → gone ≤ length all → drop gone all ≡ live → AreKept index live
     → is_where waits due live ≡ true → is_where is_over over live ≡ true → is_where has_bits bits live ≡ true → AreHeld gone index due over bits all
 removed_held gone index due over bits all live within is indexed closing ending sending =
     record { within = within; indexed = rw is indexed; closing = rw is closing; ending = rw is ending; sending = rw is sending }
@@ -520,14 +521,14 @@ set_as gone at e y ends is mark keeps few h =
     let read : slice_index_or (drop gone ends) at e ≡ e = index_behind gone at e ends ∙ sym is in
     rw (set_behind gone at y ends) (set_where mark at e y (drop gone ends) read keeps few h)
 
-same_index : (gone at : ℕ) (index : Kept) (e y : Entry) (ends : List Entry) → e ≡ slice_index_or ends (gone + at) e → end_key y ≡ end_key e → AreKept index (drop gone ends)
+same_index : (gone at : ℕ) (index : Places) (e y : Entry) (ends : List Entry) → e ≡ slice_index_or ends (gone + at) e → end_key y ≡ end_key e → AreKept index (drop gone ends)
     → AreKept index (drop gone (slice_set ends (gone + at) y))
 same_index gone at index e y ends is same h =
     let read : slice_index_or (drop gone ends) at e ≡ e = index_behind gone at e ends ∙ sym is in
     rw (set_behind gone at y ends) (kept_set index at e y (drop gone ends) read same h)
 
 -- a change of bits only
-pub bits_held : (gone at : ℕ) (index : Kept) (due over bits other : Few) (e : Entry) (waiting : List Bool) (ends : List Entry) → AreHeld gone index due over bits ends → e ≡ slice_index_or ends (gone + at) e
+pub bits_held : (gone at : ℕ) (index : Places) (due over bits other : Few) (e : Entry) (waiting : List Bool) (ends : List Entry) → AreHeld gone index due over bits ends → e ≡ slice_index_or ends (gone + at) e
     → is_where has_bits other (slice_set (drop gone ends) at (record e { bits = waiting })) ≡ true → AreHeld gone index due over other (slice_set ends (gone + at) (record e { bits = waiting }))
 bits_held gone at index due over bits other e waiting ends held is h = record {
   within = within_set gone (gone + at) (record e { bits = waiting }) ends held.within;
@@ -559,11 +560,11 @@ pub swept_place : (gone at : ℕ) (e : Entry) (live ends : List Entry) → drop 
     → remove live at ≡ filter (λ e. not (is_over e)) live
 swept_place gone at e live ends view is h lt over = swept_at at e live h lt (ap is_over (read_at gone at e live ends view is) ∙ over)
 
-pub swept_held : (gone : ℕ) (index : Kept) (due over bits due' bits' : Few) (ends all : List Entry) → AreHeld gone index due over bits ends → all ≡ filter (λ e. not (is_over e)) (drop gone ends)
-    → is_where waits due' (filter (λ e. not (is_over e)) (drop gone ends)) ≡ true → is_where has_bits bits' (filter (λ e. not (is_over e)) (drop gone ends)) ≡ true → AreHeld 0 None due' few.Nowhere bits' all
-swept_held gone index due over bits due' bits' ends all held is closing sending = record {
+pub swept_held : (gone : ℕ) (index fewer : Places) (due over bits due' bits' : Few) (ends all : List Entry) → AreHeld gone index due over bits ends → all ≡ filter (λ e. not (is_over e)) (drop gone ends)
+    → AreKept fewer (filter (λ e. not (is_over e)) (drop gone ends)) → is_where waits due' (filter (λ e. not (is_over e)) (drop gone ends)) ≡ true → is_where has_bits bits' (filter (λ e. not (is_over e)) (drop gone ends)) ≡ true → AreHeld 0 fewer due' few.Nowhere bits' all
+swept_held gone index fewer due over bits due' bits' ends all held is indexed closing sending = record {
   within = omega arith;
-  indexed = tt;
+  indexed = rw is indexed;
   closing = rw is closing;
   ending = rw is (none_over_left (drop gone ends));
   sending = rw is sending;
@@ -589,7 +590,7 @@ bits_kept (suc count) (b ∷ bits) h =
 sent_kept : (count : ℕ) → Keeps has_bits (bits_gone count)
 sent_kept count e h = bits_kept count e.bits h
 
-pub sent_held : (gone at count : ℕ) (index : Kept) (due over bits : Few) (e : Entry) (ends : List Entry) → AreHeld gone index due over bits ends → e ≡ slice_index_or ends (gone + at) e
+pub sent_held : (gone at count : ℕ) (index : Places) (due over bits : Few) (e : Entry) (ends : List Entry) → AreHeld gone index due over bits ends → e ≡ slice_index_or ends (gone + at) e
     → AreHeld gone index due over bits (slice_set ends (gone + at) (bits_gone count e))
 sent_held gone at count index due over bits e ends held is = record {
   within = within_set gone (gone + at) (bits_gone count e) ends held.within;
@@ -599,7 +600,7 @@ sent_held gone at count index due over bits e ends held is = record {
   sending = set_as gone at e (bits_gone count e) ends is has_bits (sent_kept count e) bits held.sending;
 }
 
-same_held : (gone at : ℕ) (index : Kept) (due over bits : Few) (e : Entry) (ends : List Entry) → AreHeld gone index due over bits ends → e ≡ slice_index_or ends (gone + at) e → AreHeld gone index due over bits (slice_set ends (gone + at) e)
+same_held : (gone at : ℕ) (index : Places) (due over bits : Few) (e : Entry) (ends : List Entry) → AreHeld gone index due over bits ends → e ≡ slice_index_or ends (gone + at) e → AreHeld gone index due over bits (slice_set ends (gone + at) e)
 same_held gone at index due over bits e ends held is = record {
   within = within_set gone (gone + at) e ends held.within;
   indexed = same_index gone at index e e ends is refl held.indexed;
@@ -609,12 +610,12 @@ same_held gone at index due over bits e ends held is = record {
 }
 
 -- whether or not the bits could go
-pub sent_or_same : {T E : Type 0} (r : Result T E) (gone at count : ℕ) (index : Kept) (due over bits : Few) (e y : Entry) (ends : List Entry) → OnOk r (y ≡ bits_gone count e) → OnErr r (y ≡ e)
+pub sent_or_same : {T E : Type 0} (r : Result T E) (gone at count : ℕ) (index : Places) (due over bits : Few) (e y : Entry) (ends : List Entry) → OnOk r (y ≡ bits_gone count e) → OnErr r (y ≡ e)
     → AreHeld gone index due over bits ends → e ≡ slice_index_or ends (gone + at) e → AreHeld gone index due over bits (slice_set ends (gone + at) y)
 sent_or_same (Ok x) gone at count index due over bits e y ends sent same held is = rw sent (sent_held gone at count index due over bits e ends held is)
 sent_or_same (Err x) gone at count index due over bits e y ends sent same held is = rw same (same_held gone at index due over bits e ends held is)
 
-pub with_bits : (gone : ℕ) (index : Kept) (due over bits other : Few) (ends : List Entry) → AreHeld gone index due over bits ends → is_where has_bits other (drop gone ends) ≡ true → AreHeld gone index due over other ends
+pub with_bits : (gone : ℕ) (index : Places) (due over bits other : Few) (ends : List Entry) → AreHeld gone index due over bits ends → is_where has_bits other (drop gone ends) ≡ true → AreHeld gone index due over other ends
 with_bits gone index due over bits other ends held h = record { within = held.within; indexed = held.indexed; closing = held.closing; ending = held.ending; sending = h }
 
 -- the view of an end that was changed at its place

@@ -7,7 +7,9 @@ use Rattle.std.specs.declared.cmp.Ordering.TheVariants.{Less, Equal, Greater}
 use Rattle.std.proofs.lemmas.Bool.{eqb-true}
 use Rattle.host_pairs.specs.Entries.{changed_first, is_at}
 use Rattle.host_pairs.specs.Inside.Held.{none_but}
-use Rattle.host_pairs.specs.Inside.Index.{Ascend, AreFound, AreIndexed, AreKept, Kept, end_key, key_of, number_in}
+use Rattle.host_pairs.specs.Inside.Index.{Ascend, AreFound, AreIndexed, AreKept, AscendFrom, end_key, key_of, number_in}
+use Rattle.host_pairs.specs.declared.index.Places.{Places}
+use Rattle.host_pairs.specs.declared.index.Places.TheVariants as places
 use Rattle.host_pairs.specs.declared.entry.Entry.{Entry}
 use Rattle.host_pairs.specs.declared.index.Index.{Index}
 use Rattle.host_pairs.proofs.OpeningLemmas.{both, is_none}
@@ -39,7 +41,7 @@ some_is n m h = cc
 
 -- ---- an end of two sockets has their number
 
-at_key : (own foreign : ℕ) (e : Entry) → is_at own foreign e ≡ true → end_key e ≡ key_of own foreign
+pub at_key : (own foreign : ℕ) (e : Entry) → is_at own foreign e ≡ true → end_key e ≡ key_of own foreign
 at_key own foreign e h =
     let first : e.own ≡ own = eqb-true e.own own (both _ _ h).0 in
     let second : e.foreign ≡ foreign = eqb-true e.foreign foreign (both _ _ h).1 in
@@ -49,7 +51,7 @@ not_at_by : (own foreign : ℕ) (e : Entry) → (end_key e ≡ key_of own foreig
 not_at_by own foreign e differ true h = absurd (differ (at_key own foreign e h))
 not_at_by own foreign e differ false h = refl
 
-not_at : (own foreign : ℕ) (e : Entry) → (end_key e ≡ key_of own foreign → ⊥) → is_at own foreign e ≡ false
+pub not_at : (own foreign : ℕ) (e : Entry) → (end_key e ≡ key_of own foreign → ⊥) → is_at own foreign e ≡ false
 not_at own foreign e differ = not_at_by own foreign e differ (is_at own foreign e) refl
 
 -- ---- numbers that ascend
@@ -139,7 +141,7 @@ one_found more n [] e (f ∷ es) is h = absurd (h)
 one_found more n (m ∷ ns) e [] is h = absurd (h)
 one_found more n (m ∷ ns) e (f ∷ es) is h = (h.0, one_found more n ns e es is h.1)
 
-end_key_is : (own foreign : ℕ) (e : Entry) → e.own ≡ own → e.foreign ≡ foreign → end_key e ≡ key_of own foreign
+pub end_key_is : (own foreign : ℕ) (e : Entry) → e.own ≡ own → e.foreign ≡ foreign → end_key e ≡ key_of own foreign
 end_key_is own foreign e first second = ap (λ (n : ℕ). key_of n e.foreign) first ∙ ap (λ (n : ℕ). key_of own n) second
 
 pub added : (old new : Index) (own foreign : ℕ) (e : Entry) (es : List Entry) → number_in old (key_of own foreign) ≡ None
@@ -211,9 +213,18 @@ found_set found (suc at) e y [] [] read same h = h
 found_set found zero e y (n ∷ ns) (f ∷ es) read same h = (ap found (same ∙ ap end_key (sym read)) ∙ h.0, h.1)
 found_set found (suc at) e y (n ∷ ns) (f ∷ es) read same h = (h.0, found_set found at e y ns es read same h.1)
 
-pub kept_set : (index : Kept) (at : ℕ) (e y : Entry) (es : List Entry) → slice_index_or es at e ≡ e → end_key y ≡ end_key e → AreKept index es → AreKept index (slice_set es at y)
-kept_set None at e y es read same h = tt
-kept_set (Some x) at e y es read same h = record { ascending = h.ascending; found = found_set (number_in x.value) at e y _ es read same h.found }
+order_set : (low at : ℕ) (e y : Entry) (es : List Entry) → slice_index_or es at e ≡ e → end_key y ≡ end_key e → AscendFrom low es → AscendFrom low (slice_set es at y)
+order_set low zero e y [] read same h = h
+order_set low (suc at) e y [] read same h = h
+order_set low zero e y (f ∷ es) read same h =
+    let key : end_key y ≡ end_key f = same ∙ ap end_key (sym read) in
+    rw key h
+order_set low (suc at) e y (f ∷ es) read same h = (h.0, order_set (suc (end_key f)) at e y es read same h.1)
+
+pub kept_set : (index : Places) (at : ℕ) (e y : Entry) (es : List Entry) → slice_index_or es at e ≡ e → end_key y ≡ end_key e → AreKept index es → AreKept index (slice_set es at y)
+kept_set places.Unknown at e y es read same h = tt
+kept_set places.InOrder at e y es read same h = order_set 0 at e y es read same h
+kept_set (places.Indexed x) at e y es read same h = record { ascending = h.ascending; found = found_set (number_in x.value) at e y _ es read same h.found }
 
 found_by : (found : ℕ → Option ℕ) (test : Entry → Bool) (change : Entry → Entry) (n : ℕ) (ns : List ℕ) (e : Entry) (es : List Entry) → KeepsKey change → AreFound found ns (changed_first test change es) → (b : Bool) → test e ≡ b
     → AreFound found (n ∷ ns) (e ∷ es) → AreFound found (n ∷ ns) (changed_first test change (e ∷ es))
@@ -226,9 +237,19 @@ found_changed found test change [] (e ∷ es) keeps h = absurd (h)
 found_changed found test change (n ∷ ns) [] keeps h = absurd (h)
 found_changed found test change (n ∷ ns) (e ∷ es) keeps h = found_by found test change n ns e es keeps (found_changed found test change ns es keeps h.1) (test e) refl h
 
-pub kept_changed : (index : Kept) (test : Entry → Bool) (change : Entry → Entry) (es : List Entry) → KeepsKey change → AreKept index es → AreKept index (changed_first test change es)
-kept_changed None test change es keeps h = tt
-kept_changed (Some x) test change es keeps h = record { ascending = h.ascending; found = found_changed (number_in x.value) test change _ es keeps h.found }
+order_by : (low : ℕ) (test : Entry → Bool) (change : Entry → Entry) (e : Entry) (es : List Entry) → KeepsKey change → AscendFrom (suc (end_key e)) (changed_first test change es) → (b : Bool) → test e ≡ b
+    → AscendFrom low (e ∷ es) → AscendFrom low (changed_first test change (e ∷ es))
+order_by low test change e es keeps rest true is h = rw is (rw (keeps e) h)
+order_by low test change e es keeps rest false is h = rw is (h.0, rest)
+
+order_changed : (low : ℕ) (test : Entry → Bool) (change : Entry → Entry) (es : List Entry) → KeepsKey change → AscendFrom low es → AscendFrom low (changed_first test change es)
+order_changed low test change [] keeps h = h
+order_changed low test change (e ∷ es) keeps h = order_by low test change e es keeps (order_changed (suc (end_key e)) test change es keeps h.1) (test e) refl h
+
+pub kept_changed : (index : Places) (test : Entry → Bool) (change : Entry → Entry) (es : List Entry) → KeepsKey change → AreKept index es → AreKept index (changed_first test change es)
+kept_changed places.Unknown test change es keeps h = tt
+kept_changed places.InOrder test change es keeps h = order_changed 0 test change es keeps h
+kept_changed (places.Indexed x) test change es keeps h = record { ascending = h.ascending; found = found_changed (number_in x.value) test change _ es keeps h.found }
 
 found_mapped : (found : ℕ → Option ℕ) (change : Entry → Entry) (ns : List ℕ) (es : List Entry) → KeepsKey change → AreFound found ns es → AreFound found ns (map change es)
 found_mapped found change [] [] keeps h = h
@@ -236,6 +257,13 @@ found_mapped found change [] (e ∷ es) keeps h = absurd (h)
 found_mapped found change (n ∷ ns) [] keeps h = absurd (h)
 found_mapped found change (n ∷ ns) (e ∷ es) keeps h = (ap found (keeps e) ∙ h.0, found_mapped found change ns es keeps h.1)
 
-pub kept_mapped : (index : Kept) (change : Entry → Entry) (es : List Entry) → KeepsKey change → AreKept index es → AreKept index (map change es)
-kept_mapped None change es keeps h = tt
-kept_mapped (Some x) change es keeps h = record { ascending = h.ascending; found = found_mapped (number_in x.value) change _ es keeps h.found }
+order_mapped : (low : ℕ) (change : Entry → Entry) (es : List Entry) → KeepsKey change → AscendFrom low es → AscendFrom low (map change es)
+order_mapped low change [] keeps h = h
+order_mapped low change (e ∷ es) keeps h =
+    let rest : AscendFrom (suc (end_key e)) (map change es) = order_mapped (suc (end_key e)) change es keeps h.1 in
+    rw (keeps e) (h.0, rest)
+
+pub kept_mapped : (index : Places) (change : Entry → Entry) (es : List Entry) → KeepsKey change → AreKept index es → AreKept index (map change es)
+kept_mapped places.Unknown change es keeps h = tt
+kept_mapped places.InOrder change es keeps h = order_mapped 0 change es keeps h
+kept_mapped (places.Indexed x) change es keeps h = record { ascending = h.ascending; found = found_mapped (number_in x.value) change _ es keeps h.found }

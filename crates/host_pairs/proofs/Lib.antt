@@ -9,6 +9,7 @@ pub mod LinkLemmas
 pub mod ListenerLemmas
 pub mod NoticeLemmas
 pub mod OpeningLemmas
+pub mod OrderLemmas
 pub mod ParcelLemmas
 pub mod QueueLemmas
 pub mod ReadLemmas

@@ -10,6 +10,7 @@ ghost use Rattle.host_pairs.specs.Data.{spent};
 ghost use Rattle.host_pairs.specs.Entries.{called_off, changed_at, changed_first, closed_by_partner, closed_when, cls_of, ending};
 ghost use Rattle.host_pairs.specs.Entries.{entry_at, is_at, is_due, is_mine_on, is_over, must_close, receives_on, sends_on};
 ghost use Rattle.host_pairs.specs.Inside.Clauses.{IsFoundAt};
+ghost use Rattle.host_pairs.specs.Inside.Index.{AreInOrder};
 ghost use Rattle.host_pairs.specs.Inside.Held.{AreHeld, has_bits, is_where, none_but, waits};
 ghost use Rattle.host_pairs.specs.Outgoing.{end_at};
 ghost use Rattle.host_pairs.specs.Parcels as parcels;
@@ -22,7 +23,7 @@ use crate::ends::{
     sweep, tell_endings,
 };
 use crate::entry::{Closing, Entry};
-use crate::index::{Index, add_to, find_in, learn, remove_from};
+use crate::index::{Places, add_to, learn, remove_from, thin_out};
 use crate::outgoing::lowest_link;
 use crate::queue::Queue;
 use bit_messages::Bits;
@@ -107,13 +108,15 @@ impl Few {
 ///
 /// Those that have gone are before the others until they are more than half, and go all at once then. Beside them it
 /// is remembered where an end waits to close, where one is over, and where bits wait to be sent, and many ends have an
-/// index by their sockets. So the first end goes at once, and one that closes is found at once, however many there are.
+/// index by their sockets, where they aren't in order of them. So the first end goes at once, and one that closes is found
+/// at once, however many there are. Ends mostly have their turns in order, so one is looked for where the last one was.
 #[derive(Drop)]
 pub struct Ends {
     ends: Vec<Entry>,
     gone: usize,
     alloc: Global,
-    index: Option<Box<Index>>,
+    places: Places,
+    recent: usize,
     due: Few,
     over: Few,
     bits: Few,
@@ -128,7 +131,7 @@ impl Model for Ends {
 
     ghost view = { λ a. drop a.gone a.ends.items };
 
-    ghost invariant = { λ a. AreHeld a.gone a.index a.due a.over a.bits a.ends.items };
+    ghost invariant = { λ a. AreHeld a.gone a.places a.due a.over a.bits a.ends.items };
 }
 
 impl Ends {
@@ -140,7 +143,8 @@ impl Ends {
             ends: Vec::new(alloc),
             gone: 0,
             alloc,
-            index: None,
+            places: Places::InOrder,
+            recent: 0,
             due: Few::Nowhere,
             over: Few::Nowhere,
             bits: Few::Nowhere,
@@ -165,20 +169,33 @@ impl Ends {
             end.is_over(),
             !end.bits.is_empty(),
         );
+        let stay_in_order = self.stay_in_order(&end);
         self.ends.push(end)?;
         self.due = self.due.joined(at, due);
         self.over = self.over.joined(at, over);
         self.bits = self.bits.joined(at, bits);
-        add_to(&mut self.index, own, foreign);
-        self.learn();
+        let is_wanted = add_to(&mut self.places, stay_in_order, own, foreign);
+        self.learn(is_wanted);
         Ok(())
     }
 
-    /// Makes an index of the ends where they have become many.
-    fn learn(&mut self)
+    /// Returns whether the ends are in order of their sockets with one more after them.
+    fn stay_in_order(&self, end: &Entry) -> bool
+        ensures { OnTrue result (AreInOrder (self.now ++ end.now ∷ [])) }
+    {
+        self.places.stay_in_order(&self.ends[self.gone..], end)
+    }
+
+    /// Makes an index of the ends where they have become many, or where it is wanted at once.
+    fn learn(&mut self, is_wanted: bool)
         ensures { self.new ≡ self.old }
     {
-        learn(&mut self.index, self.alloc, &self.ends[self.gone..]);
+        learn(
+            &mut self.places,
+            self.alloc,
+            &self.ends[self.gone..],
+            is_wanted,
+        );
     }
 }
 
@@ -238,7 +255,8 @@ impl Ends {
         if is_first(ends, own, foreign) {
             return Some(0);
         }
-        first_among(ends, find_in(&self.index, own, foreign), own, foreign)
+        let few = self.places.find(ends, self.recent, own, foreign);
+        first_among(ends, few, own, foreign)
     }
 }
 
@@ -250,6 +268,7 @@ impl Ends {
         ensures { self.new ≡ changed_at own foreign (asked_on_link stamp link) self.old }
     {
         if let Some(at) = self.place(own, foreign) {
+            self.recent = at;
             let end = &mut self.ends[self.gone + at];
             end.partner = Some(stamp);
             end.link = Some(link);
@@ -261,6 +280,7 @@ impl Ends {
         ensures { self.new ≡ changed_at own foreign (asked_with_size stamp size) self.old }
     {
         if let Some(at) = self.place(own, foreign) {
+            self.recent = at;
             let end = &mut self.ends[self.gone + at];
             end.partner = Some(stamp);
             end.size = Some(size);
@@ -272,6 +292,7 @@ impl Ends {
         ensures { self.new ≡ changed_at own foreign (asked_at stamp) self.old }
     {
         if let Some(at) = self.place(own, foreign) {
+            self.recent = at;
             let end = &mut self.ends[self.gone + at];
             end.asked = Some(stamp);
         }
@@ -282,6 +303,7 @@ impl Ends {
         ensures { self.new ≡ changed_at own foreign cls_sent self.old }
     {
         if let Some(at) = self.place(own, foreign) {
+            self.recent = at;
             let over = self.over.noted(at);
             self.over = over;
             let end = &mut self.ends[self.gone + at];
@@ -294,6 +316,7 @@ impl Ends {
         ensures { self.new ≡ changed_at own foreign closed_by_partner self.old }
     {
         if let Some(at) = self.place(own, foreign) {
+            self.recent = at;
             let due = self.due.noted(at);
             let over = self.over.noted(at);
             self.due = due;
@@ -514,7 +537,7 @@ impl Ends {
         self.ends.drain(..self.gone);
         self.gone = 0;
         sweep(&mut self.ends);
-        self.index = None;
+        thin_out(&mut self.places);
         let (due, bits) = (self.due.left(), self.bits.left());
         self.due = due;
         self.over = Few::Nowhere;
@@ -530,7 +553,7 @@ impl Ends {
         let bits = self.bits.without(at);
         let end = &self.ends[self.gone + at];
         let (own, foreign) = (end.own, end.foreign);
-        remove_from(&mut self.index, at, own, foreign);
+        remove_from(&mut self.places, at, own, foreign);
         self.due = due;
         self.over = over;
         self.bits = bits;

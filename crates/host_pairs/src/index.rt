@@ -1,11 +1,12 @@
-//! Where the end of two sockets is, once a pair of hosts has many ends.
+//! Where the end of two sockets is among the ends of a pair of hosts.
 
-ghost use Rattle.std.specs.Prelude.{◌≡◌, ◌++◌, ◌∷◌, ◌<◌, [], ℕ, List, length, true, slice_index_or};
+ghost use Rattle.std.specs.Prelude.{◌≡◌, ◌++◌, ◌∷◌, ◌<◌, [], ℕ, List, Bool, filter, length, nat_lt, true, false, slice_index_or};
 ghost use Rattle.std.specs.Bool.{OnTrue};
 ghost use Rattle.std.specs.List.{remove};
+ghost use Rattle.std.specs.List.Sorted.{IsPartitionPoint};
 ghost use Rattle.host_pairs.specs.Entries.{is_at};
 ghost use Rattle.host_pairs.specs.Inside.Held.{is_where};
-ghost use Rattle.host_pairs.specs.Inside.Index.{AreIndexed, AreKept, key_of};
+ghost use Rattle.host_pairs.specs.Inside.Index.{AreBelow, AreIndexed, AreInOrder, AreKept, end_key, key_of};
 ghost use Rattle.host_pairs.specs.declared.entry.Entry.{Entry};
 
 use crate::entry::Entry;
@@ -13,7 +14,7 @@ use crate::held::Few;
 use std::alloc::Global;
 use std::collections::{BTreeMap, VecDeque};
 
-/// From how many ends on they have an index.
+/// From how many ends on those that aren't in order have an index.
 const MANY: usize = 32;
 
 /// The ends of a pair by their sockets.
@@ -110,67 +111,188 @@ impl Index {
     }
 }
 
-// ---- ends that may have an index
+// ---- ends in order of their sockets
 
-/// Returns where the end of two sockets is.
-pub(crate) fn find_in(index: &Option<Box<Index>>, own: u32, foreign: u32) -> Few
-    ensures { (es : List Entry) → AreKept index.now es → is_where (is_at own foreign) result es ≡ true }
-{
-    match index {
-        Some(index) => index.find(own, foreign),
-        None => Few::Anywhere,
+impl Entry {
+    /// Returns its two sockets as one number.
+    fn key(&self) -> u64
+        ensures { result ≡ end_key self.now }
+    {
+        key_of(self.own, self.foreign)
     }
 }
 
-/// Adds an end after the others. Ends of which two have the same sockets are left without an index.
-pub(crate) fn add_to(index: &mut Option<Box<Index>>, own: u32, foreign: u32)
-    ensures { (es : List Entry) (e : Entry) → e.own ≡ own → e.foreign ≡ foreign → AreKept index.old es → AreKept index.new (es ++ e ∷ []) }
+/// Returns whether all these ends, which are in order, come before that of two sockets. Only the last one is looked at.
+fn are_before(ends: &[Entry], own: u32, foreign: u32) -> bool
+    requires { AreInOrder ends.now }
+    ensures { OnTrue result (AreBelow (key_of own foreign) ends.now) }
 {
-    let is_added = match index {
-        Some(index) => index.add(own, foreign),
-        None => false,
+    if ends.is_empty() {
+        return true;
+    }
+    let last = &ends[ends.len() - 1];
+    last.key() < key_of(own, foreign)
+}
+
+/// Returns whether the end at a place is that of two sockets.
+fn is_there(ends: &[Entry], at: usize, own: u32, foreign: u32) -> bool
+    ensures { OnTrue result ((at < length ends.now) × ((d : Entry) → is_at own foreign (slice_index_or ends.now at d) ≡ true)) }
+{
+    if at >= ends.len() {
+        return false;
+    }
+    let end = &ends[at];
+    end.is_at(own, foreign)
+}
+
+/// Returns how many of these ends, which are in order, come before that of two sockets.
+fn count_before(ends: &[Entry], own: u32, foreign: u32) -> usize
+    requires { AreInOrder ends.now }
+    ensures { IsPartitionPoint (λ e. nat_lt (end_key e) (key_of own foreign) ≡ true) (λ e. nat_lt (end_key e) (key_of own foreign) ≡ false) ends.now result }
+{
+    let key = key_of(own, foreign);
+    ends.partition_point(|e| e.key() < key)
+}
+
+/// Returns where the end of two sockets is among ends in order. It is looked for at this place first, then at the next one.
+#[tactic(auto, using(crate::proofs::OrderLemmas::none_before, crate::proofs::OrderLemmas::only_that, crate::proofs::OrderLemmas::parted))]
+fn find_in_order(ends: &[Entry], near: usize, own: u32, foreign: u32) -> Few
+    requires { AreInOrder ends.now }
+    ensures { is_where (is_at own foreign) result ends.now ≡ true }
+{
+    if is_there(ends, near, own, foreign) {
+        return Few::At(near);
+    }
+    let next = near.saturating_add(1);
+    if is_there(ends, next, own, foreign) {
+        return Few::At(next);
+    }
+    if are_before(ends, own, foreign) {
+        return Few::Nowhere;
+    }
+    Few::At(count_before(ends, own, foreign))
+}
+
+// ---- what is known of the ends of a pair
+
+/// What is known of the places of a pair's ends.
+#[derive(Drop)]
+pub(crate) enum Places {
+    /// Nothing.
+    Unknown,
+    /// They are in order of their sockets.
+    InOrder,
+    /// They have an index.
+    Indexed(Box<Index>),
+}
+
+impl Places {
+    /// Returns where the end of two sockets is. In ends that are in order it is looked for near a place first.
+    pub(crate) fn find(&self, ends: &[Entry], near: usize, own: u32, foreign: u32) -> Few
+        requires { AreKept self.now ends.now }
+        ensures { is_where (is_at own foreign) result ends.now ≡ true }
+    {
+        match self {
+            Places::Unknown => Few::Anywhere,
+            Places::InOrder => find_in_order(ends, near, own, foreign),
+            Places::Indexed(index) => index.find(own, foreign),
+        }
+    }
+
+    /// Returns whether these ends are in order with one more after them. They are where it is the only one.
+    pub(crate) fn stay_in_order(&self, ends: &[Entry], end: &Entry) -> bool
+        requires { AreKept self.now ends.now }
+        ensures { OnTrue result (AreInOrder (ends.now ++ end.now ∷ [])) }
+    {
+        match self {
+            Places::InOrder => are_before(ends, end.own, end.foreign),
+            Places::Unknown | Places::Indexed(_) => ends.is_empty(),
+        }
+    }
+}
+
+/// Adds an end after the others to their index, if there is one. Ends of which two have the same sockets are left without an
+/// index.
+fn add_to_index(places: &mut Places, own: u32, foreign: u32)
+    ensures { (es : List Entry) (e : Entry) → e.own ≡ own → e.foreign ≡ foreign → AreKept places.old es → AreKept places.new (es ++ e ∷ []) }
+{
+    let is_added = match places {
+        Places::Indexed(index) => index.add(own, foreign),
+        Places::InOrder | Places::Unknown => false,
     };
     if !is_added {
-        *index = None;
+        *places = Places::Unknown;
     }
+}
+
+/// Adds an end after the others, and returns whether they were in order before, and aren't any more.
+pub(crate) fn add_to(places: &mut Places, stay_in_order: bool, own: u32, foreign: u32) -> bool
+    ensures { (es : List Entry) (e : Entry) → e.own ≡ own → e.foreign ≡ foreign → OnTrue stay_in_order (AreInOrder (es ++ e ∷ [])) → AreKept places.old es → AreKept places.new (es ++ e ∷ []) }
+{
+    if stay_in_order {
+        *places = Places::InOrder;
+        return false;
+    }
+    let were_in_order = matches!(places, Places::InOrder);
+    add_to_index(places, own, foreign);
+    were_in_order
 }
 
 /// Removes the end at a place, which has these sockets. Once there are none, there is no index either.
-pub(crate) fn remove_from(index: &mut Option<Box<Index>>, at: usize, own: u32, foreign: u32)
-    ensures { (es : List Entry) (e : Entry) → at < length es → e ≡ slice_index_or es at e → e.own ≡ own → e.foreign ≡ foreign → AreKept index.old es → AreKept index.new (remove es at) }
+#[tactic(auto, using(crate::proofs::OrderLemmas::order_removed))]
+pub(crate) fn remove_from(places: &mut Places, at: usize, own: u32, foreign: u32)
+    ensures { (es : List Entry) (e : Entry) → at < length es → e ≡ slice_index_or es at e → e.own ≡ own → e.foreign ≡ foreign → AreKept places.old es → AreKept places.new (remove es at) }
 {
-    let is_empty = match index {
-        Some(index) => {
+    let is_empty = match places {
+        Places::Indexed(index) => {
             index.remove(at, own, foreign);
             index.numbers.is_empty()
         }
-        None => true,
+        Places::InOrder | Places::Unknown => return,
     };
     if is_empty {
-        *index = None;
+        *places = Places::Unknown;
+    }
+}
+
+/// Forgets the index, if there is one, since some of the ends have gone. Those that are left are still in order.
+#[tactic(auto, using(crate::proofs::OrderLemmas::order_left))]
+pub(crate) fn thin_out(places: &mut Places)
+    ensures { (stays : Entry → Bool) (es : List Entry) → AreKept places.old es → AreKept places.new (filter stays es) }
+{
+    match places {
+        Places::Indexed(_) => *places = Places::Unknown,
+        Places::InOrder | Places::Unknown => {}
     }
 }
 
 /// Returns the index of these ends, if no two of them have the same sockets.
-fn index_of(alloc: Global, ends: &[Entry]) -> Option<Box<Index>>
+fn index_of(alloc: Global, ends: &[Entry]) -> Places
     ensures { AreKept result ends.now }
 {
     let mut index = Index::new(alloc);
     for end in ends {
         if !index.add(end.own, end.foreign) {
-            return None;
+            return Places::Unknown;
         }
     }
-    Box::new(alloc, index).ok()
+    let Ok(index) = Box::new(alloc, index) else {
+        return Places::Unknown;
+    };
+    Places::Indexed(index)
 }
 
-/// Makes an index of ends without one, where they are many: at 32 of them, and at twice as many each time.
-pub(crate) fn learn(index: &mut Option<Box<Index>>, alloc: Global, ends: &[Entry])
-    requires { AreKept index.old ends.now }
-    ensures { AreKept index.new ends.now }
+/// Makes an index of ends of whose places nothing is known, where they are many: at 32 of them, at twice as many each time,
+/// and at once where it is wanted.
+pub(crate) fn learn(places: &mut Places, alloc: Global, ends: &[Entry], is_wanted: bool)
+    requires { AreKept places.old ends.now }
+    ensures { AreKept places.new ends.now }
 {
     let count = ends.len();
-    if index.is_none() && count >= MANY && count.is_power_of_two() {
-        *index = index_of(alloc, ends);
+    if matches!(places, Places::Unknown)
+        && count >= MANY
+        && (is_wanted || count.is_power_of_two())
+    {
+        *places = index_of(alloc, ends);
     }
 }

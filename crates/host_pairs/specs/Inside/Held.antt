@@ -3,7 +3,8 @@ use Rattle.std.specs.Prelude.{◌≡◌, ℕ, ◌≤◌, Bool, true, not, ◌==�
 use Rattle.std.specs.List.{list_any}
 use Rattle.host_pairs.specs.Entries.{is_due, is_over}
 use Rattle.host_pairs.specs.declared.entry.Entry.{Entry}
-use Rattle.host_pairs.specs.Inside.Index.{AreKept, Kept}
+use Rattle.host_pairs.specs.Inside.Index.{AreKept}
+use Rattle.host_pairs.specs.declared.index.Places.{Places}
 use Rattle.host_pairs.specs.declared.held.Few.{Few}
 use Rattle.host_pairs.specs.declared.held.Few.TheVariants as few
 
@@ -27,9 +28,9 @@ is_where mark (few.At at) es = none_but mark at es
 is_where mark few.Anywhere es = true
 
 -- all that is remembered, of the ends after those that have gone
-pub record AreHeld (gone : ℕ) (index : Kept) (due over bits : Few) (ends : List Entry) : Type 0 where
+pub record AreHeld (gone : ℕ) (known : Places) (due over bits : Few) (ends : List Entry) : Type 0 where
   pub within : gone ≤ length ends
-  pub indexed : AreKept index (drop gone ends)
+  pub indexed : AreKept known (drop gone ends)
   pub closing : is_where waits due (drop gone ends) ≡ true
   pub ending : is_where is_over over (drop gone ends) ≡ true
   pub sending : is_where has_bits bits (drop gone ends) ≡ true

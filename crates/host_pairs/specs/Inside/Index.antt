@@ -1,10 +1,11 @@
 -- Where the end of two sockets is, once a pair of hosts has many ends.
-use Rattle.std.specs.Prelude.{◌≡◌, ℕ, ◌+◌, ◌*◌, ◌≤◌, List, [], ◌∷◌, Option, Some, MatchOption, suc}
+use Rattle.std.specs.Prelude.{◌≡◌, ℕ, ◌+◌, ◌*◌, ◌<◌, ◌≤◌, List, [], ◌∷◌, Option, Some, suc}
 use Rattle.std.specs.BTreeMap.{get}
-use Rattle.std.specs.Global.{Box}
 use Rattle.std.specs.Ordering.{nat_cmp}
 use Rattle.host_pairs.specs.declared.entry.Entry.{Entry}
 use Rattle.host_pairs.specs.declared.index.Index.{Index}
+use Rattle.host_pairs.specs.declared.index.Places.{Places}
+use Rattle.host_pairs.specs.declared.index.Places.TheVariants as places
 
 -- two sockets as one number
 abbrev pub key_of : ℕ → ℕ → ℕ
@@ -33,10 +34,21 @@ pub record AreIndexed (x : Index) (es : List Entry) : Type 0 where
   pub ascending : Ascend 0 x.numbers.items x.next
   pub found : AreFound (number_in x) x.numbers.items es
 
--- an index, or none
-abbrev pub Kept : Type 0
-Kept = Option (Box Index)
+-- the sockets of these ends ascend, from this number on
+abbrev pub AscendFrom : ℕ → List Entry → Type 0
+AscendFrom low [] = Unit {0}
+AscendFrom low (e ∷ es) = (low ≤ end_key e) × AscendFrom (suc (end_key e)) es
 
--- ends that have an index are in it
-abbrev pub AreKept : Kept → List Entry → Type 0
-AreKept index es = MatchOption index (Unit {0}) (λ x. AreIndexed x.value es)
+abbrev pub AreInOrder : List Entry → Type 0
+AreInOrder es = AscendFrom 0 es
+
+-- the sockets of each of these ends come before a number
+abbrev pub AreBelow : ℕ → List Entry → Type 0
+AreBelow key [] = Unit {0}
+AreBelow key (e ∷ es) = (end_key e < key) × AreBelow key es
+
+-- what is known of the places of the ends is true
+abbrev pub AreKept : Places → List Entry → Type 0
+AreKept places.Unknown es = Unit {0}
+AreKept places.InOrder es = AreInOrder es
+AreKept (places.Indexed x) es = AreIndexed x.value es
