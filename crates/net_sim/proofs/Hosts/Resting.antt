@@ -130,10 +130,10 @@ module _ {C : Type 0} (calls : Calls C) where
   offer_leaves : (h : Host) (w : WorldState C) → w.stopped ≡ false → AllOfferNothing calls w.carrier w.seats → Leaves calls w (Offer h)
   offer_leaves h w running all =
       let g = seat_gives (λ x r. OfferGives calls h x (next_out x) w r w) (seat_of h w.seats) w
-              (λ seat s found is. next_goes h w s (offer_goes h w s (next_out s) running (found_of (OffersNothing calls w.carrier) h seat w.seats all found s is))) in
+      (λ seat s found is. next_goes h w s (offer_goes h w s (next_out s) running (found_of (OffersNothing calls w.carrier) h seat w.seats all found s is))) in
       record { answer = g.answer; step = running_by (EventGives calls w (Offer h) g.answer w) w g.answer g.gives w.stopped running; continues = g.on }
 
-  rests_by : (w : WorldState C) → w.stopped ≡ false → Rests calls.rounds calls.takes w.carrier → AllOfferNothing calls w.carrier w.seats → IsAtRest calls w
+  pub rests_by : (w : WorldState C) → w.stopped ≡ false → Rests calls.rounds calls.takes w.carrier → AllOfferNothing calls w.carrier w.seats → IsAtRest calls w
   rests_by w running rest all = record {
     running = running;
     round = round_leaves w running rest;
