@@ -1,6 +1,6 @@
 //! Hosts with their programs over a carrier.
 
-ghost use Rattle.std.specs.Prelude.{◌≡◌, true, false, List, [], IfOk, OnOk, All};
+ghost use Rattle.std.specs.Prelude.{◌≡◌, false, List, [], IfOk, OnOk, All};
 ghost use Rattle.interface.specs.Host.{IsAddress};
 ghost use Rattle.net_sim.specs.Carriers.{shown};
 ghost use Rattle.net_sim.specs.Clean.{IsLawful};

@@ -15,7 +15,7 @@ use Rattle.sockets.specs.Sending.{next_out}
 use Rattle.net_sim.specs.Carriers.{shown}
 use Rattle.net_sim.specs.Inside.Calm.{AllOfferNothing, OffersNothing}
 use Rattle.net_sim.specs.Rest.{IsAtRest, Leaves}
-use Rattle.net_sim.specs.World.{WorldState, WorldFault, Carrier, Event, Quiet, Offer, Take, Seat, seat_of, Refuses, OfferEnds, OfferGives, TakeGives, AtSeat, EventGives, StepGives, stops, Repeats, TurnsOf, up_in, Calms}
+use Rattle.net_sim.specs.World.{WorldState, WorldFault, Carrier, Quiet, Offer, Take, Seat, seat_of, Refuses, OfferGives, TakeGives, AtSeat, EventGives, stops, Repeats, TurnsOf, up_in, Calms}
 use Rattle.net_sim.proofs.Hosts.Calming.{Passed, none_repeated}
 
 -- ---- what a carrier shows that rests

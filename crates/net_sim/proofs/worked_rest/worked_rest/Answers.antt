@@ -12,7 +12,7 @@ use Rattle.sockets.specs.Sending.{next_out}
 use Rattle.sockets.specs.Worked.{first, second}
 use Rattle.sockets.specs.declared.request.Request.TheVariants as request
 use Rattle.net_sim.specs.World.{QuietEnds, Seat, WorldFault, stops}
-use Rattle.net_sim.specs.Worked.{accepting_carrier, any_carrier, busy, fresh, giving_carrier, spent_carrier}
+use Rattle.net_sim.specs.Worked.{accepting_carrier, any_carrier, busy, fresh, giving_carrier}
 use Rattle.net_sim.proofs.Hosts.Resting.{rests_by}
 use Rattle.net_sim.proofs.Hosts.Unresting.{given_moves, taken_moves}
 use Rattle.net_sim.proofs.worked_rest.worked_rest.Goals as goal
