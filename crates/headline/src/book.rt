@@ -31,7 +31,7 @@ use net_sim::{Book, World};
 /// either, both have the same counters: what was granted and neither used nor returned (`agree`). So it is of every
 /// pair where each message between the two hosts was answered, and neither program has anything to say: no end closes
 /// there, but for a sender that drains (`calm`). So it is of all pairs once no host has anything to say (see
-/// [`World::rests`]), and each message between hosts that are up was answered (`settled`). The crossings determine the
+/// [`World::is_silent`]), and each message between hosts that are up was answered (`settled`). The crossings determine the
 /// bits of all lives (`firsts`): a life's messages are the first on its link after both of its requests, and each
 /// message that went out is one of a sending life.
 ///

@@ -66,8 +66,8 @@ impl Imp {
         }
     }
 
-    /// Returns why a host may not hand over this message.
-    fn from_host_refusal(&self, message: &HostMessage) -> Option<CarrierFault>
+    /// Returns why [`Imp::from_host`] would refuse a message, if it would. This takes no memory.
+    pub fn from_host_refusal(&self, message: &HostMessage) -> Option<CarrierFault>
         ensures { result ≡ offering.from_host_refusal self.now message.now }
     {
         let source = message.flow.source;

@@ -1,9 +1,10 @@
--- When a network rests.
+-- When a network rests, and when it refuses an offer.
 use Rattle.std.specs.Prelude.{◌≡◌, false, Option, Some, None, Result, Ok, Err}
 use Rattle.interface.specs.Host.{Host}
 use Rattle.interface.specs.Calls.{is_halt, is_memory}
 use Rattle.interface.specs.declared.carrier.CarrierFault.{CarrierFault}
 use Rattle.interface.specs.declared.crossing.Inbound.{Inbound}
+use Rattle.interface.specs.declared.message.HostMessage.{HostMessage}
 
 -- what a taking answers that brings nothing: nothing waits for the host, or the taking is refused, though memory lasts
 abbrev pub BringsNothing : Result (Option Inbound) CarrierFault → Type 0
@@ -21,3 +22,9 @@ pub record TakesNothing {C : Type 0} (takes : C → Host → Result (Option Inbo
 pub record Rests {C : Type 0} (rounds : C → Result (Unit {0}) CarrierFault → C → Type 0) (takes : C → Host → Result (Option Inbound) CarrierFault → C → Type 0) (c : C) : Type 0 where
   pub round : rounds c (Ok tt) c
   pub takings : (h : Host) → TakesNothing takes c h
+
+-- an offer of this message may be refused, though memory lasts, and leave the carrier as it is
+pub record RefusesOffer {C : Type 0} (offers : C → HostMessage → Result (Unit {0}) CarrierFault → C → Type 0) (c : C) (m : HostMessage) : Type 0 where
+  pub fault : CarrierFault
+  pub lasts : (is_halt fault ≡ false) × (is_memory fault ≡ false)
+  pub unchanged : offers c m (Err fault) c

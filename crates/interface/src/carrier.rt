@@ -3,7 +3,7 @@
 ghost use Rattle.std.specs.Prelude.{◌≡◌, reverse, true, false};
 ghost use Rattle.interface.specs.Mailboxes.{IsRun};
 ghost use Rattle.interface.specs.Calls.{Calls, InOrder, ShowsOffer, ShowsTake, ShowsStep, ShowsRound};
-ghost use Rattle.interface.specs.Rest.{Rests};
+ghost use Rattle.interface.specs.Rest.{RefusesOffer, Rests};
 
 use crate::{Crossing, HostAddr, HostMessage, Inbound, NetEvent};
 use thiserror::Error;
@@ -87,6 +87,14 @@ pub trait Carrier: Drop {
     fn rests(&self) -> bool
         ensures running { result ≡ true → (calls.seen self.now).stopped ≡ false }
         ensures unchanged { result ≡ true → Rests calls.rounds calls.takes self.now }
+    {
+        false
+    }
+
+    /// Returns whether it is known that an offer of this message would be refused, and leave the network as it is. A
+    /// carrier may answer `false` though it would refuse, and one that doesn't say otherwise does. This takes no memory.
+    fn refuses(&self, message: &HostMessage) -> bool
+        ensures unchanged { result ≡ true → RefusesOffer calls.offers self.now message.now }
     {
         false
     }

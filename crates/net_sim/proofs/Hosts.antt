@@ -10,3 +10,4 @@ pub mod SeatLemmas
 pub mod Seats
 pub mod Serving
 pub mod Telling
+pub mod Unresting

@@ -6,6 +6,7 @@ pub mod Handed
 pub mod World
 pub mod Carriers
 pub mod Silent
+pub mod Rest
 pub mod Worked
 pub mod Story
 pub mod Inside

@@ -1,10 +1,12 @@
 -- Small books and small worlds: words for worked examples.
-use Rattle.std.specs.Prelude.{ℕ, Bool, true, false, List, [], ◌∷◌, replicate}
+use Rattle.std.specs.Prelude.{◌≡◌, ℕ, Bool, true, false, List, [], ◌∷◌, Some, Ok, Err, replicate}
 use Rattle.interface.specs.Calls.{Calls, Seen, ShowsOffer, ShowsTake, ShowsStep, ShowsRound}
 use Rattle.interface.specs.Host.{Host}
+use Rattle.interface.specs.declared.carrier.CarrierFault.TheVariants as fault
 use Rattle.interface.specs.declared.crossing.Answer.TheVariants as answer
 use Rattle.interface.specs.declared.crossing.Crossing.{Crossing}
 use Rattle.interface.specs.declared.crossing.Crossing.TheVariants as crossing
+use Rattle.interface.specs.declared.crossing.Inbound.{Inbound}
 use Rattle.interface.specs.declared.message.HostMessage.{HostMessage}
 use Rattle.sockets.specs.Pairs.{opening_state}
 use Rattle.host_pairs.specs.declared.notice.Notice.TheVariants as notice
@@ -116,6 +118,17 @@ stamp_of n = (n.host, n.place)
 -- a carrier of which no more is known than what it shows
 abbrev pub any_carrier : Calls Seen
 any_carrier = record { seen = λ s. s; offers = ShowsOffer; takes = ShowsTake; steps = ShowsStep; rounds = ShowsRound }
+
+-- one that takes each message that it is offered, and one that has something for each host
+abbrev pub accepting_carrier : Calls Seen
+accepting_carrier = record any_carrier { offers = λ old m r new. (r ≡ Ok tt) × ShowsOffer old m r new }
+
+abbrev pub giving_carrier : Calls Seen
+giving_carrier = record any_carrier { takes = λ old h r new. (i : Inbound) × (r ≡ Ok (Some i)) × ShowsTake old h r new }
+
+-- and one that has no memory for a quiet round
+abbrev pub spent_carrier : Calls Seen
+spent_carrier = record any_carrier { rounds = λ old r new. (r ≡ Err fault.OutOfMemory) × ShowsRound old r new }
 
 -- two hosts that nobody has spoken to
 abbrev pub fresh : WorldState Seen

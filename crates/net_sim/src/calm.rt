@@ -2,7 +2,8 @@
 
 ghost use Rattle.std.specs.Prelude.{◌≡◌, ◌<◌, ℕ, true, false, length, if◌then◌else◌, is_some, slice_get, None, Ok, Some};
 ghost use Rattle.net_sim.specs.Carriers.{shown};
-ghost use Rattle.net_sim.specs.Inside.Calm.{CalmTurn, CarrierRests, Round};
+ghost use Rattle.net_sim.specs.Inside.Calm.{AllOfferNothing, CalmTurn, OffersNothing, OffersNothingAt, Round};
+ghost use Rattle.net_sim.specs.Rest.{IsAtRest};
 ghost use Rattle.net_sim.specs.Silent.{AllSilent, IsSilent, IsSilentAt};
 ghost use Rattle.net_sim.specs.World as world;
 ghost use Rattle.net_sim.specs.World.{CalmGives, Repeats, Offer, Take};
@@ -28,6 +29,20 @@ fn up_here(seats: &[Seat], at: usize) -> Option<HostAddr>
         return None;
     }
     Some(seat.host)
+}
+
+/// Returns whether a host is down, has nothing to say, or is known to be refused what it has to say.
+fn offers_nothing<C: Carrier>(carrier: &C, seat: &Seat) -> bool
+    ensures { result ≡ true → OffersNothing C.calls carrier.now seat.now }
+{
+    let Some(program) = &seat.program else {
+        return true;
+    };
+    match program.next_out() {
+        Ok(Some(message)) => carrier.refuses(&message),
+        Ok(None) => true,
+        Err(_) => false,
+    }
 }
 
 /// Returns whether each host that is up has nothing to say.
@@ -87,30 +102,59 @@ impl<C: Carrier> World<C> {
         Ok(())
     }
 
-    /// Returns whether more rounds of a calm are known to change nothing: the network is known to rest, and no host
-    /// that is up has anything to say.
+    /// Returns whether more rounds of a calm are known to change nothing: the network is known to rest, and each host
+    /// that is up has nothing to say, or is known to be refused what it has to say.
     pub fn rests(&self) -> bool
+        ensures rest { result ≡ true → IsAtRest (shown C.calls) self.now }
         ensures unchanged { result ≡ true → (times : ℕ) → CalmGives (shown C.calls) times self.now (Ok tt) self.now }
         ensures running { result ≡ true → self.now.stopped ≡ false }
-        ensures silent { result ≡ true → AllSilent self.now.seats }
     {
         self.has_calmed(self.book().crossings().len())
     }
 
-    /// Returns whether another round would change nothing: nothing has crossed since the book had this many crossings,
-    /// the network is known to rest, and no host that is up has anything to say.
+    /// Returns whether it is known that no host that is up has anything to say.
+    pub fn is_silent(&self) -> bool
+        ensures { result ≡ true → AllSilent self.now.seats }
+    {
+        all_silent(self.seats())
+    }
+
+    /// Returns whether another round is known to change nothing: nothing has crossed since the book had this many
+    /// crossings, the network is known to rest, and no host has a message that it might take.
     fn has_calmed(&self, before: usize) -> bool
-        ensures running { result ≡ true → self.now.stopped ≡ false }
-        ensures carrier { result ≡ true → CarrierRests (shown C.calls) self.now.carrier }
-        ensures silent { result ≡ true → AllSilent self.now.seats }
+        ensures { result ≡ true → IsAtRest (shown C.calls) self.now }
     {
         if self.book().crossings().len() > before {
             return false;
         }
-        if !self.carrier_rests() {
+        if self.is_stopped() {
             return false;
         }
-        all_silent(self.seats())
+        if !self.carrier().rests() {
+            return false;
+        }
+        self.all_offer_nothing()
+    }
+
+    /// Returns whether each host is down, has nothing to say, or is known to be refused what it has to say.
+    fn all_offer_nothing(&self) -> bool
+        ensures { result ≡ true → AllOfferNothing C.calls self.now.carrier self.now.seats }
+    {
+        let count = self.seats().len();
+        for at in 0..count {
+            if !self.offers_nothing_at(at) {
+                return false;
+            }
+        }
+        true
+    }
+
+    /// Returns the same of the host whose seat is here.
+    fn offers_nothing_at(&self, at: usize) -> bool
+        requires { at < length self.now.seats }
+        ensures { result ≡ true → OffersNothingAt C.calls self.now.carrier self.now.seats at }
+    {
+        offers_nothing(self.carrier(), &self.seats()[at])
     }
 
     /// Passes one quiet round of the network, after which each host that is up has its turn.

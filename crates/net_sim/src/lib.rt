@@ -31,6 +31,7 @@ pub mod worked_formed;
 pub mod worked_moments;
 pub mod worked_reports;
 pub mod worked_resets;
+pub mod worked_rest;
 mod world;
 
 pub use auditing::{

@@ -1,11 +1,10 @@
 //! Hosts with their programs over a carrier.
 
-ghost use Rattle.std.specs.Prelude.{◌≡◌, true, false, List, [], IfOk, OnOk, All};
+ghost use Rattle.std.specs.Prelude.{◌≡◌, false, List, [], IfOk, OnOk, All};
 ghost use Rattle.interface.specs.Host.{IsAddress};
 ghost use Rattle.net_sim.specs.Carriers.{shown};
 ghost use Rattle.net_sim.specs.Clean.{IsLawful};
 ghost use Rattle.net_sim.specs.Handed.{AreUnhanded};
-ghost use Rattle.net_sim.specs.Inside.Calm.{CarrierRests};
 ghost use Rattle.net_sim.specs.Inside.Parts as parts;
 ghost use Rattle.net_sim.specs.Inside.Parts.{IsOnce, hosts_of};
 ghost use Rattle.net_sim.specs.World as world;
@@ -126,17 +125,6 @@ impl<C: Carrier> World<C> {
         ensures { result ≡ self.now.stopped }
     {
         self.stopped
-    }
-
-    /// Returns whether it is known that the carrier rests. A world that has stopped doesn't ask.
-    pub(crate) fn carrier_rests(&self) -> bool
-        ensures running { result ≡ true → self.now.stopped ≡ false }
-        ensures carrier { result ≡ true → CarrierRests (shown C.calls) self.now.carrier }
-    {
-        if self.stopped {
-            return false;
-        }
-        self.carrier.rests()
     }
 
     /// Lets one event happen, or refuses it.

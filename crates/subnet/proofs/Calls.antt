@@ -17,6 +17,7 @@ pub mod Owning
 pub mod Passes
 pub mod Putting
 pub mod Resending
+pub mod Refusing
 pub mod Restful
 pub mod Resting
 pub mod RoundMemory

@@ -51,6 +51,30 @@ impl Parts {
         Ok(())
     }
 
+    /// Returns why an offer of this message would be refused, if it would be. No message was begun with a number above
+    /// `highest`.
+    pub(crate) fn offer_refusal(
+        &self,
+        message: &HostMessage,
+        highest: Number,
+    ) -> Option<CarrierFault>
+        requires sound { IsSound self.now }
+        requires numbers { NumbersUpTo highest self.now }
+        ensures { result ≡ events.offer_refusal self.now message.now }
+    {
+        let source = message.flow.source;
+        if !self.is_there(&source) {
+            return Some(CarrierFault::NoSuch);
+        }
+        if self.is_in_the_way(&message.flow, highest) {
+            return Some(CarrierFault::StillAlive);
+        }
+        match self.imp(source.imp()) {
+            Some(imp) => imp.from_host_refusal(message),
+            None => Some(CarrierFault::IsDown),
+        }
+    }
+
     /// Returns whether an offer would begin a number of this flow while the number that lies too far before the last
     /// one is alive, or while the destination's IMP keeps the number that would be begun.
     fn is_in_the_way(&self, flow: &Flow, highest: Number) -> bool

@@ -2,12 +2,12 @@
 
 ghost use Rattle.std.specs.Prelude.{◌≡◌, ◌+◌, ◌<◌, ◌≤◌, ◌&&◌, true, false, reverse, None, Ok, All, IfSome, IfOk, length, slice_index_or};
 ghost use Rattle.interface.specs.Host.{most_imps};
-ghost use Rattle.interface.specs.Rest.{Rests};
+ghost use Rattle.interface.specs.Rest.{RefusesOffer, Rests};
 ghost use Rattle.subnet.specs.Inside.Calling.{AreLive, SameLog, runs_out};
 ghost use Rattle.subnet.specs.Inside.Remembering.{is_refused};
 ghost use Rattle.subnet.specs.Routed.{IsHostMessage};
 ghost use Rattle.subnet.specs.Alive.{is_alive};
-ghost use Rattle.subnet.specs.Calls.{running, round_grows};
+ghost use Rattle.subnet.specs.Calls.{refusal_of, running, round_grows};
 ghost use Rattle.subnet.specs.Events as events;
 ghost use Rattle.subnet.specs.Opening as start;
 ghost use Rattle.subnet.specs.Working.{IsWorking, subnet_calls, SubnetOffer, SubnetTake, SubnetStep, SubnetRound};
@@ -87,6 +87,16 @@ impl Subnet {
         ensures { result ≡ is_alive self.now.net flow.now number }
     {
         self.parts.is_alive(flow, number)
+    }
+
+    /// Returns why an offer of this message would be refused, if it would be. This takes no memory.
+    pub fn offer_refusal(&self, message: &HostMessage) -> Option<CarrierFault>
+        ensures { result ≡ refusal_of self.now (λ n. events.offer_refusal n message.now) }
+    {
+        if self.stopped {
+            return Some(CarrierFault::Stopped);
+        }
+        self.parts.offer_refusal(message, self.highest)
     }
 
     /// Returns whether running out of memory has stopped it. Its log is a run, and until then it is whole.
@@ -177,6 +187,14 @@ impl Subnet {
         self.parts.all_take_nothing()
     }
 
+    /// Returns whether an offer of this message is refused, and changes nothing.
+    #[tactic(auto, using(crate::proofs::Calls::Refusing::refused_offer))]
+    fn refuses_offer(&self, message: &HostMessage) -> bool
+        ensures { result ≡ true → RefusesOffer SubnetOffer self.now message.now }
+    {
+        !self.has_stopped() && self.offer_refusal(message).is_some()
+    }
+
     /// Lets one round pass, in which what is in transit moves on. A subnet that rests is left as it is.
     #[tactic(auto, using(crate::proofs::Calls::Working::round_done, crate::proofs::Calls::Working::rested_round))]
     fn round(&mut self) -> Result<(), CarrierFault>
@@ -250,6 +268,11 @@ impl Carrier for Subnet {
     /// distances to announce. What is sent again then is lost, at ends that are down.
     fn rests(&self) -> bool {
         self.is_at_rest()
+    }
+
+    /// It is known of each message, by [`Subnet::offer_refusal`].
+    fn refuses(&self, message: &HostMessage) -> bool {
+        self.refuses_offer(message)
     }
 
     fn log(&self) -> &[Crossing] {

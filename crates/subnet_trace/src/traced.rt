@@ -72,6 +72,10 @@ impl Carrier for TracedSubnet {
         self.subnet.rests()
     }
 
+    fn refuses(&self, message: &HostMessage) -> bool {
+        self.subnet.refuses(message)
+    }
+
     fn log(&self) -> &[Crossing] {
         self.subnet.log()
     }

@@ -4,7 +4,7 @@ use Rattle.std.proofs.lemmas.Bool.{cases_lt}
 use Rattle.std.proofs.lemmas.List.{append_assoc, append-nil}
 use Rattle.std.specs.Io.KnownBytes.{Appends}
 use Rattle.interface.specs.Calls.{Calls}
-use Rattle.net_sim.specs.Carriers.{shown}
+use Rattle.net_sim.specs.Rest.{IsAtRest}
 use Rattle.net_sim.specs.World.{WorldState}
 use Rattle.net_sim.specs.declared.event.Event.{Event}
 use Rattle.net_sim.specs.declared.event.Event.TheVariants.{Quiet}
@@ -17,7 +17,7 @@ use Rattle.trace.specs.declared.element.Spot.{Spot}
 use Rattle.world_replay.proofs.lemmas.{when_false, when_true}
 use Rattle.world_replay.specs.Rounds.{Again, EndsAgain, EndsRepeated, Repeated, crosses, turns_in}
 use Rattle.world_script.specs.declared.event.WorldEvent.TheVariants as world
-use Rattle.world_trace.specs.Steps.{AgainEnds, EndsRoundAt, EventEnds, IsAtRest, RoundEnds, StepEnds}
+use Rattle.world_trace.specs.Steps.{AgainEnds, EndsRoundAt, EventEnds, RoundEnds, StepEnds}
 use Rattle.world_trace.specs.Traces.{MayTell, StopsOne, TellsInCalm, TellsRound, first_rounds}
 use Rattle.world_trace.proofs.Resting.{round_rests}
 use Rattle.world_trace.proofs.Telling.{SoFar, all_done, ends_so, fails_so, no_line, none_yet}
@@ -174,21 +174,21 @@ first_of passed (suc rounds) lt = elim (cases_lt passed rounds) [
 ]
 
 -- further rounds, which leave all as it is
-rested : {C : Type 0} (own : Calls C) (members : C → List (List ℕ)) (spot : Spot) (left passed rounds : ℕ) (old now : WorldState C) (a b : Option (List ℕ)) → passed + left ≡ rounds → IsAtRest own now → Passed (shown own) members spot passed old now a b
-    → Passed (shown own) members spot rounds old now a b
-rested own members spot zero passed rounds old now a b all rest h =
+rested : {C : Type 0} (calls : Calls C) (members : C → List (List ℕ)) (spot : Spot) (left passed rounds : ℕ) (old now : WorldState C) (a b : Option (List ℕ)) → passed + left ≡ rounds → IsAtRest calls now → Passed calls members spot passed old now a b
+    → Passed calls members spot rounds old now a b
+rested calls members spot zero passed rounds old now a b all rest h =
     let same : passed ≡ rounds = omega (arith, all) in
-    subst (λ n. Passed (shown own) members spot n old now a b) same h
-rested own members spot (suc left) passed rounds old now a b all rest h =
+    subst (λ n. Passed calls members spot n old now a b) same h
+rested calls members spot (suc left) passed rounds old now a b all rest h =
     let more : passed + 1 + left ≡ rounds = omega (arith, all) in
-    rested own members spot left (passed + 1) rounds old now a b more rest
-    (one_passed (shown own) members spot passed old now now a b b h (no_line (TellsRound (shown own) members spot now (passed + 1) now) b (round_rests own members spot (passed + 1) now rest)))
+    rested calls members spot left (passed + 1) rounds old now a b more rest
+    (one_passed calls members spot passed old now now a b b h (no_line (TellsRound calls members spot now (passed + 1) now) b (round_rests calls members spot (passed + 1) now rest)))
 
-pub calm_rests : {C : Type 0} (own : Calls C) (members : C → List (List ℕ)) (spot : Spot) (passed rounds : ℕ) (old now : WorldState C) (a b : Option (List ℕ)) → passed ≤ rounds → IsAtRest own now → Passed (shown own) members spot passed old now a b
-    → EventEnds (shown own) members spot old (world.Calm rounds) (Ok tt) now a b
-calm_rests own members spot passed rounds old now a b few rest h =
+pub calm_rests : {C : Type 0} (calls : Calls C) (members : C → List (List ℕ)) (spot : Spot) (passed rounds : ℕ) (old now : WorldState C) (a b : Option (List ℕ)) → passed ≤ rounds → IsAtRest calls now → Passed calls members spot passed old now a b
+    → EventEnds calls members spot old (world.Calm rounds) (Ok tt) now a b
+calm_rests calls members spot passed rounds old now a b few rest h =
     let all : passed + (rounds - passed) ≡ rounds = omega (arith, few) in
-    rested own members spot (rounds - passed) passed rounds old now a b all rest h
+    rested calls members spot (rounds - passed) passed rounds old now a b all rest h
 
 pub calm_passed : {C : Type 0} (calls : Calls C) (members : C → List (List ℕ)) (spot : Spot) (passed rounds : ℕ) (old now : WorldState C) (a b : Option (List ℕ)) → passed ≡ rounds → Passed calls members spot passed old now a b → EventEnds calls members spot old (world.Calm rounds) (Ok tt) now a b
 calm_passed calls members spot passed rounds old now a b all h = subst (λ n. Passed calls members spot n old now a b) all h

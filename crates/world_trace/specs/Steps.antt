@@ -3,7 +3,6 @@ use Rattle.std.specs.Prelude.{◌≡◌, ℕ, ◌≤◌, false, if◌then◌else
 use Rattle.std.specs.Fmt.{decimal}
 use Rattle.std.specs.List.{flat_map}
 use Rattle.interface.specs.declared.crossing.Crossing.{Crossing}
-use Rattle.net_sim.specs.Silent.{AllSilent}
 use Rattle.net_sim.specs.World.{WorldState}
 use Rattle.net_sim.specs.declared.event.Event.{Event}
 use Rattle.net_sim.specs.declared.event.Event.TheVariants as net
@@ -11,7 +10,6 @@ use Rattle.net_sim.specs.declared.seat.Seat.{Seat}
 use Rattle.net_sim.specs.declared.seat.ServiceSeat.{ServiceSeat}
 use Rattle.interface.specs.Host.{Host, same_host}
 use Rattle.interface.specs.Calls.{Calls}
-use Rattle.interface.specs.Rest.{Rests}
 use Rattle.replay.specs.InTurn.{Happening}
 use Rattle.replay.specs.declared.events.ReplayFault.{ReplayFault}
 use Rattle.replay.specs.declared.events.ReplayFault.TheVariants as fault
@@ -188,13 +186,6 @@ pub record IsAsBefore {C : Type 0} (members : C → List (List ℕ)) (old new : 
 abbrev pub IsStill : {C : Type 0} → Calls C → (C → List (List ℕ)) → WorldState C → Event → Type 0
 IsStill {C} calls members old e =
     (new : WorldState C) (shown : List Shown) → HappensInCalm calls old e new shown → length new.kept.book.crossings ≤ length old.kept.book.crossings → IsAsBefore members old new
-
--- a world rests: the carrier does, and no host that is up has anything to say
-pub record IsAtRest {C : Type 0} (calls : Calls C) (w : WorldState C) : Type 0 where
-  pub running : w.stopped ≡ false
-  pub works : (calls.seen w.carrier).stopped ≡ false
-  pub carrier : Rests calls.rounds calls.takes w.carrier
-  pub hosts : AllSilent w.seats
 
 -- ---- endings
 

@@ -2,12 +2,13 @@
 
 ghost use Rattle.std.specs.Prelude.{◌≡◌, ◌++◌, [], IfErr, IfOk, IfSome, OnOk, false, length, map, true};
 ghost use Rattle.net_sim.specs.Carriers.{shown};
+ghost use Rattle.net_sim.specs.Rest.{IsAtRest};
 ghost use Rattle.replay.specs.Failing.{TellsCannotWrite};
 ghost use Rattle.replay.specs.declared.print.Detail.TheVariants.{Sizes};
 ghost use Rattle.world_replay.specs.Rounds as events;
 ghost use Rattle.world_script.specs.declared.event.WorldEvent.TheVariants as world_event;
 ghost use Rattle.world_trace.specs.Steps as step;
-ghost use Rattle.world_trace.specs.Steps.{AgainEnds, AreTextsOf, EventEnds, IsAtRest, IsStill, RoundEnds, ShowsInCalm, StepEnds};
+ghost use Rattle.world_trace.specs.Steps.{AgainEnds, AreTextsOf, EventEnds, IsStill, RoundEnds, ShowsInCalm, StepEnds};
 ghost use Rattle.world_trace.specs.Traces.{MayTell};
 
 use crate::line::{Passed, print_line};
@@ -123,9 +124,9 @@ fn count_crossings<C: Carrier>(world: &World<C>) -> usize
 /// Returns whether the events of more rounds of a calm are known to change nothing: nothing has crossed since the book had this many
 /// crossings, and the world rests.
 fn has_calmed<C: Carrier>(world: &World<C>, before: usize) -> bool
-    ensures { result ≡ true → IsAtRest C.calls world.now }
+    ensures { result ≡ true → IsAtRest (shown C.calls) world.now }
 {
-    count_crossings(world) == before && world.rests() && world.carrier().rests()
+    count_crossings(world) == before && world.rests()
 }
 
 /// Lets the events of a round happen, and prints their lines. `texts` are those of the state.

@@ -49,7 +49,7 @@ asked_crossings h [] k = refl
 asked_crossings h (r ∷ rs) k = asked_crossings h rs (asked h r k)
 
 -- what a program reported, and what its host's services did then
-heard_crossings : (h : Host) (ns : List Notice) (rs : List Request) (k : Kept) → (all_asked h rs (all_told h ns k)).book.crossings ≡ k.book.crossings
+pub heard_crossings : (h : Host) (ns : List Notice) (rs : List Request) (k : Kept) → (all_asked h rs (all_told h ns k)).book.crossings ≡ k.book.crossings
 heard_crossings h ns rs k = asked_crossings h rs (all_told h ns k) ∙ told_crossings h ns k
 
 -- a refusal crosses nothing

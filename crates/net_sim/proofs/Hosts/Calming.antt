@@ -105,7 +105,7 @@ pub shown_count : (k b : Kept) (xs : List Crossing) → b ≡ k → xs ≡ rever
 shown_count k b xs same is = ap (λ (cs : List Crossing). length cs) is ∙ length-reverse b.book.crossings ∙ ap (λ (x : Kept). length x.book.crossings) same
 
 module _ {C : Type 0} (calls : Calls C) where
-  no_halt : {P : Type 0} (c : C) (old : WorldState C) (r : Answer) (new : WorldState C) → stops r ≡ false → Halts c old r new → P
+  pub no_halt : {P : Type 0} (c : C) (old : WorldState C) (r : Answer) (new : WorldState C) → stops r ≡ false → Halts c old r new → P
   no_halt c old r new on h = absurd (apart (stops r) (ap stops h.answer ∙ memory_stops h.fault h.memory) on)
 
   -- the hosts are as they were, and the world runs on

@@ -1,11 +1,11 @@
--- A round that changes nothing: the carrier rests, and no host that is up has anything to say.
-use Rattle.std.proofs.Common.{◌≡◌, ℕ, ◌+◌, ◌-◌, ◌<◌, zero, suc, Bool, true, false, ◌||◌, ◌==◌, List, [], ◌∷◌, length, find, cond, if◌then◌else◌, Option, Some, None, Result, Ok, Err, refl, ap, sym, subst, ◌∙◌, arith}
+-- A world that rests: the carrier does, and no message of a host goes out.
+use Rattle.std.proofs.Common.{◌≡◌, ℕ, ◌+◌, ◌-◌, ◌<◌, zero, suc, Bool, true, false, ◌||◌, ◌==◌, inr, List, [], ◌∷◌, length, find, slice_get, cond, if◌then◌else◌, Option, Some, None, IfSome, Result, Ok, Err, refl, ap, sym, subst, ◌∙◌, arith}
 use Rattle.std.proofs.lemmas.Bool.{eqb-true}
 use Rattle.std.proofs.lemmas.Bool.Decides.{nat_tests}
 use Rattle.std.specs.Bool.{MatchBool}
 use Rattle.interface.specs.Host.{Host, same_host}
-use Rattle.interface.specs.Calls.{Calls, Seen, ShowsTake, halted, is_memory, is_halt}
-use Rattle.interface.specs.Rest.{BringsNothing, Rests, TakesNothing}
+use Rattle.interface.specs.Calls.{Calls, Seen, ShowsOffer, ShowsTake, halted, is_memory, is_halt}
+use Rattle.interface.specs.Rest.{BringsNothing, RefusesOffer, Rests, TakesNothing}
 use Rattle.interface.specs.declared.carrier.CarrierFault.{CarrierFault}
 use Rattle.interface.specs.declared.carrier.CarrierFault.TheVariants as fault
 use Rattle.interface.specs.declared.crossing.Inbound.{Inbound}
@@ -13,9 +13,9 @@ use Rattle.interface.specs.declared.message.HostMessage.{HostMessage}
 use Rattle.sockets.specs.Pairs.{NcpState}
 use Rattle.sockets.specs.Sending.{next_out}
 use Rattle.net_sim.specs.Carriers.{shown}
-use Rattle.net_sim.specs.Inside.Calm.{CarrierRests}
-use Rattle.net_sim.specs.Silent.{IsSilent, IsSilentAt}
-use Rattle.net_sim.specs.World.{WorldState, WorldFault, Carrier, Event, Quiet, Offer, Take, Seat, seat_of, Refuses, OfferGives, TakeGives, AtSeat, EventGives, StepGives, stops, Repeats, TurnsOf, up_in, Calms}
+use Rattle.net_sim.specs.Inside.Calm.{AllOfferNothing, OffersNothing}
+use Rattle.net_sim.specs.Rest.{IsAtRest, Leaves}
+use Rattle.net_sim.specs.World.{WorldState, WorldFault, Carrier, Quiet, Offer, Take, Seat, seat_of, Refuses, OfferGives, TakeGives, AtSeat, EventGives, stops, Repeats, TurnsOf, up_in, Calms}
 use Rattle.net_sim.proofs.Hosts.Calming.{Passed, none_repeated}
 
 -- ---- what a carrier shows that rests
@@ -25,50 +25,54 @@ take_shown s h (Ok None) running nothing = record { running = running; shown = r
 take_shown s h (Ok (Some i)) running nothing = absurd nothing
 take_shown s h (Err f) running nothing = record { when_stopped = running ∙ sym nothing.0; shown = sym (ap (λ (b : Bool). if b then halted s else s) nothing.1) }
 
-pub rest_shown : {C : Type 0} (calls : Calls C) (c : C) → (calls.seen c).stopped ≡ false → Rests calls.rounds calls.takes c → CarrierRests (shown calls) c
+offer_shown : (s : Seen) (m : HostMessage) (f : CarrierFault) → s.stopped ≡ false → (is_halt f ≡ false) × (is_memory f ≡ false) → ShowsOffer s m (Err f) s
+offer_shown s m f running lasts = record { when_stopped = running ∙ sym lasts.0; shown = sym (ap (λ (b : Bool). if b then halted s else s) lasts.1) }
+
+rest_shown : {C : Type 0} (calls : Calls C) (c : C) → (calls.seen c).stopped ≡ false → Rests calls.rounds calls.takes c → Rests (shown calls).rounds (shown calls).takes c
 rest_shown calls c running rest = record {
   round = (rest.round, record { running = running; shown = refl });
   takings = λ h. (let t = rest.takings h in record { answer = t.answer; nothing = t.nothing; unchanged = (t.unchanged, take_shown (calls.seen c) h t.answer running t.nothing) });
 }
 
--- ---- hosts that have nothing to say
+some_shown : {C : Type 0} (calls : Calls C) (c : C) (o : Option HostMessage) → (calls.seen c).stopped ≡ false → IfSome o (λ m. RefusesOffer calls.offers c m) → IfSome o (λ m. RefusesOffer (shown calls).offers c m)
+some_shown calls c None running refuses = tt
+some_shown calls c (Some m) running refuses = record { fault = refuses.fault; lasts = refuses.lasts; unchanged = (refuses.unchanged, offer_shown (calls.seen c) m refuses.fault running refuses.lasts) }
+
+nothing_shown : {C : Type 0} (calls : Calls C) (c : C) (seats : List Seat) → (calls.seen c).stopped ≡ false → AllOfferNothing calls c seats → AllOfferNothing (shown calls) c seats
+nothing_shown calls c seats running all = λ at below seat found s is. some_shown calls c (next_out s) running (all at below seat found s is)
+
+-- ---- a property of all hosts
 
 -- the host at one place more
-one_by : (b : Bool) (seats : List Seat) (k i : ℕ) → (i == k) ≡ b → ((j : ℕ) → j < k → IsSilentAt seats j) → IsSilentAt seats k → i < k + 1 → IsSilentAt seats i
-one_by true seats k i is earlier here below = let same : i ≡ k = eqb-true i k is in subst (IsSilentAt seats) (sym same) here
-one_by false seats k i is earlier here below = earlier i (grind (arith, nat_tests, is, below))
+one_by : (P : ℕ → Type 0) (b : Bool) (k i : ℕ) → (i == k) ≡ b → ((j : ℕ) → j < k → P j) → P k → i < k + 1 → P i
+one_by P true k i is earlier here below = let same : i ≡ k = eqb-true i k is in subst P (sym same) here
+one_by P false k i is earlier here below = earlier i (grind (arith, nat_tests, is, below))
 
-pub one_more : (seats : List Seat) (k : ℕ) (b : Bool) → b ≡ true → ((j : ℕ) → j < k → IsSilentAt seats j) → (b ≡ true → IsSilentAt seats k) → (i : ℕ) → i < k + 1 → IsSilentAt seats i
-one_more seats k b said earlier here = λ i below. one_by (i == k) seats k i refl earlier (here said) below
+pub one_more : (P : ℕ → Type 0) (k : ℕ) (b : Bool) → b ≡ true → ((j : ℕ) → j < k → P j) → (b ≡ true → P k) → (i : ℕ) → i < k + 1 → P i
+one_more P k b said earlier here = λ i below. one_by P (i == k) k i refl earlier (here said) below
 
-silent_by : (h : Host) (x seat : Seat) (seats : List Seat) (b : Bool) → cond b (Some x) (find (λ y. same_host h y.host) seats) ≡ Some seat → IsSilent x
-    → (find (λ y. same_host h y.host) seats ≡ Some seat → IsSilent seat) → IsSilent seat
-silent_by h x seat seats true found first others = let mine : x ≡ seat = cc in subst IsSilent mine first
-silent_by h x seat seats false found first others = others found
+found_by : (P : Seat → Type 0) (h : Host) (x seat : Seat) (seats : List Seat) (b : Bool) → cond b (Some x) (find (λ y. same_host h y.host) seats) ≡ Some seat → P x
+    → (find (λ y. same_host h y.host) seats ≡ Some seat → P seat) → P seat
+found_by P h x seat seats true found first others = let mine : x ≡ seat = cc in subst P mine first
+found_by P h x seat seats false found first others = others found
 
-silent_of : (h : Host) (seat : Seat) (seats : List Seat) → ((at : ℕ) → at < length seats → IsSilentAt seats at) → seat_of h seats ≡ Some seat → IsSilent seat
-silent_of h seat [] all found = absurd (cc)
-silent_of h seat (x ∷ seats) all found =
-    silent_by h x seat seats (same_host h x.host) found (all 0 (omega arith) x refl)
-    (λ f. silent_of h seat seats (λ at lt y got. all (suc at) (omega (arith, lt)) y got) f)
+found_of : (P : Seat → Type 0) (h : Host) (seat : Seat) (seats : List Seat) → ((at : ℕ) → at < length seats → (x : Seat) → slice_get seats at ≡ Some x → P x) → seat_of h seats ≡ Some seat → P seat
+found_of P h seat [] all found = absurd (cc)
+found_of P h seat (x ∷ seats) all found =
+    found_by P h x seat seats (same_host h x.host) found (all 0 (omega arith) x refl)
+    (λ f. found_of P h seat seats (λ at lt y got. all (suc at) (omega (arith, lt)) y got) f)
 
 neither : (a b : Bool) → a ≡ false → b ≡ false → (a || b) ≡ false
 neither true b e n = absurd (cc)
 neither false b e n = n
 
 module _ {C : Type 0} (calls : Calls C) where
-  -- an event that changes nothing, and by which a calm continues
-  record Still (e : Event) (w : WorldState C) : Type 0 where
-    pub answer : Result (Unit {0}) WorldFault
-    pub step : StepGives calls w e answer w
-    pub on : stops answer ≡ false
-
   running_by : (P : Type 0) (w : WorldState C) (r : Result (Unit {0}) WorldFault) → P → (b : Bool) → b ≡ false → MatchBool b (Refuses (Carrier fault.Stopped) w r w) P
   running_by P w r h true is = absurd (cc)
   running_by P w r h false is = h
 
-  quiet_still : (w : WorldState C) → w.stopped ≡ false → Rests calls.rounds calls.takes w.carrier → StepGives calls w Quiet (Ok tt) w
-  quiet_still w running rest = running_by (EventGives calls w Quiet (Ok tt) w) w (Ok tt) (Ok tt, w.carrier, rest.round, (refl, refl)) w.stopped running
+  round_leaves : (w : WorldState C) → w.stopped ≡ false → Rests calls.rounds calls.takes w.carrier → Leaves calls w Quiet
+  round_leaves w running rest = record { answer = Ok tt; step = running_by (EventGives calls w Quiet (Ok tt) w) w (Ok tt) (Ok tt, w.carrier, rest.round, (refl, refl)) w.stopped running; continues = refl }
 
   -- an event at a host that is away is refused
   record Gives (Happens : NcpState → Result (Unit {0}) WorldFault → Type 0) (o : Option Seat) (w : WorldState C) : Type 0 where
@@ -103,35 +107,61 @@ module _ {C : Type 0} (calls : Calls C) where
           on = neither (is_memory f) (is_halt f) nothing.1 nothing.0;
         }
 
-  take_still : (h : Host) (w : WorldState C) → w.stopped ≡ false → TakesNothing calls.takes w.carrier h → Still (Take h) w
-  take_still h w running t =
+  take_leaves : (h : Host) (w : WorldState C) → w.stopped ≡ false → TakesNothing calls.takes w.carrier h → Leaves calls w (Take h)
+  take_leaves h w running t =
       let g = seat_gives (λ x r. TakeGives calls h x w r w) (seat_of h w.seats) w (λ seat s found is. take_goes h w s running t) in
-      record { answer = g.answer; step = running_by (EventGives calls w (Take h) g.answer w) w g.answer g.gives w.stopped running; on = g.on }
+      record { answer = g.answer; step = running_by (EventGives calls w (Take h) g.answer w) w g.answer g.gives w.stopped running; continues = g.on }
 
-  offer_goes : (h : Host) (w : WorldState C) (s : NcpState) (o : Option HostMessage) → next_out s ≡ o → o ≡ None → Goes (λ x r. OfferGives calls h x (next_out x) w r w) s
-  offer_goes h w s o is none = record { answer = Ok tt; happens = subst (λ (m : Option HostMessage). OfferGives calls h s m w (Ok tt) w) (sym (is ∙ none)) (refl, refl); on = refl }
+  -- a message that is refused, or none
+  offer_goes : (h : Host) (w : WorldState C) (s : NcpState) (o : Option HostMessage) → w.stopped ≡ false → IfSome o (λ m. RefusesOffer calls.offers w.carrier m) → Goes (λ x r. OfferGives calls h x o w r w) s
+  offer_goes h w s None running refuses = record { answer = Ok tt; happens = (refl, refl); on = refl }
+  offer_goes h w s (Some m) running refuses =
+      let f : CarrierFault = refuses.fault in
+      let at : Bool → WorldState C = λ b. record w { stopped = b } in
+      record {
+        answer = Err (Carrier f);
+        happens = inr (Err f, w.carrier, refuses.unchanged, (refl, ap at (running ∙ sym refuses.lasts.1)));
+        on = neither (is_memory f) (is_halt f) refuses.lasts.1 refuses.lasts.0;
+      }
 
-  offer_still : (h : Host) (w : WorldState C) → w.stopped ≡ false → ((at : ℕ) → at < length w.seats → IsSilentAt w.seats at) → Still (Offer h) w
-  offer_still h w running silent =
-      let g = seat_gives (λ x r. OfferGives calls h x (next_out x) w r w) (seat_of h w.seats) w (λ seat s found is. offer_goes h w s (next_out s) refl (silent_of h seat w.seats silent found s is)) in
-      record { answer = g.answer; step = running_by (EventGives calls w (Offer h) g.answer w) w g.answer g.gives w.stopped running; on = g.on }
+  next_goes : (h : Host) (w : WorldState C) (s : NcpState) → Goes (λ x r. OfferGives calls h x (next_out s) w r w) s → Goes (λ x r. OfferGives calls h x (next_out x) w r w) s
+  next_goes h w s g = record { answer = g.answer; happens = g.happens; on = g.on }
+
+  offer_leaves : (h : Host) (w : WorldState C) → w.stopped ≡ false → AllOfferNothing calls w.carrier w.seats → Leaves calls w (Offer h)
+  offer_leaves h w running all =
+      let g = seat_gives (λ x r. OfferGives calls h x (next_out x) w r w) (seat_of h w.seats) w
+      (λ seat s found is. next_goes h w s (offer_goes h w s (next_out s) running (found_of (OffersNothing calls w.carrier) h seat w.seats all found s is))) in
+      record { answer = g.answer; step = running_by (EventGives calls w (Offer h) g.answer w) w g.answer g.gives w.stopped running; continues = g.on }
+
+  pub rests_by : (w : WorldState C) → w.stopped ≡ false → Rests calls.rounds calls.takes w.carrier → AllOfferNothing calls w.carrier w.seats → IsAtRest calls w
+  rests_by w running rest all = record {
+    running = running;
+    round = round_leaves w running rest;
+    takings = λ h. take_leaves h w running (rest.takings h);
+    offers = λ h. offer_leaves h w running all;
+  }
 
   -- ---- a calm that changes nothing
 
-  turns_still : (hosts : List Host) (w : WorldState C) → ((h : Host) → Still (Take h) w) → ((h : Host) → Still (Offer h) w) → TurnsOf calls hosts w (Ok tt) w
-  turns_still [] w takes offers = (refl, refl)
-  turns_still (h ∷ hosts) w takes offers =
-      let t = takes h in
-      let o = offers h in
-      let took : Repeats calls (Take h) 16 w (Ok tt) w = none_repeated calls (Take h) 16 0 w w w t.answer (omega arith) (λ r new k. k) t.step t.on (omega arith) in
-      let sent : Repeats calls (Offer h) 32 w (Ok tt) w = none_repeated calls (Offer h) 32 0 w w w o.answer (omega arith) (λ r new k. k) o.step o.on (omega arith) in
-      (Ok tt, w, took, (Ok tt, w, sent, turns_still hosts w takes offers))
+  turns_still : (hosts : List Host) (w : WorldState C) → IsAtRest calls w → TurnsOf calls hosts w (Ok tt) w
+  turns_still [] w rest = (refl, refl)
+  turns_still (h ∷ hosts) w rest =
+      let t : Leaves calls w (Take h) = rest.takings h in
+      let o : Leaves calls w (Offer h) = rest.offers h in
+      let took : Repeats calls (Take h) 16 w (Ok tt) w = none_repeated calls (Take h) 16 0 w w w t.answer (omega arith) (λ r new k. k) t.step t.continues (omega arith) in
+      let sent : Repeats calls (Offer h) 32 w (Ok tt) w = none_repeated calls (Offer h) 32 0 w w w o.answer (omega arith) (λ r new k. k) o.step o.continues (omega arith) in
+      (Ok tt, w, took, (Ok tt, w, sent, turns_still hosts w rest))
 
-  calms_still : (times : ℕ) (w : WorldState C) → w.stopped ≡ false → CarrierRests calls w.carrier → ((at : ℕ) → at < length w.seats → IsSilentAt w.seats at) → Calms calls times w (Ok tt) w
-  calms_still zero w running rest silent = (refl, refl)
-  calms_still (suc times) w running rest silent =
-      let turns : TurnsOf calls (up_in w.seats) w (Ok tt) w = turns_still (up_in w.seats) w (λ h. take_still h w running (rest.takings h)) (λ h. offer_still h w running silent) in
-      (Ok tt, w, quiet_still w running rest, (Ok tt, w, turns, calms_still times w running rest silent))
+  calms_still : (times : ℕ) (w : WorldState C) → IsAtRest calls w → Calms calls times w (Ok tt) w
+  calms_still zero w rest = (refl, refl)
+  calms_still (suc times) w rest =
+      let q : Leaves calls w Quiet = rest.round in
+      let turns : TurnsOf calls (up_in w.seats) w (Ok tt) w = turns_still (up_in w.seats) w rest in
+      (q.answer, w, q.step, rw (q.continues) (Ok tt, w, turns, calms_still times w rest))
 
-  pub rest_passed : (total count : ℕ) (begin now : WorldState C) → Passed calls total count begin now → now.stopped ≡ false → CarrierRests calls now.carrier → ((at : ℕ) → at < length now.seats → IsSilentAt now.seats at) → Calms calls total begin (Ok tt) now
-  rest_passed total count begin now so running rest silent = so (Ok tt) now (calms_still (total - count) now running rest silent)
+  pub rest_passed : (total count : ℕ) (begin now : WorldState C) → Passed calls total count begin now → IsAtRest calls now → Calms calls total begin (Ok tt) now
+  rest_passed total count begin now so rest = so (Ok tt) now (calms_still (total - count) now rest)
+
+-- a world whose carrier rests, and of which no message goes out
+pub at_rest : {C : Type 0} (own : Calls C) (w : WorldState C) → w.stopped ≡ false → (own.seen w.carrier).stopped ≡ false → Rests own.rounds own.takes w.carrier → AllOfferNothing own w.carrier w.seats → IsAtRest (shown own) w
+at_rest own w running works rest all = rests_by (shown own) w running (rest_shown own w.carrier works rest) (nothing_shown own w.carrier w.seats works all)

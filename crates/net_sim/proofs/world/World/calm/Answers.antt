@@ -20,7 +20,7 @@ returns-then-has_calmed g c =
     begun calls c.args.rounds c.args.self.now (Ok tt) c.pass_round-answer.new.self (sym c.is_stopped.ensures ∙ c.if-is_stopped.false)
     (rest_passed calls c.args.rounds (c.loop.counter + 1) c.args.self.now c.pass_round-answer.new.self
     (one_passed calls c.args.rounds c.loop.counter c.args.self.now c.loop.self c.pass_round-answer.new.self c.pass_round-answer.result c.loop-test.true c.loop.invariant c.pass_round-answer.ensures on)
-    (c.has_calmed.ensures.running c.if-has_calmed.true) (c.has_calmed.ensures.carrier c.if-has_calmed.true) (c.has_calmed.ensures.silent c.if-has_calmed.true))
+    (c.has_calmed.ensures c.if-has_calmed.true))
 
 pub loop-init : goal.loop-init
 loop-init g c =

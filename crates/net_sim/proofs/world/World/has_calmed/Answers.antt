@@ -1,7 +1,15 @@
-use Rattle.std.proofs.Common.{List, subst}
-use Rattle.net_sim.specs.Silent.{AllSilent}
-use Rattle.net_sim.specs.World.{Seat}
+use Rattle.std.proofs.Common.{◌≡◌, false, subst, sym, ◌∙◌}
+use Rattle.interface.specs.Calls.{Calls}
+use Rattle.interface.specs.Rest.{Rests}
+use Rattle.net_sim.specs.World.{WorldState}
+use Rattle.net_sim.proofs.Hosts.Resting.{at_rest}
 use Rattle.net_sim.proofs.world.World.has_calmed.Goals as goal
 
-pub returns-clause-silent : goal.returns-clause-silent
-returns-clause-silent g c = λ e. subst (λ (seats : List Seat). AllSilent seats) c.seats.ensures.value (c.all_silent.ensures e)
+pub returns : goal.returns
+returns g c = λ e.
+    let own : Calls g.row.C.Denot = g.C.Carrier.calls in
+    let w : WorldState g.row.C.Denot = c.args.self.now in
+    at_rest own w (sym c.is_stopped.ensures ∙ c.if-is_stopped.false)
+    (subst (λ (k : g.row.C.Denot). (own.seen k).stopped ≡ false) c.carrier.ensures (c.rests.ensures.running c.if-not-rests.false))
+    (subst (λ (k : g.row.C.Denot). Rests own.rounds own.takes k) c.carrier.ensures (c.rests.ensures.unchanged c.if-not-rests.false))
+    (c.all_offer_nothing.ensures e)
