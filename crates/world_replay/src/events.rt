@@ -3,7 +3,7 @@
 ghost use Rattle.std.specs.Prelude.{◌≡◌, ◌≤◌, Err, List, Ok, OnOk, false, length, true, ℕ};
 ghost use Rattle.interface.specs.Messages.{SafeMessages};
 ghost use Rattle.net_sim.specs.Carriers.{shown};
-ghost use Rattle.net_sim.specs.Silent.{AllSilent};
+ghost use Rattle.net_sim.specs.Rest.{IsAtRest};
 ghost use Rattle.net_sim.specs.World.{CalmGives};
 ghost use Rattle.replay.specs.Failing.{TellsCannotWrite};
 ghost use Rattle.world_replay.specs.Output.{Shown, Writes};
@@ -191,8 +191,7 @@ fn replay_round<C: Carrier, W: Output>(
 pub fn has_calmed<C: Carrier>(world: &World<C>, before: usize) -> bool
     ensures crossed { result ≡ true → length world.now.kept.book.crossings ≡ before }
     ensures unchanged { result ≡ true → (times : ℕ) → CalmGives (shown C.calls) times world.now (Ok tt) world.now }
-    ensures running { result ≡ true → world.now.stopped ≡ false }
-    ensures silent { result ≡ true → AllSilent world.now.seats }
+    ensures rest { result ≡ true → IsAtRest (shown C.calls) world.now }
 {
     world.book().crossings().len() == before && world.rests()
 }

@@ -2,7 +2,6 @@
 
 ghost use Rattle.std.specs.Prelude.{◌≡◌, ◌++◌, [], IfErr, IfOk, IfSome, OnOk, false, length, map, true};
 ghost use Rattle.net_sim.specs.Carriers.{shown};
-ghost use Rattle.net_sim.specs.Rest.{IsAtRest};
 ghost use Rattle.replay.specs.Failing.{TellsCannotWrite};
 ghost use Rattle.replay.specs.declared.print.Detail.TheVariants.{Sizes};
 ghost use Rattle.world_replay.specs.Rounds as events;
@@ -19,7 +18,7 @@ use net_sim::{Event, Seat, World};
 use replay::{Detail, Output, Printer, ReplayFault};
 use std::alloc::{AllocError, Global};
 use trace::{Inspect, Spot};
-use world_replay::replay_in_calm;
+use world_replay::{has_calmed, replay_in_calm};
 
 /// How often a host takes in one round at most.
 const TAKINGS: u8 = 16;
@@ -119,14 +118,6 @@ fn count_crossings<C: Carrier>(world: &World<C>) -> usize
     ensures { result ≡ length world.now.kept.book.crossings }
 {
     world.book().crossings().len()
-}
-
-/// Returns whether the events of more rounds of a calm are known to change nothing: nothing has crossed since the book had this many
-/// crossings, and the world rests.
-fn has_calmed<C: Carrier>(world: &World<C>, before: usize) -> bool
-    ensures { result ≡ true → IsAtRest (shown C.calls) world.now }
-{
-    count_crossings(world) == before && world.rests()
 }
 
 /// Lets the events of a round happen, and prints their lines. `texts` are those of the state.

@@ -44,7 +44,7 @@ returns-then-has_calmed-clause-ends g c =
     let calls : Calls g.row.C.Denot = shown g.C.Carrier.calls in
     let l = c.loop-passed in
     calm_rests calls g.C.Inspect.inside.members c.args.spot (l.passed + 1) c.args.rounds c.args.world.now c.trace_round.new.world (g.W.Output.contents c.args.writer.now) (g.W.Output.contents c.trace_round.new.writer) (omega (arith, c.loop-passed-test.true))
-    (c.has_calmed.ensures c.if-has_calmed.true)
+    (c.has_calmed.ensures.rest c.if-has_calmed.true)
     (one_passed calls g.C.Inspect.inside.members c.args.spot l.passed c.args.world.now l.world c.trace_round.new.world (g.W.Output.contents c.args.writer.now) (g.W.Output.contents l.writer) (g.W.Output.contents c.trace_round.new.writer) l.invariant.0 c.in_ok-trace_round.ensures.ends)
 
 pub returns-clause-ends : goal.returns-clause-ends
