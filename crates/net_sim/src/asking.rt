@@ -15,7 +15,7 @@ ghost use Rattle.sockets.specs.declared.fault.NcpFault.TheVariants as problem;
 
 use crate::WorldFault;
 use crate::book::{Book, Page};
-use crate::hosting::{tend, told_by, write_crossing};
+use crate::hosting::{tend, write_crossing};
 use crate::seat::{Seat, ServiceSeat};
 use host_services::{Deeds, ServiceDesk, copy_of};
 use interface::HostAddr;
@@ -123,14 +123,13 @@ fn write_asked(
     let mut called = Vec::new(alloc);
     add_called(&mut called, host, place, &request)?;
     called.append(&mut called_in(alloc, host, place, &deeds.asked)?)?;
-    let told = told_by(alloc, host, place, notices)?;
     book.write(
         &[],
         Page {
+            host,
             asked: Some((host, request)),
             called,
-            told,
-            by: Some(host),
+            notices,
             ran: deeds.asked,
             reports: deeds.reports,
         },

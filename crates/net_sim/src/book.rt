@@ -2,7 +2,7 @@
 
 ghost use Rattle.std.specs.Prelude.{◌≡◌, ◌+◌, ◌++◌, OnErr, OnOk, length, map, reverse, take};
 ghost use Rattle.net_sim.specs.Book.{all_crossed, all_told, asked, opening_kept};
-ghost use Rattle.net_sim.specs.Inside.Lives.{told_at, written};
+ghost use Rattle.net_sim.specs.Inside.Lives.{entered, told_at};
 
 use crate::asking::add_called;
 use crate::hosting::copy_of;
@@ -14,18 +14,18 @@ use sockets::{Notice, Request};
 use std::alloc::{AllocError, Global};
 use std::marker::Model;
 
-/// What happened in one step after something crossed, in this order.
+/// What happened at a host in one step after something crossed, in this order.
 #[derive(Drop)]
 pub(crate) struct Page {
+    /// The host.
+    pub(crate) host: HostAddr,
     /// What a user asked for.
     pub(crate) asked: Option<(HostAddr, Request)>,
     /// Which contacts were asked for.
     pub(crate) called: Vec<Called>,
-    /// The notices to users.
-    pub(crate) told: Vec<Told>,
-    /// The host whose services had their turns.
-    pub(crate) by: Option<HostAddr>,
-    /// What they asked for.
+    /// The notices to the host's user.
+    pub(crate) notices: Vec<Notice>,
+    /// What the host's services asked for in their turns.
     pub(crate) ran: Vec<Request>,
     /// What these services reported.
     pub(crate) reports: Vec<Reported>,
@@ -56,6 +56,7 @@ impl Model for Book {
 }
 
 /// Copies of what crossed are put after what had crossed before, one after another.
+#[inline(always)]
 fn push_copies(all: &mut Vec<Crossing>, news: &[Crossing]) -> Result<(), AllocError>
     ensures done { OnOk result (all.new.items ≡ all.old.items ++ news.now) }
     ensures before { take (length all.old.items) all.new.items ≡ all.old.items }
@@ -67,6 +68,7 @@ fn push_copies(all: &mut Vec<Crossing>, news: &[Crossing]) -> Result<(), AllocEr
 }
 
 /// Copies of what crossed are put after what had crossed before, or memory runs out, and none is.
+#[inline(always)]
 fn add_copies(all: &mut Vec<Crossing>, news: &[Crossing]) -> Result<(), AllocError>
     ensures done { OnOk result (all.new.items ≡ all.old.items ++ news.now) }
     ensures kept { OnErr result (all.new.items ≡ all.old.items) }
@@ -100,6 +102,7 @@ fn push_told(
 }
 
 /// Adds all of these notices, or none if memory runs out.
+#[inline(always)]
 fn add_told(
     all: &mut Vec<Told>,
     host: HostAddr,
@@ -112,6 +115,29 @@ fn add_told(
     let before = all.len();
     if push_told(all, host, place, notices).is_err() {
         all.truncate(before);
+        return Err(AllocError);
+    }
+    Ok(())
+}
+
+/// Adds what crossed, and then notices to a host's user, with the number of crossings; or nothing, if memory runs out.
+fn add_heard(
+    crossings: &mut Vec<Crossing>,
+    told: &mut Vec<Told>,
+    host: HostAddr,
+    news: &[Crossing],
+    notices: Vec<Notice>,
+) -> Result<(), AllocError>
+    ensures crossings { OnOk result (crossings.new.items ≡ crossings.old.items ++ news.now) }
+    ensures told { OnOk result (told.new.items ≡ told.old.items ++ map (told_at host (length crossings.new.items)) notices.items) }
+    ensures crossings_kept { OnErr result (crossings.new.items ≡ crossings.old.items) }
+    ensures told_kept { OnErr result (told.new.items ≡ told.old.items) }
+{
+    let before = crossings.len();
+    add_copies(crossings, news)?;
+    let place = crossings.len();
+    if add_told(told, host, place, notices).is_err() {
+        crossings.truncate(before);
         return Err(AllocError);
     }
     Ok(())
@@ -217,6 +243,7 @@ impl Book {
     }
 
     /// Writes down what crossed, and what the user of a host was notified of it.
+    #[inline(never)]
     pub(crate) fn tell(
         &mut self,
         host: HostAddr,
@@ -228,12 +255,7 @@ impl Book {
     {
         let crossed = self.crossings.len();
         let told = self.notices.len();
-        add_copies(&mut self.crossings, news)?;
-        let place = self.crossings.len();
-        if add_told(&mut self.notices, host, place, notices).is_err() {
-            self.crossings.truncate(crossed);
-            return Err(AllocError);
-        }
+        add_heard(&mut self.crossings, &mut self.notices, host, news, notices)?;
         if self.lives.hear(news, &self.notices[told..]).is_err() {
             self.notices.truncate(told);
             self.crossings.truncate(crossed);
@@ -242,28 +264,33 @@ impl Book {
         Ok(())
     }
 
-    /// Writes down what crossed, and what happened then.
+    /// Writes down what crossed, and what happened at a host then.
     pub(crate) fn write(&mut self, news: &[Crossing], page: Page) -> Result<(), AllocError>
-        ensures done { OnOk result (self.new ≡ written news.now page.asked page.called.items page.told.items page.by page.ran.items page.reports.items self.old) }
+        ensures done { OnOk result (self.new ≡ entered news.now page.asked page.called.items page.host page.notices.items page.ran.items page.reports.items self.old) }
         ensures kept { OnErr result (self.new ≡ self.old) }
     {
-        self.contacts.reserve(page.called.len())?;
-        self.notices.reserve(page.told.len())?;
-        self.reports.reserve(page.reports.len())?;
-        let before = self.crossings.len();
-        add_copies(&mut self.crossings, news)?;
-        if self.lives.follow(news, &page).is_err() {
-            self.crossings.truncate(before);
+        let Page {
+            host,
+            asked,
+            mut called,
+            notices,
+            ran,
+            mut reports,
+        } = page;
+        self.contacts.reserve(called.len())?;
+        self.reports.reserve(reports.len())?;
+        let crossed = self.crossings.len();
+        let told = self.notices.len();
+        add_heard(&mut self.crossings, &mut self.notices, host, news, notices)?;
+        let followed = self
+            .lives
+            .follow(news, &asked, &self.notices[told..], host, &ran);
+        if followed.is_err() {
+            self.notices.truncate(told);
+            self.crossings.truncate(crossed);
             return Err(AllocError);
         }
-        let Page {
-            mut called,
-            mut told,
-            mut reports,
-            ..
-        } = page;
         self.contacts.append(&mut called)?;
-        self.notices.append(&mut told)?;
         self.reports.append(&mut reports)?;
         Ok(())
     }

@@ -1,11 +1,10 @@
 //! What the hosts do with what the carrier gives, and what is written down of it.
 
-ghost use Rattle.std.specs.Prelude.{◌≡◌, ◌<◌, Some, true, false, IfOk, IfSome, OnOk, OnErr, map, reverse, length, slice_index_or};
+ghost use Rattle.std.specs.Prelude.{◌≡◌, ◌<◌, Some, true, false, IfOk, IfSome, OnOk, OnErr, reverse, length, slice_index_or};
 ghost use Rattle.std.specs.Bool.{OnTrue};
 ghost use Rattle.std.specs.List.{position};
 ghost use Rattle.interface.specs.Host.{same_host};
 ghost use Rattle.net_sim.specs.Book.{all_asked, all_told, all_crossed, all_reported};
-ghost use Rattle.net_sim.specs.Inside.Lives.{told_at};
 ghost use Rattle.net_sim.specs.Inside.Parts.{Attends, IsOnce, OfProgram, SettlesNews, hosts_of};
 ghost use Rattle.net_sim.specs.World as world;
 ghost use Rattle.net_sim.specs.World.{Seat};
@@ -18,7 +17,6 @@ use crate::book::{Book, Page};
 use crate::seat::{Seat, ServiceSeat};
 use host_services::{Deeds, ServiceDesk, Services};
 use interface::{Crossing, HostAddr, Inbound};
-use promise::Told;
 use sockets::{Ncp, Notice};
 use std::alloc::{AllocError, Global};
 
@@ -76,26 +74,6 @@ pub(crate) fn copy_of(crossing: &Crossing) -> Result<Crossing, AllocError>
     Ok(copy)
 }
 
-/// Returns the notices to a host's user, with the number of crossings.
-pub(crate) fn told_by(
-    alloc: Global,
-    host: HostAddr,
-    place: usize,
-    notices: Vec<Notice>,
-) -> Result<Vec<Told>, AllocError>
-    ensures { IfOk result (λ told. told.items ≡ map (told_at host place) notices.items) }
-{
-    let mut told = Vec::new(alloc);
-    for notice in notices {
-        told.push(Told {
-            host,
-            place,
-            notice,
-        })?;
-    }
-    Ok(told)
-}
-
 /// Passes what its program notifies to the services of a host. Returns the host as they leave it.
 pub(crate) fn tend(
     alloc: Global,
@@ -113,7 +91,6 @@ pub(crate) fn tend(
 }
 
 /// Writes down what crossed at a host, the notices to its user about it, and what its services did then.
-#[tactic(auto, using(crate::proofs::Books::InOrder::written_both))]
 pub(crate) fn write_crossing(
     alloc: Global,
     book: &mut Book,
@@ -125,16 +102,14 @@ pub(crate) fn write_crossing(
     ensures done { OnOk result (book.new ≡ all_reported deeds.reports.items (all_asked host deeds.asked.items (all_told host notices.items (all_crossed (reverse news.now) book.old)))) }
     ensures kept { OnErr result (book.new ≡ book.old) }
 {
-    let place = book.place_after(news);
-    let told = told_by(alloc, host, place, notices)?;
-    let called = called_in(alloc, host, place, &deeds.asked)?;
+    let called = called_in(alloc, host, book.place_after(news), &deeds.asked)?;
     book.write(
         news,
         Page {
+            host,
             asked: None,
             called,
-            told,
-            by: Some(host),
+            notices,
             ran: deeds.asked,
             reports: deeds.reports,
         },
@@ -144,6 +119,7 @@ pub(crate) fn write_crossing(
 impl ServiceSeat {
     /// Records what the program of the host made of what crossed: the services have their turns, and all is written
     /// down. Returns the program.
+    #[inline(never)]
     fn tell(
         &mut self,
         alloc: Global,

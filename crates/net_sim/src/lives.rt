@@ -1,7 +1,7 @@
 //! What each thing that happens does to all lives.
 
 ghost use Rattle.std.specs.Bool.{OnFalse, OnTrue};
-ghost use Rattle.std.specs.Prelude.{◌≡◌, ℕ, Bool, List, [], OnErr, OnOk};
+ghost use Rattle.std.specs.Prelude.{◌≡◌, ℕ, Bool, List, [], Some, OnErr, OnOk};
 ghost use Rattle.net_sim.specs.Book as book;
 ghost use Rattle.net_sim.specs.Book.{lives_at, where_it, handed_to, fates_where};
 ghost use Rattle.net_sim.specs.Inside.Counts.{AreWithin, IsWithin};
@@ -13,7 +13,6 @@ ghost use Rattle.net_sim.specs.Inside.Open.{AreKept, Holds};
 ghost use Rattle.net_sim.specs.Inside.Undo.{all_undone, GoesBack};
 ghost use Rattle.promise.specs.declared.life.Fate.{Fate};
 
-use crate::book::Page;
 use crate::life::{Ending, Growth, Turn, end_at, grow_at, hand_at, nothing, turn_at, turn_of};
 use crate::open::Open;
 use crate::tally::Tally;
@@ -436,21 +435,21 @@ impl Lives {
     fn go_through(
         &mut self,
         news: &[Crossing],
-        page: &Page,
+        asked: &Option<(HostAddr, Request)>,
+        told: &[Told],
+        by: HostAddr,
+        ran: &[Request],
         done: &mut Vec<Undo>,
     ) -> Result<(), AllocError>
-        ensures done { OnOk result (self.new ≡ all.followed news.now page.now.asked page.now.told.items page.now.by page.now.ran.items self.old) }
+        ensures done { OnOk result (self.new ≡ all.followed news.now asked.now told.now (Some by) ran.now self.old) }
         ensures back { GoesBack done.old.items self.old done.new.items self.new }
     {
         self.cross_all(news, done)?;
-        if let Some((host, request)) = &page.asked {
+        if let Some((host, request)) = asked {
             self.ask(*host, request, done)?;
         }
-        self.tell_all(&page.told, done)?;
-        match page.by {
-            Some(host) => self.ask_all(host, &page.ran, done),
-            None => Ok(()),
-        }
+        self.tell_all(told, done)?;
+        self.ask_all(by, ran, done)
     }
 
     /// Takes back all that was done. Where the open lives are is learnt anew when it is wanted.
@@ -538,12 +537,19 @@ impl Lives {
     }
 
     /// Records all of this; if memory runs out, the lives are what they were.
-    pub(crate) fn follow(&mut self, news: &[Crossing], page: &Page) -> Result<(), AllocError>
-        ensures done { OnOk result (self.new ≡ all.followed news.now page.now.asked page.now.told.items page.now.by page.now.ran.items self.old) }
+    pub(crate) fn follow(
+        &mut self,
+        news: &[Crossing],
+        asked: &Option<(HostAddr, Request)>,
+        told: &[Told],
+        by: HostAddr,
+        ran: &[Request],
+    ) -> Result<(), AllocError>
+        ensures done { OnOk result (self.new ≡ all.followed news.now asked.now told.now (Some by) ran.now self.old) }
         ensures kept { OnErr result (self.new ≡ self.old) }
     {
         let mut done = self.empty_list();
-        let followed = self.go_through(news, page, &mut done);
+        let followed = self.go_through(news, asked, told, by, ran, &mut done);
         self.conclude(followed, done)
     }
 

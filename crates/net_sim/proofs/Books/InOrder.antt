@@ -13,7 +13,7 @@ use Rattle.promise.specs.declared.book.Called.{Called}
 use Rattle.host_services.specs.declared.report.Reported.{Reported}
 use Rattle.net_sim.specs.Book.{Kept, crossed, all_crossed, book_told, all_told, asked, all_asked, all_reported, contacts_asked}
 use Rattle.net_sim.specs.Inside.Lives as all
-use Rattle.net_sim.specs.Inside.Lives.{LivesState, of_kept, followed, written, told_at}
+use Rattle.net_sim.specs.Inside.Lives.{LivesState, of_kept, followed, written, entered, told_at}
 use Rattle.net_sim.specs.World.{Seat, ServiceSeat, seats_turned, all_turned, emptied, all_emptied}
 
 turned_behind : (cs : List Crossing) (c : Crossing) (seats : List Seat) → all_turned (cs ++ c ∷ []) seats ≡ all_turned cs (seats_turned c seats)
@@ -152,13 +152,14 @@ after_that cs a first ts h rs reports k before n is many =
             fates = (all.all_asked h rs (of_kept mid)).fates;
           }
 
-pub written_both : (h : Host) (place : ℕ) (cs : List Crossing) (ns : List Notice) (rs : List Request) (reports : List Reported) (k : Kept) → place ≡ length k.book.crossings + length cs
-    → written cs None (flat_map (contacts_asked h place) rs) (map (told_at h place) ns) (Some h) rs reports k ≡ all_reported reports (all_asked h rs (all_told h ns (all_crossed (reverse cs) k)))
-written_both h place cs ns rs reports k is =
+pub entered_crossed : (h : Host) (cs : List Crossing) (ns : List Notice) (rs : List Request) (reports : List Reported) (k : Kept)
+    → entered cs None (flat_map (contacts_asked h (length k.book.crossings + length cs)) rs) h ns rs reports k ≡ all_reported reports (all_asked h rs (all_told h ns (all_crossed (reverse cs) k)))
+entered_crossed h cs ns rs reports k =
+    let place : ℕ = length k.book.crossings + length cs in
     let before : Kept = all_told h ns (all_crossed (reverse cs) k) in
     let same : before.book.crossings ≡ reverse cs ++ k.book.crossings = told_places h ns (all_crossed (reverse cs) k) ∙ crossings_after (reverse cs) k in
-    let many : place ≡ length before.book.crossings = is ∙ omega (arith, length-append (reverse cs) k.book.crossings, length-reverse cs) ∙ ap (λ (xs : List Crossing). length xs) (sym same) in
-    after_that cs None [] (map (told_at h place) ns) h rs reports k before place (written_before h place cs ns k is) many
+    let many : place ≡ length before.book.crossings = omega (arith, length-append (reverse cs) k.book.crossings, length-reverse cs) ∙ ap (λ (xs : List Crossing). length xs) (sym same) in
+    after_that cs None [] (map (told_at h place) ns) h rs reports k before place (written_before h place cs ns k refl) many
 
 -- ---- what was asked for
 
@@ -170,11 +171,13 @@ asked_before h r ns k =
     same_kept k.book.crossings k.book.crossings (k.book.notices ++ ts) (k.book.notices ++ ts) calls (calls ++ []) (k.book.reports ++ []) (k.book.reports ++ []) (all.all_told ts (all.asked h r (of_kept k))) refl refl (sym (append-nil calls)) refl
     ∙ written_told h ns (asked h r k)
 
-pub written_asked : (h : Host) (r : Request) (ns : List Notice) (rs : List Request) (reports : List Reported) (k : Kept)
-    → written [] (Some (h, r)) (contacts_asked h (length k.book.crossings) r ++ flat_map (contacts_asked h (length k.book.crossings)) rs) (map (told_at h (length k.book.crossings)) ns) (Some h) rs reports k
-    ≡ all_reported reports (all_asked h rs (all_told h ns (asked h r k)))
-written_asked h r ns rs reports k =
-    after_that [] (Some (h, r)) (contacts_asked h (length k.book.crossings) r) (map (told_at h (length k.book.crossings)) ns) h rs reports k (all_told h ns (asked h r k)) (length k.book.crossings) (asked_before h r ns k)
+pub entered_asked : (h : Host) (r : Request) (ns : List Notice) (rs : List Request) (reports : List Reported) (k : Kept)
+    → entered [] (Some (h, r)) (contacts_asked h (length k.book.crossings) r ++ flat_map (contacts_asked h (length k.book.crossings)) rs) h ns rs reports k ≡ all_reported reports (all_asked h rs (all_told h ns (asked h r k)))
+entered_asked h r ns rs reports k =
+    let calls : List Called = contacts_asked h (length k.book.crossings) r ++ flat_map (contacts_asked h (length k.book.crossings)) rs in
+    let same : length k.book.crossings + 0 ≡ length k.book.crossings = omega arith in
+    ap (λ (m : ℕ). written [] (Some (h, r)) calls (map (told_at h m) ns) (Some h) rs reports k) same
+    ∙ after_that [] (Some (h, r)) (contacts_asked h (length k.book.crossings) r) (map (told_at h (length k.book.crossings)) ns) h rs reports k (all_told h ns (asked h r k)) (length k.book.crossings) (asked_before h r ns k)
     (ap (λ (xs : List Crossing). length xs) (sym (told_places h ns (asked h r k))))
 
 -- ---- nothing else
@@ -205,18 +208,36 @@ asked_so h r k before place ns us ps l was is n u p f =
     same_kept (reverse before) k.book.crossings ns k.book.notices us calls ps k.book.reports l (sym was) n (u ∙ ap (λ (m : ℕ). k.book.contacts ++ contacts_asked h m r) many) p
     ∙ ap (λ (m : LivesState). let after : Kept = record { book = record { crossings = k.book.crossings; notices = k.book.notices; contacts = calls; reports = k.book.reports; lives = m.lives }; handed = m.handed; fates = m.fates } in after) f
 
-pub told_so : (h : Host) (cs : List Crossing) (ns : List Notice) (k : Kept) (before after : List Crossing) (place n : ℕ) (ts seen : List Told) (us : List Called) (ps : List Reported) (l : LivesState) → k.book.crossings ≡ reverse before
-    → after ≡ before ++ cs → place ≡ length after → ts ≡ k.book.notices ++ map (told_at h place) ns → us ≡ k.book.contacts → ps ≡ k.book.reports → n ≡ length k.book.notices → seen ≡ ts
+-- how many crossings there are once these are written, too
+place_of : (cs : List Crossing) (k : Kept) (before after : List Crossing) → k.book.crossings ≡ reverse before → after ≡ before ++ cs → length after ≡ length k.book.crossings + length cs
+place_of cs k before after was more =
+    ap (λ (xs : List Crossing). length xs) more ∙ length-append before cs ∙ ap (λ (m : ℕ). m + length cs) (sym (length-reverse before) ∙ ap (λ (xs : List Crossing). length xs) (sym was))
+
+-- the last of all that users were notified of
+last_of : (old news seen : List Told) (n : ℕ) → seen ≡ old ++ news → n ≡ length old → take (length seen - n) (drop n seen) ≡ news
+last_of old news seen n same many =
+    let cut : drop n seen ≡ news = ap (λ (m : ℕ). drop m seen) many ∙ ap (λ (xs : List Told). drop (length old) xs) same ∙ drop-append_seam old news in
+    let long : length seen ≡ length old + length news = ap (λ (xs : List Told). length xs) same ∙ length-append old news in
+    ap (λ (xs : List Told). take (length seen - n) xs) cut ∙ take_all (length seen - n) news (omega (arith, long, many))
+
+pub told_so : (h : Host) (cs : List Crossing) (ns : List Notice) (k : Kept) (before after : List Crossing) (n : ℕ) (ts seen : List Told) (us : List Called) (ps : List Reported) (l : LivesState) → k.book.crossings ≡ reverse before
+    → after ≡ before ++ cs → ts ≡ k.book.notices ++ map (told_at h (length after)) ns → us ≡ k.book.contacts → ps ≡ k.book.reports → n ≡ length k.book.notices → seen ≡ ts
     → l ≡ all.all_told (take (length seen - n) (drop n seen)) (all.all_crossed cs (of_kept k))
     → ◌≡◌ {A = Kept} (record { book = record { crossings = reverse after; notices = ts; contacts = us; reports = ps; lives = l.lives }; handed = l.handed; fates = l.fates }) (all_told h ns (all_crossed (reverse cs) k))
-told_so h cs ns k before after place n ts seen us ps l was more is t u p many same f =
-    let news : List Told = map (told_at h place) ns in
-    let places : place ≡ length k.book.crossings + length cs =
-    is ∙ ap (λ (xs : List Crossing). length xs) more ∙ length-append before cs ∙ ap (λ (m : ℕ). m + length cs) (sym (length-reverse before) ∙ ap (λ (xs : List Crossing). length xs) (sym was)) in
-    let all_seen : seen ≡ k.book.notices ++ news = same ∙ t in
-    let cut : drop n seen ≡ news = ap (λ (m : ℕ). drop m seen) many ∙ ap (λ (xs : List Told). drop (length k.book.notices) xs) all_seen ∙ drop-append_seam k.book.notices news in
-    let long : length seen ≡ length k.book.notices + length news = ap (λ (xs : List Told). length xs) all_seen ∙ length-append k.book.notices news in
-    let last : take (length seen - n) (drop n seen) ≡ news = ap (λ (xs : List Told). take (length seen - n) xs) cut ∙ take_all (length seen - n) news (omega (arith, long, many)) in
+told_so h cs ns k before after n ts seen us ps l was more t u p many same f =
+    let news : List Told = map (told_at h (length after)) ns in
     written_so cs None [] news None [] [] k before after ts us ps l was more t (u ∙ sym (append-nil k.book.contacts)) (p ∙ sym (append-nil k.book.reports))
-    (f ∙ ap (λ (xs : List Told). all.all_told xs (all.all_crossed cs (of_kept k))) last)
-    ∙ written_before h place cs ns k places
+    (f ∙ ap (λ (xs : List Told). all.all_told xs (all.all_crossed cs (of_kept k))) (last_of k.book.notices news seen n (same ∙ t) many))
+    ∙ written_before h (length after) cs ns k (place_of cs k before after was more)
+
+-- the same, of all that happens at a host
+pub entered_so : (cs : List Crossing) (a : Option (Host × Request)) (calls : List Called) (h : Host) (ns : List Notice) (rs : List Request) (reports : List Reported) (k : Kept) (before after : List Crossing) (n : ℕ)
+    (ts seen : List Told) (us : List Called) (ps : List Reported) (l : LivesState) → k.book.crossings ≡ reverse before
+    → after ≡ before ++ cs → ts ≡ k.book.notices ++ map (told_at h (length after)) ns → us ≡ k.book.contacts ++ calls → ps ≡ k.book.reports ++ reports → n ≡ length k.book.notices → seen ≡ ts
+    → l ≡ followed cs a (take (length seen - n) (drop n seen)) (Some h) rs (of_kept k)
+    → ◌≡◌ {A = Kept} (record { book = record { crossings = reverse after; notices = ts; contacts = us; reports = ps; lives = l.lives }; handed = l.handed; fates = l.fates }) (entered cs a calls h ns rs reports k)
+entered_so cs a calls h ns rs reports k before after n ts seen us ps l was more t u p many same f =
+    let news : List Told = map (told_at h (length after)) ns in
+    written_so cs a calls news (Some h) rs reports k before after ts us ps l was more t u p
+    (f ∙ ap (λ (xs : List Told). followed cs a xs (Some h) rs (of_kept k)) (last_of k.book.notices news seen n (same ∙ t) many))
+    ∙ ap (λ (m : ℕ). written cs a calls (map (told_at h m) ns) (Some h) rs reports k) (place_of cs k before after was more)

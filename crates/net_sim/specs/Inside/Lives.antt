@@ -1,5 +1,5 @@
 -- What happens to the lives and to what was handed over, apart from all else that is kept.
-use Rattle.std.specs.Prelude.{ℕ, Bool, List, [], ◌∷◌, ◌++◌, Option, Some, None, reverse}
+use Rattle.std.specs.Prelude.{ℕ, ◌+◌, Bool, List, [], ◌∷◌, ◌++◌, Option, Some, None, length, map, reverse}
 use Rattle.interface.specs.Host.{Host}
 use Rattle.interface.specs.declared.crossing.Crossing.{Crossing}
 use Rattle.host_pairs.specs.declared.notice.Notice.{Notice}
@@ -103,3 +103,7 @@ written cs a calls ts h rs reports k = record {
 -- the notices to a host when there were this many crossings
 abbrev pub told_at : Host → ℕ → Notice → Told
 told_at h place n = record { host = h; place = place; notice = n }
+
+-- the same of one host, which gets these notices after what crossed
+abbrev pub entered : List Crossing → Option (Host × Request) → List Called → Host → List Notice → List Request → List Reported → Kept → Kept
+entered cs a calls h ns rs reports k = written cs a calls (map (told_at h (length k.book.crossings + length cs)) ns) (Some h) rs reports k
