@@ -1,13 +1,12 @@
 -- Small carriers as raw networks.
-use Rattle.std.proofs.Common.{◌≡◌, inl, ℕ, List, [], ◌∷◌, ◌++◌, Ok, length, reverse, refl, ap, ap₂, sym, subst, ◌∙◌, arith}
+use Rattle.std.proofs.Common.{◌≡◌, inl, ℕ, List, [], ◌∷◌, ◌++◌, Ok, reverse, refl, ap, ap₂, sym, subst, ◌∙◌, arith}
 use Rattle.std.proofs.lemmas.List.{append-nil}
 use Rattle.std.proofs.lemmas.List.Elements.{All-cons, All-head, All-nil, All-tail}
 use Rattle.std.specs.List.{All}
 use Rattle.interface.specs.Calls.{Calls}
-use Rattle.interface.specs.declared.crossing.Crossing.{Crossing}
 use Rattle.interface.specs.declared.event.NetEvent.{NetEvent}
 use Rattle.interface.specs.declared.event.NetEvent.TheVariants as net
-use Rattle.net_sim.specs.World.{WorldState, opening_world}
+use Rattle.net_sim.specs.World.{WorldState}
 use Rattle.net_sim.specs.declared.event.Event.{Event}
 use Rattle.net_sim.specs.declared.event.Event.TheVariants as event
 use Rattle.replay.specs.InTurn.{InTurn}

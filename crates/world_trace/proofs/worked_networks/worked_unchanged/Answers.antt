@@ -1,4 +1,4 @@
-use Rattle.std.proofs.Common.{◌≡◌, ℕ, List, ap, arith, length, refl}
+use Rattle.std.proofs.Common.{◌≡◌, ap, arith, length, refl}
 use Rattle.std.specs.Fmt.{digits}
 use Rattle.world_trace.proofs.worked_networks.worked_unchanged.Goals as goal
 
