@@ -64,17 +64,26 @@ fn put_message(all: &mut [u8], octets: &[u8]) -> usize
     put_before(all, start, &[0, 8, high, low, 0])
 }
 
+/// Returns the text of a control message with these octets, which is put together in a buffer.
+#[tactic(auto, using(crate::proofs::SendingLemmas::message_bits, crate::proofs::SendingLemmas::message_room))]
+fn message_text(alloc: Global, octets: &[u8]) -> Result<Bits, AllocError>
+    requires room { length octets.now ≤ 120 }
+    ensures { IfOk result (λ text. text ≡ control.control_text octets.now) }
+{
+    let mut all = [0; LONGEST];
+    let start = put_message(&mut all, octets);
+    whole(alloc, &all[start..])
+}
+
 /// Returns the text of a control message with these octets.
-#[tactic(auto, using(crate::proofs::SendingLemmas::control_short, crate::proofs::SendingLemmas::message_room, crate::proofs::SendingLemmas::message_bits))]
+#[tactic(auto, using(crate::proofs::SendingLemmas::control_short))]
 fn control_text(alloc: Global, octets: &[u8]) -> Result<Bits, AllocError>
     requires room { length octets.now ≤ 120 }
     ensures short { IfOk result (λ text. length text ≤ 8063) }
     ensures again { (commands : List Command) → AreRead octets.now commands → IfOk result (λ text. orders_of text ≡ map Legal commands) }
     ensures text { IfOk result (λ text. text ≡ control.control_text octets.now) }
 {
-    let mut all = [0; LONGEST];
-    let start = put_message(&mut all, octets);
-    let text = whole(alloc, &all[start..])?;
+    let text = message_text(alloc, octets)?;
     Ok(text)
 }
 
