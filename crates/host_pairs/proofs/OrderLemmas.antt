@@ -1,5 +1,5 @@
 -- Ends in order of their sockets.
-use Rattle.std.proofs.Common.{◌≡◌, ℕ, ◌<◌, ◌≤◌, ◌-◌, ◌==◌, ◌++◌, Bool, true, false, not, nat_lt, List, [], ◌∷◌, length, take, drop, filter, slice_index_or, zero, suc, refl, sym, ap, ◌∙◌, arith}
+use Rattle.std.proofs.Common.{◌≡◌, ℕ, ◌<◌, ◌≤◌, ◌-◌, ◌==◌, ◌++◌, Bool, true, false, not, nat_lt, List, [], ◌∷◌, length, filter, slice_index_or, zero, suc, refl, sym, ap, arith}
 use Rattle.std.specs.Bool.{OnTrue}
 use Rattle.std.specs.List.{list_any, remove}
 use Rattle.std.specs.List.Sorted.{IsPartitionPoint, IsPartitionedBy}

@@ -1,5 +1,5 @@
 -- The lowest of links, found from the first one on.
-use Rattle.std.proofs.Common.{◌≡◌, ℕ, ◌*◌, ◌≤◌, true, false, Bool, if◌then◌else◌, suc, length, take, drop, filter, ◌++◌, List, [], ◌∷◌, Option, Some, None, refl, ap, sym, arith}
+use Rattle.std.proofs.Common.{◌≡◌, ℕ, ◌*◌, ◌≤◌, true, false, Bool, if◌then◌else◌, suc, length, take, drop, filter, ◌++◌, List, [], ◌∷◌, Option, Some, None, refl, ap, sym, ◌∙◌, arith}
 use Rattle.ncp_control.specs.Command.{is_alone, spelling}
 use Rattle.ncp_control.specs.Packing.{packed_count, spellings}
 use Rattle.ncp_control.specs.declared.command.Command.{Command}
@@ -7,7 +7,7 @@ use Rattle.ncp_control.specs.declared.command.Command.TheVariants as command
 use Rattle.ncp_control.proofs.lemmas.{longest_front}
 use Rattle.bit_messages.specs.Octets.{bits_of, octet_bits}
 use Rattle.bit_messages.proofs.lemmas.{bits_of-append, length-bits_of}
-use Rattle.std.proofs.lemmas.List.{length-take, take_all, drop_all}
+use Rattle.std.proofs.lemmas.List.{append-nil, length-take, take_all, drop_all}
 use Rattle.std.specs.Int.{w16, to_be_bytes}
 use Rattle.host_pairs.specs.Control.{control_text}
 use Rattle.host_pairs.specs.Data.{data_text}
@@ -65,6 +65,10 @@ message_octets octets = 0 ∷ 8 ∷ to_be_bytes w16 (length octets) ++ 0 ∷ oct
 
 pub message_room : (octets : List ℕ) → length octets ≤ 120 → length (message_octets octets) ≤ 125
 message_room octets room = omega (arith, room)
+
+-- they end where their buffer ends
+pub all_put : (octets before : List ℕ) → length before ≡ 125 → octets ++ drop 125 before ≡ octets
+all_put octets before is = ap (λ (ns : List ℕ). octets ++ ns) (drop_all 125 before (omega (arith, is))) ∙ append-nil octets
 
 -- their bits are its text
 pub message_bits : (octets : List ℕ) → bits_of (message_octets octets) ≡ control_text octets

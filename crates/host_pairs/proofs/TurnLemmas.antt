@@ -23,6 +23,10 @@ told_first told notices e = ap (λ (xs : List Notice). xs ++ notices) (none_of t
 pub queued_turn : (t : TurnState) (c : Command) → record t { pair = record t.pair { queue = t.pair.queue ++ c ∷ [] } } ≡ with_desk t (command_queued c (desk_of t.pair t.listening))
 queued_turn t c = sym (ap (λ (ns : List Notice). record { pair = record t.pair { queue = t.pair.queue ++ c ∷ [] }; listening = t.listening; notices = ns }) (append-nil t.notices))
 
+-- nothing is done at the desk
+pub same_turn : (t : TurnState) → t ≡ with_desk t (desk_of t.pair t.listening)
+same_turn t = sym (ap (λ (ns : List Notice). record { pair = t.pair; listening = t.listening; notices = ns }) (append-nil t.notices))
+
 none_step : (busy : List ℕ) (e : Entry) (es : List Entry) → (list_any (must_close busy) es ≡ false → filter (must_close busy) es ≡ []) → (b : Bool) → must_close busy e ≡ b
     → list_any (must_close busy) (e ∷ es) ≡ false → filter (must_close busy) (e ∷ es) ≡ []
 none_step busy e es rest true is none = absurd (let t : true ≡ false = rw is at none in cc)

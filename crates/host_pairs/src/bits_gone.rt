@@ -3,11 +3,8 @@
 ghost use Rattle.std.specs.Prelude.{◌≡◌, ◌<◌, ◌≤◌, IfOk, OnErr, OnOk, drop, length, take};
 ghost use Rattle.host_pairs.specs.Entries.{changed_first};
 ghost use Rattle.host_pairs.specs.Outgoing.{end_at};
-ghost use Rattle.host_pairs.specs.Inside.Clauses.{bits_left};
 ghost use Rattle.host_pairs.specs.Parcels as parcels;
 
-use crate::Notice;
-use crate::desk::Desk;
 use crate::entry::Entry;
 use crate::held::Ends;
 use crate::outgoing::sending_place;
@@ -74,7 +71,7 @@ impl Entry {
 
 /// Counts bits of the end that may send on a link as gone out. Returns as many of the end at a place, which is the same
 /// one as a rule, and then they aren't copied.
-fn send_bits(
+pub(crate) fn send_bits(
     alloc: Global,
     ends: &mut Ends,
     busy: &[u8],
@@ -98,24 +95,4 @@ fn send_bits(
     let _ = ends.send(alloc, place, bits)?;
     ends.look_again();
     Ok(sent)
-}
-
-impl Desk {
-    /// Counts bits of the end at a place as sent, and notifies the user.
-    pub fn bits_gone(
-        &mut self,
-        alloc: Global,
-        busy: &[u8],
-        at: usize,
-        bits: u32,
-    ) -> Result<(), AllocError>
-        requires { at < length self.old.entries }
-        ensures { OnOk result (self.new ≡ bits_left busy.now at bits self.old) }
-    {
-        let entry = &self.entries.as_slice()[at];
-        let socket = entry.own;
-        let link = entry.link_number();
-        let sent = send_bits(alloc, &mut self.entries, busy, link, at, bits)?;
-        self.tell(Notice::Sent { socket, bits: sent })
-    }
 }

@@ -1,6 +1,6 @@
 //! The text of what goes out.
 
-ghost use Rattle.std.specs.Prelude.{◌≡◌, ◌*◌, ◌++◌, ◌≤◌, ◌∷◌, [], IfOk, OnOk, map, List, length, take, true};
+ghost use Rattle.std.specs.Prelude.{◌≡◌, ◌*◌, ◌+◌, ◌++◌, ◌≤◌, ◌∷◌, [], IfOk, OnOk, drop, map, List, length, take, true};
 ghost use Rattle.std.specs.Int.{w16, to_be_bytes};
 ghost use Rattle.bit_messages.specs.Octets.{bits_of};
 ghost use Rattle.ncp_control.specs.Command.{is_alone, spelling};
@@ -35,28 +35,55 @@ fn whole(alloc: Global, octets: &[u8]) -> Result<Bits, AllocError>
     }
 }
 
-/// Returns the octets of a control message: those of its header, and these after them.
-fn with_header(alloc: Global, octets: &[u8]) -> Result<Vec<u8>, AllocError>
+/// The number of octets of the longest control message.
+const LONGEST: usize = 125;
+
+/// Puts octets before a place of a buffer, and returns where they begin.
+fn put_before(all: &mut [u8], start: usize, octets: &[u8]) -> usize
+    requires { (length octets.now ≤ start) × (start ≤ length all.old) }
+    ensures place { result + length octets.now ≡ start }
+    ensures length { length all.new ≡ length all.old }
+    ensures written { drop result all.new ≡ octets.now ++ drop start all.old }
+{
+    let at = start - octets.len();
+    all[at..start].copy_from_slice(octets);
+    at
+}
+
+/// Puts the octets of a control message at the end of a buffer, those of its header and these after them, and returns where they
+/// begin.
+#[tactic(auto, using(crate::proofs::SendingLemmas::all_put))]
+fn put_message(all: &mut [u8], octets: &[u8]) -> usize
     requires room { length octets.now ≤ 120 }
-    ensures { IfOk result (λ all. all.items ≡ 0 ∷ 8 ∷ to_be_bytes w16 (length octets.now) ++ 0 ∷ octets.now) }
+    requires whole { length all.old ≡ 125 }
+    ensures place { result ≤ length all.new }
+    ensures written { drop result all.new ≡ 0 ∷ 8 ∷ to_be_bytes w16 (length octets.now) ++ 0 ∷ octets.now }
 {
     let [high, low] = (octets.len() as u16).to_be_bytes();
-    let mut all = Vec::with_capacity(alloc, 5 + octets.len())?;
-    all.extend_from_slice(&[0, 8, high, low, 0])?;
-    all.extend_from_slice(octets)?;
-    Ok(all)
+    let start = put_before(all, LONGEST, octets);
+    put_before(all, start, &[0, 8, high, low, 0])
+}
+
+/// Returns the text of a control message with these octets, which is put together in a buffer.
+#[tactic(auto, using(crate::proofs::SendingLemmas::message_bits, crate::proofs::SendingLemmas::message_room))]
+fn message_text(alloc: Global, octets: &[u8]) -> Result<Bits, AllocError>
+    requires room { length octets.now ≤ 120 }
+    ensures { IfOk result (λ text. text ≡ control.control_text octets.now) }
+{
+    let mut all = [0; LONGEST];
+    let start = put_message(&mut all, octets);
+    whole(alloc, &all[start..])
 }
 
 /// Returns the text of a control message with these octets.
-#[tactic(auto, using(crate::proofs::SendingLemmas::control_short, crate::proofs::SendingLemmas::message_room, crate::proofs::SendingLemmas::message_bits))]
+#[tactic(auto, using(crate::proofs::SendingLemmas::control_short))]
 fn control_text(alloc: Global, octets: &[u8]) -> Result<Bits, AllocError>
     requires room { length octets.now ≤ 120 }
     ensures short { IfOk result (λ text. length text ≤ 8063) }
     ensures again { (commands : List Command) → AreRead octets.now commands → IfOk result (λ text. orders_of text ≡ map Legal commands) }
     ensures text { IfOk result (λ text. text ≡ control.control_text octets.now) }
 {
-    let all = with_header(alloc, octets)?;
-    let text = whole(alloc, &all)?;
+    let text = message_text(alloc, octets)?;
     Ok(text)
 }
 

@@ -45,7 +45,7 @@ impl Model for Turn {
 
 impl Turn {
     /// Tells the user something.
-    fn tell(&mut self, notice: Notice) -> Result<(), AllocError>
+    pub(crate) fn tell(&mut self, notice: Notice) -> Result<(), AllocError>
         ensures { OnOk result (self.new ≡ record self.old { notices = self.old.notices ++ notice ∷ [] }) }
     {
         self.notices.push(notice)?;
@@ -154,9 +154,7 @@ impl Turn {
         if !self.pair.phase.is_ready() {
             return Ok(());
         }
-        let mut desk = self.desk(alloc);
-        desk.take_data(alloc, link, text)?;
-        self.restore(desk)
+        self.take_data(alloc, link, text)
     }
 
     /// Closes each end that waited for an answer and has it now. Mostly there is none.

@@ -6,6 +6,8 @@ ghost use Rattle.host_pairs.specs.Inside.Clauses.{bytes_left};
 ghost use Rattle.host_pairs.specs.Outgoing.{IsThere, parcel_of};
 ghost use Rattle.host_pairs.specs.Parcels as parcels;
 
+use crate::Notice;
+use crate::bits_gone::send_bits;
 use crate::outgoing::Outgoing;
 use crate::turn::Turn;
 use interface::HostAddr;
@@ -28,7 +30,7 @@ impl Turn {
         self.restore(desk)
     }
 
-    /// Records that bytes of the end at a place have gone out.
+    /// Records that bytes of the end at a place have gone out, and notifies the user.
     fn bytes_gone(
         &mut self,
         alloc: Global,
@@ -41,9 +43,12 @@ impl Turn {
         requires { at < length self.old.pair.entries }
         ensures { OnOk result (self.new ≡ bytes_left peer stamp at size count self.old) }
     {
-        let mut desk = self.desk(alloc);
-        desk.bits_gone(alloc, &self.pair.busy, at, size as u32 * count as u32)?;
-        self.restore(desk)
+        let entry = &self.pair.entries.as_slice()[at];
+        let (socket, link) = (entry.own, entry.link_number());
+        let bits = size as u32 * count as u32;
+        let (ends, busy) = (&mut self.pair.entries, &self.pair.busy);
+        let sent = send_bits(alloc, ends, busy, link, at, bits)?;
+        self.tell(Notice::Sent { socket, bits: sent })
     }
 
     /// Records what has gone out, except for its link.

@@ -1,13 +1,15 @@
 -- Names for what clauses of private functions say.
-use Rattle.std.specs.Prelude.{◌≡◌, ℕ, ◌+◌, Bool, List, [], ◌∷◌, Option, None, Some, MatchOption, drop, take, find, slice_index_or}
+use Rattle.std.specs.Prelude.{◌≡◌, ℕ, ◌+◌, Bool, List, [], ◌∷◌, Option, None, Some, MatchOption, drop, find, slice_index_or}
 use Rattle.interface.specs.Host.{Host}
 use Rattle.host_pairs.specs.Commands.{changed}
 use Rattle.host_pairs.specs.Control.{orders_within}
-use Rattle.host_pairs.specs.Desk.{DeskState, desk_told}
+use Rattle.host_pairs.specs.Data.{data_of, spent}
+use Rattle.host_pairs.specs.Desk.{desk_of, desk_told}
+use Rattle.host_pairs.specs.Entries.{receives_on}
 use Rattle.host_pairs.specs.Gone.{desk_after, left_with}
 use Rattle.host_pairs.specs.Outgoing.{end_at}
-use Rattle.host_pairs.specs.Parcels.{Bytes, bits_gone, link_of, may_send_on}
-use Rattle.host_pairs.specs.Turn.{TurnState, orders_taken}
+use Rattle.host_pairs.specs.Parcels.{Bytes}
+use Rattle.host_pairs.specs.Turn.{TurnState, orders_taken, with_desk}
 use Rattle.host_pairs.specs.declared.entry.Entry.{Entry}
 use Rattle.host_pairs.specs.declared.notice.Notice.TheVariants as notice
 
@@ -15,10 +17,10 @@ use Rattle.host_pairs.specs.declared.notice.Notice.TheVariants as notice
 abbrev pub IsFoundAt : (Entry → Bool) → List Entry → Option ℕ → Type 0
 IsFoundAt test entries place = MatchOption place (find test entries ≡ None) (λ at. (d : Entry) → find test entries ≡ Some (slice_index_or entries at d))
 
--- this many bits of the end at a place have gone out on its link
-abbrev pub bits_left : List ℕ → ℕ → ℕ → DeskState → DeskState
-bits_left busy at bits d =
-    desk_told (notice.Sent (end_at d.entries at).own (take bits (end_at d.entries at).bits) ∷ []) (changed (may_send_on busy (link_of (end_at d.entries at).link)) (bits_gone bits) d)
+-- the first bits of a text's data have arrived at a socket, on a link
+abbrev pub data_arrived : ℕ → ℕ → ℕ → List Bool → TurnState → TurnState
+data_arrived socket link bits text t =
+    with_desk t (desk_told (notice.Arrived socket (data_of bits text) ∷ []) (changed (receives_on link) (spent bits) (desk_of t.pair t.listening)))
 
 -- this many bytes of the end at a place have gone out
 abbrev pub bytes_left : Host → ℕ → ℕ → ℕ → ℕ → TurnState → TurnState
