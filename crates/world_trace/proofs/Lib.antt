@@ -6,14 +6,17 @@ mod Ends
 mod Failures
 mod Fields
 mod Blocks
+mod LastingRows
 mod Lines
 mod Lists
 mod Made
 mod Passing
 mod Programs
+mod ProgramsLast
 mod Resting
 mod Running
 mod Stays
 mod Telling
 mod Turns
 mod Whole
+mod WorldsLast

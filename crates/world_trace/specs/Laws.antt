@@ -1,4 +1,5 @@
 -- Statements and rows that are too long for a line in src/, each named after its function and clause.
 pub mod Calm
+pub mod Whole
 pub mod WorkedPairs
 pub mod WorkedHosts

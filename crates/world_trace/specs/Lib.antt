@@ -1,4 +1,5 @@
 pub mod Carriers
+pub mod Lasting
 pub mod Steps
 pub mod Texts
 pub mod Told

@@ -21,6 +21,7 @@ mod texts;
 mod traced;
 mod values;
 pub mod worked;
+pub mod worked_lasting;
 
-pub use lasting::lasts;
+pub use lasting::{lasts, says_all};
 pub use traced::trace_world;
