@@ -11,11 +11,14 @@ mod Lines
 mod Lists
 mod Made
 mod Passing
+mod PlainStates
 mod Programs
 mod ProgramsLast
 mod Resting
 mod Running
+mod States
 mod Stays
+mod SubnetStates
 mod Telling
 mod Turns
 mod Whole

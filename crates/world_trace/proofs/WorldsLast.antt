@@ -19,7 +19,7 @@ use Rattle.interface.specs.declared.crossing.Crossing.{Crossing}
 use Rattle.interface.specs.declared.crossing.Crossing.TheVariants as crossing
 use Rattle.interface.proofs.lemmas.{or_false, same_host-true}
 use Rattle.net_sim.specs.Book.{all_told, asked, crossed}
-use Rattle.net_sim.specs.World.{AskGives, AtProgram, AtSeat, Calms, CalmGives, Does, DoesOrHalts, EventGives, Halts, NetEnds, OfferEnds, OfferGives, Passes, QuietEnds, Refuses, Repeats, StepGives, TakeEnds, TakeGives, TurnsOf, TypeGives, WorldState, all_emptied, all_turned, changed, emptied, noticed, opening_seats, opening_services, opening_world, seat_of, seated, seats_turned, served_at, serviced, services_of, stops, tended, turn_of, up_in, wants_memory, with_carrier, with_program, with_server, with_services, with_user, world_heard, world_moved}
+use Rattle.net_sim.specs.World.{AskGives, AtProgram, AtSeat, Calms, CalmGives, Does, DoesOrHalts, EventGives, Halts, NetEnds, OfferEnds, OfferGives, Passes, QuietEnds, Refuses, Repeats, StepGives, TakeEnds, TakeGives, TurnsOf, TypeGives, WorldState, all_emptied, all_turned, changed, emptied, noticed, opening_seats, opening_services, opening_world, seat_of, seated, seats_turned, served_at, serviced, services_in, services_of, stops, tended, turn_of, up_in, wants_memory, with_carrier, with_program, with_server, with_services, with_user, world_heard, world_moved}
 use Rattle.net_sim.specs.declared.event.Event.{Event}
 use Rattle.net_sim.specs.declared.event.Event.TheVariants.{Ask, Net, Offer, Quiet, Server, Take, Typed, User}
 use Rattle.net_sim.specs.declared.event.WorldFault.{WorldFault}
@@ -73,10 +73,10 @@ services_with h x (s ∷ all) new last =
 
 services_at : (h : Host) (all : List ServiceSeat) → All ServicesLast all → All ServiceLasts (services_of h all).running
 services_at h [] last = All-nil ServiceLasts
-services_at h (s ∷ all) last = by (same_host h s.host) refl where
-  by : (b : Bool) → same_host h s.host ≡ b → All ServiceLasts (services_of h (s ∷ all)).running
-  by true here = rw here (All-head ServicesLast s all last)
-  by false here = rw here (services_at h all (All-tail ServicesLast s all last))
+services_at h (s ∷ all) last = by (same_host h s.host) (services_at h all (All-tail ServicesLast s all last)) where
+  by : (b : Bool) → All ServiceLasts (services_of h all).running → All ServiceLasts (services_in (if b then Some s else find (λ x. same_host h x.host) all)).running
+  by true others = All-head ServicesLast s all last
+  by false others = others
 
 -- the program of a host is its own
 abbrev SeatIsOwn : Host → Option Seat → Type 0
@@ -84,10 +84,10 @@ SeatIsOwn h o = IfSome o (λ s. AnyLasts h s.program)
 
 seat_at : (h : Host) (seats : List Seat) → All SeatLasts seats → SeatIsOwn h (seat_of h seats)
 seat_at h [] all = tt
-seat_at h (s ∷ seats) all = by (same_host h s.host) refl where
-  by : (b : Bool) → same_host h s.host ≡ b → SeatIsOwn h (if b then Some s else seat_of h seats)
-  by true here = subst (λ (g : Host). AnyLasts g s.program) (sym (same_host-true h s.host here)) (All-head SeatLasts s seats all)
-  by false here = seat_at h seats (All-tail SeatLasts s seats all)
+seat_at h (s ∷ seats) all = by (same_host h s.host) refl (seat_at h seats (All-tail SeatLasts s seats all)) where
+  by : (b : Bool) → same_host h s.host ≡ b → SeatIsOwn h (seat_of h seats) → SeatIsOwn h (if b then Some s else seat_of h seats)
+  by true here others = subst (λ (g : Host). AnyLasts g s.program) (sym (same_host-true h s.host here)) (All-head SeatLasts s seats all)
+  by false here others = others
 
 -- a host that starts has a program of its own
 turned_last : (c : Crossing) (seats : List Seat) → All SeatLasts seats → All SeatLasts (seats_turned c seats)

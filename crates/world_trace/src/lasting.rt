@@ -8,17 +8,19 @@ ghost use Rattle.std.specs.Prelude.{◌≡◌, ◌<◌, ◌∷◌, [], IfSome, L
 ghost use Rattle.hex.specs.Hex.{IsBytes};
 ghost use Rattle.net_sim.specs.Carriers.{shown};
 ghost use Rattle.net_sim.specs.World.{opening_world};
+ghost use Rattle.script.specs.Spelling.{IsFlow, IsHost, IsMessage};
 ghost use Rattle.trace.specs.Named.{IsHostNamed, IsShort};
 ghost use Rattle.world_replay.specs.Output.{Shown};
 ghost use Rattle.world_replay.specs.Replay.{Replays};
 ghost use Rattle.world_script.specs.declared.event.WorldEvent.{WorldEvent};
 ghost use Rattle.world_trace.specs.Lasting.{Lasts, ProgramLasts, SeatLasts, ServiceLasts, ServicesLast};
+ghost use Rattle.world_trace.specs.Reached.{IsSaid};
 ghost use Rattle.world_trace.specs.Told as texts;
 ghost use Rattle.world_trace.specs.Told.{AreNumbersTold, IsAllocationTold, IsPartnerTold, IsProgramTold, IsWorldTold, numbers_of, quoted_by};
 
 use host_services::{Block, Service};
 use icp::{Partner, Server, User};
-use interface::{Carrier, HostAddr};
+use interface::{Carrier, Crossing, Flow, HostAddr, HostMessage};
 use ncp_control::{Allocation, ByteSize, Command, ConnectionLink, ReceiveSocket, SendSocket};
 use net_sim::{Seat, ServiceSeat, World};
 use sockets::{Entry, Listener, Ncp, Pair, Peer};
@@ -473,16 +475,54 @@ impl Lasting for ServiceSeat {
     }
 }
 
+// ---- crossings
+
+/// Proves that a host has a number from 0 to 3, at an IMP from 1 to 63.
+fn valid_host(host: HostAddr)
+    ensures { IsHost host }
+{
+    let _ = host.imp();
+    let _ = host.host();
+}
+
+/// Proves that both hosts of a flow are valid, and that its link has 8 bits.
+fn valid_flow(flow: Flow)
+    ensures { IsFlow flow }
+{
+    valid_host(flow.source);
+    valid_host(flow.destination);
+}
+
+/// Proves that a message is of a valid flow, and that its text has at most 8063 bits.
+fn valid_message(message: &HostMessage)
+    ensures { IsMessage message.now }
+{
+    valid_flow(message.flow);
+    let _ = message.text.bits();
+}
+
+impl Numbered for Crossing {
+    ghost told = { IsSaid };
+
+    fn numbers(&self) {
+        if let Crossing::Out(message) = self {
+            valid_message(message);
+        }
+    }
+}
+
 // ---- worlds
 
-/// Proves that the texts of a trace say all numbers of a world at hand, since they have their types. So they say all of it
-/// ([`crate::law::whole`]) where a replay has come to it. It is for the proof only.
+/// Proves that the texts of a trace say all numbers of a world at hand, and that a script may ask for the messages that went out in it, since both
+/// have their types. So these texts say all of it ([`crate::law::whole`], [`crate::law::states`]) where a replay has come to it. It is for the proof only.
 pub fn says_all<C: Carrier>(world: &World<C>)
     ensures numbers { AreNumbersTold world.now }
+    ensures messages { All IsSaid world.now.kept.book.crossings }
     ensures reached { (c : C) (script : List WorldEvent) (lines : List Shown) → Replays (shown C.calls) (opening_world C.calls c) script world.now lines → IsWorldTold world.now }
 {
     all_numbers(world.seats());
     all_numbers(world.services());
+    all_numbers(world.book().crossings());
 }
 
 /// Returns whether memory lasts in all programs and services of a world, and each program is its host's. While it lasts in the world

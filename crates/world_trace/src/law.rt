@@ -7,6 +7,7 @@ ghost use Rattle.trace.specs.Named.{IsHostNamed};
 ghost use Rattle.world_trace.specs.Carriers.{PlainCarriers, SubnetCarriers};
 ghost use Rattle.world_trace.specs.Laws.Calm.{CalmRound};
 ghost use Rattle.world_trace.specs.Laws.Whole.{WholeLasting, WholeReached};
+ghost use Rattle.world_trace.specs.Reached.{PlainStates, SubnetStates};
 ghost use Rattle.world_trace.specs.Told.{HaveSameTexts, IsWorldTold};
 
 use interface::Carrier;
@@ -36,3 +37,13 @@ pub fn carriers()
     ensures plain { PlainCarriers }
     ensures subnets { SubnetCarriers }
 {}
+
+/// The texts of all parts of a carrier, of programs and of services say all of a world to which a replay comes, but its log and what is kept: two
+/// worlds over one network with the same texts are in the same state.
+pub fn states()
+    ensures plain { PlainStates }
+    ensures subnets { SubnetStates }
+{
+    trace::law::whole();
+    subnet_trace::law::whole();
+}
