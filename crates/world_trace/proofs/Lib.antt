@@ -14,6 +14,7 @@ mod Passing
 mod PlainStates
 mod Programs
 mod ProgramsLast
+mod Replayed
 mod Resting
 mod Running
 mod States

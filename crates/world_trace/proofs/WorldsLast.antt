@@ -319,7 +319,7 @@ module _ {C : Type 0} (calls : Calls C) where
       (λ on g. then_runs (Calms calls rounds g.1 r new) g.0 g.1 r new (stops g.0) refl well g.3
       (λ more k. calms_run rounds g.1 r new well (turns_run (up_in quiet.seats) quiet g.0 g.1 more (step_runs Quiet old first quiet on w step) g.2) k))
 
-  happens_runs : (e : WorldEvent) (old new : WorldState C) (lines : List Shown) → Runs old → Happens calls old e new lines → Runs new
+  pub happens_runs : (e : WorldEvent) (old new : WorldState C) (lines : List Shown) → Runs old → Happens calls old e new lines → Runs new
   happens_runs (script.Happen e) old new lines w h = step_runs e old h.outcome new h.goes_on w h.gives
   happens_runs (script.Calm rounds) old new lines w h = follows (Calms calls rounds old h.outcome new) old h.outcome new old.stopped refl w h.gives (calms_run rounds old h.outcome new h.goes_on w)
 

@@ -6,7 +6,7 @@ ghost use Rattle.net_sim.specs.World.{WorldState, opening_world};
 ghost use Rattle.trace.specs.Named.{IsHostNamed};
 ghost use Rattle.world_trace.specs.Carriers.{PlainCarriers, SubnetCarriers};
 ghost use Rattle.world_trace.specs.Laws.Calm.{CalmRound};
-ghost use Rattle.world_trace.specs.Laws.Whole.{WholeLasting, WholeReached};
+ghost use Rattle.world_trace.specs.Laws.Whole.{WholeLasting, WholeReached, WholeTraced};
 ghost use Rattle.world_trace.specs.Reached.{PlainStates, SubnetStates};
 ghost use Rattle.world_trace.specs.Told.{HaveSameTexts, IsWorldTold};
 
@@ -24,6 +24,7 @@ pub fn whole<C: Carrier>()
     // and while memory lasts in the world it lasts in all programs and services
     ensures lasting { WholeLasting C.calls }
     ensures reached { WholeReached C.calls }
+    ensures traced { WholeTraced C.calls }
 {}
 
 /// The events of a round that a trace has, with those that have no line, are a calm of one round as a replay lets it happen.

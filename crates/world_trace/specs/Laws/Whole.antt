@@ -1,5 +1,5 @@
 -- Memory lasts in all programs and services of a world that has not stopped.
-use Rattle.std.specs.Prelude.{◌≡◌, false, List, Result}
+use Rattle.std.specs.Prelude.{◌≡◌, ℕ, false, List, map, Result}
 use Rattle.interface.specs.Calls.{Calls}
 use Rattle.net_sim.specs.Carriers.{shown}
 use Rattle.net_sim.specs.World.{WorldState, opening_world}
@@ -9,6 +9,7 @@ use Rattle.world_replay.specs.Replay.{EventGives, Replays}
 use Rattle.world_script.specs.declared.event.WorldEvent.{WorldEvent}
 use Rattle.world_trace.specs.Lasting.{Lasts}
 use Rattle.world_trace.specs.Told.{AreNumbersTold, IsWorldTold}
+use Rattle.world_trace.specs.Traces.{TracesWorld}
 
 -- so each event of a script leaves it, whatever comes of it
 abbrev pub WholeLasting : {C : Type 0} → Calls C → Type 0
@@ -19,3 +20,9 @@ WholeLasting {C} calls =
 abbrev pub WholeReached : {C : Type 0} → Calls C → Type 0
 WholeReached {C} calls =
     (c : C) (script : List WorldEvent) (w : WorldState C) (lines : List Shown) → Replays (shown calls) (opening_world calls c) script w lines → AreNumbersTold w → IsWorldTold w
+
+-- the world after a trace is one to which the replay of its script comes
+abbrev pub WholeTraced : {C : Type 0} → Calls C → Type 0
+WholeTraced {C} calls =
+    (members : C → List (List ℕ)) (c : C) (events : List (ℕ × WorldEvent)) (w : WorldState C) (lines : List (List ℕ)) → TracesWorld (shown calls) members (opening_world calls c) events w lines →
+    (printed : List Shown) × Replays (shown calls) (opening_world calls c) (map (λ e. e.1) events) w printed

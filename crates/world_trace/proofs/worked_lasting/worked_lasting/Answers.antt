@@ -8,4 +8,4 @@ pub returns-clause-spent : goal.returns-clause-spent
 returns-clause-spent c = spent_refused
 
 pub returns-clause-services : goal.returns-clause-services
-returns-clause-services c = services_refused 100 101
+returns-clause-services c = services_refused

@@ -1,4 +1,4 @@
-use Rattle.world_trace.proofs.LastingRows.{listening_refused, program_refused, service_refused, stopped_refused, typing_refused}
+use Rattle.world_trace.proofs.LastingRows.{listening_refused, program_refused, service_refused, stopped_refused, reached_refused, typing_refused}
 use Rattle.world_trace.proofs.worked_lasting.worked_told.Goals as goal
 
 pub returns-clause-program : goal.returns-clause-program
@@ -21,3 +21,9 @@ returns-clause-typing g c = λ w is. typing_refused w is
 
 pub returns-clause-numbers : goal.returns-clause-numbers
 returns-clause-numbers g c = λ w is. typing_refused w is.numbers
+
+pub returns-clause-reached : goal.returns-clause-reached
+returns-clause-reached g c = λ opening w is. reached_refused g.C.Carrier.calls opening w is
+
+pub returns-clause-long : goal.returns-clause-long
+returns-clause-long g c = λ opening w is. typing_refused w is.numbers
