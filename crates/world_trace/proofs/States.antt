@@ -84,7 +84,7 @@ all_reverse (c ∷ cs) all =
     All-same IsSaid (reverse (c ∷ cs)) (reverse cs ++ c ∷ []) (reverse-append (c ∷ []) cs)
     (All-append IsSaid (reverse cs) (c ∷ []) (all_reverse cs (All-tail IsSaid c cs all)) (All-cons IsSaid c [] (All-head IsSaid c cs all) (All-nil IsSaid)))
 
-in_order : (cs : List Crossing) → All IsSaid (reverse cs) → All IsSaid cs
+pub in_order : (cs : List Crossing) → All IsSaid (reverse cs) → All IsSaid cs
 in_order cs all = All-same IsSaid cs (reverse (reverse cs)) (sym (reverse-reverse cs)) (all_reverse (reverse cs) all)
 
 module _ {C : Type 0} (calls : Calls C) (Holds : C → Type 0) (keeps : Keeps calls Holds) where
