@@ -1,5 +1,5 @@
 -- Texts say all of a world over plain mailboxes to which a replay comes.
-use Rattle.std.proofs.Common.{◌≡◌, ◌||◌, ◌==◌, inl, inr, ℕ, suc, Bool, true, false, not, if◌then◌else◌, List, [], ◌∷◌, ◌++◌, length, Option, Some, None, Result, Ok, Err, reverse, refl, ap, sym, subst, ◌∙◌, arith}
+use Rattle.std.proofs.Common.{◌≡◌, ◌||◌, inl, inr, suc, Bool, true, false, not, if◌then◌else◌, List, [], ◌∷◌, ◌++◌, length, Option, Some, None, reverse, refl, ap, sym, subst, ◌∙◌, arith}
 use Rattle.std.proofs.lemmas.Bool.{false≢true}
 use Rattle.std.proofs.lemmas.List.Elements.{All-append, All-cons, All-head, All-nil, All-tail}
 use Rattle.std.specs.List.{All}
@@ -10,9 +10,8 @@ use Rattle.interface.specs.declared.HostMessage.{HostMessage}
 use Rattle.interface.specs.declared.crossing.Crossing.{Crossing}
 use Rattle.interface.specs.declared.crossing.Crossing.TheVariants as crossing
 use Rattle.interface.proofs.lemmas.{same_host-true}
-use Rattle.leader1822.specs.Boxes.{Boxes, host_refusal, opening_boxes, plain_calls}
+use Rattle.leader1822.specs.Boxes.{Boxes, opening_boxes, plain_calls}
 use Rattle.net_sim.specs.Carriers.{shown}
-use Rattle.net_sim.specs.World.{WorldState}
 use Rattle.replay.specs.Output.{Shown, crossings_of}
 use Rattle.replay.specs.Replay.{Happens, IsOneCall, Replays}
 use Rattle.replay.proofs.lemmas.{crossings_shown}
@@ -21,12 +20,12 @@ use Rattle.script.specs.declared.event.RawEvent.{RawEvent}
 use Rattle.script.specs.declared.event.RawEvent.TheVariants as raw
 use Rattle.trace.specs.Kept.{IsTold}
 use Rattle.trace.specs.Laws.Whole.{WholeTexts}
-use Rattle.trace.specs.Parts.{Part, IsPart}
+use Rattle.trace.specs.Parts.{IsPart}
 use Rattle.trace.proofs.Each.{left_of}
 use Rattle.trace.proofs.Keeping.{reached}
 use Rattle.trace.proofs.Rest.{frame}
 use Rattle.world_replay.proofs.lemmas.Driven.{in_turn_one, in_turn_then}
-use Rattle.world_trace.specs.Reached.{IsReached, PlainStates}
+use Rattle.world_trace.specs.Reached.{PlainStates}
 use Rattle.world_trace.specs.Told.{IsWorldTold}
 use Rattle.world_trace.proofs.Carriers.{plain_round}
 use Rattle.world_trace.proofs.States.{Keeps, reached_holds}

@@ -1,5 +1,5 @@
 -- The world after a trace is one that the replay of its script comes to.
-use Rattle.std.proofs.Common.{◌≡◌, ℕ, zero, suc, ◌+◌, List, [], ◌∷◌, ◌++◌, length, map, refl, ap, subst, ◌∙◌, arith}
+use Rattle.std.proofs.Common.{◌≡◌, ℕ, zero, suc, ◌+◌, List, [], ◌∷◌, ◌++◌, length, map, refl, subst, arith}
 use Rattle.std.proofs.lemmas.List.{length-append}
 use Rattle.interface.specs.Calls.{Calls}
 use Rattle.net_sim.specs.World.{WorldState, opening_world}

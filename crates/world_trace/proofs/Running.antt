@@ -21,7 +21,7 @@ use Rattle.trace.specs.Texts.{array, bits_members, bool_text, member, object, qu
 use Rattle.trace.proofs.lemmas.{Any, IsClosed, Spelled, bool_spelled, decimal_closed, first_same, host_spelled, host_words, lists_spelled, member_closed, member_once, none_closed, object_once, other_first, rest_same, short_once, string_closed}
 use Rattle.world_trace.specs.Lasting.{ServiceLasts, ServicesLast}
 use Rattle.world_trace.specs.Texts.{asked_object, ends_object, met_object, number_text, partner_text, running_object, server_object, service_object, services_member, services_text, sockets_object, user_object}
-use Rattle.world_trace.specs.Told.{IsPartnerTold, IsServed, IsServerTold, IsServiceTold, IsUserTold}
+use Rattle.world_trace.specs.Told.{IsPartnerTold, IsServed, IsServiceTold}
 use Rattle.world_trace.proofs.Fields.{also, bits_object, fields, fields_spelled, null_closed, number_spelled, octets_spelled}
 use Rattle.world_trace.proofs.Programs.{no_word}
 

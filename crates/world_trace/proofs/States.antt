@@ -1,5 +1,5 @@
 -- What each call of a carrier keeps holds of the carrier of each world that the replay of a script comes to.
-use Rattle.std.proofs.Common.{◌≡◌, inl, inr, List, [], ◌∷◌, ◌++◌, Result, reverse, refl, ap, sym, subst, ◌∙◌}
+use Rattle.std.proofs.Common.{◌≡◌, inl, inr, List, [], ◌∷◌, ◌++◌, Result, reverse, ap, sym, subst, ◌∙◌}
 use Rattle.std.proofs.lemmas.List.{append-nil, reverse-append, reverse-reverse}
 use Rattle.std.proofs.lemmas.List.Elements.{All-append, All-cons, All-head, All-nil, All-same, All-tail}
 use Rattle.std.specs.List.{All}
@@ -10,7 +10,6 @@ use Rattle.interface.specs.declared.HostMessage.{HostMessage}
 use Rattle.interface.specs.declared.NetEvent.{NetEvent}
 use Rattle.interface.specs.declared.crossing.Crossing.{Crossing}
 use Rattle.interface.specs.declared.crossing.Crossing.TheVariants as crossing
-use Rattle.net_sim.specs.Carriers.{shown}
 use Rattle.net_sim.specs.World.{WorldState, opening_world}
 use Rattle.net_sim.specs.declared.event.Event.{Event}
 use Rattle.net_sim.specs.declared.event.Event.TheVariants as event
@@ -19,9 +18,9 @@ use Rattle.replay.specs.Output.{Shown, crossings_of}
 use Rattle.replay.specs.Replay.{GoesOn, Happens}
 use Rattle.script.specs.Spelling.{IsMessage, IsNetEvent}
 use Rattle.script.specs.declared.event.RawEvent.TheVariants as raw
-use Rattle.world_replay.specs.Driven.{Drive, Drives, Goes, IsCourse, IsDriven, IsDrivenIn, IsOffer, IsTaking, Makes, Raw, Round}
+use Rattle.world_replay.specs.Driven.{Drive, Goes, IsCourse, IsDriven, IsDrivenIn, IsOffer, IsTaking, Makes, Raw, Round}
 use Rattle.world_replay.specs.Replay.{IsOfCalm}
-use Rattle.world_replay.proofs.lemmas.Driven.{drives_in, replay_drives}
+use Rattle.world_replay.proofs.lemmas.Driven.{replay_drives}
 use Rattle.world_script.specs.WorldSpelling.{IsWorldEvent}
 use Rattle.world_script.specs.declared.event.WorldEvent.{WorldEvent}
 use Rattle.world_script.specs.declared.event.WorldEvent.TheVariants as script

@@ -1,5 +1,5 @@
 -- Texts say all of a world over a subnet to which a replay comes.
-use Rattle.std.proofs.Common.{◌≡◌, ℕ, suc, ◌+◌, ◌≤◌, ◌||◌, Bool, true, false, List, [], ◌∷◌, ◌++◌, length, Option, Some, None, Result, Ok, Err, reverse, refl, ap, sym, subst, ◌∙◌, arith}
+use Rattle.std.proofs.Common.{◌≡◌, ℕ, suc, ◌+◌, ◌≤◌, ◌||◌, Bool, false, List, [], ◌∷◌, ◌++◌, length, Option, Result, Ok, Err, reverse, refl, ap, sym, subst, ◌∙◌, arith}
 use Rattle.std.proofs.lemmas.Bool.Decides.{nat_tests}
 use Rattle.interface.specs.Calls.{is_halt, is_memory}
 use Rattle.interface.specs.Host.{Host, IsAddress, most_imps}
@@ -10,7 +10,6 @@ use Rattle.interface.specs.declared.NetEvent.{NetEvent}
 use Rattle.interface.specs.declared.crossing.Crossing.{Crossing}
 use Rattle.interface.specs.declared.crossing.Crossing.TheVariants as crossing
 use Rattle.net_sim.specs.Carriers.{shown}
-use Rattle.net_sim.specs.World.{WorldState}
 use Rattle.replay.specs.Output.{Shown, crossings_of}
 use Rattle.replay.specs.Replay.{GoesOn, Happens, outcome_of}
 use Rattle.replay.proofs.lemmas.{crossings_shown}
@@ -30,7 +29,7 @@ use Rattle.subnet_trace.proofs.Known.{IsKnown, offer_known, opening_known, round
 use Rattle.subnet_trace.proofs.Rest.{runs}
 use Rattle.subnet_trace.proofs.lemmas.{refused}
 use Rattle.trace.proofs.lemmas.{flow_named}
-use Rattle.world_trace.specs.Reached.{IsReached, SubnetStates}
+use Rattle.world_trace.specs.Reached.{SubnetStates}
 use Rattle.world_trace.specs.Told.{IsWorldTold}
 use Rattle.world_trace.proofs.States.{Keeps, reached_holds}
 use Rattle.world_trace.proofs.Whole.{reached_told, whole}

@@ -19,7 +19,7 @@ use Rattle.interface.specs.declared.crossing.Crossing.{Crossing}
 use Rattle.interface.specs.declared.crossing.Crossing.TheVariants as crossing
 use Rattle.interface.proofs.lemmas.{or_false, same_host-true}
 use Rattle.net_sim.specs.Book.{all_told, asked, crossed}
-use Rattle.net_sim.specs.World.{AskGives, AtProgram, AtSeat, Calms, CalmGives, Does, DoesOrHalts, EventGives, Halts, NetEnds, OfferEnds, OfferGives, Passes, QuietEnds, Refuses, Repeats, StepGives, TakeEnds, TakeGives, TurnsOf, TypeGives, WorldState, all_emptied, all_turned, changed, emptied, noticed, opening_seats, opening_services, opening_world, seat_of, seated, seats_turned, served_at, serviced, services_in, services_of, stops, tended, turn_of, up_in, wants_memory, with_carrier, with_program, with_server, with_services, with_user, world_heard, world_moved}
+use Rattle.net_sim.specs.World.{AskGives, AtProgram, AtSeat, Calms, Does, DoesOrHalts, EventGives, Halts, NetEnds, OfferEnds, OfferGives, Passes, QuietEnds, Refuses, Repeats, StepGives, TakeEnds, TakeGives, TurnsOf, TypeGives, WorldState, all_emptied, all_turned, changed, emptied, noticed, opening_seats, opening_services, opening_world, seat_of, seated, seats_turned, served_at, serviced, services_in, services_of, stops, tended, turn_of, up_in, wants_memory, with_carrier, with_program, with_server, with_services, with_user, world_heard, world_moved}
 use Rattle.net_sim.specs.declared.event.Event.{Event}
 use Rattle.net_sim.specs.declared.event.Event.TheVariants.{Ask, Net, Offer, Quiet, Server, Take, Typed, User}
 use Rattle.net_sim.specs.declared.event.WorldFault.{WorldFault}

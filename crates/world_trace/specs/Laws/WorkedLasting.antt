@@ -1,5 +1,5 @@
 -- Hosts whose program or service has run out of memory, and hosts with numbers that are too long for a decimal.
-use Rattle.std.specs.Prelude.{ℕ, ◌^◌, true, [], ◌∷◌, Some}
+use Rattle.std.specs.Prelude.{◌^◌, true, [], ◌∷◌, Some}
 use Rattle.host_services.specs.Services.{no_services}
 use Rattle.host_services.specs.declared.service.Service.{Service}
 use Rattle.host_services.specs.declared.service.Service.TheVariants as service

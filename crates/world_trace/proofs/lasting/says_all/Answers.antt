@@ -1,10 +1,7 @@
-use Rattle.std.proofs.Common.{List, reverse, subst, ◌∙◌, ap}
+use Rattle.std.proofs.Common.{reverse, subst, ◌∙◌, ap}
 use Rattle.std.specs.List.{All}
-use Rattle.interface.specs.declared.crossing.Crossing.{Crossing}
 use Rattle.net_sim.specs.Book.{Kept}
 use Rattle.net_sim.specs.Carriers.{shown}
-use Rattle.net_sim.specs.declared.seat.Seat.{Seat}
-use Rattle.net_sim.specs.declared.seat.ServiceSeat.{ServiceSeat}
 use Rattle.world_trace.specs.Reached.{IsSaid}
 use Rattle.world_trace.specs.Told.{IsSeatTold, IsServed}
 use Rattle.world_trace.proofs.States.{in_order}
