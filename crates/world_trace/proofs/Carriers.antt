@@ -97,7 +97,7 @@ raw_network calls Holds quiets opening script w lines holds h =
 
 -- ---- plain mailboxes
 
-plain_round : (old new : Boxes) (answer : Result (Unit {0}) CarrierFault) → plain_calls.rounds old answer new → new ≡ old
+pub plain_round : (old new : Boxes) (answer : Result (Unit {0}) CarrierFault) → plain_calls.rounds old answer new → new ≡ old
 plain_round old new (Ok done) round = round.1
 plain_round old new (Err f) round = round.2
 

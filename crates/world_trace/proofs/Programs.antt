@@ -18,10 +18,11 @@ use Rattle.script.proofs.lemmas.{unmarked_where}
 use Rattle.script.specs.Steps.{Lacks}
 use Rattle.sockets.specs.Pairs.{NcpState}
 use Rattle.sockets.specs.declared.peer.Peer.{Peer}
-use Rattle.trace.specs.Named.{IsShort}
+use Rattle.trace.specs.Named.{IsHostNamed, IsShort}
 use Rattle.trace.specs.Texts.{array, bits_members, bool_text, member, object, quoted}
 use Rattle.trace.proofs.lemmas.{Any, AreClosed, IsClosed, Spelled, Words, bool_spelled, decimal_closed, first_same, host_spelled, host_words, lists_spelled, member_closed, member_once, none_closed, object_once, rest_same, short_once, string_closed, strings_spelled}
 use Rattle.world_replay.specs.Printed.{kind_text}
+use Rattle.world_trace.specs.Lasting.{ProgramLasts, SeatLasts}
 use Rattle.world_trace.specs.Texts.{allocation_object, closing_word, closings_object, command_object, end_object, listener_object, number_text, pair_object, phase_word, program_text, programs_text, requests_object, seat_member}
 use Rattle.world_trace.specs.Told.{IsAllocationTold, IsCommandTold, IsEndTold, IsListenerTold, IsPairTold, IsProgramTold, IsSeatTold}
 use Rattle.world_trace.proofs.CommandTexts.{command_spelled}
@@ -239,28 +240,32 @@ pairs_spelled = lists_spelled pair_object IsPairTold pair_spelled
 listeners_spelled : Spelled (λ xs. array (map listener_object xs)) (All IsListenerTold)
 listeners_spelled = lists_spelled listener_object IsListenerTold listener_spelled
 
-state_spelled : (h : Host) → Spelled (λ (s : NcpState). object (fields (codes "pairs" ∷ codes "listening" ∷ []) (program_values s))) (IsProgramTold h)
+-- the program of a host, all of which is told
+abbrev IsOwnTold : Host → NcpState → Type 0
+IsOwnTold h s = ProgramLasts h s × IsProgramTold s
+
+state_spelled : (h : Host) → Spelled (λ (s : NcpState). object (fields (codes "pairs" ∷ codes "listening" ∷ []) (program_values s))) (IsOwnTold h)
 state_spelled h =
-    fields_spelled (codes "pairs" ∷ codes "listening" ∷ []) program_values (IsProgramTold h) refl (λ s. refl)
-    (λ s is. also (pairs_spelled.closed s.peers is.peers) (also (listeners_spelled.closed s.listening is.listening) none_closed)) once
+    fields_spelled (codes "pairs" ∷ codes "listening" ∷ []) program_values (IsOwnTold h) refl (λ s. refl)
+    (λ s is. also (pairs_spelled.closed s.peers is.1.peers) (also (listeners_spelled.closed s.listening is.1.listening) none_closed)) once
   where
-    once : (s t : NcpState) → IsProgramTold h s → IsProgramTold h t → program_values s ≡ program_values t → s ≡ t
+    once : (s t : NcpState) → IsOwnTold h s → IsOwnTold h t → program_values s ≡ program_values t → s ≡ t
     once s t p q e =
-        let own : s.own ≡ t.own = p.own ∙ sym q.own in
-        let peers : s.peers ≡ t.peers = pairs_spelled.once s.peers t.peers p.peers q.peers (first_same e) in
-        let listening : s.listening ≡ t.listening = listeners_spelled.once s.listening t.listening p.listening q.listening (first_same (rest_same e)) in
-        let spent : s.spent ≡ t.spent = p.unspent ∙ sym q.unspent in
+        let own : s.own ≡ t.own = p.0.own ∙ sym q.0.own in
+        let peers : s.peers ≡ t.peers = pairs_spelled.once s.peers t.peers p.1.peers q.1.peers (first_same e) in
+        let listening : s.listening ≡ t.listening = listeners_spelled.once s.listening t.listening p.1.listening q.1.listening (first_same (rest_same e)) in
+        let spent : s.spent ≡ t.spent = p.0.unspent ∙ sym q.0.unspent in
         λ i. record { own = own i; peers = peers i; listening = listening i; spent = spent i }
 
 -- an object is no word
 pub no_word : (r : List ℕ) → codes "null" ≡ 123 ∷ r → ⊥
 no_word r e = absurd (let bad : 110 ≡ 123 = first_same e in omega (arith, bad))
 
-program_closed : (h : Host) (o : Option NcpState) → IfSome o (IsProgramTold h) → IsClosed (program_text o)
+program_closed : (h : Host) (o : Option NcpState) → IfSome o (IsOwnTold h) → IsClosed (program_text o)
 program_closed h None is = null_closed
 program_closed h (Some s) is = (state_spelled h).closed s is
 
-program_once : (h : Host) (o r : Option NcpState) → IfSome o (IsProgramTold h) → IfSome r (IsProgramTold h) → program_text o ≡ program_text r → o ≡ r
+program_once : (h : Host) (o r : Option NcpState) → IfSome o (IsOwnTold h) → IfSome r (IsOwnTold h) → program_text o ≡ program_text r → o ≡ r
 program_once h None None p q e = refl
 program_once h None (Some t) p q e = absurd (no_word _ e)
 program_once h (Some s) None p q e = absurd (no_word _ (sym e))
@@ -268,27 +273,46 @@ program_once h (Some s) (Some t) p q e = ap (λ (x : NcpState). Some x) ((state_
 
 -- ---- seats
 
-seats_closed : (seats : List Seat) → All IsSeatTold seats → All IsClosed (map seat_member seats)
+-- a host and its program, all of which is told
+record IsSeatWhole (s : Seat) : Type 0 where
+  host : IsHostNamed s.host
+  program : IfSome s.program (IsOwnTold s.host)
+
+seat_whole : (s : Seat) → SeatLasts s → IsSeatTold s → IsSeatWhole s
+seat_whole s lasting told = record { host = told.host; program = by s.program lasting told.program } where
+  by : (o : Option NcpState) → IfSome o (ProgramLasts s.host) → IfSome o IsProgramTold → IfSome o (IsOwnTold s.host)
+  by None last is = tt
+  by (Some p) last is = (last, is)
+
+seats_whole : (seats : List Seat) → All SeatLasts seats → All IsSeatTold seats → All IsSeatWhole seats
+seats_whole [] lasting told = All-nil IsSeatWhole
+seats_whole (s ∷ seats) lasting told =
+    All-cons IsSeatWhole s seats (seat_whole s (All-head SeatLasts s seats lasting) (All-head IsSeatTold s seats told))
+    (seats_whole seats (All-tail SeatLasts s seats lasting) (All-tail IsSeatTold s seats told))
+
+seats_closed : (seats : List Seat) → All IsSeatWhole seats → All IsClosed (map seat_member seats)
 seats_closed [] all = All-nil IsClosed
 seats_closed (s ∷ seats) all =
-    let is : IsSeatTold s = All-head IsSeatTold s seats all in
+    let is : IsSeatWhole s = All-head IsSeatWhole s seats all in
     All-cons IsClosed (seat_member s) (map seat_member seats) (member_closed (host_text s.host) (program_text s.program) (host_words.plain s.host is.host) (program_closed s.host s.program is.program))
-    (seats_closed seats (All-tail IsSeatTold s seats all))
+    (seats_closed seats (All-tail IsSeatWhole s seats all))
 
-seats_once : (seats others : List Seat) → map (λ s. s.host) seats ≡ map (λ s. s.host) others → All IsSeatTold seats → All IsSeatTold others → map seat_member seats ≡ map seat_member others → seats ≡ others
+seats_once : (seats others : List Seat) → map (λ s. s.host) seats ≡ map (λ s. s.host) others → All IsSeatWhole seats → All IsSeatWhole others → map seat_member seats ≡ map seat_member others → seats ≡ others
 seats_once [] [] hosts p q e = refl
 seats_once [] (t ∷ others) hosts p q e = absurd (cc)
 seats_once (s ∷ seats) [] hosts p q e = absurd (cc)
 seats_once (s ∷ seats) (t ∷ others) hosts p q e =
-    let a : IsSeatTold s = All-head IsSeatTold s seats p in
-    let b : IsSeatTold t = All-head IsSeatTold t others q in
+    let a : IsSeatWhole s = All-head IsSeatWhole s seats p in
+    let b : IsSeatWhole t = All-head IsSeatWhole t others q in
     let host : s.host ≡ t.host = first_same hosts in
     let moved : member (host_text t.host) (program_text s.program) ≡ seat_member t = ap (λ (h : Host). member (host_text h) (program_text s.program)) (sym host) ∙ first_same e in
     let program : s.program ≡ t.program =
-    program_once t.host s.program t.program (subst (λ (h : Host). IfSome s.program (IsProgramTold h)) host a.program) b.program (member_once (host_text t.host) (program_text s.program) (program_text t.program) moved) in
+    program_once t.host s.program t.program (subst (λ (h : Host). IfSome s.program (IsOwnTold h)) host a.program) b.program (member_once (host_text t.host) (program_text s.program) (program_text t.program) moved) in
     let seat : s ≡ t = λ i. record { host = host i; program = program i } in
-    ap₂ (λ (x : Seat) (xs : List Seat). x ∷ xs) seat (seats_once seats others (rest_same hosts) (All-tail IsSeatTold s seats p) (All-tail IsSeatTold t others q) (rest_same e))
+    ap₂ (λ (x : Seat) (xs : List Seat). x ∷ xs) seat (seats_once seats others (rest_same hosts) (All-tail IsSeatWhole s seats p) (All-tail IsSeatWhole t others q) (rest_same e))
 
-pub programs_once : (seats others : List Seat) → map (λ s. s.host) seats ≡ map (λ s. s.host) others → All IsSeatTold seats → All IsSeatTold others → programs_text seats ≡ programs_text others → seats ≡ others
-programs_once seats others hosts p q e =
-    seats_once seats others hosts p q (object_once (map seat_member seats) (map seat_member others) (seats_closed seats p) (seats_closed others q) e)
+pub programs_once : (seats others : List Seat) → map (λ s. s.host) seats ≡ map (λ s. s.host) others → All SeatLasts seats → All SeatLasts others → All IsSeatTold seats → All IsSeatTold others → programs_text seats ≡ programs_text others → seats ≡ others
+programs_once seats others hosts k l p q e =
+    let one : All IsSeatWhole seats = seats_whole seats k p in
+    let other : All IsSeatWhole others = seats_whole others l q in
+    seats_once seats others hosts one other (object_once (map seat_member seats) (map seat_member others) (seats_closed seats one) (seats_closed others other) e)

@@ -19,8 +19,9 @@ use Rattle.terminal.specs.Machines.{EchoState, TerminalState}
 use Rattle.trace.specs.Named.{IsHostNamed, IsShort}
 use Rattle.trace.specs.Texts.{array, bits_members, bool_text, member, object, quoted}
 use Rattle.trace.proofs.lemmas.{Any, IsClosed, Spelled, bool_spelled, decimal_closed, first_same, host_spelled, host_words, lists_spelled, member_closed, member_once, none_closed, object_once, other_first, rest_same, short_once, string_closed}
+use Rattle.world_trace.specs.Lasting.{ServiceLasts, ServicesLast}
 use Rattle.world_trace.specs.Texts.{asked_object, ends_object, met_object, number_text, partner_text, running_object, server_object, service_object, services_member, services_text, sockets_object, user_object}
-use Rattle.world_trace.specs.Told.{IsPartnerTold, IsServed, IsServerTold, IsServiceTold, IsUserTold}
+use Rattle.world_trace.specs.Told.{IsPartnerTold, IsServed, IsServiceTold}
 use Rattle.world_trace.proofs.Fields.{also, bits_object, fields, fields_spelled, null_closed, number_spelled, octets_spelled}
 use Rattle.world_trace.proofs.Programs.{no_word}
 
@@ -95,8 +96,12 @@ server_names = codes "kind" ∷ codes "listen" ∷ codes "sockets" ∷ codes "me
 abbrev server_values : ServerState → List (List ℕ)
 server_values s = quoted (codes "server") ∷ decimal s.listen ∷ sockets_object s.receive s.send ∷ met_object s ∷ bool_text s.over ∷ []
 
-server_once : (s t : ServerState) → IsServerTold s → IsServerTold t → server_values s ≡ server_values t → s ≡ t
-server_once s t p q e =
+-- a service in which memory lasts, all of which is told
+abbrev IsServiceWhole : Service → Type 0
+IsServiceWhole s = ServiceLasts s × IsServiceTold s
+
+server_once : (s t : ServerState) → IsServiceWhole (service.Server s) → IsServiceWhole (service.Server t) → server_values s ≡ server_values t → s ≡ t
+server_once s t (unspent, p) (quiet, q) e =
     let after1 = rest_same e in
     let listen : s.listen ≡ t.listen = short_once s.listen t.listen p.listen q.listen (first_same after1) in
     let after2 = rest_same after1 in
@@ -109,14 +114,14 @@ server_once s t p q e =
     let receiving : s.receiving ≡ t.receiving = ap (λ (x : Met). x.1.0) met in
     let sending : s.sending ≡ t.sending = ap (λ (x : Met). x.1.1) met in
     let over : s.over ≡ t.over = bool_spelled.once s.over t.over tt tt (first_same (rest_same after3)) in
-    let spent : s.spent ≡ t.spent = p.unspent ∙ sym q.unspent in
+    let spent : s.spent ≡ t.spent = unspent ∙ sym quiet in
     λ i. record { listen = listen i; receive = receive i; send = send i; user = user i; receiving = receiving i; sending = sending i; over = over i; spent = spent i }
 
-server_spelled : Spelled server_object IsServerTold
+server_spelled : Spelled server_object (λ s. IsServiceWhole (service.Server s))
 server_spelled =
-    fields_spelled server_names server_values IsServerTold refl (λ s. refl)
-    (λ s is. also (string_closed (codes "server") (unmarked_where 34 (codes "server") refl)) (also (decimal_closed s.listen) (also (sockets_spelled.closed (s.receive, s.send) (is.receive, is.send))
-    (also (met_spelled.closed (s.user, (s.receiving, s.sending)) (is.user, (is.receiving, is.sending))) (also (bool_spelled.closed s.over tt) none_closed))))) server_once
+    fields_spelled server_names server_values (λ s. IsServiceWhole (service.Server s)) refl (λ s. refl)
+    (λ s is. also (string_closed (codes "server") (unmarked_where 34 (codes "server") refl)) (also (decimal_closed s.listen) (also (sockets_spelled.closed (s.receive, s.send) (is.1.receive, is.1.send))
+    (also (met_spelled.closed (s.user, (s.receiving, s.sending)) (is.1.user, (is.1.receiving, is.1.sending))) (also (bool_spelled.closed s.over tt) none_closed))))) server_once
 
 -- ---- users
 
@@ -167,8 +172,8 @@ user_names = codes "kind" ∷ codes "asked" ∷ codes "sockets" ∷ codes "opene
 abbrev user_values : UserState → List (List ℕ)
 user_values u = quoted (codes "user") ∷ asked_object u ∷ sockets_object u.receive u.send ∷ ends_object u ∷ number_text u.base ∷ object (bits_members u.bits) ∷ bool_text u.over ∷ []
 
-user_once : (u v : UserState) → IsUserTold u → IsUserTold v → user_values u ≡ user_values v → u ≡ v
-user_once u v p q e =
+user_once : (u v : UserState) → IsServiceWhole (service.User u) → IsServiceWhole (service.User v) → user_values u ≡ user_values v → u ≡ v
+user_once u v (unspent, p) (quiet, q) e =
     let after1 = rest_same e in
     let asked = asking_spelled.once (u.peer, (u.listen, u.own)) (v.peer, (v.listen, v.own)) (p.peer, (p.listen, p.own)) (q.peer, (q.listen, q.own)) (first_same after1) in
     let peer : u.peer ≡ v.peer = ap (λ (x : Asking). x.0) asked in
@@ -188,14 +193,14 @@ user_once u v p q e =
     let after5 = rest_same after4 in
     let bits : u.bits ≡ v.bits = bits_object.once u.bits v.bits tt tt (first_same after5) in
     let over : u.over ≡ v.over = bool_spelled.once u.over v.over tt tt (first_same (rest_same after5)) in
-    let spent : u.spent ≡ v.spent = p.unspent ∙ sym q.unspent in
+    let spent : u.spent ≡ v.spent = unspent ∙ sym quiet in
     λ i. record { peer = peer i; listen = listen i; own = own i; receive = receive i; send = send i; opened = opened i; bits = bits i; base = base i; receiving = receiving i; sending = sending i; over = over i; spent = spent i }
 
-user_spelled : Spelled user_object IsUserTold
+user_spelled : Spelled user_object (λ u. IsServiceWhole (service.User u))
 user_spelled =
-    fields_spelled user_names user_values IsUserTold refl (λ u. refl)
-    (λ u is. also (string_closed (codes "user") (unmarked_where 34 (codes "user") refl)) (also (asking_spelled.closed (u.peer, (u.listen, u.own)) (is.peer, (is.listen, is.own)))
-    (also (sockets_spelled.closed (u.receive, u.send) (is.receive, is.send)) (also (opened_spelled.closed (u.opened, (u.receiving, u.sending)) tt) (also (number_spelled.closed u.base is.base)
+    fields_spelled user_names user_values (λ u. IsServiceWhole (service.User u)) refl (λ u. refl)
+    (λ u is. also (string_closed (codes "user") (unmarked_where 34 (codes "user") refl)) (also (asking_spelled.closed (u.peer, (u.listen, u.own)) (is.1.peer, (is.1.listen, is.1.own)))
+    (also (sockets_spelled.closed (u.receive, u.send) (is.1.receive, is.1.send)) (also (opened_spelled.closed (u.opened, (u.receiving, u.sending)) tt) (also (number_spelled.closed u.base is.1.base)
     (also (bits_object.closed u.bits tt) (also (bool_spelled.closed u.over tt) none_closed))))))) user_once
 
 -- ---- echo services and terminals
@@ -203,41 +208,41 @@ user_spelled =
 abbrev echo_values : EchoState → List (List ℕ)
 echo_values e = quoted (codes "echo") ∷ sockets_object e.receive e.send ∷ []
 
-echo_spelled : Spelled (λ (e : EchoState). service_object (service.Echo e)) (λ e. IsServiceTold (service.Echo e))
+echo_spelled : Spelled (λ (e : EchoState). service_object (service.Echo e)) (λ e. IsServiceWhole (service.Echo e))
 echo_spelled =
-    fields_spelled (codes "kind" ∷ codes "sockets" ∷ []) echo_values (λ e. IsServiceTold (service.Echo e)) refl (λ e. refl)
-    (λ e is. also (string_closed (codes "echo") (unmarked_where 34 (codes "echo") refl)) (also (sockets_spelled.closed (e.receive, e.send) (is.0, is.1)) none_closed)) once
+    fields_spelled (codes "kind" ∷ codes "sockets" ∷ []) echo_values (λ e. IsServiceWhole (service.Echo e)) refl (λ e. refl)
+    (λ e is. also (string_closed (codes "echo") (unmarked_where 34 (codes "echo") refl)) (also (sockets_spelled.closed (e.receive, e.send) (is.1.0, is.1.1)) none_closed)) once
   where
-    once : (s t : EchoState) → IsServiceTold (service.Echo s) → IsServiceTold (service.Echo t) → echo_values s ≡ echo_values t → s ≡ t
-    once s t p q e =
+    once : (s t : EchoState) → IsServiceWhole (service.Echo s) → IsServiceWhole (service.Echo t) → echo_values s ≡ echo_values t → s ≡ t
+    once s t (unspent, p) (quiet, q) e =
         let sockets = sockets_spelled.once (s.receive, s.send) (t.receive, t.send) (p.0, p.1) (q.0, q.1) (first_same (rest_same e)) in
         let receive : s.receive ≡ t.receive = ap (λ (x : Sockets). x.0) sockets in
         let send : s.send ≡ t.send = ap (λ (x : Sockets). x.1) sockets in
-        let spent : s.spent ≡ t.spent = p.2 ∙ sym q.2 in
+        let spent : s.spent ≡ t.spent = unspent ∙ sym quiet in
         λ i. record { receive = receive i; send = send i; spent = spent i }
 
 abbrev terminal_values : TerminalState → List (List ℕ)
 terminal_values t = quoted (codes "terminal") ∷ sockets_object t.receive t.send ∷ quoted (encode_upper t.rest) ∷ object (bits_members t.part) ∷ []
 
-terminal_spelled : Spelled (λ (t : TerminalState). service_object (service.Terminal t)) (λ t. IsServiceTold (service.Terminal t))
+terminal_spelled : Spelled (λ (t : TerminalState). service_object (service.Terminal t)) (λ t. IsServiceWhole (service.Terminal t))
 terminal_spelled =
-    fields_spelled (codes "kind" ∷ codes "sockets" ∷ codes "rest" ∷ codes "came" ∷ []) terminal_values (λ t. IsServiceTold (service.Terminal t)) refl (λ t. refl)
-    (λ t is. also (string_closed (codes "terminal") (unmarked_where 34 (codes "terminal") refl)) (also (sockets_spelled.closed (t.receive, t.send) (is.0, is.1)) (also (octets_spelled.closed t.rest is.2) (also (bits_object.closed t.part tt) none_closed)))) once
+    fields_spelled (codes "kind" ∷ codes "sockets" ∷ codes "rest" ∷ codes "came" ∷ []) terminal_values (λ t. IsServiceWhole (service.Terminal t)) refl (λ t. refl)
+    (λ t is. also (string_closed (codes "terminal") (unmarked_where 34 (codes "terminal") refl)) (also (sockets_spelled.closed (t.receive, t.send) (is.1.0, is.1.1)) (also (octets_spelled.closed t.rest is.1.2) (also (bits_object.closed t.part tt) none_closed)))) once
   where
-    once : (s t : TerminalState) → IsServiceTold (service.Terminal s) → IsServiceTold (service.Terminal t) → terminal_values s ≡ terminal_values t → s ≡ t
-    once s t p q e =
+    once : (s t : TerminalState) → IsServiceWhole (service.Terminal s) → IsServiceWhole (service.Terminal t) → terminal_values s ≡ terminal_values t → s ≡ t
+    once s t (unspent, p) (quiet, q) e =
         let after = rest_same e in
         let sockets = sockets_spelled.once (s.receive, s.send) (t.receive, t.send) (p.0, p.1) (q.0, q.1) (first_same after) in
         let receive : s.receive ≡ t.receive = ap (λ (x : Sockets). x.0) sockets in
         let send : s.send ≡ t.send = ap (λ (x : Sockets). x.1) sockets in
         let rest : s.rest ≡ t.rest = octets_spelled.once s.rest t.rest p.2 q.2 (first_same (rest_same after)) in
         let part : s.part ≡ t.part = bits_object.once s.part t.part tt tt (first_same (rest_same (rest_same after))) in
-        let spent : s.spent ≡ t.spent = p.3 ∙ sym q.3 in
+        let spent : s.spent ≡ t.spent = unspent ∙ sym quiet in
         λ i. record { receive = receive i; send = send i; part = part i; rest = rest i; spent = spent i }
 
 -- ---- services
 
-service_closed : (s : Service) → IsServiceTold s → IsClosed (service_object s)
+service_closed : (s : Service) → IsServiceWhole s → IsClosed (service_object s)
 service_closed (service.Server s) is = server_spelled.closed s is
 service_closed (service.User u) is = user_spelled.closed u is
 service_closed (service.Echo e) is = echo_spelled.closed e is
@@ -247,7 +252,7 @@ service_closed (service.Terminal t) is = terminal_spelled.closed t is
 letters : (xs ys : List ℕ) → codes "{\"kind\":\"" ++ xs ≡ codes "{\"kind\":\"" ++ ys → xs ≡ ys
 letters xs ys e = append_cancel_left (codes "{\"kind\":\"") xs ys e
 
-service_once : (s t : Service) → IsServiceTold s → IsServiceTold t → service_object s ≡ service_object t → s ≡ t
+service_once : (s t : Service) → IsServiceWhole s → IsServiceWhole t → service_object s ≡ service_object t → s ≡ t
 service_once (service.Server s) (service.Server t) p q e = ap (λ (x : ServerState). service.Server x) (server_spelled.once s t p q e)
 service_once (service.Server s) (service.Echo t) p q e = absurd (other_first refl (letters _ _ e))
 service_once (service.Server s) (service.Terminal t) p q e = absurd (other_first refl (letters _ _ e))
@@ -261,12 +266,12 @@ service_once (service.Terminal s) (service.Terminal t) p q e = ap (λ (x : Termi
 service_once s (service.User t) p q e = absurd (other_first refl (letters _ _ e))
 service_once (service.User s) t p q e = absurd (other_first refl (letters _ _ e))
 
-all_spelled : Spelled (λ xs. array (map service_object xs)) (All IsServiceTold)
-all_spelled = lists_spelled service_object IsServiceTold (record { closed = service_closed; once = service_once })
+all_spelled : Spelled (λ xs. array (map service_object xs)) (All IsServiceWhole)
+all_spelled = lists_spelled service_object IsServiceWhole (record { closed = service_closed; once = service_once })
 
 record IsRunning (s : ServicesState) : Type 0 where
   typing : IfSome s.typing IsShort
-  running : All IsServiceTold s.running
+  running : All IsServiceWhole s.running
 
 abbrev running_values : ServicesState → List (List ℕ)
 running_values s = number_text s.typing ∷ array (map service_object s.running) ∷ []
@@ -284,30 +289,46 @@ running_spelled =
 
 -- ---- on all hosts
 
-runs : (s : ServiceSeat) → IsServed s → IsRunning s.services
-runs s is = record { typing = is.typing; running = is.running }
+both_all : (all : List Service) → All ServiceLasts all → All IsServiceTold all → All IsServiceWhole all
+both_all [] lasting told = All-nil IsServiceWhole
+both_all (s ∷ all) lasting told =
+    All-cons IsServiceWhole s all (All-head ServiceLasts s all lasting, All-head IsServiceTold s all told) (both_all all (All-tail ServiceLasts s all lasting) (All-tail IsServiceTold s all told))
 
-served_closed : (all : List ServiceSeat) → All IsServed all → All IsClosed (map services_member all)
+-- the services of a host, all of which is told
+record IsServedWhole (s : ServiceSeat) : Type 0 where
+  host : IsHostNamed s.host
+  services : IsRunning s.services
+
+all_whole : (all : List ServiceSeat) → All ServicesLast all → All IsServed all → All IsServedWhole all
+all_whole [] lasting told = All-nil IsServedWhole
+all_whole (s ∷ all) lasting told =
+    let is : IsServed s = All-head IsServed s all told in
+    All-cons IsServedWhole s all (record { host = is.host; services = record { typing = is.typing; running = both_all s.services.running (All-head ServicesLast s all lasting) is.running } })
+    (all_whole all (All-tail ServicesLast s all lasting) (All-tail IsServed s all told))
+
+served_closed : (all : List ServiceSeat) → All IsServedWhole all → All IsClosed (map services_member all)
 served_closed [] told = All-nil IsClosed
 served_closed (s ∷ all) told =
-    let is : IsServed s = All-head IsServed s all told in
-    All-cons IsClosed (services_member s) (map services_member all) (member_closed (host_text s.host) (running_object s.services) (host_words.plain s.host is.host) (running_spelled.closed s.services (runs s is)))
-    (served_closed all (All-tail IsServed s all told))
+    let is : IsServedWhole s = All-head IsServedWhole s all told in
+    All-cons IsClosed (services_member s) (map services_member all) (member_closed (host_text s.host) (running_object s.services) (host_words.plain s.host is.host) (running_spelled.closed s.services is.services))
+    (served_closed all (All-tail IsServedWhole s all told))
 
-served_once : (all others : List ServiceSeat) → map (λ s. s.host) all ≡ map (λ s. s.host) others → All IsServed all → All IsServed others → map services_member all ≡ map services_member others → all ≡ others
+served_once : (all others : List ServiceSeat) → map (λ s. s.host) all ≡ map (λ s. s.host) others → All IsServedWhole all → All IsServedWhole others → map services_member all ≡ map services_member others → all ≡ others
 served_once [] [] hosts p q e = refl
 served_once [] (t ∷ others) hosts p q e = absurd (cc)
 served_once (s ∷ all) [] hosts p q e = absurd (cc)
 served_once (s ∷ all) (t ∷ others) hosts p q e =
-    let a : IsServed s = All-head IsServed s all p in
-    let b : IsServed t = All-head IsServed t others q in
+    let a : IsServedWhole s = All-head IsServedWhole s all p in
+    let b : IsServedWhole t = All-head IsServedWhole t others q in
     let host : s.host ≡ t.host = first_same hosts in
     let moved : member (host_text t.host) (running_object s.services) ≡ services_member t = ap (λ (h : Host). member (host_text h) (running_object s.services)) (sym host) ∙ first_same e in
     let services : s.services ≡ t.services =
-    running_spelled.once s.services t.services (runs s a) (runs t b) (member_once (host_text t.host) (running_object s.services) (running_object t.services) moved) in
+    running_spelled.once s.services t.services a.services b.services (member_once (host_text t.host) (running_object s.services) (running_object t.services) moved) in
     let seat : s ≡ t = λ i. record { host = host i; services = services i } in
-    ap₂ (λ (x : ServiceSeat) (xs : List ServiceSeat). x ∷ xs) seat (served_once all others (rest_same hosts) (All-tail IsServed s all p) (All-tail IsServed t others q) (rest_same e))
+    ap₂ (λ (x : ServiceSeat) (xs : List ServiceSeat). x ∷ xs) seat (served_once all others (rest_same hosts) (All-tail IsServedWhole s all p) (All-tail IsServedWhole t others q) (rest_same e))
 
-pub services_once : (all others : List ServiceSeat) → map (λ s. s.host) all ≡ map (λ s. s.host) others → All IsServed all → All IsServed others → services_text all ≡ services_text others → all ≡ others
-services_once all others hosts p q e =
-    served_once all others hosts p q (object_once (map services_member all) (map services_member others) (served_closed all p) (served_closed others q) e)
+pub services_once : (all others : List ServiceSeat) → map (λ s. s.host) all ≡ map (λ s. s.host) others → All ServicesLast all → All ServicesLast others → All IsServed all → All IsServed others → services_text all ≡ services_text others → all ≡ others
+services_once all others hosts k l p q e =
+    let one : All IsServedWhole all = all_whole all k p in
+    let other : All IsServedWhole others = all_whole others l q in
+    served_once all others hosts one other (object_once (map services_member all) (map services_member others) (served_closed all one) (served_closed others other) e)

@@ -8,14 +8,18 @@ use Rattle.interface.specs.Host.{Host}
 use Rattle.net_sim.specs.World.{WorldState, opening_seats, opening_services, opening_world}
 use Rattle.sockets.specs.Pairs.{opening_state}
 use Rattle.trace.specs.Named.{IsHostNamed}
-use Rattle.world_trace.specs.Told.{HaveSameTexts, IsListenerTold, IsPairTold, IsSeatTold, IsServed, IsServiceTold, IsWorldTold}
+use Rattle.world_replay.specs.Output.{Shown}
+use Rattle.world_replay.specs.Replay.{Replays}
+use Rattle.world_script.specs.declared.event.WorldEvent.{WorldEvent}
+use Rattle.world_trace.specs.Told.{AreNumbersTold, HaveSameTexts, IsListenerTold, IsPairTold, IsSeatTold, IsServed, IsServiceTold, IsWorldTold}
 use Rattle.world_trace.proofs.Programs.{programs_once}
 use Rattle.world_trace.proofs.Running.{services_once}
+use Rattle.world_trace.proofs.WorldsLast.{Runs, opening_lasts, replay_runs}
 
 pub whole : {C : Type 0} (one other : WorldState C) → IsWorldTold one → IsWorldTold other → HaveSameTexts one other → other ≡ record one { carrier = other.carrier; kept = other.kept }
 whole one other p q same =
-    let seats : other.seats ≡ one.seats = sym (programs_once one.seats other.seats same.seats p.programs q.programs same.programs) in
-    let served : other.services ≡ one.services = sym (services_once one.services other.services same.served p.services q.services same.services) in
+    let seats : other.seats ≡ one.seats = sym (programs_once one.seats other.seats same.seats p.lasting.programs q.lasting.programs p.numbers.programs q.numbers.programs same.programs) in
+    let served : other.services ≡ one.services = sym (services_once one.services other.services same.served p.lasting.services q.lasting.services p.numbers.services q.numbers.services same.services) in
     let stopped : other.stopped ≡ one.stopped = q.running ∙ sym p.running in
     λ i. record { carrier = other.carrier; seats = seats i; services = served i; kept = other.kept; stopped = stopped i }
 
@@ -25,7 +29,7 @@ programs_told : (hosts : List Host) → All IsHostNamed hosts → All IsSeatTold
 programs_told [] all = All-nil IsSeatTold
 programs_told (h ∷ hosts) all =
     All-cons IsSeatTold (record { host = h; program = Some (opening_state h) }) (opening_seats hosts)
-    (record { host = All-head IsHostNamed h hosts all; program = record { own = refl; unspent = refl; peers = All-nil IsPairTold; listening = All-nil IsListenerTold } })
+    (record { host = All-head IsHostNamed h hosts all; program = record { peers = All-nil IsPairTold; listening = All-nil IsListenerTold } })
     (programs_told hosts (All-tail IsHostNamed h hosts all))
 
 services_told : (hosts : List Host) → All IsHostNamed hosts → All IsServed (opening_services hosts)
@@ -35,4 +39,15 @@ services_told (h ∷ hosts) all =
     (record { host = All-head IsHostNamed h hosts all; typing = tt; running = All-nil IsServiceTold }) (services_told hosts (All-tail IsHostNamed h hosts all))
 
 pub opening_told : {C : Type 0} (calls : Calls C) (c : C) → All IsHostNamed (calls.seen c).hosts → IsWorldTold (opening_world calls c)
-opening_told calls c all = record { running = refl; programs = programs_told (calls.seen c).hosts all; services = services_told (calls.seen c).hosts all }
+opening_told calls c all = record {
+  running = refl;
+  lasting = opening_lasts calls c;
+  numbers = record { programs = programs_told (calls.seen c).hosts all; services = services_told (calls.seen c).hosts all };
+}
+
+-- ---- replays
+
+pub reached_told : {C : Type 0} (calls : Calls C) (c : C) (events : List WorldEvent) (w : WorldState C) (lines : List Shown) → Replays calls (opening_world calls c) events w lines → AreNumbersTold w → IsWorldTold w
+reached_told {C} calls c events w lines h numbers =
+    let runs : Runs w = replay_runs calls events (opening_world calls c) w lines (record { on = refl; last = opening_lasts calls c }) h in
+    record { running = runs.on; lasting = runs.last; numbers = numbers }

@@ -1,4 +1,6 @@
 pub mod Carriers
+pub mod Lasting
+pub mod Reached
 pub mod Steps
 pub mod Texts
 pub mod Told

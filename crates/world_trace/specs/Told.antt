@@ -9,7 +9,6 @@ use Rattle.host_services.specs.declared.service.Service.TheVariants as service
 use Rattle.icp.specs.Server.{ServerState}
 use Rattle.icp.specs.User.{UserState}
 use Rattle.icp.specs.declared.notices.Partner.{Partner}
-use Rattle.interface.specs.Host.{Host}
 use Rattle.ncp_control.specs.declared.allocation.Allocation.{Allocation}
 use Rattle.ncp_control.specs.declared.command.Command.{Command}
 use Rattle.ncp_control.specs.declared.command.Command.TheVariants as command
@@ -19,6 +18,7 @@ use Rattle.net_sim.specs.declared.seat.ServiceSeat.{ServiceSeat}
 use Rattle.sockets.specs.Pairs.{NcpState}
 use Rattle.sockets.specs.declared.peer.Peer.{Peer}
 use Rattle.trace.specs.Named.{IsHostNamed, IsShort}
+use Rattle.world_trace.specs.Lasting.{Lasts}
 use Rattle.world_trace.specs.Texts.{programs_text, services_text}
 
 -- ---- programs
@@ -83,16 +83,13 @@ pub record IsListenerTold (l : Listener) : Type 0 where
   pub socket : IsShort l.socket
   pub size : IsShort l.size
 
--- the program of this host, which has not run out of memory
-pub record IsProgramTold (h : Host) (s : NcpState) : Type 0 where
-  pub own : s.own ≡ h
-  pub unspent : s.spent ≡ false
+pub record IsProgramTold (s : NcpState) : Type 0 where
   pub peers : All IsPairTold s.peers
   pub listening : All IsListenerTold s.listening
 
 pub record IsSeatTold (s : Seat) : Type 0 where
   pub host : IsHostNamed s.host
-  pub program : IfSome s.program (IsProgramTold s.host)
+  pub program : IfSome s.program IsProgramTold
 
 -- ---- services
 
@@ -107,7 +104,6 @@ pub record IsServerTold (s : ServerState) : Type 0 where
   pub user : IfSome s.user IsPartnerTold
   pub receiving : IfSome s.receiving IsPartnerTold
   pub sending : IfSome s.sending IsPartnerTold
-  pub unspent : s.spent ≡ false
 
 pub record IsUserTold (u : UserState) : Type 0 where
   pub peer : IsHostNamed u.peer
@@ -116,13 +112,12 @@ pub record IsUserTold (u : UserState) : Type 0 where
   pub receive : IsShort u.receive
   pub send : IsShort u.send
   pub base : IfSome u.base IsShort
-  pub unspent : u.spent ≡ false
 
 abbrev pub IsServiceTold : Service → Type 0
 IsServiceTold (service.Server s) = IsServerTold s
 IsServiceTold (service.User u) = IsUserTold u
-IsServiceTold (service.Echo e) = IsShort e.receive × IsShort e.send × (e.spent ≡ false)
-IsServiceTold (service.Terminal t) = IsShort t.receive × IsShort t.send × IsBytes t.rest × (t.spent ≡ false)
+IsServiceTold (service.Echo e) = IsShort e.receive × IsShort e.send
+IsServiceTold (service.Terminal t) = IsShort t.receive × IsShort t.send × IsBytes t.rest
 
 pub record IsServed (s : ServiceSeat) : Type 0 where
   pub host : IsHostNamed s.host
@@ -131,10 +126,16 @@ pub record IsServed (s : ServiceSeat) : Type 0 where
 
 -- ---- worlds
 
-pub record IsWorldTold {C : Type 0} (w : WorldState C) : Type 0 where
-  pub running : w.stopped ≡ false
+-- all its numbers have decimals of their own, and octets are octets
+pub record AreNumbersTold {C : Type 0} (w : WorldState C) : Type 0 where
   pub programs : All IsSeatTold w.seats
   pub services : All IsServed w.services
+
+-- memory has not run out either
+pub record IsWorldTold {C : Type 0} (w : WorldState C) : Type 0 where
+  pub running : w.stopped ≡ false
+  pub lasting : Lasts w
+  pub numbers : AreNumbersTold w
 
 -- two worlds of the same hosts, in the same order, whose programs have the same texts, and whose services do
 pub record HaveSameTexts {C : Type 0} (one other : WorldState C) : Type 0 where

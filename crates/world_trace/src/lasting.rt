@@ -1,38 +1,46 @@
 //! Worlds in which memory lasts: of these the texts of a trace say all.
 //!
-//! That each number has a decimal of its own is what the numbers' types promise. So the functions here look at each number,
-//! and the prover then knows its range; at run time they only look whether a program or a service has run out of memory.
+//! That each number has a decimal of its own is what the numbers' types promise. So the functions here that are for the proof only look at
+//! each number, and the prover then knows its range.
 
 ghost use Rattle.std.specs.List.{All};
-ghost use Rattle.std.specs.Prelude.{◌≡◌, ◌<◌, ◌∷◌, [], IfSome, false, true};
+ghost use Rattle.std.specs.Prelude.{◌≡◌, ◌<◌, ◌∷◌, [], IfSome, List, false, true};
 ghost use Rattle.hex.specs.Hex.{IsBytes};
+ghost use Rattle.net_sim.specs.Carriers.{shown};
+ghost use Rattle.net_sim.specs.World.{opening_world};
+ghost use Rattle.script.specs.Spelling.{IsFlow, IsHost, IsMessage};
 ghost use Rattle.trace.specs.Named.{IsHostNamed, IsShort};
-ghost use Rattle.world_trace.specs.Told as told;
-ghost use Rattle.world_trace.specs.Told.{IsAllocationTold, IsPartnerTold, IsProgramTold, IsWorldTold, numbers_of, quoted_by};
+ghost use Rattle.world_replay.specs.Output.{Shown};
+ghost use Rattle.world_replay.specs.Replay.{Replays};
+ghost use Rattle.world_script.specs.declared.event.WorldEvent.{WorldEvent};
+ghost use Rattle.world_trace.specs.Lasting.{Lasts, ProgramLasts, SeatLasts, ServiceLasts, ServicesLast};
+ghost use Rattle.world_trace.specs.Reached.{IsSaid};
+ghost use Rattle.world_trace.specs.Told as texts;
+ghost use Rattle.world_trace.specs.Told.{AreNumbersTold, IsAllocationTold, IsPartnerTold, IsProgramTold, IsWorldTold, numbers_of, quoted_by};
 
 use host_services::{Block, Service};
 use icp::{Partner, Server, User};
-use interface::{Carrier, HostAddr};
+use interface::{Carrier, Crossing, Flow, HostAddr, HostMessage};
 use ncp_control::{Allocation, ByteSize, Command, ConnectionLink, ReceiveSocket, SendSocket};
 use net_sim::{Seat, ServiceSeat, World};
 use sockets::{Entry, Listener, Ncp, Pair, Peer};
 use terminal::{EchoService, LineTerminal};
 
-/// What texts say all of, while memory lasts in it.
+/// What has programs or services, in which memory lasts or not.
 trait Lasting {
-    /// Texts say all of it.
-    ghost told: { Self → Type 0 };
+    /// Memory lasts in all of them.
+    ghost going: { Self → Type 0 };
 
-    /// Returns whether memory lasts in it.
+    /// Returns whether memory lasts in all of them.
     fn lasts(&self) -> bool
-        ensures lasting { result ≡ true → told self.now }
-        ensures exact { told self.now → result ≡ true };
+        ensures lasting { result ≡ true → going self.now }
+        ensures exact { going self.now → result ≡ true };
 }
 
 /// Returns whether memory lasts in each of these.
 fn all_last<T: Lasting>(items: &[T]) -> bool
-    ensures lasting { result ≡ true → All T.told items.now }
-    ensures exact { All T.told items.now → result ≡ true }
+    ensures lasting { result ≡ true → All T.going items.now }
+    ensures exact { All T.going items.now → result ≡ true }
 {
     for item in items {
         if !item.lasts() {
@@ -40,6 +48,25 @@ fn all_last<T: Lasting>(items: &[T]) -> bool
         }
     }
     true
+}
+
+/// What has numbers.
+trait Numbered {
+    /// Texts say all of its numbers.
+    ghost told: { Self → Type 0 };
+
+    /// Proves that texts say all of its numbers. It is for the proof only, as are its implementations.
+    fn numbers(&self)
+        ensures { told self.now };
+}
+
+/// Proves that texts say all numbers of these.
+fn all_numbers<T: Numbered>(items: &[T])
+    ensures { All T.told items.now }
+{
+    for item in items {
+        item.numbers();
+    }
 }
 
 // ---- numbers
@@ -184,7 +211,7 @@ fn parts(link: u8, messages: u8, bits: u8)
 }
 
 /// Proves that the numbers of a command are short.
-fn numbers(command: &Command)
+fn command_numbers(command: &Command)
     ensures { All IsShort (numbers_of command.now) }
 {
     match command {
@@ -230,92 +257,98 @@ fn quoted(command: &Command)
     }
 }
 
-impl Lasting for Command {
-    ghost told = { told.IsCommandTold };
+impl Numbered for Command {
+    ghost told = { texts.IsCommandTold };
 
-    fn lasts(&self) -> bool {
-        numbers(self);
+    fn numbers(&self) {
+        command_numbers(self);
         quoted(self);
-        true
     }
 }
 
 // ---- programs
 
-impl Lasting for u8 {
+impl Numbered for u8 {
     ghost told = { IsShort };
 
-    fn lasts(&self) -> bool {
+    fn numbers(&self) {
         octet(*self);
-        true
     }
 }
 
-impl Lasting for Entry {
-    ghost told = { told.IsEndTold };
+impl Numbered for Entry {
+    ghost told = { texts.IsEndTold };
 
-    fn lasts(&self) -> bool {
+    fn numbers(&self) {
         two(self.own, self.foreign);
         known_place(self.asked);
         known_place(self.partner);
         known_link(&self.link);
         known_size(&self.size);
         counters(&self.allocation);
-        true
     }
 }
 
-/// Returns whether memory lasts in what a host knows of another one, which it always does.
-fn pair_lasts(pair: &Pair) -> bool
-    ensures busy { result ≡ true → All IsShort pair.now.busy }
-    ensures ends { result ≡ true → All told.IsEndTold pair.now.entries }
-    ensures commands { result ≡ true → All told.IsCommandTold pair.now.queue }
-    ensures exact { All IsShort pair.now.busy → All told.IsEndTold pair.now.entries → All told.IsCommandTold pair.now.queue → result ≡ true }
+/// Proves that texts say all numbers of what a host knows of another one.
+fn pair_numbers(pair: &Pair)
+    ensures busy { All IsShort pair.now.busy }
+    ensures ends { All texts.IsEndTold pair.now.entries }
+    ensures commands { All texts.IsCommandTold pair.now.queue }
 {
-    if !all_last(&pair.busy) {
-        return false;
-    }
-    if !all_last(pair.entries.as_slice()) {
-        return false;
-    }
-    all_last(pair.queue.as_slice())
+    all_numbers(&pair.busy);
+    all_numbers(pair.entries.as_slice());
+    all_numbers(pair.queue.as_slice());
 }
 
-impl Lasting for Peer {
-    ghost told = { told.IsPairTold };
+impl Numbered for Peer {
+    ghost told = { texts.IsPairTold };
 
-    fn lasts(&self) -> bool {
+    fn numbers(&self) {
         host(&self.host);
-        pair_lasts(&self.pair)
+        pair_numbers(&self.pair);
     }
 }
 
-impl Lasting for Listener {
-    ghost told = { told.IsListenerTold };
+impl Numbered for Listener {
+    ghost told = { texts.IsListenerTold };
 
-    fn lasts(&self) -> bool {
+    fn numbers(&self) {
         word(self.socket);
         octet(self.size.bits());
-        true
     }
 }
 
-/// Returns whether a program is of this host, and memory lasts in it.
-fn program_lasts(host: &HostAddr, program: &Ncp) -> bool
-    ensures lasting { result ≡ true → IsProgramTold host.now program.now }
-    ensures exact { IsProgramTold host.now program.now → result ≡ true }
+/// Proves that texts say all numbers of a program.
+fn program_numbers(program: &Ncp)
+    ensures { IsProgramTold program.now }
 {
-    program.own() == *host
-        && !program.is_spent()
-        && all_last(program.peers())
-        && all_last(program.listening())
+    all_numbers(program.peers());
+    all_numbers(program.listening());
+}
+
+impl Numbered for Seat {
+    ghost told = { texts.IsSeatTold };
+
+    fn numbers(&self) {
+        host(&self.host);
+        if let Some(program) = &self.program {
+            program_numbers(program);
+        }
+    }
+}
+
+/// Returns whether a program is this host's, and has not run out of memory.
+fn program_lasts(host: &HostAddr, program: &Ncp) -> bool
+    ensures lasting { result ≡ true → ProgramLasts host.now program.now }
+    ensures exact { ProgramLasts host.now program.now → result ≡ true }
+{
+    program.own() == *host && !program.is_spent()
 }
 
 impl Lasting for Seat {
-    ghost told = { told.IsSeatTold };
+    ghost going = { SeatLasts };
 
     fn lasts(&self) -> bool {
-        host(&self.host);
         match &self.program {
             Some(program) => program_lasts(&self.host, program),
             None => true,
@@ -335,93 +368,170 @@ fn known_partner(partner: Option<Partner>)
     }
 }
 
-impl Lasting for Server {
-    ghost told = { told.IsServerTold };
+impl Numbered for Server {
+    ghost told = { texts.IsServerTold };
 
-    fn lasts(&self) -> bool {
+    fn numbers(&self) {
         word(self.listen().number());
         two(self.receive().number(), self.send().number());
         known_partner(self.user());
         known_partner(self.receiving());
         known_partner(self.sending());
-        !self.is_spent()
     }
 }
 
-impl Lasting for User {
-    ghost told = { told.IsUserTold };
+impl Numbered for User {
+    ghost told = { texts.IsUserTold };
 
-    fn lasts(&self) -> bool {
+    fn numbers(&self) {
         host(&self.peer());
         two(self.listen().number(), self.own().number());
         two(self.receive().number(), self.send().number());
         known_receiving(self.base());
-        !self.is_spent()
     }
 }
 
-impl Lasting for EchoService {
+impl Numbered for EchoService {
     ghost use Rattle.host_services.specs.declared.service.Service.TheVariants as service;
 
-    ghost told = { λ e. told.IsServiceTold (service.Echo e) };
+    ghost told = { λ e. texts.IsServiceTold (service.Echo e) };
 
-    fn lasts(&self) -> bool {
+    fn numbers(&self) {
         two(self.receive().number(), self.send().number());
-        !self.is_spent()
     }
 }
 
-impl Lasting for LineTerminal {
+impl Numbered for LineTerminal {
     ghost use Rattle.host_services.specs.declared.service.Service.TheVariants as service;
 
-    ghost told = { λ t. told.IsServiceTold (service.Terminal t) };
+    ghost told = { λ t. texts.IsServiceTold (service.Terminal t) };
 
-    fn lasts(&self) -> bool {
+    fn numbers(&self) {
         two(self.receive().number(), self.send().number());
         octets(self.rest());
-        !self.is_spent()
     }
 }
 
-impl Lasting for Service {
-    ghost told = { told.IsServiceTold };
+impl Numbered for Service {
+    ghost told = { texts.IsServiceTold };
 
-    fn lasts(&self) -> bool {
+    fn numbers(&self) {
         match self {
-            Service::Server(server) => server.lasts(),
-            Service::User(user) => user.lasts(),
-            Service::Echo(echo) => echo.lasts(),
-            Service::Terminal(terminal) => terminal.lasts(),
+            Service::Server(server) => server.numbers(),
+            Service::User(user) => user.numbers(),
+            Service::Echo(echo) => echo.numbers(),
+            Service::Terminal(terminal) => terminal.numbers(),
         }
     }
 }
 
+impl Lasting for Service {
+    ghost going = { ServiceLasts };
+
+    fn lasts(&self) -> bool {
+        !match self {
+            Service::Server(server) => server.is_spent(),
+            Service::User(user) => user.is_spent(),
+            Service::Echo(echo) => echo.is_spent(),
+            Service::Terminal(terminal) => terminal.is_spent(),
+        }
+    }
+}
+
+impl Numbered for Block {
+    ghost told = { All texts.IsServiceTold };
+
+    fn numbers(&self) {
+        all_numbers(self.as_slice());
+    }
+}
+
 impl Lasting for Block {
-    ghost told = { All told.IsServiceTold };
+    ghost going = { All ServiceLasts };
 
     fn lasts(&self) -> bool {
         all_last(self.as_slice())
     }
 }
 
-impl Lasting for ServiceSeat {
-    ghost told = { told.IsServed };
+impl Numbered for ServiceSeat {
+    ghost told = { texts.IsServed };
 
-    fn lasts(&self) -> bool {
+    fn numbers(&self) {
         host(&self.host);
         known_sending(self.services.typing());
+        let (blocks, last) = self.services.running();
+        all_numbers(blocks);
+        all_numbers(last);
+    }
+}
+
+impl Lasting for ServiceSeat {
+    ghost going = { ServicesLast };
+
+    fn lasts(&self) -> bool {
         let (blocks, last) = self.services.running();
         all_last(blocks) && all_last(last)
     }
 }
 
+// ---- crossings
+
+/// Proves that a host has a number from 0 to 3, at an IMP from 1 to 63.
+fn valid_host(host: HostAddr)
+    ensures { IsHost host }
+{
+    let _ = host.imp();
+    let _ = host.host();
+}
+
+/// Proves that both hosts of a flow are valid, and that its link has 8 bits.
+fn valid_flow(flow: Flow)
+    ensures { IsFlow flow }
+{
+    valid_host(flow.source);
+    valid_host(flow.destination);
+}
+
+/// Proves that a message is of a valid flow, and that its text has at most 8063 bits.
+fn valid_message(message: &HostMessage)
+    ensures { IsMessage message.now }
+{
+    valid_flow(message.flow);
+    let _ = message.text.bits();
+}
+
+impl Numbered for Crossing {
+    ghost told = { IsSaid };
+
+    fn numbers(&self) {
+        if let Crossing::Out(message) = self {
+            valid_message(message);
+        }
+    }
+}
+
 // ---- worlds
 
-/// Returns whether memory lasts in all programs and services of a world. While it lasts in the world too, the texts of these then
-/// say all of them ([`crate::law::whole`]).
-pub fn lasts<C: Carrier>(world: &World<C>) -> bool
-    ensures lasting { result ≡ true → world.now.stopped ≡ false → IsWorldTold world.now }
-    ensures exact { IsWorldTold world.now → result ≡ true }
+/// Proves that the texts of a trace say all numbers of a world at hand, and that a script may ask for the messages that went out in it, since both
+/// have their types. So these texts say all of it ([`crate::law::whole`], [`crate::law::states`]) where a replay has come to it. It is for the proof only.
+pub fn says_all<C: Carrier>(world: &World<C>)
+    ensures numbers { AreNumbersTold world.now }
+    ensures messages { All IsSaid world.now.kept.book.crossings }
+    ensures reached { (c : C) (script : List WorldEvent) (lines : List Shown) → Replays (shown C.calls) (opening_world C.calls c) script world.now lines → IsWorldTold world.now }
 {
+    all_numbers(world.seats());
+    all_numbers(world.services());
+    all_numbers(world.book().crossings());
+}
+
+/// Returns whether memory lasts in all programs and services of a world, and each program is its host's. While it lasts in the world
+/// too, the texts of a trace say all of them ([`crate::law::whole`]). In a world to which a replay has come it always does.
+pub fn lasts<C: Carrier>(world: &World<C>) -> bool
+    ensures lasting { result ≡ true → Lasts world.now }
+    ensures exact { Lasts world.now → result ≡ true }
+    ensures told { result ≡ true → world.now.stopped ≡ false → IsWorldTold world.now }
+{
+    says_all(world);
     all_last(world.seats()) && all_last(world.services())
 }

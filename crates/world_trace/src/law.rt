@@ -6,17 +6,25 @@ ghost use Rattle.net_sim.specs.World.{WorldState, opening_world};
 ghost use Rattle.trace.specs.Named.{IsHostNamed};
 ghost use Rattle.world_trace.specs.Carriers.{PlainCarriers, SubnetCarriers};
 ghost use Rattle.world_trace.specs.Laws.Calm.{CalmRound};
+ghost use Rattle.world_trace.specs.Laws.Whole.{WholeLasting, WholeReached, WholeTraced};
+ghost use Rattle.world_trace.specs.Reached.{PlainStates, SubnetStates};
 ghost use Rattle.world_trace.specs.Told.{HaveSameTexts, IsWorldTold};
 
 use interface::Carrier;
 
 /// The texts of programs and services say all of a world but its carrier, which has parts of its own, and what is kept: two worlds of the same hosts
-/// with the same texts differ in nothing else. Of a world at hand [`crate::lasts`] says whether `IsWorldTold` holds.
+/// with the same texts differ in nothing else. This is so of each world to which a replay comes, if its numbers are not too long for a decimal:
+/// of a world at hand [`crate::says_all`] says that they are not.
 pub fn whole<C: Carrier>()
     ensures texts { (one other : WorldState C) → IsWorldTold one → IsWorldTold other → HaveSameTexts one other → other ≡ record one { carrier = other.carrier; kept = other.kept } }
 
     // so is each world at its opening whose hosts can be named
     ensures opening { (c : C) → All IsHostNamed (C.calls.seen c).hosts → IsWorldTold (opening_world C.calls c) }
+
+    // and while memory lasts in the world it lasts in all programs and services
+    ensures lasting { WholeLasting C.calls }
+    ensures reached { WholeReached C.calls }
+    ensures traced { WholeTraced C.calls }
 {}
 
 /// The events of a round that a trace has, with those that have no line, are a calm of one round as a replay lets it happen.
@@ -30,3 +38,13 @@ pub fn carriers()
     ensures plain { PlainCarriers }
     ensures subnets { SubnetCarriers }
 {}
+
+/// The texts of all parts of a carrier, of programs and of services say all of a world to which a replay comes, but its log and what is kept: two
+/// worlds over one network with the same texts are in the same state.
+pub fn states()
+    ensures plain { PlainStates }
+    ensures subnets { SubnetStates }
+{
+    trace::law::whole();
+    subnet_trace::law::whole();
+}

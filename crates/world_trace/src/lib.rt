@@ -21,7 +21,8 @@ mod texts;
 mod traced;
 mod values;
 pub mod worked;
+pub mod worked_lasting;
 pub mod worked_networks;
 
-pub use lasting::lasts;
+pub use lasting::{lasts, says_all};
 pub use traced::trace_world;

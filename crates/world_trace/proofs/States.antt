@@ -1,0 +1,172 @@
+-- What each call of a carrier keeps holds of the carrier of each world that the replay of a script comes to.
+use Rattle.std.proofs.Common.{◌≡◌, inl, inr, List, [], ◌∷◌, ◌++◌, Result, reverse, ap, sym, subst, ◌∙◌}
+use Rattle.std.proofs.lemmas.List.{append-nil, reverse-append, reverse-reverse}
+use Rattle.std.proofs.lemmas.List.Elements.{All-append, All-cons, All-head, All-nil, All-same, All-tail}
+use Rattle.std.specs.List.{All}
+use Rattle.interface.specs.Calls.{Calls}
+use Rattle.interface.specs.Host.{Host}
+use Rattle.interface.specs.declared.CarrierFault.{CarrierFault}
+use Rattle.interface.specs.declared.HostMessage.{HostMessage}
+use Rattle.interface.specs.declared.NetEvent.{NetEvent}
+use Rattle.interface.specs.declared.crossing.Crossing.{Crossing}
+use Rattle.interface.specs.declared.crossing.Crossing.TheVariants as crossing
+use Rattle.net_sim.specs.World.{WorldState, opening_world}
+use Rattle.net_sim.specs.declared.event.Event.{Event}
+use Rattle.net_sim.specs.declared.event.Event.TheVariants as event
+use Rattle.replay.specs.InTurn.{InTurn}
+use Rattle.replay.specs.Output.{Shown, crossings_of}
+use Rattle.replay.specs.Replay.{GoesOn, Happens}
+use Rattle.script.specs.Spelling.{IsMessage, IsNetEvent}
+use Rattle.script.specs.declared.event.RawEvent.TheVariants as raw
+use Rattle.world_replay.specs.Driven.{Drive, Goes, IsCourse, IsDriven, IsDrivenIn, IsOffer, IsTaking, Makes, Raw, Round}
+use Rattle.world_replay.specs.Replay.{IsOfCalm}
+use Rattle.world_replay.proofs.lemmas.Driven.{replay_drives}
+use Rattle.world_script.specs.WorldSpelling.{IsWorldEvent}
+use Rattle.world_script.specs.declared.event.WorldEvent.{WorldEvent}
+use Rattle.world_script.specs.declared.event.WorldEvent.TheVariants as script
+use Rattle.world_trace.specs.Reached.{IsReached, IsSaid}
+
+-- what the calls of a carrier keep, where events of the network and messages that cross are such as a script may ask for
+pub record Keeps {C : Type 0} (calls : Calls C) (Holds : C → Type 0) : Type 0 where
+  pub net : (old new : C) (e : NetEvent) (lines : List Shown) → IsNetEvent e → Happens calls old (raw.Net e) new lines → Holds old → Holds new
+  pub take : (old new : C) (h : Host) (lines : List Shown) → Happens calls old (raw.Take h) new lines → Holds old → Holds new
+  pub out : (old new : C) (m : HostMessage) (lines : List Shown) → IsMessage m → Happens calls old (raw.Out m) new lines → Holds old → Holds new
+  pub unsaid : (old new : C) (m : HostMessage) (lines : List Shown) → crossings_of lines ≡ [] → Happens calls old (raw.Out m) new lines → Holds old → Holds new
+  pub round : (old new : C) (answer : Result (Unit {0}) CarrierFault) → calls.rounds old answer new → GoesOn answer → Holds old → Holds new
+
+-- what is asked of an event of a world: one of the network is such as a script may ask for
+abbrev IsFit : Event → Type 0
+IsFit (event.Net e) = IsNetEvent e
+IsFit e = Unit {0}
+
+fit_script : (e : Event) → IsWorldEvent (script.Happen e) → IsFit e
+fit_script (event.Net e) valid = valid
+fit_script event.Quiet valid = tt
+fit_script (event.Offer h) valid = tt
+fit_script (event.Take h) valid = tt
+fit_script (event.Ask h r) valid = tt
+fit_script (event.Server h listen base) valid = tt
+fit_script (event.User h peer listen own) valid = tt
+fit_script (event.Typed h line) valid = tt
+
+fit_calm : (e : Event) → IsOfCalm e → IsFit e
+fit_calm (event.Net e) calm = absurd calm
+fit_calm event.Quiet calm = tt
+fit_calm (event.Offer h) calm = tt
+fit_calm (event.Take h) calm = tt
+fit_calm (event.Ask h r) calm = tt
+fit_calm (event.Server h listen base) calm = tt
+fit_calm (event.User h peer listen own) calm = tt
+fit_calm (event.Typed h line) calm = tt
+
+all_fit : (events : List Event) → All IsOfCalm events → All IsFit events
+all_fit [] calm = All-nil IsFit
+all_fit (e ∷ events) calm = All-cons IsFit e events (fit_calm e (All-head IsOfCalm e events calm)) (all_fit events (All-tail IsOfCalm e events calm))
+
+course_fit : (e : WorldEvent) (events : List Event) → IsWorldEvent e → IsCourse e events → All IsFit events
+course_fit (script.Happen e) events valid course = subst (All IsFit) (sym course) (All-cons IsFit e [] (fit_script e valid) (All-nil IsFit))
+course_fit (script.Calm rounds) events valid course = all_fit events course.0
+
+-- what was said earlier was said
+earlier : (cs log : List Crossing) → All IsSaid (cs ++ log) → All IsSaid log
+earlier [] log all = all
+earlier (c ∷ cs) log all = earlier cs log (All-tail IsSaid c (cs ++ log) all)
+
+later : (cs log : List Crossing) → All IsSaid (cs ++ log) → All IsSaid cs
+later [] log all = All-nil IsSaid
+later (c ∷ cs) log all = All-cons IsSaid c cs (All-head IsSaid c (cs ++ log) all) (later cs log (All-tail IsSaid c (cs ++ log) all))
+
+-- in whichever order
+all_reverse : (cs : List Crossing) → All IsSaid cs → All IsSaid (reverse cs)
+all_reverse [] all = All-nil IsSaid
+all_reverse (c ∷ cs) all =
+    All-same IsSaid (reverse (c ∷ cs)) (reverse cs ++ c ∷ []) (reverse-append (c ∷ []) cs)
+    (All-append IsSaid (reverse cs) (c ∷ []) (all_reverse cs (All-tail IsSaid c cs all)) (All-cons IsSaid c [] (All-head IsSaid c cs all) (All-nil IsSaid)))
+
+pub in_order : (cs : List Crossing) → All IsSaid (reverse cs) → All IsSaid cs
+in_order cs all = All-same IsSaid cs (reverse (reverse cs)) (sym (reverse-reverse cs)) (all_reverse (reverse cs) all)
+
+module _ {C : Type 0} (calls : Calls C) (Holds : C → Type 0) (keeps : Keeps calls Holds) where
+  -- one call, which shows these lines
+  one_goes : (d : Drive) (old new : C) (lines : List Shown) (cs : List Crossing) → InTurn (Goes calls) old (d ∷ []) new lines → crossings_of lines ≡ cs → ((first : List Shown) → crossings_of first ≡ cs → Goes calls old d new first → Holds new) → Holds new
+  one_goes d old new lines cs (mid, first, rest, one, (same, none), all) is k =
+      let front : lines ≡ first = all ∙ ap (λ (ls : List Shown). first ++ ls) none ∙ append-nil first in
+      k first (sym (ap crossings_of front) ∙ is) (subst (λ (c : C). Goes calls old d c first) (sym same) one)
+
+  none_goes : (old new : C) (lines : List Shown) → InTurn (Goes calls) old [] new lines → Holds old → Holds new
+  none_goes old new lines h holds = subst Holds (sym h.0) holds
+
+  takes_hold : (h : Host) (old new : C) (lines : List Shown) (cs : List Crossing) → InTurn (Goes calls) old (Raw (raw.Take h) ∷ []) new lines → crossings_of lines ≡ cs → Holds old → Holds new
+  takes_hold h old new lines cs goes is holds = one_goes (Raw (raw.Take h)) old new lines cs goes is (λ first same one. keeps.take old new h first one holds)
+
+  taking_holds : (h : Host) (old new : C) (cs : List Crossing) (drives : List Drive) (lines : List Shown) → IsTaking h cs drives → InTurn (Goes calls) old drives new lines → crossings_of lines ≡ cs → Holds old → Holds new
+  taking_holds h old new [] drives lines makes goes is holds = elim makes [
+    | inl none ↦ none_goes old new lines (subst (λ (ds : List Drive). InTurn (Goes calls) old ds new lines) none goes) holds
+    | inr one ↦ takes_hold h old new lines [] (subst (λ (ds : List Drive). InTurn (Goes calls) old ds new lines) one goes) is holds
+  ]
+  taking_holds h old new (c ∷ []) drives lines makes goes is holds = takes_hold h old new lines (c ∷ []) (subst (λ (ds : List Drive). InTurn (Goes calls) old ds new lines) makes goes) is holds
+  taking_holds h old new (c ∷ d ∷ cs) drives lines makes goes is holds = absurd makes
+
+  offer_holds : (old new : C) (cs : List Crossing) (drives : List Drive) (lines : List Shown) → All IsSaid cs → IsOffer cs drives → InTurn (Goes calls) old drives new lines → crossings_of lines ≡ cs → Holds old → Holds new
+  offer_holds old new [] drives lines said makes goes is holds = elim makes [
+    | inl none ↦ none_goes old new lines (subst (λ (ds : List Drive). InTurn (Goes calls) old ds new lines) none goes) holds
+    | inr one ↦ one_goes (Raw (raw.Out one.0)) old new lines [] (subst (λ (ds : List Drive). InTurn (Goes calls) old ds new lines) one.1 goes) is (λ first same h. keeps.unsaid old new one.0 first same h holds)
+  ]
+  offer_holds old new (crossing.Out m ∷ []) drives lines said makes goes is holds =
+      one_goes (Raw (raw.Out m)) old new lines (crossing.Out m ∷ []) (subst (λ (ds : List Drive). InTurn (Goes calls) old ds new lines) makes goes) is
+      (λ first same h. keeps.out old new m first (All-head IsSaid (crossing.Out m) [] said) h holds)
+  offer_holds old new cs drives lines said makes goes is holds = absurd makes
+
+  -- an event without calls
+  still_holds : (old new : C) (drives : List Drive) (lines : List Shown) → drives ≡ [] → InTurn (Goes calls) old drives new lines → Holds old → Holds new
+  still_holds old new drives lines none goes holds = none_goes old new lines (subst (λ (ds : List Drive). InTurn (Goes calls) old ds new lines) none goes) holds
+
+  made_holds : (e : Event) (old new : C) (cs : List Crossing) (drives : List Drive) (lines : List Shown) → IsFit e → All IsSaid cs → Makes e cs drives → InTurn (Goes calls) old drives new lines → crossings_of lines ≡ cs → Holds old → Holds new
+  made_holds (event.Net e) old new cs drives lines fit said makes goes is holds =
+      one_goes (Raw (raw.Net e)) old new lines cs (subst (λ (ds : List Drive). InTurn (Goes calls) old ds new lines) makes goes) is (λ first same h. keeps.net old new e first fit h holds)
+  made_holds event.Quiet old new cs drives lines fit said makes goes is holds =
+      one_goes Round old new lines cs (subst (λ (ds : List Drive). InTurn (Goes calls) old ds new lines) makes.1 goes) is (λ first same h. keeps.round old new h.0 h.1 h.2 holds)
+  made_holds (event.Offer h) old new cs drives lines fit said makes goes is holds = offer_holds old new cs drives lines said makes goes is holds
+  made_holds (event.Take h) old new cs drives lines fit said makes goes is holds = taking_holds h old new cs drives lines makes goes is holds
+  made_holds (event.Ask h r) old new cs drives lines fit said makes goes is holds = still_holds old new drives lines makes.1 goes holds
+  made_holds (event.Server h listen base) old new cs drives lines fit said makes goes is holds = still_holds old new drives lines makes.1 goes holds
+  made_holds (event.User h peer listen own) old new cs drives lines fit said makes goes is holds = still_holds old new drives lines makes.1 goes holds
+  made_holds (event.Typed h line) old new cs drives lines fit said makes goes is holds = still_holds old new drives lines makes.1 goes holds
+
+  -- ---- events in turn
+
+  abbrev Said : WorldState C → Type 0
+  Said w = All IsSaid w.kept.book.crossings
+
+  said_before : (e : Event) (old new : WorldState C) (drives : List Drive) → IsDriven calls old e new drives → Said new → Said old
+  said_before e old new drives h said = earlier (reverse h.crossings) old.kept.book.crossings (subst (All IsSaid) h.crossed said)
+
+  event_holds : (e : Event) (old new : WorldState C) (drives : List Drive) → IsFit e → Said new → IsDriven calls old e new drives → Holds old.carrier → Holds new.carrier
+  event_holds e old new drives fit said h holds =
+      made_holds e old.carrier new.carrier h.crossings drives h.shown fit (in_order h.crossings (later (reverse h.crossings) old.kept.book.crossings (subst (All IsSaid) h.crossed said))) h.makes h.goes h.same holds
+
+  all_said : (events : List Event) (old new : WorldState C) (drives : List Drive) → InTurn (IsDriven calls) old events new drives → Said new → Said old
+  all_said [] old new drives h said = subst Said h.0 said
+  all_said (e ∷ events) old new drives (mid, first, rest, one, more, all) said = said_before e old mid first one (all_said events mid new rest more said)
+
+  all_hold : (events : List Event) (old new : WorldState C) (drives : List Drive) → All IsFit events → Said new → InTurn (IsDriven calls) old events new drives → Holds old.carrier → Holds new.carrier
+  all_hold [] old new drives fit said h holds = subst (λ (w : WorldState C). Holds w.carrier) (sym h.0) holds
+  all_hold (e ∷ events) old new drives fit said (mid, first, rest, one, more, all) holds =
+      all_hold events mid new rest (All-tail IsFit e events fit) said more
+      (event_holds e old mid first (All-head IsFit e events fit) (all_said events mid new rest more said) one holds)
+
+  scripts_said : (events : List WorldEvent) (old new : WorldState C) (drives : List Drive) → InTurn (IsDrivenIn calls) old events new drives → Said new → Said old
+  scripts_said [] old new drives h said = subst Said h.0 said
+  scripts_said (e ∷ events) old new drives (mid, first, rest, (es, course, one), more, all) said = all_said es old mid first one (scripts_said events mid new rest more said)
+
+  scripts_hold : (events : List WorldEvent) (old new : WorldState C) (drives : List Drive) → All IsWorldEvent events → Said new → InTurn (IsDrivenIn calls) old events new drives → Holds old.carrier → Holds new.carrier
+  scripts_hold [] old new drives valid said h holds = subst (λ (w : WorldState C). Holds w.carrier) (sym h.0) holds
+  scripts_hold (e ∷ events) old new drives valid said (mid, first, rest, (es, course, one), more, all) holds =
+      scripts_hold events mid new rest (All-tail IsWorldEvent e events valid) said more
+      (all_hold es old mid first (course_fit e es (All-head IsWorldEvent e events valid) course) (scripts_said events mid new rest more said) one holds)
+
+  -- it holds of the carrier of each world that a replay comes to, if it holds at the opening
+  pub reached_holds : (opening : C) (w : WorldState C) → IsReached calls opening w → Holds opening → Holds w.carrier
+  reached_holds opening w is holds =
+      let (drives, driven, all) = replay_drives calls is.script (opening_world calls opening) w is.lines is.replays in
+      scripts_hold is.script (opening_world calls opening) w drives is.valid is.said driven holds

@@ -1,0 +1,9 @@
+use Rattle.std.proofs.Common.{subst}
+use Rattle.sockets.specs.declared.peer.Peer.{Peer}
+use Rattle.world_trace.specs.Told.{IsPairTold}
+use Rattle.world_trace.proofs.lasting.PeerNumbered.numbers.Goals as goal
+
+pub returns : goal.returns
+returns c =
+    subst (λ (p : Peer). IsPairTold p) c.self.view_is
+    (record { host = c.host.ensures; busy = c.pair_numbers.ensures.busy; ends = c.pair_numbers.ensures.ends; commands = c.pair_numbers.ensures.commands })
