@@ -143,13 +143,13 @@ fn print_named_line<W: Output>(
 
 /// An IMP with its name, and what is noted of its routes.
 #[derive(Drop)]
-struct ImpPart<'a> {
+struct ImpPart<'a, 'n> {
     subnet: &'a Subnet,
     number: u8,
-    noted: Option<&'a Ways>,
+    noted: Option<&'n Ways>,
 }
 
-impl Item for ImpPart<'_> {
+impl Item for ImpPart<'_, '_> {
     ghost text = { λ part. named part.subnet.now.net (Imp part.number) };
 
     fn print<W: Output>(&self, writer: &mut W) -> Result<(), WriteFailed> {

@@ -16,7 +16,7 @@ loop-port-preserved c =
     let others : take (i + 1) those ≡ take i those ++ y ∷ [] = take_more those i y other ∙ ap (λ (z : Option (List ℕ)). take i those ++ z ∷ []) (sym c.index-those-port.is) in
     (end, long, more ∙ ap₂ (λ (zs : List (Option (List ℕ))) (z : Option (List ℕ)). zs ++ z ∷ []) front (c.is_same-same.ensures c.if-not-same.false) ∙ sym others)
 
-pub returns-2 : goal.returns-2
-returns-2 c = λ yes.
+pub returns : goal.returns
+returns c = λ yes.
     let (end, long, front) = c.loop-port.invariant in
     sym (take_all c.loop-port.port c.args.these.now (omega (arith, c.loop-port-test.false, end))) ∙ front ∙ take_all c.loop-port.port c.args.those.now (omega (arith, c.loop-port-test.false, end, long))

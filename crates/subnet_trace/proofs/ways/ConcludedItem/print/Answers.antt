@@ -1,4 +1,4 @@
-use Rattle.std.proofs.Common.{◌≡◌, codes, subst}
+use Rattle.std.proofs.Common.{codes, subst}
 use Rattle.std.specs.Io.KnownBytes.{Appends}
 use Rattle.replay.proofs.lemmas.{on_ok}
 use Rattle.routing.specs.RouteTable.{vector_of}
