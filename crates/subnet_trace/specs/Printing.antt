@@ -1,5 +1,5 @@
 -- What the contracts of private functions say. No public clause cites this file.
-use Rattle.std.specs.Prelude.{ℕ, Bool, List, [], ◌∷◌, ◌++◌, Option, Some, None, codes, if◌then◌else◌, map, nat_lt}
+use Rattle.std.specs.Prelude.{◌≡◌, ℕ, Bool, List, [], ◌∷◌, ◌++◌, Option, Some, None, codes, if◌then◌else◌, map, nat_lt}
 use Rattle.std.specs.FinMap as fin
 use Rattle.std.specs.Fmt.{decimal}
 use Rattle.imp_node.specs.Arrival.{Arrival, arrival_has_room}
@@ -7,7 +7,7 @@ use Rattle.imp_node.specs.State.{State}
 use Rattle.interface.specs.Printed.{host_text}
 use Rattle.interface.specs.declared.address.Flow.{Flow}
 use Rattle.packetiser.specs.PacketFields.{PacketFields}
-use Rattle.routing.specs.RouteTable.{vector_of}
+use Rattle.routing.specs.RouteTable.{Table, vector_of}
 use Rattle.routing.specs.Vector.{infinite}
 use Rattle.subnet.specs.Events.{is_imp}
 use Rattle.subnet.specs.Net.{Net}
@@ -51,9 +51,13 @@ known_text name word number e = flow_object name (word e.0 e.1) e.0 (number e.1)
 
 -- ---- an IMP, piece by piece
 
+-- what its neighbours announced
+abbrev pub heard_list : Table → List ℕ
+heard_list t = array (map heard_text t.heard)
+
 -- its hosts, its ends of lines, and what its neighbours announced
 abbrev pub begun_text : State → List ℕ
-begun_text s = codes "{\"hosts\":" ++ (array (map host_object s.hosts) ++ (codes ",\"ports\":" ++ (array (map port_object s.ports) ++ (codes ",\"routes\":" ++ array (map heard_text s.routes.heard)))))
+begun_text s = codes "{\"hosts\":" ++ (array (map host_object s.hosts) ++ (codes ",\"ports\":" ++ (array (map port_object s.ports) ++ (codes ",\"routes\":" ++ heard_list s.routes))))
 
 -- the packets outside of channels
 abbrev pub held_text : State → List ℕ
@@ -64,8 +68,13 @@ abbrev pub noted_text : State → List ℕ
 noted_text s = codes ",\"sources\":" ++ (array (map (source_text s) (fin.entries s.sources)) ++ (codes ",\"kept\":" ++ array (map kept_text (fin.entries s.kept))))
 
 -- what follows of routes, and the end
-abbrev pub ways_text : State → List ℕ
-ways_text s = codes ",\"distances\":" ++ (distances_text (vector_of s.routes) ++ (codes ",\"next\":" ++ (next_text s.routes ++ codes "}")))
+abbrev pub concluded_text : Table → List ℕ
+concluded_text t = codes ",\"distances\":" ++ (distances_text (vector_of t) ++ (codes ",\"next\":" ++ (next_text t ++ codes "}")))
+
+-- what its neighbours announced and what follows have these texts
+pub record AreWaysTexts (t : Table) (heard concluded : List ℕ) : Type 0 where
+  pub heard_is : heard ≡ heard_list t
+  pub concluded_is : concluded ≡ concluded_text t
 
 -- ---- parts
 

@@ -3,13 +3,14 @@
 ghost use Rattle.std.specs.Prelude.{◌≡◌, None, OnOk, Some, false, map};
 ghost use Rattle.std.specs.Io.KnownBytes.{Appends};
 ghost use Rattle.replay.specs.Failing.{TellsFailure};
-ghost use Rattle.subnet_trace.specs.Printing.{begun_text, held_text, noted_text, ways_text};
+ghost use Rattle.subnet_trace.specs.Printing.{begun_text, held_text, noted_text};
 ghost use Rattle.subnet_trace.specs.Texts.{channel_text, heard_text, host_object, imp_text, packet_text, port_object, slot_text, told_text};
 ghost use Rattle.subnet_trace.specs.Texts.{whole_text};
 
 use crate::flows::print_flows;
 use crate::lists::{All, Held};
-use crate::packets::{digit, digits, print_ports, print_vector};
+use crate::packets::{digit, digits, print_vector};
+use crate::ways::{Ways, print_concluded, print_heard};
 use imp_channel::Channel;
 use imp_node::{Host, Imp, Message, Port, Told};
 use packetiser::Reassembly;
@@ -148,7 +149,7 @@ impl Listed for Slots<'_> {
 }
 
 /// Prints the beginning of an IMP: its hosts, its ends of lines, and what its neighbours announced.
-fn print_ends<W: Output>(imp: &Imp, writer: &mut W) -> Result<(), WriteFailed>
+fn print_ends<W: Output>(imp: &Imp, noted: Option<&Ways>, writer: &mut W) -> Result<(), WriteFailed>
     requires { W.failed writer.old ≡ false }
     ensures written { OnOk result (Appends (W.contents writer.old) (W.contents writer.new) (begun_text imp.now)) }
     ensures failed { TellsFailure result (W.failed writer.new) }
@@ -158,7 +159,7 @@ fn print_ends<W: Output>(imp: &Imp, writer: &mut W) -> Result<(), WriteFailed>
     writer.write_all(b",\"ports\":")?;
     print_array(&All(imp.ports()), writer)?;
     writer.write_all(b",\"routes\":")?;
-    print_array(&All(imp.routes().heard()), writer)
+    print_heard(imp.routes(), noted, writer)
 }
 
 /// Prints the packets that an IMP holds outside of channels: those that wait for one, and those of messages in reassembly.
@@ -185,27 +186,18 @@ fn print_known<W: Output>(imp: &Imp, writer: &mut W) -> Result<(), WriteFailed>
     print_flows("fate", imp, imp.kept_flows().iter(), writer)
 }
 
-/// Prints what an IMP concludes of routes: its own distances, and the port that packets to each IMP take.
-fn print_concluded<W: Output>(imp: &Imp, writer: &mut W) -> Result<(), WriteFailed>
-    requires { W.failed writer.old ≡ false }
-    ensures written { OnOk result (Appends (W.contents writer.old) (W.contents writer.new) (ways_text imp.now)) }
-    ensures failed { TellsFailure result (W.failed writer.new) }
-{
-    writer.write_all(b",\"distances\":")?;
-    print_vector(imp.routes().distances(), writer)?;
-    writer.write_all(b",\"next\":")?;
-    print_ports(imp.routes(), writer)?;
-    writer.write_all(b"}")
-}
-
-/// Prints an IMP that is up.
-pub(crate) fn print_imp<W: Output>(imp: &Imp, writer: &mut W) -> Result<(), WriteFailed>
+/// Prints an IMP that is up. What is noted of its routes may be of another state.
+pub(crate) fn print_imp<W: Output>(
+    imp: &Imp,
+    noted: Option<&Ways>,
+    writer: &mut W,
+) -> Result<(), WriteFailed>
     requires { W.failed writer.old ≡ false }
     ensures written { OnOk result (Appends (W.contents writer.old) (W.contents writer.new) (imp_text (Some imp.now))) }
     ensures failed { TellsFailure result (W.failed writer.new) }
 {
-    print_ends(imp, writer)?;
+    print_ends(imp, noted, writer)?;
     print_held(imp, writer)?;
     print_known(imp, writer)?;
-    print_concluded(imp, writer)
+    print_concluded(imp.routes(), noted, writer)
 }

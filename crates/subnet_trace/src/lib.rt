@@ -23,8 +23,10 @@ mod packets;
 mod parts;
 mod place;
 mod traced;
+mod ways;
 pub mod worked;
 
 pub use parts::print_whole;
 pub use place::{Place, Stage};
 pub use traced::TracedSubnet;
+pub use ways::Notes;

@@ -16,6 +16,7 @@ ghost use Rattle.trace.specs.Texts.{member, object};
 
 use crate::imp::print_imp;
 use crate::lists::InLine;
+use crate::ways::{Notes, Ways};
 use interface::{Direction, NetEvent};
 use replay::{Output, WriteFailed};
 use script::RawEvent;
@@ -109,6 +110,7 @@ fn has_line(scope: Scope, number: usize, line: &Wire) -> bool
 fn print_named_imp<W: Output>(
     subnet: &Subnet,
     number: u8,
+    noted: Option<&Ways>,
     writer: &mut W,
 ) -> Result<(), WriteFailed>
     requires { W.failed writer.old ≡ false }
@@ -119,7 +121,7 @@ fn print_named_imp<W: Output>(
         return write!(writer, "\"imp {number}\":null");
     };
     write!(writer, "\"imp {number}\":")?;
-    print_imp(imp, writer)
+    print_imp(imp, noted, writer)
 }
 
 /// Prints a line with its name: the frames that are live each way.
@@ -139,18 +141,19 @@ fn print_named_line<W: Output>(
     writer.write_all(b"}")
 }
 
-/// An IMP with its name.
+/// An IMP with its name, and what is noted of its routes.
 #[derive(Drop)]
-struct ImpPart<'a> {
+struct ImpPart<'a, 'n> {
     subnet: &'a Subnet,
     number: u8,
+    noted: Option<&'n Ways>,
 }
 
-impl Item for ImpPart<'_> {
+impl Item for ImpPart<'_, '_> {
     ghost text = { λ part. named part.subnet.now.net (Imp part.number) };
 
     fn print<W: Output>(&self, writer: &mut W) -> Result<(), WriteFailed> {
-        print_named_imp(self.subnet, self.number, writer)
+        print_named_imp(self.subnet, self.number, self.noted, writer)
     }
 }
 
@@ -169,11 +172,12 @@ impl Item for LinePart<'_> {
     }
 }
 
-/// Adds an IMP to parts, if there is one of this number.
+/// Adds an IMP to parts, if there is one of this number, and notes what it knows of routes.
 fn push_imp(
     alloc: Global,
     subnet: &Subnet,
     number: u8,
+    notes: &mut Notes,
     members: &mut Members,
 ) -> Result<(), AllocError>
     ensures { OnOk result (members.new ≡ members.old ++ imp_members subnet.now.net number) }
@@ -181,18 +185,31 @@ fn push_imp(
     if !subnet.is_imp(number) {
         return Ok(());
     }
-    members.push(alloc, &ImpPart { subnet, number })
+    if let Some(imp) = subnet.imp(number) {
+        notes.note(alloc, number, imp.routes())?;
+    }
+    let noted = notes.of(number);
+    let part = ImpPart {
+        subnet,
+        number,
+        noted,
+    };
+    members.push(alloc, &part)
 }
 
 /// Returns all parts, each with its name, as the members of an object: the IMPs by rising number, and the lines in order.
 ///
 /// Errors: `AllocError`.
-pub(crate) fn all_members(alloc: Global, subnet: &Subnet) -> Result<Members, AllocError>
+pub(crate) fn all_members(
+    alloc: Global,
+    subnet: &Subnet,
+    notes: &mut Notes,
+) -> Result<Members, AllocError>
     ensures { IfOk result (λ members. members ≡ parts_members subnet.now.net (all_parts subnet.now.net)) }
 {
     let mut members = Members::new(alloc);
     for imp in 0..subnet.imp_places() {
-        push_imp(alloc, subnet, imp, &mut members)?;
+        push_imp(alloc, subnet, imp, notes, &mut members)?;
     }
     let lines = subnet.lines();
     for number in 0..lines.len() {
@@ -222,7 +239,11 @@ pub(crate) fn change(
     let mut place: usize = 0;
     for number in 0..subnet.imp_places() {
         if subnet.is_imp(number) {
-            let part = ImpPart { subnet, number };
+            let part = ImpPart {
+                subnet,
+                number,
+                noted: None,
+            };
             text = known.put(has_imp(scope, number), place, &part, text)?;
             place += 1;
         }
@@ -253,7 +274,7 @@ fn print_imp_of<W: Output>(
         return Ok(place);
     }
     writer.write_all(mark("{", ",", place).as_bytes())?;
-    print_named_imp(subnet, number, writer)?;
+    print_named_imp(subnet, number, None, writer)?;
     Ok(1)
 }
 

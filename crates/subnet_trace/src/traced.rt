@@ -10,6 +10,7 @@ use crate::calm::next_in_calm;
 use crate::fates::fate_of;
 use crate::parts::{all_members, change, print_whole};
 use crate::place::{Place, Stage};
+use crate::ways::Notes;
 use interface::{Carrier, CarrierFault, Crossing, HostAddr, HostMessage, Inbound, NetEvent};
 use replay::{Output, WriteFailed};
 use script::RawEvent;
@@ -88,6 +89,8 @@ impl Carrier for TracedSubnet {
 impl Inspect for TracedSubnet {
     type Place = Place;
 
+    type Notes = Notes;
+
     ghost inside = { subnet_inside };
 
     ghost left = { λ k place. calm_left k.net place };
@@ -112,8 +115,12 @@ impl Inspect for TracedSubnet {
         print_whole(&self.subnet, writer)
     }
 
-    fn members(&self, alloc: Global) -> Result<Members, AllocError> {
-        all_members(alloc, &self.subnet)
+    fn no_notes(&self, alloc: Global) -> Notes {
+        Notes::new(alloc)
+    }
+
+    fn members(&self, alloc: Global, notes: &mut Notes) -> Result<Members, AllocError> {
+        all_members(alloc, &self.subnet, notes)
     }
 
     /// A refused event changes nothing. What crossed does not matter: an event says which parts it can change.

@@ -197,7 +197,7 @@ fn known_texts<C: Inspect>(
     match known {
         Some(texts) => Ok(texts),
         None => Ok(Texts {
-            parts: carrier.members(alloc)?,
+            parts: carrier.members(alloc, &mut carrier.no_notes(alloc))?,
             changed: Vec::new(alloc),
         }),
     }

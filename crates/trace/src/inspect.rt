@@ -26,6 +26,9 @@ pub trait Inspect: Carrier {
     /// A place in a calm, between two of its elementary events.
     type Place: Copy;
 
+    /// What is kept of texts that were made, by which the same ones are made again with less work. No text depends on it.
+    type Notes: Drop;
+
     /// What it shows of its inside.
     ghost inside: { Inside Self };
 
@@ -52,10 +55,13 @@ pub trait Inspect: Carrier {
         ensures written { OnOk result (Appends (W.contents writer.old) (W.contents writer.new) (object (inside.members self.now))) }
         ensures failed { TellsFailure result (W.failed writer.new) };
 
+    /// Returns notes of no texts. This takes no memory.
+    fn no_notes(&self, alloc: Global) -> Self::Notes;
+
     /// Returns all parts, each with its name, as the members of an object.
     ///
     /// Errors: `AllocError`.
-    fn members(&self, alloc: Global) -> Result<Members, AllocError>
+    fn members(&self, alloc: Global, notes: &mut Self::Notes) -> Result<Members, AllocError>
         ensures { IfOk result (λ members. members ≡ inside.members self.now) };
 
     /// Puts the texts of the parts that an event has changed in the place of those before it. Returns these parts, each with its name,

@@ -33,7 +33,7 @@ pub use element::{Element, Spot};
 pub use events::trace_events;
 pub use fate::Fate;
 pub use inspect::Inspect;
-pub use members::{Members, ended};
+pub use members::{Members, ended, text_of};
 pub use numbers::{beside_lines, event_lines};
 pub use opening::print_network;
 pub use parts::print_whole;

@@ -136,7 +136,9 @@ impl Members {
 }
 
 /// Returns the text of an item.
-fn text_of<T: Item>(alloc: Global, item: &T) -> Result<Vec<u8>, AllocError>
+///
+/// Errors: `AllocError`.
+pub fn text_of<T: Item>(alloc: Global, item: &T) -> Result<Vec<u8>, AllocError>
     ensures { IfOk result (λ text. text.items ≡ T.text item.now) }
 {
     text_after(Vec::with_capacity(alloc, ROOM)?, item)

@@ -59,6 +59,8 @@ fn next_taking(boxes: &PlainBoxes, turn: Turn) -> Option<(Element, Turn)>
 impl Inspect for PlainBoxes {
     type Place = Turn;
 
+    type Notes = ();
+
     ghost inside = { plain_inside };
 
     ghost left = { calm_left };
@@ -98,7 +100,9 @@ impl Inspect for PlainBoxes {
         print_whole(self, writer)
     }
 
-    fn members(&self, alloc: Global) -> Result<Members, AllocError> {
+    fn no_notes(&self, _alloc: Global) {}
+
+    fn members(&self, alloc: Global, _notes: &mut ()) -> Result<Members, AllocError> {
         all_members(alloc, self)
     }
 

@@ -89,6 +89,7 @@ pub(crate) fn trace_calm<C: Inspect, W: Output>(
     spot: Spot,
     rounds: u32,
     known: &mut Option<Texts>,
+    notes: &mut C::Notes,
     writer: &mut W,
 ) -> Result<(), ReplayFault>
     requires whole { W.failed writer.old ≡ false }
@@ -100,10 +101,10 @@ pub(crate) fn trace_calm<C: Inspect, W: Output>(
     if rounds == 0 {
         return Ok(());
     }
-    let mut texts = known_texts(alloc, world, known.take())?;
+    let mut texts = known_texts(alloc, world, known.take(), notes)?;
     for passed in 0..rounds {
         let before = count_crossings(world);
-        trace_round(alloc, world, spot, passed + 1, &mut texts, writer)?;
+        trace_round(alloc, world, spot, passed + 1, &mut texts, notes, writer)?;
         if has_calmed(world, before) {
             *known = Some(texts);
             return Ok(());
@@ -127,6 +128,7 @@ fn trace_round<C: Inspect, W: Output>(
     spot: Spot,
     round: u32,
     texts: &mut Texts,
+    notes: &mut C::Notes,
     writer: &mut W,
 ) -> Result<(), ReplayFault>
     requires whole { W.failed writer.old ≡ false }
@@ -137,7 +139,9 @@ fn trace_round<C: Inspect, W: Output>(
 {
     let turns = turns_in(alloc, world.seats())?;
     for (event, times) in turns {
-        trace_again(alloc, world, spot, round, &event, times, texts, writer)?;
+        trace_again(
+            alloc, world, spot, round, &event, times, texts, notes, writer,
+        )?;
     }
     Ok(())
 }
@@ -151,6 +155,7 @@ fn trace_again<C: Inspect, W: Output>(
     event: &CalmEvent,
     times: u8,
     texts: &mut Texts,
+    notes: &mut C::Notes,
     writer: &mut W,
 ) -> Result<(), ReplayFault>
     requires whole { W.failed writer.old ≡ false }
@@ -161,7 +166,7 @@ fn trace_again<C: Inspect, W: Output>(
 {
     for _ in 0..times {
         let before = count_crossings(world);
-        trace_step(alloc, world, spot, round, *event, texts, writer)?;
+        trace_step(alloc, world, spot, round, *event, texts, notes, writer)?;
         if count_crossings(world) <= before {
             return Ok(());
         }
@@ -177,6 +182,7 @@ fn trace_step<C: Inspect, W: Output>(
     round: u32,
     event: CalmEvent,
     texts: &mut Texts,
+    notes: &mut C::Notes,
     writer: &mut W,
 ) -> Result<(), ReplayFault>
     requires whole { W.failed writer.old ≡ false }
@@ -192,7 +198,7 @@ fn trace_step<C: Inspect, W: Output>(
     if still && !moved {
         return Ok(());
     }
-    let parts = world.carrier().members(alloc)?;
+    let parts = world.carrier().members(alloc, notes)?;
     let other = parts.have_changed(&texts.parts);
     if !moved && !other {
         texts.parts = parts;

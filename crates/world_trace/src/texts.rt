@@ -39,11 +39,15 @@ fn members_of<T: Json>(alloc: Global, items: &[T]) -> Result<Members, AllocError
 }
 
 /// Returns the texts of a world's state.
-pub(crate) fn texts_of<C: Inspect>(alloc: Global, world: &World<C>) -> Result<Texts, AllocError>
+pub(crate) fn texts_of<C: Inspect>(
+    alloc: Global,
+    world: &World<C>,
+    notes: &mut C::Notes,
+) -> Result<Texts, AllocError>
     ensures { IfOk result (AreTextsOf C.inside.members world.now) }
 {
     Ok(Texts {
-        parts: world.carrier().members(alloc)?,
+        parts: world.carrier().members(alloc, notes)?,
         programs: members_of(alloc, world.seats())?,
         services: members_of(alloc, world.services())?,
     })
@@ -54,13 +58,14 @@ pub(crate) fn known_texts<C: Inspect>(
     alloc: Global,
     world: &World<C>,
     known: Option<Texts>,
+    notes: &mut C::Notes,
 ) -> Result<Texts, AllocError>
     requires { IfSome known (AreTextsOf C.inside.members world.now) }
     ensures { IfOk result (AreTextsOf C.inside.members world.now) }
 {
     match known {
         Some(texts) => Ok(texts),
-        None => texts_of(alloc, world),
+        None => texts_of(alloc, world, notes),
     }
 }
 

@@ -76,12 +76,13 @@ fn trace_all<C: Inspect, W: Output>(
 {
     let mut passed: usize = 0;
     let mut known = None;
+    let mut notes = world.carrier().no_notes(alloc);
     for (line, event) in events {
         let spot = Spot {
             line,
             number: passed + 1,
         };
-        trace_event(alloc, world, spot, event, &mut known, writer)?;
+        trace_event(alloc, world, spot, event, &mut known, &mut notes, writer)?;
         passed += 1;
     }
     Ok(())
@@ -94,6 +95,7 @@ fn trace_event<C: Inspect, W: Output>(
     spot: Spot,
     event: WorldEvent,
     known: &mut Option<Texts>,
+    notes: &mut C::Notes,
     writer: &mut W,
 ) -> Result<(), ReplayFault>
     requires whole { W.failed writer.old ≡ false }
@@ -103,8 +105,8 @@ fn trace_event<C: Inspect, W: Output>(
     ensures failed { TellsCannotWrite result (W.failed writer.new) }
 {
     match event {
-        WorldEvent::Calm(rounds) => trace_calm(alloc, world, spot, rounds, known, writer),
-        WorldEvent::Happen(event) => { trace_one(alloc, world, spot, event, known, writer) }
+        WorldEvent::Calm(rounds) => { trace_calm(alloc, world, spot, rounds, known, notes, writer) }
+        WorldEvent::Happen(event) => { trace_one(alloc, world, spot, event, known, notes, writer) }
     }
 }
 
@@ -115,6 +117,7 @@ fn trace_one<C: Inspect, W: Output>(
     spot: Spot,
     event: Event,
     known: &mut Option<Texts>,
+    notes: &mut C::Notes,
     writer: &mut W,
 ) -> Result<(), ReplayFault>
     requires whole { W.failed writer.old ≡ false }
@@ -123,8 +126,8 @@ fn trace_one<C: Inspect, W: Output>(
     ensures known { OnOk result (IfSome known.new (AreTextsOf C.inside.members world.new)) }
     ensures failed { TellsCannotWrite result (W.failed writer.new) }
 {
-    let before = known_texts(alloc, world, known.take())?;
-    let (passed, texts) = pass(alloc, world, event, &before)?;
+    let before = known_texts(alloc, world, known.take(), notes)?;
+    let (passed, texts) = pass(alloc, world, event, &before, notes)?;
     print_line(world, spot, 0, &passed, writer)?;
     *known = Some(texts);
     Ok(())
@@ -136,6 +139,7 @@ fn pass<C: Inspect>(
     world: &mut World<C>,
     event: Event,
     before: &Texts,
+    notes: &mut C::Notes,
 ) -> Result<(Passed, Texts), AllocError>
     requires known { AreTextsOf C.inside.members world.old before.now }
     ensures passed { IfOk result (λ p. HasPassed (shown C.calls) C.inside.members world.old event world.new p.0) }
@@ -145,7 +149,7 @@ fn pass<C: Inspect>(
     let text = spelled(alloc, &event)?;
     let crossed = world.book().crossings().len();
     let printed = happen(alloc, world, event)?;
-    let texts = texts_of(alloc, world)?;
+    let texts = texts_of(alloc, world, notes)?;
     let changes = changes_of(alloc, before, &texts)?;
     let passed = Passed {
         event: text,

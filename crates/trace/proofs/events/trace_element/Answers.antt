@@ -1,7 +1,8 @@
-use Rattle.std.proofs.Common.{◌≡◌, ◌∙◌, ◌++◌, inr, Err, List, Option, ℕ, ap, drop, length, refl, rules, subst, sym}
+use Rattle.std.proofs.Common.{◌≡◌, ◌∙◌, ◌++◌, inr, Err, List, Option, ℕ, ap, drop, length, refl, reverse, rules, subst, sym}
 use Rattle.std.specs.Io.KnownBytes.{Appends}
 use Rattle.interface.specs.Calls.{Calls}
 use Rattle.interface.specs.declared.crossing.Crossing.{Crossing}
+use Rattle.replay.proofs.lemmas.{gained}
 use Rattle.replay.specs.Output.{shown_crossings, shown_refusal}
 use Rattle.replay.specs.declared.events.ReplayFault.TheVariants as fault
 use Rattle.script.specs.Input.{ended_line}
@@ -37,3 +38,25 @@ returns-in_err-texts-2-clause-ends g c =
     let memory : c.from_residual-in_err-texts-2.result ≡ Err fault.OutOfMemory = search rules in
     subst (λ r. ElementEnds calls inside c.args.spot c.args.carrier.now x r c.call.new.carrier (g.W.Output.contents c.args.writer.now) (g.W.Output.contents c.args.writer.now)) (sym memory)
     (stops calls c.args.carrier.now c.call.new.carrier x (g.W.Output.contents c.args.writer.now) (inr (may_do calls c.args.carrier.now c.call.new.carrier c.args.event.now c.in_ok-outcome.outcome c.requires.one_call c.in_ok-outcome.ensures.called, refl)))
+
+-- or in the call
+pub returns-then-has_halted-clause-ends : goal.returns-then-has_halted-clause-ends
+returns-then-has_halted-clause-ends g c =
+    let calls : Calls g.row.C.Denot = g.C.Carrier.calls in
+    let x : Element = record { round = c.args.round; event = c.args.event.now } in
+    stops calls c.args.carrier.now c.call.new.carrier x (g.W.Output.contents c.args.writer.now) (inr (may_do calls c.args.carrier.now c.call.new.carrier c.args.event.now c.in_ok-outcome.outcome c.requires.one_call c.in_ok-outcome.ensures.called, refl))
+
+pub change-requires : goal.change-requires
+change-requires g c =
+    let calls : Calls g.row.C.Denot = g.C.Carrier.calls in
+    let crossings : List Crossing = drop (length c.log-booked.result.now) c.log.result.now in
+    let grown : (calls.seen c.call.new.carrier).log ≡ reverse crossings ++ (calls.seen c.args.carrier.now).log =
+    gained (calls.seen c.args.carrier.now) (calls.seen c.call.new.carrier) c.log-booked.result.now c.log.result.now c.in_ok-outcome.ensures.called.grew c.log-booked.ensures.value c.log.ensures.value in
+    record {
+      old = c.args.carrier.now;
+      known = c.in_ok-texts.ensures;
+      one_call = c.requires.one_call;
+      gives = c.in_ok-outcome.ensures.called.gives;
+      goes_on = c.if-has_halted.ensures.goes_on;
+      grown = grown ∙ ap (λ (cs : List Crossing). reverse cs ++ (calls.seen c.args.carrier.now).log) (sym c.split_at.ensures.back);
+    }

@@ -1,18 +1,17 @@
-use Rattle.std.proofs.Common.{◌≡◌, ap, codes, subst, ◌∙◌}
+use Rattle.std.proofs.Common.{codes, subst}
 use Rattle.std.specs.Io.KnownBytes.{Appends}
 use Rattle.replay.proofs.lemmas.{on_ok}
 use Rattle.routing.specs.RouteTable.{vector_of}
 use Rattle.subnet_trace.specs.Texts.{distances_text, next_text}
-use Rattle.subnet_trace.proofs.imp.print_concluded.Goals as goal
+use Rattle.subnet_trace.proofs.ways.ConcludedItem.print.Goals as goal
 use Rattle.trace.proofs.lemmas.{five}
 
 pub returns-clause-written : goal.returns-clause-written
 returns-clause-written g c =
-    let t = c.args.imp.now.routes in
-    let own : c.distances.result.now ≡ vector_of t = c.distances.ensures ∙ ap vector_of c.routes.ensures in
+    let t = c.args.self.now.0.now in
     on_ok c.write_all-3.result
     (λ end. five (codes ",\"distances\":") (distances_text (vector_of t)) (codes ",\"next\":") (next_text t) (codes "}")
     (g.W.Output.contents c.args.writer.now) (g.W.Output.contents c.write_all.new.self) (g.W.Output.contents c.print_vector.new.writer) (g.W.Output.contents c.write_all-2.new.self) (g.W.Output.contents c.print_ports.new.writer) (g.W.Output.contents c.write_all-3.new.self)
-    c.in_ok-write_all.ensures.written (subst (λ ds. Appends (g.W.Output.contents c.write_all.new.self) (g.W.Output.contents c.print_vector.new.writer) (distances_text ds)) own c.in_ok-print_vector.ensures.written)
-    c.in_ok-write_all-2.ensures.written (subst (λ r. Appends (g.W.Output.contents c.write_all-2.new.self) (g.W.Output.contents c.print_ports.new.writer) (next_text r)) c.routes-2.ensures c.in_ok-print_ports.ensures.written) end)
+    c.in_ok-write_all.ensures.written (subst (λ ds. Appends (g.W.Output.contents c.write_all.new.self) (g.W.Output.contents c.print_vector.new.writer) (distances_text ds)) c.distances.ensures c.in_ok-print_vector.ensures.written)
+    c.in_ok-write_all-2.ensures.written c.in_ok-print_ports.ensures.written end)
     c.write_all-3.ensures.written
