@@ -1,7 +1,8 @@
 -- Objects whose members have fixed names, and values that have texts of their own.
-use Rattle.std.proofs.Common.{◌≡◌, ℕ, ◌==◌, Bool, true, false, List, [], ◌∷◌, codes, if◌then◌else◌, length, Option, Some, None, IfSome, Ok, refl, sym, ap, ap₂, subst, ◌∙◌, arith, lit<}
+use Rattle.std.proofs.Common.{◌≡◌, ℕ, ◌==◌, Bool, true, false, List, [], ◌∷◌, ◌++◌, codes, if◌then◌else◌, length, Option, Some, None, IfSome, Ok, refl, sym, ap, ap₂, subst, ◌∙◌, arith, lit<}
 use Rattle.std.proofs.lemmas.Bool.{false≢true}
 use Rattle.std.proofs.lemmas.Fmt.{decimal_is_IsNumeral_wide}
+use Rattle.std.proofs.lemmas.List.{append_assoc}
 use Rattle.std.proofs.lemmas.List.Elements.{All-cons, All-head, All-tail}
 use Rattle.std.specs.Fmt.{decimal}
 use Rattle.std.specs.List.{All, list_any}
@@ -9,6 +10,7 @@ use Rattle.std.specs.Str.Parse.{IsNumeral}
 use Rattle.hex.proofs.HexLemmas.{decode_of-encode_upper}
 use Rattle.hex.specs.Hex.{IsBytes, decode_of, encode_upper}
 use Rattle.script.proofs.lemmas.{spelled_digits}
+use Rattle.script.specs.Steps.{Lacks}
 use Rattle.trace.specs.Named.{IsShort}
 use Rattle.trace.specs.Texts.{bits_members, member, object, quoted}
 use Rattle.trace.proofs.lemmas.{Any, AreClosed, IsClosed, Spelled, also_closed, bits_closed, bits_same, decimal_closed, digits_lack, first_same, member_once, none_closed, object_closed, object_once, quoted_once, rest_same, short_once, string_closed, word_closed}
@@ -110,3 +112,26 @@ octets_spelled = record {
   closed = λ octets small. string_closed (encode_upper octets) (digits_lack 34 (lit< tt) (encode_upper octets) (spelled_digits octets small));
   once = λ a b p q e. octets_once a b p q (quoted_once (encode_upper a) (encode_upper b) e);
 }
+
+-- ---- names
+
+-- what is before the first quotation mark
+before_mark : (a b xs ys : List ℕ) → Lacks 34 a → Lacks 34 b → a ++ 34 ∷ xs ≡ b ++ 34 ∷ ys → a ≡ b
+before_mark [] [] xs ys p q e = refl
+before_mark [] (y ∷ b) xs ys p q e =
+    let mark : 34 ≡ y = first_same e in
+    let other : (34 == 34) ≡ false = subst (λ n. (n == 34) ≡ false) (sym mark) (All-head (λ n. (n == 34) ≡ false) y b q) in
+    absurd (false≢true (sym other))
+before_mark (x ∷ a) [] xs ys p q e =
+    let mark : x ≡ 34 = first_same e in
+    let other : (34 == 34) ≡ false = subst (λ n. (n == 34) ≡ false) mark (All-head (λ n. (n == 34) ≡ false) x a p) in
+    absurd (false≢true (sym other))
+before_mark (x ∷ a) (y ∷ b) xs ys p q e =
+    ap₂ (λ (n : ℕ) (ns : List ℕ). n ∷ ns) (first_same e)
+    (before_mark a b xs ys (All-tail (λ n. (n == 34) ≡ false) x a p) (All-tail (λ n. (n == 34) ≡ false) y b q) (rest_same e))
+
+-- a member has its name only
+pub name_once : (n m v w : List ℕ) → Lacks 34 n → Lacks 34 m → member n v ≡ member m w → n ≡ m
+name_once n m v w p q e =
+    let marked : n ++ 34 ∷ 58 ∷ v ≡ m ++ 34 ∷ 58 ∷ w = sym (append_assoc n (34 ∷ []) (58 ∷ v)) ∙ rest_same e ∙ append_assoc m (34 ∷ []) (58 ∷ w) in
+    before_mark n m (58 ∷ v) (58 ∷ w) p q marked

@@ -26,7 +26,7 @@ use Rattle.world_trace.specs.Lasting.{ProgramLasts, SeatLasts}
 use Rattle.world_trace.specs.Texts.{allocation_object, closing_word, closings_object, command_object, end_object, listener_object, number_text, pair_object, phase_word, program_text, programs_text, requests_object, seat_member}
 use Rattle.world_trace.specs.Told.{IsAllocationTold, IsCommandTold, IsEndTold, IsListenerTold, IsPairTold, IsProgramTold, IsSeatTold}
 use Rattle.world_trace.proofs.CommandTexts.{command_spelled}
-use Rattle.world_trace.proofs.Fields.{also, bits_object, decimal_spelled, fields, fields_spelled, null_closed, number_spelled}
+use Rattle.world_trace.proofs.Fields.{also, bits_object, decimal_spelled, fields, fields_spelled, name_once, null_closed, number_spelled}
 
 -- ---- words
 
@@ -297,22 +297,24 @@ seats_closed (s ∷ seats) all =
     All-cons IsClosed (seat_member s) (map seat_member seats) (member_closed (host_text s.host) (program_text s.program) (host_words.plain s.host is.host) (program_closed s.host s.program is.program))
     (seats_closed seats (All-tail IsSeatWhole s seats all))
 
-seats_once : (seats others : List Seat) → map (λ s. s.host) seats ≡ map (λ s. s.host) others → All IsSeatWhole seats → All IsSeatWhole others → map seat_member seats ≡ map seat_member others → seats ≡ others
-seats_once [] [] hosts p q e = refl
-seats_once [] (t ∷ others) hosts p q e = absurd (cc)
-seats_once (s ∷ seats) [] hosts p q e = absurd (cc)
-seats_once (s ∷ seats) (t ∷ others) hosts p q e =
+seats_once : (seats others : List Seat) → All IsSeatWhole seats → All IsSeatWhole others → map seat_member seats ≡ map seat_member others → seats ≡ others
+seats_once [] [] p q e = refl
+seats_once [] (t ∷ others) p q e = absurd (cc)
+seats_once (s ∷ seats) [] p q e = absurd (cc)
+seats_once (s ∷ seats) (t ∷ others) p q e =
     let a : IsSeatWhole s = All-head IsSeatWhole s seats p in
     let b : IsSeatWhole t = All-head IsSeatWhole t others q in
-    let host : s.host ≡ t.host = first_same hosts in
+    let host : s.host ≡ t.host =
+    host_words.once s.host t.host a.host b.host
+    (name_once (host_text s.host) (host_text t.host) (program_text s.program) (program_text t.program) (host_words.plain s.host a.host) (host_words.plain t.host b.host) (first_same e)) in
     let moved : member (host_text t.host) (program_text s.program) ≡ seat_member t = ap (λ (h : Host). member (host_text h) (program_text s.program)) (sym host) ∙ first_same e in
     let program : s.program ≡ t.program =
     program_once t.host s.program t.program (subst (λ (h : Host). IfSome s.program (IsOwnTold h)) host a.program) b.program (member_once (host_text t.host) (program_text s.program) (program_text t.program) moved) in
     let seat : s ≡ t = λ i. record { host = host i; program = program i } in
-    ap₂ (λ (x : Seat) (xs : List Seat). x ∷ xs) seat (seats_once seats others (rest_same hosts) (All-tail IsSeatWhole s seats p) (All-tail IsSeatWhole t others q) (rest_same e))
+    ap₂ (λ (x : Seat) (xs : List Seat). x ∷ xs) seat (seats_once seats others (All-tail IsSeatWhole s seats p) (All-tail IsSeatWhole t others q) (rest_same e))
 
-pub programs_once : (seats others : List Seat) → map (λ s. s.host) seats ≡ map (λ s. s.host) others → All SeatLasts seats → All SeatLasts others → All IsSeatTold seats → All IsSeatTold others → programs_text seats ≡ programs_text others → seats ≡ others
-programs_once seats others hosts k l p q e =
+pub programs_once : (seats others : List Seat) → All SeatLasts seats → All SeatLasts others → All IsSeatTold seats → All IsSeatTold others → programs_text seats ≡ programs_text others → seats ≡ others
+programs_once seats others k l p q e =
     let one : All IsSeatWhole seats = seats_whole seats k p in
     let other : All IsSeatWhole others = seats_whole others l q in
-    seats_once seats others hosts one other (object_once (map seat_member seats) (map seat_member others) (seats_closed seats one) (seats_closed others other) e)
+    seats_once seats others one other (object_once (map seat_member seats) (map seat_member others) (seats_closed seats one) (seats_closed others other) e)

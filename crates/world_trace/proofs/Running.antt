@@ -22,7 +22,7 @@ use Rattle.trace.proofs.lemmas.{Any, IsClosed, Spelled, bool_spelled, decimal_cl
 use Rattle.world_trace.specs.Lasting.{ServiceLasts, ServicesLast}
 use Rattle.world_trace.specs.Texts.{asked_object, ends_object, met_object, number_text, partner_text, running_object, server_object, service_object, services_member, services_text, sockets_object, user_object}
 use Rattle.world_trace.specs.Told.{IsPartnerTold, IsServed, IsServiceTold}
-use Rattle.world_trace.proofs.Fields.{also, bits_object, fields, fields_spelled, null_closed, number_spelled, octets_spelled}
+use Rattle.world_trace.proofs.Fields.{also, bits_object, fields, fields_spelled, name_once, null_closed, number_spelled, octets_spelled}
 use Rattle.world_trace.proofs.Programs.{no_word}
 
 -- ---- far ends, sockets, and whom a user asks
@@ -313,22 +313,24 @@ served_closed (s ∷ all) told =
     All-cons IsClosed (services_member s) (map services_member all) (member_closed (host_text s.host) (running_object s.services) (host_words.plain s.host is.host) (running_spelled.closed s.services is.services))
     (served_closed all (All-tail IsServedWhole s all told))
 
-served_once : (all others : List ServiceSeat) → map (λ s. s.host) all ≡ map (λ s. s.host) others → All IsServedWhole all → All IsServedWhole others → map services_member all ≡ map services_member others → all ≡ others
-served_once [] [] hosts p q e = refl
-served_once [] (t ∷ others) hosts p q e = absurd (cc)
-served_once (s ∷ all) [] hosts p q e = absurd (cc)
-served_once (s ∷ all) (t ∷ others) hosts p q e =
+served_once : (all others : List ServiceSeat) → All IsServedWhole all → All IsServedWhole others → map services_member all ≡ map services_member others → all ≡ others
+served_once [] [] p q e = refl
+served_once [] (t ∷ others) p q e = absurd (cc)
+served_once (s ∷ all) [] p q e = absurd (cc)
+served_once (s ∷ all) (t ∷ others) p q e =
     let a : IsServedWhole s = All-head IsServedWhole s all p in
     let b : IsServedWhole t = All-head IsServedWhole t others q in
-    let host : s.host ≡ t.host = first_same hosts in
+    let host : s.host ≡ t.host =
+    host_words.once s.host t.host a.host b.host
+    (name_once (host_text s.host) (host_text t.host) (running_object s.services) (running_object t.services) (host_words.plain s.host a.host) (host_words.plain t.host b.host) (first_same e)) in
     let moved : member (host_text t.host) (running_object s.services) ≡ services_member t = ap (λ (h : Host). member (host_text h) (running_object s.services)) (sym host) ∙ first_same e in
     let services : s.services ≡ t.services =
     running_spelled.once s.services t.services a.services b.services (member_once (host_text t.host) (running_object s.services) (running_object t.services) moved) in
     let seat : s ≡ t = λ i. record { host = host i; services = services i } in
-    ap₂ (λ (x : ServiceSeat) (xs : List ServiceSeat). x ∷ xs) seat (served_once all others (rest_same hosts) (All-tail IsServedWhole s all p) (All-tail IsServedWhole t others q) (rest_same e))
+    ap₂ (λ (x : ServiceSeat) (xs : List ServiceSeat). x ∷ xs) seat (served_once all others (All-tail IsServedWhole s all p) (All-tail IsServedWhole t others q) (rest_same e))
 
-pub services_once : (all others : List ServiceSeat) → map (λ s. s.host) all ≡ map (λ s. s.host) others → All ServicesLast all → All ServicesLast others → All IsServed all → All IsServed others → services_text all ≡ services_text others → all ≡ others
-services_once all others hosts k l p q e =
+pub services_once : (all others : List ServiceSeat) → All ServicesLast all → All ServicesLast others → All IsServed all → All IsServed others → services_text all ≡ services_text others → all ≡ others
+services_once all others k l p q e =
     let one : All IsServedWhole all = all_whole all k p in
     let other : All IsServedWhole others = all_whole others l q in
-    served_once all others hosts one other (object_once (map services_member all) (map services_member others) (served_closed all one) (served_closed others other) e)
+    served_once all others one other (object_once (map services_member all) (map services_member others) (served_closed all one) (served_closed others other) e)

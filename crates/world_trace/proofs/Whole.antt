@@ -18,8 +18,8 @@ use Rattle.world_trace.proofs.WorldsLast.{Runs, opening_lasts, replay_runs}
 
 pub whole : {C : Type 0} (one other : WorldState C) → IsWorldTold one → IsWorldTold other → HaveSameTexts one other → other ≡ record one { carrier = other.carrier; kept = other.kept }
 whole one other p q same =
-    let seats : other.seats ≡ one.seats = sym (programs_once one.seats other.seats same.seats p.lasting.programs q.lasting.programs p.numbers.programs q.numbers.programs same.programs) in
-    let served : other.services ≡ one.services = sym (services_once one.services other.services same.served p.lasting.services q.lasting.services p.numbers.services q.numbers.services same.services) in
+    let seats : other.seats ≡ one.seats = sym (programs_once one.seats other.seats p.lasting.programs q.lasting.programs p.numbers.programs q.numbers.programs same.programs) in
+    let served : other.services ≡ one.services = sym (services_once one.services other.services p.lasting.services q.lasting.services p.numbers.services q.numbers.services same.services) in
     let stopped : other.stopped ≡ one.stopped = q.running ∙ sym p.running in
     λ i. record { carrier = other.carrier; seats = seats i; services = served i; kept = other.kept; stopped = stopped i }
 

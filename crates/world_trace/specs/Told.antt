@@ -1,5 +1,5 @@
 -- States of worlds of which the texts of a trace say all but the carrier and what is kept: memory has not run out, and each number has a decimal of its own.
-use Rattle.std.specs.Prelude.{◌≡◌, ℕ, false, List, [], ◌∷◌, IfSome, map}
+use Rattle.std.specs.Prelude.{◌≡◌, ℕ, false, List, [], ◌∷◌, IfSome}
 use Rattle.std.specs.List.{All}
 use Rattle.hex.specs.Hex.{IsBytes}
 use Rattle.host_pairs.specs.declared.entry.Entry.{Entry}
@@ -137,9 +137,7 @@ pub record IsWorldTold {C : Type 0} (w : WorldState C) : Type 0 where
   pub lasting : Lasts w
   pub numbers : AreNumbersTold w
 
--- two worlds of the same hosts, in the same order, whose programs have the same texts, and whose services do
+-- the programs of two worlds have the same texts, and their services do
 pub record HaveSameTexts {C : Type 0} (one other : WorldState C) : Type 0 where
-  pub seats : map (λ s. s.host) one.seats ≡ map (λ s. s.host) other.seats
-  pub served : map (λ s. s.host) one.services ≡ map (λ s. s.host) other.services
   pub programs : programs_text one.seats ≡ programs_text other.seats
   pub services : services_text one.services ≡ services_text other.services

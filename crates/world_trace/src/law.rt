@@ -12,8 +12,8 @@ ghost use Rattle.world_trace.specs.Told.{HaveSameTexts, IsWorldTold};
 
 use interface::Carrier;
 
-/// The texts of programs and services say all of a world but its carrier, which has parts of its own, and what is kept: two worlds of the same hosts
-/// with the same texts differ in nothing else. This is so of each world to which a replay comes, if its numbers are not too long for a decimal:
+/// The texts of programs and services say all of a world but its carrier, which has parts of its own, and what is kept: two worlds with the same
+/// texts differ in nothing else. This is so of each world to which a replay comes, if its numbers are not too long for a decimal:
 /// of a world at hand [`crate::says_all`] says that they are not.
 pub fn whole<C: Carrier>()
     ensures texts { (one other : WorldState C) → IsWorldTold one → IsWorldTold other → HaveSameTexts one other → other ≡ record one { carrier = other.carrier; kept = other.kept } }
