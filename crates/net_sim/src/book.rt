@@ -56,7 +56,6 @@ impl Model for Book {
 }
 
 /// Copies of what crossed are put after what had crossed before, one after another.
-#[inline(always)]
 fn push_copies(all: &mut Vec<Crossing>, news: &[Crossing]) -> Result<(), AllocError>
     ensures done { OnOk result (all.new.items ≡ all.old.items ++ news.now) }
     ensures before { take (length all.old.items) all.new.items ≡ all.old.items }
@@ -68,7 +67,6 @@ fn push_copies(all: &mut Vec<Crossing>, news: &[Crossing]) -> Result<(), AllocEr
 }
 
 /// Copies of what crossed are put after what had crossed before, or memory runs out, and none is.
-#[inline(always)]
 fn add_copies(all: &mut Vec<Crossing>, news: &[Crossing]) -> Result<(), AllocError>
     ensures done { OnOk result (all.new.items ≡ all.old.items ++ news.now) }
     ensures kept { OnErr result (all.new.items ≡ all.old.items) }
@@ -121,6 +119,7 @@ fn add_told(
 }
 
 /// Adds what crossed, and then notices to a host's user, with the number of crossings; or nothing, if memory runs out.
+#[inline(always)]
 fn add_heard(
     crossings: &mut Vec<Crossing>,
     told: &mut Vec<Told>,
