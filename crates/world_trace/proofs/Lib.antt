@@ -6,7 +6,7 @@ mod Ends
 mod Failures
 mod Fields
 mod Blocks
-mod LastingRows
+mod Lasts
 mod Lines
 mod Lists
 mod Made
@@ -14,7 +14,6 @@ mod Networks
 mod Passing
 mod PlainStates
 mod Programs
-mod ProgramsLast
 mod Replayed
 mod Resting
 mod Running
@@ -24,4 +23,3 @@ mod SubnetStates
 mod Telling
 mod Turns
 mod Whole
-mod WorldsLast

@@ -1,8 +1,9 @@
 -- What each call of a carrier keeps holds of the carrier of each world that the replay of a script comes to.
-use Rattle.std.proofs.Common.{◌≡◌, inl, inr, List, [], ◌∷◌, ◌++◌, Result, reverse, ap, sym, subst, ◌∙◌}
+use Rattle.std.proofs.Common.{◌≡◌, inl, inr, List, [], ◌∷◌, ◌++◌, Option, None, Some, Result, reverse, ap, refl, sym, subst, ◌∙◌}
 use Rattle.std.proofs.lemmas.List.{append-nil, reverse-append, reverse-reverse}
 use Rattle.std.proofs.lemmas.List.Elements.{All-append, All-cons, All-head, All-nil, All-same, All-tail}
 use Rattle.std.specs.List.{All}
+use Rattle.std.specs.Option.{option_and_then, option_map, option_to_list}
 use Rattle.interface.specs.Calls.{Calls}
 use Rattle.interface.specs.Host.{Host}
 use Rattle.interface.specs.declared.CarrierFault.{CarrierFault}
@@ -13,12 +14,15 @@ use Rattle.interface.specs.declared.crossing.Crossing.TheVariants as crossing
 use Rattle.net_sim.specs.World.{WorldState, opening_world}
 use Rattle.net_sim.specs.declared.event.Event.{Event}
 use Rattle.net_sim.specs.declared.event.Event.TheVariants as event
+use Rattle.net_sim.specs.declared.seat.Seat.{Seat}
 use Rattle.replay.specs.InTurn.{InTurn}
-use Rattle.replay.specs.Output.{Shown, crossings_of}
+use Rattle.replay.specs.Output.{Shown, crossings_of, shown_crossings}
 use Rattle.replay.specs.Replay.{GoesOn, Happens}
 use Rattle.script.specs.Spelling.{IsMessage, IsNetEvent}
 use Rattle.script.specs.declared.event.RawEvent.TheVariants as raw
-use Rattle.world_replay.specs.Driven.{Drive, Goes, IsCourse, IsDriven, IsDrivenIn, IsOffer, IsTaking, Makes, Raw, Round}
+use Rattle.sockets.specs.Pairs.{NcpState}
+use Rattle.sockets.specs.Sending.{next_out}
+use Rattle.world_replay.specs.Driven.{Drive, Goes, IsCourse, IsDriven, IsDrivenIn, Raw, Round, call_of, program_of}
 use Rattle.world_replay.specs.Replay.{IsOfCalm}
 use Rattle.world_replay.proofs.lemmas.Driven.{replay_drives}
 use Rattle.world_script.specs.WorldSpelling.{IsWorldEvent}
@@ -96,42 +100,43 @@ module _ {C : Type 0} (calls : Calls C) (Holds : C → Type 0) (keeps : Keeps ca
   none_goes : (old new : C) (lines : List Shown) → InTurn (Goes calls) old [] new lines → Holds old → Holds new
   none_goes old new lines h holds = subst Holds (sym h.0) holds
 
-  takes_hold : (h : Host) (old new : C) (lines : List Shown) (cs : List Crossing) → InTurn (Goes calls) old (Raw (raw.Take h) ∷ []) new lines → crossings_of lines ≡ cs → Holds old → Holds new
-  takes_hold h old new lines cs goes is holds = one_goes (Raw (raw.Take h)) old new lines cs goes is (λ first same one. keeps.take old new h first one holds)
-
-  taking_holds : (h : Host) (old new : C) (cs : List Crossing) (drives : List Drive) (lines : List Shown) → IsTaking h cs drives → InTurn (Goes calls) old drives new lines → crossings_of lines ≡ cs → Holds old → Holds new
-  taking_holds h old new [] drives lines makes goes is holds = elim makes [
-    | inl none ↦ none_goes old new lines (subst (λ (ds : List Drive). InTurn (Goes calls) old ds new lines) none goes) holds
-    | inr one ↦ takes_hold h old new lines [] (subst (λ (ds : List Drive). InTurn (Goes calls) old ds new lines) one goes) is holds
-  ]
-  taking_holds h old new (c ∷ []) drives lines makes goes is holds = takes_hold h old new lines (c ∷ []) (subst (λ (ds : List Drive). InTurn (Goes calls) old ds new lines) makes goes) is holds
-  taking_holds h old new (c ∷ d ∷ cs) drives lines makes goes is holds = absurd makes
-
-  offer_holds : (old new : C) (cs : List Crossing) (drives : List Drive) (lines : List Shown) → All IsSaid cs → IsOffer cs drives → InTurn (Goes calls) old drives new lines → crossings_of lines ≡ cs → Holds old → Holds new
-  offer_holds old new [] drives lines said makes goes is holds = elim makes [
-    | inl none ↦ none_goes old new lines (subst (λ (ds : List Drive). InTurn (Goes calls) old ds new lines) none goes) holds
-    | inr one ↦ one_goes (Raw (raw.Out one.0)) old new lines [] (subst (λ (ds : List Drive). InTurn (Goes calls) old ds new lines) one.1 goes) is (λ first same h. keeps.unsaid old new one.0 first same h holds)
-  ]
-  offer_holds old new (crossing.Out m ∷ []) drives lines said makes goes is holds =
-      one_goes (Raw (raw.Out m)) old new lines (crossing.Out m ∷ []) (subst (λ (ds : List Drive). InTurn (Goes calls) old ds new lines) makes goes) is
-      (λ first same h. keeps.out old new m first (All-head IsSaid (crossing.Out m) [] said) h holds)
-  offer_holds old new cs drives lines said makes goes is holds = absurd makes
-
   -- an event without calls
   still_holds : (old new : C) (drives : List Drive) (lines : List Shown) → drives ≡ [] → InTurn (Goes calls) old drives new lines → Holds old → Holds new
   still_holds old new drives lines none goes holds = none_goes old new lines (subst (λ (ds : List Drive). InTurn (Goes calls) old ds new lines) none goes) holds
 
-  made_holds : (e : Event) (old new : C) (cs : List Crossing) (drives : List Drive) (lines : List Shown) → IsFit e → All IsSaid cs → Makes e cs drives → InTurn (Goes calls) old drives new lines → crossings_of lines ≡ cs → Holds old → Holds new
-  made_holds (event.Net e) old new cs drives lines fit said makes goes is holds =
-      one_goes (Raw (raw.Net e)) old new lines cs (subst (λ (ds : List Drive). InTurn (Goes calls) old ds new lines) makes goes) is (λ first same h. keeps.net old new e first fit h holds)
-  made_holds event.Quiet old new cs drives lines fit said makes goes is holds =
-      one_goes Round old new lines cs (subst (λ (ds : List Drive). InTurn (Goes calls) old ds new lines) makes.1 goes) is (λ first same h. keeps.round old new h.0 h.1 h.2 holds)
-  made_holds (event.Offer h) old new cs drives lines fit said makes goes is holds = offer_holds old new cs drives lines said makes goes is holds
-  made_holds (event.Take h) old new cs drives lines fit said makes goes is holds = taking_holds h old new cs drives lines makes goes is holds
-  made_holds (event.Ask h r) old new cs drives lines fit said makes goes is holds = still_holds old new drives lines makes.1 goes holds
-  made_holds (event.Server h listen base) old new cs drives lines fit said makes goes is holds = still_holds old new drives lines makes.1 goes holds
-  made_holds (event.User h peer listen own) old new cs drives lines fit said makes goes is holds = still_holds old new drives lines makes.1 goes holds
-  made_holds (event.Typed h line) old new cs drives lines fit said makes goes is holds = still_holds old new drives lines makes.1 goes holds
+  -- a host takes, if it is up
+  taking_holds : (h : Host) (o : Option NcpState) (old new : C) (drives : List Drive) (lines : List Shown) → drives ≡ option_to_list (option_map (λ (s : NcpState). Raw (raw.Take h)) o) → InTurn (Goes calls) old drives new lines → Holds old → Holds new
+  taking_holds h None old new drives lines makes goes holds = still_holds old new drives lines makes goes holds
+  taking_holds h (Some s) old new drives lines makes goes holds =
+      one_goes (Raw (raw.Take h)) old new lines (crossings_of lines) (subst (λ (ds : List Drive). InTurn (Goes calls) old ds new lines) makes goes) refl (λ first same one. keeps.take old new h first one.0 holds)
+
+  -- a message that is offered goes out, or is refused
+  out_holds : (m : HostMessage) (old new : C) (first : List Shown) → All IsSaid (crossings_of first) → Goes calls old (Raw (raw.Out m)) new first → Holds old → Holds new
+  out_holds m old new first said one holds = elim one.1 [
+    | inl it ↦
+        let out : crossings_of first ≡ crossing.Out m ∷ [] = ap crossings_of it.2 ∙ ap (λ (cs : List Crossing). crossings_of (shown_crossings cs)) it.1 in
+        keeps.out old new m first (All-head IsSaid (crossing.Out m) [] (subst (All IsSaid) out said)) one.0 holds
+    | inr it ↦ keeps.unsaid old new m first (ap crossings_of it.1) one.0 holds
+  ]
+
+  offer_holds : (o : Option HostMessage) (old new : C) (drives : List Drive) (lines : List Shown) → drives ≡ option_to_list (option_map (λ (m : HostMessage). Raw (raw.Out m)) o) → All IsSaid (crossings_of lines)
+      → InTurn (Goes calls) old drives new lines → Holds old → Holds new
+  offer_holds None old new drives lines makes said goes holds = still_holds old new drives lines makes goes holds
+  offer_holds (Some m) old new drives lines makes said goes holds =
+      one_goes (Raw (raw.Out m)) old new lines (crossings_of lines) (subst (λ (ds : List Drive). InTurn (Goes calls) old ds new lines) makes goes) refl
+      (λ first same one. out_holds m old new first (subst (All IsSaid) (sym same) said) one holds)
+
+  made_holds : (e : Event) (seats : List Seat) (old new : C) (drives : List Drive) (lines : List Shown) → IsFit e → All IsSaid (crossings_of lines) → drives ≡ option_to_list (call_of seats e) → InTurn (Goes calls) old drives new lines → Holds old → Holds new
+  made_holds (event.Net e) seats old new drives lines fit said makes goes holds =
+      one_goes (Raw (raw.Net e)) old new lines (crossings_of lines) (subst (λ (ds : List Drive). InTurn (Goes calls) old ds new lines) makes goes) refl (λ first same h. keeps.net old new e first fit h.0 holds)
+  made_holds event.Quiet seats old new drives lines fit said makes goes holds =
+      one_goes Round old new lines (crossings_of lines) (subst (λ (ds : List Drive). InTurn (Goes calls) old ds new lines) makes goes) refl (λ first same h. keeps.round old new h.0 h.1 h.2 holds)
+  made_holds (event.Offer h) seats old new drives lines fit said makes goes holds = offer_holds (option_and_then next_out (program_of h seats)) old new drives lines makes said goes holds
+  made_holds (event.Take h) seats old new drives lines fit said makes goes holds = taking_holds h (program_of h seats) old new drives lines makes goes holds
+  made_holds (event.Ask h r) seats old new drives lines fit said makes goes holds = still_holds old new drives lines makes goes holds
+  made_holds (event.Server h listen base) seats old new drives lines fit said makes goes holds = still_holds old new drives lines makes goes holds
+  made_holds (event.User h peer listen own) seats old new drives lines fit said makes goes holds = still_holds old new drives lines makes goes holds
+  made_holds (event.Typed h line) seats old new drives lines fit said makes goes holds = still_holds old new drives lines makes goes holds
 
   -- ---- events in turn
 
@@ -139,11 +144,12 @@ module _ {C : Type 0} (calls : Calls C) (Holds : C → Type 0) (keeps : Keeps ca
   Said w = All IsSaid w.kept.book.crossings
 
   said_before : (e : Event) (old new : WorldState C) (drives : List Drive) → IsDriven calls old e new drives → Said new → Said old
-  said_before e old new drives h said = earlier (reverse h.crossings) old.kept.book.crossings (subst (All IsSaid) h.crossed said)
+  said_before e old new drives h said = earlier (reverse (crossings_of h.shown)) old.kept.book.crossings (subst (All IsSaid) h.crossed said)
 
   event_holds : (e : Event) (old new : WorldState C) (drives : List Drive) → IsFit e → Said new → IsDriven calls old e new drives → Holds old.carrier → Holds new.carrier
   event_holds e old new drives fit said h holds =
-      made_holds e old.carrier new.carrier h.crossings drives h.shown fit (in_order h.crossings (later (reverse h.crossings) old.kept.book.crossings (subst (All IsSaid) h.crossed said))) h.makes h.goes h.same holds
+      let cs : List Crossing = crossings_of h.shown in
+      made_holds e old.seats old.carrier new.carrier drives h.shown fit (in_order cs (later (reverse cs) old.kept.book.crossings (subst (All IsSaid) h.crossed said))) h.makes h.goes holds
 
   all_said : (events : List Event) (old new : WorldState C) (drives : List Drive) → InTurn (IsDriven calls) old events new drives → Said new → Said old
   all_said [] old new drives h said = subst Said h.0 said
