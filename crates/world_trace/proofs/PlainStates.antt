@@ -12,7 +12,7 @@ use Rattle.interface.specs.declared.crossing.Crossing.TheVariants as crossing
 use Rattle.interface.proofs.lemmas.{same_host-true}
 use Rattle.leader1822.specs.Boxes.{Boxes, opening_boxes, plain_calls}
 use Rattle.net_sim.specs.Carriers.{shown}
-use Rattle.replay.specs.Output.{Shown, crossings_of}
+use Rattle.replay.specs.Output.{Refused, Shown, crossings_of}
 use Rattle.replay.specs.Replay.{Happens, IsOneCall, Replays}
 use Rattle.replay.proofs.lemmas.{crossings_shown}
 use Rattle.script.specs.Spelling.{IsEvent, IsHost}
@@ -21,9 +21,7 @@ use Rattle.script.specs.declared.event.RawEvent.TheVariants as raw
 use Rattle.trace.specs.Kept.{IsTold}
 use Rattle.trace.specs.Laws.Whole.{WholeTexts}
 use Rattle.trace.specs.Parts.{IsPart}
-use Rattle.trace.proofs.Each.{left_of}
-use Rattle.trace.proofs.Keeping.{reached}
-use Rattle.trace.proofs.Rest.{frame}
+use Rattle.trace.proofs.lemmas.{frame, left_of, reached}
 use Rattle.world_replay.proofs.lemmas.Driven.{in_turn_one, in_turn_then}
 use Rattle.world_trace.specs.Reached.{PlainStates}
 use Rattle.world_trace.specs.Told.{IsWorldTold}
@@ -77,11 +75,11 @@ take_comes hosts all old new h lines k comes = by (is_host old.hosts h) refl whe
     | inr left ↦ absurd (no_such old.stopped (is_host old.hosts h) (if is_host old.down h then Some fault.IsDown else None) away left.0)
   ]
 
--- nor does an offer by which nothing crosses
-unsaid_comes : (hosts : List Host) (old new : Boxes) (m : HostMessage) (lines : List Shown) → crossings_of lines ≡ [] → Happens plain_calls old (raw.Out m) new lines → Comes hosts old → Comes hosts new
-unsaid_comes hosts old new m lines none k comes = elim (left_of old new (raw.Out m) lines tt k) [
+-- nor does an offer that is refused
+unsaid_comes : (hosts : List Host) (old new : Boxes) (m : HostMessage) (lines : List Shown) (f : CarrierFault) → lines ≡ Refused f ∷ [] → Happens plain_calls old (raw.Out m) new lines → Comes hosts old → Comes hosts new
+unsaid_comes hosts old new m lines f is k comes = elim (left_of old new (raw.Out m) lines tt k) [
   | inl same ↦ still_comes hosts old new same comes
-  | inr left ↦ let nothing : k.crossings ≡ [] = sym (crossings_shown k.crossings k.outcome) ∙ sym (ap crossings_of k.lines) ∙ none in
+  | inr left ↦ let nothing : k.crossings ≡ [] = sym (crossings_shown k.crossings k.outcome) ∙ sym (ap crossings_of k.lines) ∙ ap crossings_of is in
       let logs : crossing.Out m ∷ old.log ≡ old.log = sym (ap (λ (b : Boxes). b.log) left.1) ∙ k.grown ∙ ap (λ (cs : List Crossing). reverse cs ++ old.log) nothing in
       let longer : suc (length old.log) ≡ length old.log = ap (λ (cs : List Crossing). length cs) logs in
       absurd (omega (arith, longer))

@@ -16,7 +16,7 @@ use Rattle.net_sim.specs.declared.event.Event.{Event}
 use Rattle.net_sim.specs.declared.event.Event.TheVariants as event
 use Rattle.net_sim.specs.declared.seat.Seat.{Seat}
 use Rattle.replay.specs.InTurn.{InTurn}
-use Rattle.replay.specs.Output.{Shown, crossings_of, shown_crossings}
+use Rattle.replay.specs.Output.{Refused, Shown, crossings_of, shown_crossings}
 use Rattle.replay.specs.Replay.{GoesOn, Happens}
 use Rattle.script.specs.Spelling.{IsMessage, IsNetEvent}
 use Rattle.script.specs.declared.event.RawEvent.TheVariants as raw
@@ -35,8 +35,13 @@ pub record Keeps {C : Type 0} (calls : Calls C) (Holds : C → Type 0) : Type 0 
   pub net : (old new : C) (e : NetEvent) (lines : List Shown) → IsNetEvent e → Happens calls old (raw.Net e) new lines → Holds old → Holds new
   pub take : (old new : C) (h : Host) (lines : List Shown) → Happens calls old (raw.Take h) new lines → Holds old → Holds new
   pub out : (old new : C) (m : HostMessage) (lines : List Shown) → IsMessage m → Happens calls old (raw.Out m) new lines → Holds old → Holds new
-  pub unsaid : (old new : C) (m : HostMessage) (lines : List Shown) → crossings_of lines ≡ [] → Happens calls old (raw.Out m) new lines → Holds old → Holds new
+  pub unsaid : (old new : C) (m : HostMessage) (lines : List Shown) (f : CarrierFault) → lines ≡ Refused f ∷ [] → Happens calls old (raw.Out m) new lines → Holds old → Holds new
   pub round : (old new : C) (answer : Result (Unit {0}) CarrierFault) → calls.rounds old answer new → GoesOn answer → Holds old → Holds new
+
+-- what is done does not show a refusal
+pub not_refused : (cs : List Crossing) (f : CarrierFault) → shown_crossings cs ++ [] ≡ Refused f ∷ [] → ⊥
+not_refused [] f is = cc
+not_refused (c ∷ cs) f is = cc
 
 -- what is asked of an event of a world: one of the network is such as a script may ask for
 abbrev IsFit : Event → Type 0
@@ -116,7 +121,7 @@ module _ {C : Type 0} (calls : Calls C) (Holds : C → Type 0) (keeps : Keeps ca
     | inl it ↦
         let out : crossings_of first ≡ crossing.Out m ∷ [] = ap crossings_of it.2 ∙ ap (λ (cs : List Crossing). crossings_of (shown_crossings cs)) it.1 in
         keeps.out old new m first (All-head IsSaid (crossing.Out m) [] (subst (All IsSaid) out said)) one.0 holds
-    | inr it ↦ keeps.unsaid old new m first (ap crossings_of it.1) one.0 holds
+    | inr it ↦ keeps.unsaid old new m first it.0 it.1 one.0 holds
   ]
 
   offer_holds : (o : Option HostMessage) (old new : C) (drives : List Drive) (lines : List Shown) → drives ≡ option_to_list (option_map (λ (m : HostMessage). Raw (raw.Out m)) o) → All IsSaid (crossings_of lines)

@@ -1,5 +1,5 @@
 -- Texts say all of a world over a subnet to which a replay comes.
-use Rattle.std.proofs.Common.{◌≡◌, ℕ, suc, ◌+◌, ◌≤◌, ◌||◌, Bool, false, List, [], ◌∷◌, ◌++◌, length, Option, Result, Ok, Err, reverse, refl, ap, sym, subst, ◌∙◌, arith}
+use Rattle.std.proofs.Common.{◌≡◌, ℕ, ◌+◌, ◌≤◌, ◌||◌, Bool, false, List, [], ◌∷◌, ◌++◌, length, Option, Result, Ok, Err, refl, ap, sym, subst, ◌∙◌, arith}
 use Rattle.std.proofs.lemmas.Bool.Decides.{nat_tests}
 use Rattle.interface.specs.Calls.{is_halt, is_memory}
 use Rattle.interface.specs.Host.{Host, IsAddress, most_imps}
@@ -8,13 +8,10 @@ use Rattle.interface.specs.declared.HostMessage.{HostMessage}
 use Rattle.interface.specs.declared.Inbound.{Inbound}
 use Rattle.interface.specs.declared.NetEvent.{NetEvent}
 use Rattle.interface.specs.declared.crossing.Crossing.{Crossing}
-use Rattle.interface.specs.declared.crossing.Crossing.TheVariants as crossing
 use Rattle.net_sim.specs.Carriers.{shown}
-use Rattle.replay.specs.Output.{Shown, crossings_of}
-use Rattle.replay.specs.Replay.{GoesOn, Happens, outcome_of}
-use Rattle.replay.proofs.lemmas.{crossings_shown}
+use Rattle.replay.specs.Output.{Refused, Shown, shown_crossings, shown_refusal}
+use Rattle.replay.specs.Replay.{GoesOn, outcome_of}
 use Rattle.script.specs.Spelling.{IsHost, IsMessage, IsNetEvent}
-use Rattle.script.specs.declared.event.RawEvent.TheVariants as raw
 use Rattle.subnet.specs.Calls.{Fails, Kept, running}
 use Rattle.subnet.specs.Events.{offer_out, quiet_round, step_refusal, stepped, take_in}
 use Rattle.subnet.specs.Net.{Net}
@@ -23,15 +20,12 @@ use Rattle.subnet.specs.Routed.{IsHostMessage}
 use Rattle.subnet.specs.Working.{IsWorking, SubnetOffer, SubnetRound, SubnetStep, SubnetTake, subnet_calls}
 use Rattle.subnet.specs.declared.Ends.{Ends}
 use Rattle.subnet.proofs.lemmas.{offer_working, opening_working, round_working, step_working, take_working}
-use Rattle.subnet.proofs.Calls.Showing.{offer_log}
 use Rattle.subnet_trace.specs.Told.{IsOneNetwork, IsTold, SameTexts}
-use Rattle.subnet_trace.proofs.Known.{IsKnown, offer_known, opening_known, round_known, step_known, take_known, told}
-use Rattle.subnet_trace.proofs.Rest.{runs}
-use Rattle.subnet_trace.proofs.lemmas.{refused}
+use Rattle.subnet_trace.proofs.lemmas.{IsKnown, offer_known, opening_known, refused, round_known, runs, step_known, take_known, told}
 use Rattle.trace.proofs.lemmas.{flow_named}
 use Rattle.world_trace.specs.Reached.{SubnetStates}
 use Rattle.world_trace.specs.Told.{IsWorldTold}
-use Rattle.world_trace.proofs.States.{Keeps, reached_holds}
+use Rattle.world_trace.proofs.States.{Keeps, not_refused, reached_holds}
 use Rattle.world_trace.proofs.Whole.{reached_told, whole}
 
 -- two subnets of one network of which all can be printed, with the same texts of all parts, differ in the log only
@@ -70,13 +64,10 @@ module _ (o : Net) where
       after_call old new (offer_out old.net m) h.1 (offer_working old m (Ok done) new (host_message m valid) h holds.working) (offer_known old.net m (flow_named m.flow valid.0) holds.known)
   offer_holds old new m (Err f) valid h goes holds = refused_holds _ _ old new f h goes holds
 
-  -- an offer by which nothing crosses is refused
-  unsaid_holds : (old new : Kept) (m : HostMessage) (r : Result (Unit {0}) CarrierFault) → new.net.log ≡ old.net.log → SubnetOffer old m r new → GoesOn r → Holds o old → Holds o new
-  unsaid_holds old new m (Ok done) none h goes holds =
-      let logs : crossing.Out m ∷ old.net.log ≡ old.net.log = sym (offer_log old.net m) ∙ sym (ap (λ (k : Kept). k.net.log) h.1) ∙ none in
-      let longer : suc (length old.net.log) ≡ length old.net.log = ap (λ (cs : List Crossing). length cs) logs in
-      absurd (omega (arith, longer))
-  unsaid_holds old new m (Err f) none h goes holds = refused_holds _ _ old new f h goes holds
+  -- an offer that shows a refusal is refused
+  unsaid_holds : (old new : Kept) (m : HostMessage) (r : Result (Unit {0}) CarrierFault) (cs : List Crossing) (f : CarrierFault) (lines : List Shown) → lines ≡ shown_crossings cs ++ shown_refusal r → lines ≡ Refused f ∷ [] → SubnetOffer old m r new → GoesOn r → Holds o old → Holds o new
+  unsaid_holds old new m (Ok done) cs f lines shows is h goes holds = absurd (not_refused cs f (sym shows ∙ is))
+  unsaid_holds old new m (Err e) cs f lines shows is h goes holds = refused_holds _ _ old new e h goes holds
 
   take_holds : (old new : Kept) (h : Host) (r : Result (Option Inbound) CarrierFault) → SubnetTake old h r new → GoesOn (outcome_of r) → Holds o old → Holds o new
   take_holds old new h (Ok given) k goes holds = after_call old new (take_in old.net h) k.1.1 (take_working old h (Ok given) new k holds.working) (take_known old.net h holds.known)
@@ -92,18 +83,12 @@ module _ (o : Net) where
   round_holds old new (Ok done) h goes holds = after_call old new (quiet_round old.net) h.1 (round_working old (Ok done) new h holds.working) (round_known old.net (holds.working.whole holds.runs).sound holds.known)
   round_holds old new (Err f) h goes holds = refused_holds _ _ old new f h goes holds
 
-  -- nothing crossed by an event that shows no crossing
-  no_growth : (old new : Kept) (m : HostMessage) (lines : List Shown) (h : Happens subnet_calls old (raw.Out m) new lines) → crossings_of lines ≡ [] → new.net.log ≡ old.net.log
-  no_growth old new m lines h none =
-      let nothing : h.crossings ≡ [] = sym (crossings_shown h.crossings h.outcome) ∙ sym (ap crossings_of h.lines) ∙ none in
-      h.grown ∙ ap (λ (cs : List Crossing). reverse cs ++ old.net.log) nothing
-
   subnet_keeps : Keeps subnet_calls (Holds o)
   subnet_keeps = record {
     net = λ old new e lines valid h holds. step_holds old new e h.outcome valid h.gives h.goes_on holds;
     take = λ old new g lines h holds. take_holds old new g h.gives.0 h.gives.1 (subst GoesOn h.gives.2 h.goes_on) holds;
     out = λ old new m lines valid h holds. offer_holds old new m h.outcome valid h.gives h.goes_on holds;
-    unsaid = λ old new m lines none h holds. unsaid_holds old new m h.outcome (no_growth old new m lines h none) h.gives h.goes_on holds;
+    unsaid = λ old new m lines f is h holds. unsaid_holds old new m h.outcome h.crossings f lines h.lines is h.gives h.goes_on holds;
     round = round_holds;
   }
 

@@ -51,7 +51,7 @@ same_kept : (xs ys : List Crossing) (ns ms : List Told) (us vs : List Called) (p
 same_kept xs ys ns ms us vs ps qs l x n a p = cc
 
 -- what is in a book once all of that is written down
-pub written_so : (cs : List Crossing) (a : Option (Host × Request)) (calls : List Called) (ts : List Told) (h : Option Host) (rs : List Request) (reports : List Reported) (k : Kept) (before after : List Crossing) (ns : List Told) (us : List Called)
+written_so : (cs : List Crossing) (a : Option (Host × Request)) (calls : List Called) (ts : List Told) (h : Option Host) (rs : List Request) (reports : List Reported) (k : Kept) (before after : List Crossing) (ns : List Told) (us : List Called)
     (ps : List Reported) (l : LivesState) → k.book.crossings ≡ reverse before → after ≡ before ++ cs → ns ≡ k.book.notices ++ ts → us ≡ k.book.contacts ++ calls → ps ≡ k.book.reports ++ reports
     → l ≡ followed cs a ts h rs (of_kept k)
     → ◌≡◌ {A = Kept} (record { book = record { crossings = reverse after; notices = ns; contacts = us; reports = ps; lives = l.lives }; handed = l.handed; fates = l.fates }) (written cs a calls ts h rs reports k)
