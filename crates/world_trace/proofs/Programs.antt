@@ -240,7 +240,7 @@ pairs_spelled = lists_spelled pair_object IsPairTold pair_spelled
 listeners_spelled : Spelled (λ xs. array (map listener_object xs)) (All IsListenerTold)
 listeners_spelled = lists_spelled listener_object IsListenerTold listener_spelled
 
--- the program of a host, all of which is told
+-- the program of a host, of which texts say all
 abbrev IsOwnTold : Host → NcpState → Type 0
 IsOwnTold h s = ProgramLasts h s × IsProgramTold s
 
@@ -273,7 +273,7 @@ program_once h (Some s) (Some t) p q e = ap (λ (x : NcpState). Some x) ((state_
 
 -- ---- seats
 
--- a host and its program, all of which is told
+-- a host and its program, of which texts say all
 record IsSeatWhole (s : Seat) : Type 0 where
   host : IsHostNamed s.host
   program : IfSome s.program (IsOwnTold s.host)

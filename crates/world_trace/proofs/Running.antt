@@ -96,7 +96,7 @@ server_names = codes "kind" ∷ codes "listen" ∷ codes "sockets" ∷ codes "me
 abbrev server_values : ServerState → List (List ℕ)
 server_values s = quoted (codes "server") ∷ decimal s.listen ∷ sockets_object s.receive s.send ∷ met_object s ∷ bool_text s.over ∷ []
 
--- a service in which memory lasts, all of which is told
+-- a service in which memory lasts, of which texts say all
 abbrev IsServiceWhole : Service → Type 0
 IsServiceWhole s = ServiceLasts s × IsServiceTold s
 
@@ -294,7 +294,7 @@ both_all [] lasting told = All-nil IsServiceWhole
 both_all (s ∷ all) lasting told =
     All-cons IsServiceWhole s all (All-head ServiceLasts s all lasting, All-head IsServiceTold s all told) (both_all all (All-tail ServiceLasts s all lasting) (All-tail IsServiceTold s all told))
 
--- the services of a host, all of which is told
+-- the services of a host, of which texts say all
 record IsServedWhole (s : ServiceSeat) : Type 0 where
   host : IsHostNamed s.host
   services : IsRunning s.services
