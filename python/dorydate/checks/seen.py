@@ -48,7 +48,7 @@ def writes_of(program: str, octets: bytes) -> list[bytes]:
     with tempfile.TemporaryFile() as source, ours:
         source.write(octets)
         source.seek(0)
-        with subprocess.Popen([program], stdin=source, stdout=theirs):
+        with subprocess.Popen([program], stdin=source, stdout=theirs.fileno()):
             theirs.close()
             return [*iter(lambda: ours.recv(1 << 20), b"")]
 
@@ -84,7 +84,10 @@ def faults_of_resting(program: str) -> list[str]:
 
 
 def main() -> int:
-    program = sys.argv[1] if len(sys.argv) > 1 else any_program("check seen")
+    program = sys.argv[1] if len(sys.argv) > 1 else any_program()
+    if program is None:
+        print("check seen: there is no program of these sources")
+        return 1
     wrong = faults_of_dialogue(program) + faults_of_resting(program)
     for it in wrong:
         print(f"check seen: {it}")
