@@ -14,9 +14,9 @@ change_one-requires-clause-programs g c =
     let old : WorldState g.row.C.Denot = c.args.world.now in
     let w : WorldState g.row.C.Denot = c.happen.new.world in
     let (lines, happens, says) = c.in_ok-printed.ensures.shown in
-    let not : is_of_network c.args.event ≡ false = sym c.is_of_network.ensures ∙ c.if-of_network.false in
-    subst (λ (texts : List (List ℕ)). AreOthers (at_host seat_place c.host_at.result) seat_member texts w.seats) (sym c.requires.known.programs)
-    (subst (λ (o : Option Host). AreOthers (at_host seat_place o) seat_member (map seat_member old.seats) w.seats) (sym c.host_at.ensures) (event_others own c.args.event old w happens.outcome not happens.goes_on happens.gives).programs)
+    let not : is_of_network c.args.event ≡ false = sym c.is_of_network-of_network.ensures ∙ c.if-of_network.false in
+    subst (λ (texts : List (List ℕ)). AreOthers (at_host seat_place c.host_at-host.result) seat_member texts w.seats) (sym c.requires.known.programs)
+    (subst (λ (o : Option Host). AreOthers (at_host seat_place o) seat_member (map seat_member old.seats) w.seats) (sym c.host_at-host.ensures) (event_others own c.args.event old w happens.outcome not happens.goes_on happens.gives).programs)
 
 pub change_one-requires-clause-services : goal.change_one-requires-clause-services
 change_one-requires-clause-services g c =
@@ -24,6 +24,6 @@ change_one-requires-clause-services g c =
     let old : WorldState g.row.C.Denot = c.args.world.now in
     let w : WorldState g.row.C.Denot = c.happen.new.world in
     let (lines, happens, says) = c.in_ok-printed.ensures.shown in
-    let not : is_of_network c.args.event ≡ false = sym c.is_of_network.ensures ∙ c.if-of_network.false in
-    subst (λ (texts : List (List ℕ)). AreOthers (at_host service_place c.host_at.result) services_member texts w.services) (sym c.requires.known.services)
-    (subst (λ (o : Option Host). AreOthers (at_host service_place o) services_member (map services_member old.services) w.services) (sym c.host_at.ensures) (event_others own c.args.event old w happens.outcome not happens.goes_on happens.gives).services)
+    let not : is_of_network c.args.event ≡ false = sym c.is_of_network-of_network.ensures ∙ c.if-of_network.false in
+    subst (λ (texts : List (List ℕ)). AreOthers (at_host service_place c.host_at-host.result) services_member texts w.services) (sym c.requires.known.services)
+    (subst (λ (o : Option Host). AreOthers (at_host service_place o) services_member (map services_member old.services) w.services) (sym c.host_at-host.ensures) (event_others own c.args.event old w happens.outcome not happens.goes_on happens.gives).services)
