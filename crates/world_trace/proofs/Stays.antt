@@ -1,4 +1,4 @@
--- What an event of a calm leaves as it was.
+-- What an event leaves as it was.
 use Rattle.std.proofs.Common.{◌≡◌, inl, inr, ℕ, suc, ◌≤◌, Bool, true, false, ◌||◌, List, [], ◌∷◌, length, map, Option, Some, None, Result, Ok, Err, arith, ap, refl, sym, subst, ◌∙◌}
 use Rattle.std.proofs.lemmas.Bool.{false≢true}
 use Rattle.interface.specs.Calls.{Calls, crossing_of, is_halt, is_memory}
@@ -9,21 +9,30 @@ use Rattle.interface.specs.declared.crossing.Crossing.TheVariants as crossing
 use Rattle.interface.specs.declared.crossing.Inbound.{Inbound}
 use Rattle.interface.specs.declared.message.HostMessage.{HostMessage}
 use Rattle.host_pairs.specs.declared.notice.Notice.{Notice}
-use Rattle.host_services.specs.Services.{ServicesState}
+use Rattle.host_services.specs.Services.{ServiceDeskState, ServicesState, opening_desk}
+use Rattle.host_services.specs.Turns as services
+use Rattle.host_services.specs.TypedLines.{line_bits}
+use Rattle.net_sim.specs.Book.{all_told, asked, crossed}
 use Rattle.net_sim.specs.Carriers.{shown}
-use Rattle.net_sim.specs.World.{EventGives, Halts, OfferEnds, OfferGives, QuietEnds, StepGives, TakeEnds, TakeGives, WorldState, noticed, seat_of, seated, serviced, services_of, stops, turn_of, wants_memory, with_program, with_services, world_moved}
-use Rattle.net_sim.specs.declared.event.Event.TheVariants.{Offer, Quiet, Take}
+use Rattle.net_sim.specs.World.{AskGives, AtSeat, DoesOrHalts, EventGives, Halts, OfferEnds, OfferGives, QuietEnds, StepGives, TakeEnds, TakeGives, TypeGives, WorldState, noticed, seat_of, seated, serviced, services_of, stops, tended, turn_of, wants_memory, with_program, with_server, with_services, with_user, world_heard, world_moved}
+use Rattle.net_sim.specs.declared.event.Event.{Event}
+use Rattle.net_sim.specs.declared.event.Event.TheVariants.{Ask, Net, Offer, Quiet, Server, Take, Typed, User}
 use Rattle.net_sim.specs.declared.event.WorldFault.{WorldFault}
 use Rattle.net_sim.specs.declared.event.WorldFault.TheVariants.{Carrier, Program}
 use Rattle.net_sim.specs.declared.seat.Seat.{Seat}
 use Rattle.net_sim.specs.declared.seat.ServiceSeat.{ServiceSeat}
 use Rattle.sockets.specs.Accepting.{accepted}
 use Rattle.sockets.specs.Pairs.{NcpState}
+use Rattle.sockets.specs.Requests.{refusal, served, served_notices}
 use Rattle.sockets.specs.Sending.{next_out, offered}
+use Rattle.sockets.specs.declared.fault.NcpFault.{NcpFault}
+use Rattle.sockets.specs.declared.request.Request.{Request}
+use Rattle.sockets.specs.declared.request.Request.TheVariants as request
+use Rattle.world_replay.proofs.lemmas.Driven.{step_runs}
 use Rattle.world_replay.proofs.lemmas.{at_seat, if_stopped, one_crossed}
 use Rattle.world_replay.specs.Output.{Shown}
 use Rattle.world_replay.specs.Replay.{HappensInCalm}
-use Rattle.world_trace.specs.Steps.{AreOthers, IsAsBefore, IsStill, at_host, event_of, host_of, seat_place, service_place}
+use Rattle.world_trace.specs.Steps.{AreOthers, IsAsBefore, IsStill, at_host, at_one, event_of, host_of, is_of_network, seat_place, service_place}
 use Rattle.world_trace.specs.Texts.{seat_member, services_member}
 use Rattle.world_trace.specs.declared.calm.CalmEvent.{CalmEvent}
 use Rattle.world_trace.specs.declared.calm.CalmEvent.TheVariants as calm
@@ -152,37 +161,80 @@ module _ {C : Type 0} (own : Calls C) where
       offer_ways (IsQuiet old new) h old new k.outcome (same_quiet old new) (λ m n f s t c. carried_quiet n old new c) (moves_not (IsQuiet old new) h old new few) k.gives k.goes_on
 
   -- what is at other hosts is as before
-  pub record AtOthers (e : CalmEvent) (old new : WorldState C) : Type 0 where
-    pub programs : AreOthers (at_host seat_place (host_of e)) seat_member (map seat_member old.seats) new.seats
-    pub services : AreOthers (at_host service_place (host_of e)) services_member (map services_member old.services) new.services
+  pub record AtOthers (o : Option Host) (old new : WorldState C) : Type 0 where
+    pub programs : AreOthers (at_host seat_place o) seat_member (map seat_member old.seats) new.seats
+    pub services : AreOthers (at_host service_place o) services_member (map services_member old.services) new.services
 
-  quiet_others : (e : CalmEvent) (old new : WorldState C) → IsQuiet old new → AtOthers e old new
-  quiet_others e old new q = record {
-    programs = subst (λ (seats : List Seat). AreOthers (at_host seat_place (host_of e)) seat_member (map seat_member old.seats) seats) (sym q.seats) (none_other (at_host seat_place (host_of e)) seat_member old.seats);
-    services = subst (λ (all : List ServiceSeat). AreOthers (at_host service_place (host_of e)) services_member (map services_member old.services) all) (sym q.services) (none_other (at_host service_place (host_of e)) services_member old.services);
+  hosts_same : (o : Option Host) (old new : WorldState C) → new.seats ≡ old.seats → new.services ≡ old.services → AtOthers o old new
+  hosts_same o old new seats services = record {
+    programs = subst (λ (all : List Seat). AreOthers (at_host seat_place o) seat_member (map seat_member old.seats) all) (sym seats) (none_other (at_host seat_place o) seat_member old.seats);
+    services = subst (λ (all : List ServiceSeat). AreOthers (at_host service_place o) services_member (map services_member old.services) all) (sym services) (none_other (at_host service_place o) services_member old.services);
   }
 
-  moved_others : (e : CalmEvent) (h : Host) (old new : WorldState C) → host_of e ≡ Some h → Moved h old new → AtOthers e old new
-  moved_others e h old new at (c, x, turn, is) =
-      let done = turn_of h (noticed old) (services_of h old.services) turn in
-      record {
-        programs = subst (λ (w : WorldState C). AreOthers (at_host seat_place (host_of e)) seat_member (map seat_member old.seats) w.seats) (sym is)
-            (subst (λ (o : Option Host). AreOthers (at_host seat_place o) seat_member (map seat_member old.seats) (seated h (Some done.1.program) old.seats)) (sym at) (others_seated h (Some done.1.program) old.seats));
-        services = subst (λ (w : WorldState C). AreOthers (at_host service_place (host_of e)) services_member (map services_member old.services) w.services) (sym is)
-            (subst (λ (o : Option Host). AreOthers (at_host service_place o) services_member (map services_member old.services) (serviced h done.0 old.services)) (sym at) (others_serviced h done.0 old.services));
-      }
+  same_others : (o : Option Host) (old new : WorldState C) → new ≡ old → AtOthers o old new
+  same_others o old new is = hosts_same o old new (ap (λ (w : WorldState C). w.seats) is) (ap (λ (w : WorldState C). w.services) is)
 
-  pub others_by : (e : CalmEvent) (old new : WorldState C) (lines : List Shown) → HappensInCalm (shown own) old (event_of e) new lines → AtOthers e old new
-  others_by calm.Quiet old new lines k =
-      let G = AtOthers calm.Quiet old new in
-      quiet_ways G old new k.outcome (λ is. quiet_others calm.Quiet old new (same_quiet old new is)) (λ n c. quiet_others calm.Quiet old new (carried_quiet n old new c)) k.gives
-  others_by (calm.Take h) old new lines k =
-      let e = calm.Take h in
-      take_ways (AtOthers e old new) h old new k.outcome (λ is. quiet_others e old new (same_quiet old new is)) (λ n t c. quiet_others e old new (carried_quiet n old new c)) (λ n f m t c. quiet_others e old new (carried_quiet n old new c))
-      (moved_others e h old new refl) k.gives k.goes_on
-  others_by (calm.Offer h) old new lines k =
-      let e = calm.Offer h in
-      offer_ways (AtOthers e old new) h old new k.outcome (λ is. quiet_others e old new (same_quiet old new is)) (λ m n f s t c. quiet_others e old new (carried_quiet n old new c)) (moved_others e h old new refl) k.gives k.goes_on
+  carried_others : (o : Option Host) (c : C) (old new : WorldState C) → Carried c old new → AtOthers o old new
+  carried_others o c old new k = hosts_same o old new (ap (λ (w : WorldState C). w.seats) k.1) (ap (λ (w : WorldState C). w.services) k.1)
+
+  -- the services of a host had their turns, in a world with these programs and services
+  tended_others : (h : Host) (t : ServicesState × ServiceDeskState) (old w new : WorldState C) → w.seats ≡ old.seats → w.services ≡ old.services → new ≡ tended h t w → AtOthers (Some h) old new
+  tended_others h t old w new seats services is = record {
+    programs = subst (λ (all : List Seat). AreOthers (at_host seat_place (Some h)) seat_member (map seat_member old.seats) all)
+        (sym (ap (λ (x : WorldState C). x.seats) is ∙ ap (seated h (Some t.1.program)) seats)) (others_seated h (Some t.1.program) old.seats);
+    services = subst (λ (all : List ServiceSeat). AreOthers (at_host service_place (Some h)) services_member (map services_member old.services) all)
+        (sym (ap (λ (x : WorldState C). x.services) is ∙ ap (serviced h t.0) services)) (others_serviced h t.0 old.services);
+  }
+
+  heard_others : (h : Host) (turn : NcpState × List Notice) (old w new : WorldState C) → w.seats ≡ old.seats → w.services ≡ old.services → new ≡ world_heard h turn w → AtOthers (Some h) old new
+  heard_others h turn old w new seats services is = tended_others h (turn_of h (noticed w) (services_of h w.services) turn) old (record w { kept = all_told h turn.1 w.kept }) new seats services is
+
+  moved_others : (h : Host) (old new : WorldState C) → Moved h old new → AtOthers (Some h) old new
+  moved_others h old new (c, x, turn, is) = heard_others h turn old (record old { carrier = c; kept = crossed x old.kept }) new refl refl is
+
+  ask_others : (h : Host) (q : Request) (s : NcpState) (o : Option NcpFault) (old new : WorldState C) (r : Answer) → stops r ≡ false → AskGives h q s o old r new → AtOthers (Some h) old new
+  ask_others h q s (Some f) old new r on gives = same_others (Some h) old new gives.1
+  ask_others h q s None old new r on gives = elim gives [
+    | inl d ↦ heard_others h (served s q, served_notices s q) old (record old { kept = asked h q old.kept }) new refl refl d.1
+    | inr x ↦ halts_not (AtOthers (Some h) old new) old.carrier old new r on x
+  ]
+
+  type_others : (h : Host) (line : List ℕ) (s : NcpState) (o : Option ℕ) (old new : WorldState C) (r : Answer) → stops r ≡ false → TypeGives h line s o old r new → AtOthers (Some h) old new
+  type_others h line s None old new r on gives = same_others (Some h) old new gives.1
+  type_others h line s (Some socket) old new r on gives = ask_others h (request.Send socket (line_bits line)) s (refusal s (request.Send socket (line_bits line))) old new r on gives
+
+  begun_others : (h : Host) (t : ServicesState × ServiceDeskState) (old new : WorldState C) (r : Answer) → stops r ≡ false → DoesOrHalts (tended h t old) old r new → AtOthers (Some h) old new
+  begun_others h t old new r on ends = elim ends [ inl d ↦ tended_others h t old old new refl refl d.1 | inr x ↦ halts_not (AtOthers (Some h) old new) old.carrier old new r on x ]
+
+  seat_others : (h : Host) (Gives : NcpState → Type 0) (old new : WorldState C) (r : Answer) → ((s : NcpState) → Gives s → AtOthers (Some h) old new) → AtSeat Gives (seat_of h old.seats) old r new → AtOthers (Some h) old new
+  seat_others h Gives old new r k t = at_seat (shown own) Gives (AtOthers (Some h) old new) (seat_of h old.seats) old r new (same_others (Some h) old new) k t
+
+  -- any event but those of the network leaves what is at other hosts
+  pub event_others : (e : Event) (old new : WorldState C) (r : Answer) → is_of_network e ≡ false → stops r ≡ false → StepGives (shown own) old e r new → AtOthers (at_one e) old new
+  event_others (Net e) old new r not on step = absurd (false≢true (sym not))
+  event_others Quiet old new r not on step = quiet_ways (AtOthers None old new) old new r (same_others None old new) (λ n c. carried_others None n old new c) step
+  event_others (Take h) old new r not on step =
+      let o : Option Host = Some h in
+      take_ways (AtOthers o old new) h old new r (same_others o old new) (λ n t c. carried_others o n old new c) (λ n f m t c. carried_others o n old new c) (moved_others h old new) step on
+  event_others (Offer h) old new r not on step =
+      let o : Option Host = Some h in
+      offer_ways (AtOthers o old new) h old new r (same_others o old new) (λ m n f s t c. carried_others o n old new c) (moved_others h old new) step on
+  event_others (Ask h q) old new r not on step =
+      seat_others h (λ s. AskGives h q s (refusal s q) old r new) old new r (λ s k. ask_others h q s (refusal s q) old new r on k) (step_runs own (Ask h q) old r new on step)
+  event_others (Server h listen base) old new r not on step =
+      seat_others h (λ s. DoesOrHalts (with_server h listen base s old) old r new) old new r
+      (λ s k. begun_others h (services.server_begun listen base (services_of h old.services) (opening_desk h (noticed old) s)) old new r on k) (step_runs own (Server h listen base) old r new on step)
+  event_others (User h peer listen mine) old new r not on step =
+      seat_others h (λ s. DoesOrHalts (with_user h peer listen mine s old) old r new) old new r
+      (λ s k. begun_others h (services.user_begun peer listen mine (services_of h old.services) (opening_desk h (noticed old) s)) old new r on k) (step_runs own (User h peer listen mine) old r new on step)
+  event_others (Typed h line) old new r not on step =
+      seat_others h (λ s. TypeGives h line s (services_of h old.services).typing old r new) old new r
+      (λ s k. type_others h line s (services_of h old.services).typing old new r on k) (step_runs own (Typed h line) old r new on step)
+
+  pub others_by : (e : CalmEvent) (old new : WorldState C) (lines : List Shown) → HappensInCalm (shown own) old (event_of e) new lines → AtOthers (host_of e) old new
+  others_by calm.Quiet old new lines k = event_others Quiet old new k.outcome refl k.goes_on k.gives
+  others_by (calm.Take h) old new lines k = event_others (Take h) old new k.outcome refl k.goes_on k.gives
+  others_by (calm.Offer h) old new lines k = event_others (Offer h) old new k.outcome refl k.goes_on k.gives
 
   -- ---- and where no part changes either
 

@@ -1,5 +1,5 @@
 -- What the contracts of private functions say. No public clause cites this file.
-use Rattle.std.specs.Prelude.{◌≡◌, ℕ, ◌≤◌, false, if◌then◌else◌, is_some, List, [], ◌∷◌, ◌++◌, Bool, Option, Some, None, Result, Ok, Err, codes, drop, length, map, reverse}
+use Rattle.std.specs.Prelude.{◌≡◌, ℕ, ◌≤◌, false, true, if◌then◌else◌, is_some, List, [], ◌∷◌, ◌++◌, Bool, Option, Some, None, Result, Ok, Err, codes, drop, length, map, reverse}
 use Rattle.std.specs.Fmt.{decimal}
 use Rattle.std.specs.List.{flat_map}
 use Rattle.interface.specs.declared.crossing.Crossing.{Crossing}
@@ -153,6 +153,23 @@ pub record HasPassed {C : Type 0} (calls : Calls C) (members : C → List (List 
 abbrev pub passed_line : {C : Type 0} → Spot → ℕ → WorldState C → Passed → List ℕ
 passed_line spot round new p =
     line_of spot round p.event.items (drop p.crossed (reverse new.kept.book.crossings)) p.printed.items (state_objects p.changes.parts.items p.changes.programs.items p.changes.services.items)
+
+-- ---- events of a script
+
+-- the host at which an event is, if it is at one
+abbrev pub at_one : Event → Option Host
+at_one (net.Offer h) = Some h
+at_one (net.Take h) = Some h
+at_one (net.Ask h q) = Some h
+at_one (net.Server h listen base) = Some h
+at_one (net.User h peer listen own) = Some h
+at_one (net.Typed h line) = Some h
+at_one e = None
+
+-- it is inside the network, or to a host, and may change what is at several hosts
+abbrev pub is_of_network : Event → Bool
+is_of_network (net.Net e) = true
+is_of_network e = false
 
 -- ---- events of a calm
 

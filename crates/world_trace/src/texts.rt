@@ -153,6 +153,42 @@ pub(crate) fn change<C: Inspect>(
     })
 }
 
+/// Puts the texts of all of a world's state in the place of those before them. Returns what is other than before.
+pub(crate) fn change_all<C: Inspect>(
+    alloc: Global,
+    world: &World<C>,
+    texts: &mut Texts,
+    notes: &mut C::Notes,
+) -> Result<Changes, AllocError>
+    ensures known { OnOk result (AreTextsOf C.inside.members world.now texts.new) }
+    ensures changes { IfOk result (λ c. AreChanged texts.old texts.new c) }
+{
+    let now = texts_of(alloc, world, notes)?;
+    let changes = changes_of(alloc, texts, &now)?;
+    *texts = now;
+    Ok(changes)
+}
+
+/// Puts the texts of the parts of a world's carrier, and those of what is at a host, if there is one, in the place of those before them.
+/// Returns what is other than before.
+pub(crate) fn change_one<C: Inspect>(
+    alloc: Global,
+    world: &World<C>,
+    host: &Option<HostAddr>,
+    texts: &mut Texts,
+    notes: &mut C::Notes,
+) -> Result<Changes, AllocError>
+    requires programs { AreOthers (at_host seat_place host.now) seat_member texts.old.programs world.now.seats }
+    requires services { AreOthers (at_host service_place host.now) services_member texts.old.services world.now.services }
+    ensures known { OnOk result (AreTextsOf C.inside.members world.now texts.new) }
+    ensures changes { IfOk result (λ c. AreChanged texts.old texts.new c) }
+{
+    let parts = world.carrier().members(alloc, notes)?;
+    let changes = change(alloc, world, host, &parts, texts)?;
+    texts.parts = parts;
+    Ok(changes)
+}
+
 /// Prints what is other than before, after other members, and the end of the line.
 pub(crate) fn print_changes<W: Output>(changes: &Changes, writer: &mut W) -> Result<(), WriteFailed>
     requires { W.failed writer.old ≡ false }

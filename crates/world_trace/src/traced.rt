@@ -7,14 +7,15 @@ ghost use Rattle.replay.specs.declared.print.Detail.TheVariants.{Sizes};
 ghost use Rattle.trace.specs.Traces.{WritesTrace};
 ghost use Rattle.world_replay.specs.Output.{output};
 ghost use Rattle.world_script.specs.declared.event.WorldEvent.TheVariants as world_event;
-ghost use Rattle.world_trace.specs.Steps.{AreTextsOf, EventEnds, HasPassed, OneEnds, Shows};
+ghost use Rattle.world_trace.specs.Steps as step;
+ghost use Rattle.world_trace.specs.Steps.{AreTextsOf, EventEnds, HasPassed, OneEnds, Shows, at_one};
 ghost use Rattle.world_trace.specs.Traces.{StopsOne, TracesWorld, WorldTraceFails, WritesPart, WritesStopped, WritesWorld};
 
 use crate::calm::trace_calm;
 use crate::line::{Passed, print_line, print_opening};
 use crate::spelling::spelled;
-use crate::texts::{Texts, changes_of, known_texts, texts_of};
-use interface::Carrier;
+use crate::texts::{Texts, change_all, change_one, known_texts};
+use interface::{Carrier, HostAddr};
 use net_sim::{Event, World};
 use replay::{Detail, Output, Printer, ReplayFault};
 use std::alloc::{AllocError, Global};
@@ -126,38 +127,62 @@ fn trace_one<C: Inspect, W: Output>(
     ensures known { OnOk result (IfSome known.new (AreTextsOf C.inside.members world.new)) }
     ensures failed { TellsCannotWrite result (W.failed writer.new) }
 {
-    let before = known_texts(alloc, world, known.take(), notes)?;
-    let (passed, texts) = pass(alloc, world, event, &before, notes)?;
+    let mut texts = known_texts(alloc, world, known.take(), notes)?;
+    let passed = pass(alloc, world, event, &mut texts, notes)?;
     print_line(world, spot, 0, &passed, writer)?;
     *known = Some(texts);
     Ok(())
 }
 
-/// Lets an event happen that is no calm. Returns the texts of its line, and of the state after it. The state had these texts before it.
+/// Returns the host at which an event is, if it is at one.
+fn host_at(event: &Event) -> Option<HostAddr>
+    ensures { result ≡ at_one event.now }
+{
+    match event {
+        Event::Net(_) | Event::Quiet => None,
+        Event::Offer(host) | Event::Take(host) | Event::Ask(host, _) => Some(*host),
+        Event::Server { host, .. } | Event::User { host, .. } | Event::Typed { host, .. } => {
+            Some(*host)
+        }
+    }
+}
+
+/// Returns whether an event is inside the network, or to a host, and may change what is at several hosts.
+fn is_of_network(event: &Event) -> bool
+    ensures { result ≡ step.is_of_network event.now }
+{
+    matches!(event, Event::Net(_))
+}
+
+/// Lets an event happen that is no calm. Returns the texts of its line. `texts` are those of the state.
 fn pass<C: Inspect>(
     alloc: Global,
     world: &mut World<C>,
     event: Event,
-    before: &Texts,
+    texts: &mut Texts,
     notes: &mut C::Notes,
-) -> Result<(Passed, Texts), AllocError>
-    requires known { AreTextsOf C.inside.members world.old before.now }
-    ensures passed { IfOk result (λ p. HasPassed (shown C.calls) C.inside.members world.old event world.new p.0) }
-    ensures texts { IfOk result (λ p. AreTextsOf C.inside.members world.new p.1) }
+) -> Result<Passed, AllocError>
+    requires known { AreTextsOf C.inside.members world.old texts.old }
+    ensures passed { IfOk result (HasPassed (shown C.calls) C.inside.members world.old event world.new) }
+    ensures texts { OnOk result (AreTextsOf C.inside.members world.new texts.new) }
     ensures memory { IfErr result (λ _. StopsOne (shown C.calls) world.old event world.new []) }
 {
     let text = spelled(alloc, &event)?;
     let crossed = world.book().crossings().len();
+    let host = host_at(&event);
+    let of_network = is_of_network(&event);
     let printed = happen(alloc, world, event)?;
-    let texts = texts_of(alloc, world, notes)?;
-    let changes = changes_of(alloc, before, &texts)?;
-    let passed = Passed {
+    let changes = if of_network {
+        change_all(alloc, world, texts, notes)?
+    } else {
+        change_one(alloc, world, &host, texts, notes)?
+    };
+    Ok(Passed {
         event: text,
         crossed,
         printed,
         changes,
-    };
-    Ok((passed, texts))
+    })
 }
 
 /// Lets an event happen that is no calm. Returns the lines that a replay prints for it.
