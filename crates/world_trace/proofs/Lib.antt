@@ -6,7 +6,7 @@ mod Ends
 mod Failures
 mod Fields
 mod Blocks
-mod Lasts
+mod Unspent
 mod Lines
 mod Lists
 mod Made

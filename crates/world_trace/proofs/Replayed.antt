@@ -13,7 +13,7 @@ use Rattle.world_script.specs.declared.event.WorldEvent.{WorldEvent}
 use Rattle.world_script.specs.declared.event.WorldEvent.TheVariants as world
 use Rattle.world_trace.specs.Traces.{TellsAt, TellsIn, TellsRound, TracesWorld, first_rounds}
 use Rattle.world_trace.proofs.Passing.{round_passes}
-use Rattle.world_trace.proofs.Lasts.Worlds.{Runs, happens_runs, opening_lasts}
+use Rattle.world_trace.proofs.Unspent.Worlds.{Runs, happens_runs, opening_lasts}
 
 rounds_counted : (rounds : ℕ) → length (first_rounds rounds) ≡ rounds
 rounds_counted zero = refl

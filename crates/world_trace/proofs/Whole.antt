@@ -14,7 +14,7 @@ use Rattle.world_script.specs.declared.event.WorldEvent.{WorldEvent}
 use Rattle.world_trace.specs.Told.{AreNumbersTold, HaveSameTexts, IsListenerTold, IsPairTold, IsSeatTold, IsServed, IsServiceTold, IsWorldTold}
 use Rattle.world_trace.proofs.Programs.{programs_once}
 use Rattle.world_trace.proofs.Running.{services_once}
-use Rattle.world_trace.proofs.Lasts.Worlds.{Runs, opening_lasts, replay_runs}
+use Rattle.world_trace.proofs.Unspent.Worlds.{Runs, opening_lasts, replay_runs}
 
 pub whole : {C : Type 0} (one other : WorldState C) → IsWorldTold one → IsWorldTold other → HaveSameTexts one other → other ≡ record one { carrier = other.carrier; kept = other.kept }
 whole one other p q same =

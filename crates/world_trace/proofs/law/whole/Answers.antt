@@ -1,7 +1,7 @@
 use Rattle.net_sim.specs.Carriers.{shown}
 use Rattle.world_trace.proofs.Replayed.{trace_replayed}
 use Rattle.world_trace.proofs.Whole.{opening_told, reached_told, whole}
-use Rattle.world_trace.proofs.Lasts.Worlds.{event_lasts}
+use Rattle.world_trace.proofs.Unspent.Worlds.{event_lasts}
 use Rattle.world_trace.proofs.law.whole.Goals as goal
 
 pub returns-clause-texts : goal.returns-clause-texts

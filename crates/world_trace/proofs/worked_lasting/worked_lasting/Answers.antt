@@ -1,4 +1,4 @@
-use Rattle.world_trace.proofs.Lasts.Rows.{other_refused, services_refused, spent_refused}
+use Rattle.world_trace.proofs.Unspent.Rows.{other_refused, services_refused, spent_refused}
 use Rattle.world_trace.proofs.worked_lasting.worked_lasting.Goals as goal
 
 pub returns-clause-other : goal.returns-clause-other

@@ -1,4 +1,4 @@
-use Rattle.world_trace.proofs.Lasts.Rows.{name_refused, text_refused}
+use Rattle.world_trace.proofs.Unspent.Rows.{name_refused, text_refused}
 use Rattle.world_trace.proofs.worked_lasting.worked_said.Goals as goal
 
 pub returns-clause-named : goal.returns-clause-named

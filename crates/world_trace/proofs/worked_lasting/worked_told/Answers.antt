@@ -1,4 +1,4 @@
-use Rattle.world_trace.proofs.Lasts.Rows.{listening_refused, program_refused, service_refused, stopped_refused, reached_refused, typing_refused}
+use Rattle.world_trace.proofs.Unspent.Rows.{listening_refused, program_refused, service_refused, stopped_refused, reached_refused, typing_refused}
 use Rattle.world_trace.proofs.worked_lasting.worked_told.Goals as goal
 
 pub returns-clause-program : goal.returns-clause-program

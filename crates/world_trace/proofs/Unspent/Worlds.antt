@@ -40,7 +40,7 @@ use Rattle.world_replay.specs.Replay as replay
 use Rattle.world_script.specs.declared.event.WorldEvent.{WorldEvent}
 use Rattle.world_script.specs.declared.event.WorldEvent.TheVariants as script
 use Rattle.world_trace.specs.Lasting.{Lasts, ProgramLasts, SeatLasts, ServiceLasts, ServicesLast}
-use Rattle.world_trace.proofs.Lasts.Programs.{BothLast, accepted_lasts, offered_lasts, served_lasts, server_last, told_last, user_last}
+use Rattle.world_trace.proofs.Unspent.Programs.{BothLast, accepted_lasts, offered_lasts, served_lasts, server_last, told_last, user_last}
 
 abbrev Answer : Type 0
 Answer = Result (Unit {0}) WorldFault
