@@ -3,7 +3,8 @@
 FOLDER has `page.html`, `page.css` and `main.js`, the module of JavaScript that the page begins with (web/page, or another one). In
 `page.html` four comments say where what is packed goes: `<!-- policy -->`, `<!-- style -->`, `<!-- data -->` and `<!-- script -->`. The
 data are blocks that no browser runs: `program` (MODULE, by gzip and base85), `worker` (web/run/worker.js), `examples` (JSON by gzip and
-base85: a name, a title and the text of each input in examples/) and `opened` (inputs like these with which the page opens, if any).
+base85: a name, a title and the text of each input in examples/) and `opened`, a list that is empty, into which ./explain --page puts inputs
+like these, with which the page opens.
 
 Modules are joined to one script, each in a function of its own, so names of two never meet. They may import names, or all names as one
 (`import * as it`), from other files, and export declarations and lists of names; anything else is refused. The policy of the page forbids
@@ -153,8 +154,8 @@ def hash_of(text: str) -> str:
     return f"'sha256-{base64.b64encode(hashlib.sha256(text.encode()).digest()).decode()}'"
 
 
-def page(folder: str, module: bytes, first: list[dict[str, str]] | None = None) -> str:
-    """The page, whole. `first` are inputs that it has before the examples, and that it opens with."""
+def page(folder: str, module: bytes) -> str:
+    """The page, whole."""
     style, script = f"\n{bare_style(read(f'{folder}/page.css'))}", f"\n{joined(f'{folder}/main.js')}"
     if "</style" in style or "</script" in script:
         raise Refused("the style or the script would end too early")
@@ -162,7 +163,7 @@ def page(folder: str, module: bytes, first: list[dict[str, str]] | None = None) 
     examples = json.dumps(examples_in(f"{ROOT}/examples"), ensure_ascii=False)
     data = block("program", "application/octet-stream", spell_octets(module))
     data += block("worker", "text/plain", joined(f"{ROOT}/web/run/worker.js"))
-    data += block("opened", "application/json", json.dumps(first or [], ensure_ascii=False).replace("<", "\\u003c"))
+    data += block("opened", "application/json", "[]")
     data += block("examples", "application/octet-stream", spell_octets(examples.encode()))
     parts = {
         "policy": f'<meta http-equiv="Content-Security-Policy" content="{policy}">',
