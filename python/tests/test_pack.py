@@ -10,8 +10,8 @@ import unittest
 from typing import Dict
 
 from dorydate.explain.page import opened
-from dorydate.parts import ROOT
-from dorydate.wasm.pack import Refused, bare_style, hash_of, joined, page, read_octets, spell_octets, title_of
+from workshop.parts import ROOT
+from workshop.wasm.pack import Refused, bare_style, hash_of, joined, page, read_octets, spell_octets, title_of
 
 NODE = shutil.which("node") or shutil.which("nodejs")
 
