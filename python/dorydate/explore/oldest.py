@@ -2,8 +2,8 @@
 
 A rule about numbers that wrap around matters only once a number comes again while something of its former message is left: a packet that
 is alive, or what the destination's IMP keeps. Random schedules clear such things away. So the search goes on from the networks in
-which the oldest number that was left, at some time, had been begun the most messages before; among them from those in which the most
-crossed for so many events.
+which the oldest number that was left, at some time, had been begun the most messages before; among them from the shortest scripts, or from
+those in which the most crossed for so many events.
 """
 
 from __future__ import annotations
@@ -32,8 +32,9 @@ def age(subnet: Subnet) -> int:
     return max(((begun[flow] - number) % subnet.numbers.count for flow, number in left if flow in begun), default=0)
 
 
-def climbed(place: Place, events: Sequence[tuple[Event, ModelEvent]], seconds: float, most: int) -> tuple[Script | None, int]:
-    """A script after which something breaks, None where time is up or so many steps were made; and the steps."""
+def climbed(place: Place, events: Sequence[tuple[Event, ModelEvent]], seconds: float, most: int, weight: int) -> tuple[Script | None, int]:
+    """A script after which something breaks, None where time is up or so many steps were made; and the steps. Each crossing counts
+    as so many halves of an event less."""
     assert isinstance(place, Subnet)
     begun, steps, tie = time.monotonic(), 0, count()
     edge: list[tuple[int, int, int, Subnet, Script]] = [(0, 0, next(tie), place, ())]
@@ -53,5 +54,5 @@ def climbed(place: Place, events: Sequence[tuple[Event, ModelEvent]], seconds: f
             key = json.dumps(all_parts(after))
             if key not in seen:
                 seen.add(key)
-                heappush(edge, (min(reached, -age(after)), 2 * len(longer) - 3 * len(after.log), next(tie), after, longer))
+                heappush(edge, (min(reached, -age(after)), 2 * len(longer) - weight * len(after.log), next(tie), after, longer))
     return None, steps

@@ -63,12 +63,13 @@ class Sought:
     kinds: tuple[str, ...] = ()
     numbers: Numbers = NUMBERS
     lines: tuple[str, ...] = ()
+    weight: int = 0  # there, how much a crossing counts
 
 
 # rules of the network below hosts; all others are of hosts' programs
 OF_NETWORK = {
     "the number of a whole message is noted": Sought(RAW, SENDING),
-    "no number is begun while the one a window behind is alive": Sought(RAW, SENDING, FEW, (*ONE_FLOW, "take 0/1", "take 0/2", *FRAMES)),
+    "no number is begun while the one a window behind is alive": Sought(RAW, SENDING, FEW, (*ONE_FLOW, "take 0/1", "take 0/2", *FRAMES), 3),
     "an IMP comes up only when nothing of it is alive": Sought(RAW, STOPPING),
     "a message is given up only when nothing of it is alive": Sought(RAW, SENDING),
     "a number that is new is noted when it is asked about": Sought(RAW, SENDING),
@@ -156,7 +157,7 @@ class Search:
         """Climbs by the age of what is left."""
         events = [(it, self.lacking.of_model(it)) for it in map(read_event, self.sought.lines)]
         place = opened_without(self.rule, self.lacking.as_model, self.sought.numbers)
-        script, self.steps = climbed(place, events, seconds, MOST_STEPS)
+        script, self.steps = climbed(place, events, seconds, MOST_STEPS, self.sought.weight)
         if script:
             self.take(script, self.lacking, f"after {self.steps} steps")
 
