@@ -46,15 +46,19 @@ class Beside(Walk):
         return Node(node.script, tuple(texts), node.reached, node.arrived)
 
 
-def differences(asked: Asked, program: Program, finder: str) -> tuple[list[str], int]:
-    """How the states of both differ, and how many the trace has. At each depth both make as many steps, refuse as many and come to as many new
-    states. The plain program also looks whether each refused event left its state as it was."""
+def walked(asked: Asked, program: Program) -> Beside:
+    """A walk through all states, by the trace."""
     walk = Beside(asked.network, asked.pattern, program, asked.events, asked.opening)
     walk.run(asked.depth, asked.seconds)
+    return walk
+
+
+def differences(asked: Asked, walk: Beside, finder: str) -> list[str]:
+    """How the states of both differ. At each depth both make as many steps, refuse as many and come to as many new states. The plain program
+    also looks whether each refused event left its state as it was."""
     levels = searched(asked, options=["--check"], program=finder).levels
     mine, theirs = [(it.steps, it.refused, it.new) for it in walk.counts], [(it.steps, it.refused, it.new) for it in levels]
-    found = [f"at {depth} events (steps, refused, new): {one} by the trace, {other} by the plain program" for depth, (one, other) in enumerate(zip(mine, theirs), 1) if one != other]
-    return [*found, *(spelled_apart(asked, walk, finder) if found else [])], len(walk.states)
+    return [f"at {depth} events (steps, refused, new): {one} by the trace, {other} by the plain program" for depth, (one, other) in enumerate(zip(mine, theirs), 1) if one != other]
 
 
 def spelled_apart(asked: Asked, walk: Beside, finder: str) -> list[str]:

@@ -20,7 +20,7 @@ from dataclasses import dataclass
 from pathlib import Path
 
 from dorydate.explore import fast
-from dorydate.explore.beside import differences
+from dorydate.explore.beside import Beside, differences, spelled_apart, walked
 from dorydate.explore.breadth import Asked
 from dorydate.explore.kinds import chosen, fit, pools
 from dorydate.explore.many import CannotRun
@@ -151,17 +151,20 @@ BESIDE = {
 }
 
 
-def beside(program: Program, finder: str) -> list[str]:
+def walks(program: Program) -> dict[str, Beside]:
+    """All states of five networks, by the trace."""
+    return {where: walked(what, program) for where, what in BESIDE.items()}
+
+
+def beside(by_trace: dict[str, Beside], finder: str) -> list[str]:
     """How the states of the plain program differ from those of the trace."""
     found = []
-    for where, what in BESIDE.items():
+    for where, walk in by_trace.items():
         try:
-            wrong, states = differences(what, program, finder)
+            wrong = differences(BESIDE[where], walk, finder)
         except CannotRun as why:
-            wrong, states = [str(why)], 0
+            wrong = [str(why)]
         found += [f"{where}: {it}" for it in wrong]
-        if not wrong:
-            print(f"check shortest: {where}: {states} states by the trace and by the plain program", flush=True)
     return found
 
 
@@ -181,7 +184,7 @@ PLANTED = {
 
 def planted(program: Program) -> list[str]:
     """Faults that aren't found."""
-    missed = []
+    missed, by_trace = [], walks(program)
     for name, (file, before, after) in PLANTED.items():
         with tempfile.TemporaryDirectory() as room:
             sources = Path(room) / "plain"
@@ -190,8 +193,8 @@ def planted(program: Program) -> list[str]:
             if text.count(before) != 1:
                 return [f"{name}: tools/plain/{file} has its place {text.count(before)} times"]
             (sources / file).write_text(text.replace(before, after), encoding="utf-8")
-            fast.build(sources, Path(room) / "built" / "plain", "-Copt-level=1")
-            found = beside(program, f"{room}/built/plain")
+            fast.build(sources, Path(room) / "built" / "plain", "-Copt-level=0")
+            found = beside(by_trace, f"{room}/built/plain")
         print(f"check shortest: planted: {name}: {found[0] if found else 'not found'}", flush=True)
         missed += [] if found else [name]
     return missed
@@ -213,7 +216,11 @@ def main() -> int:
         missed = planted(program)
         print(f"check shortest: {len(PLANTED)} planted faults, {len(missed)} not found")
         return 1 if missed else 0
-    wrong = beside(program, finder)
+    by_trace = walks(program)
+    wrong = beside(by_trace, finder)
+    if wrong:
+        wrong += [f"{where}: {it}" for where, walk in by_trace.items() for it in spelled_apart(BESIDE[where], walk, finder)]
+    print("check shortest: states by the trace and by the plain program:", ", ".join(f"{where}: {len(walk.states)}" for where, walk in by_trace.items()), flush=True)
     made = page(program)
     if "--write" in sys.argv:
         Path(PAGE).write_text(made, encoding="utf-8")
