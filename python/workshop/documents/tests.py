@@ -8,7 +8,7 @@ import tempfile
 import unittest
 from unittest import mock
 
-from workshop.documents import anchors, believed, crates_page, dialect, named_crates, paragraphs, rules
+from workshop.documents import anchors, believed, believed_words, crates_page, dialect, named_crates, paragraphs, rules
 from workshop.drawings import facts, formats, hosts, network, pictures, repository
 from workshop.drawings.svg import Drawing
 from workshop.parts import ROOT
@@ -197,13 +197,24 @@ class Believed(unittest.TestCase):
     def test_names_are_followed_over_files_to_definitions_and_types_of_rust(self) -> None:
         modules = {("a", "A"): believed.parsed("a", BELIEVED), ("b", "B"): believed.parsed("b", "pub use Rattle.c.specs.C.{two}\n"), ("c", "C"): believed.parsed("c", "pub two : ℕ\ntwo = 2\n")}
         with mock.patch.object(believed, "module_of", lambda crate, path: modules.get((crate, path), believed.Module())):
-            found, types = believed.closure(("a", "A", "other"))
-        self.assertEqual(set(found), {("a", "A", "other"), ("a", "A", "Kind"), ("a", "A", "one"), ("c", "C", "two")})
-        self.assertEqual((types, believed.count([*found.values()])), ({("b", "declared.thing.Thing")}, 8))
+            whole = believed.Reading()
+            whole.follow(("a", "A", "other"))
+        # each before those that it names
+        self.assertEqual([*whole.definitions], [("a", "A", "other"), ("a", "A", "Kind"), ("a", "A", "one"), ("c", "C", "two")])
+        self.assertEqual((whole.types, sum(it.size for it in whole.definitions.values())), ({("b", "declared.thing.Thing")}, 8))
 
     def test_more_lines_than_may_be_are_named(self) -> None:
         with mock.patch.object(believed, "MOST_LINES", 10):
             self.assertIn("lines must be believed of the headline, of at most 10", believed.faults()[-1])
+
+    def test_a_word_that_the_key_lacks_is_named(self) -> None:
+        with mock.patch.object(believed_words, "KEY", tuple(it for it in believed_words.KEY if "Contains" not in it[0])):
+            self.assertIn("docs/measured/promise.md: the key has no word `Contains`", believed.faults())
+
+    def test_the_page_begins_with_the_promise(self) -> None:
+        first, *others = believed.reading()[0]
+        self.assertEqual([name for _, _, name in first[1]], ["Promised"])
+        self.assertEqual([heading.strip() for heading, _ in others[:5]], ["### `run`", "### `formed`", "### `told`", "### `safe`", "### `joined`"])
 
 
 class Hook(unittest.TestCase):
