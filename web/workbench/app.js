@@ -1,6 +1,7 @@
 /** The workbench: one script, its replay, and the step at which one is. */
 
 import { chartOf } from "./chart.js";
+import { arrangement } from "./arrangement.js";
 import { addedLines, goOn } from "./edits.js";
 import { faultOf } from "./faults.js";
 import { History } from "./fold.js";
@@ -163,9 +164,11 @@ export class Workbench {
     /** Arranges the regions by the room that there is for text of the chosen size. */
     arrange() {
         const root = document.documentElement;
-        const width = (root.clientWidth * 16) / parseFloat(getComputedStyle(root).fontSize);
-        root.dataset.layout = width >= 960 ? "wide" : width > 560 ? "mid" : "narrow";
-        root.toggleAttribute("data-tight", width < 1340);
+        const scale = 16 / parseFloat(getComputedStyle(root).fontSize);
+        const { layout, isLow } = arrangement(root.clientWidth * scale, window.innerHeight * scale);
+        root.dataset.layout = layout;
+        root.toggleAttribute("data-low", isLow);
+        root.toggleAttribute("data-tight", root.clientWidth * scale < 1340);
         this.draw();
     }
 

@@ -109,14 +109,17 @@ export const PACKETS = {
 };
 
 /**
- * A message by its source, destination and link.
+ * A message by its source, destination and link, and by its number where two messages of its flow are alive at once.
  *
  * @param {Network} network
  * @param {string} flow
+ * @param {number} [number]
  */
-export function messageName(network, flow) {
+export function messageName(network, flow, number) {
     const [source, destination, link] = flow.split(" ");
-    return `${possessive(hostName(network, source))} message to ${hostName(network, destination)} on link ${link}`;
+    const which = number !== undefined && network.numbered.has(flow) ? ` ${number}` : "";
+    return `${possessive(hostName(network, source))} message${which} to ${hostName(network, destination)} `
+        + `on link ${link}`;
 }
 
 /**
@@ -138,7 +141,7 @@ function wait(what) {
  */
 function outstanding(state, flow, number, everything) {
     const { network } = state;
-    const told = { ...wait(messageName(network, flow)), flow };
+    const told = { ...wait(messageName(network, flow, number)), flow };
     const copies = everything.filter((it) => it.flow === flow && it.number === number);
     const far = impOf(flow.split(" ")[1]);
     if (copies.length === 0) {

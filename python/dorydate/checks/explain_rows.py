@@ -105,7 +105,7 @@ TEXTS = [
     (0, "0007000100" + "0C", "malformed: commands in bytes of 7 bits, and they have to be of 8"),
     (0, "0008007900" + "00" * 121, "malformed: 121 octets of commands, and there may be 120"),
     (0, "00080000", "malformed: 32 bits, fewer than the 40 of a header"),
-    (2, "0008000700" + "48454C4C4F0D0A", "7 bytes of 8 bits: HELLO\\r\\n"),
+    (2, "0008000700" + "48454C4C4F0D0A", "7 bytes of 8 bits: “HELLO\\r\\n”"),
     (2, "0020000100" + "00000064", "1 byte of 32 bits: 00000064"),
     (2, "0008000500" + "4142", "malformed: its header announces 5 bytes of 8 bits, and 16 bits follow"),
     (2, "0008000000", "0 bytes of 8 bits"),
