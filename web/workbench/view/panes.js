@@ -71,7 +71,7 @@ export class Panes {
             this.intro,
             waits.length
                 ? "What is not finished, where it is, and what it waits for."
-                : "Nothing waits: every message has its answer.",
+                : "Nothing waits.",
         );
         keep(
             this.body,
