@@ -1,6 +1,7 @@
 /** What happens at each moment, in sentences: for a reader who sees the map, by the names of sites. */
 
 import { TABLE } from "../../python/dorydate/sentences/table.mjs";
+import { deedSentence, isDeed } from "./deeds.js";
 import { cureOf, isReachable } from "./fates.js";
 import { why } from "./refusals.js";
 import { saying } from "./texts.js";
@@ -53,8 +54,9 @@ export function sentenceOf(history, at) {
     const it = new Telling(history, at);
     const { printed, words } = it.moment;
     if (printed.length === 0) return silent(it);
+    const deed = isDeed(words[0]) && !isRefused(it) ? deedSentence(words, it.before, it.after) : "";
     const told = printed.map((line, place) => printedSentence(it, line.split(" "), it.moment.kinds[place]));
-    return joinedWords([...told, (BESIDE[words[0]] ?? nothing)(it)]);
+    return joinedWords([deed, ...told, (BESIDE[words[0]] ?? nothing)(it)]);
 }
 
 /** What is said after the printed lines of an event: what it did inside. */
@@ -296,9 +298,8 @@ export function hopsBetween(state, from, to) {
  */
 function silent(it) {
     const [kind, what] = it.moment.words;
-    if (Object.hasOwn(TABLE["forms of programs"], kind) || kind === "take") {
-        return filled(SILENT[kind === "take" || kind === "offer" ? kind : "asked"], { host: it.host(what) });
-    }
+    if (isDeed(kind)) return deedSentence(it.moment.words, it.before, it.after);
+    if (kind === "take" || kind === "offer") return filled(SILENT[kind], { host: it.host(what) });
     if (kind === "quiet") return filled(SILENT.quiet, { round: it.moment.round });
     return ((it.network.plain ? null : INNER[kind]) ?? outside)(it);
 }

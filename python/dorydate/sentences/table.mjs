@@ -48,10 +48,39 @@ export const TABLE = {
 "incomplete": "Incomplete",
 "nottaken": "NotTaken"
 },
+"deeds": {
+"contact": ["host peer", "{Host's} user asks for contact with {peer}: what is between the two is forgotten, and they reset."],
+"echo": ["host peer octet", "{Host's} user sends {peer} the octet {octet} for an echo."],
+"listen": ["host socket size", "{Host's} user listens on socket {socket}, which {way}. Nothing goes out for it: the request of another host is awaited."],
+"opensend": ["host peer socket foreign size", "{Host's} user asks {peer} for a connection: from socket {socket} to its socket {foreign}, in bytes of {size bit}."],
+"openrecv": ["host peer socket foreign", "{Host's} user asks {peer} for a connection: to socket {socket} from its socket {foreign}."],
+"send": ["host socket bits octets", "{Host's} user {verb} {text}: {bits bit} for socket {socket}."],
+"grant": ["host socket messages bits", "{Host's} user grants {messages message} and {bits bit} on socket {socket}: the other end may send them."],
+"askback": ["host socket first second", "{Host's} user asks for a part of the grant on socket {socket} back: {first}/128 of its messages and {second}/128 of its bits."],
+"interrupt": ["host socket", "{Host's} user interrupts the other end of socket {socket}."],
+"close": ["host socket", "{Host's} user closes socket {socket}."],
+"server": ["host socket base", "A server begins on {host}. It listens on socket {socket}, and one user gets the echo service on socket {base} and the next one."],
+"user": ["host peer foreign socket", "A user begins on {host}. From socket {socket} it asks the server on socket {foreign} of {peer} for a terminal."],
+"type": ["host text", "{Host's} user types “{text}” at the terminal: {bits bit}, with carriage return and line feed."]
+},
+"after deeds": {
+"commands": "To go out when {host} offers: {commands}.",
+"contact": "An RST goes out when {host} offers.",
+"not open": "The connection isn't open yet, so they wait.",
+"no grant": "No grant allows them yet: {messages} and {bits} are left of it.",
+"busy": "They wait for the answer to the message on link {link} that is out.",
+"in part": "The grant allows {bits} of them, which go out when {host} offers.",
+"allowed": "A grant allows them, and they go out when {host} offers.",
+"close waits": "Its CLS waits until what was sent is answered.",
+"no longer listens": "It listens no longer."
+},
+"ways": {
+"sends": "sends",
+"receives": "receives"
+},
 "silent": {
 "take": "Nothing waits for {host}.",
 "offer": "{Host} has nothing to send, or waits for an answer first.",
-"asked": "{Host's} program notes what its user asks for. What it has to send goes out when the host offers.",
 "no round": "No round passes.",
 "one round": "One round passes, and no host takes anything.",
 "quiet": "Round {round} begins with a quiet round of the network: IMPs send, and frames arrive.",
@@ -59,6 +88,46 @@ export const TABLE = {
 "giveup": "The network gives up {message}. Incomplete waits for {source}, unless that host is down.",
 "ask": "The IMP of {source} asks that of {destination} what became of the message on link {link}, if a route leads there.",
 "other": "Nothing crosses a host's interface."
+},
+"waits": {
+"answer": "the answer to {message}",
+"answer of a kind": "{answer} for {message}",
+"contact": "{host's} contact with {peer}",
+"initial": "the initial connection of {host} with {peer}",
+"request": "the request from {end}",
+"close": "the close of {end}",
+"bits": "{bits bit} on {end}",
+"unseen": "{imp} is down, and its neighbours don't see it"
+},
+"waits at": {
+"mailbox": "the mailbox of {host}",
+"slot": "{imp}, a slot with {pieces piece}",
+"store": "{imp}, in the store",
+"line": "on the line from {from} to {to}",
+"channel": "{imp}, channel {channel} to {to}",
+"program": "{host's} {whose}; {messages} and {bits} are left of the grant"
+},
+"waits for": {
+"take": "{host} to take it",
+"nothing alive": "nothing of it is alive: ask, or give it up",
+"pieces": "its other pieces",
+"channel": "a free channel towards {to}",
+"arrival": "the frame to arrive",
+"acknowledgement": "the acknowledgement of {imp}",
+"acknowledgement, down": "the acknowledgement of {imp}, whose end of line {line} is down",
+"slot": "a free slot at {imp}: all {slots} are held",
+"room": "room at {imp}: its {places} places are taken",
+"RRP": "the RRP of {peer}, after the RFNM for its own RST",
+"server": "its server on socket {socket} of {peer}",
+"request": "{peer} to ask for the same connection, or to listen on socket {socket}",
+"CLS": "the CLS of {peer}",
+"open": "its connection to be open",
+"answer": "the answer to the message on link {link} that is out",
+"offer": "{host} to offer",
+"ALL": "the grant of {peer} to come (ALL)",
+"service": "a grant of {peer's} service",
+"grant": "a grant of {peer}",
+"ends": "its neighbours' ends of its lines to go down"
 },
 "programs": {
 "NotContacted": "The two hosts aren't ready: one of them has to `contact` the other, and RST and RRP have to pass.",

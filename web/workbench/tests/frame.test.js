@@ -7,7 +7,7 @@ import { test } from "node:test";
 import { arrangement } from "../arrangement.js";
 import { lacking, wanting } from "../lacking.js";
 
-const page = readFileSync(new URL("../page.html", import.meta.url), "utf8");
+const page = readFileSync(new URL("../page.html", import.meta.url).pathname, "utf8");
 
 test("each size has its arrangement", () => {
     const rows = /** @type {[number, number, string, boolean][]} */ ([

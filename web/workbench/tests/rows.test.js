@@ -103,7 +103,7 @@ test("an initial connection is waited for until it is complete or has failed", a
     const contact = ["calm 2", "contact 0/1 0/2", "calm 20", "user 0/1 0/2 7 16"];
     const asked = waitsAtEnd(await historyOfText(programs(contact)));
     assert.deepEqual(asked.map((it) => [it.what, it.for, it.bad]), [
-        ["The initial connection of host 0/1 with host 0/2", "its server on socket 7 of host 0/2", false],
+        ["the initial connection of host 0/1 with host 0/2", "its server on socket 7 of host 0/2", false],
     ]);
     assert.deepEqual(waitsAtEnd(await historyOfText(programs([...contact, "calm 20"]))), []);
 });
