@@ -6,8 +6,6 @@ import os
 import unittest
 from unittest import mock
 
-from dorydate.checks.explain_faults import BAD_LINES, BAD_LINES_OF_WORLDS, BAD_TOPOLOGIES, GOOD
-from dorydate.checks.explain_rows import TEXTS
 from dorydate.explain.charts import chart, short_chart
 from dorydate.explain.faults import diagnose, wrong_with_line
 from dorydate.explain.given import Input, shown
@@ -19,6 +17,8 @@ from dorydate.explain.topology import network_by
 from dorydate.model.script import read_event
 from dorydate.model.topology import Topology
 from dorydate.sentences.texts import raw_text_in_words, text_in_words
+from workshop.checks.explain_faults import BAD_LINES, BAD_LINES_OF_WORLDS, BAD_TOPOLOGIES, GOOD
+from workshop.checks.explain_rows import TEXTS
 
 PAIR = Topology("subnet", True, [(1, 1), (2, 1)], [(1, 2)])
 TWO = b"raw = true\n[[imp]]\nid = 1 # UCLA\nhosts = 1\n[[imp]]\nid = 2\nhosts = 1\n[[line]]\na = 1\nb = 2\n%\n"
