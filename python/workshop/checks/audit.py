@@ -34,6 +34,7 @@ from dorydate.model.verdict import Judge, ended, ends_audit, says
 from dorydate.model.chance.worlds import Script
 from dorydate.model.runs import End
 from dorydate.model.topology import Topology, network_of, spelled_input
+from dorydate.model.without.stored import Lesson
 from workshop.checks import log_rows
 from workshop.checks.cases import Case, cases_below
 from workshop.checks import headline
@@ -218,7 +219,7 @@ def check_without() -> list[str]:
     wrong: list[str | None] = []
     seen = Counter[str]()
     for path in headline.stored():
-        lesson = headline.Lesson(path)
+        lesson = Lesson(path)
         octets = spelled_log(book_of(lesson.network, lesson.run(lesson.rule, lesson.script)))
         owed = ends_audit(octets)
         parts = ["run", *PARTS]
