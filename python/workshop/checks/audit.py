@@ -34,6 +34,7 @@ from dorydate.model.verdict import Judge, ended, ends_audit, says
 from dorydate.model.chance.worlds import Script
 from dorydate.model.runs import End
 from dorydate.model.topology import Topology, network_of, spelled_input
+from dorydate.model.without.stored import Lesson
 from workshop.checks import log_rows
 from workshop.checks.cases import Case, cases_below
 from dorydate.model.without.stored import Lesson
