@@ -1,5 +1,6 @@
 /** The lessons in the order in which a class takes them, with their questions. */
 
+import { INTRODUCTIONS } from "./introductions.js";
 import { QUESTIONS, SUBJECTS } from "./questions.js";
 
 /** @typedef {import("./app.js").Example} Example */
@@ -72,13 +73,15 @@ export function opened(inputs, examples) {
 }
 
 /**
- * The text of an example with its questions.
+ * The text of an example with its introduction, if it has none of its own, and its questions.
  *
  * @param {string} text
  * @param {string} name
  */
 function asking(text, name) {
-    return withQuestions(text, QUESTIONS[name] ?? []);
+    const introduction = INTRODUCTIONS[name];
+    const whole = withQuestions(text, QUESTIONS[name] ?? []);
+    return introduction && !text.startsWith("#") ? `# ${introduction}\n${whole}` : whole;
 }
 
 /**

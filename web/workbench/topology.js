@@ -227,8 +227,19 @@ export function impOf(host) {
  * @returns {number[]}
  */
 export function linesOf(network, imp) {
-    return network.lines.flatMap(([a, b], line) => (a === imp || b === imp ? [line] : []));
+    let found = PORTS.get(network);
+    if (!found) {
+        found = Array.from({ length: MOST_IMPS + 1 }, () => []);
+        for (const [line, ends] of network.lines.entries()) for (const end of ends) found[end]?.push(line);
+        PORTS.set(network, found);
+    }
+    return found[imp] ?? [];
 }
+
+const MOST_IMPS = 63;
+
+/** @type {WeakMap<Network, number[][]>} of each network by IMP its lines: they are asked for at each step */
+const PORTS = new WeakMap();
 
 /**
  * The IMP at the other end of a line.

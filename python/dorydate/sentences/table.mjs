@@ -66,13 +66,24 @@ export const TABLE = {
 "after deeds": {
 "commands": "To go out when {host} offers: {commands}.",
 "contact": "An RST goes out when {host} offers.",
-"not open": "The connection isn't open yet, so they wait.",
 "no grant": "No grant allows them yet: {messages} and {bits} are left of it.",
 "busy": "They wait for the answer to the message on link {link} that is out.",
 "in part": "The grant allows {bits} of them, which go out when {host} offers.",
 "allowed": "A grant allows them, and they go out when {host} offers.",
 "close waits": "Its CLS waits until what was sent is answered.",
 "no longer listens": "It listens no longer."
+},
+"words": {
+"calm": "`calm N` lets N rounds pass. In each, all IMPs tell their distances and send again what is not acknowledged, all frames arrive once, and every host takes what waits for it; hosts with programs send, too.",
+"raw": "In a network with `raw = true` hosts have no programs: the script itself sends (`out`) and takes (`take`).",
+"out": "`out` hands an IMP a message that the script writes, in a network with `raw = true`.",
+"offer": "`offer` lets the program of a host send its next message, where hosts have programs.",
+"take": "`take` lets a host take what waits for it: first an answer, then a message.",
+"deliver": "`deliver` lets a frame arrive. It stays on its line, so it can arrive again, until `drop` takes it away.",
+"drop": "`drop` takes a frame from its line. If it has not arrived, it is lost.",
+"deed": "What users ask of the programs of hosts, such as `contact` or `send`, is done at once at their host, and goes out at its next `offer`.",
+"proved": "Proved: the prover has checked that this program keeps its contracts.",
+"not proved": "Built without proofs: the same sources, for which the prover was not run. Nothing is wrong with it, and nothing is shown."
 },
 "ways": {
 "sends": "sends",
@@ -213,6 +224,7 @@ export const TABLE = {
 "unseen": "Its neighbours don't see it until their ends of its lines go down.",
 "waited": "For it waited {what}.",
 "numbered": "It is message {number} of its flow.",
+"has come": "{packet} has come to {imps}",
 "distances same": "Its distances stay as they are.",
 "distance now": "Its distance is now {distances}.",
 "other line": "It now sends {ways}.",
