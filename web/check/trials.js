@@ -271,6 +271,39 @@ export async function large({ $, one, all, changed, pause, press, key, want, wro
 }
 
 /**
+ * What can happen now is listed by the program, and a tap on it does it; a surprise is played, and a search finds.
+ *
+ * @param {Page} page
+ */
+export async function happening({ $, one, all, until, changed, press, slide, load, want }) {
+    await load("first-message");
+    slide(1);
+    press("tab-next");
+    const listed = () => all("#pane .possible button code").map((it) => it.textContent);
+    await until(() => listed().length, "what can happen");
+    want(listed().includes("take 0/2") && listed().includes("giveup 0/1 0/2 5"), "can happen: " + listed());
+    want(!listed().includes("hostup 0/1") && !listed().some((it) => /^out 0\/1 0\/2 5/.test(it)), "refused: " + listed());
+    const take = all("#pane .possible button").find((it) => it.textContent.includes("take 0/2"));
+    want(/prints: in 0\/1 0\/2 5 24/.test(take.textContent), "what it prints: " + take.textContent);
+    await changed(() => take.click());
+    want(/takes host 0\/1's message/.test($("sentence").textContent), "it did not happen: " + $("sentence").textContent);
+    await changed(() => press("undo"));
+    await load("rerouted-over-a-triangle");
+    slide(14);
+    await until(() => one("#pane .possible h3") && listed().some((it) => it.startsWith("deliver ")), "frames can arrive");
+    want(all("#pane .possible h3").map((it) => it.textContent).join() === "Hosts,Lines,IMPs", "no groups");
+    await changed(() => press("surprise"));
+    want(all(".row.added").length >= 3 && $("play").textContent === "Pause", "no surprise is played");
+    want(!all(".row.added").some((it) => it.classList.contains("refused")), "a surprise is refused");
+    press("play");
+    $("search").value = "taken-and-incomplete";
+    await changed(() => press("search-go"));
+    await until(() => $("label").textContent === "A script", "a search finds a script");
+    want(all(".row.event").length < 14, "what is found is long");
+    press("tab-waits");
+}
+
+/**
  * An address that is cut off, and one with the name of no lesson, open nothing else without a word.
  *
  * @param {Page} page
@@ -364,7 +397,7 @@ export async function keys({ $, one, all, focused, load, key, want }) {
     $("tab-waits").focus();
     key("ArrowRight", $("tab-waits"));
     want(
-        $("tab-distances").getAttribute("aria-selected") === "true" && focused() === $("tab-distances"),
+        $("tab-next").getAttribute("aria-selected") === "true" && focused() === $("tab-next"),
         "arrows do not go from tab to tab",
     );
     want(

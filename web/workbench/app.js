@@ -28,6 +28,7 @@ import { Index } from "./view/index.js";
 import { listenToKeys } from "./view/keys.js";
 import { MapView } from "./view/map.js";
 import { Toast } from "./view/menu.js";
+import { Next } from "./view/next.js";
 import { Panes } from "./view/panes.js";
 import { Player } from "./view/player.js";
 import { Printed } from "./view/printed.js";
@@ -101,6 +102,7 @@ export class Workbench {
         this.sheet = new SheetView(byId("sheet"), go);
         this.printed = new Printed(runner);
         this.compare = new Compare(runner, go, () => this.draw());
+        this.next = new Next(this);
         this.index = new Index(byId("index"), examples, (name) => void this.load(name));
         this.panes = new Panes(byId("pane"), {
             choose: (imp) => this.choose(imp),
@@ -637,6 +639,15 @@ export class Workbench {
         if (!file) return;
         const text = await textOfFile(file);
         if (typeof text !== "string") return this.toast.show(`${file.name} ${text.why}`, null);
+        await this.openText(text);
+    }
+
+    /**
+     * Opens a text that is no example.
+     *
+     * @param {string} text
+     */
+    async openText(text) {
         this.past.leave(this.here());
         this.example = "";
         this.open(text);
@@ -664,6 +675,7 @@ export class Workbench {
         const from = at ? stops[at - 1].from : 0;
         const before = at ? history.at(from) : null;
         if (name === "printed") this.printed.draw(byId("pane"), this.text, hidden);
+        else if (name === "next") this.next.draw(byId("pane"));
         else if (name === "compare") this.compare.draw(byId("pane"), this.origin, { history, position, to, hidden });
         else if (name !== "script") {
             const earlier = before && name === "hosts" ? (this.earlier?.goTo(from) ?? null) : null;
