@@ -304,6 +304,29 @@ export async function happening({ $, one, all, until, changed, press, slide, loa
 }
 
 /**
+ * An exercise says when its goal is reached, and how many events the shortest known script has.
+ *
+ * @param {Page} page
+ */
+export async function judged({ $, one, all, until, changed, press, load, want }) {
+    await load("exercise-an-rfnm");
+    const goal = () => $("goal").textContent;
+    await until(() => goal(), "the goal");
+    want(/not reached yet.*shortest script that is known has 3 events/.test(goal()), goal());
+    want(!/Goal:/.test($("sentence").textContent), "the pattern is in the introduction");
+    press("edit");
+    const area = one("textarea");
+    area.value += "calm 1\nout 0/1 0/2 5 8 41\ncalm 2\n";
+    await changed(() => area.dispatchEvent(new Event("input")));
+    await until(() => /is reached, with 3 events/.test(goal()), "that the goal is reached: " + goal());
+    want($("goal").classList.contains("reached"), "a reached goal looks as others");
+    one(".editor-head button").click();
+    await load("first-message");
+    await until(() => $("goal").hidden, "a lesson without a goal has none");
+    want(all("#lesson option").filter((it) => it.value.startsWith("exercise-")).length === 10, "ten exercises");
+}
+
+/**
  * An address that is cut off, and one with the name of no lesson, open nothing else without a word.
  *
  * @param {Page} page
@@ -595,7 +618,7 @@ export async function compared({ $, one, all, until, changed, press, load, want 
         "the index has other lessons than the list",
     );
     want(
-        all("#index .lessons ul > li").filter((it) => !it.querySelector("ol")).length === 2,
+        all("#index .lessons ul > li").filter((it) => !it.querySelector("ol")).length === 12,
         "lessons without a question: " + all("#index .lessons ul > li").filter((it) => !it.querySelector("ol")).map(
             (it) => it.querySelector("button").textContent,
         ),

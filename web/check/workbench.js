@@ -269,14 +269,14 @@ async function whole(browser, address) {
         steps += await browser.evaluate('return Number(document.getElementById("slider").max);');
     }
     const { keys, tapped, holding, distances, compared, printed, hidden, typed, measured, contrast } = trials;
-    const { happening, large, reached, unopened } = trials;
+    const { happening, judged, large, reached, unopened } = trials;
     for (const size of LARGE) {
         await browser.resize(...size);
         wrong.push(...(await trial(browser, [large, largeNetwork()])));
         console.log(`63 IMPs: ${await browser.evaluate("return document.documentElement.dataset.measured;")}`);
     }
     await browser.resize(...WIDE);
-    for (const body of [unopened, happening, keys, tapped, holding, distances, compared, printed, hidden, typed]) {
+    for (const body of [unopened, happening, judged, keys, tapped, holding, distances, compared, printed, hidden, typed]) {
         wrong.push(...(await trial(browser, [body])));
     }
     let places = 0;

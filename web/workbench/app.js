@@ -5,6 +5,7 @@ import { arrangement } from "./arrangement.js";
 import { addedLines, goOn } from "./edits.js";
 import { faultOf } from "./faults.js";
 import { History } from "./fold.js";
+import { judged } from "./goals.js";
 import { stopsOfFlow, stopsWith } from "./follow.js";
 import { keepText, storedText } from "./kept.js";
 import { Past } from "./past.js";
@@ -339,6 +340,7 @@ export class Workbench {
             this.text = text;
             this.history = new History(outcome);
             this.fresh();
+            void this.judge(run);
             this.go(Math.min(position, this.history.length));
             this.toast.hide();
             if (this.why || outcome.cut) this.toast.show(this.why || outcome.cut, null, true);
@@ -349,6 +351,21 @@ export class Workbench {
             byId("wait").hidden = true;
             if (run === this.runs) document.documentElement.dataset.replays = String(run);
         }
+    }
+
+    /**
+     * Says whether the script reaches its goal, if it has one.
+     *
+     * @param {number} run the number of its replay
+     */
+    async judge(run) {
+        if (!this.history) return;
+        const { isReached, text } = await judged(this.runner.batch, this.history.replay.input);
+        if (run !== this.runs) return;
+        const goal = byId("goal");
+        goal.hidden = text === "";
+        say(goal, text);
+        goal.classList.toggle("reached", isReached);
     }
 
     /**

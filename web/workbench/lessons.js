@@ -1,5 +1,6 @@
 /** The lessons in the order in which a class takes them, with their questions. */
 
+import { EXERCISES, inputOf } from "./exercises.js";
 import { INTRODUCTIONS } from "./introductions.js";
 import { QUESTIONS, SUBJECTS } from "./questions.js";
 
@@ -53,8 +54,12 @@ export function arranged(examples) {
             left.delete(name);
             return example ? [{ ...example, group: title, text: asking(example.text, name) }] : [];
         });
-    const known = [...HOURS, ...SUBJECTS].flatMap(([title, names]) => group(title, names));
-    return [...known, ...group("What is refused", [...left.keys()])];
+    const hours = HOURS.flatMap(([title, names]) => group(title, names));
+    const subjects = SUBJECTS.flatMap(([title, names]) => group(title, names));
+    const exercises = EXERCISES.map((it) => (
+        { name: it.name, title: it.title, group: "A third hour: exercises that judge themselves", text: inputOf(it) }
+    ));
+    return [...hours, ...exercises, ...subjects, ...group("What is refused", [...left.keys()])];
 }
 
 /**

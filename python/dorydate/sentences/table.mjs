@@ -82,6 +82,12 @@ export const TABLE = {
 "refused-before-it-comes": ["a sender gets NotTaken, and then its message arrives", "raw LEFT-RIGHT", "noted never A B N K then answer incomplete A B N then arrives data A B N K"],
 "twice": ["a message is taken twice: no schedule does that", "raw LEFT-RIGHT", "out A B N .. then not out A B N .. then in A B N .. then not out A B N .. then in A B N .."]
 },
+"goals": {
+"reached": "The goal is reached, with {events event}.",
+"not reached": "The goal is not reached yet.",
+"shortest": "The shortest script that is known has {events event}.",
+"bad": "The goal can't be read: {why}."
+},
 "words": {
 "calm": "`calm N` lets N rounds pass. In each, all IMPs tell their distances and send again what is not acknowledged, all frames arrive once, and every host takes what waits for it; hosts with programs send, too.",
 "raw": "In a network with `raw = true` hosts have no programs: the script itself sends (`out`) and takes (`take`).",
