@@ -39,7 +39,7 @@ export const EXERCISES = [
         network: "raw UCLA-SRI",
         goal: "in 0/1 0/2 M .. then out 0/1 0/2 N .. then not in 0/1 0/2 N .. then down 0/2 then not up .. "
             + "then answer dead 0/1 0/2 N",
-        shortest: 5,
+        shortest: 6,
     },
     {
         name: "exercise-the-other-way-round",
@@ -48,7 +48,7 @@ export const EXERCISES = [
         network: "raw UCLA-SRI",
         goal: "out A B M .. then not answer _ A B M then out A B N .. then not answer _ A B M then in A B N .. "
             + "then not answer _ A B M then in A B M .. where M != N",
-        shortest: 6,
+        shortest: 5,
     },
     {
         name: "exercise-given-up-and-not-taken",
@@ -56,7 +56,7 @@ export const EXERCISES = [
         task: "Lose a message for good, so that it can be given up: UCLA gets Incomplete, and SRI has not taken it.",
         network: "raw UCLA-SRI",
         goal: "out 0/1 0/2 N .. then not in .. then answer incomplete 0/1 0/2 N",
-        shortest: 6,
+        shortest: 5,
     },
     {
         name: "exercise-taken-and-incomplete",
@@ -97,7 +97,7 @@ export const EXERCISES = [
         network: "plain UCLA SRI",
         goal: "not pairreset .. then up A then not down .. then life B T A S _ _ _ .. open and life A S B T .. ended "
             + "and calm 20: nothing",
-        shortest: 9,
+        shortest: 7,
     },
 ];
 

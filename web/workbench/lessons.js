@@ -29,6 +29,10 @@ const HOURS = /** @type {[string, string[]][]} */ ([
         ],
     ],
     [
+        "The years",
+        ["arpanet-of-december-1970", "arpanet-of-april-1971"],
+    ],
+    [
         "Exercises, solved",
         [
             "a-sender-stops-before-its-rfnm",

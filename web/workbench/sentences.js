@@ -492,11 +492,16 @@ function changedRoutes(it) {
  * @param {Telling} it
  */
 function otherLines({ network, before, after, note }) {
-    const ways = network.sites.flatMap(({ number }) => {
+    /** @type {Map<number, string[]>} */
+    const sites = new Map();
+    for (const { number } of network.sites) {
         const { line } = after.way(note.to, number);
-        if (line < 0 || line === before.way(note.to, number).line) return [];
-        return [`to ${siteName(network, number)} by way of ${siteName(network, farEnd(network, line, note.to))}`];
-    });
+        if (line < 0 || line === before.way(note.to, number).line) continue;
+        sites.set(line, [...(sites.get(line) ?? []), siteName(network, number)]);
+    }
+    const ways = [...sites].map(
+        ([line, names]) => `to ${listed(names)} by way of ${siteName(network, farEnd(network, line, note.to))}`,
+    );
     return filled(INSIDE["other line"], { ways: listed(ways) });
 }
 

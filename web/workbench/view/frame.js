@@ -27,7 +27,7 @@ import { legendSign } from "./map.js";
 export const TABS = /** @type {[string, string][]} */ ([
     ["script", "Script"],
     ["waits", "Waits"],
-    ["next", "What can happen"],
+    ["next", "Possible"],
     ["distances", "Distances"],
     ["inside", "Inside"],
     ["hosts", "Hosts"],

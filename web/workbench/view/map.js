@@ -3,7 +3,7 @@
 import { partTitle } from "../choices.js";
 import { leaving, placed } from "../layout.js";
 import { FAR } from "../state.js";
-import { impOf, siteName, wayOf } from "../topology.js";
+import { impOf, machineOf, siteName, wayOf } from "../topology.js";
 import { readable, Viewport } from "../viewport.js";
 import { keep, s, say, set } from "./dom.js";
 
@@ -61,6 +61,8 @@ export class MapView {
         /** @type {Scene | null} */
         this.scene = null;
         this.factor = 1; // by how much signs and labels are larger than they are drawn, so that they can be read
+        const { outline } = this.layout;
+        this.land = s("path", { class: "land", d: outline.length ? `M${outline.map(spelled).join("L")}Z` : "" });
         this.arcs = s("g", { class: "arcs" });
         this.spokes = s("g", { class: "spokes" });
         this.lines = s("g", { class: "lines" });
@@ -68,7 +70,7 @@ export class MapView {
         this.frames = s("g", { class: "frames" });
         this.imps = s("g", { class: "imps" });
         this.hosts = s("g", { class: "hosts" });
-        svg.replaceChildren(hatch(), this.arcs, this.spokes, this.lines, this.ways, this.imps, this.hosts, this.frames);
+        svg.replaceChildren(hatch(), this.land, this.arcs, this.spokes, this.lines, this.ways, this.imps, this.hosts, this.frames);
         this.drawLines();
         this.drawImps();
         this.drawHosts();
@@ -408,7 +410,8 @@ export class MapView {
             const box = state.box(host);
             const waits = box ? box.messages.length + box.answers.length : 0;
             updateBadge(element, waits);
-            label(element, `Host ${host}${isUp ? "" : ", down"}${waits ? `, ${waits} wait for it` : ""}`);
+            const machine = machineOf(this.network, host);
+            label(element, `Host ${host}${machine ? `, ${machine}` : ""}${isUp ? "" : ", down"}${waits ? `, ${waits} wait for it` : ""}`);
         });
     }
 
@@ -649,6 +652,11 @@ export function legendSign(kind) {
         s("path", { class: "sign", d: SIGNS[kind] }),
         s("path", { class: "stroke", d: STROKES[kind] ?? "" }),
     );
+}
+
+/** @param {Point} point */
+function spelled({ x, y }) {
+    return `${x.toFixed(1)} ${y.toFixed(1)}`;
 }
 
 /**
