@@ -5,12 +5,14 @@ from __future__ import annotations
 import re
 from collections.abc import Iterable, Mapping
 from dataclasses import dataclass
-from typing import Union
+from typing import Any, Union
 
-MOST_IMPS = 63
+from dorydate.given import short
+from dorydate.toml import MOST_NUMBER, document_of, line_of_key, line_of_table
+
+MOST_IMPS = MOST_NUMBER
 MOST_HOSTS = 4
 MOST_LINES = 5  # of one IMP
-MOST_SHOWN = 72  # characters of a line in an error
 
 
 class BadNetwork(ValueError):
@@ -164,7 +166,7 @@ class Network:
 
     @staticmethod
     def read(text: str) -> Network:
-        """The network of a topology in the plain spelling: one key a line, as `toml` writes it. Comments may be anywhere."""
+        """The network of a topology. The comment after an IMP's number is the name of its site."""
         return read(text)
 
 
@@ -200,41 +202,42 @@ def check_lines(lines: Iterable[Line], numbers: list[int]) -> None:
                 raise BadNetwork(f"IMP {number} has more than {MOST_LINES} lines")
 
 
-PAIR = re.compile(r'[ \t]*(carrier|raw|id|hosts|a|b)[ \t]*=[ \t]*(?:"(plain|subnet)"|(true|false)|([0-9]{1,4}))[ \t]*(?:#[ \t]*(.*))?')
-TABLE = re.compile(r"[ \t]*\[\[[ \t]*(imp|line)[ \t]*\]\][ \t]*(?:#.*)?")
-KEYS = {"": {"carrier", "raw"}, "imp": {"id", "hosts"}, "line": {"a", "b"}}
+# ---- topologies
 
-
-def short(line: str) -> str:
-    """A line as an error quotes it: its middle left out where it is long."""
-    return line if len(line) <= MOST_SHOWN else f"{line[: MOST_SHOWN - 12]} .. {line[-8:]}"
+KEYS = {"imp": {"id", "hosts"}, "line": {"a", "b"}}
+NAME = re.compile(r"^[ \t]*id[ \t]*=[ \t]*(\d+)[ \t]*#[ \t]*(\S.*)$", re.MULTILINE)  # a comment after an IMP's number is the name of its site
 
 
 def read(text: str) -> Network:
-    """The network of a topology in the plain spelling."""
-    tables: list[tuple[str, dict[str, str], str]] = [("", {}, "")]
-    for number, line in enumerate(text.removeprefix("\ufeff").split("\n"), 1):
-        line = line.removesuffix("\r")
-        if not line.split("#")[0].strip():
-            continue
-        if table := TABLE.fullmatch(line):
-            tables.append((table[1], {}, ""))
-            continue
-        pair = PAIR.fullmatch(line)
-        name, values, comment = tables[-1]
-        if not pair or pair[1] not in KEYS[name] or pair[1] in values:
-            raise BadNetwork(f"line {number} of the topology, `{short(line.strip())}`, is not read here: one key with its value a line, each once in its table")
-        values[pair[1]] = pair[2] or pair[3] or pair[4]
-        tables[-1] = name, values, (pair[5] or "").strip() if pair[1] == "id" else comment
-    for name, values, _ in tables[1:]:
-        if {*values} != KEYS[name]:
-            raise BadNetwork(f"a table [[{name}]] has exactly the keys {' and '.join(sorted(KEYS[name]))}")
-    top = tables[0][1]
-    if top.get("raw", "false") not in ("true", "false") or top.get("carrier", "subnet") not in ("plain", "subnet"):
-        raise BadNetwork("`raw` is true or false, and `carrier` is \"plain\" or \"subnet\"")
+    """The network of a topology."""
+    text = text.removeprefix("\ufeff").replace("\r\n", "\n")
     try:
-        imps = tuple(Imp(int(it["id"]), int(it["hosts"]), comment) for name, it, comment in tables if name == "imp")
-        lines = tuple(Line(int(it["a"]), int(it["b"])) for name, it, _ in tables if name == "line")
-    except ValueError:
-        raise BadNetwork("numbers of IMPs, hosts and ends of lines are whole") from None
-    return Network(imps, lines, top.get("raw") == "true", top.get("carrier", "subnet"))
+        document = document_of(text)
+    except ValueError as why:
+        raise BadNetwork(f"the topology is not read: {why}") from None
+    if further := sorted({*document} - {"carrier", "raw", *KEYS}):
+        lines = text.split("\n")
+        number = line_of_table(lines, further[0], 0) or line_of_key(lines, further[0])
+        where = f"line {number} of the topology, `{short(lines[number - 1].strip())}`: " if number else ""
+        raise BadNetwork(f"{where}a topology has no key `{further[0]}`")
+    raw, carrier = document.get("raw", False), document.get("carrier", "subnet")
+    if not isinstance(raw, bool) or not isinstance(carrier, str):
+        raise BadNetwork("`raw` is true or false, and `carrier` is \"plain\" or \"subnet\"")
+    names = {int(number): printable(name) for number, name in NAME.findall(text)}
+    imps = tuple(Imp(it["id"], it["hosts"], names.get(it["id"], "")) for it in tables(document, "imp"))
+    return Network(imps, tuple(Line(it["a"], it["b"]) for it in tables(document, "line")), raw, carrier)
+
+
+def tables(document: Mapping[str, Any], name: str) -> list[dict[str, int]]:
+    """The tables of a name, each of which has just its keys, with whole numbers."""
+    found = document.get(name, [])
+    if not isinstance(found, list) or not all(isinstance(it, dict) and {*it} == KEYS[name] for it in found):
+        raise BadNetwork(f"a table [[{name}]] has exactly the keys {' and '.join(sorted(KEYS[name]))}")
+    if not all(type(value) is int for it in found for value in it.values()):
+        raise BadNetwork("numbers of IMPs, hosts and ends of lines are whole")
+    return found
+
+
+def printable(name: str) -> str:
+    """A site's name with a space in place of each character that can't be printed."""
+    return "".join(it if it.isprintable() else " " for it in name).strip()

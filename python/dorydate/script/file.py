@@ -5,7 +5,8 @@ from __future__ import annotations
 from collections.abc import Iterator, Sequence
 from dataclasses import dataclass
 
-from dorydate.network import BadNetwork, Network, short
+from dorydate.given import Input, short
+from dorydate.network import BadNetwork, Network
 from dorydate.script.event import Event
 from dorydate.script.lines import read_event
 from dorydate.script.values import BadLine
@@ -59,21 +60,16 @@ class Script:
 
     @staticmethod
     def of_octets(octets: bytes) -> Script:
-        """The script of an input's octets, which in comments may be any."""
-        return Script.read(octets.decode("utf-8", "surrogateescape"))
-
-    @staticmethod
-    def read(text: str) -> Script:
-        """The script of an input. A comment that begins with `#=` is what the event before it is expected to print."""
-        every = text.split("\n")
-        if "%" not in every:
+        """The script of an input's octets, which in comments may be any. A comment that begins with `#=` is what the event before it is
+        expected to print."""
+        given = Input(octets)
+        if given.marker is None:
             raise BadLine("no line is `%`, which separates the topology from the script")
-        marker = every.index("%")
-        head, lines = every[:marker], every[marker + 1 :]
-        network = Network.read("\n".join(head))
+        head = decoded(given.topology())
+        network = Network.read(head)
         entries: list[Entry] = []
         comments: list[str] = []
-        for number, line in enumerate(lines[:-1] if lines[-1:] == [""] else lines, marker + 2):
+        for number, line in ((number, decoded(octets)) for number, octets in given.script):
             if line.startswith(EXPECTED):
                 expect(entries, line, number)
             elif line.startswith("#"):
@@ -84,13 +80,23 @@ class Script:
                 except (BadLine, BadNetwork) as why:
                     raise BadLine(f"line {number}, `{short(line)}`: {why}") from None
                 comments = []
-        heading = tuple(it[1:].strip() for it in head if it.startswith("#"))
+        heading = tuple(it[1:].strip() for it in head.split("\n") if it.startswith("#"))
         return Script(network, tuple(entries), heading)
+
+    @staticmethod
+    def read(text: str) -> Script:
+        """The script of an input."""
+        return Script.of_octets(octets_of(text))
 
 
 def octets_of(text: str) -> bytes:
-    """An input as octets: in UTF-8, and what `of_octets` found to be none as it was."""
+    """An input as octets: in UTF-8, and what `decoded` found to be none as it was."""
     return text.encode("utf-8", "surrogateescape")
+
+
+def decoded(octets: bytes) -> str:
+    """Octets of an input as a text, from which `octets_of` makes the same octets."""
+    return octets.decode("utf-8", "surrogateescape")
 
 
 def expect(entries: list[Entry], line: str, number: int) -> None:
