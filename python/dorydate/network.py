@@ -125,6 +125,8 @@ class Network:
         """
         if isinstance(name, Host):
             return name
+        if not isinstance(name, str):
+            raise BadNetwork(f"{name!r} is not a host: write `0/1`, or the site's name for its host 0, or `1 at` and that name")
         if re.fullmatch(r"[0-9]+/[0-9]+", name):
             return Host.read(name)
         number, at, site = name.partition(" at ")

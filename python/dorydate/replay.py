@@ -12,9 +12,9 @@ from dorydate import script as events
 from dorydate.deeds import Deed, Octets, Step, Stopped, text_of, together
 from dorydate.drawing import drawn
 from dorydate.inside import CannotFollow, state_of, trace_of
-from dorydate.marks import Marked, Unmarked, each_printed, mark_for
+from dorydate.marks import LAST, Marked, Unmarked, each_printed, mark_for
 from dorydate.network import Host, HostName, ImpName, Network
-from dorydate.printed import flow_of, kind_of, matches, without_text
+from dorydate.printed import flow_of, kind_of, matches, may_match, without_text
 from dorydate.program import Program, found
 from dorydate.script import Entry, Event, Flow, Script, octets_of
 from dorydate.state import Frame, State
@@ -27,6 +27,8 @@ def output_of(program: Program, octets: bytes) -> str:
     ran = program.run(octets, "--texts")
     if ran.status:
         raise Stopped(f"the program says: {ran.said.strip()} (status {ran.status})")
+    if ran.output.splitlines()[-1:] != [LAST]:
+        raise Stopped(f"{program.path} printed no last line `{LAST}`, so it is not arpasim")
     return ran.output
 
 
@@ -103,7 +105,9 @@ class Replay:
 
     def back(self, count: int = 1) -> None:
         """Takes back the last plain events."""
-        self.steps = self.steps[: max(len(self.steps) - count, 0)]
+        if not 0 <= count <= len(self.steps):
+            raise Stopped(f"{len(self.steps)} events have happened, so {count} can't be taken back")
+        self.steps = self.steps[: len(self.steps) - count]
 
     def branch(self) -> Replay:
         """Another replay that has come as far as this, and continues in its own way."""
@@ -196,6 +200,8 @@ class Replay:
 
     def run_until(self, wanted: str | Callable[[Replay], object], limit: int = MOST_ROUNDS, why: str = "") -> Deed:
         """Rounds pass until a line that begins with these words is printed, or until something holds of the replay."""
+        if isinstance(wanted, str) and not may_match(wanted):
+            raise Stopped(f"no printed line begins with `{wanted}`: its words are compared with a line's first words, as in `answer rfnm 0/1`")
         before = self.steps
         said = why or (f"until `{wanted}`" if isinstance(wanted, str) else "until what was wanted")
         for rounds in range(1, limit + 1):

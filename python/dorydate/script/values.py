@@ -9,6 +9,7 @@ from dorydate.network import BadNetwork, Host
 
 MOST_BITS = 8063  # of a message
 MOST_NUMBER = 4_294_967_295
+MOST_LINK = 255
 
 
 class BadLine(ValueError):
@@ -49,12 +50,15 @@ class Flow:
     destination: Host
     link: int
 
+    def __post_init__(self) -> None:
+        in_range(self.link, MOST_LINK)
+
     def __str__(self) -> str:
         return f"{self.source} {self.destination} {self.link}"
 
     @staticmethod
     def read(source: str, destination: str, link: str) -> Flow:
-        return Flow(host_of(source), host_of(destination), whole(link, 255))
+        return Flow(host_of(source), host_of(destination), whole(link, MOST_LINK))
 
 
 def host_of(word: str) -> Host:
@@ -62,6 +66,12 @@ def host_of(word: str) -> Host:
         return Host.read(word)
     except BadNetwork as why:
         raise BadLine(str(why)) from None
+
+
+def in_range(value: object, most: int, least: int = 0) -> None:
+    """Refuses what is no whole number in a range."""
+    if type(value) is not int or not least <= value <= most:
+        raise BadLine(f"{value!r} is not {'' if type(value) is int else 'a whole number '}from {least} to {most}")
 
 
 def whole(word: str, most: int = MOST_NUMBER, least: int = 0) -> int:
