@@ -34,7 +34,11 @@ class Entry:
 
 @dataclass(frozen=True)
 class Script:
-    """A network and the events that happen in it."""
+    """A network and the events that happen in it.
+
+    >>> from dorydate.script import Calm
+    >>> script = Script.of(two, [Calm(1)])
+    """
 
     network: Network
     entries: tuple[Entry, ...] = ()
@@ -42,26 +46,48 @@ class Script:
 
     @staticmethod
     def of(network: Network, events: Sequence[Event], heading: Sequence[str] = ()) -> Script:
+        """The script of some events.
+
+        >>> Script.of(two, [], heading=["A test."]).text().splitlines()[0]
+        '# A test.'
+        """
         return Script(network, tuple(Entry(it) for it in events), tuple(heading))
 
     @property
     def events(self) -> tuple[Event, ...]:
+        """Its events, without comments.
+
+        >>> Script.read(two.toml() + "%\\n# go\\ncalm 1\\n").events
+        (Calm(rounds=1),)
+        """
         return tuple(it.event for it in self.entries)
 
     def text(self) -> str:
-        """The whole input, as the program reads it."""
+        """The whole input, as the program reads it.
+
+        >>> Script.of(two, []).text() == two.toml() + "%\\n"
+        True
+        """
         head = [f"# {it}".rstrip() for it in self.heading]
         lines = [line for entry in self.entries for line in entry.lines()]
         return "\n".join([*head, self.network.toml() + "%", *lines]) + "\n"
 
     def octets(self) -> bytes:
-        """The whole input as octets."""
+        """The whole input as octets.
+
+        >>> len(Script.of(two, []).octets())
+        116
+        """
         return octets_of(self.text())
 
     @staticmethod
     def of_octets(octets: bytes) -> Script:
         """The script of an input's octets, which in comments may be any. A comment that begins with `#=` is what the event before it is
-        expected to print."""
+        expected to print.
+
+        >>> Script.of_octets(two.toml().encode() + b"%\\ncalm 1\\n#=\\n").entries[0].expected
+        ()
+        """
         given = Input(octets)
         if given.marker is None:
             raise BadLine("no line is `%`, which separates the topology from the script")
@@ -85,7 +111,11 @@ class Script:
 
     @staticmethod
     def read(text: str) -> Script:
-        """The script of an input."""
+        """The script of an input.
+
+        >>> Script.read(two.toml() + "%\\ncalm 1\\n").entries[0].number
+        13
+        """
         return Script.of_octets(octets_of(text))
 
 
