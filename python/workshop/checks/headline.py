@@ -28,17 +28,9 @@ from dorydate.model.chance.worlds import Script, some_world
 from dorydate.model.imp_state import NUMBERS, Numbers
 from dorydate.model.runs import Place
 from dorydate.model.topology import network_of
-from dorydate.model.without import LACKING, broken, opened_without, read_line
+from dorydate.model.without import HARMLESS, LACKING, broken, opened_without, read_line
 from dorydate.model.world import World
 from workshop.parts import ROOT
-
-HARMLESS = [
-    "an RRP before that RFNM is remembered",
-    "a request whose link a sending end has is refused",
-    "ALL adds to the counters",
-    "a receiver subtracts what was returned",
-]
-
 
 def numbers_of(words: str | None) -> Numbers:
     """How many numbers there are and the window, as words say it; those of the program where there are no words."""
