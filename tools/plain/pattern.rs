@@ -172,6 +172,11 @@ impl Pattern {
         self.sequels.iter().any(|it| it.is_about(head.as_bytes()))
     }
 
+    /// Whether it asks for nothing.
+    pub fn is_empty(&self) -> bool {
+        self.sequels.is_empty() && self.calm.rounds == 0
+    }
+
     /// Where it begins.
     pub fn start(&self) -> Reached {
         Reached { states: vec![vec![(0, Names::new())]; self.sequels.len()], arrived: BTreeSet::new() }

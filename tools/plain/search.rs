@@ -5,6 +5,7 @@
 //! first. A state that is followed is made anew by its events, from the one before it in the list as far as both have the same ones.
 
 use crate::boxes::Boxes;
+use crate::carrier::Carrier;
 use crate::hash::hash_of;
 use crate::pattern::{Pattern, Reached};
 use crate::place::{Hosts, Place, Raw, ROUNDS};
@@ -14,7 +15,6 @@ use crate::spelling::Spell;
 use crate::subnet::Subnet;
 use crate::topology::Topology;
 use crate::world::World;
-use crate::carrier::Carrier;
 use std::collections::{BTreeMap, HashSet};
 use std::hash::{BuildHasherDefault, Hasher};
 use std::time::{Duration, Instant};
@@ -63,7 +63,12 @@ pub fn run(words: &[String], input: &[u8]) -> Result<(), String> {
     let [document, opening, events, pattern] = parts[..] else { return Err("the input has not four parts".into()) };
     let topology = Topology::read(document.as_bytes()).ok_or("bad topology")?;
     let read = |part: &str| script::read(part.as_bytes(), topology.is_raw).map_err(|line| format!("bad script line {line}"));
-    let asked = Asked { opening: read(opening)?, events: read(events)?, lines: lines_of(events), pattern: Pattern::read(pattern).ok_or("bad pattern")? };
+    let asked = Asked {
+        opening: read(opening)?,
+        events: read(events)?,
+        lines: lines_of(events),
+        pattern: Pattern::read(pattern).ok_or("bad pattern")?,
+    };
     if topology.is_plain {
         over(Boxes::new(topology.hosts()), topology.is_raw, asked, options)
     } else {
@@ -206,7 +211,12 @@ impl<'a> Search<'a> {
             level = begun..self.nodes.len();
             let is_whole = if end.is_none() { "depth" } else { "part" };
             let (new, states, seconds) = (level.len(), self.nodes.len(), self.begun.elapsed().as_secs_f64());
-            println!("{is_whole} {depth} {} {} {new} {states} {seconds:.3} {}", self.steps - steps, self.refused - refused, self.spelled);
+            println!(
+                "{is_whole} {depth} {} {} {new} {states} {seconds:.3} {}",
+                self.steps - steps,
+                self.refused - refused,
+                self.spelled
+            );
             if let Some(end) = end {
                 return Ok(end);
             }
@@ -317,6 +327,9 @@ impl<'a> Search<'a> {
     /// Whether a pattern is met in a state, after its last calm and with its lives.
     fn is_met<P: Place>(&mut self, reach: &Reach<P>) -> bool {
         let pattern = &self.asked.pattern;
+        if pattern.is_empty() {
+            return false;
+        }
         if pattern.calm.rounds == 0 && !pattern.is_about("life") {
             return pattern.is_met(&reach.reached);
         }

@@ -198,7 +198,7 @@ class Lists:
         """The first of some lists that matches."""
         rounds = [*calms_of(some[0][0]), 0]
         parts = [split(self.many, copy, script) for copy, (script, _) in enumerate(some)]
-        empty = [[[]] * len(rounds)] * (self.many.copies - len(parts))
+        empty: list[list[list[str]]] = [[[]] * len(rounds)] * (self.many.copies - len(parts))
         results = self.many.run([*parts, *empty], rounds, self.pattern.calm.rounds, self.pattern.needs_lives())
         return next((script for (_, script), it in zip(some, results) if self.pattern.match(it.lines, it.last) is not None), None)
 

@@ -16,13 +16,15 @@ from dorydate import ending
 from dorydate.expect import expected
 from dorydate.explore import breadth, fast, lockup, without
 from dorydate.explore.breadth import Asked
-from dorydate.explore.cores import available
+from dorydate.explore.campaign import BadTable, Campaign
+from dorydate.explore.engine import Cluster, Local, NoCluster, OtherProgram, Workers, available, batches_of, hash_of
 from dorydate.explore.kinds import Pools, chosen, fit, pools
 from dorydate.explore.many import CannotRun
 from dorydate.explore.named import SEARCHES
 from dorydate.explore.pattern import BadPattern, Pattern, read
-from dorydate.explore.search import MATCHES, NotKept, Progress, Search
+from dorydate.explore.search import MATCHES, Job, NotKept, Progress, Search
 from dorydate.explore.shrink import Script as Found
+from dorydate.explore.state import OtherState, State
 from dorydate.network import BadNetwork, Network
 from dorydate.program import NoProgram, Program, TookTooLong, found
 from dorydate.script import BadLine, Calm, Script, octets_of
@@ -34,6 +36,13 @@ FOUND, NOT_FOUND, WRONG = 0, 1, 2  # exit statuses; with --never the first two a
 
 class Wrong(Exception):
     """What is wrong with the words of the command."""
+
+
+# what is told in one line
+WRONGS = (
+    *(NotKept, fast.NotConfirmed, Wrong, BadPattern, BadNetwork, BadLine, BadTrace, CannotRun, NoProgram, TookTooLong),
+    *(NoCluster, OtherProgram, OtherState, BadTable),
+)
 
 
 def parser() -> argparse.ArgumentParser:
@@ -51,6 +60,10 @@ def parser() -> argparse.ArgumentParser:
     made.add_argument("--seed", type=int, default=1)
     made.add_argument("--matches", type=int, default=MATCHES, help="matches to shrink; the shortest is printed")
     made.add_argument("--cores", type=int, default=available(), help="processes that look at schedules; what is found for a seed is the same for any number of them")
+    made.add_argument("--cluster", metavar="tcp://HOST:PORT", help="workers of a cluster of dask.distributed look at schedules")
+    made.add_argument("--state", metavar="FILE", help="keep there how far the search has come, and go on from there")
+    made.add_argument("--campaign", metavar="TABLE", help="a search for each row and seed of a table (CSV); --out has the results")
+    made.add_argument("--out", metavar="FILE", help="where the results of a campaign go: FILE.csv or FILE.json")
     made.add_argument("--audit", action="store_true", help="give the log of each schedule to the proved audit")
     made.add_argument("--all", type=int, metavar="EVENTS", help="look at every list of at most EVENTS events, from the shortest, state by state")
     made.add_argument("--from", dest="opening", metavar="FILE", help="a script with which each list of --all or --fast begins; it names the network")
@@ -113,12 +126,12 @@ SELDOM = 10  # where nobody watches, one line of progress of these is written
 class Shown:
     """Writes the line of progress: over the one before on a terminal, and more seldom elsewhere."""
 
-    def __init__(self, pattern: Pattern) -> None:
-        self.pattern, self.count = pattern, 0
+    def __init__(self, pattern: Pattern, runs: int, name: str = "") -> None:
+        self.pattern, self.runs, self.name, self.count = pattern, runs, name, 0
 
     def __call__(self, progress: Progress) -> None:
         self.count += 1
-        line = f"explore: {progress.line(self.pattern.length())}"
+        line = f"explore: {self.name}{progress.line(self.pattern.length(), self.runs)}"
         if sys.stderr.isatty():
             print(f"\r{line}\033[K", end="", file=sys.stderr, flush=True)
         elif self.count % SELDOM == 0:
@@ -148,14 +161,44 @@ def print_list() -> int:
     return FOUND
 
 
+def workers_of(words: argparse.Namespace, program: Program) -> Workers | None:
+    """Who looks at schedules; None where this process does so itself."""
+    if words.cluster:
+        return Cluster(words.cluster)
+    return Local(words.cores, program) if words.cores > 1 else None
+
+
 def searched(words: argparse.Namespace, program: Program) -> int:
     """A search by random schedules."""
     network, pattern = network_of(words), pattern_of(words)
-    search = Search(network, pattern, program, words.seed, pools_of(words, network), audits=words.audit)
-    best = search.run(words.runs, words.seconds, words.matches, None if words.quiet else Shown(pattern), words.cores)
+    kinds = tuple(words.kinds or (SEARCHES[words.name].kinds if words.name in SEARCHES else ()))
+    pools_of(words, network)
+    job = Job(network.toml(), pattern.text, kinds, words.seed, words.audit)
+    state = State(words.state, hash_of(program.path)) if words.state else None
+    search = job.search(program)
+    search.progress = (state.resumed("", job) if state else None) or search.progress
+    workers = workers_of(words, program)
+    try:
+        batches = batches_of(job, program, workers, search.progress.next)
+        keep = (lambda progress: state.keep("", job, progress)) if state else None
+        search.run(words.runs, words.seconds, words.matches, None if words.quiet else Shown(pattern, words.runs), batches, keep)
+    except WRONGS:
+        if search.progress.best is not None:
+            print(written(network, pattern, search.progress.best, program), end="")
+        raise
+    finally:
+        if state:
+            state.keep("", job, search.progress, True)
+        if workers:
+            workers.close()
     if sys.stderr.isatty() and not words.quiet:
         print(file=sys.stderr)
-    progress = search.progress
+    return told(words, network, pattern, search.progress, program)
+
+
+def told(words: argparse.Namespace, network: Network, pattern: Pattern, progress: Progress, program: Program) -> int:
+    """Prints what a search found."""
+    best = progress.best
     print(f"explore: {progress.line(pattern.length())}, in {progress.seconds():.1f} s", file=sys.stderr)
     if best is None:
         print("explore: nothing found", file=sys.stderr)
@@ -166,6 +209,26 @@ def searched(words: argparse.Namespace, program: Program) -> int:
     if words.save:
         saved(words.save, text, program)
     return NOT_FOUND if words.never else FOUND
+
+
+def campaigned(words: argparse.Namespace, program: Program) -> int:
+    """The searches of a table."""
+    if not words.out:
+        raise Wrong("--campaign needs --out FILE.csv or FILE.json")
+    try:
+        table = Path(words.campaign).read_text(encoding="utf-8")
+    except (OSError, UnicodeDecodeError) as fault:
+        raise Wrong(f"{words.campaign}: {getattr(fault, 'strerror', None) or 'is no text'}") from None
+    campaign = Campaign.read(table, words.out)
+    state = State(words.state, hash_of(program.path)) if words.state else None
+    workers = workers_of(words, program)
+    try:
+        return FOUND if campaign.run(program, workers, state, not words.quiet) else NOT_FOUND
+    finally:
+        if state:
+            state.write()
+        if workers:
+            workers.close()
 
 
 def asked_of(words: argparse.Namespace, pattern: Pattern, calms: Sequence[int]) -> Asked:
@@ -228,10 +291,12 @@ def chose(words: argparse.Namespace) -> int:
     if words.rules:
         return without.print_rules()
     if words.without:
-        return without.command(words.without, words.seed, words.seconds, words.runs)
+        return without.command(words.without, words.seed, words.seconds, words.runs, words.save)
     program = found()
     if words.name == "lockup":
         return lockup.command(program, words.seed, words.seconds)
+    if words.campaign:
+        return campaigned(words, program)
     if words.fast or words.rest:
         return found_fast(words, program)
     if words.all is not None:
@@ -246,7 +311,7 @@ def main(options: Sequence[str] | None = None) -> int:
     words = parser().parse_args(options)
     try:
         return chose(words)
-    except (NotKept, fast.NotConfirmed, Wrong, BadPattern, BadNetwork, BadLine, BadTrace, CannotRun, NoProgram, TookTooLong) as why:
+    except WRONGS as why:
         print(f"explore: {why}", file=sys.stderr)
         return WRONG
     except BrokenPipeError:

@@ -137,8 +137,8 @@ class Answer:
         """Takes a line of the plain program; a level if it says one."""
         kind, _, rest = line.partition(" ")
         if kind in ("depth", "part"):
-            *counts, seconds, octets = rest.split(" ")
-            level = Level(*map(int, counts), float(seconds), int(octets))
+            depth, steps, refused, new, states, seconds, octets = rest.split(" ")
+            level = Level(int(depth), int(steps), int(refused), int(new), int(states), float(seconds), int(octets))
             self.levels.append(level)
             if kind == "depth":
                 self.whole, self.is_all = level.depth, not level.new
