@@ -337,8 +337,8 @@ module _ (hosts : List Host) (given : Together hosts) where
   all_apart crossings [] h = tt
   all_apart crossings (p ∷ ps) h = (after_apart crossings p ps h.0, all_apart crossings ps h.1)
 
-  pub linked : (ms : List Moment) → Lawful hosts ms → LinkedBook (crossings_of ms) (lives_in ms)
-  linked ms l =
+  pub linked_book : (ms : List Moment) → Lawful hosts ms → LinkedBook (crossings_of ms) (lives_in ms)
+  linked_book ms l =
       let g : Good ms = good ms l in
       record { links = g.links; all = g.all; first = λ p there. (each_in (Tracked ms) g.links p there g.tracked).first; apart = all_apart (crossings_of ms) g.links g.apart; sent = g.sent }
 

@@ -60,7 +60,7 @@ none_off (c ∷ log) place m z (inl i) off = let on : (m.flow.link.0 == 0) ≡ t
 none_off (c ∷ log) place m z (inr i) off = none_off log place m z.1 i off
 
 rest_on : Each OnZero (drop 2 sent_log)
-rest_on = (tt, tt, refl, tt, tt, tt, refl, tt, refl, tt, tt, refl, tt, tt, refl, tt)
+rest_on = (tt, (tt, (refl, (tt, (tt, (tt, (refl, (tt, (refl, (tt, (tt, (refl, (tt, (tt, (refl, tt)))))))))))))))
 
 its : IsSentIn sent_log 15 eight_sent gave
 its = record {

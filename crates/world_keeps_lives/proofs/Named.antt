@@ -89,10 +89,10 @@ names_at own foreign n (Legal c ∷ orders) zero less is =
       is = ap (λ (d : Command). option_or (named_by own foreign d) (named_in own foreign orders)) same ∙ ap (λ (o : Option ℕ). option_or o (named_in own foreign orders)) (named_again own foreign n);
       there = subst (λ (d : Command). Contains (Legal c ∷ orders) (Legal d)) same (first_of (Legal c) orders);
     }
-names_at own foreign n (Legal c ∷ orders) (suc i) less is = by (named_by own foreign c) refl where
-  by : (o : Option ℕ) → named_by own foreign c ≡ o → Names own foreign (Legal c ∷ orders)
-  by None e = later_names own foreign (Legal c) orders (ap (λ (o : Option ℕ). option_or o (named_in own foreign orders)) e) (names_at own foreign n orders i (omega (arith, less)) is)
-  by (Some k) e = record {
+names_at own foreign n (Legal c ∷ orders) (suc i) less is = by (named_by own foreign c) refl (names_at own foreign n orders i (omega (arith, less)) is) where
+  by : (o : Option ℕ) → named_by own foreign c ≡ o → Names own foreign orders → Names own foreign (Legal c ∷ orders)
+  by None e rest = later_names own foreign (Legal c) orders (ap (λ (o : Option ℕ). option_or o (named_in own foreign orders)) e) rest
+  by (Some k) e rest = record {
     named = k;
     is = ap (λ (o : Option ℕ). option_or o (named_in own foreign orders)) e;
     there = subst (λ (d : Command). Contains (Legal c ∷ orders) (Legal d)) (named_is own foreign k c e) (first_of (Legal c) orders);

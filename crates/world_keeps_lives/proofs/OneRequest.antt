@@ -21,7 +21,7 @@ use Rattle.host_pairs.specs.Parcels.{Parcel, link_of, next_of}
 use Rattle.host_pairs.specs.declared.entry.Entry.{Entry}
 use Rattle.host_pairs.proofs.lemmas.{what_goes}
 use Rattle.host_keeps_ranges.proofs.lemmas.{offer_read}
-use Rattle.host_keeps_ranges.specs.Ranges.{IsReadBack, commands_of}
+use Rattle.host_keeps_ranges.specs.Ranges.{IsReadBack}
 use Rattle.sockets.specs.Pairs.{pair_with}
 use Rattle.sockets.specs.Sending.{message_for, next_in}
 use Rattle.sockets.proofs.lemmas.{next_is, next_pair}
@@ -117,10 +117,10 @@ text_in (mail.Taken place text) = text
 
 waits_out : (f : Flow) (p : ℕ) (text : List Bool) (log : List Crossing) → mail.box_of f log ≡ mail.Waiting p text → WentOut f text log
 waits_out f p text [] is = absurd (let none : mail.Empty ≡ mail.Waiting p text = is in cc)
-waits_out f p text (crossing.Out m ∷ log) is = by (same_flow f m.flow) refl is where
-  by : (v : Bool) → same_flow f m.flow ≡ v → (if v then mail.Waiting (length log) m.text else mail.box_of f log) ≡ mail.Waiting p text → WentOut f text (crossing.Out m ∷ log)
-  by true e w = record { message = m; place = length log; crossed = inl (refl, refl); flow = sym (same_flow-true f m.flow e); same = ap text_in w }
-  by false e w = more_out f text (crossing.Out m) log (waits_out f p text log w)
+waits_out f p text (crossing.Out m ∷ log) is = by (same_flow f m.flow) refl is (λ w. waits_out f p text log w) where
+  by : (v : Bool) → same_flow f m.flow ≡ v → (if v then mail.Waiting (length log) m.text else mail.box_of f log) ≡ mail.Waiting p text → (mail.box_of f log ≡ mail.Waiting p text → WentOut f text log) → WentOut f text (crossing.Out m ∷ log)
+  by true e w rest = record { message = m; place = length log; crossed = inl (refl, refl); flow = sym (same_flow-true f m.flow e); same = ap text_in w }
+  by false e w rest = more_out f text (crossing.Out m) log (rest w)
 waits_out f p text (crossing.In m ∷ log) is = more_out f text (crossing.In m) log (waits_out f p text log (fetched_waits (mail.box_of f log) p text (same_flow f m.flow) is))
 waits_out f p text (crossing.Answer kind g ∷ log) is = more_out f text (crossing.Answer kind g) log (waits_out f p text log (cleared_waits (mail.box_of f log) p text (same_flow f g) is))
 waits_out f p text (crossing.Down h ∷ log) is = more_out f text (crossing.Down h) log (waits_out f p text log is)

@@ -3,7 +3,7 @@ pub use Rattle.world_keeps_lives.proofs.Books.{all_told_append}
 pub use Rattle.world_keeps_lives.proofs.Desks.{AreAside, At, Elsewhere, IsLess, Near, Place, at_aside, clash, open_mine, open_parts}
 pub use Rattle.world_keeps_lives.proofs.Drained.{drained, world_drained}
 pub use Rattle.world_keeps_lives.proofs.Ends.{IsRefusing, found_changed, none_changed, refusing_found}
-pub use Rattle.world_keeps_lives.proofs.FirstBooks.{WasAt, linked, linked_end, was_or_begins}
+pub use Rattle.world_keeps_lives.proofs.FirstBooks.{WasAt, linked_book, linked_end, was_or_begins}
 pub use Rattle.world_keeps_lives.proofs.FirstEnds.{HasOwner, Together}
 pub use Rattle.world_keeps_lives.proofs.Formed.{first_book, formed_book}
 pub use Rattle.world_keeps_lives.proofs.Goes.{IsOfTwo, Waits, all_go, unasked_by}

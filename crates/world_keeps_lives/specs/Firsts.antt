@@ -1,6 +1,6 @@
 -- What the messages that went out say of all lives: each is one of a sending life, and of lives on one link one comes after the other (NIC 8246, messages of
 -- data). Which messages those of one life are, `Formed` of `promise` says.
-use Rattle.std.specs.Prelude.{◌≡◌, ◌⊎◌, ℕ, ◌≤◌, ◌<◌, ◌==◌, max, false, List, [], ◌∷◌, length, option_map, Option, Some}
+use Rattle.std.specs.Prelude.{◌≡◌, ◌⊎◌, ℕ, ◌≤◌, ◌<◌, ◌==◌, max, Bool, false, List, [], ◌∷◌, length, option_map, Option, Some}
 use Rattle.std.specs.List.{Contains}
 use Rattle.interface.specs.declared.address.Flow.{Flow}
 use Rattle.interface.specs.declared.crossing.Crossing.{Crossing}

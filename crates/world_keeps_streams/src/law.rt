@@ -83,9 +83,10 @@ pub fn lives()
     // so an orderly close loses nothing: such a life took all that its partner sent, and all that was handed over there
     ensures whole { LivesWhole }
 
-    // the messages of each life are the first on its link after both of its requests, and each message that goes out is one of a sending life: so crossings
-    // determine the bits of all lives
+    // each life is made of the first messages on its link after both of its requests, as many as it counts
     ensures formed { LivesFormed }
+
+    // and each message that goes out is one of a sending life
     ensures firsts { LivesFirsts }
 
     // data that are taken where they come for a receiving life whose end is open, or that no user of its host has closed, arrive there, all of them

@@ -76,7 +76,7 @@ module _ (hosts : List Host) where
 
   -- each life with its link
   pub linked : (ms : List Moment) → Lawful hosts ms → LinkedBook (crossings_of ms) (lives_in ms)
-  linked ms l = books.linked hosts together ms l
+  linked ms l = books.linked_book hosts together ms l
 
   pub formed : (ms : List Moment) → Lawful hosts ms → FormedBook (crossings_of ms) (lives_in ms)
   formed ms l = books.formed_book hosts ms l (linked ms l)
