@@ -26,13 +26,11 @@ pub data Cause : Type 0 where
   Stopped : Cause
   Closed : (own_first : Bool) → Cause
 
--- first some of its two requests have crossed, and it begins with the second of them. Then some of its two CLS have crossed, until it is over, at a place. It
--- never begins if a CLS crosses between its requests, if its connections are dropped there, or if its host stops
+-- first some of its two requests have crossed, and it begins with the second of them. Then some of its two CLS have crossed, until it is over, at a place
 pub data Stage : Type 0 where
   Asking : (own partner : Bool) → Stage
   Going : (own partner : Bool) → Stage
   Over : (cause : Cause) → (place : ℕ) → Stage
-  Never : Stage
 
 -- its own request crosses, or its partner's
 abbrev pub own_asked : Stage → Stage
@@ -43,26 +41,35 @@ abbrev pub partner_asked : Stage → Stage
 partner_asked (Asking own partner) = if own then Going false false else Asking false true
 partner_asked s = s
 
--- what would end a life crosses before it begins
-abbrev pub ended_early : Bool → Bool → Stage
-ended_early own partner = if own || partner then Never else Asking own partner
-
 -- its own CLS crosses, or its partner's: the second of the two ends it
 abbrev pub own_closed : ℕ → Stage → Stage
-own_closed place (Asking own partner) = ended_early own partner
 own_closed place (Going own partner) = if partner then Over (Closed false) place else Going true false
 own_closed place s = s
 
 abbrev pub partner_closed : ℕ → Stage → Stage
-partner_closed place (Asking own partner) = ended_early own partner
 partner_closed place (Going own partner) = if own then Over (Closed true) place else Going false true
 partner_closed place s = s
 
 -- its connections are dropped, or its host stops
 abbrev pub cut : Cause → ℕ → Stage → Stage
-cut cause place (Asking own partner) = ended_early own partner
 cut cause place (Going own partner) = Over cause place
 cut cause place s = s
+
+-- one of its requests has crossed, and the other hasn't
+abbrev pub is_half : Stage → Bool
+is_half (Asking own partner) = own || partner
+is_half s = false
+
+-- its stage; whether its host owes its peer an RRP, as it does from an RST that it takes until an RRP goes out or it stops; and whether a CLS, a reset or a stop
+-- came between its requests
+pub record Course : Type 0 where
+  pub stage : Stage
+  pub owes : Bool
+  pub early : Bool
+
+-- a CLS, a reset or a stop comes
+abbrev pub ended_by : (Stage → Stage) → Course → Course
+ended_by change k = record k { stage = change k.stage; early = k.early || is_half k.stage }
 
 -- ---- commands
 
@@ -77,32 +84,27 @@ closes own foreign (command.Cls mine yours) = mine == own && yours == foreign
 closes own foreign c = false
 
 -- its host sends a command of its connections, at a place: its own request is the first of its sockets at its own stamp
-abbrev pub own_step : Life → ℕ → Command → Stage → Stage
-own_step x place c s =
-    if asks_for x.socket x.foreign c && place == x.own_stamp then own_asked s
-    else (if closes x.socket x.foreign c then own_closed place s else s)
+abbrev pub own_step : Life → ℕ → Command → Course → Course
+own_step x place c k =
+    if asks_for x.socket x.foreign c && place == x.own_stamp then record k { stage = own_asked k.stage }
+    else (if closes x.socket x.foreign c then ended_by (own_closed place) k else k)
 
 -- it takes one of its peer's
-abbrev pub partner_step : Life → ℕ → Command → Stage → Stage
-partner_step x place c s =
-    if asks_for x.foreign x.socket c && place == x.partner_stamp then partner_asked s
-    else (if closes x.foreign x.socket c then partner_closed place s else s)
-
--- how far a life is, and whether its host owes its peer an RRP, as it does from an RST that it takes until an RRP goes out or it stops
-pub record Course : Type 0 where
-  pub stage : Stage
-  pub owes : Bool
+abbrev pub partner_step : Life → ℕ → Command → Course → Course
+partner_step x place c k =
+    if asks_for x.foreign x.socket c && place == x.partner_stamp then record k { stage = partner_asked k.stage }
+    else (if closes x.foreign x.socket c then ended_by (partner_closed place) k else k)
 
 -- RST goes out, or an RRP that isn't owed: all connections with the peer are dropped
 abbrev pub said : Life → ℕ → Command → Course → Course
-said x place command.Rst k = record k { stage = cut Dropped place k.stage }
-said x place command.Rrp k = record { stage = if k.owes then k.stage else cut Dropped place k.stage; owes = false }
-said x place c k = record k { stage = own_step x place c k.stage }
+said x place command.Rst k = ended_by (cut Dropped place) k
+said x place command.Rrp k = record (if k.owes then k else ended_by (cut Dropped place) k) { owes = false }
+said x place c k = own_step x place c k
 
 -- so they are where an RST is taken. An RRP that is taken drops nothing
 abbrev pub heard : Life → ℕ → Command → Course → Course
-heard x place command.Rst k = record { stage = cut Dropped place k.stage; owes = true }
-heard x place c k = record k { stage = partner_step x place c k.stage }
+heard x place command.Rst k = record (ended_by (cut Dropped place) k) { owes = true }
+heard x place c k = partner_step x place c k
 
 -- the commands of a text, one after another; an error says nothing
 abbrev pub each : (Command → Course → Course) → List Order → Course → Course
@@ -121,8 +123,8 @@ abbrev pub crosses : Life → ℕ → Crossing → Course → Course
 crosses x place (crossing.Out m) k = if same_flow (control_flow x.host x.peer) m.flow then each (said x place) (orders_of m.text) k else k
 crosses x place (crossing.In m) k = if same_flow (control_flow x.peer x.host) m.flow then each (heard x place) (orders_of m.text) k else k
 crosses x place (crossing.Answer kind f) k =
-    if fails kind && (same_host x.host f.source && same_host x.peer f.destination) && not k.owes then record k { stage = cut Dropped place k.stage } else k
-crosses x place (crossing.Down h) k = if same_host x.host h then record { stage = cut Stopped place k.stage; owes = false } else k
+    if fails kind && (same_host x.host f.source && same_host x.peer f.destination) && not k.owes then ended_by (cut Dropped place) k else k
+crosses x place (crossing.Down h) k = if same_host x.host h then record (ended_by (cut Stopped place) k) { owes = false } else k
 crosses x place (crossing.Up h) k = k
 
 -- a contact of a life's host with its peer, when this many crossings had been
@@ -131,11 +133,11 @@ is_contact h peer place c = same_host h c.host && same_host peer c.peer && c.pla
 
 -- it drops all connections with the peer
 abbrev pub called : List Called → Life → ℕ → Course → Course
-called contacts x place k = if list_any (is_contact x.host x.peer place) contacts then record k { stage = cut Dropped place k.stage } else k
+called contacts x place k = if list_any (is_contact x.host x.peer place) contacts then ended_by (cut Dropped place) k else k
 
 -- after these crossings, newest first, with the contacts between them
 abbrev pub course : List Called → Life → List Crossing → Course
-course contacts x [] = called contacts x 0 (record { stage = Asking false false; owes = false })
+course contacts x [] = called contacts x 0 (record { stage = Asking false false; owes = false; early = false })
 course contacts x (c ∷ log) = called contacts x (length (c ∷ log)) (crosses x (length log) c (course contacts x log))
 
 abbrev pub stage : List Called → Life → List Crossing → Stage
@@ -153,9 +155,13 @@ Leaves (Over (Closed own_first) place) fate.Closed = Unit {0}
 Leaves (Over (Closed own_first) place) fate.Ended = own_first ≡ false
 Leaves s f = ⊥
 
--- each life has a fate that its stage leaves
+-- a life begins where nothing ends it between its two requests, and has a fate that its stage leaves
+pub record IsLeft (contacts : List Called) (log : List Crossing) (x : Life) (f : Fate) : Type 0 where
+  pub begins : (course contacts x log).early ≡ false
+  pub fate : Leaves (stage contacts x log) f
+
 abbrev pub AreLeft : List Called → List Crossing → List Life → List Fate → Type 0
-AreLeft contacts log lives fates = (x : Life) (f : Fate) → IsBeside x f lives fates → Leaves (stage contacts x log) f
+AreLeft contacts log lives fates = (x : Life) (f : Fate) → IsBeside x f lives fates → IsLeft contacts log x f
 
 -- ---- a log, in which contacts don't cross
 
