@@ -60,7 +60,7 @@ abbrev pub is_half : Stage → Bool
 is_half (Asking own partner) = own || partner
 is_half s = false
 
--- its stage; whether its host owes its peer an RRP, as it does from an RST that it takes until an RRP goes out or it stops; and whether a CLS, a reset or a stop
+-- its stage; whether its host owes its peer an RRP, as it does from an RST that it takes until an RRP goes out, and not where it stops or starts; and whether a CLS, a reset or a stop
 -- came between its requests
 pub record Course : Type 0 where
   pub stage : Stage
@@ -118,14 +118,14 @@ abbrev pub fails : Answer → Bool
 fails answer.Rfnm = false
 fails a = true
 
--- what crosses at a place. A message to the peer that fails drops all connections with it, unless an RRP is owed
+-- what crosses at a place. A message to the peer that fails drops all connections with it, unless an RRP is owed. A host that stops or starts owes none
 abbrev pub crosses : Life → ℕ → Crossing → Course → Course
 crosses x place (crossing.Out m) k = if same_flow (control_flow x.host x.peer) m.flow then each (said x place) (orders_of m.text) k else k
 crosses x place (crossing.In m) k = if same_flow (control_flow x.peer x.host) m.flow then each (heard x place) (orders_of m.text) k else k
 crosses x place (crossing.Answer kind f) k =
     if fails kind && (same_host x.host f.source && same_host x.peer f.destination) && not k.owes then ended_by (cut Dropped place) k else k
 crosses x place (crossing.Down h) k = if same_host x.host h then record (ended_by (cut Stopped place) k) { owes = false } else k
-crosses x place (crossing.Up h) k = k
+crosses x place (crossing.Up h) k = if same_host x.host h then record k { owes = false } else k
 
 -- a contact of a life's host with its peer, when this many crossings had been
 abbrev pub is_contact : Host → Host → ℕ → Called → Bool
