@@ -36,7 +36,7 @@ REQUESTS = [  # what host 0/1 says in the place of its request, and the verdict
     (RTS, "kept"),
     (f"00{RTS}", "kept"),
     (RTS + RTS_6, "kept"),
-    (RTS_6 + RTS, "kept"),
+    (RTS_6 + RTS, "broken lives line 10"),
     (f"01000000100000002101{RTS}", "kept"),
     (RTS_6, "broken lives line 10"),
     ("01000000100000002120", "broken lives line 10"),
