@@ -1,7 +1,7 @@
 pub mod SameText
 pub mod Mailboxes
 pub mod Named
-pub mod Matched
+pub mod Texts
 pub mod Made
 pub mod Elements
 pub mod Placed
@@ -12,7 +12,7 @@ pub mod Fed
 pub mod Shown
 pub mod Peace
 pub mod Lost
-pub mod Steps
 pub mod Taken
+pub mod Joined
 pub mod Worked
 pub mod lemmas

@@ -1,17 +1,12 @@
 -- The map that a list of places by key makes.
 use Rattle.std.proofs.Common.{◌≡◌, ℕ, ◌+◌, ◌<◌, ◌≤◌, Bool, true, false, List, [], ◌∷◌, ◌⊎◌, inl, inr, Option, Some, None, refl, ap, sym, subst, ◌∙◌, cond, arith}
 use Rattle.std.specs.Map.{lookup}
-use Rattle.std.specs.BTreeMap as tree
-use Rattle.std.specs.BTreeMap.{BTreeMap}
-use Rattle.std.specs.BTreeMap.Range.{IsRangeOf}
-use Rattle.std.specs.declared.ops.Bound.TheVariants.{Included, Unbounded}
 use Rattle.std.specs.BTreeMap.{is_at}
 use Rattle.std.specs.Ordering.{eq_by_cmp, nat_cmp}
 use Rattle.std.specs.Cmp.{eq_by_cmp_equiv, nat_cmp_is, nat_cmp_total}
 use Rattle.std.specs.FinMap.{FinMap, find, from_entries, get, insert, same_map, get-from_entries, get-insert}
 use Rattle.std.proofs.lemmas.Map.Lookups.{exact_unsigned}
-use Rattle.std.specs.Ordering.{is_eq, is_gt}
-use Rattle.std.specs.Prelude.{IsSome}
+use Rattle.std.specs.Ordering.{is_eq}
 use Rattle.std.proofs.lemmas.Bool.{cases_lt}
 use Rattle.std.specs.declared.cmp.Ordering.{Ordering}
 use Rattle.std.specs.declared.cmp.Ordering.TheVariants.{Less, Equal, Greater}
@@ -71,39 +66,3 @@ has_more m n k q (inr h) = elim (set_cases m k n q) [
   | inl s ↦ (n, s.1, omega arith)
   | inr s ↦ (h.0, s.1 ∙ h.1, omega (arith, h.2))
 ]
-
--- ---- the least key from one on
-
-greater : (a b : ℕ) → b < a → nat_cmp a b ≡ Greater
-greater a b l = sym (nat_cmp_is a b Greater l)
-
-le_of : (a b : ℕ) → is_gt (nat_cmp a b) ≡ false → a ≤ b
-le_of a b e = elim (cases_lt b a) [
-  | inl l ↦ (let t : is_gt (nat_cmp a b) ≡ true = ap (λ (o : Ordering). is_gt o) (greater a b l) in absurd (cc))
-  | inr ge ↦ ge
-]
-
-not_gt : (a b : ℕ) → a ≤ b → is_gt (nat_cmp a b) ≡ false
-not_gt a b le = elim (cases_lt a b) [
-  | inl l ↦ ap (λ (o : Ordering). is_gt o) (sym (nat_cmp_is a b Less l))
-  | inr ge ↦ ap (λ (o : Ordering). is_gt o) (sym (nat_cmp_is a b Equal (omega (arith, le, ge))))
-]
-
-pub range_none : (m : BTreeMap ℕ ℕ) (key : ℕ) (r : List (ℕ × ℕ)) → IsRangeOf nat_cmp (Included key) Unbounded m r → r ≡ []
-    → (q : ℕ) → key ≤ q → tree.get nat_cmp m q ≡ None
-range_none m key r is e q le = is.5 e q (not_gt key q le, tt)
-
-none_or : (o : Option ℕ) → (IsSome o → ⊥) → o ≡ None
-none_or None f = refl
-none_or (Some p) f = absurd (f refl)
-
-pub range_some : (m : BTreeMap ℕ ℕ) (key found place : ℕ) (r rest : List (ℕ × ℕ)) → IsRangeOf nat_cmp (Included key) Unbounded m r → r ≡ (found, place) ∷ rest
-    → (key ≤ found) × (tree.get nat_cmp m found ≡ Some place) × ((q : ℕ) → key ≤ q → q < found → tree.get nat_cmp m q ≡ None)
-range_some m key found place r rest is e =
-    let P : List (ℕ × ℕ) → Type 0 = λ z. IsRangeOf nat_cmp (Included key) Unbounded m z in
-    let at : IsRangeOf nat_cmp (Included key) Unbounded m ((found, place) ∷ rest) = subst P e is in (
-      le_of key found at.1.0.0,
-      at.1.1,
-      λ q le lt. none_or (tree.get nat_cmp m q) (λ some.
-          (let low : found ≤ q = le_of found q (at.2 q (not_gt key q le, tt) some) in omega (arith, low, lt))),
-    )

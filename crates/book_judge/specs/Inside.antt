@@ -3,7 +3,7 @@ pub mod Made
 pub mod Asked
 pub mod Partners
 pub mod Chains
-pub mod Crossed
+pub mod Joined
 pub mod Said
 pub mod Taken
 use Rattle.std.specs.Prelude.{ℕ, Bool, true, false, not, ◌&&◌, nat_le, if◌then◌else◌, List, [], ◌∷◌, slice_get, Option, Some, None}

@@ -1,9 +1,10 @@
 //! Whether lists of bits are alike.
 
-ghost use Rattle.std.specs.Prelude.{◌≡◌, MatchBool};
+ghost use Rattle.std.specs.Prelude.{◌≡◌, ◌≤◌, MatchBool, drop, length, take};
 ghost use Rattle.promise.specs.Safe.{IsPrefix};
 
 use crate::data::same_found;
+use bit_messages::Bits;
 use net_sim::BitLog;
 
 /// Returns whether the first list is a prefix of the second.
@@ -26,4 +27,19 @@ pub(crate) fn same_bits(bits: &BitLog, other: &BitLog) -> bool
         return false;
     }
     is_prefix(bits, other)
+}
+
+/// Returns whether the bits of a text from a place on up to another are these.
+pub(crate) fn is_slice(bits: &BitLog, text: &Bits, from: usize, to: usize) -> bool
+    ensures { MatchBool result ((from ≤ to) × (to ≤ length text.now) × (drop from (take to text.now) ≡ bits.now)) ((from ≤ to) × (to ≤ length text.now) × (drop from (take to text.now) ≡ bits.now) → ⊥) }
+{
+    if from > to || to > text.len() || to - from != bits.len() {
+        return false;
+    }
+    for i in 0..bits.len() {
+        if !same_found(text.get(from + i), bits.get(i)) {
+            return false;
+        }
+    }
+    true
 }

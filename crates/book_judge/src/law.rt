@@ -13,14 +13,15 @@ ghost use Rattle.net_sim.specs.declared.auditing.findings.Finding.TheVariants as
 ghost use Rattle.net_sim.specs.Findings.{ShowsLife};
 ghost use Rattle.net_sim.specs.Worked.{eight, four};
 ghost use Rattle.promise.specs.Fates.{ClosesWhole};
+ghost use Rattle.promise.specs.Formed.{FormedBook};
 ghost use Rattle.promise.specs.declared.life.Fate.TheVariants as fate;
 ghost use Rattle.promise.specs.declared.life.Life.{Life};
 ghost use Rattle.world_keeps_lives.specs.WorkedFormed.{gave, sent_log, took};
 ghost use Rattle.book_judge.specs.Broken.{IsBroken, first_closed, only_malformed, unbroken};
-ghost use Rattle.book_judge.specs.Lives.{AreMade, UnmadeAt};
+ghost use Rattle.book_judge.specs.Lives.{UnmadeAt};
 ghost use Rattle.book_judge.specs.Runs.{IsSomeRun, StraysAt};
 
-use world_keeps_lives::law::worked_firsts;
+use world_keeps_lives::law::worked_formed;
 
 /// Logs of one crossing.
 pub fn worked_runs()
@@ -65,11 +66,11 @@ pub fn worked_closes()
 /// Lives of small logs, the newest crossing first.
 pub fn worked_lives()
     // those of a world in which eight bits were sent
-    ensures made { AreMade sent_log (took ∷ gave ∷ []) }
+    ensures made { FormedBook sent_log (took ∷ gave ∷ []) }
 
     // no life is made of nothing
     ensures nothing { (x : Life) → UnmadeAt [] (x ∷ []) 0 }
-    ensures none { AreMade [] [] }
+    ensures none { FormedBook [] [] }
 {
-    worked_firsts();
+    worked_formed();
 }

@@ -1,16 +1,15 @@
 //! Whether lives are made of the messages that crossed.
 
-ghost use Rattle.std.specs.Prelude.{◌≡◌, IfOk, MatchOption, length, reverse};
-ghost use Rattle.std.specs.List.{list_any};
+ghost use Rattle.std.specs.Prelude.{◌≡◌, false, IfOk, MatchBool, MatchOption, reverse, true};
+ghost use Rattle.promise.specs.Formed as formed;
+ghost use Rattle.promise.specs.Formed.{FormedBook, IsFormed};
 ghost use Rattle.promise.specs.Safe as safe;
-ghost use Rattle.book_judge.specs.Inside.Crossed.{ArePlaced};
-ghost use Rattle.book_judge.specs.Inside.Made as tests;
-ghost use Rattle.book_judge.specs.Lives.{AreMade, UnmadeAt};
+ghost use Rattle.book_judge.specs.Inside.Joined.{AreJoined};
+ghost use Rattle.book_judge.specs.Lives.{UnmadeAt};
 
-use crate::crossed::placed;
-use crate::data::{is_first_on, receives, text_of};
-use crate::places::Places;
-use crate::requests::names_in;
+use crate::data::{is_first_on, receives};
+use crate::joined::{Joined, joined, message_of};
+use crate::requests::named_in;
 use interface::{Crossing, Flow, HostAddr, Link};
 use net_sim::Life;
 use std::alloc::{AllocError, Global};
@@ -26,78 +25,67 @@ pub(crate) fn control_flow(source: HostAddr, destination: HostAddr) -> Flow
     }
 }
 
-/// Returns what the requests of two sockets name in the message that crossed on a flow at a place, coming in or going out.
-///
-/// Errors: `AllocError`.
-fn names_at(
-    alloc: Global,
+/// Returns what the first request of two sockets names in the message that crossed on a flow at a place, coming in or going out.
+fn named_at(
     log: &[Crossing],
     comes: bool,
     flow: &Flow,
     own: u32,
     foreign: u32,
     place: usize,
-) -> Result<Vec<u8>, AllocError>
-    ensures { IfOk result (λ names. names.items ≡ tests.named_at comes flow.now own foreign log.now place) }
+) -> Option<u8>
+    ensures { (from to : Host) → flow.now ≡ safe.control_flow from to → result ≡ formed.named_at comes from to own foreign place (reverse log.now) }
 {
-    let Some(crossing) = log.get(place) else {
-        return Ok(Vec::new(alloc));
-    };
-    let Some(text) = text_of(comes, flow, crossing) else {
-        return Ok(Vec::new(alloc));
-    };
-    names_in(alloc, own, foreign, text.bits())
-}
-
-/// Returns whether the messages of a life are the first on one of these links.
-fn is_first_on_any(log: &[Crossing], places: &Places, life: &Life, links: &[u8]) -> bool
-    requires { ArePlaced (length log.now) places.now log.now }
-    ensures { result ≡ list_any (tests.is_first_on log.now life.now) links.now }
-{
-    for link in links {
-        if is_first_on(log, places, life, *link) {
-            return true;
-        }
+    let message = message_of(comes, log.get(place)?)?;
+    if message.flow != *flow {
+        return None;
     }
-    false
+    named_in(own, foreign, message.text.bits())
 }
 
-/// Returns whether a life is made of the messages that crossed.
-///
-/// Errors: `AllocError`.
-fn is_made(
-    alloc: Global,
-    log: &[Crossing],
-    places: &Places,
-    life: &Life,
-) -> Result<bool, AllocError>
-    requires { ArePlaced (length log.now) places.now log.now }
-    ensures { IfOk result (λ made. made ≡ tests.is_made log.now life.now) }
+/// Returns what the own request of a life names.
+fn own_named(log: &[Crossing], life: &Life) -> Option<u8>
+    ensures { result ≡ formed.own_named (reverse log.now) life.now }
 {
     let goes = control_flow(life.host, life.peer);
-    let comes = control_flow(life.peer, life.host);
-    let own = names_at(
-        alloc,
+    named_at(
         log,
         false,
         &goes,
         life.socket,
         life.foreign,
         life.own_stamp,
-    )?;
-    let partner = names_at(
-        alloc,
+    )
+}
+
+/// Returns what the request of a life's partner names.
+fn partner_named(log: &[Crossing], life: &Life) -> Option<u8>
+    ensures { result ≡ formed.partner_named (reverse log.now) life.now }
+{
+    let comes = control_flow(life.peer, life.host);
+    named_at(
         log,
         true,
         &comes,
         life.foreign,
         life.socket,
         life.partner_stamp,
-    )?;
+    )
+}
+
+/// Returns whether a life is made of the messages that crossed. Of those that came in, and of those that went out, the data
+/// are joined.
+fn is_made(log: &[Crossing], into: &Joined, out: &Joined, life: &Life) -> bool
+    requires { AreJoined true log.now into.now × AreJoined false log.now out.now }
+    ensures { MatchBool result (IsFormed (reverse log.now) life.now) (IsFormed (reverse log.now) life.now → ⊥) }
+{
+    let (Some(own), Some(partner)) = (own_named(log, life), partner_named(log, life)) else {
+        return false;
+    };
     if receives(life) {
-        return Ok(!partner.is_empty() && is_first_on_any(log, places, life, &own));
+        return is_first_on(log, into, life, own);
     }
-    Ok(!own.is_empty() && is_first_on_any(log, places, life, &partner))
+    is_first_on(log, out, life, partner)
 }
 
 /// Returns the place of the first life that isn't made of the messages that crossed, counted from 0; `None` where all are. The
@@ -105,6 +93,7 @@ fn is_made(
 ///
 /// The RTS of a life's two requests names its link, and its messages are the first there after both of these, as many as it
 /// counts: what comes in for a receiving life, and what goes out for a sending one (NIC 8246, RTS, STR and messages of data).
+/// The data of each flow are joined once, so the time grows with the log, whatever the lives count.
 ///
 /// Errors: `AllocError`.
 pub fn unmade_at(
@@ -112,11 +101,12 @@ pub fn unmade_at(
     log: &[Crossing],
     lives: &[Life],
 ) -> Result<Option<usize>, AllocError>
-    ensures { IfOk result (λ found. MatchOption found (AreMade (reverse log.now) lives.now) (λ place. UnmadeAt (reverse log.now) lives.now place)) }
+    ensures { IfOk result (λ found. MatchOption found (FormedBook (reverse log.now) lives.now) (λ place. UnmadeAt (reverse log.now) lives.now place)) }
 {
-    let places = placed(alloc, log)?;
+    let into = joined(alloc, log, true)?;
+    let out = joined(alloc, log, false)?;
     for (place, life) in lives.iter().enumerate() {
-        if !is_made(alloc, log, &places, life)? {
+        if !is_made(log, &into, &out, life) {
             return Ok(Some(place));
         }
     }

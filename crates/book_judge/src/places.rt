@@ -1,8 +1,7 @@
 //! A map from keys to places.
 
-ghost use Rattle.std.specs.Prelude.{◌≡◌, MatchOption, OnOk};
+ghost use Rattle.std.specs.Prelude.{◌≡◌, OnOk};
 ghost use Rattle.std.specs.FinMap as map;
-ghost use Rattle.book_judge.specs.Inside.Crossed.{IsFirstFrom, NoneFrom};
 
 use std::alloc::{AllocError, Global};
 use std::collections::BTreeMap;
@@ -42,15 +41,6 @@ impl Places {
         ensures { result ≡ map.get self.now key }
     {
         self.places.get(&key).copied()
-    }
-
-    /// Returns the least key from this one on, and its place.
-    pub(crate) fn first_from(&self, key: u128) -> Option<(u128, usize)>
-        ensures { MatchOption result (NoneFrom self.now key) (λ found. IsFirstFrom self.now key found.0 found.1) }
-    {
-        let mut range = self.places.range(key..);
-        let (found, place) = range.next()?;
-        Some((*found, *place))
     }
 
     /// Puts a key's place in the stead of the one before.

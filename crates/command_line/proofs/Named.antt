@@ -5,7 +5,8 @@ use Rattle.std.specs.Prelude.{◌↔◌}
 use Rattle.std.proofs.lemmas.List.{append_assoc, take-append-drop}
 use Rattle.std.proofs.lemmas.List.Elements.{Contains-append_left}
 use Rattle.book_judge.specs.Broken.{IfFormed, first_closed}
-use Rattle.book_judge.specs.Lives.{AreMade, UnmadeAt}
+use Rattle.book_judge.specs.Lives.{UnmadeAt}
+use Rattle.promise.specs.Formed.{FormedBook}
 use Rattle.book_judge.specs.Runs.{IsSomeRun, StraysAt}
 use Rattle.book_judge.proofs.lemmas.{closed_front, made_front, run_front}
 use Rattle.interface.proofs.lemmas.{safe_messages}
@@ -125,7 +126,7 @@ looked_at (Some at) found A ShowsAt e h = absurd (cc)
 pub run_named : (v : Verdict) (log : List Crossing) (lives : List Life) (handed : List (List Bool)) (fates : List Fate) → Judged v log lives handed fates → (v.stray ≡ None) ↔ IsSomeRun (reverse log)
 run_named v log lives handed fates j = unnamed v.stray (λ place. StraysAt log place) (λ place run at. at.1 (run_front log (place + 1) run)) j.run
 
-pub lives_named : (v : Verdict) (log : List Crossing) (lives : List Life) (handed : List (List Bool)) (fates : List Fate) → Judged v log lives handed fates → (v.unmade ≡ None) ↔ AreMade (reverse log) lives
+pub lives_named : (v : Verdict) (log : List Crossing) (lives : List Life) (handed : List (List Bool)) (fates : List Fate) → Judged v log lives handed fates → (v.unmade ≡ None) ↔ FormedBook (reverse log) lives
 lives_named v log lives handed fates j =
     unnamed v.unmade (λ place. UnmadeAt (reverse log) lives place) (λ place made at. at.1 (made_front (reverse log) lives (place + 1) made)) j.made
 
@@ -162,7 +163,7 @@ closes_named v log lives handed fates j e =
 
 -- ---- nothing is named exactly of a safe book
 
-pub kept_from_safe : (log : List Crossing) (lives : List Life) (handed : List (List Bool)) (fates : List Fate) → IsSomeRun (reverse log) → AreMade (reverse log) lives → Says audit.Kept (reverse log) lives handed
+pub kept_from_safe : (log : List Crossing) (lives : List Life) (handed : List (List Bool)) (fates : List Fate) → IsSomeRun (reverse log) → FormedBook (reverse log) lives → Says audit.Kept (reverse log) lives handed
     → ClosesWhole (reverse log) lives handed fates → Judged kept log lives handed fates
 kept_from_safe log lives handed fates run made safe closes = record {
   run = run;

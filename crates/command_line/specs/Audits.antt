@@ -4,7 +4,8 @@ use Rattle.std.specs.Fmt.{decimal}
 use Rattle.std.specs.Io.KnownBytes.{Appends}
 use Rattle.book_log.specs.Log.{Book, IsBadLine, IsLog, fates_of, lives_of}
 use Rattle.book_judge.specs.Broken.{IfFormed, first_closed}
-use Rattle.book_judge.specs.Lives.{AreMade, UnmadeAt}
+use Rattle.book_judge.specs.Lives.{UnmadeAt}
+use Rattle.promise.specs.Formed.{FormedBook}
 use Rattle.book_judge.specs.Runs.{IsSomeRun, StraysAt}
 use Rattle.interface.specs.Messages.{SafeMessages}
 use Rattle.interface.specs.declared.crossing.Crossing.{Crossing}
@@ -31,7 +32,7 @@ pub record Judged (v : Verdict) (crossings : List Crossing) (lives : List Life) 
   -- what crossed is a run of the mailboxes
   pub run : MatchOption v.stray (IsSomeRun (reverse crossings)) (λ place. StraysAt crossings place)
   -- the lives are made of what crossed
-  pub made : MatchOption v.unmade (AreMade (reverse crossings) lives) (λ place. UnmadeAt (reverse crossings) lives place)
+  pub made : MatchOption v.unmade (FormedBook (reverse crossings) lives) (λ place. UnmadeAt (reverse crossings) lives place)
   -- there is a list for each life, and their stamps name requests
   pub formed : MatchOption v.malformed (IsWellFormed (reverse crossings) lives handed) (λ found. ShowsMalformed found (reverse crossings) lives handed)
   -- the parts of a safe book. That a receiving life matches one sender at most is of partners

@@ -2,7 +2,6 @@
 //! are the laws.
 
 ghost use Rattle.std.specs.Prelude.{◌≡◌, ◌==◌, ◌↔◌, ◌++◌, ℕ, Bool, true, false, List, [], ◌∷◌, Ok, Option, Some, None, reverse};
-ghost use Rattle.book_judge.specs.Lives.{AreMade};
 ghost use Rattle.book_judge.specs.Runs.{IsSomeRun};
 ghost use Rattle.book_log.specs.Log as log;
 ghost use Rattle.host_services.specs.declared.report.Reported.{Reported};
@@ -137,7 +136,7 @@ pub fn logs_are_kept()
 /// closes aren't looked at.
 pub fn named_parts()
     ensures run { (b : log.Book) (v : Verdict) → SaysOf v b → (v.stray ≡ None) ↔ IsSomeRun (reverse b.crossings) }
-    ensures lives { (b : log.Book) (v : Verdict) → SaysOf v b → (v.unmade ≡ None) ↔ AreMade (reverse b.crossings) (log.lives_of b) }
+    ensures lives { (b : log.Book) (v : Verdict) → SaysOf v b → (v.unmade ≡ None) ↔ FormedBook (reverse b.crossings) (log.lives_of b) }
     ensures formed { (b : log.Book) (v : Verdict) → SaysOf v b → (v.malformed ≡ None) ↔ IsWellFormed (reverse b.crossings) (log.lives_of b) b.handed }
     ensures messages { (b : log.Book) (v : Verdict) → SaysOf v b → (v.messages ≡ None) ↔ SafeMessages (reverse b.crossings) }
     ensures partners { (b : log.Book) (v : Verdict) → SaysOf v b → v.malformed ≡ None → (v.partners ≡ None) ↔ SafePartners (reverse b.crossings) (log.lives_of b) }

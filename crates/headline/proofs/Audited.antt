@@ -1,5 +1,5 @@
 -- A book that keeps its promise is well-formed, so its audit is kept.
-use Rattle.std.proofs.Common.{◌≡◌, ℕ, Bool, List, [], ◌∷◌, length, refl, ap, sym, arith, Option, Some, None}
+use Rattle.std.proofs.Common.{◌≡◌, ℕ, Bool, true, false, List, [], ◌∷◌, length, refl, ap, sym, arith, Option, Some, None}
 use Rattle.std.specs.Prelude.{IsSome}
 use Rattle.interface.specs.declared.crossing.Crossing.{Crossing}
 use Rattle.interface.specs.Host.{Host}
@@ -8,8 +8,9 @@ use Rattle.promise.specs.Book.{Book}
 use Rattle.promise.specs.Promised.{Promised}
 use Rattle.net_sim.specs.declared.auditing.said.Audit.TheVariants as said
 use Rattle.promise.specs.declared.life.Life.{Life}
-use Rattle.promise.specs.Formed.{FormedBook}
+use Rattle.promise.specs.Formed.{FormedBook, own_named, partner_named}
 use Rattle.promise.specs.Safe.{AreHanded, SafeBook, before, control_flow, last_out, named}
+use Rattle.world_keeps_lives.proofs.lemmas.{NamedAt, found_at, some_named}
 
 as_long : (lives : List Life) (handed : List (List Bool)) → AreHanded lives handed → length lives ≡ length handed
 as_long [] handed h = ap (λ (xs : List (List Bool)). length xs) (sym h)
@@ -24,10 +25,13 @@ well_formed : (log : List Crossing) (lives : List Life) (handed : List (List Boo
 well_formed log lives handed f s = record {
   counts = as_long lives handed s.streams.sent;
   stamped = λ x c.
-      (let t = f x c in
+      (let own = some_named (own_named log x) (f x c).own in
+      let partner = some_named (partner_named log x) (f x c).partner in
+      let went : NamedAt false x.host x.peer x.socket x.foreign x.own_stamp own.0 log = found_at false x.host x.peer x.socket x.foreign x.own_stamp own.0 log own.1 in
+      let came : NamedAt true x.peer x.host x.foreign x.socket x.partner_stamp partner.0 log = found_at true x.peer x.host x.foreign x.socket x.partner_stamp partner.0 log partner.1 in
       record {
-        own = (t.own.message, t.own.flow, t.own.crossed);
-        partner = (t.partner.message, t.partner.flow, t.partner.crossed);
+        own = (went.message, went.flow, went.crossed);
+        partner = (came.message, came.flow, came.crossed);
         asked = some_of x (last_out (control_flow x.peer x.host) (before x.partner_stamp log)) (s.partners.named x c);
       });
 }

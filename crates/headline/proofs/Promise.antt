@@ -11,9 +11,9 @@ use Rattle.net_sim.proofs.lemmas.{booked_messages}
 use Rattle.promise.specs.Promised.{Promised}
 use Rattle.headline.specs.Promise.{IsExact, KeepsPromise}
 use Rattle.world_keeps_connections.proofs.lemmas.{world_joined}
-use Rattle.world_keeps_lives.proofs.lemmas.{world_drained, world_formed, world_handed, world_taken, world_told}
+use Rattle.world_keeps_lives.proofs.lemmas.{world_drained, world_handed, world_taken, world_told}
 use Rattle.world_keeps_pairing.proofs.lemmas.{world_alone, world_partners}
-use Rattle.world_keeps_streams.proofs.lemmas.{world_agrees, world_answered, world_arrives, world_calms, world_came, world_closes, world_comes, world_firsts, world_handed_over, world_rests, world_sent, world_settles, world_source}
+use Rattle.world_keeps_streams.proofs.lemmas.{world_agrees, world_answered, world_arrives, world_calms, world_came, world_closes, world_comes, world_firsts, world_formed, world_handed_over, world_rests, world_sent, world_settles, world_source}
 
 -- what is left of a run without its newest crossings is one
 older_run : (hosts : List Host) (more log : List Crossing) → IsRun hosts (more ++ log) → IsRun hosts log

@@ -13,9 +13,9 @@ use net_sim::{Book, World};
 /// happened.
 ///
 /// By `promise` what crossed is a run of the mailboxes (`run`). Each life is made of messages that crossed
-/// (`formed`), and each notice that bits were sent, or have arrived, reports a message just after it crossed
-/// (`told`). The book is safe (`safe`): a message that was answered by RFNM was taken whole and exactly once, and
-/// none was taken twice; no two hosts hold one opening with different partners; what a receiving socket took since
+/// (`formed`): its two requests, and the first messages of data on their link, as many as it counts. Each notice that
+/// bits were sent, or have arrived, reports a message just after it crossed (`told`). The book is safe (`safe`): a
+/// message that was answered by RFNM was taken whole and exactly once, and none was taken twice; no two hosts hold one opening with different partners; what a receiving socket took since
 /// it was opened, if it took any bit, is a prefix of what its one matching sender sent, and that of what was handed
 /// over; and what was taken and sent is within what was granted. A finished initial connection pairs the right four
 /// sockets (`joined`).
@@ -32,9 +32,9 @@ use net_sim::{Book, World};
 /// either, both have the same counters: what was granted and neither used nor returned (`agree`). So it is of every
 /// pair where each message between the two hosts was answered, and neither program has anything to say: no end closes
 /// there, but for a sender that drains (`calm`). So it is of all pairs once no host has anything to say (see
-/// [`World::is_silent`]), and each message between hosts that are up was answered (`settled`). The crossings determine the
-/// bits of all lives (`firsts`): a life's messages are the first on its link after both of its requests, and each
-/// message that went out is one of a sending life.
+/// [`World::is_silent`]), and each message between hosts that are up was answered (`settled`). Each message that
+/// went out on another link than 0 is one of a sending life, and of two lives on one link one comes after the other
+/// (`firsts`).
 ///
 /// By `fated` there is one fate for each life, and it says whether the life is over. By `whole` an orderly close loses
 /// nothing: a receiving life that is over by CLS, and that nobody at its host had closed (its fate is `Ended`), took

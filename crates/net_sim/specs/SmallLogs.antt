@@ -5,7 +5,7 @@ use Rattle.interface.specs.declared.crossing.Crossing.{Crossing}
 use Rattle.interface.specs.declared.crossing.Crossing.TheVariants as crossing
 use Rattle.interface.specs.declared.message.HostMessage.{HostMessage}
 use Rattle.host_pairs.specs.declared.notice.Notice.TheVariants as notice
-use Rattle.sockets.specs.Worked.{first, second, on_link}
+use Rattle.sockets.specs.Worked.{control, first, second, on_link}
 use Rattle.promise.specs.declared.life.Life.{Life}
 use Rattle.promise.specs.declared.book.Told.{Told}
 use Rattle.net_sim.specs.Worked.{eight, giver, taker}
@@ -14,6 +14,10 @@ use Rattle.net_sim.specs.WorkedMoments.{eight_sent, rts, str}
 -- a message with this text, from another host, to another one, or on another link
 abbrev pub moved : Host → Host → ℕ → HostMessage → HostMessage
 moved from to link m = record m { flow = on_link from to link }
+
+-- two RTS for the same sockets in one message, on link 2 and on link 3
+abbrev pub two_rts : HostMessage
+two_rts = control first second (1 ∷ 0 ∷ 0 ∷ 0 ∷ 16 ∷ 0 ∷ 0 ∷ 0 ∷ 33 ∷ 2 ∷ 1 ∷ 0 ∷ 0 ∷ 0 ∷ 16 ∷ 0 ∷ 0 ∷ 0 ∷ 33 ∷ 3 ∷ [])
 
 -- newest first: the RTS of the first host's socket 16 went out at place 0, the STR of the second's socket 33 came in at place 1, and what it sent
 -- came in at place 2

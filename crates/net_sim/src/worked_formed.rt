@@ -6,7 +6,7 @@ ghost use Rattle.host_pairs.specs.declared.notice.Notice.TheVariants as notice;
 ghost use Rattle.interface.specs.declared.crossing.Crossing.TheVariants as crossing;
 ghost use Rattle.promise.specs.Formed.{IsFormed};
 ghost use Rattle.promise.specs.Notices.{FormedNotices};
-ghost use Rattle.net_sim.specs.SmallLogs.{given_log, given_told, moved, one_given, one_taken, taken_log, taken_told};
+ghost use Rattle.net_sim.specs.SmallLogs.{given_log, given_told, moved, one_given, one_taken, taken_log, taken_told, two_rts};
 ghost use Rattle.net_sim.specs.Worked.{eight, eight_zeros, message};
 ghost use Rattle.net_sim.specs.WorkedMoments.{eight_sent, rts, str};
 ghost use Rattle.sockets.specs.Worked.{first, second, third};
@@ -16,6 +16,10 @@ ghost use Rattle.net_sim.specs.Laws.UnformedNotices.{UnformedNoticesKind};
 pub fn formed_rows()
     ensures taken { IsFormed taken_log one_taken }
     ensures given { IsFormed given_log one_given }
+
+    // the link is that of the first request for its sockets
+    ensures first_named { IsFormed (crossing.In eight_sent ∷ crossing.In str ∷ crossing.Out two_rts ∷ []) one_taken }
+
     ensures arrived { FormedNotices taken_log (taken_told ∷ []) }
     ensures sent { FormedNotices given_log (given_told ∷ []) }
 {}
@@ -41,7 +45,7 @@ pub fn unformed_requests()
     ensures foreign_socket { IsFormed given_log (record one_given { socket = 35 }) → ⊥ }
 {}
 
-/// A life's bits are those of this many messages of data, which crossed after both requests, on its link and between its two hosts.
+/// A life's bits are those of the first messages of data, as many as it counts, that crossed after both requests, on its link and between its two hosts.
 pub fn unformed_data()
     // data that came in before the own request went out, and before the partner's came in
     ensures before_own { IsFormed (crossing.Out rts ∷ crossing.In eight_sent ∷ crossing.In str ∷ []) (record one_taken { own_stamp = 2; partner_stamp = 0 }) → ⊥ }
@@ -51,6 +55,9 @@ pub fn unformed_data()
     ensures count { IsFormed taken_log (record one_taken { messages = 2 }) → ⊥ }
     ensures taken_bits { IsFormed taken_log (record one_taken { bits = eight_zeros }) → ⊥ }
     ensures given_bits { IsFormed given_log (record one_given { bits = eight_zeros }) → ⊥ }
+
+    // data on the link of a second request for the same sockets
+    ensures second_named { IsFormed (crossing.In (moved second first 3 eight_sent) ∷ crossing.In str ∷ crossing.Out two_rts ∷ []) one_taken → ⊥ }
 
     // data from another host, and data to another
     ensures taken_from { IsFormed (crossing.In (moved third first 2 eight_sent) ∷ crossing.In str ∷ crossing.Out rts ∷ []) one_taken → ⊥ }

@@ -22,7 +22,7 @@ use Rattle.sockets.specs.declared.request.Request.TheVariants as request
 use Rattle.sockets.proofs.lemmas.{not_first}
 use Rattle.net_sim.specs.Book.{lives_at}
 use Rattle.net_sim.specs.Clean.{HaveAddresses, IsLawful}
-use Rattle.promise.specs.Formed.{IsFormed, going}
+use Rattle.promise.specs.Formed.{going}
 use Rattle.promise.specs.Safe.{AreHanded, IsPrefix, Name, SafePartners, own_request, sends}
 use Rattle.net_sim.specs.Story.{Asked, Crossed, Moment, places, program}
 use Rattle.net_sim.specs.Timeline.{IsTimeline, crossings_of}
@@ -36,8 +36,8 @@ use Rattle.world_keeps_lives.specs.Drained.{AllDrained, AllSent, ClosedFirst, Cl
 use Rattle.world_keeps_lives.specs.Lives.{AreRefusing, EachOn, HasOpenEnd, IsFreeSocket, IsLifeOf, IsOwned, NoneOf, mine_on}
 use Rattle.world_keeps_lives.proofs.Desks.{clash, open_parts, own_is}
 use Rattle.world_keeps_lives.proofs.Ends.{mine_one}
-use Rattle.world_keeps_lives.proofs.Formed.{formed}
-use Rattle.world_keeps_lives.proofs.Grounds.{May, MayOut, Nothing, crossed_below, step_ends}
+use Rattle.world_keeps_lives.proofs.Begun as begun
+use Rattle.world_keeps_lives.proofs.Grounds.{Grounded, IsAsked, May, MayOut, Nothing, crossed_below, grounds, step_ends}
 use Rattle.world_keeps_lives.proofs.Laws as laws
 use Rattle.world_keeps_lives.proofs.Laws.{holds, live, own_socket}
 use Rattle.world_keeps_lives.proofs.Owners.{owner_found}
@@ -272,11 +272,14 @@ module _ (hosts : List Host) (addresses : HaveAddresses hosts) where
         let c : Coupled hosts ms = coupled hosts addresses ms run time in
         life_paired hosts ms c.story c.run run (served_in hosts ms time) x there
 
-    placed_first : (r : Life) → Contains (kept_in ms).book.lives r → r.own_stamp < places ms
-    placed_first r there =
-        let f : IsFormed (crossings_of ms) r = formed hosts addresses ms run time r there in
+    placed_first : (r : Life) → HasOpenEnd (program r.host ms) r → r.own_stamp < places ms
+    placed_first r o =
+        let g : Grounded r.host r.peer (crossings_of ms) o.end × (is_mine_on r.socket o.end ≡ true) =
+        begun.one_is (Grounded r.host r.peer (crossings_of ms)) r.socket (pair_with r.peer (program r.host ms).peers).entries o.end o.one (grounds hosts addresses ms run time r.host r.peer) in
+        let mine : o.end.mine ≡ true = (both o.end.mine (o.end.own == r.socket) g.1).0 in
+        let asked : IsAsked r.host r.peer (crossings_of ms) o.end r.own_stamp = g.0.asked mine r.own_stamp o.own in
         let less : r.own_stamp < length (crossings_of ms) =
-        crossed_below r.own_stamp (going f.own.message) (crossings_of ms) f.own.crossed in
+        crossed_below r.own_stamp (going asked.crossed.message) (crossings_of ms) asked.crossed.crossed in
         subst (λ (n : ℕ). r.own_stamp < n) (sym (places_same ms)) less
 
     first : (r : Life) → Contains (kept_in ms).book.lives r → ClosesFirst ms r → Whole ms r
@@ -298,7 +301,7 @@ module _ (hosts : List Host) (addresses : HaveAddresses hosts) where
               all_shut r.socket r.own_stamp (pair_with r.peer (program r.host ms).peers).entries
               ((holds hosts ms addresses run time r.host 0).steady.refusing r.peer)
               (subst (λ (es : List Entry). Each (λ (e : Entry). has_cls e.closing ≡ true) es) (sym c.end.one) (c.closed, tt));
-          placed = placed_first r there;
+          placed = placed_first r c.end;
         }
 
     -- ---- a moment more

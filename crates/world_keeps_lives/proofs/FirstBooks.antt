@@ -32,7 +32,7 @@ use Rattle.sockets.specs.declared.request.Request.{Request}
 use Rattle.sockets.proofs.lemmas.{next_is, next_pair}
 use Rattle.net_sim.specs.Book.{all_told, carried, lives_at, where_it}
 use Rattle.net_sim.specs.Clean.{IsLawful}
-use Rattle.promise.specs.Formed.{data_by, flow_of}
+use Rattle.promise.specs.Formed.{data_by, data_in, flow_of, text_of}
 use Rattle.promise.specs.Safe.{receives}
 use Rattle.net_sim.specs.Story.{Asked, Crossed, Follows, IsNext, Moment, places, program}
 use Rattle.net_sim.specs.Timeline.{crossings_of}
@@ -41,7 +41,7 @@ use Rattle.net_sim.specs.World.{WorldState}
 use Rattle.promise.specs.declared.life.Life.{Life}
 use Rattle.net_sim.proofs.lemmas.{coupled, places_same}
 use Rattle.world_keeps_pairing.proofs.lemmas.{book_lives, book_run}
-use Rattle.world_keeps_lives.specs.Firsts.{AreAfter, AreApart, FirstBook, Linked, begun, data_in, text_of}
+use Rattle.world_keeps_lives.specs.Firsts.{begun}
 use Rattle.world_keeps_lives.proofs.Facts.{no}
 use Rattle.world_keeps_lives.proofs.Calms.{Calm, calm_moment}
 use Rattle.world_keeps_lives.proofs.DataTold.{TakesIf, answer_told, asking_told, bytes_told, control_told, message_takes, offer_told}
@@ -49,9 +49,10 @@ use Rattle.world_keeps_lives.proofs.FirstEnds.{Apart, AtEnd, IsGrown, Together, 
 use Rattle.world_keeps_lives.specs.Lives.{HasOpenEnd}
 use Rattle.world_keeps_lives.proofs.FirstLists.{After, From, Pairwise, from_map, life_of}
 use Rattle.world_keeps_lives.proofs.Firsts.{good_calm, good_data}
-use Rattle.world_keeps_lives.proofs.Formed.{flow_two}
+use Rattle.world_keeps_lives.proofs.Begun.{flow_two}
 use Rattle.world_keeps_lives.proofs.Grounds.{Going, Tells, goes_of, going_rules}
 use Rattle.world_keeps_lives.proofs.Laws.{live}
+use Rattle.world_keeps_lives.proofs.Linked.{AreAfter, AreApart, Linked, LinkedBook}
 use Rattle.world_keeps_lives.proofs.Requests.{Each, MayTell, each_in, each_of, found_in}
 use Rattle.world_keeps_lives.proofs.Stamps.{stamped}
 
@@ -336,8 +337,8 @@ module _ (hosts : List Host) (given : Together hosts) where
   all_apart crossings [] h = tt
   all_apart crossings (p ∷ ps) h = (after_apart crossings p ps h.0, all_apart crossings ps h.1)
 
-  pub firsts : (ms : List Moment) → Lawful hosts ms → FirstBook (crossings_of ms) (lives_in ms)
-  firsts ms l =
+  pub linked_book : (ms : List Moment) → Lawful hosts ms → LinkedBook (crossings_of ms) (lives_in ms)
+  linked_book ms l =
       let g : Good ms = good ms l in
       record { links = g.links; all = g.all; first = λ p there. (each_in (Tracked ms) g.links p there g.tracked).first; apart = all_apart (crossings_of ms) g.links g.apart; sent = g.sent }
 
@@ -406,10 +407,3 @@ module _ (hosts : List Host) (given : Together hosts) where
               asked = asked_before ms w.one w.tracked;
               answered = answered_before ms w.one w.tracked;
             })
-
-  -- ---- worlds
-
-  pub world_firsts : {C : Type 0} (seen : C → Seen) (w : WorldState C) → IsLawful seen hosts w → FirstBook w.kept.book.crossings w.kept.book.lives
-  world_firsts seen w lawful =
-      subst (λ (log : List Crossing). FirstBook log w.kept.book.lives) (sym lawful.whole.crossings)
-      (subst (λ (lives : List Life). FirstBook (crossings_of lawful.whole.moments) lives) (sym (book_lives seen hosts w lawful)) (firsts lawful.whole.moments (lawful.addresses, book_run seen hosts w lawful, lawful.whole.timeline)))

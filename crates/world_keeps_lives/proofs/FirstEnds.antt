@@ -27,20 +27,21 @@ use Rattle.sockets.specs.Peers.{AreInOrder}
 use Rattle.sockets.specs.Sending.{message_for, next_in}
 use Rattle.sockets.specs.declared.peer.Peer.{Peer}
 use Rattle.net_sim.specs.Clean.{HaveAddresses}
-use Rattle.promise.specs.Formed.{CrossedAt, IsFormed, coming, flow_of, going, request}
+use Rattle.promise.specs.Formed.{CrossedAt, coming, flow_of, going, request, texts_for}
 use Rattle.promise.specs.Safe.{Name, before, own_request, receives}
 use Rattle.net_sim.specs.Story.{Asked, Crossed, IsNext, Moment, places, program}
 use Rattle.net_sim.specs.Timeline.{IsTimeline, crossings_of}
 use Rattle.net_sim.specs.Told.{kept_in, notices_by}
 use Rattle.promise.specs.declared.life.Life.{Life}
-use Rattle.world_keeps_lives.specs.Firsts.{IsFirst, IsSentIn, Linked, begun, texts_for}
+use Rattle.world_keeps_lives.specs.Firsts.{begun}
 use Rattle.world_keeps_lives.specs.Lives.{HasOpenEnd}
 use Rattle.world_keeps_lives.proofs.Facts.{no, no_place, one_place}
 use Rattle.world_keeps_lives.proofs.Desks.{open_mine}
 use Rattle.world_keeps_lives.proofs.FirstLists.{Pairwise, each_all, life_of, mapped}
-use Rattle.world_keeps_lives.proofs.Formed.{alone_on, one_is}
+use Rattle.world_keeps_lives.proofs.Begun.{alone_on, one_is}
 use Rattle.world_keeps_lives.proofs.Grounds.{Grounded, Nothing, May, crossed_below, grounds}
 use Rattle.world_keeps_lives.proofs.Laws.{live}
+use Rattle.world_keeps_lives.proofs.Linked.{HasRequests, IsFirst, IsSentIn, Linked}
 use Rattle.world_keeps_lives.proofs.Requests.{Begins, Each, Goes, Hears, MayTell, Rules, each_in, each_of}
 use Rattle.world_keeps_lives.proofs.Stamps.{Due, open_back}
 use Rattle.world_keeps_lives.proofs.Texts.{IsFull}
@@ -75,23 +76,23 @@ rts_off text own foreign link even there =
     let ok : IsCommand (command.Rts own foreign link) = order_there text (command.Rts own foreign link) (subst (λ (d : Command). Contains (orders_of text) (Legal d)) c there) in
     not_zero link ok.4
 
-str_foreign : (text : List Bool) (own foreign size : ℕ) → is_receive_socket own ≡ false → Contains (orders_of text) (Legal (request own foreign size)) → is_receive_socket foreign ≡ true
+pub str_foreign : (text : List Bool) (own foreign size : ℕ) → is_receive_socket own ≡ false → Contains (orders_of text) (Legal (request own foreign size)) → is_receive_socket foreign ≡ true
 str_foreign text own foreign size odd there =
     let c : request own foreign size ≡ command.Str own foreign size = ap (λ (b : Bool). if b then command.Rts own foreign size else command.Str own foreign size) odd in
     let ok : IsCommand (command.Str own foreign size) = order_there text (command.Str own foreign size) (subst (λ (d : Command). Contains (orders_of text) (Legal d)) c there) in
     ok.3
 
-pub linked_off : (x : Life) (log : List Crossing) (f : IsFormed log x) → (f.link == 0) ≡ false
-linked_off x log f = by (receives x) refl where
-  own_is : (b : Bool) → receives x ≡ b → Contains (orders_of f.own.message.text) (Legal (request x.socket x.foreign (if b then f.link else f.size)))
-  own_is b e = subst (λ (v : Bool). Contains (orders_of f.own.message.text) (Legal (request x.socket x.foreign (if v then f.link else f.size)))) e f.own.holds
+pub linked_off : (log : List Crossing) (p : Linked) → HasRequests log p → (p.link == 0) ≡ false
+linked_off log p f = by (receives p.life) refl where
+  own_is : (b : Bool) → receives p.life ≡ b → Contains (orders_of f.own.message.text) (Legal (request p.life.socket p.life.foreign (if b then p.link else f.size)))
+  own_is b e = subst (λ (v : Bool). Contains (orders_of f.own.message.text) (Legal (request p.life.socket p.life.foreign (if v then p.link else f.size)))) e f.own.holds
 
-  partner_is : (b : Bool) → receives x ≡ b → Contains (orders_of f.partner.message.text) (Legal (request x.foreign x.socket (if b then f.size else f.link)))
-  partner_is b e = subst (λ (v : Bool). Contains (orders_of f.partner.message.text) (Legal (request x.foreign x.socket (if v then f.size else f.link)))) e f.partner.holds
+  partner_is : (b : Bool) → receives p.life ≡ b → Contains (orders_of f.partner.message.text) (Legal (request p.life.foreign p.life.socket (if b then f.size else p.link)))
+  partner_is b e = subst (λ (v : Bool). Contains (orders_of f.partner.message.text) (Legal (request p.life.foreign p.life.socket (if v then f.size else p.link)))) e f.partner.holds
 
-  by : (b : Bool) → receives x ≡ b → (f.link == 0) ≡ false
-  by true e = rts_off f.own.message.text x.socket x.foreign f.link e (own_is true e)
-  by false e = rts_off f.partner.message.text x.foreign x.socket f.link (str_foreign f.own.message.text x.socket x.foreign f.size e (own_is false e)) (partner_is false e)
+  by : (b : Bool) → receives p.life ≡ b → (p.link == 0) ≡ false
+  by true e = rts_off f.own.message.text p.life.socket p.life.foreign p.link e (own_is true e)
+  by false e = rts_off f.partner.message.text p.life.foreign p.life.socket p.link (str_foreign f.own.message.text p.life.socket p.life.foreign f.size e (own_is false e)) (partner_is false e)
 
 -- ---- what two programs do together
 
@@ -204,10 +205,10 @@ flow_link x link = by (receives x) where
 
 module _ (ms : List Moment) (p : Linked) (t : Tracked ms p) where
   pub asked_before : p.life.own_stamp < length (crossings_of ms)
-  asked_before = crossed_below p.life.own_stamp (going t.first.own.message) (crossings_of ms) t.first.own.crossed
+  asked_before = crossed_below p.life.own_stamp (going t.first.asked.own.message) (crossings_of ms) t.first.asked.own.crossed
 
   pub answered_before : p.life.partner_stamp < length (crossings_of ms)
-  answered_before = crossed_below p.life.partner_stamp (coming t.first.partner.message) (crossings_of ms) t.first.partner.crossed
+  answered_before = crossed_below p.life.partner_stamp (coming t.first.asked.partner.message) (crossings_of ms) t.first.asked.partner.crossed
 
   pub begun_before : begun p.life ≤ length (crossings_of ms)
   begun_before =

@@ -4,7 +4,7 @@ use Rattle.std.specs.List.{Contains}
 use Rattle.std.proofs.lemmas.List.{append_assoc}
 use Rattle.promise.specs.Safe.{AreTwo, own_request}
 use Rattle.promise.specs.declared.life.Life.{Life}
-use Rattle.world_keeps_lives.specs.Firsts.{Linked}
+use Rattle.world_keeps_lives.proofs.Linked.{Linked}
 use Rattle.world_keeps_lives.proofs.Requests.{Each, each_in, each_of, each_weaker, first_of, later_of}
 
 -- ---- each of a list

@@ -1,80 +1,82 @@
--- Lives of the first messages on their link, and lives that aren't.
-use Rattle.std.proofs.Common.{◌≡◌, inl, inr, ℕ, ◌<◌, ◌≤◌, Bool, true, false, List, [], ◌∷◌, map, length, Some, refl, ap, sym, subst, arith}
+-- Books whose messages that went out are those of lives, and books whose aren't.
+use Rattle.std.proofs.Common.{◌≡◌, ◌⊎◌, inl, inr, ℕ, ◌<◌, ◌≤◌, ◌==◌, Bool, true, false, List, [], ◌∷◌, drop, length, Option, Some, None, refl, ap, sym, subst, ◌∙◌, arith}
 use Rattle.std.specs.List.{Contains}
+use Rattle.std.specs.Prelude.{option_map}
 use Rattle.interface.specs.declared.address.Flow.{Flow}
-use Rattle.promise.specs.Formed.{CrossedAt, IsFormed, coming, flow_of, going}
-use Rattle.promise.specs.Safe.{before}
-use Rattle.net_sim.specs.Worked.{eight_zeros}
-use Rattle.net_sim.specs.WorkedMoments.{rts, str}
+use Rattle.interface.specs.declared.crossing.Crossing.{Crossing}
+use Rattle.interface.specs.declared.crossing.Crossing.TheVariants as crossing
+use Rattle.interface.specs.declared.message.HostMessage.{HostMessage}
+use Rattle.promise.specs.Formed.{CrossedAt, flow_of, link_of, texts_on}
+use Rattle.promise.specs.Safe.{before, receives}
 use Rattle.promise.specs.declared.life.Life.{Life}
-use Rattle.world_keeps_lives.specs.Firsts.{AreApart, FirstBook, IsFirst, IsSentIn, Linked, texts_for}
-use Rattle.world_keeps_lives.specs.WorkedFormed.{gave, gave_on, sent_log, took, took_on, took_second, two_log, zeros_sent}
-use Rattle.world_keeps_lives.proofs.FirstLists.{life_of, mapped}
-use Rattle.world_keeps_lives.proofs.FormedRows.{rts_holds, str_holds}
-use Rattle.world_keeps_lives.proofs.Requests.{each_in}
+use Rattle.net_sim.specs.WorkedMoments.{eight_sent}
+use Rattle.world_keeps_lives.specs.Firsts.{AreApart, FirstBook, IsSentIn, ShareFlow, flow_on, texts_before}
+use Rattle.world_keeps_lives.specs.WorkedFormed.{gave, sent_log, took, two_log, zeros_sent}
+use Rattle.world_keeps_lives.proofs.FormedRows.{rts_named}
+use Rattle.world_keeps_lives.proofs.Requests.{Each, each_in}
 
--- the RTS went out at place 6 and came in at 7, and the STR went out at 8 and came in at 10
-rts_out : CrossedAt 6 (going rts) sent_log
-rts_out = inr (inr (inr (inr (inr (inr (inr (inr (inr (inr (inl (refl, refl)))))))))))
+-- the link of the sending life
+gave_sent : link_of sent_log gave ≡ Some 2
+gave_sent = rts_named
 
-rts_in : CrossedAt 7 (coming rts) sent_log
-rts_in = inr (inr (inr (inr (inr (inr (inr (inr (inr (inl (refl, refl))))))))))
+gave_two : link_of two_log gave ≡ Some 2
+gave_two = rts_named
 
-str_out : CrossedAt 8 (going str) sent_log
-str_out = inr (inr (inr (inr (inr (inr (inr (inr (inl (refl, refl)))))))))
-
-str_in : CrossedAt 10 (coming str) sent_log
-str_in = inr (inr (inr (inr (inr (inr (inl (refl, refl)))))))
-
-pub row_took_first : IsFirst sent_log took_on
-row_took_first = record { size = 8; own = record { message = rts; flow = refl; crossed = rts_out; holds = rts_holds }; partner = record { message = str; flow = refl; crossed = str_in; holds = str_holds }; enough = omega arith; bits = refl }
-
-pub row_gave_first : IsFirst sent_log gave_on
-row_gave_first = record { size = 8; own = record { message = str; flow = refl; crossed = str_out; holds = str_holds }; partner = record { message = rts; flow = refl; crossed = rts_in; holds = rts_holds }; enough = omega arith; bits = refl }
-
-pub row_chosen : IsFormed two_log took_second
-row_chosen = record {
-  link = 2;
-  size = 8;
-  own = record { message = rts; flow = refl; crossed = inr (inr (inr rts_out)); holds = rts_holds };
-  partner = record { message = str; flow = refl; crossed = inr (inr (inr str_in)); holds = str_holds };
-  carried = inr (0, [], eight_zeros, refl, refl, (zeros_sent, refl, refl, refl, omega arith, omega arith), inl (inl (inl (inl (inl (inl (inl (inl (inl (inl (inl (inl (inl (inl (inl (inl (inl (inl (inl (refl, refl))))))))))))))))))));
-}
-
-one_of : List Bool → Bool
-one_of [] = false
-one_of (b ∷ bs) = b
-
-first_bit : (a b : List Bool) → Some a ≡ Some b → one_of a ≡ one_of b
-first_bit a b e = let same : a ≡ b = cc in ap one_of same
-
-pub row_passed_over : IsFirst two_log (record took_on { life = took_second }) → ⊥
-unfolding one_of
-row_passed_over f = let no : true ≡ false = first_bit _ _ f.bits in cc
-
-pub row_uncrossed : IsFirst sent_log (record took_on { life = record took { messages = 2 } }) → ⊥
-row_uncrossed f = let k : 2 ≤ length (texts_for took 2 sent_log) = f.enough in let one : length (texts_for took 2 sent_log) ≡ 1 = refl in omega (arith, k, one)
-
--- the one life of a book
-only_life : (links : List Linked) → map life_of links ≡ gave ∷ [] → (p : Linked) → Contains links p → p.life ≡ gave
-only_life links all p there = each_in (λ (x : Life). x ≡ gave) (gave ∷ []) p.life (subst (λ (xs : List Life). Contains xs p.life) all (mapped life_of links p there)) (refl, tt)
-
-pub row_left_out : FirstBook two_log (gave ∷ []) → ⊥
-row_left_out f =
-    let s : (p : Linked) × Contains f.links p × IsSentIn two_log 18 zeros_sent p = f.sent 18 zeros_sent (inr (inl (refl, refl))) refl in
-    let is : s.0.life ≡ gave = only_life f.links f.all s.0 s.1 in
-    counts s.0.life s.0.link is s.2.flow s.2.counted where
-      counts : (x : Life) (link : ℕ) → x ≡ gave → zeros_sent.flow ≡ flow_of x link → length (texts_for x link (before 18 two_log)) < x.messages → ⊥
-      counts x link is flow less =
-          let two : zeros_sent.flow ≡ flow_of gave link = subst (λ (y : Life). zeros_sent.flow ≡ flow_of y link) is flow in
-          let link_is : 2 ≡ link = ap (λ (g : Flow). g.link.0) two in
-          let k : length (texts_for gave link (before 18 two_log)) < 1 = subst (λ (y : Life). length (texts_for y link (before 18 two_log)) < y.messages) is less in
-          let one : length (texts_for gave 2 (before 18 two_log)) < 1 = subst (λ (n : ℕ). length (texts_for gave n (before 18 two_log)) < 1) (sym link_is) k in
-          let count : length (texts_for gave 2 (before 18 two_log)) ≡ 1 = refl in
-          omega (arith, one, count)
-
-pub row_twice : AreApart sent_log (gave_on ∷ gave_on ∷ []) → ⊥
+pub row_twice : AreApart sent_log (gave ∷ gave ∷ []) → ⊥
 row_twice a = elim (a.0.0 (refl, refl, refl)) [
   | inl e ↦ (let no : 1 ≡ 0 = e in omega (arith, no))
-  | inr k ↦ (let less : 1 ≤ length (texts_for gave 2 (before 8 sent_log)) = k in let none : length (texts_for gave 2 (before 8 sent_log)) ≡ 0 = refl in omega (arith, less, none))
+  | inr k ↦
+      (let less : 1 ≤ length (texts_on gave (Some 2) (before 8 sent_log)) = subst (λ (o : Option ℕ). 1 ≤ length (texts_on gave o (before 8 sent_log))) gave_sent k in
+      let none : length (texts_on gave (Some 2) (before 8 sent_log)) ≡ 0 = refl in
+      omega (arith, less, none))
 ]
+
+-- the second message has one before it, and the life counts one; and the other life receives
+two_of : (x : Life) → IsSentIn two_log 18 zeros_sent x → (x ≡ took → ⊥) × (x ≡ gave → ⊥)
+two_of x s = (
+  λ is. (let way : true ≡ false = ap receives (sym is) ∙ s.sending in cc),
+  λ is.
+      (let less : length (texts_before 18 two_log gave) < 1 = subst (λ (y : Life). length (texts_before 18 two_log y) < y.messages) is s.counted in
+      let one : length (texts_on gave (Some 2) (before 18 two_log)) < 1 = subst (λ (o : Option ℕ). length (texts_on gave o (before 18 two_log)) < 1) gave_two less in
+      let count : length (texts_on gave (Some 2) (before 18 two_log)) ≡ 1 = refl in
+      omega (arith, one, count)),
+)
+
+pub row_left_out : FirstBook two_log (took ∷ gave ∷ []) → ⊥
+row_left_out f =
+    let s : (x : Life) × Contains (took ∷ gave ∷ []) x × IsSentIn two_log 18 zeros_sent x = f.sent 18 zeros_sent (inr (inl (refl, refl))) refl in
+    let other : (s.0 ≡ took → ⊥) × (s.0 ≡ gave → ⊥) = two_of s.0 s.2 in
+    each_in (λ (y : Life). s.0 ≡ y → ⊥) (took ∷ gave ∷ []) s.0 s.1 (other.0, (other.1, tt)) refl
+
+-- ---- the book in which nothing is left out
+
+abbrev OnZero : Crossing → Type 0
+OnZero (crossing.Out m) = (m.flow.link.0 == 0) ≡ true
+OnZero c = Unit {0}
+
+none_off : (log : List Crossing) (place : ℕ) (m : HostMessage) → Each OnZero log → CrossedAt place (crossing.Out m) log → (m.flow.link.0 == 0) ≡ false → ⊥
+none_off [] place m z i off = i
+none_off (c ∷ log) place m z (inl i) off = let on : (m.flow.link.0 == 0) ≡ true = subst OnZero (sym i.0) z.0 in let both : true ≡ false = sym on ∙ off in cc
+none_off (c ∷ log) place m z (inr i) off = none_off log place m z.1 i off
+
+rest_on : Each OnZero (drop 2 sent_log)
+rest_on = (tt, (tt, (refl, (tt, (tt, (tt, (refl, (tt, (refl, (tt, (tt, (refl, (tt, (tt, (refl, tt)))))))))))))))
+
+its : IsSentIn sent_log 15 eight_sent gave
+its = record {
+  sending = refl;
+  flow = ap (λ (o : Option ℕ). option_map (flow_of gave) o) gave_sent;
+  own = omega arith;
+  partner = omega arith;
+  counted = subst (λ (o : Option ℕ). length (texts_on gave o (before 15 sent_log)) < 1) (sym gave_sent) (omega arith);
+}
+
+sent_by : (place : ℕ) (m : HostMessage) → CrossedAt place (crossing.Out m) sent_log → (m.flow.link.0 == 0) ≡ false → (x : Life) × Contains (took ∷ gave ∷ []) x × IsSentIn sent_log place m x
+sent_by place m (inl i) off = absurd (let both : crossing.Out m ≡ crossing.In eight_sent = i.0 in cc)
+sent_by place m (inr (inl i)) off =
+    let same : m ≡ eight_sent = cc in
+    (gave, (1, omega arith, refl), subst (λ (n : ℕ). IsSentIn sent_log n m gave) (sym i.1) (subst (λ (n : HostMessage). IsSentIn sent_log 15 n gave) (sym same) its))
+sent_by place m (inr (inr i)) off = absurd (none_off (drop 2 sent_log) place m rest_on i off)
+
+pub row_sent : FirstBook sent_log (took ∷ gave ∷ [])
+row_sent = record { apart = (((λ share. absurd (let both : true ≡ false = share.0 in cc)), tt), (tt, tt)); sent = sent_by }

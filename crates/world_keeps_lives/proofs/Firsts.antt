@@ -14,7 +14,7 @@ use Rattle.host_pairs.specs.Entries.{is_mine_on, is_open}
 use Rattle.host_pairs.specs.declared.entry.Entry.{Entry}
 use Rattle.host_pairs.proofs.lemmas.{both}
 use Rattle.net_sim.specs.Book.{carried, changed_when, lives_at, where_it}
-use Rattle.promise.specs.Formed.{Carries, CrossedAt, IsFormed, coming, flow_of, going}
+use Rattle.promise.specs.Formed.{CrossedAt, coming, data_in, flow_of, going, text_of, texts_for}
 use Rattle.promise.specs.Safe.{AreTwo, Name, SafePartners, before, own_request, receives}
 use Rattle.net_sim.specs.Story.{Asked, Crossed, IsNext, Moment, places, program}
 use Rattle.net_sim.specs.Timeline.{crossings_of}
@@ -22,15 +22,16 @@ use Rattle.promise.specs.declared.life.Amount.{Amount}
 use Rattle.promise.specs.declared.life.Life.{Life}
 use Rattle.net_sim.proofs.lemmas.{Coupled, coupled, places_same}
 use Rattle.world_keeps_pairing.proofs.lemmas.{queued_commands, safe_partners, served_in}
-use Rattle.world_keeps_lives.specs.Firsts.{IsFirst, IsSentIn, Linked, all_data, begun, data_in, text_of, texts_for}
+use Rattle.world_keeps_lives.specs.Firsts.{begun}
 use Rattle.world_keeps_lives.specs.Lives.{HasOpenEnd, mine_on}
 use Rattle.world_keeps_lives.proofs.Facts.{no}
 use Rattle.world_keeps_lives.proofs.Calms.{Born, Calm, kept_as, kept_so}
 use Rattle.world_keeps_lives.proofs.FirstLists.{After, AreDistinct, From, Pairwise, after_all, all_distinct, each_changed, each_two, from_map, life_of, map_life, mapped, pairs_all, pairs_append, pairs_both, pairs_changed, two_in}
 use Rattle.world_keeps_lives.proofs.FirstEnds.{Apart, Together, Good, Held, IsGrown, Lawful, Owner, Tracked, answered_before, asked_before, at_end, begun_before, ends_in, held_begins, held_may, held_rules, is_end, linked_off, lives_in, never_two, owned}
-use Rattle.world_keeps_lives.proofs.Formed.{Bound, Made, in_filter, mine_true, nobody, none_carried, whole}
+use Rattle.world_keeps_lives.proofs.Begun.{Begun, Bound, begins, in_filter, mine_true, nobody}
 use Rattle.world_keeps_lives.proofs.Grounds.{Nothing, crossed_below, step_ends}
 use Rattle.world_keeps_lives.proofs.Laws.{live}
+use Rattle.world_keeps_lives.proofs.Linked.{HasRequests, IsFirst, IsSentIn, Linked, all_data}
 use Rattle.world_keeps_lives.proofs.Requests.{Each, each_append, each_in, each_of, each_weaker, first_of, later_of}
 use Rattle.world_keeps_lives.proofs.Stamps.{HasLife, Now}
 use Rattle.world_keeps_lives.proofs.Texts.{IsFull, before_all, before_here, before_still, first_more, first_still, full_more, take_whole, texts_none, texts_same}
@@ -120,7 +121,7 @@ module _ (hosts : List Host) (given : Together hosts) (y : Moment) (ms : List Mo
         by false f = f
 
     first_kept : (granted returned : Amount) (ended : Bool) → IsFirst (crossings_of (y ∷ ms)) p → IsFirst (crossings_of (y ∷ ms)) (record p { life = kept_as granted returned ended p.life })
-    first_kept granted returned ended f = record { size = f.size; own = f.own; partner = f.partner; enough = f.enough; bits = f.bits }
+    first_kept granted returned ended f = record { asked = record { size = f.asked.size; own = f.asked.own; partner = f.asked.partner }; enough = f.enough; bits = f.bits }
 
   sent_as : (place : ℕ) (m : HostMessage) (p : Linked) (bits : List Bool) (messages : ℕ) (granted returned : Amount) (ended : Bool) → place < length (crossings_of ms) → p.life.messages ≤ messages → IsSentIn (crossings_of ms) place m p
       → IsSentIn (crossings_of (y ∷ ms)) place m (record p { life = put bits messages granted returned ended p.life })
@@ -191,7 +192,7 @@ module _ (hosts : List Host) (given : Together hosts) (y : Moment) (ms : List Mo
     abbrev Newest : Linked → Type 0
     Newest q = (q.life.messages ≡ 0) × (begun q.life ≡ length (crossings_of ms))
 
-    record Begun (x : Life) : Type 0 where
+    record Newly (x : Life) : Type 0 where
       one : Linked
       is : one.life ≡ x
       tracked : Tracked (y ∷ ms) one
@@ -211,11 +212,8 @@ module _ (hosts : List Host) (given : Together hosts) (y : Moment) (ms : List Mo
       there : Contains (lives_in (y ∷ ms)) x
       there = subst (λ (xs : List Life). Contains xs x) (sym c.is) (Contains-append_right (map (kept_so c.given c.back c.over) (lives_in ms)) c.more x more)
 
-      formed : IsFormed (crossings_of (y ∷ ms)) x
-      formed = record { link = b.2.link; size = b.2.size; own = b.2.own; partner = b.2.partner; carried = none_carried (Carries x b.2.link) (crossings_of (y ∷ ms)) x.messages x.bits b.0 b.1 }
-
-      made : Made (y ∷ ms) x
-      made = whole hosts late.0 (y ∷ ms) late.1 late.2 x there (formed, inr (b.0, b.1))
+      made : Begun (y ∷ ms) x
+      made = begins hosts late.0 (y ∷ ms) late.1 late.2 x there b.2
 
       -- no life has its own request yet
       name_is : (w : HasLife (lives_in ms) (places ms) x.socket x.foreign x.own_stamp) → own_request w.life ≡ own_request x
@@ -249,28 +247,26 @@ module _ (hosts : List Host) (given : Together hosts) (y : Moment) (ms : List Mo
       full : (link : ℕ) → IsFull (crossings_of (y ∷ ms)) x link
       full link = b.0 ∙ ap length (sym (none link))
 
-      first : IsFirst (crossings_of (y ∷ ms)) (record { life = x; link = made.formed.link })
+      first : IsFirst (crossings_of (y ∷ ms)) (record { life = x; link = made.link })
       first = record {
-        size = made.formed.size;
-        own = made.formed.own;
-        partner = made.formed.partner;
-        enough = (let e : x.messages ≡ length (texts_for x made.formed.link (crossings_of (y ∷ ms))) = full made.formed.link in omega (arith, e));
-        bits = ap (all_data (receives x)) (take_whole x.messages (texts_for x made.formed.link (crossings_of (y ∷ ms))) (full made.formed.link) ∙ none made.formed.link) ∙ ap (λ (bs : List Bool). Some bs) (sym b.1);
+        asked = made.asked;
+        enough = (let e : x.messages ≡ length (texts_for x made.link (crossings_of (y ∷ ms))) = full made.link in omega (arith, e));
+        bits = ap (all_data (receives x)) (take_whole x.messages (texts_for x made.link (crossings_of (y ∷ ms))) (full made.link) ∙ none made.link) ∙ ap (λ (bs : List Bool). Some bs) (sym b.1);
       }
 
-      begins_so : Begun x
+      begins_so : Newly x
       begins_so = record {
-        one = record { life = x; link = made.formed.link };
+        one = record { life = x; link = made.link };
         is = refl;
         tracked = record {
           first = first;
-          other = linked_off x (crossings_of (y ∷ ms)) made.formed;
+          other = linked_off (crossings_of (y ∷ ms)) (record { life = x; link = made.link }) made.asked;
           held = λ goes. held_by (made.bound goes);
         };
         newest = (b.0, just);
       } where
-        held_by : Each (Bound x made.formed.link) (ends_in x.host x.peer (y ∷ ms)) → Each (Held x made.formed.link (IsFull (crossings_of (y ∷ ms)) x made.formed.link)) (ends_in x.host x.peer (y ∷ ms))
-        held_by h = each_weaker (Bound x made.formed.link) (Held x made.formed.link (IsFull (crossings_of (y ∷ ms)) x made.formed.link)) (ends_in x.host x.peer (y ∷ ms)) (λ e k mine own asked partner. (k mine own asked partner, λ o. full made.formed.link)) h
+        held_by : Each (Bound x made.link) (ends_in x.host x.peer (y ∷ ms)) → Each (Held x made.link (IsFull (crossings_of (y ∷ ms)) x made.link)) (ends_in x.host x.peer (y ∷ ms))
+        held_by h = each_weaker (Bound x made.link) (Held x made.link (IsFull (crossings_of (y ∷ ms)) x made.link)) (ends_in x.host x.peer (y ∷ ms)) (λ e k mine own asked partner. (k mine own asked partner, λ o. full made.link)) h
 
     record AllBegun (xs : List Life) : Type 0 where
       ones : List Linked
@@ -281,7 +277,7 @@ module _ (hosts : List Host) (given : Together hosts) (y : Moment) (ms : List Mo
     all_begin : (xs : List Life) → ((x : Life) → Contains xs x → Contains c.more x) → Each (Born (lives_in ms) (places ms) (crossings_of (y ∷ ms))) xs → AllBegun xs
     all_begin [] in_more born = record { ones = []; are = refl; tracked = tt; newest = tt }
     all_begin (x ∷ xs) in_more born =
-        let one : Begun x = begins_so x (in_more x (first_of x xs)) born.0 in
+        let one : Newly x = begins_so x (in_more x (first_of x xs)) born.0 in
         let rest : AllBegun xs = all_begin xs (λ z k. in_more z (later_of x xs z k)) born.1 in
         record { ones = one.one ∷ rest.ones; are = ap (λ (z : Life). z ∷ map life_of rest.ones) one.is ∙ ap (λ (zs : List Life). x ∷ zs) rest.are; tracked = (one.tracked, rest.tracked); newest = (one.newest, rest.newest) }
 

@@ -15,7 +15,10 @@ pub mod Requests
 pub mod RequestCalls
 pub mod Grounds
 pub mod DataTold
-pub mod Formed
+pub mod Linked
+pub mod Begun
+pub mod Named
+pub mod OneRequest
 pub mod Pairs
 pub mod Drained
 pub mod Notices
@@ -27,6 +30,7 @@ pub mod Calms
 pub mod FirstEnds
 pub mod Firsts
 pub mod FirstBooks
+pub mod Formed
 pub mod FormedRows
 pub mod FirstRows
 pub mod NoticesRows

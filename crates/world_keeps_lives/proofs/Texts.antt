@@ -5,11 +5,11 @@ use Rattle.std.proofs.lemmas.List.{append_assoc, length-append, take-append-le}
 use Rattle.interface.specs.declared.address.Flow.{Flow}
 use Rattle.interface.specs.declared.crossing.Crossing.{Crossing}
 use Rattle.net_sim.specs.Book.{carried}
-use Rattle.promise.specs.Formed.{coming, flow_of, going, request}
+use Rattle.promise.specs.Formed.{coming, data_in, flow_of, going, joined, request, text_of, texts_for, texts_of}
 use Rattle.promise.specs.Safe.{before, receives}
 use Rattle.promise.specs.declared.life.Life.{Life}
-use Rattle.world_keeps_lives.specs.Firsts.{IsFirst, Linked, all_data, data_in, joined, text_of, texts_for, texts_of}
 use Rattle.world_keeps_lives.proofs.Grounds.{still_crossed}
+use Rattle.world_keeps_lives.proofs.Linked.{HasRequests, IsFirst, Linked, all_data}
 
 -- ---- places
 
@@ -86,12 +86,18 @@ take_whole (suc n) (t ∷ ts) e = ap (λ (us : List (List Bool)). t ∷ us) (tak
 abbrev pub IsFull : List Crossing → Life → ℕ → Type 0
 IsFull log x link = x.messages ≡ length (texts_for x link log)
 
+-- its requests stay in the log
+asked_still : (c : Crossing) (log : List Crossing) (p : Linked) → HasRequests log p → HasRequests (c ∷ log) p
+asked_still c log p a = record {
+  size = a.size;
+  own = still_crossed going p.life.host p.life.peer p.life.own_stamp (request p.life.socket p.life.foreign (if receives p.life then p.link else a.size)) c log a.own;
+  partner = still_crossed coming p.life.peer p.life.host p.life.partner_stamp (request p.life.foreign p.life.socket (if receives p.life then a.size else p.link)) c log a.partner;
+}
+
 -- what crosses later comes after its messages
 pub first_still : (c : Crossing) (log : List Crossing) (p : Linked) → IsFirst log p → IsFirst (c ∷ log) p
 first_still c log p f = record {
-  size = f.size;
-  own = still_crossed going p.life.host p.life.peer p.life.own_stamp (request p.life.socket p.life.foreign (if receives p.life then p.link else f.size)) c log f.own;
-  partner = still_crossed coming p.life.peer p.life.host p.life.partner_stamp (request p.life.foreign p.life.socket (if receives p.life then f.size else p.link)) c log f.partner;
+  asked = asked_still c log p f.asked;
   enough = (let e : p.life.messages ≤ length (texts_for p.life p.link log) = f.enough in let g : length (texts_for p.life p.link log ++ more) ≡ length (texts_for p.life p.link log) + length more = length-append (texts_for p.life p.link log) more in omega (arith, e, g));
   bits = ap (all_data (receives p.life)) (take-append-le p.life.messages (texts_for p.life p.link log) more f.enough) ∙ f.bits;
 } where
@@ -112,9 +118,7 @@ module _ (c : Crossing) (log : List Crossing) (p : Linked) (f : IsFirst log p) (
 
   pub first_more : IsFirst (c ∷ log) (record p { life = carried bits p.life })
   first_more = record {
-    size = f.size;
-    own = still_crossed going p.life.host p.life.peer p.life.own_stamp (request p.life.socket p.life.foreign (if receives p.life then p.link else f.size)) c log f.own;
-    partner = still_crossed coming p.life.peer p.life.host p.life.partner_stamp (request p.life.foreign p.life.socket (if receives p.life then f.size else p.link)) c log f.partner;
+    asked = (let a : HasRequests (c ∷ log) p = asked_still c log p f.asked in record { size = a.size; own = a.own; partner = a.partner });
     enough = (let e : p.life.messages + 1 ≡ length (texts_for p.life p.link (c ∷ log)) = full_more in omega (arith, e));
     bits = ap (all_data (receives p.life)) (take_whole (p.life.messages + 1) (texts_for p.life p.link (c ∷ log)) full_more ∙ now)
         ∙ data_more (receives p.life) (texts_for p.life p.link log) text ∙ ap (λ (o : Option (List Bool)). joined o (data_in (receives p.life) text)) all_bits ∙ ap (λ (o : Option (List Bool)). joined (Some p.life.bits) o) datum;

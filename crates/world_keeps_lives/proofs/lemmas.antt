@@ -3,13 +3,15 @@ pub use Rattle.world_keeps_lives.proofs.Books.{all_told_append}
 pub use Rattle.world_keeps_lives.proofs.Desks.{AreAside, At, Elsewhere, IsLess, Near, Place, at_aside, clash, open_mine, open_parts}
 pub use Rattle.world_keeps_lives.proofs.Drained.{drained, world_drained}
 pub use Rattle.world_keeps_lives.proofs.Ends.{IsRefusing, found_changed, none_changed, refusing_found}
-pub use Rattle.world_keeps_lives.proofs.FirstBooks.{WasAt, firsts, linked_end, was_or_begins, world_firsts}
+pub use Rattle.world_keeps_lives.proofs.FirstBooks.{WasAt, linked_book, linked_end, was_or_begins}
 pub use Rattle.world_keeps_lives.proofs.FirstEnds.{HasOwner, Together}
-pub use Rattle.world_keeps_lives.proofs.Formed.{world_formed}
+pub use Rattle.world_keeps_lives.proofs.Formed.{first_book, formed_book}
 pub use Rattle.world_keeps_lives.proofs.Goes.{IsOfTwo, Waits, all_go, unasked_by}
 pub use Rattle.world_keeps_lives.proofs.Hosts.{Holds, same_turned, waits}
 pub use Rattle.world_keeps_lives.proofs.Laws.{handed, live, taken, world_handed, world_taken}
+pub use Rattle.world_keeps_lives.proofs.Linked.{Linked, LinkedBook}
 pub use Rattle.world_keeps_lives.proofs.Moments.{has_ends, held}
+pub use Rattle.world_keeps_lives.proofs.Named.{NamedAt, Names, found_at, held_in, named_again, named_is, named_there, names_of, some_named, way_of}
 pub use Rattle.world_keeps_lives.proofs.Notices.{world_told}
 pub use Rattle.world_keeps_lives.proofs.Owners.{owner_found}
 pub use Rattle.world_keeps_lives.proofs.Requests.{Each, each_of, each_weaker}

@@ -14,7 +14,6 @@ use Rattle.net_sim.specs.Timeline.{crossings_of}
 use Rattle.net_sim.specs.Worked.{eight, eight_zeros, giver, taker}
 use Rattle.net_sim.specs.WorkedMoments.{connected, sent_moments}
 use Rattle.promise.specs.declared.life.Life.{Life}
-use Rattle.world_keeps_lives.specs.Firsts.{Linked}
 
 abbrev pub sent_log : List Crossing
 sent_log = crossings_of sent_moments
@@ -44,13 +43,6 @@ two_log = crossing.In zeros_sent ∷ crossing.Out zeros_sent ∷ crossing.Answer
 -- a life that took the second message and not the first
 abbrev pub took_second : Life
 took_second = record took { bits = eight_zeros }
-
--- the two lives on their link
-abbrev pub took_on : Linked
-took_on = record { life = took; link = 2 }
-
-abbrev pub gave_on : Linked
-gave_on = record { life = gave; link = 2 }
 
 -- ---- notices
 

@@ -1,13 +1,15 @@
 //! What a host's own program promises of its lives. The functions here do nothing: each clause is a law.
 
-ghost use Rattle.std.specs.Prelude.{◌≡◌, true, false, List, [], ◌∷◌};
+ghost use Rattle.std.specs.Prelude.{◌≡◌, Bool, true, false, List, [], ◌∷◌, ◌++◌};
 ghost use Rattle.std.specs.List.{Contains};
 ghost use Rattle.interface.specs.Host.{Host};
+ghost use Rattle.promise.specs.declared.life.Amount.{Amount};
 ghost use Rattle.promise.specs.declared.life.Life.{Life};
 ghost use Rattle.net_sim.specs.Clean.{IsLawful};
-ghost use Rattle.promise.specs.Formed.{FormedBook, IsFormed};
+ghost use Rattle.promise.specs.Formed.{IsFormed};
 ghost use Rattle.promise.specs.Notices.{FormedNotices, data_told};
 ghost use Rattle.promise.specs.Safe.{AreHanded, receives, sends};
+ghost use Rattle.interface.specs.declared.crossing.Crossing.{Crossing};
 ghost use Rattle.interface.specs.declared.crossing.Crossing.TheVariants as crossing;
 ghost use Rattle.net_sim.specs.Story.{Crossed, Moment};
 ghost use Rattle.net_sim.specs.Told.{kept_in};
@@ -23,13 +25,13 @@ ghost use Rattle.sockets.specs.Worked.{first, second, third};
 ghost use Rattle.net_sim.specs.Book.{carried, life_ended, granted, new_life, opening_kept, returned};
 ghost use Rattle.world_keeps_lives.specs.Lives.{AreRefusing, EachOn, HasOpenEnd, IsBounded, IsFreeSocket, IsFresh, IsLifeOf, IsOwned, IsSafe, IsSteady, NoneOf, at_socket, mine_on};
 ghost use Rattle.world_keeps_lives.specs.Drained.{AllDrained, AllSent, ClosedFirst, ClosesFirst};
-ghost use Rattle.world_keeps_lives.specs.Firsts.{AreApart, FirstBook, IsFirst};
+ghost use Rattle.world_keeps_lives.specs.Firsts.{AreApart, FirstBook};
 ghost use Rattle.world_keeps_lives.specs.Worked.{worked_end, with_one};
-ghost use Rattle.world_keeps_lives.specs.WorkedFormed.{arrived_told, closed_moments, closing_moments, gave, gave_on, sent_log, sent_told, stray_arrived, stray_log, stray_sent, taken_moments, took};
-ghost use Rattle.world_keeps_lives.specs.WorkedFormed.{took_on, took_second, two_log, untaken_log};
+ghost use Rattle.world_keeps_lives.specs.WorkedFormed.{arrived_told, closed_moments, closing_moments, gave, sent_log, sent_told, stray_arrived, stray_log, stray_sent, taken_moments, took};
+ghost use Rattle.world_keeps_lives.specs.WorkedFormed.{took_second, two_log, untaken_log};
 ghost use Rattle.net_sim.specs.Worked.{crossings, eight, eight_zeros, taker};
 ghost use Rattle.net_sim.specs.WorkedMoments.{sent_moments};
-ghost use Rattle.world_keeps_lives.specs.Laws.Programs.{ProgramsBounded, ProgramsDrained, ProgramsFormed, ProgramsHanded, ProgramsLive, ProgramsSockets, ProgramsSteady, ProgramsTaken, ProgramsTold};
+ghost use Rattle.world_keeps_lives.specs.Laws.Programs.{ProgramsBounded, ProgramsDrained, ProgramsHanded, ProgramsLive, ProgramsSockets, ProgramsSteady, ProgramsTaken, ProgramsTold};
 ghost use Rattle.world_keeps_lives.specs.Laws.Worlds.{WorldsLive, WorldsTaken};
 
 use interface::Carrier;
@@ -50,21 +52,18 @@ pub fn programs()
 
     ensures drained { ProgramsDrained }
 
-    ensures formed { ProgramsFormed }
-
     ensures told { ProgramsTold }
 {}
 
 /// The same of the book of every world, whatever its carrier is made of: the two clauses of the safe book that are about one host
-/// only, the bound of grants, the end of each life that isn't over, in the program that comes of the world's moments, the messages that a
-/// life is made of, and those that notices report.
+/// only, the bound of grants, the end of each life that isn't over, in the program that comes of the world's moments, and the messages that
+/// notices report.
 pub fn worlds<C: Carrier>()
     ensures live { WorldsLive C.calls }
     ensures taken { WorldsTaken C.calls }
     ensures bounded { (hosts : List Host) (w : WorldState C) → IsLawful C.calls.seen hosts w → (receiver : Life) → Contains w.kept.book.lives receiver → receives receiver ≡ true → IsBounded receiver }
     ensures handed { (hosts : List Host) (w : WorldState C) → IsLawful C.calls.seen hosts w → AreHanded w.kept.book.lives w.kept.handed }
     ensures drained { (hosts : List Host) (w : WorldState C) → (lawful : IsLawful C.calls.seen hosts w) → AllDrained lawful.whole.moments }
-    ensures formed { (hosts : List Host) (w : WorldState C) → IsLawful C.calls.seen hosts w → FormedBook w.kept.book.crossings w.kept.book.lives }
     ensures told { (hosts : List Host) (w : WorldState C) → IsLawful C.calls.seen hosts w → FormedNotices w.kept.book.crossings w.kept.book.notices }
 {}
 
@@ -133,6 +132,11 @@ pub fn worked_programs()
     ensures steady { IsSteady (opening_state first) }
 {}
 
+/// What a life is made of is determined: crossings, its sockets and hosts, its stamps and the number of its messages leave no choice of its bits.
+pub fn formed()
+    ensures determined { (log : List Crossing) (x : Life) (bits : List Bool) (granted returned : Amount) (ended : Bool) → IsFormed log x → IsFormed log (record x { bits = bits; granted = granted; returned = returned; ended = ended }) → bits ≡ x.bits }
+{}
+
 /// Lives of a small book: eight bits were sent on link 2, after an RTS that named it.
 pub fn worked_formed()
     // the life that took them and the one that sent them are made of messages that crossed
@@ -146,23 +150,26 @@ pub fn worked_formed()
     ensures another_message { IsFormed sent_log (record took { own_stamp = 12 }) → ⊥ }
     ensures another_peer { IsFormed sent_log (record took { partner_stamp = 7 }) → ⊥ }
     ensures another_link { IsFormed stray_log took → ⊥ }
+
+    // two messages crossed: a life of both, and of the first only, but not of the second only
+    ensures took_both { IsFormed two_log (record took { messages = 2; bits = eight ++ eight_zeros }) }
+    ensures took_first { IsFormed two_log took }
+    ensures passed_over { IsFormed two_log took_second → ⊥ }
+
+    // a message that a life counts and that didn't cross
+    ensures uncrossed { IsFormed sent_log (record took { messages = 2 }) → ⊥ }
 {}
 
-/// The same lives, by the first messages on their link.
+/// The messages that went out in the same book.
 pub fn worked_firsts()
-    ensures took { IsFirst sent_log took_on }
-    ensures gave { IsFirst sent_log gave_on }
+    // the one that went out is the sending life's
+    ensures sent { FirstBook sent_log (took ∷ gave ∷ []) }
 
-    // two messages crossed. A life of only the second is made of a message that crossed, but not of the first
-    ensures chosen { IsFormed two_log took_second }
-    ensures passed_over { IsFirst two_log (record took_on { life = took_second }) → ⊥ }
-
-    // a message that a life counts and that didn't cross; a second message that went out and that no life counts
-    ensures uncrossed { IsFirst sent_log (record took_on { life = record took { messages = 2 } }) → ⊥ }
-    ensures left_out { FirstBook two_log (gave ∷ []) → ⊥ }
+    // a second message that went out and that no life counts
+    ensures left_out { FirstBook two_log (took ∷ gave ∷ []) → ⊥ }
 
     // one message that two sending lives count
-    ensures twice { AreApart sent_log (gave_on ∷ gave_on ∷ []) → ⊥ }
+    ensures twice { AreApart sent_log (gave ∷ gave ∷ []) → ⊥ }
 {}
 
 /// Notices of the same small book.

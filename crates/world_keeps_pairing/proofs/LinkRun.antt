@@ -44,7 +44,7 @@ use Rattle.host_pairs.specs.declared.entry.Closing.TheVariants as closing
 use Rattle.host_pairs.specs.declared.entry.Entry.{Entry}
 use Rattle.host_pairs.proofs.lemmas.{both}
 use Rattle.host_keeps_ranges.proofs.lemmas.{pair_range}
-use Rattle.host_keeps_pairing.specs.Ends.{HasEnd, Stand, at, close_waits, request_due, standing}
+use Rattle.host_keeps_pairing.specs.Ends.{HasEnd, Stand, Standing, at, close_waits, request_due, standing}
 use Rattle.host_keeps_pairing.specs.Words.{mark_of, marks}
 use Rattle.pairing_law.specs.Ends.{End}
 use Rattle.pairing_law.specs.Marks.{Mark, Ask, Close}
@@ -272,6 +272,19 @@ few origin q e x h i =
     let none : asks (close_waits e.closing) ≡ 0 = none_in_close e.closing in
     omega (arith, parts, all, first, none)
 
+-- and for two sockets, whether there is an end of theirs or not
+once_by : (origin : ℕ → ℕ) (own foreign : ℕ) (q : PairState) (x : End) → HasEnd origin own foreign q x → asks (marks 0 own foreign q.queue) ≤ 1
+once_by origin own foreign q x h = by (at own foreign q.entries) (marks 0 own foreign q.queue) (h.ends 0) where
+  by : (ss : List Standing) (words : List Mark) → Stand true origin 0 ss words x → asks words ≤ 1
+  by [] words s = let none : asks words ≡ 0 = ap asks s.0 in omega (arith, none)
+  by (s ∷ []) words i =
+      let parts : asks (request_due 0 s.mine s.asked ++ close_waits s.closing) ≡ asks (request_due 0 s.mine s.asked) + asks (close_waits s.closing) = asks_append (request_due 0 s.mine s.asked) (close_waits s.closing) in
+      let all : asks words ≡ asks (request_due 0 s.mine s.asked ++ close_waits s.closing) = ap asks i.1 in
+      let first : asks (request_due 0 s.mine s.asked) ≤ 1 = one_due s.mine s.asked in
+      let none : asks (close_waits s.closing) ≡ 0 = none_in_close s.closing in
+      omega (arith, parts, all, first, none)
+  by (s ∷ t ∷ more) words i = absurd i
+
 -- ---- the queue of a host's program
 
 module _ (hosts : List Host) (moments : List Moment) (addresses : HaveAddresses hosts) (run : mail.IsRun hosts (crossings_of moments)) (time : IsTimeline hosts moments) where
@@ -285,6 +298,19 @@ module _ (hosts : List Host) (moments : List Moment) (addresses : HaveAddresses 
 
   pub queued_commands : (a b : Host) → AreCommands (pair_with b (program a moments).peers).queue
   queued_commands a b = (pair_range b (program a moments).peers (programs_ranged moments served a).pairs).commands
+
+  -- for two sockets there is one request at most that waits, so two of them name one link
+  pub queued_once : (a b : Host) (own foreign l k : ℕ) → Contains (pair_with b (program a moments).peers).queue (command.Rts own foreign l) → Contains (pair_with b (program a moments).peers).queue (command.Rts own foreign k) → l ≡ k
+  queued_once a b own foreign l k one other =
+      let is : IsCommand (command.Rts own foreign l) = command_at (pair_with b (program a moments).peers).queue (command.Rts own foreign l) one.0 one.1 one.2 (queued_commands a b) in
+      let once : asks (marks 0 own foreign (pair_with b (program a moments).peers).queue) ≤ 1 =
+      once_by (origin_in (crossings_of moments) a b) own foreign (pair_with b (program a moments).peers) _ ((tied.tied a b).receiver (record { receive = own; send = foreign }) (is.1, is.3)) in
+      let first : last_link (record { receive = own; send = foreign }) (all_claims (pair_with b (program a moments).peers).queue []) ≡ Some l =
+      last_queued own foreign is.1 is.3 l (pair_with b (program a moments).peers).queue [] one.0 one.1 one.2 once in
+      let second : last_link (record { receive = own; send = foreign }) (all_claims (pair_with b (program a moments).peers).queue []) ≡ Some k =
+      last_queued own foreign is.1 is.3 k (pair_with b (program a moments).peers).queue [] other.0 other.1 other.2 once in
+      let both : Some l ≡ Some k = sym first ∙ second in
+      cc
 
   pub queued_link : (a b : Host) (l : ℕ) (e : Entry) → Contains (pair_with b (program a moments).peers).queue (command.Rts e.own e.foreign l) → Contains (pair_with b (program a moments).peers).entries e → e.mine ≡ true → e.link ≡ Some l
   queued_link a b l e waits there mine =

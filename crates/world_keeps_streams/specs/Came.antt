@@ -7,7 +7,7 @@ use Rattle.net_sim.specs.Story.{Moment, program}
 use Rattle.net_sim.specs.Timeline.{crossings_of}
 use Rattle.net_sim.specs.Told.{kept_in}
 use Rattle.promise.specs.declared.life.Life.{Life}
-use Rattle.world_keeps_lives.specs.Firsts.{texts_for}
+use Rattle.promise.specs.Formed.{texts_for}
 use Rattle.world_keeps_lives.specs.Lives.{HasOpenEnd}
 
 -- a receiving life isn't over, and its end has taken the partner's CLS. A user of its host may have closed it too

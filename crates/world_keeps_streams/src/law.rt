@@ -15,7 +15,8 @@ ghost use Rattle.net_sim.specs.World.{WorldState};
 ghost use Rattle.net_sim.specs.Worked.{eight};
 ghost use Rattle.net_sim.specs.WorkedMoments.{all_given, bits_sent, connected, eight_sent, sent_moments};
 ghost use Rattle.promise.specs.Fates.{ClosesWhole};
-ghost use Rattle.world_keeps_lives.specs.Firsts.{FirstBook, texts_for};
+ghost use Rattle.promise.specs.Formed.{FormedBook, texts_for};
+ghost use Rattle.world_keeps_lives.specs.Firsts.{FirstBook};
 ghost use Rattle.world_keeps_streams.specs.Worked.{close_back, ended_moments, over_eight, over_gave, quit_moments, stopped_moments, took, took_eight};
 ghost use Rattle.world_keeps_streams.specs.Worked.{asked_moments, calm_moments, giving_end, granted_moments, granted_more, granting_moments, left_at, returned_moments, returning_moments, taking_end};
 ghost use Rattle.world_keeps_streams.specs.Answered.{AllAnswered, HasArrived};
@@ -29,7 +30,7 @@ ghost use Rattle.world_keeps_streams.specs.Closes.{AllClose, AllHanded, EachHand
 ghost use Rattle.world_keeps_streams.specs.Over.{AreOver};
 ghost use Rattle.world_keeps_streams.specs.Laws.Programs.{ProgramsCalls, ProgramsAllowed, ProgramsReceiver, ProgramsSender};
 ghost use Rattle.world_keeps_streams.specs.Laws.Streams.{StreamsFront, StreamsWhole, StreamsTaken, StreamsSent};
-ghost use Rattle.world_keeps_streams.specs.Laws.Lives.{LivesSource, LivesCloses, LivesFirsts, LivesArrives, LivesAgree, LivesAnswered, LivesRests, LivesSent, LivesEnded, LivesOver, LivesWhole};
+ghost use Rattle.world_keeps_streams.specs.Laws.Lives.{LivesSource, LivesCloses, LivesFirsts, LivesFormed, LivesArrives, LivesAgree, LivesAnswered, LivesRests, LivesSent, LivesEnded, LivesOver, LivesWhole};
 ghost use Rattle.world_keeps_streams.specs.Laws.Worlds.{WorldsSource, WorldsSent};
 ghost use Rattle.world_keeps_streams.specs.Laws.WorkedCalls.{WorkedCallsFirst};
 
@@ -87,8 +88,10 @@ pub fn lives()
     // says that it was closed is over by both CLS, and one that is over by both has such a fate
     ensures over { LivesOver }
 
-    // the messages of each life are the first on its link after both of its requests, and each message that goes out is one of a sending life: so crossings
-    // determine the bits of all lives
+    // each life is made of the first messages on its link after both of its requests, as many as it counts
+    ensures formed { LivesFormed }
+
+    // and each message that goes out is one of a sending life
     ensures firsts { LivesFirsts }
 
     // data that are taken where they come for a receiving life whose end is open, or that no user of its host has closed, arrive there, all of them
@@ -122,6 +125,7 @@ pub fn worlds<C: Carrier>()
     ensures handed { (hosts : List Host) (w : WorldState C) → (lawful : IsLawful C.calls.seen hosts w) → AllHanded lawful.whole.moments }
     ensures whole { (hosts : List Host) (w : WorldState C) → IsLawful C.calls.seen hosts w → ClosesWhole w.kept.book.crossings w.kept.book.lives w.kept.handed w.kept.fates }
     ensures over { (hosts : List Host) (w : WorldState C) → IsLawful C.calls.seen hosts w → AreOver w.kept.book.contacts w.kept.book.crossings w.kept.book.lives w.kept.fates }
+    ensures formed { (hosts : List Host) (w : WorldState C) → IsLawful C.calls.seen hosts w → FormedBook w.kept.book.crossings w.kept.book.lives }
     ensures firsts { (hosts : List Host) (w : WorldState C) → IsLawful C.calls.seen hosts w → FirstBook w.kept.book.crossings w.kept.book.lives }
     ensures arrives { (hosts : List Host) (w : WorldState C) → (lawful : IsLawful C.calls.seen hosts w) → AllArrive lawful.whole.moments }
     ensures comes { (hosts : List Host) (w : WorldState C) → (lawful : IsLawful C.calls.seen hosts w) → AllCome lawful.whole.moments }

@@ -1,4 +1,4 @@
-"""What a log says of the bits of its lives: those of the first messages on each life's link, after both of its requests.
+"""What a log says of the bits of its lives: those of the first messages on each life's link, after both of its requests. So a log determines them.
 
 It was written from docs/headline.md and docs/audit.md, in another language and another form than the definitions.
 """
@@ -51,11 +51,15 @@ class Firsts:
         return [*self.named(crossing.text, own, foreign)] if isinstance(crossing, Passed) and is_passed(crossing, kind, flow) else []
 
     def links(self, log: Sequence[Crossing], life: Life) -> list[int]:
-        """The links that the RTS of a life's two requests names, where the STR crossed too."""
+        """The links that the RTS of a life's two requests names, where the STR crossed too: several where its message holds more than one."""
         own = self.named_at(log, life.own, "out", Flow(life.host, life.peer, CONTROL), life.socket, life.foreign)
         partner = self.named_at(log, life.partner, "in", Flow(life.peer, life.host, CONTROL), life.foreign, life.socket)
         links, sizes = (own, partner) if life.receives() else (partner, own)
         return links if sizes else []
+
+    def link(self, log: Sequence[Crossing], life: Life) -> int | None:
+        """The link of a life: the first request of its sockets in a message counts."""
+        return next(iter(self.links(log, life)), None)
 
     def begun(self, life: Life) -> int:
         """The place after which a life's messages cross."""
@@ -72,12 +76,15 @@ class Firsts:
 
     def placed(self, log: Sequence[Crossing], life: Life) -> Placed | None:
         """A life with the first messages on its link; None where they aren't as many as it counts, or have other bits."""
-        for flow in (on_link(life, link) for link in self.links(log, life)):
-            first = self.messages_on(log, life, flow)[: life.messages]
-            bits = [bits for _, bits in first if bits is not None]
-            if self.are_enough(life, first) and len(bits) == len(first) and "".join(bits) == life.bits:
-                return Placed(life, flow, [at for at, _ in first])
-        return None
+        link = self.link(log, life)
+        return None if link is None else self.placed_on(log, life, on_link(life, link))
+
+    def placed_on(self, log: Sequence[Crossing], life: Life, flow: Flow) -> Placed | None:
+        """A life with the first messages on a flow, if they are as many as it counts, and have its bits."""
+        first = self.messages_on(log, life, flow)[: life.messages]
+        bits = [bits for _, bits in first if bits is not None]
+        is_made = self.are_enough(life, first) and len(bits) == len(first) and "".join(bits) == life.bits
+        return Placed(life, flow, [at for at, _ in first]) if is_made else None
 
 
 def on_link(life: Life, link: int) -> Flow:
@@ -99,7 +106,8 @@ placed = RIGHT.placed
 
 def flow_of(log: Sequence[Crossing], life: Life) -> Flow | None:
     """The flow of a life's messages; None where its requests didn't cross at its stamps."""
-    return next((on_link(life, link) for link in RIGHT.links(log, life)), None)
+    link = RIGHT.link(log, life)
+    return None if link is None else on_link(life, link)
 
 
 def messages_of(log: Sequence[Crossing], life: Life) -> list[tuple[int, Data]]:

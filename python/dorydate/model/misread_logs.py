@@ -11,7 +11,7 @@ from dorydate.model.bits import Bits, octets
 from dorydate.model.book import Fate, Life
 from dorydate.model.commands import HEADER, LENGTHS, RTS, STR
 from dorydate.model.crossings import Answered, Crossing, Turned
-from dorydate.model.firsts import Data, Firsts
+from dorydate.model.firsts import Data, Firsts, Placed, on_link
 from dorydate.model.log import BadLog, Book, LogReader
 from dorydate.model.mailboxes import Mailboxes
 from dorydate.model.names import Flow
@@ -436,15 +436,27 @@ class LinkOfTheLastRequest(Judge):
     firsts = LastLinks
 
 
-class OneLink(Firsts):
-    def links(self, log: Sequence[Crossing], life: Life) -> list[int]:
-        return super().links(log, life)[:1]
+class LastLink(Firsts):
+    def link(self, log: Sequence[Crossing], life: Life) -> int | None:
+        return next(reversed(self.links(log, life)), None)
 
 
-class FirstRequestOnly(Judge):
-    """Only the first request of the sockets in a message is looked at."""
+class LastRequestInAMessage(Judge):
+    """Of several requests of the sockets in a message the last one counts."""
 
-    firsts = OneLink
+    firsts = LastLink
+
+
+class AnyLink(Firsts):
+    def placed(self, log: Sequence[Crossing], life: Life) -> Placed | None:
+        found = (self.placed_on(log, life, on_link(life, link)) for link in self.links(log, life))
+        return next(filter(None, found), None)
+
+
+class AnyRequestInAMessage(Judge):
+    """Of several requests of the sockets in a message any one counts."""
+
+    firsts = AnyLink
 
 
 class AnyPartner(Firsts):
@@ -502,7 +514,7 @@ JUDGES: list[type[Judge]] = [
     FewerLists, MoreLists, ToldOfItsList, LineOfItsNumber, BreakBefore, LastMalformed, FirstAtOdds, WrongWayRound, FirstOfAll, NoMatch, MatchFirst,
     SenderOfStream, SenderOfGrant, SenderEnded, AllWhole, WholeWhereClosed, WholeWhereReset, WholeWhereStopped, BitsOnly, MessagesOnly, SentOnly, NothingExcuses,
     LostOfTheFirst, LostWithoutPartner, NoRun, RunAlone, FirstPartOnly, FormAlone, TwoSenders, RunBefore, BoxesStay, BoxesToItGo, BoxesGoAtOnce, NobodyIsDown, AnyAnswer,
-    NoLives, CountsAreTrusted, LinkOfTheLastRequest, FirstRequestOnly, NoSize, AllOnTheLink, LastMessages, RequestsAnywhere,
+    NoLives, CountsAreTrusted, LinkOfTheLastRequest, LastRequestInAMessage, AnyRequestInAMessage, NoSize, AllOnTheLink, LastMessages, RequestsAnywhere,
 ]  # fmt: skip
 
 

@@ -1,8 +1,8 @@
 -- Lives that are made of the messages of a small log, and lives that aren't.
-use Rattle.std.proofs.Common.{◌≡◌, ◌⊎◌, inl, inr, ℕ, ◌+◌, ◌<◌, ◌≤◌, Bool, true, false, zero, suc, List, [], ◌∷◌, ◌++◌, length, Option, Some, None, refl, ap, sym, subst, ◌∙◌, arith}
+use Rattle.std.proofs.Common.{◌≡◌, ℕ, Bool, true, false, zero, suc, List, [], ◌∷◌, Option, Some, None, is_some, refl, ap, sym, subst, arith}
 use Rattle.std.specs.List.{Contains}
+use Rattle.std.specs.Prelude.{IsSome}
 use Rattle.bit_messages.specs.Octets.{octets_of}
-use Rattle.interface.specs.declared.address.Flow.{Flow}
 use Rattle.interface.specs.declared.crossing.Crossing.{Crossing}
 use Rattle.interface.specs.declared.crossing.Crossing.TheVariants as crossing
 use Rattle.interface.specs.declared.message.HostMessage.{HostMessage}
@@ -11,8 +11,9 @@ use Rattle.ncp_control.specs.declared.command.Command.TheVariants as command
 use Rattle.host_pairs.specs.Control.{Legal, Order, Wrong, orders_of}
 use Rattle.sockets.specs.Worked.{first, second, third}
 use Rattle.promise.specs.declared.life.Life.{Life}
-use Rattle.promise.specs.Formed.{AreCarried, AreData, Carries, CrossedAt, IsFormed, request}
-use Rattle.net_sim.specs.SmallLogs.{given_log, moved, one_given, one_taken, taken_log}
+use Rattle.promise.specs.Formed.{AreData, IsFormed, first_data, link_of, named_in, texts_on}
+use Rattle.promise.specs.Safe.{receives}
+use Rattle.net_sim.specs.SmallLogs.{given_log, moved, one_given, one_taken, taken_log, two_rts}
 use Rattle.net_sim.specs.Worked.{eight, eight_zeros, message}
 use Rattle.net_sim.specs.WorkedMoments.{eight_sent, rts, str}
 
@@ -36,178 +37,93 @@ only_there order other orders is there = by (subst (λ (os : List Order). Contai
   by (zero, lt, e) = e
   by (suc k, lt, e) = absurd (omega (arith, lt))
 
+two_read : orders_of two_rts.text ≡ Legal (command.Rts 16 33 2) ∷ Legal (command.Rts 16 33 3) ∷ []
+unfolding octets_of orders_of read_of command_of
+two_read = refl
+
 pub rts_holds : Contains (orders_of rts.text) (Legal (command.Rts 16 33 2))
 rts_holds = subst (λ (os : List Order). Contains os (Legal (command.Rts 16 33 2))) (sym rts_read) (0, omega arith, refl)
 
 pub str_holds : Contains (orders_of str.text) (Legal (command.Str 33 16 8))
 str_holds = subst (λ (os : List Order). Contains os (Legal (command.Str 33 16 8))) (sym str_read) (0, omega arith, refl)
 
+-- ---- what is named
+
+rts_named : named_in 16 33 (orders_of rts.text) ≡ Some 2
+rts_named = ap (named_in 16 33) rts_read
+
+str_named : named_in 33 16 (orders_of str.text) ≡ Some 8
+str_named = ap (named_in 33 16) str_read
+
+unnamed : (o : Option ℕ) → o ≡ None → IsSome o → ⊥
+unnamed o is some = let both : false ≡ true = subst (λ (p : Option ℕ). IsSome p) is some in cc
+
+-- a life's bits, where its link is known
+bits_on : (log : List Crossing) (x : Life) (link : Option ℕ) → link_of log x ≡ link → IsFormed log x → first_data (receives x) x.messages (texts_on x link log) ≡ Some x.bits
+bits_on log x link is f = subst (λ (o : Option ℕ). first_data (receives x) x.messages (texts_on x o log) ≡ Some x.bits) is f.bits
+
+no_bits : (bits : List Bool) → None ≡ Some bits → ⊥
+no_bits bits e = cc
+
 -- ---- good ones
 
 pub row_taken : IsFormed taken_log one_taken
-row_taken = record {
-  link = 2;
-  size = 8;
-  own = record { message = rts; flow = refl; crossed = inr (inr (inl (refl, refl))); holds = rts_holds };
-  partner = record { message = str; flow = refl; crossed = inr (inl (refl, refl)); holds = str_holds };
-  carried = inr (0, [], eight, refl, refl, (eight_sent, refl, refl, refl, omega arith, omega arith), inl (inl (refl, refl)));
-}
+row_taken = record { own = ap is_some rts_named; partner = ap is_some str_named; bits = ap (λ (o : Option ℕ). first_data true 1 (texts_on one_taken o taken_log)) rts_named }
 
 pub row_given : IsFormed given_log one_given
-row_given = record {
-  link = 2;
-  size = 8;
-  own = record { message = str; flow = refl; crossed = inr (inr (inl (refl, refl))); holds = str_holds };
-  partner = record { message = rts; flow = refl; crossed = inr (inl (refl, refl)); holds = rts_holds };
-  carried = inr (0, [], eight, refl, refl, (eight_sent, refl, refl, refl, omega arith, omega arith), inl (inl (refl, refl)));
-}
+row_given = record { own = ap is_some str_named; partner = ap is_some rts_named; bits = ap (λ (o : Option ℕ). first_data false 1 (texts_on one_given o given_log)) rts_named }
 
--- ---- what crossed first, and what crossed second
-
-first_is : (c x y z : Crossing) → CrossedAt 0 c (x ∷ y ∷ z ∷ []) → c ≡ z
-first_is c x y z (inl i) = absurd (omega (arith, i.1))
-first_is c x y z (inr (inl i)) = absurd (omega (arith, i.1))
-first_is c x y z (inr (inr (inl i))) = i.0
-first_is c x y z (inr (inr (inr i))) = absurd i
-
-second_is : (c x y z : Crossing) → CrossedAt 1 c (x ∷ y ∷ z ∷ []) → c ≡ y
-second_is c x y z (inl i) = absurd (omega (arith, i.1))
-second_is c x y z (inr (inl i)) = i.0
-second_is c x y z (inr (inr (inl i))) = absurd (omega (arith, i.1))
-second_is c x y z (inr (inr (inr i))) = absurd i
-
-abbrev message_in : HostMessage → Crossing → HostMessage
-message_in d (crossing.Out m) = m
-message_in d (crossing.In m) = m
-message_in d c = d
+-- the first of two requests for its sockets
+pub row_first_named : IsFormed (crossing.In eight_sent ∷ crossing.In str ∷ crossing.Out two_rts ∷ []) one_taken
+row_first_named =
+    let named : named_in 16 33 (orders_of two_rts.text) ≡ Some 2 = ap (named_in 16 33) two_read in
+    record { own = ap is_some named; partner = ap is_some str_named; bits = ap (λ (o : Option ℕ). first_data true 1 (texts_on one_taken o (crossing.In eight_sent ∷ crossing.In str ∷ crossing.Out two_rts ∷ []))) named }
 
 -- ---- requests
 
 pub own_link : IsFormed (crossing.In eight_sent ∷ crossing.In str ∷ crossing.Out (moved first second 3 rts) ∷ []) one_taken → ⊥
-own_link f =
-    let is : f.own.message ≡ moved first second 3 rts = ap (message_in rts) (first_is (crossing.Out f.own.message) (crossing.In eight_sent) (crossing.In str) (crossing.Out (moved first second 3 rts)) f.own.crossed) in
-    let link : 3 ≡ 0 = sym (ap (λ (m : HostMessage). m.flow.link.0) is) ∙ ap (λ (g : Flow). g.link.0) f.own.flow in
-    omega (arith, link)
+own_link f = unnamed None refl f.own
 
 pub partner_link : IsFormed (crossing.In eight_sent ∷ crossing.In (moved second first 3 str) ∷ crossing.Out rts ∷ []) one_taken → ⊥
-partner_link f =
-    let is : f.partner.message ≡ moved second first 3 str = ap (message_in str) (second_is (crossing.In f.partner.message) (crossing.In eight_sent) (crossing.In (moved second first 3 str)) (crossing.Out rts) f.partner.crossed) in
-    let link : 3 ≡ 0 = sym (ap (λ (m : HostMessage). m.flow.link.0) is) ∙ ap (λ (g : Flow). g.link.0) f.partner.flow in
-    omega (arith, link)
+partner_link f = unnamed None refl f.partner
 
 pub own_to : IsFormed (crossing.In eight_sent ∷ crossing.In str ∷ crossing.Out (moved first third 0 rts) ∷ []) one_taken → ⊥
-own_to f =
-    let is : f.own.message ≡ moved first third 0 rts = ap (message_in rts) (first_is (crossing.Out f.own.message) (crossing.In eight_sent) (crossing.In str) (crossing.Out (moved first third 0 rts)) f.own.crossed) in
-    let to : 3 ≡ 2 = sym (ap (λ (m : HostMessage). m.flow.destination.imp) is) ∙ ap (λ (g : Flow). g.destination.imp) f.own.flow in
-    omega (arith, to)
+own_to f = unnamed None refl f.own
 
 pub own_from : IsFormed (crossing.In eight_sent ∷ crossing.In str ∷ crossing.Out (moved third second 0 rts) ∷ []) one_taken → ⊥
-own_from f =
-    let is : f.own.message ≡ moved third second 0 rts = ap (message_in rts) (first_is (crossing.Out f.own.message) (crossing.In eight_sent) (crossing.In str) (crossing.Out (moved third second 0 rts)) f.own.crossed) in
-    let from : 3 ≡ 1 = sym (ap (λ (m : HostMessage). m.flow.source.imp) is) ∙ ap (λ (g : Flow). g.source.imp) f.own.flow in
-    omega (arith, from)
+own_from f = unnamed None refl f.own
 
 pub partner_to : IsFormed (crossing.In eight_sent ∷ crossing.In (moved second third 0 str) ∷ crossing.Out rts ∷ []) one_taken → ⊥
-partner_to f =
-    let is : f.partner.message ≡ moved second third 0 str = ap (message_in str) (second_is (crossing.In f.partner.message) (crossing.In eight_sent) (crossing.In (moved second third 0 str)) (crossing.Out rts) f.partner.crossed) in
-    let to : 3 ≡ 1 = sym (ap (λ (m : HostMessage). m.flow.destination.imp) is) ∙ ap (λ (g : Flow). g.destination.imp) f.partner.flow in
-    omega (arith, to)
+partner_to f = unnamed None refl f.partner
 
 pub partner_from : IsFormed (crossing.In eight_sent ∷ crossing.In (moved third first 0 str) ∷ crossing.Out rts ∷ []) one_taken → ⊥
-partner_from f =
-    let is : f.partner.message ≡ moved third first 0 str = ap (message_in str) (second_is (crossing.In f.partner.message) (crossing.In eight_sent) (crossing.In (moved third first 0 str)) (crossing.Out rts) f.partner.crossed) in
-    let from : 3 ≡ 2 = sym (ap (λ (m : HostMessage). m.flow.source.imp) is) ∙ ap (λ (g : Flow). g.source.imp) f.partner.flow in
-    omega (arith, from)
-
--- what a text holds that is no control message isn't legal
-not_plain : (c : _) (text : List Bool) → text ≡ eight → Contains (orders_of text) (Legal c) → ⊥
-not_plain c text is there =
-    let e : Wrong 3 (octets_of eight) ≡ Legal c = only_there (Wrong 3 (octets_of eight)) (Legal c) (orders_of text) (ap orders_of is ∙ plain_read) there in
-    cc
+partner_from f = unnamed None refl f.partner
 
 pub own_holds : IsFormed (crossing.In eight_sent ∷ crossing.In str ∷ crossing.Out (message first second 0) ∷ []) one_taken → ⊥
-own_holds f =
-    let is : f.own.message ≡ message first second 0 = ap (message_in rts) (first_is (crossing.Out f.own.message) (crossing.In eight_sent) (crossing.In str) (crossing.Out (message first second 0)) f.own.crossed) in
-    not_plain (request 16 33 f.link) f.own.message.text (ap (λ (m : HostMessage). m.text) is) f.own.holds
+own_holds f = unnamed (named_in 16 33 (orders_of eight)) (ap (named_in 16 33) plain_read) f.own
 
 pub partner_holds : IsFormed (crossing.In eight_sent ∷ crossing.In (message second first 0) ∷ crossing.Out rts ∷ []) one_taken → ⊥
-partner_holds f =
-    let is : f.partner.message ≡ message second first 0 = ap (message_in str) (second_is (crossing.In f.partner.message) (crossing.In eight_sent) (crossing.In (message second first 0)) (crossing.Out rts) f.partner.crossed) in
-    not_plain (request 33 16 f.size) f.partner.message.text (ap (λ (m : HostMessage). m.text) is) f.partner.holds
-
-abbrev socket_in : Order → ℕ
-socket_in (Legal (command.Rts own foreign link)) = own
-socket_in (Legal (command.Str own foreign size)) = own
-socket_in o = 0
+partner_holds f = unnamed (named_in 33 16 (orders_of eight)) (ap (named_in 33 16) plain_read) f.partner
 
 pub own_socket : IsFormed taken_log (record one_taken { socket = 18 }) → ⊥
-own_socket f =
-    let is : f.own.message ≡ rts = ap (message_in rts) (first_is (crossing.Out f.own.message) (crossing.In eight_sent) (crossing.In str) (crossing.Out rts) f.own.crossed) in
-    let same : Legal (command.Rts 16 33 2) ≡ Legal (command.Rts 18 33 f.link) =
-    only_there (Legal (command.Rts 16 33 2)) (Legal (command.Rts 18 33 f.link)) (orders_of f.own.message.text) (ap (λ (m : HostMessage). orders_of m.text) is ∙ rts_read) f.own.holds in
-    let socket : 16 ≡ 18 = ap socket_in same in
-    omega (arith, socket)
+own_socket f = unnamed (named_in 18 33 (orders_of rts.text)) (ap (named_in 18 33) rts_read) f.own
 
 pub foreign_socket : IsFormed given_log (record one_given { socket = 35 }) → ⊥
-foreign_socket f =
-    let is : f.own.message ≡ str = ap (message_in str) (first_is (crossing.Out f.own.message) (crossing.Out eight_sent) (crossing.In rts) (crossing.Out str) f.own.crossed) in
-    let same : Legal (command.Str 33 16 8) ≡ Legal (command.Str 35 16 f.size) =
-    only_there (Legal (command.Str 33 16 8)) (Legal (command.Str 35 16 f.size)) (orders_of f.own.message.text) (ap (λ (m : HostMessage). orders_of m.text) is ∙ str_read) f.own.holds in
-    let socket : 33 ≡ 35 = ap socket_in same in
-    omega (arith, socket)
+foreign_socket f = unnamed (named_in 35 16 (orders_of str.text)) (ap (named_in 35 16) str_read) f.own
 
 -- ---- data
 
--- nothing is carried by crossings that aren't after a request
-none_before : (Does : Crossing → ℕ → List Bool → Type 0) (stamp : ℕ) → ((c : Crossing) (place : ℕ) (bits : List Bool) → Does c place bits → stamp < place)
-    → (log : List Crossing) → length log ≤ stamp + 1 → (count : ℕ) (bits : List Bool) → AreCarried Does log count bits → (count ≡ 0) × (bits ≡ [])
-none_before Does stamp after [] few count bits none = none
-none_before Does stamp after (c ∷ log) few count bits (inl rest) = none_before Does stamp after log (omega (arith, few)) count bits rest
-none_before Does stamp after (c ∷ log) few count bits (inr (before, front, last, e, f, does, rest)) =
-    absurd (let later : stamp < length log = after c (length log) last does in omega (arith, few, later))
-
--- so at most one message is carried where one crossing is after it
-pub one_behind : (Does : Crossing → ℕ → List Bool → Type 0) (stamp : ℕ) → ((c : Crossing) (place : ℕ) (bits : List Bool) → Does c place bits → stamp < place)
-    → (c : Crossing) (log : List Crossing) → length log ≤ stamp + 1 → (count : ℕ) (bits : List Bool) → AreCarried Does (c ∷ log) count bits
-    → (count ≡ 0) ⊎ ((count ≡ 1) × Does c (length log) bits)
-one_behind Does stamp after c log few count bits (inl rest) = inl (none_before Does stamp after log few count bits rest).0
-one_behind Does stamp after c log few count bits (inr (before, front, last, e, f, does, rest)) =
-    let none : (before ≡ 0) × (front ≡ []) = none_before Does stamp after log few before front rest in
-    inr (omega (arith, e, none.0), subst (Does c (length log)) (sym (f ∙ ap (λ (xs : List Bool). xs ++ last) none.1)) does)
-
-after_own : (x : Life) (link : ℕ) (c : Crossing) (place : ℕ) (bits : List Bool) → Carries x link c place bits → x.own_stamp < place
-after_own x link c place bits (m, is, flow, data_of, own, partner) = own
-
-after_partner : (x : Life) (link : ℕ) (c : Crossing) (place : ℕ) (bits : List Bool) → Carries x link c place bits → x.partner_stamp < place
-after_partner x link c place bits (m, is, flow, data_of, own, partner) = partner
-
 pub before_own : IsFormed (crossing.Out rts ∷ crossing.In eight_sent ∷ crossing.In str ∷ []) (record one_taken { own_stamp = 2; partner_stamp = 0 }) → ⊥
-before_own f =
-    let x : Life = record one_taken { own_stamp = 2; partner_stamp = 0 } in
-    let none : 1 ≡ 0 = (none_before (Carries x f.link) 2 (after_own x f.link) (crossing.Out rts ∷ crossing.In eight_sent ∷ crossing.In str ∷ []) (omega arith) 1 eight f.carried).0 in
-    omega (arith, none)
+before_own f = no_bits eight (bits_on (crossing.Out rts ∷ crossing.In eight_sent ∷ crossing.In str ∷ []) (record one_taken { own_stamp = 2; partner_stamp = 0 }) (Some 2) rts_named f)
 
 pub before_partner : IsFormed (crossing.In str ∷ crossing.In eight_sent ∷ crossing.Out rts ∷ []) (record one_taken { own_stamp = 0; partner_stamp = 2 }) → ⊥
-before_partner f =
-    let x : Life = record one_taken { own_stamp = 0; partner_stamp = 2 } in
-    let none : 1 ≡ 0 = (none_before (Carries x f.link) 2 (after_partner x f.link) (crossing.In str ∷ crossing.In eight_sent ∷ crossing.Out rts ∷ []) (omega arith) 1 eight f.carried).0 in
-    omega (arith, none)
-
--- one message is carried where a life has one, and it is the newest crossing
-newest : (x : Life) (link : ℕ) (c d e : Crossing) → x.partner_stamp ≡ 1 → x.messages ≡ 1 → AreCarried (Carries x link) (c ∷ d ∷ e ∷ []) x.messages x.bits → Carries x link c 2 x.bits
-newest x link c d e stamp one carried =
-    elim (one_behind (Carries x link) x.partner_stamp (after_partner x link) c (d ∷ e ∷ []) (omega (arith, stamp)) x.messages x.bits carried) [
-      | inl none ↦ absurd (omega (arith, one, none))
-      | inr there ↦ there.1
-    ]
+before_partner f = no_bits eight (bits_on (crossing.In str ∷ crossing.In eight_sent ∷ crossing.Out rts ∷ []) (record one_taken { own_stamp = 0; partner_stamp = 2 }) (Some 2) rts_named f)
 
 pub count : IsFormed taken_log (record one_taken { messages = 2 }) → ⊥
-count f =
-    let x : Life = record one_taken { messages = 2 } in
-    elim (one_behind (Carries x f.link) 1 (after_partner x f.link) (crossing.In eight_sent) (crossing.In str ∷ crossing.Out rts ∷ []) (omega arith) 2 eight f.carried) [
-      | inl none ↦ omega (arith, none)
-      | inr there ↦ omega (arith, there.0)
-    ]
+count f = no_bits eight (bits_on taken_log (record one_taken { messages = 2 }) (Some 2) rts_named f)
+
+pub second_named : IsFormed (crossing.In (moved second first 3 eight_sent) ∷ crossing.In str ∷ crossing.Out two_rts ∷ []) one_taken → ⊥
+second_named f = no_bits eight (bits_on (crossing.In (moved second first 3 eight_sent) ∷ crossing.In str ∷ crossing.Out two_rts ∷ []) one_taken (Some 2) (ap (named_in 16 33) two_read) f)
 
 pub bits_or : List Bool → Option (List Bool) → List Bool
 bits_or d (Some bits) = bits
@@ -229,42 +145,25 @@ not_zeros false m is held =
     let same : true ≡ false = ap head_is there in
     cc
 
+same_bits : (bits other : List Bool) → Some bits ≡ Some other → head_is bits ≡ head_is other
+same_bits bits other e = let same : bits ≡ other = cc in ap head_is same
+
 pub taken_bits : IsFormed taken_log (record one_taken { bits = eight_zeros }) → ⊥
-taken_bits f =
-    let x : Life = record one_taken { bits = eight_zeros } in
-    by (newest x f.link (crossing.In eight_sent) (crossing.In str) (crossing.Out rts) refl refl f.carried) where
-      by : Carries (record one_taken { bits = eight_zeros }) f.link (crossing.In eight_sent) 2 eight_zeros → ⊥
-      by (m, is, flow, held, own, partner) = not_zeros true m (sym (ap (message_in eight_sent) is)) held
+unfolding head_is
+taken_bits f = let both : true ≡ false = same_bits eight eight_zeros (bits_on taken_log (record one_taken { bits = eight_zeros }) (Some 2) rts_named f) in cc
 
 pub given_bits : IsFormed given_log (record one_given { bits = eight_zeros }) → ⊥
-given_bits f =
-    let x : Life = record one_given { bits = eight_zeros } in
-    by (newest x f.link (crossing.Out eight_sent) (crossing.In rts) (crossing.Out str) refl refl f.carried) where
-      by : Carries (record one_given { bits = eight_zeros }) f.link (crossing.Out eight_sent) 2 eight_zeros → ⊥
-      by (m, is, flow, held, own, partner) = not_zeros false m (sym (ap (message_in eight_sent) is)) held
+unfolding head_is
+given_bits f = let both : true ≡ false = same_bits eight eight_zeros (bits_on given_log (record one_given { bits = eight_zeros }) (Some 2) rts_named f) in cc
 
 pub taken_from : IsFormed (crossing.In (moved third first 2 eight_sent) ∷ crossing.In str ∷ crossing.Out rts ∷ []) one_taken → ⊥
-taken_from f = by (newest one_taken f.link (crossing.In (moved third first 2 eight_sent)) (crossing.In str) (crossing.Out rts) refl refl f.carried) where
-  by : Carries one_taken f.link (crossing.In (moved third first 2 eight_sent)) 2 eight → ⊥
-  by (m, is, flow, held, own, partner) =
-      let from : 3 ≡ 2 = ap (λ (c : Crossing). (message_in eight_sent c).flow.source.imp) is ∙ ap (λ (g : Flow). g.source.imp) flow in
-      omega (arith, from)
+taken_from f = no_bits eight (bits_on (crossing.In (moved third first 2 eight_sent) ∷ crossing.In str ∷ crossing.Out rts ∷ []) one_taken (Some 2) rts_named f)
 
 pub taken_to : IsFormed (crossing.In (moved second third 2 eight_sent) ∷ crossing.In str ∷ crossing.Out rts ∷ []) one_taken → ⊥
-taken_to f = by (newest one_taken f.link (crossing.In (moved second third 2 eight_sent)) (crossing.In str) (crossing.Out rts) refl refl f.carried) where
-  by : Carries one_taken f.link (crossing.In (moved second third 2 eight_sent)) 2 eight → ⊥
-  by (m, is, flow, held, own, partner) =
-      let to : 3 ≡ 1 = ap (λ (c : Crossing). (message_in eight_sent c).flow.destination.imp) is ∙ ap (λ (g : Flow). g.destination.imp) flow in
-      omega (arith, to)
+taken_to f = no_bits eight (bits_on (crossing.In (moved second third 2 eight_sent) ∷ crossing.In str ∷ crossing.Out rts ∷ []) one_taken (Some 2) rts_named f)
 
 pub given_to : IsFormed (crossing.Out (moved second third 2 eight_sent) ∷ crossing.In rts ∷ crossing.Out str ∷ []) one_given → ⊥
-given_to f = by (newest one_given f.link (crossing.Out (moved second third 2 eight_sent)) (crossing.In rts) (crossing.Out str) refl refl f.carried) where
-  by : Carries one_given f.link (crossing.Out (moved second third 2 eight_sent)) 2 eight → ⊥
-  by (m, is, flow, held, own, partner) =
-      let to : 3 ≡ 1 = ap (λ (c : Crossing). (message_in eight_sent c).flow.destination.imp) is ∙ ap (λ (g : Flow). g.destination.imp) flow in
-      omega (arith, to)
+given_to f = no_bits eight (bits_on (crossing.Out (moved second third 2 eight_sent) ∷ crossing.In rts ∷ crossing.Out str ∷ []) one_given (Some 2) rts_named f)
 
 pub way : IsFormed (crossing.Out eight_sent ∷ crossing.In str ∷ crossing.Out rts ∷ []) one_taken → ⊥
-way f = by (newest one_taken f.link (crossing.Out eight_sent) (crossing.In str) (crossing.Out rts) refl refl f.carried) where
-  by : Carries one_taken f.link (crossing.Out eight_sent) 2 eight → ⊥
-  by (m, is, flow, held, own, partner) = let e : crossing.Out eight_sent ≡ crossing.In m = is in cc
+way f = no_bits eight (bits_on (crossing.Out eight_sent ∷ crossing.In str ∷ crossing.Out rts ∷ []) one_taken (Some 2) rts_named f)

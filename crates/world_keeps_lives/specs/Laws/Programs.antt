@@ -5,7 +5,6 @@ use Rattle.interface.specs.Host.{Host}
 use Rattle.interface.specs.Mailboxes as mail
 use Rattle.promise.specs.declared.life.Life.{Life}
 use Rattle.net_sim.specs.Clean.{HaveAddresses}
-use Rattle.promise.specs.Formed.{FormedBook}
 use Rattle.promise.specs.Notices.{FormedNotices}
 use Rattle.promise.specs.Safe.{AreHanded, IsGranted, receives}
 use Rattle.net_sim.specs.Story.{Moment, program}
@@ -59,13 +58,6 @@ abbrev pub ProgramsDrained : Type 0
 ProgramsDrained =
     (hosts : List Host) (moments : List Moment) → HaveAddresses hosts → mail.IsRun hosts (crossings_of moments) →
     IsTimeline hosts moments → AllSent moments (kept_in moments).book.lives (kept_in moments).handed
-
--- each life is made of messages that crossed: its two requests are in those at its stamps, and its bits are those of its data
--- messages
-abbrev pub ProgramsFormed : Type 0
-ProgramsFormed =
-    (hosts : List Host) (moments : List Moment) → HaveAddresses hosts → mail.IsRun hosts (crossings_of moments) →
-    IsTimeline hosts moments → FormedBook (crossings_of moments) (kept_in moments).book.lives
 
 -- each notice of data reports a message of data just after it crossed, on the link of a connection of its socket; each such message
 -- that goes out has its notice

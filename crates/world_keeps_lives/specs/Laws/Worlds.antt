@@ -1,6 +1,6 @@
 -- The same of the book of every world, whatever its carrier is made of: the two clauses of the safe book that are about one host
--- only, the bound of grants, the end of each life that isn't over, in the program that comes of the world's moments, the messages
--- that a life is made of, and those that notices report.
+-- only, the bound of grants, the end of each life that isn't over, in the program that comes of the world's moments, and the
+-- messages that notices report.
 use Rattle.std.specs.Prelude.{◌≡◌, true, false, List, length}
 use Rattle.std.specs.List.{Contains}
 use Rattle.interface.specs.Host.{Host}

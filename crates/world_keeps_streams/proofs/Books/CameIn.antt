@@ -27,12 +27,12 @@ use Rattle.pairing_law.proofs.lemmas.{Fresh, begins_fresh}
 use Rattle.reset_law.specs.Stays as stay
 use Rattle.reset_law.proofs.lemmas.{stays_ready}
 use Rattle.sockets.specs.Pairs.{pair_with}
-use Rattle.promise.specs.Formed.{flow_of}
+use Rattle.promise.specs.Formed.{flow_of, texts_for, texts_of}
 use Rattle.promise.specs.Safe.{Name, own_request, receives}
 use Rattle.net_sim.specs.Story.{Asked, Crossed, Moment, event_in, events_of, program}
 use Rattle.net_sim.specs.Timeline.{crossings_of}
 use Rattle.promise.specs.declared.life.Life.{Life}
-use Rattle.world_keeps_lives.specs.Firsts.{begun, texts_for, texts_of}
+use Rattle.world_keeps_lives.specs.Firsts.{begun}
 use Rattle.world_keeps_lives.proofs.lemmas as books
 use Rattle.world_keeps_lives.proofs.lemmas.{WasAt, texts_none, texts_one, texts_same}
 use Rattle.world_keeps_pairing.specs.Steps.{keeps}

@@ -1,8 +1,9 @@
--- The messages of each life are the first on its link: what two programs do together to make them so.
-use Rattle.std.proofs.Common.{◌≡◌, inl, inr, ℕ, ◌==◌, true, false, List, [], ◌∷◌, drop, filter, sym, ◌∙◌}
+-- Each life is made of the first messages on its link: what two programs do together to make it so.
+use Rattle.std.proofs.Common.{◌≡◌, inl, inr, ℕ, ◌==◌, true, false, List, [], ◌∷◌, drop, filter, sym, subst, ◌∙◌}
 use Rattle.std.specs.List.{Contains}
 use Rattle.interface.specs.Calls.{Seen}
 use Rattle.interface.specs.Host.{Host}
+use Rattle.interface.specs.declared.crossing.Crossing.{Crossing}
 use Rattle.stream_law.specs.Senders.{Sender}
 use Rattle.host_pairs.specs.Entries.{is_open, sends_on}
 use Rattle.host_pairs.specs.declared.entry.Entry.{Entry}
@@ -14,10 +15,12 @@ use Rattle.net_sim.specs.Clean.{IsLawful}
 use Rattle.net_sim.specs.Story.{Moment, program}
 use Rattle.net_sim.specs.Timeline.{crossings_of}
 use Rattle.net_sim.specs.World.{WorldState}
+use Rattle.promise.specs.Formed.{FormedBook}
 use Rattle.promise.specs.declared.life.Life.{Life}
 use Rattle.world_keeps_lives.specs.Firsts.{FirstBook}
 use Rattle.world_keeps_lives.proofs.lemmas as books
-use Rattle.world_keeps_lives.proofs.lemmas.{HasOwner, Together}
+use Rattle.world_keeps_lives.proofs.lemmas.{HasOwner, LinkedBook, Together}
+use Rattle.world_keeps_pairing.proofs.lemmas.{book_lives, book_run}
 use Rattle.world_keeps_streams.specs.Calls.{own_calls}
 use Rattle.world_keeps_streams.proofs.Books.Arrives.{arrives}
 use Rattle.world_keeps_streams.proofs.Carried.Calls.{Carries, contains_among, recent, since}
@@ -71,8 +74,22 @@ module _ (hosts : List Host) where
         arrives hosts l.0 m ms l.1 l.2 x (record { there = there; receiving = kind; goes = goes; host = host; peer = peer; end = o; link = link; unclosed = inl opened; off_control = off });
   }
 
+  -- each life with its link
+  pub linked : (ms : List Moment) → Lawful hosts ms → LinkedBook (crossings_of ms) (lives_in ms)
+  linked ms l = books.linked_book hosts together ms l
+
+  pub formed : (ms : List Moment) → Lawful hosts ms → FormedBook (crossings_of ms) (lives_in ms)
+  formed ms l = books.formed_book hosts ms l (linked ms l)
+
   pub firsts : (ms : List Moment) → Lawful hosts ms → FirstBook (crossings_of ms) (lives_in ms)
-  firsts ms l = books.firsts hosts together ms l
+  firsts ms l = books.first_book hosts ms l (linked ms l)
+
+pub world_formed : {C : Type 0} (seen : C → Seen) (hosts : List Host) (w : WorldState C) → IsLawful seen hosts w → FormedBook w.kept.book.crossings w.kept.book.lives
+world_formed seen hosts w lawful =
+    subst (λ (log : List Crossing). FormedBook log w.kept.book.lives) (sym lawful.whole.crossings)
+    (subst (λ (lives : List Life). FormedBook (crossings_of lawful.whole.moments) lives) (sym (book_lives seen hosts w lawful)) (formed hosts lawful.whole.moments (lawful.addresses, book_run seen hosts w lawful, lawful.whole.timeline)))
 
 pub world_firsts : {C : Type 0} (seen : C → Seen) (hosts : List Host) (w : WorldState C) → IsLawful seen hosts w → FirstBook w.kept.book.crossings w.kept.book.lives
-world_firsts seen hosts w lawful = books.world_firsts hosts (together hosts) seen w lawful
+world_firsts seen hosts w lawful =
+    subst (λ (log : List Crossing). FirstBook log w.kept.book.lives) (sym lawful.whole.crossings)
+    (subst (λ (lives : List Life). FirstBook (crossings_of lawful.whole.moments) lives) (sym (book_lives seen hosts w lawful)) (firsts hosts lawful.whole.moments (lawful.addresses, book_run seen hosts w lawful, lawful.whole.timeline)))

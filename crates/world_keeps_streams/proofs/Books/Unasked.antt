@@ -22,13 +22,13 @@ use Rattle.promise.specs.declared.life.Life.{Life}
 use Rattle.net_sim.specs.Story.{Moment, event_in, events_of}
 use Rattle.net_sim.specs.Timeline.{crossings_of}
 use Rattle.net_sim.proofs.lemmas.{place_same}
-use Rattle.world_keeps_lives.specs.Firsts.{FirstBook, Linked}
+use Rattle.world_keeps_lives.proofs.lemmas.{Linked, LinkedBook}
 use Rattle.world_keeps_pairing.specs.Free.{law_events}
 use Rattle.world_keeps_pairing.proofs.lemmas.{IsPair, all_says, at_texts, before, foreign_of, heard_is, met_if, other, own_of}
 use Rattle.world_keeps_streams.proofs.Books.All.{all_given}
 use Rattle.world_keeps_streams.proofs.Books.Clauses.{Older, older, settled_s}
 use Rattle.world_keeps_streams.proofs.Books.Counts.{side_of}
-use Rattle.world_keeps_streams.proofs.Books.Firsts.{firsts}
+use Rattle.world_keeps_streams.proofs.Books.Firsts.{linked}
 use Rattle.world_keeps_streams.proofs.Books.Goes.{since_bound, since_on}
 use Rattle.world_keeps_streams.proofs.Books.Parted.{said_now}
 use Rattle.world_keeps_streams.proofs.Books.Run.{below}
@@ -106,17 +106,17 @@ life_of_link x (p ∷ links) (inr i) =
 
 pub own_below : (hosts : List Host) (ms : List Moment) → Lawful hosts ms → (x : Life) → IsOf x (lives_in ms) → x.own_stamp < length (crossings_of ms)
 own_below hosts ms l x i =
-    let b : FirstBook (crossings_of ms) (lives_in ms) = firsts hosts ms l in
+    let b : LinkedBook (crossings_of ms) (lives_in ms) = linked hosts ms l in
     let r : (p : Linked) × Contains b.links p × (p.life ≡ x) = life_of_link x b.links (subst (λ (ys : List Life). IsOf x ys) (sym b.all) i) in
-    let c : CrossedAt r.0.life.own_stamp (crossing.Out (b.first r.0 r.1).own.message) (crossings_of ms) = (b.first r.0 r.1).own.crossed in
-    subst (λ (y : Life). y.own_stamp < length (crossings_of ms)) r.2 (crossed_less r.0.life.own_stamp (crossing.Out (b.first r.0 r.1).own.message) (crossings_of ms) c)
+    let c : CrossedAt r.0.life.own_stamp (crossing.Out (b.first r.0 r.1).asked.own.message) (crossings_of ms) = (b.first r.0 r.1).asked.own.crossed in
+    subst (λ (y : Life). y.own_stamp < length (crossings_of ms)) r.2 (crossed_less r.0.life.own_stamp (crossing.Out (b.first r.0 r.1).asked.own.message) (crossings_of ms) c)
 
 pub partner_below : (hosts : List Host) (ms : List Moment) → Lawful hosts ms → (x : Life) → IsOf x (lives_in ms) → x.partner_stamp < length (crossings_of ms)
 partner_below hosts ms l x i =
-    let b : FirstBook (crossings_of ms) (lives_in ms) = firsts hosts ms l in
+    let b : LinkedBook (crossings_of ms) (lives_in ms) = linked hosts ms l in
     let r : (p : Linked) × Contains b.links p × (p.life ≡ x) = life_of_link x b.links (subst (λ (ys : List Life). IsOf x ys) (sym b.all) i) in
-    let c : CrossedAt r.0.life.partner_stamp (crossing.In (b.first r.0 r.1).partner.message) (crossings_of ms) = (b.first r.0 r.1).partner.crossed in
-    subst (λ (y : Life). y.partner_stamp < length (crossings_of ms)) r.2 (crossed_less r.0.life.partner_stamp (crossing.In (b.first r.0 r.1).partner.message) (crossings_of ms) c)
+    let c : CrossedAt r.0.life.partner_stamp (crossing.In (b.first r.0 r.1).asked.partner.message) (crossings_of ms) = (b.first r.0 r.1).asked.partner.crossed in
+    subst (λ (y : Life). y.partner_stamp < length (crossings_of ms)) r.2 (crossed_less r.0.life.partner_stamp (crossing.In (b.first r.0 r.1).asked.partner.message) (crossings_of ms) c)
 
 -- ---- lives from before both met last
 

@@ -37,7 +37,7 @@ use Rattle.sockets.specs.declared.peer.Peer.{Peer}
 use Rattle.sockets.specs.declared.request.Request.{Request}
 use Rattle.sockets.specs.declared.request.Request.TheVariants as request
 use Rattle.net_sim.specs.Story.{Asked, Crossed, Moment, places, program}
-use Rattle.world_keeps_lives.specs.Firsts.{text_of}
+use Rattle.promise.specs.Formed.{text_of}
 use Rattle.world_keeps_streams.specs.Calls.{answer_calls, called, calls_by, commands_said, message_calls, next_calls, orders_heard, owner_calls, parcel_calls, request_calls}
 use Rattle.world_keeps_streams.proofs.Deeds.Law.{AreStill, IsStill, asks_still, cls_still, out_still, str_still}
 use Rattle.world_keeps_streams.proofs.Stays.Quiet.{Asks, IsSolo, Quiet, Replied, Told}

@@ -8,6 +8,7 @@ use Rattle.interface.specs.declared.crossing.Answer.TheVariants as answer
 use Rattle.interface.specs.declared.crossing.Crossing.TheVariants as crossing
 use Rattle.interface.specs.declared.message.HostMessage.{HostMessage}
 use Rattle.promise.specs.Fates.{ClosesWhole, IsBeside}
+use Rattle.promise.specs.Formed.{FormedBook}
 use Rattle.promise.specs.declared.life.Fate.TheVariants as fate
 use Rattle.promise.specs.declared.life.Life.{Life}
 use Rattle.net_sim.specs.Clean.{HaveAddresses}
@@ -35,8 +36,14 @@ LivesCloses =
     (hosts : List Host) (moments : List Moment) → HaveAddresses hosts → mail.IsRun hosts (crossings_of moments) → IsTimeline hosts moments →
     (receiver : Life) → WasClosedByPartner moments receiver → TookAll (crossings_of moments) (kept_in moments).book.lives receiver
 
--- the messages of each life are the first on its link after both of its requests, and each message that goes out is one of a sending life: so crossings
--- determine the bits of all lives
+-- each life is made of messages that crossed: its two requests are in those at its stamps, and its bits are the data of the first messages on its link after
+-- both, as many as it counts
+abbrev pub LivesFormed : Type 0
+LivesFormed =
+    (hosts : List Host) (moments : List Moment) → HaveAddresses hosts → mail.IsRun hosts (crossings_of moments) → IsTimeline hosts moments →
+    FormedBook (crossings_of moments) (kept_in moments).book.lives
+
+-- each message that goes out on another link than 0 is one of a sending life, and of lives on one link one comes after the other
 abbrev pub LivesFirsts : Type 0
 LivesFirsts =
     (hosts : List Host) (moments : List Moment) → HaveAddresses hosts → mail.IsRun hosts (crossings_of moments) → IsTimeline hosts moments →

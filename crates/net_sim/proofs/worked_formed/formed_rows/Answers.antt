@@ -1,4 +1,4 @@
-use Rattle.net_sim.proofs.Books.Unformed.{row_given, row_taken}
+use Rattle.net_sim.proofs.Books.Unformed.{row_first_named, row_given, row_taken}
 use Rattle.net_sim.proofs.Books.Untold.{row_arrived, row_sent}
 use Rattle.net_sim.proofs.worked_formed.formed_rows.Goals as goal
 
@@ -13,3 +13,6 @@ returns-clause-arrived c = row_arrived
 
 pub returns-clause-sent : goal.returns-clause-sent
 returns-clause-sent c = row_sent
+
+pub returns-clause-first_named : goal.returns-clause-first_named
+returns-clause-first_named c = row_first_named

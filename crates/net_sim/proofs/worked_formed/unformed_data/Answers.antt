@@ -27,3 +27,6 @@ returns-clause-given_to c = unformed.given_to
 
 pub returns-clause-way : goal.returns-clause-way
 returns-clause-way c = unformed.way
+
+pub returns-clause-second_named : goal.returns-clause-second_named
+returns-clause-second_named c = unformed.second_named

@@ -1,5 +1,4 @@
 use Rattle.world_keeps_lives.proofs.Drained.{drained}
-use Rattle.world_keeps_lives.proofs.Formed.{formed}
 use Rattle.world_keeps_lives.proofs.Laws.{bounded, handed, holds, live, taken}
 use Rattle.world_keeps_lives.proofs.Notices.{told}
 use Rattle.world_keeps_lives.proofs.law.programs.Goals as goal
@@ -24,9 +23,6 @@ returns-clause-handed c hosts moments addresses run time = handed hosts moments 
 
 pub returns-clause-drained : goal.returns-clause-drained
 returns-clause-drained c hosts moments addresses run time = drained hosts moments addresses run time
-
-pub returns-clause-formed : goal.returns-clause-formed
-returns-clause-formed c hosts moments addresses run time = formed hosts addresses moments run time
 
 pub returns-clause-told : goal.returns-clause-told
 returns-clause-told c hosts moments addresses run time = told hosts addresses moments run time

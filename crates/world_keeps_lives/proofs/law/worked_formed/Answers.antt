@@ -1,4 +1,4 @@
-use Rattle.world_keeps_lives.proofs.FormedRows.{row_another_link, row_another_message, row_another_peer, row_gave, row_took, row_unsaid}
+use Rattle.world_keeps_lives.proofs.FormedRows.{row_another_link, row_another_message, row_another_peer, row_gave, row_passed_over, row_took, row_took_both, row_took_first, row_uncrossed, row_unsaid}
 use Rattle.world_keeps_lives.proofs.law.worked_formed.Goals as goal
 
 pub returns-clause-took : goal.returns-clause-took
@@ -18,3 +18,15 @@ returns-clause-another_peer c = row_another_peer
 
 pub returns-clause-another_link : goal.returns-clause-another_link
 returns-clause-another_link c = row_another_link
+
+pub returns-clause-took_both : goal.returns-clause-took_both
+returns-clause-took_both c = row_took_both
+
+pub returns-clause-took_first : goal.returns-clause-took_first
+returns-clause-took_first c = row_took_first
+
+pub returns-clause-passed_over : goal.returns-clause-passed_over
+returns-clause-passed_over c = row_passed_over
+
+pub returns-clause-uncrossed : goal.returns-clause-uncrossed
+returns-clause-uncrossed c = row_uncrossed

@@ -1,5 +1,4 @@
 use Rattle.world_keeps_lives.proofs.Drained.{world_drained}
-use Rattle.world_keeps_lives.proofs.Formed.{world_formed}
 use Rattle.world_keeps_lives.proofs.Laws.{world_bounded, world_handed, world_live, world_taken}
 use Rattle.world_keeps_lives.proofs.Notices.{world_told}
 use Rattle.world_keeps_lives.proofs.law.worlds.Goals as goal
@@ -18,9 +17,6 @@ returns-clause-handed g c hosts w lawful = world_handed g.C.Carrier.calls.seen h
 
 pub returns-clause-drained : goal.returns-clause-drained
 returns-clause-drained g c hosts w lawful = world_drained g.C.Carrier.calls.seen hosts w lawful
-
-pub returns-clause-formed : goal.returns-clause-formed
-returns-clause-formed g c hosts w lawful = world_formed g.C.Carrier.calls.seen hosts w lawful
 
 pub returns-clause-told : goal.returns-clause-told
 returns-clause-told g c hosts w lawful = world_told g.C.Carrier.calls.seen hosts w lawful

@@ -10,7 +10,7 @@ use Rattle.world_keeps_streams.proofs.Books.Ending.{ended_by_partner}
 use Rattle.world_keeps_streams.proofs.Books.EndingHanded.{closes_all}
 use Rattle.world_keeps_streams.proofs.Books.Handed.{took_handed}
 use Rattle.world_keeps_streams.proofs.Books.Later.{closes_whole}
-use Rattle.world_keeps_streams.proofs.Books.Firsts.{firsts}
+use Rattle.world_keeps_streams.proofs.Books.Firsts.{firsts, formed}
 use Rattle.world_keeps_streams.proofs.Ends.Fits.{over_now}
 use Rattle.world_keeps_streams.proofs.law.lives.Goals as goal
 
@@ -25,6 +25,9 @@ returns-clause-arrives c hosts moments m addresses run time receiver comes = arr
 
 pub returns-clause-closes : goal.returns-clause-closes
 returns-clause-closes c hosts moments addresses run time receiver closed = closes_whole hosts moments (addresses, run, time) receiver closed
+
+pub returns-clause-formed : goal.returns-clause-formed
+returns-clause-formed c hosts moments addresses run time = formed hosts moments (addresses, run, time)
 
 pub returns-clause-firsts : goal.returns-clause-firsts
 returns-clause-firsts c hosts moments addresses run time = firsts hosts moments (addresses, run, time)

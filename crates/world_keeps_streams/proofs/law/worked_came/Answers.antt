@@ -20,7 +20,7 @@ use Rattle.promise.specs.declared.life.Life.{Life}
 use Rattle.net_sim.specs.Story.{Crossed, program}
 use Rattle.net_sim.specs.Timeline.{crossings_of}
 use Rattle.net_sim.specs.Told.{kept_in}
-use Rattle.world_keeps_lives.specs.Firsts.{texts_for}
+use Rattle.promise.specs.Formed.{texts_for}
 use Rattle.world_keeps_lives.specs.WorkedFormed.{gave}
 use Rattle.world_keeps_lives.proofs.lemmas.{none_there}
 use Rattle.world_keeps_streams.specs.Came.{HasTakenCls}

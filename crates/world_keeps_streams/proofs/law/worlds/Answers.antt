@@ -10,7 +10,7 @@ use Rattle.world_keeps_streams.proofs.Books.EndingHanded.{world_ended}
 use Rattle.world_keeps_streams.proofs.Books.Handed.{world_handed_over}
 use Rattle.world_keeps_streams.proofs.Books.Settled.{world_settles}
 use Rattle.world_keeps_streams.proofs.Books.Later.{world_closes}
-use Rattle.world_keeps_streams.proofs.Books.Firsts.{world_firsts}
+use Rattle.world_keeps_streams.proofs.Books.Firsts.{world_firsts, world_formed}
 use Rattle.world_keeps_streams.proofs.Ends.Fits.{world_over}
 use Rattle.world_keeps_streams.proofs.law.worlds.Goals as goal
 
@@ -25,6 +25,9 @@ returns-clause-arrives g c hosts w lawful = world_arrives g.C.Carrier.calls.seen
 
 pub returns-clause-closes : goal.returns-clause-closes
 returns-clause-closes g c hosts w lawful = world_closes g.C.Carrier.calls.seen hosts w lawful
+
+pub returns-clause-formed : goal.returns-clause-formed
+returns-clause-formed g c hosts w lawful = world_formed g.C.Carrier.calls.seen hosts w lawful
 
 pub returns-clause-firsts : goal.returns-clause-firsts
 returns-clause-firsts g c hosts w lawful = world_firsts g.C.Carrier.calls.seen hosts w lawful
