@@ -1,78 +1,51 @@
 -- What a message that a host takes of its peer is for a life.
-use Rattle.std.proofs.Common.{◌≡◌, ◌⊎◌, inl, inr, ℕ, ◌≤◌, ◌==◌, ◌&&◌, ◌||◌, not, Bool, true, false, if◌then◌else◌, List, [], ◌∷◌, ◌++◌, map, take, Option, Some, None, is_some, refl, ap, sym, subst, ◌∙◌, eq-eqb}
-use Rattle.std.proofs.lemmas.Bool.{eqb-true}
+use Rattle.std.proofs.Common.{◌≡◌, inl, inr, ℕ, ◌==◌, ◌&&◌, Bool, true, false, if◌then◌else◌, List, [], ◌∷◌, refl, ap, sym, subst, ◌∙◌}
 use Rattle.interface.specs.Host.{Host, same_host}
-use Rattle.interface.specs.Mailboxes as mail
-use Rattle.interface.specs.declared.address.Flow.{Flow}
-use Rattle.interface.specs.declared.crossing.Answer.{Answer}
-use Rattle.interface.specs.declared.crossing.Answer.TheVariants as answer
 use Rattle.interface.specs.declared.crossing.Crossing.TheVariants as crossing
 use Rattle.interface.specs.declared.crossing.Inbound.TheVariants as inbound
 use Rattle.interface.specs.declared.message.HostMessage.{HostMessage}
-use Rattle.interface.proofs.lemmas.{same_host-refl, same_host-true}
-use Rattle.host_pairs.specs.About.{AreAbout, IsAbout}
-use Rattle.host_pairs.specs.Allowed.{commands_of}
-use Rattle.host_pairs.specs.Control.{Legal, Order, Wrong, orders_of}
+use Rattle.interface.proofs.lemmas.{same_host-refl}
+use Rattle.host_pairs.specs.Control.{Legal, Order, orders_of}
 use Rattle.host_pairs.specs.Data.{data_taken}
-use Rattle.host_pairs.specs.Desk.{DeskState, desk_of}
-use Rattle.host_pairs.specs.Entries.{close_due, closed_by_partner, is_at, is_busy, is_over, is_sent}
-use Rattle.host_pairs.specs.Pair.{PairState}
-use Rattle.host_pairs.specs.Parcels as parcel
-use Rattle.host_pairs.specs.Parcels.{Parcel, cls_sent, parcel_gone}
-use Rattle.host_pairs.specs.Turn.{TurnState, answered_turn, failed_by, freed, if_ready, is_gone, message_taken, orders_taken, reply_notices, settled_turn}
-use Rattle.host_pairs.specs.declared.entry.Closing.{Closing}
-use Rattle.host_pairs.specs.declared.entry.Closing.TheVariants as closing
+use Rattle.host_pairs.specs.Entries.{is_over, is_sent}
+use Rattle.host_pairs.specs.Turn.{if_ready, message_taken, orders_taken, reply_notices}
 use Rattle.host_pairs.specs.declared.entry.Entry.{Entry}
 use Rattle.host_pairs.specs.declared.notice.Notice.{Notice}
-use Rattle.host_pairs.specs.declared.notice.Notice.TheVariants as notice
-use Rattle.host_pairs.proofs.lemmas.{both}
-use Rattle.ncp_control.specs.Phases.{failed_phase, is_ready, rfnm_phase, taken_phase}
-use Rattle.ncp_control.specs.declared.command.Command.{Command}
+use Rattle.ncp_control.specs.Phases.{is_ready}
 use Rattle.ncp_control.specs.declared.command.Command.TheVariants as command
 use Rattle.ncp_control.specs.declared.phase.Phase.{Phase}
 use Rattle.ncp_control.specs.declared.phase.Phase.TheVariants as phase
 use Rattle.pairing_law.specs.Ends.{End, nothing}
-use Rattle.pairing_law.specs.Marks.{Ask, Close, Mark}
-use Rattle.pairing_law.specs.Sides as law
-use Rattle.host_keeps_pairing.specs.Ends.{HasEnd, at, is_past, kept_in, standing}
-use Rattle.host_keeps_pairing.specs.Hearing.{AreFree, AreJoint, after_request}
-use Rattle.host_keeps_pairing.specs.Openings.{AreAmong, all_lives_gone, all_lives_taken, with_openings}
-use Rattle.host_keeps_pairing.specs.Words as words
-use Rattle.host_keeps_pairing.specs.Words.{AllFit, MayAllGo, all_gone, all_taken, mark_in, mark_of, marks, marks_in}
-use Rattle.host_keeps_pairing.proofs.lemmas.{answer_keeps, data_told, eqb-sym, idle_other, rst_other, message_data, message_hears, message_idle, message_replies, message_resets, message_tells, offer_may, offer_says, offer_tells, opening_has, plain, put, request_keeps}
-use Rattle.reset_law.specs.Events.{Hear, Message, when}
-use Rattle.reset_law.specs.Pairs.{Pair, pair, pair_moved}
-use Rattle.sockets.specs.Accepting.{accepted, accepted_answer, accepted_message, after_turn, turn_of}
-use Rattle.sockets.specs.Pairs.{NcpState, opening_state, pair_with}
-use Rattle.sockets.specs.Requests.{refusal, served, served_notices}
-use Rattle.sockets.specs.Sending.{next_in, offered, offered_by}
-use Rattle.sockets.specs.declared.peer.Peer.{Peer}
-use Rattle.sockets.specs.declared.request.Request.{Request}
-use Rattle.sockets.specs.declared.request.Request.TheVariants as request
-use Rattle.sockets.proofs.lemmas.{answer_about, answer_leaves, message_about, message_leaves, offer_about, offer_leaves}
-use Rattle.net_sim.specs.Projection.{Agrees, AllPlain, ArePlain, IsApart, message_on}
-use Rattle.net_sim.specs.Story.{Asked, Crossed, IsNext, Moment, events_of, places, program}
+use Rattle.host_keeps_pairing.specs.Ends.{HasEnd, at}
+use Rattle.host_keeps_pairing.specs.Hearing.{AreJoint}
+use Rattle.host_keeps_pairing.specs.Openings.{with_openings}
+use Rattle.host_keeps_pairing.specs.Words.{AllFit, all_taken, marks_in}
+use Rattle.host_keeps_pairing.proofs.lemmas.{data_told, eqb-sym, idle_other, rst_other, message_data, message_hears, message_idle, message_replies, message_resets, message_tells, plain}
+use Rattle.reset_law.specs.Events.{Message}
+use Rattle.sockets.specs.Accepting.{accepted, after_turn, turn_of}
+use Rattle.sockets.specs.Pairs.{pair_with}
+use Rattle.net_sim.specs.Projection.{AllPlain, IsApart}
+use Rattle.net_sim.specs.Story.{Crossed, Moment, places, program}
 use Rattle.net_sim.specs.Timeline.{crossings_of}
 use Rattle.net_sim.specs.Book.{new_life}
-use Rattle.net_sim.specs.Told.{host_in, notices_by}
-use Rattle.net_sim.proofs.lemmas.{Coupled, plain_take, program_own, story_agrees}
-use Rattle.promise.specs.Ends.{Cause, Course, Dropped, Stage, Stopped, cut, each, ended_by, fails, heard, said}
+use Rattle.net_sim.specs.Told.{notices_by}
+use Rattle.net_sim.proofs.lemmas.{Coupled, program_own}
+use Rattle.promise.specs.Ends.{Course, each, heard}
 use Rattle.promise.specs.declared.life.Life.{Life}
 use Rattle.world_keeps_pairing.specs.Free.{TakesFreeAt, origin_in}
 use Rattle.world_keeps_pairing.proofs.lemmas.{AText, AllBare, AllTied, AnRrp, AnRst, AreOrigins, Sort, all_bare, all_tied, are_origins, plain_joint, programs_ranged, served_in, sort_of, takes}
 use Rattle.world_keeps_streams.proofs.Books.Run.{below}
-use Rattle.world_keeps_streams.proofs.Calls.MayHear.{fits_all, has_end}
+use Rattle.world_keeps_streams.proofs.Calls.MayHear.{fits_all}
 use Rattle.world_keeps_streams.proofs.Calls.MayTurns.{Fits}
-use Rattle.world_keeps_streams.proofs.Deeds.Effects.{Among}
-use Rattle.world_keeps_streams.proofs.Ends.Courses.{contacted_if, course_in}
-use Rattle.world_keeps_streams.proofs.Ends.Kept.{AllKept, AllPass, AllSpare, AreOff, IsTest, Keeps, KeepsTurn, all_keep, test_any, test_over, test_sent, test_taken, turn_data, turn_orders}
-use Rattle.world_keeps_streams.proofs.Ends.Marks.{AllHere, all_heard, all_said, marks_here, orders_here, own_marks, partner_marks}
-use Rattle.world_keeps_streams.proofs.Ends.Owes.{AData, AReply, AReset, Outs, Several, outs, owes_is, pair_is, queue_plain, when_on}
-use Rattle.world_keeps_streams.proofs.Ends.Ties.{end_in, entry_is, fits_here, has_now, itself, law_end, once}
-use Rattle.world_keeps_streams.proofs.Lives.Fates.{IsDown, IsEnd, IsOpening, IsResetting, TellsEnd, TellsOpening, TellsReset}
-use Rattle.world_keeps_streams.proofs.Lives.LeavesEnds.{answer_quiet, quiet_tells, reply_quiet, request_quiet, reset_quiet}
+use Rattle.world_keeps_streams.proofs.Ends.Courses.{course_in}
+use Rattle.world_keeps_streams.proofs.Ends.Kept.{AllKept, AllSpare, AreOff, IsTest, test_any, test_over, test_sent, test_taken, turn_data, turn_orders}
+use Rattle.world_keeps_streams.proofs.Ends.Marks.{all_heard, orders_here}
+use Rattle.world_keeps_streams.proofs.Ends.Owes.{when_on}
+use Rattle.world_keeps_streams.proofs.Ends.Ties.{end_in, fits_here, has_now, itself, law_end, once}
+use Rattle.world_keeps_streams.proofs.Lives.Fates.{TellsOpening, TellsReset}
+use Rattle.world_keeps_streams.proofs.Lives.LeavesEnds.{quiet_tells, reply_quiet, reset_quiet}
 use Rattle.world_keeps_streams.proofs.Requests.Sides.{Lawful, coupled_in}
-use Rattle.world_keeps_streams.proofs.Ends.Kinds.{Kind, ItDrops, ItHears, ItIdles, ItSays, ItStays, ItStops, among_none, away, end_of, kept_ends, kept_resets, off_any, off_over, off_sent, off_taken, openings_some, spare_any, spare_sent, spare_taken, stage_of}
+use Rattle.world_keeps_streams.proofs.Ends.Kinds.{Kind, ItDrops, ItHears, ItIdles, ItStays, among_none, kept_ends, kept_resets, off_any, off_over, off_sent, off_taken, openings_some, spare_any, spare_sent, spare_taken, stage_of}
 
 module _ (hosts : List Host) (m : HostMessage) (ms : List Moment) (l : Lawful hosts (Crossed (crossing.In m) ∷ ms)) (socket foreign own partner : ℕ) where
   abbrev it : Life

@@ -1,12 +1,12 @@
 -- What each moment is for a life.
-use Rattle.std.proofs.Common.{◌≡◌, ℕ, ◌==◌, ◌&&◌, Bool, true, false, if◌then◌else◌, List, ◌∷◌, Some, refl, ap, sym, subst, ◌∙◌}
+use Rattle.std.proofs.Common.{◌≡◌, ◌==◌, ◌&&◌, Bool, true, false, if◌then◌else◌, List, ◌∷◌, refl, ap, sym, subst, ◌∙◌}
 use Rattle.interface.specs.Host.{Host, same_host}
 use Rattle.interface.specs.declared.address.Flow.{Flow}
 use Rattle.interface.specs.declared.crossing.Answer.{Answer}
 use Rattle.interface.specs.declared.crossing.Crossing.TheVariants as crossing
 use Rattle.interface.specs.declared.crossing.Inbound.TheVariants as inbound
 use Rattle.interface.specs.declared.message.HostMessage.{HostMessage}
-use Rattle.interface.proofs.lemmas.{same_host-refl, same_host-true}
+use Rattle.interface.proofs.lemmas.{same_host-true}
 use Rattle.host_pairs.specs.Control.{orders_of}
 use Rattle.host_pairs.specs.Pair.{PairState}
 use Rattle.host_keeps_pairing.specs.Ends.{at}
@@ -16,12 +16,12 @@ use Rattle.sockets.specs.Sending.{offered}
 use Rattle.sockets.proofs.lemmas.{answer_about, answer_leaves, message_about, message_leaves, offer_about, offer_leaves}
 use Rattle.net_sim.specs.Book.{new_life}
 use Rattle.net_sim.specs.Story.{Asked, Crossed, IsNext, Moment, places, program}
-use Rattle.promise.specs.Ends.{Course, Dropped, cut, each, ended_by, fails, heard, said}
+use Rattle.promise.specs.Ends.{Dropped, cut, each, ended_by, fails, heard, said}
 use Rattle.promise.specs.declared.life.Life.{Life}
 use Rattle.world_keeps_streams.proofs.Ends.Comes.{in_here}
 use Rattle.world_keeps_streams.proofs.Ends.Courses.{course_in, key_of}
 use Rattle.world_keeps_streams.proofs.Ends.Fails.{asked_here, down_here, off_host, told_here, up_here}
-use Rattle.world_keeps_streams.proofs.Ends.Kinds.{Kind, away, beside, end_of, out_here, stage_of}
+use Rattle.world_keeps_streams.proofs.Ends.Kinds.{Kind, away, beside, out_here, stage_of}
 use Rattle.world_keeps_streams.proofs.Ends.Ties.{end_in}
 use Rattle.world_keeps_streams.proofs.Requests.Sides.{Lawful, coupled_in}
 

@@ -1,5 +1,5 @@
 -- At all moments each life of the book has a fate that its stage leaves. One that continues is as far as its end is by the law of pairing.
-use Rattle.std.proofs.Common.{◌≡◌, ◌⊎◌, inl, inr, ℕ, ◌+◌, ◌<◌, ◌≤◌, ◌==◌, ◌&&◌, ◌||◌, not, Bool, true, false, if◌then◌else◌, List, [], ◌∷◌, ◌++◌, Option, Some, None, is_some, refl, ap, sym, subst, ◌∙◌, arith}
+use Rattle.std.proofs.Common.{◌≡◌, ◌⊎◌, inl, inr, ℕ, ◌&&◌, ◌||◌, Bool, true, false, List, [], ◌∷◌, Option, Some, None, is_some, refl, ap, sym, subst, ◌∙◌, arith}
 use Rattle.std.specs.List.{Contains}
 use Rattle.interface.specs.Calls.{Seen}
 use Rattle.interface.specs.Host.{Host}
@@ -11,14 +11,12 @@ use Rattle.host_pairs.specs.declared.entry.Closing.TheVariants as closing
 use Rattle.host_pairs.specs.declared.entry.Entry.{Entry}
 use Rattle.host_pairs.specs.declared.notice.Notice.{Notice}
 use Rattle.pairing_law.specs.Ends.{End, nothing}
-use Rattle.pairing_law.specs.Marks.{Mark}
-use Rattle.pairing_law.specs.Sides as law
-use Rattle.host_keeps_pairing.specs.Ends.{is_past, standing}
-use Rattle.host_keeps_pairing.specs.Openings.{AreAmong, all_lives_gone, all_lives_taken, with_openings}
-use Rattle.host_keeps_pairing.specs.Words.{MayAllGo, all_gone, all_taken}
+use Rattle.host_keeps_pairing.specs.Ends.{standing}
+use Rattle.host_keeps_pairing.specs.Openings.{all_lives_gone, all_lives_taken, with_openings}
+use Rattle.host_keeps_pairing.specs.Words.{all_gone, all_taken}
 use Rattle.host_keeps_pairing.proofs.lemmas.{plain}
 use Rattle.sockets.specs.Pairs.{pair_with}
-use Rattle.promise.specs.Ends.{Asking, Cause, Closed, Course, Dropped, Going, Leaves, Over, Stage, Stopped, course, cut, stage}
+use Rattle.promise.specs.Ends.{Asking, Cause, Closed, Course, Dropped, Going, Leaves, Over, Stage, Stopped, cut, stage}
 use Rattle.promise.specs.Fates.{IsBeside, is_over}
 use Rattle.promise.specs.declared.book.Called.{Called}
 use Rattle.promise.specs.declared.life.Fate.{Fate}
@@ -35,16 +33,15 @@ use Rattle.world_keeps_lives.specs.Lives.{HasOpenEnd}
 use Rattle.world_keeps_lives.proofs.lemmas.{live, unopened}
 use Rattle.world_keeps_pairing.proofs.lemmas.{book_run}
 use Rattle.world_keeps_streams.specs.Over.{AreOver, IsOverBy}
-
 use Rattle.world_keeps_streams.proofs.Books.Run.{below}
 use Rattle.world_keeps_streams.proofs.Deeds.Effects.{Among}
-use Rattle.world_keeps_streams.proofs.Ends.Courses.{course_in, course_key, course_same, key_named, key_of}
+use Rattle.world_keeps_streams.proofs.Ends.Courses.{course_key, course_same, key_named, key_of}
 use Rattle.world_keeps_streams.proofs.Ends.Every.{kind_here}
 use Rattle.world_keeps_streams.proofs.Ends.Halves.{asked_below, half_own, half_partner, over_stays}
-use Rattle.world_keeps_streams.proofs.Ends.Kinds.{Drops, Hears, Idles, ItDrops, ItHears, ItIdles, ItSays, ItStays, ItStops, Kind, Says, Stays, Stops, among_none, end_of, openings_some, stage_of}
+use Rattle.world_keeps_streams.proofs.Ends.Kinds.{Hears, ItDrops, ItHears, ItIdles, ItSays, ItStays, ItStops, Kind, Says, among_none, end_of, openings_some, stage_of}
 use Rattle.world_keeps_streams.proofs.Ends.Marks.{HearsOn, HearsOver, SaysOn, SaysOver, asked_heard, asks_here, begin_hears, begin_says, hears_here, hears_lock, never, none_hears, none_says, none_some, own_marks, partner_marks, partner_said, says_lock}
 use Rattle.world_keeps_streams.proofs.Ends.Ties.{IsGoing, entry_is, going, itself}
-use Rattle.world_keeps_streams.proofs.Lives.Fates.{Came, How, IsBegun, IsCls, IsDown, Moved, TellsEnd, TellsOpening, TellsReset, beside_of, beside_over, came, ends_named, opening_named, resets_named}
+use Rattle.world_keeps_streams.proofs.Lives.Fates.{Came, How, IsCls, IsDown, Moved, TellsEnd, TellsOpening, TellsReset, beside_of, beside_over, came, ends_named, opening_named, resets_named}
 use Rattle.world_keeps_streams.proofs.Lives.Lists.{Named, contains}
 use Rattle.world_keeps_streams.proofs.Lives.Opened.{contains_among, no_openings}
 use Rattle.world_keeps_streams.proofs.Requests.Sides.{Lawful, coupled_in}

@@ -1,11 +1,11 @@
 -- A life's stage by what is said and heard of its two sockets, beside the end that the law of pairing has there.
-use Rattle.std.proofs.Common.{◌≡◌, ◌⊎◌, inl, inr, ℕ, suc, ◌+◌, ◌<◌, ◌≤◌, ◌==◌, ◌&&◌, ◌||◌, not, Bool, true, false, if◌then◌else◌, List, [], ◌∷◌, ◌++◌, map, Option, Some, None, is_some, refl, ap, sym, subst, ◌∙◌, eq-eqb, arith}
+use Rattle.std.proofs.Common.{◌≡◌, ◌⊎◌, inl, inr, ℕ, ◌+◌, ◌<◌, ◌≤◌, ◌==◌, ◌&&◌, not, Bool, true, false, if◌then◌else◌, List, [], ◌∷◌, ◌++◌, map, Option, Some, None, is_some, refl, ap, sym, subst, ◌∙◌, eq-eqb, arith}
 use Rattle.std.proofs.lemmas.Bool.{eqb-true}
 use Rattle.host_pairs.specs.Control.{Legal, Order, Wrong}
 use Rattle.host_pairs.proofs.lemmas.{both, not_is}
 use Rattle.ncp_control.specs.declared.command.Command.{Command}
 use Rattle.ncp_control.specs.declared.command.Command.TheVariants as command
-use Rattle.pairing_law.specs.Ends.{End, MayGo, fits, gone, is_begun, mark_taken, nothing}
+use Rattle.pairing_law.specs.Ends.{End, fits, gone, is_begun, mark_taken, nothing}
 use Rattle.pairing_law.specs.Marks.{Ask, Close, Mark}
 use Rattle.pairing_law.specs.Sides as law
 use Rattle.pairing_law.specs.Sides.{IsLater, above, lives_gone, lives_opened, lives_taken}

@@ -1,13 +1,12 @@
 -- Whether a life's host owes its peer an RRP, by what crosses and by its program.
 use Rattle.std.proofs.Common.{◌≡◌, ℕ, ◌==◌, ◌&&◌, not, Bool, true, false, if◌then◌else◌, List, [], ◌∷◌, map, take, Some, refl, ap, sym, subst, ◌∙◌, eq-eqb}
 use Rattle.interface.specs.Host.{Host, same_host}
-use Rattle.interface.specs.declared.address.Flow.{Flow}
 use Rattle.interface.specs.declared.crossing.Answer.{Answer}
 use Rattle.interface.specs.declared.crossing.Answer.TheVariants as answer
 use Rattle.interface.specs.declared.crossing.Crossing.TheVariants as crossing
 use Rattle.interface.specs.declared.message.HostMessage.{HostMessage}
 use Rattle.interface.proofs.lemmas.{same_host-true}
-use Rattle.host_pairs.specs.Allowed.{MayGo, commands_of}
+use Rattle.host_pairs.specs.Allowed.{MayGo}
 use Rattle.host_pairs.specs.Control.{Legal, Order, Wrong, orders_of}
 use Rattle.host_pairs.specs.Pair.{PairState}
 use Rattle.host_pairs.specs.Parcels as parcel
@@ -21,14 +20,13 @@ use Rattle.ncp_control.specs.declared.command.Command.TheVariants as command
 use Rattle.host_keeps_ranges.proofs.lemmas.{offer_read}
 use Rattle.host_keeps_pairing.proofs.lemmas.{eqb-sym}
 use Rattle.reset_law.specs.Events.{Begin, Call, Hear, Message, Other, Reply, Reset, Send, Take, are, when}
-use Rattle.reset_law.specs.Pairs.{Pair, pair, pair_answered, pair_moved, pair_sent, took}
-use Rattle.sockets.specs.Pairs.{NcpState, pair_with}
-use Rattle.sockets.specs.declared.peer.Peer.{Peer}
+use Rattle.reset_law.specs.Pairs.{Pair, pair, pair_moved, pair_sent, took}
+use Rattle.sockets.specs.Pairs.{pair_with}
 use Rattle.sockets.specs.declared.request.Request.TheVariants as request
 use Rattle.sockets.proofs.lemmas.{next_is, next_pair}
 use Rattle.net_sim.specs.Projection.{Agrees, AllPlain, ArePlain, IsApart, control_message, has_control, is_alone, is_rrp, is_rst, message_on}
 use Rattle.net_sim.specs.Story.{Asked, Crossed, IsNext, Moment, events_of, places, program}
-use Rattle.net_sim.proofs.lemmas.{Coupled, data_away, plain_take, story_agrees}
+use Rattle.net_sim.proofs.lemmas.{data_away, plain_take, story_agrees}
 use Rattle.promise.specs.Ends.{Course, Dropped, Stopped, asks_for, closes, cut, each, ended_by, fails, heard, own_asked, own_closed, partner_asked, partner_closed, said}
 use Rattle.promise.specs.declared.life.Life.{Life}
 use Rattle.world_keeps_pairing.proofs.lemmas.{AText, AnRrp, AnRst, Sort, programs_ranged, served_in, sort_of}

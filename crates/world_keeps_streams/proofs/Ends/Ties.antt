@@ -1,19 +1,19 @@
 -- The end of two sockets in a host's program as the law of pairing has it, where a partner's request is named by the place at which it was taken.
-use Rattle.std.proofs.Common.{◌≡◌, ℕ, ◌≤◌, ◌==◌, Bool, true, false, not, ◌&&◌, ◌||◌, if◌then◌else◌, List, [], ◌∷◌, ◌++◌, filter, map, Option, Some, None, is_some, refl, ap, sym, subst, ◌∙◌, eq-eqb}
+use Rattle.std.proofs.Common.{◌≡◌, ℕ, ◌==◌, Bool, true, false, not, ◌&&◌, ◌||◌, if◌then◌else◌, List, [], ◌∷◌, ◌++◌, filter, Option, Some, None, is_some, refl, ap, sym, subst, ◌∙◌, eq-eqb}
 use Rattle.std.proofs.lemmas.Bool.{eqb-true}
 use Rattle.interface.specs.Host.{Host}
 use Rattle.host_pairs.specs.Control.{Legal, Order, Wrong}
 use Rattle.host_pairs.specs.Entries.{is_at, is_mine_on, is_sent}
 use Rattle.host_pairs.specs.Pair.{PairState}
 use Rattle.host_pairs.specs.declared.entry.Entry.{Entry}
-use Rattle.host_pairs.proofs.lemmas.{both, not_is}
+use Rattle.host_pairs.proofs.lemmas.{both}
 use Rattle.ncp_control.specs.Phases.{is_ready}
 use Rattle.ncp_control.specs.declared.command.Command.{Command}
 use Rattle.ncp_control.specs.declared.command.Command.TheVariants as command
-use Rattle.pairing_law.specs.Ends.{End, fits, is_begun, mark_taken, nothing}
+use Rattle.pairing_law.specs.Ends.{End, mark_taken, nothing}
 use Rattle.pairing_law.specs.Marks.{Ask, Close, Mark}
 use Rattle.host_keeps_pairing.specs.Ends.{HasEnd, Stand, Standing, at, came_from, end_of, is_past, standing}
-use Rattle.host_keeps_pairing.specs.Words.{AllFit, mark_in, mark_of, marks, marks_in}
+use Rattle.host_keeps_pairing.specs.Words.{AllFit, mark_of, marks, marks_in}
 use Rattle.host_keeps_pairing.proofs.lemmas.{live_end, plain}
 use Rattle.sockets.specs.Pairs.{pair_with}
 use Rattle.net_sim.specs.Story.{Moment, program}
