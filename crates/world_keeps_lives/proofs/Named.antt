@@ -1,5 +1,5 @@
 -- What the first request of two sockets names, in a text and in what crossed at a place.
-use Rattle.std.proofs.Common.{◌≡◌, ◌⊎◌, inl, inr, ℕ, ◌<◌, ◌==◌, ◌&&◌, not, Bool, true, false, if◌then◌else◌, zero, suc, List, [], ◌∷◌, length, slice_index_or, Option, Some, None, is_some, refl, ap, sym, subst, ◌∙◌, arith, eq-eqb}
+use Rattle.std.proofs.Common.{◌≡◌, inl, inr, ℕ, ◌<◌, ◌==◌, ◌&&◌, not, Bool, true, false, if◌then◌else◌, zero, suc, List, [], ◌∷◌, length, slice_index_or, Option, Some, None, refl, ap, sym, subst, ◌∙◌, arith, eq-eqb}
 use Rattle.std.specs.List.{Contains}
 use Rattle.std.specs.Option.{option_or}
 use Rattle.std.specs.Prelude.{IsSome}
@@ -20,7 +20,6 @@ use Rattle.promise.specs.Formed.{CrossedAt, IsFormed, named_at, named_by, named_
 use Rattle.promise.specs.Safe.{control_flow}
 use Rattle.promise.specs.declared.life.Amount.{Amount}
 use Rattle.promise.specs.declared.life.Life.{Life}
-use Rattle.world_keeps_lives.proofs.Facts.{no}
 use Rattle.world_keeps_lives.proofs.Grounds.{crossed_below}
 use Rattle.world_keeps_lives.proofs.Requests.{first_of, later_of}
 

@@ -6,8 +6,9 @@ use Rattle.interface.specs.declared.address.Flow.{Flow}
 use Rattle.interface.specs.declared.crossing.Crossing.{Crossing}
 use Rattle.interface.specs.declared.crossing.Crossing.TheVariants as crossing
 use Rattle.interface.specs.declared.message.HostMessage.{HostMessage}
-use Rattle.promise.specs.Formed.{CrossedAt, flow_of, link_of, texts_on}
+use Rattle.promise.specs.Formed.{CrossedAt, IsFormed, flow_of, link_of, texts_on}
 use Rattle.promise.specs.Safe.{before, receives}
+use Rattle.promise.specs.declared.life.Amount.{Amount}
 use Rattle.promise.specs.declared.life.Life.{Life}
 
 -- ---- sending lives, one after another
@@ -55,3 +56,9 @@ pub record IsSentIn (log : List Crossing) (place : ℕ) (m : HostMessage) (x : L
 pub record FirstBook (log : List Crossing) (lives : List Life) : Type 0 where
   pub apart : AreApart log lives
   pub sent : (place : ℕ) (m : HostMessage) → CrossedAt place (crossing.Out m) log → (m.flow.link.0 == 0) ≡ false → (x : Life) × Contains lives x × IsSentIn log place m x
+
+-- whatever else two lives have: if both are made of what crossed, and have the same hosts, sockets, stamps and count of messages, they have the same bits
+abbrev pub DetermineBits : Type 0
+DetermineBits =
+    (log : List Crossing) (x : Life) (bits : List Bool) (granted returned : Amount) (ended : Bool) → IsFormed log x
+    → IsFormed log (record x { bits = bits; granted = granted; returned = returned; ended = ended }) → bits ≡ x.bits

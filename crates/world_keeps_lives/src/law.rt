@@ -7,6 +7,7 @@ ghost use Rattle.promise.specs.declared.life.Amount.{Amount};
 ghost use Rattle.promise.specs.declared.life.Life.{Life};
 ghost use Rattle.net_sim.specs.Clean.{IsLawful};
 ghost use Rattle.promise.specs.Formed.{IsFormed};
+ghost use Rattle.world_keeps_lives.specs.Firsts.{DetermineBits};
 ghost use Rattle.promise.specs.Notices.{FormedNotices, data_told};
 ghost use Rattle.promise.specs.Safe.{AreHanded, receives, sends};
 ghost use Rattle.interface.specs.declared.crossing.Crossing.{Crossing};
@@ -134,7 +135,7 @@ pub fn worked_programs()
 
 /// What a life is made of is determined: crossings, its sockets and hosts, its stamps and the number of its messages leave no choice of its bits.
 pub fn formed()
-    ensures determined { (log : List Crossing) (x : Life) (bits : List Bool) (granted returned : Amount) (ended : Bool) → IsFormed log x → IsFormed log (record x { bits = bits; granted = granted; returned = returned; ended = ended }) → bits ≡ x.bits }
+    ensures determined { DetermineBits }
 {}
 
 /// Lives of a small book: eight bits were sent on link 2, after an RTS that named it.
