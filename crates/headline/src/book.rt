@@ -4,6 +4,7 @@ ghost use Rattle.std.specs.Prelude.{◌≡◌};
 ghost use Rattle.headline.specs.Promise.{IsExact};
 ghost use Rattle.promise.specs.Fates.{AreFated, ClosesWhole};
 ghost use Rattle.promise.specs.Promised.{Promised};
+ghost use Rattle.world_keeps_streams.specs.Over.{AreOver};
 
 use interface::Carrier;
 use net_sim::{Book, World};
@@ -37,13 +38,16 @@ use net_sim::{Book, World};
 ///
 /// By `fated` there is one fate for each life, and it says whether the life is over. By `whole` an orderly close loses
 /// nothing: a receiving life that is over by CLS, and that nobody at its host had closed (its fate is `Ended`), took
-/// all that the life which it matches sent, and all that was handed over there.
+/// all that the life which it matches sent, and all that was handed over there. By `over` each life is over as its fate
+/// says, and by what its fate says, which is computed from what crossed and from the contacts of its host: by both CLS of
+/// its sockets (`Closed` or `Ended`), by its connections being dropped (`Reset`), or by its host's stop (`Stopped`).
 pub fn book_of<C: Carrier>(world: &World<C>) -> &Book
     ensures value { result.now ≡ world.now.kept }
     ensures promise { Promised (C.calls.seen world.now.carrier).hosts result.now.book result.now.handed }
     ensures lawful { IsExact C.calls.seen world.now }
     ensures fated { AreFated result.now.book.lives result.now.fates }
     ensures whole { ClosesWhole result.now.book.crossings result.now.book.lives result.now.handed result.now.fates }
+    ensures over { AreOver result.now.book.contacts result.now.book.crossings result.now.book.lives result.now.fates }
 {
     world.book()
 }

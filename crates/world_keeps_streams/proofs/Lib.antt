@@ -9,4 +9,5 @@ pub mod Lives
 pub mod Requests
 pub mod Tidy
 pub mod Books
+pub mod Ends
 pub mod lemmas

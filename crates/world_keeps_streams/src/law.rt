@@ -27,9 +27,10 @@ ghost use Rattle.world_keeps_streams.specs.Rests.{Agree, AllAgree, AllCalm, AllR
 ghost use Rattle.world_keeps_streams.specs.Settled.{EachAgrees, HasSettled};
 ghost use Rattle.world_keeps_lives.specs.WorkedFormed.{gave};
 ghost use Rattle.world_keeps_streams.specs.Closes.{AllClose, AllHanded, EachHanded, IsClosedByPartner, TookHanded, WasClosedBy, WasClosedByPartner};
+ghost use Rattle.world_keeps_streams.specs.Over.{AreOver};
 ghost use Rattle.world_keeps_streams.specs.Laws.Programs.{ProgramsCalls, ProgramsAllowed, ProgramsReceiver, ProgramsSender};
 ghost use Rattle.world_keeps_streams.specs.Laws.Streams.{StreamsFront, StreamsWhole, StreamsTaken, StreamsSent};
-ghost use Rattle.world_keeps_streams.specs.Laws.Lives.{LivesSource, LivesCloses, LivesFirsts, LivesFormed, LivesArrives, LivesAgree, LivesAnswered, LivesRests, LivesSent, LivesEnded, LivesWhole};
+ghost use Rattle.world_keeps_streams.specs.Laws.Lives.{LivesSource, LivesCloses, LivesFirsts, LivesFormed, LivesArrives, LivesAgree, LivesAnswered, LivesRests, LivesSent, LivesEnded, LivesOver, LivesWhole};
 ghost use Rattle.world_keeps_streams.specs.Laws.Worlds.{WorldsSource, WorldsSent};
 ghost use Rattle.world_keeps_streams.specs.Laws.WorkedCalls.{WorkedCallsFirst};
 
@@ -83,6 +84,10 @@ pub fn lives()
     // so an orderly close loses nothing: such a life took all that its partner sent, and all that was handed over there
     ensures whole { LivesWhole }
 
+    // each life is over as its fate says, by what its fate says: by both CLS of its sockets, as its connections are dropped, or as its host stops. So one whose fate
+    // says that it was closed is over by both CLS, and one that is over by both has such a fate
+    ensures over { LivesOver }
+
     // each life is made of the first messages on its link after both of its requests, as many as it counts
     ensures formed { LivesFormed }
 
@@ -119,6 +124,7 @@ pub fn worlds<C: Carrier>()
     ensures came { (hosts : List Host) (w : WorldState C) → (lawful : IsLawful C.calls.seen hosts w) → AllCame lawful.whole.moments }
     ensures handed { (hosts : List Host) (w : WorldState C) → (lawful : IsLawful C.calls.seen hosts w) → AllHanded lawful.whole.moments }
     ensures whole { (hosts : List Host) (w : WorldState C) → IsLawful C.calls.seen hosts w → ClosesWhole w.kept.book.crossings w.kept.book.lives w.kept.handed w.kept.fates }
+    ensures over { (hosts : List Host) (w : WorldState C) → IsLawful C.calls.seen hosts w → AreOver w.kept.book.contacts w.kept.book.crossings w.kept.book.lives w.kept.fates }
     ensures formed { (hosts : List Host) (w : WorldState C) → IsLawful C.calls.seen hosts w → FormedBook w.kept.book.crossings w.kept.book.lives }
     ensures firsts { (hosts : List Host) (w : WorldState C) → IsLawful C.calls.seen hosts w → FirstBook w.kept.book.crossings w.kept.book.lives }
     ensures arrives { (hosts : List Host) (w : WorldState C) → (lawful : IsLawful C.calls.seen hosts w) → AllArrive lawful.whole.moments }

@@ -7,3 +7,4 @@
 pub mod calm;
 pub mod law;
 pub mod worked;
+pub mod worked_ends;

@@ -61,7 +61,7 @@ module _ (hosts : List Host) (origin : Host → Host → ℕ → ℕ) (m : HostM
   silent_orders : (m.flow.link.0 == 0) ≡ true → AreSilent (origin m.flow.destination m.flow.source) (orders_of m.text)
   silent_orders zero = λ own foreign place u. subst (λ (z : Bool). (if z then marks_in place own foreign (orders_of m.text) else []) ≡ []) zero (silent own foreign place u)
 
-  fits_all : (m.flow.link.0 == 0) ≡ true → is_ready (pair_with m.flow.source (program m.flow.destination moments).peers).phase ≡ true → AreJoint (orders_of m.text)
+  pub fits_all : (m.flow.link.0 == 0) ≡ true → is_ready (pair_with m.flow.source (program m.flow.destination moments).peers).phase ≡ true → AreJoint (orders_of m.text)
       → (own foreign : ℕ) → Fits (origin m.flow.destination m.flow.source) m.flow.source (places moments) (orders_of m.text) (turn_of (program m.flow.destination moments) m.flow.source) own foreign
   fits_all zero ready joint own foreign =
       by_kind (Fits (origin m.flow.destination m.flow.source) m.flow.source (places moments) (orders_of m.text) (turn_of (program m.flow.destination moments) m.flow.source) own foreign) own foreign

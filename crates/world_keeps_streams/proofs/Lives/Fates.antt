@@ -94,6 +94,14 @@ abbrev pub TellsOpening : Life → List Notice → Type 0
 TellsOpening x [] = ⊥
 TellsOpening x (n ∷ ns) = IsOpening x n ⊎ TellsOpening x ns
 
+abbrev pub IsResetting : Life → Notice → Type 0
+IsResetting x (notice.PairReset peer) = peer ≡ x.peer
+IsResetting x n = ⊥
+
+abbrev pub TellsReset : Life → List Notice → Type 0
+TellsReset x [] = ⊥
+TellsReset x (n ∷ ns) = IsResetting x n ⊎ TellsReset x ns
+
 -- they are of a life by its names
 end_named : (x y : Life) → Named x y → (n : Notice) → (IsEnd x n → IsEnd y n) × (IsEnd y n → IsEnd x n)
 end_named x y m (notice.Ended socket peer foreign) = (
@@ -102,7 +110,7 @@ end_named x y m (notice.Ended socket peer foreign) = (
 )
 end_named x y m n = (λ e. absurd e, λ e. absurd e)
 
-ends_named : (x y : Life) → Named x y → (ns : List Notice) → (TellsEnd x ns → TellsEnd y ns) × (TellsEnd y ns → TellsEnd x ns)
+pub ends_named : (x y : Life) → Named x y → (ns : List Notice) → (TellsEnd x ns → TellsEnd y ns) × (TellsEnd y ns → TellsEnd x ns)
 ends_named x y m [] = (λ t. t, λ t. t)
 ends_named x y m (n ∷ ns) = (
   λ t. elim t [
@@ -115,9 +123,54 @@ ends_named x y m (n ∷ ns) = (
   ],
 )
 
-opening_named : (x y : Life) → Named x y → (n : Notice) → IsOpening x n → IsOpening y n
+pub opening_named : (x y : Life) → Named x y → (n : Notice) → IsOpening x n → IsOpening y n
 opening_named x y m (notice.Opened socket peer foreign own partner) o = (o.0 ∙ sym m.peer, o.1 ∙ sym m.socket, o.2 ∙ sym m.foreign)
 opening_named x y m n o = absurd o
+
+resetting_named : (x y : Life) → Named x y → (n : Notice) → IsResetting y n → IsResetting x n
+resetting_named x y m (notice.PairReset peer) e = e ∙ m.peer
+resetting_named x y m n e = absurd e
+
+pub resets_named : (x y : Life) → Named x y → (ns : List Notice) → TellsReset y ns → TellsReset x ns
+resets_named x y m [] t = t
+resets_named x y m (n ∷ ns) (inl e) = inl (resetting_named x y m n e)
+resets_named x y m (n ∷ ns) (inr t) = inr (resets_named x y m ns t)
+
+-- ---- what becomes of a life that isn't over by a host's notices: it continues, it is over by CLS, or its pair was reset
+
+abbrev pub IsCls : Fate → Type 0
+IsCls g = (g ≡ fate.Closed) ⊎ (g ≡ fate.Ended)
+
+abbrev pub How : Host → Life → List Notice → Fate → Type 0
+How h x ns g = (is_over g ≡ false) ⊎ ((IsCls g × (h ≡ x.host) × TellsEnd x ns) ⊎ ((g ≡ fate.Reset) × (h ≡ x.host) × TellsReset x ns))
+
+cls_over : (g : Fate) → IsCls g → is_over g ≡ true
+cls_over g (inl e) = ap is_over e
+cls_over g (inr e) = ap is_over e
+
+first_end : (x : Life) (n : Notice) (ns : List Notice) → TellsEnd x (n ∷ []) → TellsEnd x (n ∷ ns)
+first_end x n ns (inl e) = inl e
+first_end x n ns (inr t) = absurd t
+
+first_reset : (x : Life) (n : Notice) (ns : List Notice) → TellsReset x (n ∷ []) → TellsReset x (n ∷ ns)
+first_reset x n ns (inl e) = inl e
+first_reset x n ns (inr t) = absurd t
+
+-- by names that are the same, and by notices after another
+how_named : (h : Host) (ns : List Notice) (x y : Life) (g : Fate) → Named x y → How h y ns g → How h x ns g
+how_named h ns x y g m (inl goes) = inl goes
+how_named h ns x y g m (inr (inl t)) = inr (inl (t.0, t.1 ∙ m.host, (ends_named x y m ns).1 t.2))
+how_named h ns x y g m (inr (inr t)) = inr (inr (t.0, t.1 ∙ m.host, resets_named x y m ns t.2))
+
+how_later : (h : Host) (n : Notice) (ns : List Notice) (x : Life) (g : Fate) → How h x ns g → How h x (n ∷ ns) g
+how_later h n ns x g (inl goes) = inl goes
+how_later h n ns x g (inr (inl t)) = inr (inl (t.0, t.1, inr t.2))
+how_later h n ns x g (inr (inr t)) = inr (inr (t.0, t.1, inr t.2))
+
+how_then : (h : Host) (n : Notice) (ns : List Notice) (x : Life) (g k : Fate) → How h x (n ∷ []) g → (is_over g ≡ true → k ≡ g) → (is_over g ≡ false → How h x ns k) → How h x (n ∷ ns) k
+how_then h n ns x g k (inl goes) over more = how_later h n ns x k (more goes)
+how_then h n ns x g k (inr (inl t)) over more = inr (inl (subst IsCls (sym (over (cls_over g t.0))) t.0, t.1, first_end x n ns t.2))
+how_then h n ns x g k (inr (inr t)) over more = inr (inr (over (ap is_over t.0) ∙ t.0, t.1, first_reset x n ns t.2))
 
 -- ---- what becomes of a life and its fate by notices
 
@@ -127,9 +180,11 @@ pub record Turned (h : Host) (ns : List Notice) (x : Life) (f : Fate) (y : Life)
   pub opens : g ≡ fate.Open → f ≡ fate.Open
   pub ends : g ≡ fate.Ended → (f ≡ fate.Ended) ⊎ ((f ≡ fate.Open) × (h ≡ x.host) × TellsEnd x ns)
   pub still : x.ended ≡ true → y ≡ x
+  pub over : is_over f ≡ true → g ≡ f
+  pub how : is_over f ≡ false → How h x ns g
 
 turned_same : (h : Host) (ns : List Notice) (x : Life) (f : Fate) → Turned h ns x f x f
-turned_same h ns x f = record { named = named_itself x; granted = refl; opens = λ e. e; ends = λ e. inl e; still = λ e. refl }
+turned_same h ns x f = record { named = named_itself x; granted = refl; opens = λ e. e; ends = λ e. inl e; still = λ e. refl; over = λ e. refl; how = λ e. inl e }
 
 turned_then : (h : Host) (n : Notice) (ns : List Notice) (x y z : Life) (f g k : Fate) → Turned h (n ∷ []) x f y g → Turned h ns y g z k → Turned h (n ∷ ns) x f z k
 turned_then h n ns x y z f g k a b = record {
@@ -148,6 +203,8 @@ turned_then h n ns x y z f g k a b = record {
     | inr now ↦ inr (a.opens now.0, now.1 ∙ a.named.host, inr ((ends_named x y a.named ns).1 now.2))
   ];
   still = λ e. b.still (ap (λ (v : Life). v.ended) (a.still e) ∙ e) ∙ a.still e;
+  over = λ e. b.over (ap is_over (a.over e) ∙ e) ∙ a.over e;
+  how = λ e. how_then h n ns x g k (a.how e) b.over (λ goes. how_named h ns x y k a.named (b.how goes));
 } where
   first : (f ≡ fate.Ended) ⊎ ((f ≡ fate.Open) × (h ≡ x.host) × TellsEnd x (n ∷ [])) → (f ≡ fate.Ended) ⊎ ((f ≡ fate.Open) × (h ≡ x.host) × TellsEnd x (n ∷ ns))
   first (inl e) = inl e
@@ -163,20 +220,24 @@ turned_life h ns true change x f names keeps goes = record {
   opens = λ e. e;
   ends = λ e. inl e;
   still = λ e. absurd (let no : true ≡ false = sym e ∙ goes refl in cc);
+  over = λ e. refl;
+  how = λ e. inl e;
 }
 turned_life h ns false change x f names keeps goes = turned_same h ns x f
 
 -- lives that end
 turned_over : (h : Host) (ns : List Notice) (v : Bool) (turn : Fate → Fate) (x : Life) (f : Fate) → (v ≡ true → x.ended ≡ false) → ((g : Fate) → turn g ≡ fate.Open → ⊥) → (v ≡ true → turn f ≡ fate.Ended → (f ≡ fate.Open) × (h ≡ x.host) × TellsEnd x ns)
-    → Turned h ns x f (changed_when v life_ended x) (if v then turn f else f)
-turned_over h ns true turn x f goes never ends = record {
+    → (v ≡ true → is_over f ≡ false) → (v ≡ true → How h x ns (turn f)) → Turned h ns x f (changed_when v life_ended x) (if v then turn f else f)
+turned_over h ns true turn x f goes never ends fated how = record {
   named = record { host = refl; socket = refl; peer = refl; foreign = refl; own = refl; partner = refl };
   granted = refl;
   opens = λ e. absurd (never f e);
   ends = λ e. inr (ends refl e);
   still = λ e. absurd (let no : true ≡ false = sym e ∙ goes refl in cc);
+  over = λ e. absurd (let no : true ≡ false = sym e ∙ fated refl in cc);
+  how = λ e. how refl;
 }
-turned_over h ns false turn x f goes never ends = turned_same h ns x f
+turned_over h ns false turn x f goes never ends fated how = turned_same h ns x f
 
 -- ---- which lives those are
 
@@ -201,6 +262,15 @@ at_host h socket x e =
 with_goes : (h peer : Host) (x : Life) → lives_with h peer x ≡ true → x.ended ≡ false
 with_goes h peer x e = not_is x.ended (both (same_host h x.host && same_host peer x.peer) (not x.ended) e).1
 
+-- those with a peer
+with_names : (h peer : Host) (x : Life) → lives_with h peer x ≡ true → (h ≡ x.host) × (peer ≡ x.peer)
+with_names h peer x e =
+    let p : (same_host h x.host ≡ true) × (same_host peer x.peer ≡ true) = both (same_host h x.host) (same_host peer x.peer) (both (same_host h x.host && same_host peer x.peer) (not x.ended) e).0 in
+    (same_host-true h x.host p.0, same_host-true peer x.peer p.1)
+
+on_host : (h : Host) (x : Life) → lives_on h x ≡ true → h ≡ x.host
+on_host h x e = same_host-true h x.host (both (same_host h x.host) (not x.ended) e).0
+
 on_goes : (h : Host) (x : Life) → lives_on h x ≡ true → x.ended ≡ false
 on_goes h x e = not_is x.ended (both (same_host h x.host) (not x.ended) e).1
 
@@ -223,6 +293,26 @@ over_open fate.Ended o e = absurd (let no : true ≡ false = o in cc)
 over_open fate.Reset o e = absurd (let no : true ≡ false = o in cc)
 over_open fate.Stopped o e = absurd (let no : true ≡ false = o in cc)
 
+over_cls : (g : Fate) → IsCls (over_by_cls g)
+over_cls fate.Open = inr refl
+over_cls fate.Closing = inl refl
+over_cls fate.Closed = inr refl
+over_cls fate.Ended = inr refl
+over_cls fate.Reset = inr refl
+over_cls fate.Stopped = inr refl
+
+closing_over : (g : Fate) → is_over g ≡ true → closing g ≡ g
+closing_over fate.Open e = absurd (let no : false ≡ true = e in cc)
+closing_over fate.Closing e = refl
+closing_over fate.Closed e = refl
+closing_over fate.Ended e = refl
+closing_over fate.Reset e = refl
+closing_over fate.Stopped e = refl
+
+closing_goes : (g : Fate) → is_over g ≡ false → is_over (closing g) ≡ false
+closing_goes fate.Open e = refl
+closing_goes g e = e
+
 closing_open : (g : Fate) → closing g ≡ fate.Open → ⊥
 closing_open fate.Open e = absurd (let no : fate.Closing ≡ fate.Open = e in cc)
 closing_open fate.Closing e = absurd (let no : fate.Closing ≡ fate.Open = e in cc)
@@ -243,6 +333,7 @@ pub record IsBegun (h : Host) (ns : List Notice) (y : Life) (g : Fate) : Type 0 
   pub host : h ≡ y.host
   pub opens : TellsOpening y ns
   pub ends : g ≡ fate.Ended → TellsEnd y ns
+  pub how : How h y ns g
 
 -- a life and its fate come from such that were there, or it begins
 abbrev pub Comes : Host → List Notice → List Life → List Fate → Life → Fate → Type 0
@@ -256,15 +347,17 @@ lives_come h ns test change lives fates y g names keeps goes i =
 
 over_comes : (h : Host) (ns : List Notice) (test : Life → Bool) (turn : Fate → Fate) (lives : List Life) (fates : List Fate) (y : Life) (g : Fate) → ((z : Life) → test z ≡ true → z.ended ≡ false) → ((k : Fate) → turn k ≡ fate.Open → ⊥)
     → ((x : Life) (k : Fate) → IsBeside x k lives fates → test x ≡ true → turn k ≡ fate.Ended → (k ≡ fate.Open) × (h ≡ x.host) × TellsEnd x ns)
+    → AreFated lives fates → ((x : Life) (k : Fate) → test x ≡ true → How h x ns (turn k))
     → IsBeside y g (where_it test life_ended lives) (fates_where test turn lives fates) → Comes h ns lives fates y g
-over_comes h ns test turn lives fates y g goes never ends i =
+over_comes h ns test turn lives fates y g goes never ends a how i =
     let w : Was y g lives fates test life_ended turn = was_where test life_ended turn lives fates y g i in
     inl (
       w.life,
       w.how,
       w.there,
       subst (λ (k : Fate). Turned h ns w.life w.how y k) (sym w.fate_is)
-          (subst (λ (z : Life). Turned h ns w.life w.how z (if test w.life then turn w.how else w.how)) (sym w.is) (turned_over h ns (test w.life) turn w.life w.how (goes w.life) never (ends w.life w.how w.there))),
+          (subst (λ (z : Life). Turned h ns w.life w.how z (if test w.life then turn w.how else w.how)) (sym w.is) (turned_over h ns (test w.life) turn w.life w.how (goes w.life) never (ends w.life w.how w.there)
+          (λ e. sym (beside_over lives fates w.life w.how a w.there) ∙ goes w.life e) (how w.life w.how))),
     )
 
 told_comes : (h : Host) (n : Notice) (lives : List Life) (fates : List Fate) (y : Life) (g : Fate) → AreFated lives fates → IsBeside y g (lives_told h n lives) (fates_told h n lives fates) → Comes h (n ∷ []) lives fates y g
@@ -275,6 +368,7 @@ told_comes h (notice.Opened socket peer foreign own partner) lives fates y g a i
     host = ap (λ (z : Life). z.host) (sym new.0);
     opens = inl (ap (λ (z : Life). z.peer) (sym new.0), ap (λ (z : Life). z.socket) (sym new.0), ap (λ (z : Life). z.foreign) (sym new.0));
     ends = λ e. absurd (let no : fate.Open ≡ fate.Ended = sym new.1 ∙ e in cc);
+    how = inl (ap is_over new.1);
   })
 ]
 told_comes h (notice.Ended socket peer foreign) lives fates y g a i =
@@ -282,10 +376,12 @@ told_comes h (notice.Ended socket peer foreign) lives fates y g a i =
     (λ x k there e turns.
     (let p : (lives_at h socket x ≡ true) × IsEnd x (notice.Ended socket peer foreign) = between_at h socket peer foreign x e in
     let over : is_over k ≡ false = sym (beside_over lives fates x k a there) ∙ at_goes h socket x p.0 in
-    (over_open k over turns, at_host h socket x p.0, inl p.1))) i
+    (over_open k over turns, at_host h socket x p.0, inl p.1))) a
+    (λ x k e. (let p : (lives_at h socket x ≡ true) × IsEnd x (notice.Ended socket peer foreign) = between_at h socket peer foreign x e in inr (inl (over_cls k, at_host h socket x p.0, inl p.1)))) i
 told_comes h (notice.PairReset peer) lives fates y g a i =
     over_comes h (notice.PairReset peer ∷ []) (lives_with h peer) (λ f. fate.Reset) lives fates y g (with_goes h peer) (λ k e. absurd (let no : fate.Reset ≡ fate.Open = e in cc))
-    (λ x k there e turns. absurd (let no : fate.Reset ≡ fate.Ended = turns in cc)) i
+    (λ x k there e turns. absurd (let no : fate.Reset ≡ fate.Ended = turns in cc)) a
+    (λ x k e. (let p : (h ≡ x.host) × (peer ≡ x.peer) = with_names h peer x e in inr (inr (refl, p.0, inl p.1)))) i
 told_comes h (notice.Sent socket bits) lives fates y g a i =
     lives_come h (notice.Sent socket bits ∷ []) (lives_at h socket) (carried bits) lives fates y g (λ z. record { host = refl; socket = refl; peer = refl; foreign = refl; own = refl; partner = refl }) (λ z. refl) (at_goes h socket) i
 told_comes h (notice.Arrived socket bits) lives fates y g a i =
@@ -293,6 +389,9 @@ told_comes h (notice.Arrived socket bits) lives fates y g a i =
 told_comes h (notice.Returned socket messages bits) lives fates y g a i =
     lives_come h (notice.Returned socket messages bits ∷ []) (lives_at h socket) (returned messages bits) lives fates y g (λ z. record { host = refl; socket = refl; peer = refl; foreign = refl; own = refl; partner = refl }) (λ z. refl) (at_goes h socket) i
 told_comes h n lives fates y g a i = inl (y, g, i, turned_same h (n ∷ []) y g)
+
+turned_back : (x y : Life) → Named x y → Named y x
+turned_back x y m = record { host = sym m.host; socket = sym m.socket; peer = sym m.peer; foreign = sym m.foreign; own = sym m.own; partner = sym m.partner }
 
 all_come : (h : Host) (ns : List Notice) (k : Kept) (y : Life) (g : Fate) → AreFated k.book.lives k.fates → IsBeside y g (all_told h ns k).book.lives (all_told h ns k).fates → Comes h ns k.book.lives k.fates y g
 all_come h [] k y g a i = inl (y, g, i, turned_same h [] y g)
@@ -313,11 +412,12 @@ all_come h (n ∷ ns) k y g a i = by (all_come h ns (book_told h n k) y g (told_
       ]
       | inr now ↦ inr ((ends_named x y t.named ns).0 now.2)
     ];
+    how = how_named h (n ∷ ns) y x g (turned_back x y t.named) (how_then h n ns x f g b.how t.over t.how);
   })
 
   by : Comes h ns (lives_told h n k.book.lives) (fates_told h n k.book.lives k.fates) y g → Comes h (n ∷ ns) k.book.lives k.fates y g
   by (inl o) = first o.0 o.1 o.3 (told_comes h n k.book.lives k.fates o.0 o.1 a o.2)
-  by (inr b) = inr (record { granted = b.granted; host = b.host; opens = inr b.opens; ends = λ e. inr (b.ends e) })
+  by (inr b) = inr (record { granted = b.granted; host = b.host; opens = inr b.opens; ends = λ e. inr (b.ends e); how = how_later h n ns y g b.how })
 
 -- ---- the moment itself
 
@@ -330,6 +430,11 @@ abbrev pub IsGrant : Moment → Type 0
 IsGrant (Asked h (request.Grant socket messages bits)) = Unit {0}
 IsGrant y = ⊥
 
+-- its host stops
+abbrev pub IsDown : Moment → Life → Type 0
+IsDown (Crossed (crossing.Down h)) x = h ≡ x.host
+IsDown y x = ⊥
+
 pub record Stepped (m : Moment) (x : Life) (f : Fate) (y : Life) (g : Fate) : Type 0 where
   pub named : Named x y
   pub granted : (y.granted ≡ x.granted) ⊎ IsGrant m
@@ -337,34 +442,39 @@ pub record Stepped (m : Moment) (x : Life) (f : Fate) (y : Life) (g : Fate) : Ty
   pub unclosed : g ≡ fate.Open → IsClose m x → ⊥
   pub ends : g ≡ fate.Ended → f ≡ fate.Ended
   pub still : x.ended ≡ true → y ≡ x
+  pub over : is_over f ≡ true → g ≡ f
+  pub how : is_over f ≡ false → (is_over g ≡ false) ⊎ ((g ≡ fate.Stopped) × IsDown m x)
 
 abbrev pub CameBy : Moment → List Life → List Fate → Life → Fate → Type 0
 CameBy m lives fates y g = (x : Life) × (f : Fate) × IsBeside x f lives fates × Stepped m x f y g
 
 same_step : (m : Moment) (x : Life) (f : Fate) → (IsClose m x → ⊥) → Stepped m x f x f
-same_step m x f none = record { named = named_itself x; granted = inl refl; opens = λ e. e; unclosed = λ e. none; ends = λ e. e; still = λ e. refl }
+same_step m x f none = record { named = named_itself x; granted = inl refl; opens = λ e. e; unclosed = λ e. none; ends = λ e. e; still = λ e. refl; over = λ e. refl; how = λ e. inl e }
 
-down_step : (h : Host) (v : Bool) (x : Life) (f : Fate) → (v ≡ true → x.ended ≡ false) → Stepped (Crossed (crossing.Down h)) x f (changed_when v life_ended x) (if v then fate.Stopped else f)
-down_step h true x f goes = record {
+down_step : (h : Host) (v : Bool) (x : Life) (f : Fate) → (v ≡ true → x.ended ≡ false) → (v ≡ true → is_over f ≡ false) → (v ≡ true → h ≡ x.host) → Stepped (Crossed (crossing.Down h)) x f (changed_when v life_ended x) (if v then fate.Stopped else f)
+down_step h true x f goes fated here = record {
   named = record { host = refl; socket = refl; peer = refl; foreign = refl; own = refl; partner = refl };
   granted = inl refl;
   opens = λ e. absurd (let no : fate.Stopped ≡ fate.Open = e in cc);
   unclosed = λ e i. i;
   ends = λ e. absurd (let no : fate.Stopped ≡ fate.Ended = e in cc);
   still = λ e. absurd (let no : true ≡ false = sym e ∙ goes refl in cc);
+  over = λ e. absurd (let no : true ≡ false = sym e ∙ fated refl in cc);
+  how = λ e. inr (refl, here refl);
 }
-down_step h false x f goes = same_step (Crossed (crossing.Down h)) x f (λ i. i)
+down_step h false x f goes fated here = same_step (Crossed (crossing.Down h)) x f (λ i. i)
 
-crossed_step : (c : Crossing) (lives : List Life) (fates : List Fate) (y : Life) (g : Fate) → IsBeside y g (lives_crossed c lives) (fates_crossed c lives fates) → CameBy (Crossed c) lives fates y g
-crossed_step (crossing.Down h) lives fates y g i =
+crossed_step : (c : Crossing) (lives : List Life) (fates : List Fate) (y : Life) (g : Fate) → AreFated lives fates → IsBeside y g (lives_crossed c lives) (fates_crossed c lives fates) → CameBy (Crossed c) lives fates y g
+crossed_step (crossing.Down h) lives fates y g a i =
     let w : Was y g lives fates (lives_on h) life_ended (λ f. fate.Stopped) = was_where (lives_on h) life_ended (λ f. fate.Stopped) lives fates y g i in (
       w.life,
       w.how,
       w.there,
       subst (λ (k : Fate). Stepped (Crossed (crossing.Down h)) w.life w.how y k) (sym w.fate_is)
-          (subst (λ (z : Life). Stepped (Crossed (crossing.Down h)) w.life w.how z (if lives_on h w.life then fate.Stopped else w.how)) (sym w.is) (down_step h (lives_on h w.life) w.life w.how (on_goes h w.life))),
+          (subst (λ (z : Life). Stepped (Crossed (crossing.Down h)) w.life w.how z (if lives_on h w.life then fate.Stopped else w.how)) (sym w.is) (down_step h (lives_on h w.life) w.life w.how (on_goes h w.life)
+          (λ e. sym (beside_over lives fates w.life w.how a w.there) ∙ on_goes h w.life e) (on_host h w.life))),
     )
-crossed_step c lives fates y g i = (y, g, i, same_step (Crossed c) y g (λ e. e))
+crossed_step c lives fates y g a i = (y, g, i, same_step (Crossed c) y g (λ e. e))
 
 close_step : (h : Host) (socket : ℕ) (v : Bool) (x : Life) (f : Fate) → lives_at h socket x ≡ v → Stepped (Asked h (request.Close socket)) x f x (if v then closing f else f)
 close_step h socket true x f is = record {
@@ -374,6 +484,8 @@ close_step h socket true x f is = record {
   unclosed = λ e i. closing_open f e;
   ends = closing_ended f;
   still = λ e. refl;
+  over = closing_over f;
+  how = λ e. inl (closing_goes f e);
 }
 close_step h socket false x f is = same_step (Asked h (request.Close socket)) x f (λ i. absurd (let no : true ≡ false = sym i ∙ is in cc))
 
@@ -385,6 +497,8 @@ grant_step h socket messages bits true x f goes = record {
   unclosed = λ e i. i;
   ends = λ e. e;
   still = λ e. absurd (let no : true ≡ false = sym e ∙ goes refl in cc);
+  over = λ e. refl;
+  how = λ e. inl e;
 }
 grant_step h socket messages bits false x f goes = same_step (Asked h (request.Grant socket messages bits)) x f (λ i. i)
 
@@ -397,9 +511,9 @@ asked_step h (request.Grant socket messages bits) lives fates y g i =
     (w.0, g, w.1, subst (λ (z : Life). Stepped (Asked h (request.Grant socket messages bits)) w.0 g z g) (sym w.2) (grant_step h socket messages bits (lives_at h socket w.0) w.0 g (at_goes h socket w.0)))
 asked_step h r lives fates y g i = (y, g, i, same_step (Asked h r) y g (λ e. e))
 
-by_step : (m : Moment) (k : Kept) (y : Life) (g : Fate) → IsBeside y g (kept_by m k).book.lives (kept_by m k).fates → CameBy m k.book.lives k.fates y g
-by_step (Crossed c) k y g i = crossed_step c k.book.lives k.fates y g i
-by_step (Asked h r) k y g i = asked_step h r k.book.lives k.fates y g i
+by_step : (m : Moment) (k : Kept) (y : Life) (g : Fate) → AreFated k.book.lives k.fates → IsBeside y g (kept_by m k).book.lives (kept_by m k).fates → CameBy m k.book.lives k.fates y g
+by_step (Crossed c) k y g a i = crossed_step c k.book.lives k.fates y g a i
+by_step (Asked h r) k y g a i = asked_step h r k.book.lives k.fates y g i
 
 -- ---- a moment, with its notices
 
@@ -410,6 +524,8 @@ pub record Moved (m : Moment) (ms : List Moment) (x : Life) (f : Fate) (y : Life
   pub unclosed : g ≡ fate.Open → IsClose m x → ⊥
   pub ends : g ≡ fate.Ended → (f ≡ fate.Ended) ⊎ ((f ≡ fate.Open) × (host_in m ≡ x.host) × TellsEnd x (notices_by m ms))
   pub still : x.ended ≡ true → y ≡ x
+  pub over : is_over f ≡ true → g ≡ f
+  pub how : is_over f ≡ false → How (host_in m) x (notices_by m ms) g ⊎ ((g ≡ fate.Stopped) × IsDown m x)
 
 abbrev pub Came : Moment → List Moment → Life → Fate → Type 0
 Came m ms y g = ((x : Life) × (f : Fate) × IsBeside x f (kept_in ms).book.lives (kept_in ms).fates × Moved m ms x f y g) ⊎ IsBegun (host_in m) (notices_by m ms) y g
@@ -441,9 +557,14 @@ came m ms y g i = by (all_come (host_in m) (notices_by m ms) (kept_by m (kept_in
         | inr now ↦ inr (o.3.opens now.0, now.1 ∙ o.3.named.host, (ends_named o.0 z o.3.named (notices_by m ms)).1 now.2)
       ];
       still = λ e. t.still (ap (λ (v : Life). v.ended) (o.3.still e) ∙ e) ∙ o.3.still e;
+      over = λ e. t.over (ap is_over (o.3.over e) ∙ e) ∙ o.3.over e;
+      how = λ e. elim (o.3.how e) [
+        | inl goes ↦ inl (how_named (host_in m) (notices_by m ms) o.0 z g o.3.named (t.how goes))
+        | inr down ↦ inr (t.over (ap is_over down.0) ∙ down.0, down.1)
+      ];
     },
   )
 
   by : Comes (host_in m) (notices_by m ms) (kept_by m (kept_in ms)).book.lives (kept_by m (kept_in ms)).fates y g → Came m ms y g
-  by (inl o) = both_steps o.0 o.1 o.3 (by_step m (kept_in ms) o.0 o.1 o.2)
+  by (inl o) = both_steps o.0 o.1 o.3 (by_step m (kept_in ms) o.0 o.1 (kept_fated ms) o.2)
   by (inr b) = inr b

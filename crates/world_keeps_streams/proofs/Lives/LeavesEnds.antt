@@ -97,10 +97,10 @@ module _ (s : NcpState) (stamp : ℕ) where
   reply_told peer phase.Heard = (tt, tt)
   reply_told peer ph = tt
 
-  reset_quiet : (m : HostMessage) → (m.flow.link.0 == 0) ≡ true → orders_of m.text ≡ Legal command.Rst ∷ [] → AreQuiet (accepted s (inbound.Message m) stamp).1
+  pub reset_quiet : (m : HostMessage) → (m.flow.link.0 == 0) ≡ true → orders_of m.text ≡ Legal command.Rst ∷ [] → AreQuiet (accepted s (inbound.Message m) stamp).1
   reset_quiet m zero orders = message_quiet m (rw (zero, orders) (reset_told m.flow.source (pair_with m.flow.source s.peers).phase))
 
-  reply_quiet : (m : HostMessage) → (m.flow.link.0 == 0) ≡ true → orders_of m.text ≡ Legal command.Rrp ∷ [] → AreQuiet (accepted s (inbound.Message m) stamp).1
+  pub reply_quiet : (m : HostMessage) → (m.flow.link.0 == 0) ≡ true → orders_of m.text ≡ Legal command.Rrp ∷ [] → AreQuiet (accepted s (inbound.Message m) stamp).1
   reply_quiet m zero orders = message_quiet m (rw (zero, orders) (reply_told m.flow.source (pair_with m.flow.source s.peers).phase))
 
   contact_told : (peer : Host) (v : Bool) → AreQuiet (if v then notice.PairReset peer ∷ [] else [])

@@ -39,7 +39,7 @@ contains_from [] x k l e = absurd (omega (arith, l))
 contains_from (y ∷ ys) x zero l e = inl e
 contains_from (y ∷ ys) x (suc k) l e = inr (contains_from ys x k (omega (arith, l)) e)
 
-contains_among : {A : Type 0} (xs : List A) (x : A) → Contains xs x → Among x xs
+pub contains_among : {A : Type 0} (xs : List A) (x : A) → Contains xs x → Among x xs
 contains_among xs x c = contains_from xs x c.0 c.1 c.2
 
 -- ---- notices
@@ -48,7 +48,7 @@ no_opening : (x : Life) (n : Notice) → IsNoOpening x.peer x.socket x.foreign n
 no_opening x (notice.Opened s q f a b) k o = k o.0 o.1 o.2
 no_opening x n k o = o
 
-no_openings : (x : Life) (ns : List Notice) → Each (IsNoOpening x.peer x.socket x.foreign) ns → TellsOpening x ns → ⊥
+pub no_openings : (x : Life) (ns : List Notice) → Each (IsNoOpening x.peer x.socket x.foreign) ns → TellsOpening x ns → ⊥
 no_openings x [] k t = t
 no_openings x (n ∷ ns) k (inl o) = no_opening x n k.0 o
 no_openings x (n ∷ ns) k (inr t) = no_openings x ns k.1 t

@@ -14,11 +14,12 @@ use Rattle.promise.specs.declared.life.Life.{Life}
 use Rattle.net_sim.specs.Clean.{HaveAddresses}
 use Rattle.promise.specs.Safe.{IsGranted, Match, Source, receives}
 use Rattle.net_sim.specs.Story.{Crossed, Moment}
-use Rattle.net_sim.specs.Timeline.{IsTimeline, crossings_of}
+use Rattle.net_sim.specs.Timeline.{IsTimeline, contacts_of, crossings_of}
 use Rattle.net_sim.specs.Told.{kept_in}
 use Rattle.world_keeps_lives.specs.Firsts.{FirstBook}
 use Rattle.world_keeps_streams.specs.Answered.{HasArrived}
 use Rattle.world_keeps_streams.specs.Arrivals.{Arrives, ComesFor}
+use Rattle.world_keeps_streams.specs.Over.{AreOver}
 use Rattle.world_keeps_streams.specs.Rests.{Agree, AreAtRest, AreSettled}
 use Rattle.world_keeps_streams.specs.Closes.{TookAll, WasClosedByPartner}
 
@@ -93,3 +94,9 @@ abbrev pub LivesWhole : Type 0
 LivesWhole =
     (hosts : List Host) (moments : List Moment) → HaveAddresses hosts → mail.IsRun hosts (crossings_of moments) → IsTimeline hosts moments →
     ClosesWhole (crossings_of moments) (kept_in moments).book.lives (kept_in moments).handed (kept_in moments).fates
+
+-- each life is over as its fate says, and by what its fate says
+abbrev pub LivesOver : Type 0
+LivesOver =
+    (hosts : List Host) (moments : List Moment) → HaveAddresses hosts → mail.IsRun hosts (crossings_of moments) → IsTimeline hosts moments →
+    AreOver (contacts_of moments) (crossings_of moments) (kept_in moments).book.lives (kept_in moments).fates

@@ -3,7 +3,8 @@ use Rattle.net_sim.specs.Book.{Kept}
 use Rattle.promise.specs.Fates.{AreFated, ClosesWhole}
 use Rattle.promise.specs.Promised.{Promised}
 use Rattle.net_sim.proofs.lemmas.{world_fated}
-use Rattle.world_keeps_streams.proofs.lemmas.{world_ended}
+use Rattle.world_keeps_streams.proofs.lemmas.{world_ended, world_over}
+use Rattle.world_keeps_streams.specs.Over.{AreOver}
 use Rattle.headline.proofs.Promise.{exact, promised}
 use Rattle.headline.proofs.book.book_of.Goals as goal
 
@@ -23,3 +24,8 @@ pub returns-clause-whole : goal.returns-clause-whole
 returns-clause-whole g c =
     subst (λ (k : Kept). ClosesWhole k.book.crossings k.book.lives k.handed k.fates) (sym c.book.ensures.value)
     (world_ended g.C.Carrier.calls.seen (g.C.Carrier.calls.seen c.args.world.now.carrier).hosts c.args.world.now c.book.ensures.lawful)
+
+pub returns-clause-over : goal.returns-clause-over
+returns-clause-over g c =
+    subst (λ (k : Kept). AreOver k.book.contacts k.book.crossings k.book.lives k.fates) (sym c.book.ensures.value)
+    (world_over g.C.Carrier.calls.seen (g.C.Carrier.calls.seen c.args.world.now.carrier).hosts c.args.world.now c.book.ensures.lawful)

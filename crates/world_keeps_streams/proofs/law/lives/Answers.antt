@@ -11,6 +11,7 @@ use Rattle.world_keeps_streams.proofs.Books.EndingHanded.{closes_all}
 use Rattle.world_keeps_streams.proofs.Books.Handed.{took_handed}
 use Rattle.world_keeps_streams.proofs.Books.Later.{closes_whole}
 use Rattle.world_keeps_streams.proofs.Books.Firsts.{firsts, formed}
+use Rattle.world_keeps_streams.proofs.Ends.Fits.{over_now}
 use Rattle.world_keeps_streams.proofs.law.lives.Goals as goal
 
 pub returns-clause-source : goal.returns-clause-source
@@ -57,3 +58,6 @@ returns-clause-ended c hosts moments addresses run time receiver there kind = en
 
 pub returns-clause-whole : goal.returns-clause-whole
 returns-clause-whole c hosts moments addresses run time = closes_all hosts moments (addresses, run, time)
+
+pub returns-clause-over : goal.returns-clause-over
+returns-clause-over c hosts moments addresses run time = over_now hosts moments (addresses, run, time)

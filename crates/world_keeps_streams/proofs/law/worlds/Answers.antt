@@ -11,6 +11,7 @@ use Rattle.world_keeps_streams.proofs.Books.Handed.{world_handed_over}
 use Rattle.world_keeps_streams.proofs.Books.Settled.{world_settles}
 use Rattle.world_keeps_streams.proofs.Books.Later.{world_closes}
 use Rattle.world_keeps_streams.proofs.Books.Firsts.{world_firsts, world_formed}
+use Rattle.world_keeps_streams.proofs.Ends.Fits.{world_over}
 use Rattle.world_keeps_streams.proofs.law.worlds.Goals as goal
 
 pub returns-clause-source : goal.returns-clause-source
@@ -57,3 +58,6 @@ returns-clause-whole g c hosts w lawful = world_ended g.C.Carrier.calls.seen hos
 
 pub returns-clause-settled : goal.returns-clause-settled
 returns-clause-settled g c hosts w lawful settled = world_settles g.C.Carrier.calls.seen hosts w lawful settled
+
+pub returns-clause-over : goal.returns-clause-over
+returns-clause-over g c hosts w lawful = world_over g.C.Carrier.calls.seen hosts w lawful

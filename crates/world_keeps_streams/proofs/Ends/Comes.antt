@@ -1,0 +1,190 @@
+-- What a message that a host takes of its peer is for a life.
+use Rattle.std.proofs.Common.{◌≡◌, inl, inr, ℕ, ◌==◌, ◌&&◌, Bool, true, false, if◌then◌else◌, List, [], ◌∷◌, refl, ap, sym, subst, ◌∙◌}
+use Rattle.interface.specs.Host.{Host, same_host}
+use Rattle.interface.specs.declared.crossing.Crossing.TheVariants as crossing
+use Rattle.interface.specs.declared.crossing.Inbound.TheVariants as inbound
+use Rattle.interface.specs.declared.message.HostMessage.{HostMessage}
+use Rattle.interface.proofs.lemmas.{same_host-refl}
+use Rattle.host_pairs.specs.Control.{Legal, Order, orders_of}
+use Rattle.host_pairs.specs.Data.{data_taken}
+use Rattle.host_pairs.specs.Entries.{is_over, is_sent}
+use Rattle.host_pairs.specs.Turn.{if_ready, message_taken, orders_taken, reply_notices}
+use Rattle.host_pairs.specs.declared.entry.Entry.{Entry}
+use Rattle.host_pairs.specs.declared.notice.Notice.{Notice}
+use Rattle.ncp_control.specs.Phases.{is_ready}
+use Rattle.ncp_control.specs.declared.command.Command.TheVariants as command
+use Rattle.ncp_control.specs.declared.phase.Phase.{Phase}
+use Rattle.ncp_control.specs.declared.phase.Phase.TheVariants as phase
+use Rattle.pairing_law.specs.Ends.{End, nothing}
+use Rattle.host_keeps_pairing.specs.Ends.{HasEnd, at}
+use Rattle.host_keeps_pairing.specs.Hearing.{AreJoint}
+use Rattle.host_keeps_pairing.specs.Openings.{with_openings}
+use Rattle.host_keeps_pairing.specs.Words.{AllFit, all_taken, marks_in}
+use Rattle.host_keeps_pairing.proofs.lemmas.{data_told, eqb-sym, idle_other, rst_other, message_data, message_hears, message_idle, message_replies, message_resets, message_tells, plain}
+use Rattle.reset_law.specs.Events.{Message}
+use Rattle.sockets.specs.Accepting.{accepted, after_turn, turn_of}
+use Rattle.sockets.specs.Pairs.{pair_with}
+use Rattle.net_sim.specs.Projection.{AllPlain, IsApart}
+use Rattle.net_sim.specs.Story.{Crossed, Moment, places, program}
+use Rattle.net_sim.specs.Timeline.{crossings_of}
+use Rattle.net_sim.specs.Book.{new_life}
+use Rattle.net_sim.specs.Told.{notices_by}
+use Rattle.net_sim.proofs.lemmas.{Coupled, program_own}
+use Rattle.promise.specs.Ends.{Course, each, heard}
+use Rattle.promise.specs.declared.life.Life.{Life}
+use Rattle.world_keeps_pairing.specs.Free.{TakesFreeAt, origin_in}
+use Rattle.world_keeps_pairing.proofs.lemmas.{AText, AllBare, AllTied, AnRrp, AnRst, AreOrigins, Sort, all_bare, all_tied, are_origins, plain_joint, programs_ranged, served_in, sort_of, takes}
+use Rattle.world_keeps_streams.proofs.Books.Run.{below}
+use Rattle.world_keeps_streams.proofs.Calls.MayHear.{fits_all}
+use Rattle.world_keeps_streams.proofs.Calls.MayTurns.{Fits}
+use Rattle.world_keeps_streams.proofs.Ends.Courses.{course_in}
+use Rattle.world_keeps_streams.proofs.Ends.Kept.{AllKept, AllSpare, AreOff, IsTest, test_any, test_over, test_sent, test_taken, turn_data, turn_orders}
+use Rattle.world_keeps_streams.proofs.Ends.Marks.{all_heard, orders_here}
+use Rattle.world_keeps_streams.proofs.Ends.Owes.{when_on}
+use Rattle.world_keeps_streams.proofs.Ends.Ties.{end_in, fits_here, has_now, itself, law_end, once}
+use Rattle.world_keeps_streams.proofs.Lives.Fates.{TellsOpening, TellsReset}
+use Rattle.world_keeps_streams.proofs.Lives.LeavesEnds.{quiet_tells, reply_quiet, reset_quiet}
+use Rattle.world_keeps_streams.proofs.Requests.Sides.{Lawful, coupled_in}
+use Rattle.world_keeps_streams.proofs.Ends.Kinds.{Kind, ItDrops, ItHears, ItIdles, ItStays, among_none, kept_ends, kept_resets, off_any, off_over, off_sent, off_taken, openings_some, spare_any, spare_sent, spare_taken, stage_of}
+
+module _ (hosts : List Host) (m : HostMessage) (ms : List Moment) (l : Lawful hosts (Crossed (crossing.In m) ∷ ms)) (socket foreign own partner : ℕ) where
+  abbrev it : Life
+  it = new_life m.flow.destination socket m.flow.source foreign own partner
+
+  lower_in : Lawful hosts ms
+  lower_in = below hosts (Crossed (crossing.In m)) ms l
+
+  c : Coupled hosts (Crossed (crossing.In m) ∷ ms)
+  c = coupled_in hosts (Crossed (crossing.In m) ∷ ms) l
+
+  mine : same_host (program m.flow.destination ms).own m.flow.destination ≡ true
+  mine = ap (λ (h : Host). same_host h m.flow.destination) (program_own m.flow.destination ms) ∙ same_host-refl m.flow.destination
+
+  has_in : HasEnd itself socket foreign (pair_with m.flow.source (program m.flow.destination ms).peers) (law_end m.flow.destination m.flow.source socket foreign ms)
+  has_in = has_now hosts ms lower_in m.flow.destination m.flow.source socket foreign
+
+  in_ends : (x : End) → HasEnd itself socket foreign (pair_with m.flow.source (accepted (program m.flow.destination ms) (inbound.Message m) (places ms)).0.peers) x → law_end m.flow.destination m.flow.source socket foreign (Crossed (crossing.In m) ∷ ms) ≡ x
+  in_ends x h =
+      ap (λ (v : Bool). end_in (at socket foreign (pair_with m.flow.source (if v then (accepted (program m.flow.destination ms) (inbound.Message m) (places ms)).0 else program m.flow.destination ms).peers).entries)) (same_host-refl m.flow.destination)
+      ∙ once socket foreign (pair_with m.flow.source (accepted (program m.flow.destination ms) (inbound.Message m) (places ms)).0.peers) x h
+
+  stage_on : (os : List Order) → (m.flow.link.0 == 0) ≡ true → orders_of m.text ≡ os → stage_of it (Crossed (crossing.In m) ∷ ms) ≡ (each (heard it (places ms)) os (course_in it ms)).stage
+  stage_on os zero orders =
+      let z : (0 == m.flow.link.0) ≡ true = eqb-sym 0 m.flow.link.0 ∙ zero in
+      let a : same_host m.flow.source m.flow.source ≡ true = same_host-refl m.flow.source in
+      let b : same_host m.flow.destination m.flow.destination ≡ true = same_host-refl m.flow.destination in
+      ap (λ (j : Course). j.stage) (when_on (heard it (places ms)) (same_host m.flow.source m.flow.source && same_host m.flow.destination m.flow.destination && 0 == m.flow.link.0) (orders_of m.text) os (course_in it ms) (rw (a, b, z) refl) orders)
+
+  stage_off : (m.flow.link.0 == 0) ≡ false → stage_of it (Crossed (crossing.In m) ∷ ms) ≡ stage_of it ms
+  stage_off away_from =
+      let z : (0 == m.flow.link.0) ≡ false = eqb-sym 0 m.flow.link.0 ∙ away_from in
+      let a : same_host m.flow.source m.flow.source ≡ true = same_host-refl m.flow.source in
+      let b : same_host m.flow.destination m.flow.destination ≡ true = same_host-refl m.flow.destination in
+      let none : (same_host m.flow.source m.flow.source && same_host m.flow.destination m.flow.destination && 0 == m.flow.link.0) ≡ false = rw (a, b, z) refl in
+      ap (λ (v : Bool). (if v then each (heard it (places ms)) (orders_of m.text) (course_in it ms) else course_in it ms).stage) none
+
+  notes_by : (z : Bool) → (m.flow.link.0 == 0) ≡ z
+      → notices_by (Crossed (crossing.In m)) ms ≡ (if z then orders_taken m.flow.source (places ms) (orders_of m.text) (turn_of (program m.flow.destination ms) m.flow.source) else if_ready (data_taken m.flow.link.0 m.text) (turn_of (program m.flow.destination ms) m.flow.source)).notices
+  unfolding accepted
+  notes_by z zero =
+      ap (λ (v : Bool). (if v then after_turn (program m.flow.destination ms) m.flow.source (message_taken m.flow.source (places ms) m.flow.link.0 m.text (turn_of (program m.flow.destination ms) m.flow.source)) else (program m.flow.destination ms, [])).1) mine
+      ∙ ap (λ (v : Bool). (if v then orders_taken m.flow.source (places ms) (orders_of m.text) (turn_of (program m.flow.destination ms) m.flow.source) else if_ready (data_taken m.flow.link.0 m.text) (turn_of (program m.flow.destination ms) m.flow.source)).notices) zero
+
+  kept_text : (Lax : Type 0) (test : Entry → Bool) (t : IsTest Lax test) → (m.flow.link.0 == 0) ≡ true → AreJoint (orders_of m.text) → AllSpare Lax m.flow.source socket foreign (places ms) test t (orders_of m.text)
+      → AreOff Lax m.flow.source socket foreign (places ms) test t (pair_with m.flow.source (program m.flow.destination ms).peers).entries → AllKept Lax socket foreign (notices_by (Crossed (crossing.In m)) ms)
+  kept_text Lax test t zero joint spare off =
+      subst (λ (ns : List Notice). AllKept Lax socket foreign ns) (sym (notes_by true zero))
+      (turn_orders Lax m.flow.source socket foreign (places ms) test t (orders_of m.text) (turn_of (program m.flow.destination ms) m.flow.source) joint spare (record { ends = off; told = tt })).told
+
+  kept_data : (m.flow.link.0 == 0) ≡ false → AllKept ⊥ socket foreign (notices_by (Crossed (crossing.In m)) ms)
+  kept_data away_from =
+      subst (λ (ns : List Notice). AllKept ⊥ socket foreign ns) (sym (notes_by false away_from))
+      (turn_data ⊥ m.flow.source socket foreign (places ms) is_over test_over m.flow.link.0 m.text (turn_of (program m.flow.destination ms) m.flow.source) (record { ends = off_over it hosts ms lower_in; told = tt })).told
+
+  -- a text in order
+  origin : Host → Host → ℕ → ℕ
+  origin = origin_in (crossings_of (Crossed (crossing.In m) ∷ ms))
+
+  sources : AreOrigins (origin_in (crossings_of (Crossed (crossing.In m) ∷ ms))) (Crossed (crossing.In m) ∷ ms)
+  sources = are_origins 0 (crossings_of (Crossed (crossing.In m) ∷ ms)) [] (Crossed (crossing.In m) ∷ ms) refl
+
+  tied : AllTied (origin_in (crossings_of (Crossed (crossing.In m) ∷ ms))) ms
+  tied = all_tied hosts (origin_in (crossings_of (Crossed (crossing.In m) ∷ ms))) ms sources.1 c.story.1 c.run.2 (served_in hosts ms lower_in.2)
+
+  next_tied : AllTied (origin_in (crossings_of (Crossed (crossing.In m) ∷ ms))) (Crossed (crossing.In m) ∷ ms)
+  next_tied = all_tied hosts (origin_in (crossings_of (Crossed (crossing.In m) ∷ ms))) (Crossed (crossing.In m) ∷ ms) sources c.story c.run (served_in hosts (Crossed (crossing.In m) ∷ ms) l.2)
+
+  bare : AllBare (origin_in (crossings_of (Crossed (crossing.In m) ∷ ms))) ms
+  bare = all_bare hosts (origin_in (crossings_of (Crossed (crossing.In m) ∷ ms))) ms sources.1 c.story.1 c.run.2 lower_in.1 (served_in hosts ms lower_in.2)
+
+  free : TakesFreeAt (Crossed (crossing.In m)) ms
+  free = takes (origin_in (crossings_of (Crossed (crossing.In m) ∷ ms))) hosts programs_ranged (Crossed (crossing.In m)) ms c.story c.run (programs_ranged ms (served_in hosts ms lower_in.2)) sources.0 tied
+
+  fit_text : (m.flow.link.0 == 0) ≡ true → is_ready (pair_with m.flow.source (program m.flow.destination ms).peers).phase ≡ true → AreJoint (orders_of m.text)
+      → AllFit (marks_in (places ms) foreign socket (orders_of m.text)) (law_end m.flow.destination m.flow.source socket foreign ms)
+  fit_text zero ready joint = fits_here (origin_in (crossings_of (Crossed (crossing.In m) ∷ ms)) m.flow.destination m.flow.source) socket foreign (pair_with m.flow.source (program m.flow.destination ms).peers) f.0 (origin_in (crossings_of (Crossed (crossing.In m) ∷ ms)) m.flow.destination m.flow.source (places ms)) (places ms) (orders_of m.text) f.1 f.2 where
+    f : Fits (origin_in (crossings_of (Crossed (crossing.In m) ∷ ms)) m.flow.destination m.flow.source) m.flow.source (places ms) (orders_of m.text) (turn_of (program m.flow.destination ms) m.flow.source) socket foreign
+    f = fits_all hosts (origin_in (crossings_of (Crossed (crossing.In m) ∷ ms))) m ms l.1 c.story c.run sources tied next_tied bare free zero ready joint socket foreign
+
+  text_kind : (zero : (m.flow.link.0 == 0) ≡ true) → AllPlain (orders_of m.text) → (v : Bool) → is_ready (pair_with m.flow.source (program m.flow.destination ms).peers).phase ≡ v → Kind it (Crossed (crossing.In m)) ms
+  text_kind zero plain false idle = ItIdles (record {
+    ends = in_ends (law_end m.flow.destination m.flow.source socket foreign ms) (message_idle itself socket foreign (program m.flow.destination ms) m (places ms) (law_end m.flow.destination m.flow.source socket foreign ms) mine zero idle (plain_joint (orders_of m.text) plain) has_in) ∙ has_in.idle idle;
+    idle = inl (has_in.idle idle);
+    unopened = λ e t. openings_some it (notices_by (Crossed (crossing.In m)) ms) [] t (idle_other itself socket foreign (program m.flow.destination ms) m (places ms) mine zero idle (plain_joint (orders_of m.text) plain) []);
+    up = λ d. d;
+  })
+  text_kind zero plain true ready = ItHears (record {
+    marks = marks_in (places ms) foreign socket (orders_of m.text);
+    here = orders_here (places ms) foreign socket (orders_of m.text);
+    stage = stage_on (orders_of m.text) zero refl ∙ all_heard it (places ms) (orders_of m.text) (course_in it ms) plain;
+    ends = in_ends (all_taken (marks_in (places ms) foreign socket (orders_of m.text)) (law_end m.flow.destination m.flow.source socket foreign ms))
+        (message_hears itself socket foreign (program m.flow.destination ms) m (places ms) (law_end m.flow.destination m.flow.source socket foreign ms) mine zero ready joint (free ready zero) (fit_text zero ready joint) has_in);
+    fit = fit_text zero ready joint;
+    opens = message_tells itself socket foreign (program m.flow.destination ms) m (places ms) (law_end m.flow.destination m.flow.source socket foreign ms) [] [] mine zero ready joint (free ready zero) (fit_text zero ready joint) has_in tt;
+    unreset = λ e t. kept_resets (Unit {0}) it (notices_by (Crossed (crossing.In m)) ms) (kept_text (Unit {0}) (λ x. false) test_any zero joint (spare_any it m.flow.source (places ms) (orders_of m.text)) (off_any it hosts ms lower_in)) t;
+    unsent = λ u e t. kept_ends it (notices_by (Crossed (crossing.In m)) ms) (kept_text ⊥ (λ x. is_sent x.closing) test_sent zero joint (spare_sent it m.flow.source (places ms) (orders_of m.text)) (off_sent it hosts ms lower_in u)) t;
+    unheard = λ u none e t. kept_ends it (notices_by (Crossed (crossing.In m)) ms) (kept_text ⊥ (λ x. x.partner_closed) test_taken zero joint (spare_taken it m.flow.source (places ms) (orders_of m.text) none) (off_taken it hosts ms lower_in u)) t;
+    up = λ d. d;
+    next = refl;
+  }) where
+    joint : AreJoint (orders_of m.text)
+    joint = plain_joint (orders_of m.text) plain
+
+  no_resets : (x : Life) (p : Host) (ph : Phase) → TellsReset x (reply_notices p ph) → ⊥
+  no_resets x p phase.Heard t = elim t [ inl e ↦ e | inr e ↦ e ]
+  no_resets x p ph t = t
+
+  no_openings : (x : Life) (p : Host) (ph : Phase) → TellsOpening x (reply_notices p ph) → ⊥
+  no_openings x p phase.Heard t = elim t [ inl e ↦ e | inr e ↦ e ]
+  no_openings x p ph t = t
+
+  sort_kind : Sort m.flow.link.0 m.text → (v : Bool) → (m.flow.link.0 == 0) ≡ v → Kind it (Crossed (crossing.In m)) ms
+  sort_kind s false away_from = ItStays (record {
+    stage = stage_off away_from;
+    ends = in_ends (law_end m.flow.destination m.flow.source socket foreign ms) (message_data itself socket foreign (program m.flow.destination ms) m (places ms) (law_end m.flow.destination m.flow.source socket foreign ms) mine away_from has_in);
+    unended = λ e t. kept_ends it (notices_by (Crossed (crossing.In m)) ms) (kept_data away_from) t;
+    unreset = λ e t. kept_resets ⊥ it (notices_by (Crossed (crossing.In m)) ms) (kept_data away_from) t;
+    unopened = λ e t. openings_some it (notices_by (Crossed (crossing.In m)) ms) [] t (among_none (with_openings itself socket foreign (notices_by (Crossed (crossing.In m)) ms) []) [] (data_told itself socket foreign (program m.flow.destination ms) m (places ms) [] [] mine away_from tt) refl);
+    up = λ d. d;
+  })
+  sort_kind (AnRst zero orders is) true on = ItDrops (record {
+    stage = stage_on (Legal command.Rst ∷ []) zero orders;
+    ends = in_ends nothing (message_resets itself socket foreign (program m.flow.destination ms) m (places ms) mine zero orders);
+    unended = λ e t. quiet_tells it (notices_by (Crossed (crossing.In m)) ms) (reset_quiet (program m.flow.destination ms) (places ms) m zero orders) t;
+    unopened = λ e t. openings_some it (notices_by (Crossed (crossing.In m)) ms) [] t (rst_other itself socket foreign (program m.flow.destination ms) m (places ms) mine zero orders []);
+    up = λ d. d;
+  })
+  sort_kind (AnRrp zero orders is) true on = ItStays (record {
+    stage = stage_on (Legal command.Rrp ∷ []) zero orders;
+    ends = in_ends (law_end m.flow.destination m.flow.source socket foreign ms) (message_replies itself socket foreign (program m.flow.destination ms) m (places ms) (law_end m.flow.destination m.flow.source socket foreign ms) mine zero orders has_in);
+    unended = λ e t. quiet_tells it (notices_by (Crossed (crossing.In m)) ms) (reply_quiet (program m.flow.destination ms) (places ms) m zero orders) t;
+    unreset = λ e t. no_resets it m.flow.source (pair_with m.flow.source (program m.flow.destination ms).peers).phase (subst (λ (ns : List Notice). TellsReset it ns) told t);
+    unopened = λ e t. no_openings it m.flow.source (pair_with m.flow.source (program m.flow.destination ms).peers).phase (subst (λ (ns : List Notice). TellsOpening it ns) told t);
+    up = λ d. d;
+  }) where
+    told : notices_by (Crossed (crossing.In m)) ms ≡ reply_notices m.flow.source (pair_with m.flow.source (program m.flow.destination ms).peers).phase
+    told = notes_by true zero ∙ ap (λ (os : List Order). (orders_taken m.flow.source (places ms) os (turn_of (program m.flow.destination ms) m.flow.source)).notices) orders
+  sort_kind (AText is) true on = text_kind on (subst (λ (t : Message). IsApart m.flow.link.0 m.text t) is c.story.0 on) (is_ready (pair_with m.flow.source (program m.flow.destination ms).peers).phase) refl
+
+  pub in_here : Kind it (Crossed (crossing.In m)) ms
+  in_here = sort_kind (sort_of m.flow.link.0 m.text) (m.flow.link.0 == 0) refl
