@@ -190,15 +190,16 @@ texts_at comes f (Some c) = text_of comes f c
 named_by : (comes : Bool) (from to : Host) (own foreign place : ℕ) (log : List Crossing) (o : Option Crossing) → slice_get (reverse log) place ≡ o
     → named_at comes from to own foreign place log ≡ named_of own foreign (texts_at comes (control_flow from to) o)
 named_by comes from to own foreign place [] o e = ap (λ (p : Option Crossing). named_of own foreign (texts_at comes (control_flow from to) p)) e
-named_by comes from to own foreign place (c ∷ log) o e = by (place == length log) refl where
+named_by comes from to own foreign place (c ∷ log) o e = by (place == length log) refl (named_by comes from to own foreign place log (slice_get (reverse log) place) refl) where
   at : slice_get (reverse log ++ c ∷ []) place ≡ o
   at = ap (λ (zs : List Crossing). slice_get zs place) (sym (one_more c log)) ∙ e
 
-  by : (v : Bool) → (place == length log) ≡ v → (if v then named_of own foreign (text_of comes (control_flow from to) c) else named_at comes from to own foreign place log) ≡ named_of own foreign (texts_at comes (control_flow from to) o)
-  by true s =
+  by : (v : Bool) → (place == length log) ≡ v → named_at comes from to own foreign place log ≡ named_of own foreign (texts_at comes (control_flow from to) (slice_get (reverse log) place))
+      → (if v then named_of own foreign (text_of comes (control_flow from to) c) else named_at comes from to own foreign place log) ≡ named_of own foreign (texts_at comes (control_flow from to) o)
+  by true s rest =
       let here : place ≡ length (reverse log) = eqb-true place (length log) s ∙ sym (length-reverse log) in
       ap (λ (p : Option Crossing). named_of own foreign (texts_at comes (control_flow from to) p)) (sym (ap (λ (n : ℕ). slice_get (reverse log ++ c ∷ []) n) here ∙ get_seam (reverse log) c) ∙ at)
-  by false s = named_by comes from to own foreign place log (slice_get (reverse log) place) refl ∙ ap (λ (p : Option Crossing). named_of own foreign (texts_at comes (control_flow from to) p)) (sym (get_before (reverse log) c place other) ∙ at) where
+  by false s rest = rest ∙ ap (λ (p : Option Crossing). named_of own foreign (texts_at comes (control_flow from to) p)) (sym (get_before (reverse log) c place other) ∙ at) where
     other : place ≡ length (reverse log) → ⊥
     other same = let both : true ≡ false = sym (eq-eqb place (length log) (same ∙ length-reverse log)) ∙ s in cc
 
@@ -206,3 +207,7 @@ named_by comes from to own foreign place (c ∷ log) o e = by (place == length l
 pub named_there : (comes : Bool) (from to : Host) (own foreign place : ℕ) (log : List Crossing) → named_at comes from to own foreign place (reverse log) ≡ named_of own foreign (texts_at comes (control_flow from to) (slice_get log place))
 named_there comes from to own foreign place log =
     named_by comes from to own foreign place (reverse log) (slice_get log place) (ap (λ (zs : List Crossing). slice_get zs place) (reverse-reverse log))
+
+pub none_named : (o : Option ℕ) → false ≡ is_some o → o ≡ None
+none_named None e = refl
+none_named (Some n) e = absurd (let both : false ≡ true = e in cc)

@@ -107,10 +107,11 @@ impl Stream {
         ensures { (comes : Bool) (f : Flow) (log : List Crossing) → IsStream comes f log self.now → MatchBool result (first_data comes count (texts_by comes f (drop since log)) ≡ Some bits.now) (first_data comes count (texts_by comes f (drop since log)) ≡ Some bits.now → ⊥) }
     {
         let first = first_from(&self.pieces, since);
+        let left = self.pieces.len() - first;
         let Ok(count) = usize::try_from(count) else {
             return false;
         };
-        if count > self.pieces.len() - first {
+        if count > left {
             return false;
         }
         let (from, unread) = self.before(first);
@@ -194,7 +195,7 @@ impl Joined {
 /// Returns the data of all messages of a log that came in, or that went out.
 ///
 /// Errors: `AllocError`.
-pub(crate) fn joined(alloc: Global, log: &[Passage], comes: bool) -> Result<Joined, AllocError>
+pub(crate) fn join_data(alloc: Global, log: &[Passage], comes: bool) -> Result<Joined, AllocError>
     ensures { IfOk result (λ joined. AreJoined comes log.now joined) }
 {
     let mut joined = Joined::new(alloc);

@@ -38,9 +38,12 @@ abbrev pub unread_in : Bool → List (List Bool) → ℕ
 unread_in comes [] = 0
 unread_in comes (text ∷ texts) = one_unread (data_in comes text) + unread_in comes texts
 
+abbrev pub pair : ℕ → ℕ → ℕ × ℕ
+pair a b = (a, b)
+
 -- how many bits texts have, and how many of them have none
 abbrev pub marked : Bool → List (List Bool) → ℕ × ℕ
-marked comes texts = (length (all_bits comes texts), unread_in comes texts)
+marked comes texts = pair (length (all_bits comes texts)) (unread_in comes texts)
 
 -- of pieces that cross one after another: how many are before a place
 abbrev pub IsFirstFrom : List Piece → ℕ → ℕ → Type 0
@@ -54,7 +57,7 @@ pub record IsPiece (comes : Bool) (f : Flow) (log : List Crossing) (i : ℕ) (p 
   pub within : p.place < length log
   pub here : length (texts_by comes f (take p.place log)) ≡ i
   pub next : length (texts_by comes f (take (suc p.place) log)) ≡ suc i
-  pub before : (p.before, p.unread) ≡ marked comes (take i (texts_by comes f log))
+  pub before : pair p.before p.unread ≡ marked comes (take i (texts_by comes f log))
 
 -- a stream has all messages of a flow
 pub record IsStream (comes : Bool) (f : Flow) (log : List Crossing) (s : Stream) : Type 0 where
