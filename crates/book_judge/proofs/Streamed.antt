@@ -541,9 +541,10 @@ on_ok (Err e) P Q k h = h
 
 -- ---- what is named at a place
 
-pub not_off : (b : Bool) → false ≡ not b → b ≡ true
-not_off true e = refl
-not_off false e = absurd (let both : false ≡ true = e in cc)
+-- flows are compared part by part
+pub nested : (a b c : Bool) → (a && (b && c)) ≡ ((a && b) && c)
+nested true b c = refl
+nested false b c = refl
 
 pub named_message : (comes : Bool) (from to : Host) (own foreign place : ℕ) (log : List Crossing) (c : Crossing) (m : HostMessage) → slice_get log place ≡ Some c → Some m ≡ message_of comes c → m.flow ≡ control_flow from to
     → named_in own foreign (orders_of m.text) ≡ named_at comes from to own foreign place (reverse log)
@@ -551,6 +552,11 @@ named_message comes from to own foreign place log c m at got flow =
     sym
     (named_there comes from to own foreign place log ∙ ap (λ (o : Option Crossing). named_of own foreign (texts_at comes (control_flow from to) o)) at
     ∙ ap (named_of own foreign) (text_by comes c m (control_flow from to) (sym got) ∙ (let same : same_flow (control_flow from to) m.flow ≡ true = same_flow_is (control_flow from to) m.flow flow in ap (λ (b : Bool). if b then m.text ∷ [] else []) same)))
+
+pub slice_none : {X : Type 0} (xs : List X) (i : ℕ) → length xs ≤ i → slice_get xs i ≡ None
+slice_none [] i past = refl
+slice_none {X} (x ∷ xs) zero past = absurd (omega (arith, past))
+slice_none {X} (x ∷ xs) (suc i) past = slice_none xs i (omega (arith, past))
 
 pub unnamed_place : (comes : Bool) (from to : Host) (own foreign place : ℕ) (log : List Crossing) → slice_get log place ≡ None → None ≡ named_at comes from to own foreign place (reverse log)
 unnamed_place comes from to own foreign place log none = sym (named_there comes from to own foreign place log ∙ ap (λ (o : Option Crossing). named_of own foreign (texts_at comes (control_flow from to) o)) none)

@@ -38,10 +38,10 @@ fn named_at(
     ensures { (from to : Host) → flow.now ≡ safe.control_flow from to → result ≡ formed.named_at comes from to own foreign place (reverse log.now) }
 {
     let message = message_of(comes, log.get(place)?)?;
-    if message.flow != *flow {
-        return None;
+    if *flow == message.flow {
+        return named_in(own, foreign, message.text.bits());
     }
-    named_in(own, foreign, message.text.bits())
+    None
 }
 
 /// Returns what the own request of a life names.
