@@ -1,28 +1,24 @@
 -- What requests name, and the messages in which they crossed.
-use Rattle.std.proofs.Common.{◌≡◌, ◌⊎◌, inl, inr, ℕ, zero, suc, ◌+◌, ◌-◌, ◌*◌, ◌<◌, ◌≤◌, ◌==◌, Bool, true, false, if◌then◌else◌, List, [], ◌∷◌, ◌++◌, length, drop, reverse, Option, Some, None, is_some, refl, ap, sym, subst, ◌∙◌, append-nil, arith, eq-eqb}
+use Rattle.std.proofs.Common.{◌≡◌, ◌⊎◌, inl, inr, ℕ, zero, suc, ◌+◌, ◌-◌, ◌*◌, ◌<◌, ◌≤◌, ◌==◌, Bool, true, false, if◌then◌else◌, List, [], ◌∷◌, ◌++◌, length, drop, reverse, Option, Some, None, is_some, refl, ap, sym, subst, ◌∙◌, arith, eq-eqb}
 use Rattle.std.specs.List.{Contains, slice_get, slice_index_or}
 use Rattle.std.specs.Option.{option_or}
 use Rattle.std.proofs.lemmas.Bool.{eqb-true}
 use Rattle.std.proofs.lemmas.List.{drop_all, length-drop, length-reverse, reverse-append, reverse-reverse}
 use Rattle.bit_messages.specs.Octets.{octets_of}
-use Rattle.host_pairs.specs.Control.{Order, Legal, Wrong, orders_of, orders_within}
+use Rattle.host_pairs.specs.Control.{orders_within}
 use Rattle.host_pairs.proofs.lemmas.{header_covers}
 use Rattle.interface.specs.Flow.{same_flow}
 use Rattle.interface.specs.declared.address.Flow.{Flow}
 use Rattle.interface.specs.declared.crossing.Crossing.{Crossing}
 use Rattle.interface.specs.declared.crossing.Crossing.TheVariants as crossing
-use Rattle.interface.specs.declared.message.HostMessage.{HostMessage}
-use Rattle.interface.proofs.lemmas.{and_true, same_flow-refl, same_flow-true}
+use Rattle.interface.proofs.lemmas.{same_flow-refl}
 use Rattle.ncp_control.specs.DataHeader.{header_of}
-use Rattle.ncp_control.specs.Numbers.{is_receive_socket}
 use Rattle.ncp_control.specs.declared.data_header.DataHeader.{DataHeader}
 use Rattle.ncp_control.proofs.lemmas.{octets_enough}
-use Rattle.ncp_control.specs.declared.command.Command.{Command}
 use Rattle.ncp_control.specs.declared.command.Command.TheVariants as command
 use Rattle.promise.specs.Formed.{CrossedAt, named_at, named_in, named_of, text_of}
 use Rattle.promise.specs.Safe.{control_flow}
 use Rattle.interface.specs.Host.{Host}
-use Rattle.book_judge.specs.Inside.Joined.{message_of}
 
 -- ---- elements
 

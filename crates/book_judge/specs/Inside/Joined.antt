@@ -1,11 +1,11 @@
 -- What is known of each flow's messages, where their data are joined. No public clause cites this file.
-use Rattle.std.specs.Prelude.{◌≡◌, ℕ, ◌<◌, ◌≤◌, ◌+◌, suc, Bool, true, false, List, [], ◌∷◌, ◌++◌, length, take, slice_get, Option, Some, None}
+use Rattle.std.specs.Prelude.{◌≡◌, ℕ, ◌<◌, ◌≤◌, ◌+◌, suc, Bool, true, false, List, [], ◌∷◌, ◌++◌, length, drop, take, slice_get, Option, Some, None}
 use Rattle.std.specs.FinMap as map
 use Rattle.interface.specs.declared.address.Flow.{Flow}
 use Rattle.interface.specs.declared.crossing.Crossing.{Crossing}
 use Rattle.interface.specs.declared.crossing.Crossing.TheVariants as crossing
 use Rattle.interface.specs.declared.message.HostMessage.{HostMessage}
-use Rattle.promise.specs.Formed.{data_in, text_of}
+use Rattle.promise.specs.Formed.{data_in, first_data, text_of}
 use Rattle.book_judge.specs.declared.joined.Joined.{Joined}
 use Rattle.book_judge.specs.declared.joined.Piece.{Piece}
 use Rattle.book_judge.specs.declared.joined.Stream.{Stream}
@@ -14,6 +14,10 @@ use Rattle.book_judge.specs.declared.joined.Stream.{Stream}
 abbrev pub texts_by : Bool → Flow → List Crossing → List (List Bool)
 texts_by comes f [] = []
 texts_by comes f (c ∷ log) = text_of comes f c ++ texts_by comes f log
+
+-- the bits are the data of the first texts from a place on, as many as this
+abbrev pub IsFirst : Bool → Flow → List Crossing → ℕ → ℕ → List Bool → Type 0
+IsFirst comes f log since count bits = first_data comes count (texts_by comes f (drop since log)) ≡ Some bits
 
 -- the message that comes in, or that goes out
 abbrev pub message_of : Bool → Crossing → Option HostMessage
@@ -65,6 +69,10 @@ pub record IsStream (comes : Bool) (f : Flow) (log : List Crossing) (s : Stream)
   pub pieces : (i : ℕ) (p : Piece) → slice_get s.pieces.items i ≡ Some p → IsPiece comes f log i p
   pub bits : s.bits ≡ all_bits comes (texts_by comes f log)
   pub unread : length s.unread.items ≡ unread_in comes (texts_by comes f log)
+
+-- one stream has a message more than another, with this text
+abbrev pub Grows : Bool → ℕ → List Bool → Stream → Stream → Type 0
+Grows comes place text was is = (f : Flow) (log : List Crossing) (c : Crossing) → length log ≡ place → text_of comes f c ≡ text ∷ [] → IsStream comes f log was → IsStream comes f (log ++ c ∷ []) is
 
 -- a flow without a number has no messages, and of one with a number the stream is there
 abbrev pub StreamOf : Bool → Flow → List Crossing → Option ℕ → List Stream → Type 0

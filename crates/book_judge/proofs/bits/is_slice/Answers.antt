@@ -1,4 +1,4 @@
-use Rattle.std.proofs.Common.{◌≡◌, ◌≤◌, drop, length, sym, ◌∙◌, arith}
+use Rattle.std.proofs.Common.{drop, ◌∙◌, arith}
 use Rattle.book_judge.proofs.Fed.{get_drop, prefix_more, slice_whole}
 use Rattle.book_judge.proofs.bits.is_slice.Goals as goal
 

@@ -1,4 +1,4 @@
-use Rattle.std.proofs.Common.{ℕ, ◌<◌, nat_lt, rules}
+use Rattle.std.proofs.Common.{nat_lt, rules}
 use Rattle.std.proofs.lemmas.List.Sorted.{IsPartitionPoint-from_clause}
 use Rattle.book_judge.specs.declared.joined.Piece.{Piece}
 use Rattle.book_judge.proofs.Streamed.{first_by, parted}

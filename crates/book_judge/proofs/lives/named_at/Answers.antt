@@ -1,9 +1,7 @@
-use Rattle.std.proofs.Common.{◌≡◌, ◌==◌, Bool, true, false, List, Option, Some, None, refl, ap, sym, subst, ◌∙◌}
-use Rattle.std.specs.List.{slice_get}
+use Rattle.std.proofs.Common.{◌≡◌, ◌==◌, Bool, true, false, List, refl, ap, sym, subst, ◌∙◌}
 use Rattle.interface.specs.Flow.{same_flow}
 use Rattle.interface.specs.Host.{same_host}
 use Rattle.interface.specs.declared.address.Flow.{Flow}
-use Rattle.interface.specs.declared.crossing.Crossing.{Crossing}
 use Rattle.interface.proofs.lemmas.{same_flow-true}
 use Rattle.host_pairs.specs.Control.{orders_of}
 use Rattle.promise.specs.Formed.{named_in}

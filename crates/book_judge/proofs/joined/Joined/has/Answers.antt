@@ -1,4 +1,4 @@
-use Rattle.std.proofs.Common.{ℕ, ◌==◌, ap, ◌∙◌}
+use Rattle.std.proofs.Common.{ℕ, ◌==◌, ap}
 use Rattle.book_judge.proofs.Streamed.{else_counted, none_after, no_stream, nothing_counted, past_end, piece_there, stream_there}
 use Rattle.book_judge.proofs.joined.Joined.has.Goals as goal
 

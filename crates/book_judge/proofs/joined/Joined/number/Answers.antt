@@ -1,4 +1,4 @@
-use Rattle.std.proofs.Common.{ℕ, Option, None, sym, subst, ◌∙◌, ◌≡◌, rules}
+use Rattle.std.proofs.Common.{ℕ, Option, None, sym, subst, ◌∙◌, ◌≡◌}
 use Rattle.std.specs.FinMap as map
 use Rattle.book_judge.specs.Inside.Joined.{NumberBy}
 use Rattle.book_judge.proofs.joined.Joined.number.Goals as goal
