@@ -7,6 +7,8 @@ from collections.abc import Iterable, Mapping
 from dataclasses import dataclass
 from typing import Union
 
+from dorydate.sites import Site
+
 MOST_IMPS = 63
 MOST_HOSTS = 4
 MOST_LINES = 5  # of one IMP
@@ -46,6 +48,7 @@ class Imp:
     number: int
     hosts: int = 1
     name: str = ""
+    more: str = ""  # what the comment after its number says beside the name: machines, and where it is (dorydate.sites)
 
     def __str__(self) -> str:
         return self.name or f"IMP {self.number}"
@@ -158,7 +161,7 @@ class Network:
     def toml(self) -> str:
         """The topology, as the program reads it. A site's name is a comment."""
         head = [f'carrier = "{self.carrier}"', f"raw = {'true' if self.raw else 'false'}"]
-        imps = [f"[[imp]]\nid = {imp.number}{f' # {imp.name}' if imp.name else ''}\nhosts = {imp.hosts}" for imp in self.imps]
+        imps = [f"[[imp]]\nid = {imp.number}{f' # {imp.name}{imp.more}' if imp.name else ''}\nhosts = {imp.hosts}" for imp in self.imps]
         lines = [f"[[line]]\na = {line.a}\nb = {line.b}" for line in self.lines]
         return "\n".join([*head, *imps, *lines]) + "\n"
 
@@ -166,6 +169,12 @@ class Network:
     def read(text: str) -> Network:
         """The network of a topology in the plain spelling: one key a line, as `toml` writes it. Comments may be anywhere."""
         return read(text)
+
+
+def imp_of(number: int, hosts: int, comment: str) -> Imp:
+    """An IMP, by the comment after its number."""
+    name = Site.read(comment).name
+    return Imp(number, hosts, name, comment[len(name) :])
 
 
 def check(network: Network) -> None:
@@ -233,7 +242,7 @@ def read(text: str) -> Network:
     if top.get("raw", "false") not in ("true", "false") or top.get("carrier", "subnet") not in ("plain", "subnet"):
         raise BadNetwork("`raw` is true or false, and `carrier` is \"plain\" or \"subnet\"")
     try:
-        imps = tuple(Imp(int(it["id"]), int(it["hosts"]), comment) for name, it, comment in tables if name == "imp")
+        imps = tuple(imp_of(int(it["id"]), int(it["hosts"]), comment) for name, it, comment in tables if name == "imp")
         lines = tuple(Line(int(it["a"]), int(it["b"])) for name, it, _ in tables if name == "line")
     except ValueError:
         raise BadNetwork("numbers of IMPs, hosts and ends of lines are whole") from None

@@ -1,7 +1,7 @@
 """The network that an input describes, with the names of its sites.
 
-The program has accepted the topology already, so nothing is judged here. A comment after an IMP's number is its name:
-`id = 1 # UCLA`.
+The program has accepted the topology already, so nothing is judged here. A comment after an IMP's number has its name:
+`id = 1 # UCLA` (dorydate.sites).
 """
 
 from __future__ import annotations
@@ -13,6 +13,7 @@ from dataclasses import dataclass, field
 from dorydate.explain.given import Input
 from dorydate.explain.topologies import document_of
 from dorydate.model.topology import Topology
+from dorydate.sites import Site
 
 NAME = re.compile(r"^[ \t]*id[ \t]*=[ \t]*(\d+)[ \t]*#[ \t]*(\S.*)$", re.MULTILINE)
 IS_RAW = re.compile(rb"^[ \t]*raw[ \t]*=[ \t]*true\b", re.MULTILINE)
@@ -51,7 +52,7 @@ def read(octets: bytes) -> Network:
         raise Unreadable("this Python has no reader of TOML, and the topology isn't in the plain spelling of one key a line") from None
     imps = [(imp["id"], imp["hosts"]) for imp in document["imp"]]
     lines = [(line["a"], line["b"]) for line in document.get("line", [])]
-    names = {int(number): name.rstrip()[:SHOWN].rstrip() for number, name in NAME.findall(text)}
+    names = {int(number): name for number, comment in NAME.findall(text) if (name := Site.read(comment).name[:SHOWN].rstrip())}
     return Network(Topology(document.get("carrier", "subnet"), document.get("raw", False), imps, [*lines]), names)
 
 
