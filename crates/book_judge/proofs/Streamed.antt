@@ -62,7 +62,6 @@ more_texts comes f log c ts e = texts_append comes f log (c ∷ []) ∙ ap (λ (
 
 -- ---- one stream
 
-
 module _ (comes : Bool) (f : Flow) (log : List Crossing) (c : Crossing) (ts : List (List Bool)) (e : text_of comes f c ≡ ts) where
   more : texts_by comes f (log ++ c ∷ []) ≡ texts_by comes f log ++ ts
   more = more_texts comes f log c ts e
@@ -413,8 +412,11 @@ module _ (comes : Bool) (f : Flow) (log : List Crossing) (s : Stream) (h : IsStr
       (ap (λ (p : ℕ × ℕ). drop p.0 (take (marked comes (take (n + count) (texts_by comes f log))).0 s.bits)) (sym e) ∙ ap (λ (p : ℕ × ℕ). drop from.0 (take p.0 s.bits)) (sym g) ∙ m.2)
   answered false same m =
       unfound comes f log s h since n count first bits enough
-      (λ (r, a, b, slice). m (subst (λ (p : ℕ × ℕ). p.0 ≤ to.0) (sym e) (subst (λ (p : ℕ × ℕ). (marked comes (take n (texts_by comes f log))).0 ≤ p.0) (sym g) a), subst (λ (p : ℕ × ℕ). p.0 ≤ length s.bits) (sym g) b,
-      ap (λ (p : ℕ × ℕ). drop p.0 (take to.0 s.bits)) e ∙ ap (λ (p : ℕ × ℕ). drop (marked comes (take n (texts_by comes f log))).0 (take p.0 s.bits)) g ∙ slice))
+      (λ (r, a, b, slice). m (
+        subst (λ (p : ℕ × ℕ). p.0 ≤ to.0) (sym e) (subst (λ (p : ℕ × ℕ). (marked comes (take n (texts_by comes f log))).0 ≤ p.0) (sym g) a),
+        subst (λ (p : ℕ × ℕ). p.0 ≤ length s.bits) (sym g) b,
+        ap (λ (p : ℕ × ℕ). drop p.0 (take to.0 s.bits)) e ∙ ap (λ (p : ℕ × ℕ). drop (marked comes (take n (texts_by comes f log))).0 (take p.0 s.bits)) g ∙ slice,
+      ))
 
   pub unlike : (from.1 ≡ to.1 → ⊥) → MatchBool (from.1 == to.1) IsThere (IsThere → ⊥)
   unlike other = by (from.1 == to.1) refl where

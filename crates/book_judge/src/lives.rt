@@ -49,14 +49,7 @@ fn own_named(log: &[Crossing], life: &Life) -> Option<u8>
     ensures { result ≡ formed.own_named (reverse log.now) life.now }
 {
     let goes = control_flow(life.host, life.peer);
-    named_at(
-        log,
-        false,
-        &goes,
-        life.socket,
-        life.foreign,
-        life.own_stamp,
-    )
+    named_at(log, false, &goes, life.socket, life.foreign, life.own_stamp)
 }
 
 /// Returns what the request of a life's partner names.
