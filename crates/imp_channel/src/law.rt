@@ -29,6 +29,7 @@ pub fn spellings()
 {}
 
 /// Frames octet by octet, and octets that are none.
+#[tactic(auto, unfolding(crate::specs::Format::bits_of, packetiser::specs::Format::is_bad_length, packetiser::specs::Format::is_not_canonical, packetiser::specs::Format::is_short, crate::specs::Format::octet_of))]
 pub fn worked_frames()
     // acknowledgements only: the bit of channel 0 is the lowest
     ensures acks { read_of (242 ∷ 1 ∷ 1 ∷ []) ≡ Ok (record { acks = true ∷ replicate 7 false; content = content.Nothing }) }

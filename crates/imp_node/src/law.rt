@@ -161,6 +161,7 @@ pub fn asking()
 {}
 
 /// Waiting packets go out in order, into the lowest free channels of their routes' lines.
+#[tactic(auto, unfolding(routing::specs::RouteTable::distance_to, routing::specs::RouteTable::next_of, imp_channel::specs::Line::submitted, routing::specs::RouteTable::vector_of))]
 pub fn worked_pump()
     ensures in_order { WorkedPumpInOrder }
     ensures gone { (pump [] (imp 1 (Some from_2 ∷ []) (packets_to 2 2))).state.store ≡ [] }
@@ -176,6 +177,7 @@ pub fn worked_pump()
 {}
 
 /// The store has 32 places, those in channels counted, and a frame without room counts as lost.
+#[tactic(auto, unfolding(routing::specs::RouteTable::distance_to, routing::specs::RouteTable::next_of, imp_channel::specs::Line::submitted, routing::specs::RouteTable::vector_of))]
 pub fn worked_room()
     // of 32 packets for one neighbour eight are in channels, and all 32 count
     ensures counted { (stored_count (busy 32) ≡ 32) × (length (busy 32).store ≡ 24) }
@@ -201,6 +203,7 @@ pub fn worked_room()
 {}
 
 /// What an IMP announces of routes, and that packets find another one.
+#[tactic(auto, unfolding(routing::specs::RouteTable::distance_to, routing::specs::RouteTable::next_of, imp_channel::specs::Line::submitted, routing::specs::RouteTable::vector_of))]
 pub fn worked_routes()
     ensures told { WorkedRoutesTold }
 
@@ -293,6 +296,7 @@ pub fn worked_questions()
 
 /// What an IMP asks, and what comes of the answer. Host 0 at IMP 1 has sent an empty message to host 0 at
 /// IMP 2 on link 7.
+#[tactic(auto, unfolding(routing::specs::RouteTable::distance_to, routing::specs::RouteTable::next_of, imp_channel::specs::Line::submitted))]
 pub fn worked_asking()
     // the question goes out with the message's number, also where the host is down
     ensures asks { (ask sent_imp (flow (host 0 1) (host 0 2) 7)).frames ≡ on_port 0 (packet_frame 1 (answer_packet kind.Ask (flow (host 0 1) (host 0 2) 7) 0)) ∷ [] }
@@ -323,6 +327,7 @@ pub fn worked_asking()
 {}
 
 /// Hosts at IMP 1: what they send, take and leave to others.
+#[tactic(auto, unfolding(link_table::specs::Flows::begun, routing::specs::RouteTable::distance_to, link_table::specs::Flows::flow_answered, link_table::specs::Flows::handed, link_table::specs::Numbers::is_new, routing::specs::RouteTable::next_of, imp_channel::specs::Line::submitted, routing::specs::RouteTable::vector_of))]
 pub fn worked_hosts()
     ensures nowhere { WorkedHostsNowhere }
     ensures nothing_sent { (from_host (imp 1 (None ∷ []) []) (empty_message (flow (host 0 1) (host 0 2) 7))).frames ≡ [] }
@@ -369,6 +374,7 @@ pub fn worked_hosts()
 
 /// The flows of an IMP's hosts: what is begun, answered and given up. Host 0 at IMP 1 has sent an empty
 /// message to host 0 at IMP 2 on link 7.
+#[tactic(auto, unfolding(routing::specs::RouteTable::distance_to, routing::specs::RouteTable::next_of, imp_channel::specs::Line::submitted))]
 pub fn worked_flows()
     // it is outstanding with number 0, and the next one is blocked
     ensures begun { outstanding sent_imp (flow (host 0 1) (host 0 2) 7) ≡ Some 0 }
@@ -410,6 +416,7 @@ pub fn worked_fates()
 {}
 
 /// What comes up again, and what is thrown away.
+#[tactic(auto, unfolding(routing::specs::RouteTable::distance_to, routing::specs::RouteTable::next_of, imp_channel::specs::Line::submitted))]
 pub fn worked_restarts()
     // a host comes up only once none of its messages is outstanding
     ensures unsettled { host_up_refusal (host_down sent_imp 0).state 0 ≡ Some fault.Unsettled }
@@ -455,6 +462,7 @@ pub fn worked_memory()
 {}
 
 /// The refusals of the other calls, and what an IMP says that it holds.
+#[tactic(auto, unfolding(routing::specs::RouteTable::distance_to, routing::specs::RouteTable::next_of, imp_channel::specs::Line::submitted, routing::specs::RouteTable::vector_of))]
 pub fn worked_answers()
     // hosts and ends of lines that are down, up or not there
     ensures host_not_there { (to_host_refusal (serving []) 2 ≡ Some fault.NoSuch) × (host_down_refusal (serving []) 2 ≡ Some fault.NoSuch) × (host_up_refusal (serving []) 2 ≡ Some fault.NoSuch) }

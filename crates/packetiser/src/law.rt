@@ -33,6 +33,7 @@ pub fn spellings()
 {}
 
 /// Packets octet by octet, and octets that are none.
+#[tactic(auto, unfolding(crate::specs::Format::is_bad_length, crate::specs::Format::is_not_canonical, crate::specs::Format::is_short, bit_messages::specs::Octets::octets_of))]
 pub fn worked_packets()
     // a request for connection is cut into one packet
     ensures request { map spelling (packets_of (flow 0) 0 (body (bits_of request))) ≡ request_packet ∷ [] }

@@ -6,7 +6,6 @@ pub mod QueuesClosed
 pub mod QueuesHeard
 pub mod Queued
 pub mod Finds
-pub mod Counts
 pub mod Hearing
 pub mod Heard
 pub mod Asked

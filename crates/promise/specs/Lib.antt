@@ -6,3 +6,4 @@ pub mod Formed
 pub mod Notices
 pub mod Connections
 pub mod Fates
+pub mod Ends

@@ -226,6 +226,7 @@ pub fn round_memory()
 {}
 
 /// Lines and their ends.
+#[tactic(auto, unfolding(routing::specs::RouteTable::distance_to, link_table::specs::Numbers::is_new, link_table::specs::Numbers::modulus, routing::specs::RouteTable::next_of, link_table::specs::Numbers::oldest, imp_channel::specs::Line::submitted, routing::specs::RouteTable::vector_of, link_table::specs::Numbers::window))]
 pub fn worked_lines()
     // a line takes 256 frames each way; one more is lost, whatever it carries, and those that are there stay
     ensures last_place { length (frames_on way.Forward (wire_at (put_one (full_of 255) 1 (on_port 0 (data_frame 0))) 0)) ≡ 256 }
@@ -243,6 +244,7 @@ pub fn worked_lines()
 {}
 
 /// Frames that are delivered and dropped.
+#[tactic(auto, unfolding(routing::specs::RouteTable::distance_to, link_table::specs::Numbers::is_new, link_table::specs::Numbers::modulus, routing::specs::RouteTable::next_of, link_table::specs::Numbers::oldest, imp_channel::specs::Line::submitted, routing::specs::RouteTable::vector_of, link_table::specs::Numbers::window))]
 pub fn worked_frames()
     // a frame that is delivered stays alive, and its acknowledgement goes back
     ensures stays { (deliver (pair (Some imp_1) (Some imp_2) (data_frame 0 ∷ []) []) 0 way.Forward 0).lines ≡ wire (data_frame 0 ∷ []) (ack_frame ∷ []) ∷ [] }
@@ -258,6 +260,7 @@ pub fn worked_frames()
 {}
 
 /// What is alive, and the four refusals that wait for packets to die.
+#[tactic(auto, unfolding(routing::specs::RouteTable::distance_to, link_table::specs::Numbers::is_new, link_table::specs::Numbers::modulus, routing::specs::RouteTable::next_of, link_table::specs::Numbers::oldest, imp_channel::specs::Line::submitted, routing::specs::RouteTable::vector_of, link_table::specs::Numbers::window))]
 pub fn worked_still_alive()
     ensures alive { WorkedStillAliveAlive }
     ensures asked { (is_alive (pair (Some imp_1) (Some imp_2) (ask_frame 0 ∷ []) []) ours 0 ≡ true) × (is_alive (pair (Some imp_1) (Some imp_2) [] (never_frame 0 ∷ [])) ours 0 ≡ true) }
@@ -353,6 +356,7 @@ pub fn worked_third_imps()
 {}
 
 /// An IMP asks what became of a message.
+#[tactic(auto, unfolding(routing::specs::RouteTable::distance_to, routing::specs::RouteTable::next_of, imp_channel::specs::Line::submitted, routing::specs::RouteTable::vector_of))]
 pub fn worked_asking()
     // the question is put on the line to the destination's IMP. Without a live route nothing is
     ensures goes { (stepped (pair (Some expecting) (Some imp_2) [] []) (event.Ask ours)).lines ≡ wire (ask_frame 0 ∷ []) [] ∷ [] }
@@ -374,6 +378,7 @@ pub fn worked_asking()
 {}
 
 /// IMPs that stop and start.
+#[tactic(auto, unfolding(routing::specs::RouteTable::distance_to, link_table::specs::Numbers::is_new, link_table::specs::Numbers::modulus, routing::specs::RouteTable::next_of, link_table::specs::Numbers::oldest, imp_channel::specs::Line::submitted, routing::specs::RouteTable::vector_of, link_table::specs::Numbers::window))]
 pub fn worked_stops()
     // the hosts that are up go down in their order, which the log has newest first; a host that is down already does not
     ensures downs { (imp_stopped (pair (Some imp_1) (Some imp_2) [] []) 1).log ≡ crossing.Down (host 1 1) ∷ crossing.Down (host 0 1) ∷ [] }
@@ -390,6 +395,7 @@ pub fn worked_stops()
 {}
 
 /// Which refusal comes first, and when a taking gives something.
+#[tactic(auto, unfolding(routing::specs::RouteTable::distance_to, link_table::specs::Numbers::is_new, link_table::specs::Numbers::modulus, routing::specs::RouteTable::next_of, link_table::specs::Numbers::oldest, imp_channel::specs::Line::submitted, routing::specs::RouteTable::vector_of, link_table::specs::Numbers::window))]
 pub fn worked_refusals()
     ensures forget_down { WorkedRefusalsForgetDown }
     ensures start_up { WorkedRefusalsStartUp }
@@ -413,6 +419,7 @@ pub fn worked_refusals()
 {}
 
 /// What a quiet round does to IMPs and frames.
+#[tactic(auto, unfolding(routing::specs::RouteTable::distance_to, link_table::specs::Numbers::is_new, link_table::specs::Numbers::modulus, routing::specs::RouteTable::next_of, link_table::specs::Numbers::oldest, imp_channel::specs::Line::submitted, routing::specs::RouteTable::vector_of, link_table::specs::Numbers::window))]
 pub fn worked_rounds()
     // after one round from the opening each IMP has heard what the other could announce before the round, and no frame is left
     ensures heard { quiet_round opened_pair ≡ pair (Some imp_1) (Some imp_2) [] [] }
@@ -433,6 +440,7 @@ pub fn worked_rounds()
 {}
 
 /// When memory may run out.
+#[tactic(auto, unfolding(routing::specs::RouteTable::distance_to, link_table::specs::Numbers::is_new, link_table::specs::Numbers::modulus, routing::specs::RouteTable::next_of, link_table::specs::Numbers::oldest, imp_channel::specs::Line::submitted, routing::specs::RouteTable::vector_of, link_table::specs::Numbers::window))]
 pub fn worked_memory()
     // an IMP that stops: only where a host goes down with it
     ensures stops { (step_grows (pair (Some one_host_down) (Some imp_2) [] []) (event.ImpDown 1) ≡ true) × (step_grows (pair (Some hosts_down) (Some imp_2) [] []) (event.ImpDown 1) ≡ false) }

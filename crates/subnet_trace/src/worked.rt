@@ -95,6 +95,7 @@ pub fn worked_untold()
 {}
 
 /// What becomes of frames.
+#[tactic(auto, unfolding(routing::specs::RouteTable::distance_to, link_table::specs::Numbers::is_new, link_table::specs::Numbers::modulus, routing::specs::RouteTable::next_of, link_table::specs::Numbers::oldest, routing::specs::RouteTable::vector_of, link_table::specs::Numbers::window))]
 pub fn worked_fates()
     // at an IMP or an end of a line that is down
     ensures imp_down { fate_at_2 None (data_frame 0) ≡ Some fates.ImpDown }
@@ -156,6 +157,7 @@ pub fn worked_names()
 {}
 
 /// The elementary events of calms.
+#[tactic(auto, unfolding(routing::specs::RouteTable::distance_to, link_table::specs::Numbers::is_new, link_table::specs::Numbers::modulus, routing::specs::RouteTable::next_of, link_table::specs::Numbers::oldest, imp_channel::specs::Line::submitted, routing::specs::RouteTable::vector_of, link_table::specs::Numbers::window))]
 pub fn worked_calms()
     // all IMPs send their distances, and then each frame is delivered and dropped: first those that go forward, and then those
     // that go back
@@ -181,6 +183,7 @@ pub fn worked_calms()
 {}
 
 /// What is left of a calm at a place.
+#[tactic(auto, unfolding(routing::specs::RouteTable::distance_to, link_table::specs::Numbers::is_new, link_table::specs::Numbers::modulus, routing::specs::RouteTable::next_of, link_table::specs::Numbers::oldest, imp_channel::specs::Line::submitted, routing::specs::RouteTable::vector_of, link_table::specs::Numbers::window))]
 pub fn worked_places()
     // an IMP has sent its distances, or has not
     ensures told { calm_left (pair (Some sending_ours) None [] []) (record { round = 1; rounds = 1; stage = stage.Refreshing 1 true }) ≡ sends 1 1 ∷ gone 1 0 way.Forward ∷ [] }

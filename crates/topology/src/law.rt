@@ -31,6 +31,7 @@ pub fn worked_sites()
 {}
 
 /// Small documents, and what they describe.
+#[tactic(auto, unfolding(crate::specs::Topology::numbered_below))]
 pub fn worked_documents()
     // IMPs by rising number, lines as they are listed; without their keys the carrier is a subnet, and there are host programs
     ensures subnet { topology_of (document two_imps (one_line 2 1)) ≡ Some (record { carrier = kind.Subnet; raw = false; imps = imp_hosts 1 2 ∷ imp_hosts 2 1 ∷ []; lines = line 2 1 ∷ [] }) }

@@ -7,7 +7,6 @@ pub mod Every
 pub mod Heard
 pub mod Moments
 pub mod Next
-pub mod Older
 pub mod Owned
 pub mod Said
 pub mod Step

@@ -1,4 +1,4 @@
-"""Each link, source, name and number in the documents is there, and what is made of them is as it is made (seconds): ./check docs [--write | --lower | --rule WORD..]
+"""Each link, source, name and number in the documents is there, and what is made of them is as it is made (seconds): ./check docs [--write | --lower | --rule WORD.. | --tags]
 
 Checks what the documents name: each link leads to a file, each source that is named by its path exists, and each name
 that the claims about a crate have is in the code.
@@ -17,7 +17,7 @@ The drawings of docs/pictures, the page of crates, the index of rules and the pa
 no text of a drawing over another one or over a line. Figures in prose have to be those of their tables (workshop.documents.figures), and each crate's lines of
 .antt within its budget, which a commit raises only with a line that says what for (workshop.documents.budget). Words of the house's dialect are counted against limits that can only fall
 (workshop.documents). With --write these and the page of planted bugs are made anew, and with --lower the limits are lowered to what is counted.
-With --rule the rules in which all of the words occur are printed, each with its definition, its functions, its rows and its planted bugs.
+With --tags a file `tags` is made, by which editors find where a name is declared. With --rule the rules in which all of the words occur are printed, each with its definition, its functions, its rows and its planted bugs.
 
 Then it counts what hides borders and what is dead, each against its limit: imports that reach into another crate's proofs/
 beside its module lemmas, names of proofs/ that are declared `pub` and are nowhere else, and folders of proofs/ with too many entries.
@@ -35,7 +35,7 @@ import unittest
 from collections import Counter
 from collections.abc import Iterator
 
-from workshop.documents import anchors, believed, budget, crates_page, dialect, figures, named_crates, notebook, paragraphs, planted, rules, tests
+from workshop.documents import anchors, believed, budget, crates_page, dialect, figures, named_crates, notebook, paragraphs, planted, rules, tags, tests
 from workshop.drawings import pictures
 from workshop.parts import ROOT
 
@@ -264,7 +264,11 @@ def main() -> int:
     parser.add_argument("--write", action="store_true", help="make the drawings and the pages that are made of the sources")
     parser.add_argument("--lower", action="store_true", help="lower the limits of the dialect to what is counted")
     parser.add_argument("--rule", metavar="WORD", nargs="+", help="print the rules with these words, each with its definition and functions")
+    parser.add_argument("--tags", action="store_true", help="make the file by which editors find where a name is declared")
     options = parser.parse_args()
+    if options.tags:
+        print(f"check docs: tags has {tags.write():,} names")
+        return 0
     if options.rule:
         return 0 if rules.show(options.rule) else 1
     if options.lower:

@@ -1,6 +1,6 @@
-"""Each rule of docs/headline.md is needed: without it, a script breaks the promise (seconds).
+"""Each rule of docs/argument.md is needed: without it, a script breaks the promise (seconds).
 
-Shows what each rule of docs/headline.md is there for: ./check headline [FILE]
+Shows what each rule of docs/argument.md is there for: ./check headline [FILE]
 
 Each file of `without`, and of `without/shortest`, has a network and a script, and says in its first two lines which rule is lacking and what breaks.
 It runs in the model that lacks this rule (python/dorydate/model/without), where the audit of the book has to find that part of the

@@ -8,7 +8,7 @@ import tempfile
 import unittest
 from unittest import mock
 
-from workshop.documents import anchors, believed, believed_words, budget, crates_page, dialect, figures, named_crates, paragraphs, rules
+from workshop.documents import anchors, believed, believed_words, budget, crates_page, dialect, figures, named_crates, paragraphs, rules, tags
 from workshop.drawings import facts, formats, hosts, network, pictures, repository
 from workshop.drawings.svg import Drawing
 from workshop.parts import ROOT
@@ -241,6 +241,12 @@ class Budget(unittest.TestCase):
 
     def test_what_is_not_used_is_taken_off(self) -> None:
         self.assertEqual(budget.lowered({"a": 9, "b": 4, "c": 3}, {"a": [(10, "what it had"), (2, "a law")], "b": [(4, "what it had")]}), {"a": [(7, "what it had"), (2, "a law")], "b": [(4, "what it had")], "c": [(3, "what the crate had when it got a budget")]})
+
+
+class Tags(unittest.TestCase):
+    def test_names_are_found_where_they_are_declared(self) -> None:
+        self.assertEqual([*tags.declared(".antt", "-- a word : no name\npub record Rule (a : ℕ) : Type 0 where\n  pub held : ℕ\nabbrev pub twice : ℕ → ℕ\ntwice n = n\n")], [("Rule", 2), ("held", 3), ("twice", 4)])
+        self.assertEqual([*tags.declared(".rt", "pub struct A {\n    pub(crate) fn b() {}\n")], [("A", 1), ("b", 2)])
 
 
 class Hook(unittest.TestCase):

@@ -6,7 +6,6 @@ use Rattle.interface.specs.declared.crossing.Crossing.{Crossing}
 use Rattle.interface.specs.declared.crossing.Crossing.TheVariants as crossing
 use Rattle.interface.specs.declared.message.HostMessage.{HostMessage}
 use Rattle.net_sim.specs.Clean.{IsFresh, IsLawful, IsText, is_through}
-use Rattle.net_sim.specs.Story.{program}
 use Rattle.net_sim.specs.World.{WorldState, seat_of}
 use Rattle.net_sim.specs.Projection.{Agrees}
 use Rattle.net_sim.specs.Timeline.{events_in}

@@ -1,4 +1,4 @@
-"""The model without one of its rules each: what the rules of docs/headline.md are there for.
+"""The model without one of its rules each: what the rules of docs/argument.md are there for.
 
 `LACKING` has for each rule a network that keeps all rules but this one. What breaks then is seen by the audit of the book (`audit`), and of
 a raw network by the table of its boxes (`mailboxes`).

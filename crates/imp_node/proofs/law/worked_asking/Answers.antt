@@ -20,10 +20,6 @@ pub returns-clause-no_room : goal.returns-clause-no_room
 unfolding next_of submitted distance_to
 returns-clause-no_room c = rw is_begun refl
 
-pub returns-clause-elsewhere : goal.returns-clause-elsewhere
-unfolding next_of submitted distance_to
-returns-clause-elsewhere c = refl
-
 pub returns-clause-not_outstanding : goal.returns-clause-not_outstanding
 unfolding next_of submitted distance_to
 returns-clause-not_outstanding c = rw is_given_up refl

@@ -36,21 +36,9 @@ pub returns-clause-still : goal.returns-clause-still
 unfolding next_of submitted distance_to
 returns-clause-still c = rw is_begun (rw is_begun refl)
 
-pub returns-clause-given_up : goal.returns-clause-given_up
-unfolding next_of submitted distance_to
-returns-clause-given_up c = refl
-
 pub returns-clause-once : goal.returns-clause-once
 unfolding next_of submitted distance_to
 returns-clause-once c = rw is_given_up refl
-
-pub returns-clause-elsewhere : goal.returns-clause-elsewhere
-unfolding next_of submitted distance_to
-returns-clause-elsewhere c = refl
-
-pub returns-clause-nobody : goal.returns-clause-nobody
-unfolding next_of submitted distance_to
-returns-clause-nobody c = refl
 
 pub returns-clause-idle : goal.returns-clause-idle
 unfolding next_of submitted distance_to

@@ -11,14 +11,6 @@ use Rattle.routing.specs.RouteTable.{next_of, distance_to, vector_of}
 use Rattle.imp_node.specs.Examples.{host, flow}
 use Rattle.imp_node.proofs.law.worked_hosts.Goals as goal
 
-pub returns-clause-nowhere : goal.returns-clause-nowhere
-unfolding next_of submitted distance_to vector_of begun flow_answered handed is_new
-returns-clause-nowhere c = refl
-
-pub returns-clause-nothing_sent : goal.returns-clause-nothing_sent
-unfolding next_of submitted distance_to vector_of begun flow_answered handed is_new
-returns-clause-nothing_sent c = refl
-
 pub returns-clause-accepted : goal.returns-clause-accepted
 unfolding next_of submitted distance_to vector_of begun flow_answered handed is_new
 returns-clause-accepted c = rw (get-empty flow_cmp (flow (host 0 1) (host 0 2) 7)) refl
@@ -43,22 +35,6 @@ pub returns-clause-here : goal.returns-clause-here
 unfolding next_of submitted distance_to vector_of begun flow_answered handed is_new
 returns-clause-here c = rw (get-empty flow_cmp (flow (host 0 1) (host 1 1) 17)) refl
 
-pub returns-clause-other_imp : goal.returns-clause-other_imp
-unfolding next_of submitted distance_to vector_of begun flow_answered handed is_new
-returns-clause-other_imp c = refl
-
-pub returns-clause-other_host : goal.returns-clause-other_host
-unfolding next_of submitted distance_to vector_of begun flow_answered handed is_new
-returns-clause-other_host c = refl
-
-pub returns-clause-taken : goal.returns-clause-taken
-unfolding next_of submitted distance_to vector_of begun flow_answered handed is_new
-returns-clause-taken c = refl
-
-pub returns-clause-rfnm : goal.returns-clause-rfnm
-unfolding next_of submitted distance_to vector_of begun flow_answered handed is_new
-returns-clause-rfnm c = refl
-
 pub returns-clause-given_up : goal.returns-clause-given_up
 unfolding next_of submitted distance_to vector_of begun flow_answered handed is_new
 returns-clause-given_up c = rw (get-empty flow_cmp (flow (host 0 1) (host 1 1) 2)) refl
@@ -66,18 +42,6 @@ returns-clause-given_up c = rw (get-empty flow_cmp (flow (host 0 1) (host 1 1) 2
 pub returns-clause-dead : goal.returns-clause-dead
 unfolding next_of submitted distance_to vector_of begun flow_answered handed is_new
 returns-clause-dead c = rw (get-empty flow_cmp (flow (host 0 1) (host 0 1) 2)) refl
-
-pub returns-clause-cleared : goal.returns-clause-cleared
-unfolding next_of submitted distance_to vector_of begun flow_answered handed is_new
-returns-clause-cleared c = refl
-
-pub returns-clause-gives : goal.returns-clause-gives
-unfolding next_of submitted distance_to vector_of begun flow_answered handed is_new
-returns-clause-gives c = (refl, refl)
-
-pub returns-clause-gives_nothing : goal.returns-clause-gives_nothing
-unfolding next_of submitted distance_to vector_of begun flow_answered handed is_new
-returns-clause-gives_nothing c = (refl, refl, refl)
 
 pub returns-clause-nothing : goal.returns-clause-nothing
 unfolding next_of submitted distance_to vector_of begun flow_answered handed is_new
@@ -92,11 +56,3 @@ is_begun =
 pub returns-clause-blocked_first : goal.returns-clause-blocked_first
 unfolding next_of submitted distance_to
 returns-clause-blocked_first c = rw is_begun refl
-
-pub returns-clause-needs_no_room : goal.returns-clause-needs_no_room
-unfolding next_of submitted distance_to vector_of begun flow_answered handed is_new
-returns-clause-needs_no_room c = refl
-
-pub returns-clause-dead_with_room : goal.returns-clause-dead_with_room
-unfolding next_of submitted distance_to vector_of begun flow_answered handed is_new
-returns-clause-dead_with_room c = refl

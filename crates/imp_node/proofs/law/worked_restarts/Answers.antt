@@ -77,18 +77,6 @@ pub returns-clause-others_unsettled : goal.returns-clause-others_unsettled
 unfolding next_of submitted distance_to
 returns-clause-others_unsettled c = rw (none_unsettled one_sent (host 1 1) of_no_other) refl
 
-pub returns-clause-host_comes_up : goal.returns-clause-host_comes_up
-unfolding next_of submitted distance_to
-returns-clause-host_comes_up c = refl
-
 pub returns-clause-answer_cleared : goal.returns-clause-answer_cleared
 unfolding next_of submitted distance_to
 returns-clause-answer_cleared c = rw (is_begun, is_taken) refl
-
-pub returns-clause-end_comes_up : goal.returns-clause-end_comes_up
-unfolding next_of submitted distance_to
-returns-clause-end_comes_up c = refl
-
-pub returns-clause-slot_thrown_away : goal.returns-clause-slot_thrown_away
-unfolding next_of submitted distance_to
-returns-clause-slot_thrown_away c = refl

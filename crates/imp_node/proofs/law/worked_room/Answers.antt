@@ -6,34 +6,6 @@ use Rattle.imp_channel.specs.Line.{submitted}
 use Rattle.routing.specs.RouteTable.{next_of, distance_to, vector_of}
 use Rattle.imp_node.proofs.law.worked_room.Goals as goal
 
-pub returns-clause-counted : goal.returns-clause-counted
-unfolding next_of submitted distance_to vector_of
-returns-clause-counted c = (refl, refl)
-
-pub returns-clause-lost : goal.returns-clause-lost
-unfolding next_of submitted distance_to vector_of
-returns-clause-lost c = refl
-
-pub returns-clause-asked_before : goal.returns-clause-asked_before
-unfolding next_of submitted distance_to vector_of
-returns-clause-asked_before c = refl
-
-pub returns-clause-dropped : goal.returns-clause-dropped
-unfolding next_of submitted distance_to vector_of
-returns-clause-dropped c = refl
-
-pub returns-clause-stored : goal.returns-clause-stored
-unfolding next_of submitted distance_to vector_of
-returns-clause-stored c = refl
-
-pub returns-clause-waiting : goal.returns-clause-waiting
-unfolding next_of submitted distance_to vector_of
-returns-clause-waiting c = refl
-
-pub returns-clause-repeated : goal.returns-clause-repeated
-unfolding next_of submitted distance_to vector_of
-returns-clause-repeated c = refl
-
 pub returns-clause-offered : goal.returns-clause-offered
 unfolding next_of submitted distance_to vector_of
 returns-clause-offered c = rw (get-empty flow_cmp (flow (host 0 1) (host 0 2) 40)) refl

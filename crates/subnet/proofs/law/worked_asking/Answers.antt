@@ -15,14 +15,6 @@ pub returns-clause-unrouted : goal.returns-clause-unrouted
 unfolding next_of submitted distance_to vector_of
 returns-clause-unrouted c = rw is_begun refl
 
-pub returns-clause-not_there : goal.returns-clause-not_there
-unfolding next_of submitted distance_to vector_of
-returns-clause-not_there c = refl
-
-pub returns-clause-imp_down : goal.returns-clause-imp_down
-unfolding next_of submitted distance_to vector_of
-returns-clause-imp_down c = refl
-
 pub returns-clause-none : goal.returns-clause-none
 unfolding next_of submitted distance_to vector_of
 returns-clause-none c = rw (get-empty flow_cmp ours) refl

@@ -14,19 +14,3 @@ returns-clause-stays c = rw (get-empty flow_cmp ours) refl
 pub returns-clause-came : goal.returns-clause-came
 unfolding next_of submitted distance_to vector_of is_new oldest modulus window
 returns-clause-came c = rw (get-empty flow_cmp ours) refl
-
-pub returns-clause-dropped : goal.returns-clause-dropped
-unfolding next_of submitted distance_to vector_of is_new oldest modulus window
-returns-clause-dropped c = refl
-
-pub returns-clause-killed : goal.returns-clause-killed
-unfolding next_of submitted distance_to vector_of is_new oldest modulus window
-returns-clause-killed c = (refl, refl)
-
-pub returns-clause-ignored : goal.returns-clause-ignored
-unfolding next_of submitted distance_to vector_of is_new oldest modulus window
-returns-clause-ignored c = (refl, refl)
-
-pub returns-clause-no_frame : goal.returns-clause-no_frame
-unfolding next_of submitted distance_to vector_of is_new oldest modulus window
-returns-clause-no_frame c = (refl, refl, refl)

@@ -43,18 +43,6 @@ all_answered last imp = none_outstanding (insert empty ours (standing.Idle last)
 ours_outstanding : has_outstanding_to 2 (begun empty ours) ≡ true
 ours_outstanding = some_outstanding (begun empty ours) 2 ours 0 refl (ap outstanding_in is_begun)
 
-pub returns-clause-alive : goal.returns-clause-alive
-unfolding next_of submitted distance_to vector_of is_new oldest modulus window
-returns-clause-alive c = (refl, refl, refl, refl)
-
-pub returns-clause-asked : goal.returns-clause-asked
-unfolding next_of submitted distance_to vector_of is_new oldest modulus window
-returns-clause-asked c = (refl, refl)
-
-pub returns-clause-other : goal.returns-clause-other
-unfolding next_of submitted distance_to vector_of is_new oldest modulus window
-returns-clause-other c = (refl, refl)
-
 pub returns-clause-offer_window : goal.returns-clause-offer_window
 unfolding next_of submitted distance_to vector_of is_new oldest modulus window
 returns-clause-offer_window c = rw (is_known 32767) refl
@@ -83,10 +71,6 @@ pub returns-clause-offer_nowhere : goal.returns-clause-offer_nowhere
 unfolding next_of submitted distance_to vector_of is_new oldest modulus window
 returns-clause-offer_nowhere c = rw (is_known 32767) refl
 
-pub returns-clause-offer_down : goal.returns-clause-offer_down
-unfolding next_of submitted distance_to vector_of is_new oldest modulus window
-returns-clause-offer_down c = refl
-
 pub returns-clause-give_up_data : goal.returns-clause-give_up_data
 unfolding next_of submitted distance_to vector_of is_new oldest modulus window
 returns-clause-give_up_data c = rw is_begun refl
@@ -111,18 +95,6 @@ pub returns-clause-give_up_none : goal.returns-clause-give_up_none
 unfolding next_of submitted distance_to vector_of is_new oldest modulus window
 returns-clause-give_up_none c = rw (get-empty flow_cmp ours) refl
 
-pub returns-clause-forget_data : goal.returns-clause-forget_data
-unfolding next_of submitted distance_to vector_of is_new oldest modulus window
-returns-clause-forget_data c = refl
-
-pub returns-clause-forget_asked : goal.returns-clause-forget_asked
-unfolding next_of submitted distance_to vector_of is_new oldest modulus window
-returns-clause-forget_asked c = refl
-
-pub returns-clause-forget_queued : goal.returns-clause-forget_queued
-unfolding next_of submitted distance_to vector_of is_new oldest modulus window
-returns-clause-forget_queued c = refl
-
 pub returns-clause-forget_back : goal.returns-clause-forget_back
 unfolding next_of submitted distance_to vector_of is_new oldest modulus window
 returns-clause-forget_back c = rw (nothing_begun 1) refl
@@ -134,18 +106,6 @@ returns-clause-forget_answer c = rw (nothing_begun 2) refl
 pub returns-clause-forget_never : goal.returns-clause-forget_never
 unfolding next_of submitted distance_to vector_of is_new oldest modulus window
 returns-clause-forget_never c = rw (nothing_begun 2) refl
-
-pub returns-clause-start_answer : goal.returns-clause-start_answer
-unfolding next_of submitted distance_to vector_of is_new oldest modulus window
-returns-clause-start_answer c = refl
-
-pub returns-clause-start_asked : goal.returns-clause-start_asked
-unfolding next_of submitted distance_to vector_of is_new oldest modulus window
-returns-clause-start_asked c = (refl, refl)
-
-pub returns-clause-start_destination : goal.returns-clause-start_destination
-unfolding next_of submitted distance_to vector_of is_new oldest modulus window
-returns-clause-start_destination c = refl
 
 pub returns-clause-start_passing : goal.returns-clause-start_passing
 unfolding next_of submitted distance_to vector_of is_new oldest modulus window

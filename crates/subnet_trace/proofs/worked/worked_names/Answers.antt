@@ -9,12 +9,6 @@ use Rattle.subnet_trace.proofs.worked.worked_names.Goals as goal
 longer : {X : Type 0} (xs ys : List X) (n : ℕ) → xs ≡ ys → length xs ≡ n → length ys ≡ 0 → n ≡ 0
 longer xs ys n e a b = let same : length xs ≡ length ys = ap length e in omega (arith, same, a, b)
 
-pub returns-clause-named : goal.returns-clause-named
-returns-clause-named c = (refl, refl)
-
-pub returns-clause-not_named : goal.returns-clause-not_named
-returns-clause-not_named c = (refl, refl, refl)
-
 pub returns-clause-other_imp : goal.returns-clause-other_imp
 returns-clause-other_imp c same = let bad : None ≡ Some imp_1 = same in absurd (cc)
 

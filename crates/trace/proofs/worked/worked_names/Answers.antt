@@ -13,12 +13,6 @@ some {A} h x same =
     let none : (x ∷ []) ≡ [] = sym (for_here empty h (x ∷ [])) ∙ same ∙ none_for {A = A} h in
     absurd (cc)
 
-pub returns-clause-named : goal.returns-clause-named
-returns-clause-named c = (refl, refl)
-
-pub returns-clause-not_named : goal.returns-clause-not_named
-returns-clause-not_named c = (refl, refl, refl)
-
 pub returns-clause-other_down : goal.returns-clause-other_down
 returns-clause-other_down c same = let none : (first ∷ []) ≡ [] = same in absurd (cc)
 
