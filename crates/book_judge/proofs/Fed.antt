@@ -1,5 +1,5 @@
 -- What streams and grants promise of the first lives, with one more.
-use Rattle.std.proofs.Common.{◌≡◌, ℕ, ◌+◌, ◌<◌, ◌≤◌, Bool, true, false, not, List, [], ◌∷◌, ◌++◌, length, take, drop, get_or, Option, Some, None, MatchBool, refl, ap, sym, subst, ◌∙◌, arith}
+use Rattle.std.proofs.Common.{◌≡◌, ℕ, zero, suc, ◌-◌, ◌+◌, ◌<◌, ◌≤◌, Bool, true, false, not, List, [], ◌∷◌, ◌++◌, length, take, drop, get_or, Option, Some, None, MatchBool, refl, ap, sym, subst, ◌∙◌, arith}
 use Rattle.std.specs.List.{slice_get}
 use Rattle.std.proofs.lemmas.List.{take-append-drop, take_all, take_more}
 use Rattle.std.proofs.lemmas.Option.{get_or_from_slice_get, slice_get_read, slice_get_within}
@@ -29,6 +29,26 @@ prefix_more xs ys i a b r e f g h same =
 pub prefix_whole : (xs ys : List Bool) (i : ℕ) → length xs ≤ i → take i xs ≡ take i ys → IsPrefix xs ys
 prefix_whole xs ys i h same =
     (drop i ys, ap (λ (zs : List Bool). zs ++ drop i ys) (sym (take_all i xs h) ∙ same) ∙ take-append-drop i ys)
+
+-- the bit at a place of what is left
+pub get_drop : (n : ℕ) (xs : List Bool) (i : ℕ) → slice_get xs (n + i) ≡ slice_get (drop n xs) i
+get_drop zero xs i = let e : 0 + i ≡ i = omega arith in ap (λ (k : ℕ). slice_get xs k) e
+get_drop (suc n) [] i = refl
+get_drop (suc n) (x ∷ xs) i = let e : suc n + i ≡ suc (n + i) = omega arith in ap (λ (k : ℕ). slice_get (x ∷ xs) k) e ∙ get_drop n xs i
+
+took_none : (k : ℕ) → take {A = Bool} k [] ≡ []
+took_none zero = refl
+took_none (suc k) = refl
+
+pub drop_part : (from to : ℕ) (xs : List Bool) → from ≤ to → drop from (take to xs) ≡ take (to - from) (drop from xs)
+drop_part zero to xs less = let e : to - 0 ≡ to = omega arith in ap (λ (k : ℕ). take k xs) (sym e)
+drop_part (suc from) zero xs less = absurd (omega (arith, less))
+drop_part (suc from) (suc to) [] less = sym (took_none (suc to - suc from))
+drop_part (suc from) (suc to) (x ∷ xs) less = let e : suc to - suc from ≡ to - from = omega arith in drop_part from to xs (omega (arith, less)) ∙ ap (λ (k : ℕ). take k (drop from xs)) (sym e)
+
+pub slice_whole : (from to i : ℕ) (xs ys : List Bool) → from ≤ to → to - from ≡ length ys → i ≡ length ys → take i (drop from xs) ≡ take i ys → drop from (take to xs) ≡ ys
+slice_whole from to i xs ys less size all same =
+    drop_part from to xs less ∙ ap (λ (k : ℕ). take k (drop from xs)) (size ∙ sym all) ∙ same ∙ take_all i ys (omega (arith, all))
 
 -- ---- one life
 

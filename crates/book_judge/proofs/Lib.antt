@@ -1,7 +1,7 @@
 pub mod SameText
 pub mod Mailboxes
 pub mod Named
-pub mod Texts
+pub mod TextsBy
 pub mod Made
 pub mod Elements
 pub mod Placed
@@ -13,6 +13,6 @@ pub mod Shown
 pub mod Peace
 pub mod Lost
 pub mod Taken
-pub mod Joined
+pub mod Streamed
 pub mod Worked
 pub mod lemmas

@@ -1,24 +1,19 @@
 -- When lives are made of the messages that crossed.
-use Rattle.std.proofs.Common.{◌≡◌, ◌⊎◌, ℕ, zero, suc, ◌+◌, ◌<◌, ◌≤◌, Bool, true, false, if◌then◌else◌, List, [], ◌∷◌, ◌++◌, length, take, drop, get_or, reverse, Option, Some, None, is_some, MatchBool, refl, ap, sym, subst, ◌∙◌, inl, inr, arith}
-use Rattle.std.specs.List.{Contains, slice_get}
-use Rattle.std.specs.Prelude.{IsSome, max}
+use Rattle.std.proofs.Common.{◌≡◌, ◌⊎◌, ℕ, zero, suc, ◌+◌, ◌<◌, ◌≤◌, Bool, true, false, if◌then◌else◌, List, [], ◌∷◌, ◌++◌, length, take, drop, get_or, reverse, Option, Some, None, is_some, MatchBool, ap, sym, subst, ◌∙◌, inl, inr}
+use Rattle.std.specs.List.{Contains}
+use Rattle.std.specs.Prelude.{IsSome}
 use Rattle.std.proofs.lemmas.List.{reverse-reverse, take_all, take_more}
-use Rattle.std.proofs.lemmas.List.Elements.{Contains-append_left}
 use Rattle.interface.specs.declared.crossing.Crossing.{Crossing}
 use Rattle.promise.specs.Formed.{FormedBook, IsFormed, first_data, flow_of, link_of, own_named, partner_named, texts_for, texts_on}
 use Rattle.promise.specs.Safe.{receives}
 use Rattle.promise.specs.declared.life.Life.{Life}
 use Rattle.book_judge.specs.Inside.Joined.{texts_by}
-use Rattle.book_judge.specs.Inside.Made.{since}
+use Rattle.book_judge.specs.Inside.Made.{HasBits, since}
 use Rattle.book_judge.specs.Lives.{UnmadeAt}
 use Rattle.book_judge.proofs.Named.{contains_cases, contains_head, contains_none, contains_tail}
-use Rattle.book_judge.proofs.Texts.{texts_same}
+use Rattle.book_judge.proofs.TextsBy.{texts_same}
 
 -- ---- one life
-
--- its first messages on a link have its bits
-abbrev pub HasBits : List Crossing → Life → ℕ → Type 0
-HasBits log x link = first_data (receives x) x.messages (texts_by (receives x) (flow_of x link) (drop (since x) log)) ≡ Some x.bits
 
 same_texts : (log : List Crossing) (x : Life) (link : ℕ) → texts_for x link (reverse log) ≡ texts_by (receives x) (flow_of x link) (drop (since x) log)
 same_texts log x link = texts_same (receives x) (flow_of x link) x.own_stamp x.partner_stamp log (reverse-reverse log)

@@ -1,28 +1,24 @@
 -- What requests name, and the messages in which they crossed.
-use Rattle.std.proofs.Common.{◌≡◌, ◌⊎◌, inl, inr, ℕ, zero, suc, ◌+◌, ◌-◌, ◌*◌, ◌<◌, ◌≤◌, ◌==◌, Bool, true, false, if◌then◌else◌, List, [], ◌∷◌, ◌++◌, length, drop, reverse, Option, Some, None, is_some, refl, ap, sym, subst, ◌∙◌, append-nil, arith, eq-eqb}
+use Rattle.std.proofs.Common.{◌≡◌, ◌⊎◌, inl, inr, ℕ, zero, suc, ◌+◌, ◌-◌, ◌*◌, ◌<◌, ◌≤◌, ◌==◌, Bool, true, false, if◌then◌else◌, List, [], ◌∷◌, ◌++◌, length, drop, reverse, Option, Some, None, is_some, refl, ap, sym, subst, ◌∙◌, arith, eq-eqb}
 use Rattle.std.specs.List.{Contains, slice_get, slice_index_or}
 use Rattle.std.specs.Option.{option_or}
 use Rattle.std.proofs.lemmas.Bool.{eqb-true}
 use Rattle.std.proofs.lemmas.List.{drop_all, length-drop, length-reverse, reverse-append, reverse-reverse}
 use Rattle.bit_messages.specs.Octets.{octets_of}
-use Rattle.host_pairs.specs.Control.{Order, Legal, Wrong, orders_of, orders_within}
+use Rattle.host_pairs.specs.Control.{orders_within}
 use Rattle.host_pairs.proofs.lemmas.{header_covers}
 use Rattle.interface.specs.Flow.{same_flow}
 use Rattle.interface.specs.declared.address.Flow.{Flow}
 use Rattle.interface.specs.declared.crossing.Crossing.{Crossing}
 use Rattle.interface.specs.declared.crossing.Crossing.TheVariants as crossing
-use Rattle.interface.specs.declared.message.HostMessage.{HostMessage}
-use Rattle.interface.proofs.lemmas.{and_true, same_flow-refl, same_flow-true}
+use Rattle.interface.proofs.lemmas.{same_flow-refl}
 use Rattle.ncp_control.specs.DataHeader.{header_of}
-use Rattle.ncp_control.specs.Numbers.{is_receive_socket}
 use Rattle.ncp_control.specs.declared.data_header.DataHeader.{DataHeader}
 use Rattle.ncp_control.proofs.lemmas.{octets_enough}
-use Rattle.ncp_control.specs.declared.command.Command.{Command}
 use Rattle.ncp_control.specs.declared.command.Command.TheVariants as command
 use Rattle.promise.specs.Formed.{CrossedAt, named_at, named_in, named_of, text_of}
 use Rattle.promise.specs.Safe.{control_flow}
 use Rattle.interface.specs.Host.{Host}
-use Rattle.book_judge.specs.Inside.Joined.{message_of}
 
 -- ---- elements
 
@@ -190,15 +186,16 @@ texts_at comes f (Some c) = text_of comes f c
 named_by : (comes : Bool) (from to : Host) (own foreign place : ℕ) (log : List Crossing) (o : Option Crossing) → slice_get (reverse log) place ≡ o
     → named_at comes from to own foreign place log ≡ named_of own foreign (texts_at comes (control_flow from to) o)
 named_by comes from to own foreign place [] o e = ap (λ (p : Option Crossing). named_of own foreign (texts_at comes (control_flow from to) p)) e
-named_by comes from to own foreign place (c ∷ log) o e = by (place == length log) refl where
+named_by comes from to own foreign place (c ∷ log) o e = by (place == length log) refl (named_by comes from to own foreign place log (slice_get (reverse log) place) refl) where
   at : slice_get (reverse log ++ c ∷ []) place ≡ o
   at = ap (λ (zs : List Crossing). slice_get zs place) (sym (one_more c log)) ∙ e
 
-  by : (v : Bool) → (place == length log) ≡ v → (if v then named_of own foreign (text_of comes (control_flow from to) c) else named_at comes from to own foreign place log) ≡ named_of own foreign (texts_at comes (control_flow from to) o)
-  by true s =
+  by : (v : Bool) → (place == length log) ≡ v → named_at comes from to own foreign place log ≡ named_of own foreign (texts_at comes (control_flow from to) (slice_get (reverse log) place))
+      → (if v then named_of own foreign (text_of comes (control_flow from to) c) else named_at comes from to own foreign place log) ≡ named_of own foreign (texts_at comes (control_flow from to) o)
+  by true s rest =
       let here : place ≡ length (reverse log) = eqb-true place (length log) s ∙ sym (length-reverse log) in
       ap (λ (p : Option Crossing). named_of own foreign (texts_at comes (control_flow from to) p)) (sym (ap (λ (n : ℕ). slice_get (reverse log ++ c ∷ []) n) here ∙ get_seam (reverse log) c) ∙ at)
-  by false s = named_by comes from to own foreign place log (slice_get (reverse log) place) refl ∙ ap (λ (p : Option Crossing). named_of own foreign (texts_at comes (control_flow from to) p)) (sym (get_before (reverse log) c place other) ∙ at) where
+  by false s rest = rest ∙ ap (λ (p : Option Crossing). named_of own foreign (texts_at comes (control_flow from to) p)) (sym (get_before (reverse log) c place other) ∙ at) where
     other : place ≡ length (reverse log) → ⊥
     other same = let both : true ≡ false = sym (eq-eqb place (length log) (same ∙ length-reverse log)) ∙ s in cc
 
@@ -206,3 +203,7 @@ named_by comes from to own foreign place (c ∷ log) o e = by (place == length l
 pub named_there : (comes : Bool) (from to : Host) (own foreign place : ℕ) (log : List Crossing) → named_at comes from to own foreign place (reverse log) ≡ named_of own foreign (texts_at comes (control_flow from to) (slice_get log place))
 named_there comes from to own foreign place log =
     named_by comes from to own foreign place (reverse log) (slice_get log place) (ap (λ (zs : List Crossing). slice_get zs place) (reverse-reverse log))
+
+pub none_named : (o : Option ℕ) → false ≡ is_some o → o ≡ None
+none_named None e = refl
+none_named (Some n) e = absurd (let both : false ≡ true = e in cc)

@@ -1,7 +1,8 @@
 //! Whether lists of bits are alike.
 
-ghost use Rattle.std.specs.Prelude.{◌≡◌, ◌≤◌, MatchBool, drop, length, take};
+ghost use Rattle.std.specs.Prelude.{◌≡◌, MatchBool};
 ghost use Rattle.promise.specs.Safe.{IsPrefix};
+ghost use Rattle.book_judge.specs.Inside.Made.{IsSlice};
 
 use crate::data::same_found;
 use bit_messages::Bits;
@@ -31,7 +32,7 @@ pub(crate) fn same_bits(bits: &BitLog, other: &BitLog) -> bool
 
 /// Returns whether the bits of a text from a place on up to another are these.
 pub(crate) fn is_slice(bits: &BitLog, text: &Bits, from: usize, to: usize) -> bool
-    ensures { MatchBool result ((from ≤ to) × (to ≤ length text.now) × (drop from (take to text.now) ≡ bits.now)) ((from ≤ to) × (to ≤ length text.now) × (drop from (take to text.now) ≡ bits.now) → ⊥) }
+    ensures { MatchBool result (IsSlice bits.now text.now from to) (IsSlice bits.now text.now from to → ⊥) }
 {
     if from > to || to > text.len() || to - from != bits.len() {
         return false;

@@ -2,10 +2,10 @@
 
 ghost use Rattle.std.specs.Prelude.{◌≡◌, ◌≤◌, IfSome, MatchBool, Some, drop, length};
 ghost use Rattle.promise.specs.Formed as formed;
-ghost use Rattle.promise.specs.Formed.{first_data, flow_of};
+ghost use Rattle.promise.specs.Formed.{flow_of};
 ghost use Rattle.promise.specs.Safe as safe;
 ghost use Rattle.promise.specs.Safe.{receives};
-ghost use Rattle.book_judge.specs.Inside.Joined.{AreJoined, texts_by};
+ghost use Rattle.book_judge.specs.Inside.Joined.{AreJoined};
 ghost use Rattle.book_judge.specs.Inside.Made as tests;
 
 use crate::joined::Joined;
@@ -76,7 +76,7 @@ fn since(log: &[Crossing], life: &Life) -> usize
 /// bits. What crossed on each flow is joined.
 pub(crate) fn is_first_on(log: &[Crossing], joined: &Joined, life: &Life, link: u8) -> bool
     requires { AreJoined (receives life.now) log.now joined.now }
-    ensures { MatchBool result (first_data (receives life.now) life.now.messages (texts_by (receives life.now) (flow_of life.now link) (drop (tests.since life.now) log.now)) ≡ Some life.now.bits) (first_data (receives life.now) life.now.messages (texts_by (receives life.now) (flow_of life.now link) (drop (tests.since life.now) log.now)) ≡ Some life.now.bits → ⊥) }
+    ensures { MatchBool result (tests.HasBits log.now life.now link) (tests.HasBits log.now life.now link → ⊥) }
 {
     joined.has(
         &flow_of(life, link),

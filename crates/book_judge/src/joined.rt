@@ -1,11 +1,10 @@
 //! The data of each flow's messages, joined.
 
-ghost use Rattle.std.specs.Prelude.{◌≡◌, ◌+◌, ◌<◌, ◌∷◌, ◌++◌, [], Bool, IfOk, List, MatchBool, OnOk, Some, drop, length, option_copied, take};
+ghost use Rattle.std.specs.Prelude.{◌≡◌, ◌+◌, ◌<◌, [], Bool, IfOk, List, MatchBool, OnOk, Some, length, option_copied, take};
 ghost use Rattle.interface.specs.declared.address.Flow.{Flow};
 ghost use Rattle.interface.specs.declared.crossing.Crossing.{Crossing};
-ghost use Rattle.promise.specs.Formed.{first_data, text_of};
 ghost use Rattle.book_judge.specs.Inside.Joined as tests;
-ghost use Rattle.book_judge.specs.Inside.Joined.{AreJoined, HasNumber, IsFirstFrom, IsStream, marked, texts_by};
+ghost use Rattle.book_judge.specs.Inside.Joined.{AreJoined, Grows, HasNumber, IsFirst, IsFirstFrom, IsStream, marked, texts_by};
 
 use crate::bits::is_slice;
 use crate::data::end_of;
@@ -72,7 +71,7 @@ impl Stream {
         place: usize,
         text: &Bits,
     ) -> Result<(), AllocError>
-        ensures { OnOk result ((f : Flow) (log : List Crossing) (c : Crossing) → length log ≡ place → text_of comes f c ≡ text.now ∷ [] → IsStream comes f log self.old → IsStream comes f (log ++ c ∷ []) self.new) }
+        ensures { OnOk result (Grows comes place text.now self.old self.new) }
     {
         self.pieces.push(Piece {
             place,
@@ -104,13 +103,14 @@ impl Stream {
 
     /// Returns whether the data of the first messages from a place on, as many as this, are these bits.
     fn has(&self, since: usize, count: u128, bits: &BitLog) -> bool
-        ensures { (comes : Bool) (f : Flow) (log : List Crossing) → IsStream comes f log self.now → MatchBool result (first_data comes count (texts_by comes f (drop since log)) ≡ Some bits.now) (first_data comes count (texts_by comes f (drop since log)) ≡ Some bits.now → ⊥) }
+        ensures { (comes : Bool) (f : Flow) (log : List Crossing) → IsStream comes f log self.now → MatchBool result (IsFirst comes f log since count bits.now) (IsFirst comes f log since count bits.now → ⊥) }
     {
         let first = first_from(&self.pieces, since);
+        let left = self.pieces.len() - first;
         let Ok(count) = usize::try_from(count) else {
             return false;
         };
-        if count > self.pieces.len() - first {
+        if count > left {
             return false;
         }
         let (from, unread) = self.before(first);
@@ -179,7 +179,7 @@ impl Joined {
 
     /// Returns whether the data of the first messages of a flow from a place on, as many as this, are these bits.
     pub(crate) fn has(&self, flow: &MessageFlow, since: usize, count: u128, bits: &BitLog) -> bool
-        ensures { (comes : Bool) (log : List Crossing) → AreJoined comes log self.now → MatchBool result (first_data comes count (texts_by comes flow.now (drop since log)) ≡ Some bits.now) (first_data comes count (texts_by comes flow.now (drop since log)) ≡ Some bits.now → ⊥) }
+        ensures { (comes : Bool) (log : List Crossing) → AreJoined comes log self.now → MatchBool result (IsFirst comes flow.now log since count bits.now) (IsFirst comes flow.now log since count bits.now → ⊥) }
     {
         match self.numbers.get(flow) {
             Some(number) => match self.streams.get(number) {
@@ -194,7 +194,7 @@ impl Joined {
 /// Returns the data of all messages of a log that came in, or that went out.
 ///
 /// Errors: `AllocError`.
-pub(crate) fn joined(alloc: Global, log: &[Passage], comes: bool) -> Result<Joined, AllocError>
+pub(crate) fn join_data(alloc: Global, log: &[Passage], comes: bool) -> Result<Joined, AllocError>
     ensures { IfOk result (λ joined. AreJoined comes log.now joined) }
 {
     let mut joined = Joined::new(alloc);

@@ -1,6 +1,7 @@
 //! Whether lives are made of the messages that crossed.
 
 ghost use Rattle.std.specs.Prelude.{◌≡◌, false, IfOk, MatchBool, MatchOption, reverse, true};
+ghost use Rattle.interface.specs.Host.{Host};
 ghost use Rattle.promise.specs.Formed as formed;
 ghost use Rattle.promise.specs.Formed.{FormedBook, IsFormed};
 ghost use Rattle.promise.specs.Safe as safe;
@@ -8,7 +9,7 @@ ghost use Rattle.book_judge.specs.Inside.Joined.{AreJoined};
 ghost use Rattle.book_judge.specs.Lives.{UnmadeAt};
 
 use crate::data::{is_first_on, receives};
-use crate::joined::{Joined, joined, message_of};
+use crate::joined::{Joined, join_data, message_of};
 use crate::requests::named_in;
 use interface::{Crossing, Flow, HostAddr, Link};
 use net_sim::Life;
@@ -37,10 +38,10 @@ fn named_at(
     ensures { (from to : Host) → flow.now ≡ safe.control_flow from to → result ≡ formed.named_at comes from to own foreign place (reverse log.now) }
 {
     let message = message_of(comes, log.get(place)?)?;
-    if message.flow != *flow {
-        return None;
+    if *flow == message.flow {
+        return named_in(own, foreign, message.text.bits());
     }
-    named_in(own, foreign, message.text.bits())
+    None
 }
 
 /// Returns what the own request of a life names.
@@ -48,14 +49,7 @@ fn own_named(log: &[Crossing], life: &Life) -> Option<u8>
     ensures { result ≡ formed.own_named (reverse log.now) life.now }
 {
     let goes = control_flow(life.host, life.peer);
-    named_at(
-        log,
-        false,
-        &goes,
-        life.socket,
-        life.foreign,
-        life.own_stamp,
-    )
+    named_at(log, false, &goes, life.socket, life.foreign, life.own_stamp)
 }
 
 /// Returns what the request of a life's partner names.
@@ -103,8 +97,8 @@ pub fn unmade_at(
 ) -> Result<Option<usize>, AllocError>
     ensures { IfOk result (λ found. MatchOption found (FormedBook (reverse log.now) lives.now) (λ place. UnmadeAt (reverse log.now) lives.now place)) }
 {
-    let into = joined(alloc, log, true)?;
-    let out = joined(alloc, log, false)?;
+    let into = join_data(alloc, log, true)?;
+    let out = join_data(alloc, log, false)?;
     for (place, life) in lives.iter().enumerate() {
         if !is_made(log, &into, &out, life) {
             return Ok(Some(place));

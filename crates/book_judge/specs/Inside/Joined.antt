@@ -1,11 +1,11 @@
 -- What is known of each flow's messages, where their data are joined. No public clause cites this file.
-use Rattle.std.specs.Prelude.{◌≡◌, ℕ, ◌<◌, ◌≤◌, ◌+◌, suc, Bool, true, false, List, [], ◌∷◌, ◌++◌, length, take, slice_get, Option, Some, None}
+use Rattle.std.specs.Prelude.{◌≡◌, ℕ, ◌<◌, ◌≤◌, ◌+◌, suc, Bool, true, false, List, [], ◌∷◌, ◌++◌, length, drop, take, slice_get, Option, Some, None}
 use Rattle.std.specs.FinMap as map
 use Rattle.interface.specs.declared.address.Flow.{Flow}
 use Rattle.interface.specs.declared.crossing.Crossing.{Crossing}
 use Rattle.interface.specs.declared.crossing.Crossing.TheVariants as crossing
 use Rattle.interface.specs.declared.message.HostMessage.{HostMessage}
-use Rattle.promise.specs.Formed.{data_in, text_of}
+use Rattle.promise.specs.Formed.{data_in, first_data, text_of}
 use Rattle.book_judge.specs.declared.joined.Joined.{Joined}
 use Rattle.book_judge.specs.declared.joined.Piece.{Piece}
 use Rattle.book_judge.specs.declared.joined.Stream.{Stream}
@@ -14,6 +14,10 @@ use Rattle.book_judge.specs.declared.joined.Stream.{Stream}
 abbrev pub texts_by : Bool → Flow → List Crossing → List (List Bool)
 texts_by comes f [] = []
 texts_by comes f (c ∷ log) = text_of comes f c ++ texts_by comes f log
+
+-- the bits are the data of the first texts from a place on, as many as this
+abbrev pub IsFirst : Bool → Flow → List Crossing → ℕ → ℕ → List Bool → Type 0
+IsFirst comes f log since count bits = first_data comes count (texts_by comes f (drop since log)) ≡ Some bits
 
 -- the message that comes in, or that goes out
 abbrev pub message_of : Bool → Crossing → Option HostMessage
@@ -38,9 +42,12 @@ abbrev pub unread_in : Bool → List (List Bool) → ℕ
 unread_in comes [] = 0
 unread_in comes (text ∷ texts) = one_unread (data_in comes text) + unread_in comes texts
 
+abbrev pub pair : ℕ → ℕ → ℕ × ℕ
+pair a b = (a, b)
+
 -- how many bits texts have, and how many of them have none
 abbrev pub marked : Bool → List (List Bool) → ℕ × ℕ
-marked comes texts = (length (all_bits comes texts), unread_in comes texts)
+marked comes texts = pair (length (all_bits comes texts)) (unread_in comes texts)
 
 -- of pieces that cross one after another: how many are before a place
 abbrev pub IsFirstFrom : List Piece → ℕ → ℕ → Type 0
@@ -54,7 +61,7 @@ pub record IsPiece (comes : Bool) (f : Flow) (log : List Crossing) (i : ℕ) (p 
   pub within : p.place < length log
   pub here : length (texts_by comes f (take p.place log)) ≡ i
   pub next : length (texts_by comes f (take (suc p.place) log)) ≡ suc i
-  pub before : (p.before, p.unread) ≡ marked comes (take i (texts_by comes f log))
+  pub before : pair p.before p.unread ≡ marked comes (take i (texts_by comes f log))
 
 -- a stream has all messages of a flow
 pub record IsStream (comes : Bool) (f : Flow) (log : List Crossing) (s : Stream) : Type 0 where
@@ -62,6 +69,10 @@ pub record IsStream (comes : Bool) (f : Flow) (log : List Crossing) (s : Stream)
   pub pieces : (i : ℕ) (p : Piece) → slice_get s.pieces.items i ≡ Some p → IsPiece comes f log i p
   pub bits : s.bits ≡ all_bits comes (texts_by comes f log)
   pub unread : length s.unread.items ≡ unread_in comes (texts_by comes f log)
+
+-- one stream has a message more than another, with this text
+abbrev pub Grows : Bool → ℕ → List Bool → Stream → Stream → Type 0
+Grows comes place text was is = (f : Flow) (log : List Crossing) (c : Crossing) → length log ≡ place → text_of comes f c ≡ text ∷ [] → IsStream comes f log was → IsStream comes f (log ++ c ∷ []) is
 
 -- a flow without a number has no messages, and of one with a number the stream is there
 abbrev pub StreamOf : Bool → Flow → List Crossing → Option ℕ → List Stream → Type 0

@@ -1,12 +1,15 @@
-use Rattle.std.proofs.Common.{◌∙◌, arith, sym}
-use Rattle.book_judge.proofs.Made.{all_made, unmade_here}
+use Rattle.std.proofs.Common.{arith}
+use Rattle.book_judge.proofs.Made.{all_made, made_more, none_yet, unmade_here}
 use Rattle.book_judge.proofs.lives.unmade_at.Goals as goal
 
-pub returns-then-not-branch : goal.returns-then-not-branch
-returns-then-not-branch c =
-    unmade_here c.args.log.now c.args.lives.now c.loop-place.place c.index-lives-place.result c.loop-place-test.true
-    c.index-lives-place.is (sym c.in_ok-is_made.ensures ∙ c.if-not-branch.true) c.loop-place.invariant
+pub loop-place-init : goal.loop-place-init
+loop-place-init c = none_yet c.args.log.now c.args.lives.now
+
+pub loop-place-preserved : goal.loop-place-preserved
+loop-place-preserved c = made_more c.args.log.now c.args.lives.now c.loop-place.place c.index-lives-place.result c.loop-place-test.true c.index-lives-place.is c.if-not-is_made.ensures c.loop-place.invariant
+
+pub returns-then-not-is_made : goal.returns-then-not-is_made
+returns-then-not-is_made c = unmade_here c.args.log.now c.args.lives.now c.loop-place.place c.index-lives-place.result c.loop-place-test.true c.index-lives-place.is c.if-not-is_made.ensures c.loop-place.invariant
 
 pub returns : goal.returns
-returns c = all_made c.args.log.now c.args.lives.now c.loop-place.place (omega (arith, c.loop-place-test.false))
-    c.loop-place.invariant
+returns c = all_made c.args.log.now c.args.lives.now c.loop-place.place (omega (arith, c.loop-place-test.false)) c.loop-place.invariant

@@ -1,25 +1,31 @@
 -- The data of each flow's messages, joined: one message more, and what a life's part of them is.
-use Rattle.std.proofs.Common.{◌≡◌, ◌⊎◌, inl, inr, ℕ, zero, suc, ◌+◌, ◌-◌, ◌<◌, ◌≤◌, ◌==◌, ◌&&◌, Bool, true, false, if◌then◌else◌, List, [], ◌∷◌, ◌++◌, length, take, drop, Option, Some, None, MatchBool, refl, ap, sym, subst, ◌∙◌, append-nil, arith}
+use Rattle.std.proofs.Common.{◌≡◌, ◌⊎◌, inl, inr, ℕ, zero, suc, min, ◌+◌, ◌-◌, ◌<◌, ◌≤◌, ◌==◌, ◌&&◌, not, Bool, true, false, if◌then◌else◌, List, [], ◌∷◌, ◌++◌, length, take, drop, reverse, Option, Some, None, MatchBool, refl, ap, sym, subst, ◌∙◌, append-nil, arith, get_or, lt-ltb, nat_lt, slice_index_or, slice_set}
 use Rattle.std.specs.List.{slice_get}
+use Rattle.std.specs.List.Sorted.{IsPartitionPoint, IsPartitionedBy}
 use Rattle.std.specs.FinMap as map
-use Rattle.std.proofs.lemmas.Bool.{cases_lt, eqb-true}
-use Rattle.std.proofs.lemmas.List.{length-append, take-append-le, take_all, take_at}
-use Rattle.std.proofs.lemmas.Option.{slice_get_within}
+use Rattle.std.proofs.lemmas.Bool.{cases_lt, eqb-true, ltb-false, ltb-true}
+use Rattle.std.specs.Prelude.{Err, Ok, OnOk, Result, option_map}
+use Rattle.std.proofs.lemmas.List.{drop_all, get_or_default, length-append, length-take-le, take-append-le, take_all, take_at, take_more}
+use Rattle.std.proofs.lemmas.Option.{get_or_from_slice_get, slice_get_read, slice_get_within}
 use Rattle.interface.specs.Flow.{flow_cmp, same_flow}
 use Rattle.interface.specs.declared.address.Flow.{Flow}
 use Rattle.interface.specs.declared.crossing.Crossing.{Crossing}
 use Rattle.interface.specs.declared.crossing.Crossing.TheVariants as crossing
 use Rattle.interface.specs.declared.message.HostMessage.{HostMessage}
 use Rattle.interface.proofs.lemmas.{same_flow-true}
-use Rattle.promise.specs.Formed.{data_in, first_data, text_of}
-use Rattle.book_judge.specs.Inside.Joined.{AreJoined, HasNumber, IsFirstFrom, IsPiece, IsStream, NumberBy, StreamOf, all_bits, bits_in, marked, message_of, one_unread, texts_by, unread_in}
+use Rattle.interface.specs.Host.{Host}
+use Rattle.host_pairs.specs.Control.{orders_of}
+use Rattle.promise.specs.Formed.{data_in, first_data, named_at, named_in, named_of, text_of}
+use Rattle.promise.specs.Safe.{control_flow}
+use Rattle.book_judge.specs.Inside.Joined.{AreJoined, HasNumber, IsFirstFrom, IsPiece, IsStream, NumberBy, StreamOf, all_bits, bits_in, marked, message_of, one_unread, pair, texts_by, unread_in}
+use Rattle.book_judge.specs.Inside.Made.{end_of}
 use Rattle.book_judge.specs.declared.joined.Joined.{Joined}
 use Rattle.book_judge.specs.declared.joined.Piece.{Piece}
 use Rattle.book_judge.specs.declared.joined.Stream.{Stream}
 use Rattle.book_judge.proofs.Elements.{read_at}
 use Rattle.book_judge.proofs.Mailboxes.{get_set}
-use Rattle.book_judge.proofs.Named.{get_cases, get_front, get_seam, same_flow_is}
-use Rattle.book_judge.proofs.Texts.{AreRead, between, bits_append, data_read, read_data, texts_after, texts_append, texts_less, texts_within, unread_append, unread_two, within}
+use Rattle.book_judge.proofs.Named.{get_cases, get_front, get_seam, named_there, same_flow_is, texts_at}
+use Rattle.book_judge.proofs.TextsBy.{AreRead, between, bits_append, data_ends, data_read, read_data, texts_after, texts_append, texts_less, texts_split, texts_within, unread_append, unread_two, within}
 
 -- ---- one crossing more
 
@@ -104,11 +110,8 @@ stream_more comes f log c text was is place e at pieces bits unread h = record {
   long : length (log ++ c ∷ []) ≡ length log + 1
   long = length-append log (c ∷ [])
 
-  pair : (a b x y : ℕ) → a ≡ x → b ≡ y → (a, b) ≡ (x, y)
-  pair a b x y i j = ap (λ (n : ℕ). (n, b)) i ∙ ap (λ (n : ℕ). (x, n)) j
-
-  marks : (length was.bits, length was.unread.items) ≡ marked comes ts
-  marks = pair (length was.bits) (length was.unread.items) (length (all_bits comes ts)) (unread_in comes ts) (ap length h.bits) h.unread
+  marks : pair (length was.bits) (length was.unread.items) ≡ marked comes ts
+  marks = ap (λ (n : ℕ). pair n (length was.unread.items)) (ap length h.bits) ∙ ap (λ (n : ℕ). pair (length (all_bits comes ts)) n) h.unread
 
   newest : IsPiece comes f (log ++ c ∷ []) (length was.pieces.items) new
   newest = record {
@@ -300,13 +303,13 @@ module _ (comes : Bool) (f : Flow) (log : List Crossing) (s : Stream) (h : IsStr
       | inr past ↦ (let all : length s.pieces.items ≡ length ts = h.counts in let z : length (texts_by comes f (take since log)) ≤ length ts = texts_within comes f since log in omega (arith, past, all, z))
     ]
 
-  pub mark_found : (n : ℕ) (p : Piece) → slice_get s.pieces.items n ≡ Some p → (p.before, p.unread) ≡ marked comes (take n ts)
+  pub mark_found : (n : ℕ) (p : Piece) → slice_get s.pieces.items n ≡ Some p → pair p.before p.unread ≡ marked comes (take n ts)
   mark_found n p e = (h.pieces n p e).before
 
-  pub mark_last : (n : ℕ) → length s.pieces.items ≤ n → (length s.bits, length s.unread.items) ≡ marked comes (take n ts)
+  pub mark_last : (n : ℕ) → length s.pieces.items ≤ n → pair (length s.bits) (length s.unread.items) ≡ marked comes (take n ts)
   mark_last n past =
       let all : take n ts ≡ ts = take_all n ts (let k : length s.pieces.items ≡ length ts = h.counts in omega (arith, past, k)) in
-      ap (λ (bs : List Bool). (length bs, length s.unread.items)) h.bits ∙ ap (λ (k : ℕ). (length (all_bits comes ts), k)) h.unread ∙ ap (marked comes) (sym all)
+      ap (λ (bs : List Bool). pair (length bs) (length s.unread.items)) h.bits ∙ ap (λ (k : ℕ). pair (length (all_bits comes ts)) k) h.unread ∙ ap (marked comes) (sym all)
 
   -- what is found is the data of as many messages from there on
   module _ (since n count : ℕ) (first : IsFirstFrom s.pieces.items since n) (bits : List Bool) where
@@ -368,3 +371,204 @@ module _ (comes : Bool) (f : Flow) (log : List Crossing) (s : Stream) (h : IsStr
           let low : from.0 ≤ to.0 = w.0 in
           let high : to.0 ≤ length (all_bits comes ts) = w.1 in
           other (omega (arith, u, none), low, omega (arith, high, size), part ∙ r.same)
+
+-- ---- the search
+
+-- what the search finds
+pub parted : (pieces : List Piece) (since : ℕ) → ((i j : ℕ) (p q : Piece) → i < j → slice_get pieces i ≡ Some p → slice_get pieces j ≡ Some q → p.place < q.place) → IsPartitionedBy (λ (p : Piece). nat_lt p.place since) pieces
+parted pieces since rises = λ i j d le less t. by i j d le less t (cases_lt i j) where
+  by : (i j : ℕ) (d : Piece) → i ≤ j → j < length pieces → nat_lt (slice_index_or pieces j d).place since ≡ true → (i < j) ⊎ (j ≤ i) → nat_lt (slice_index_or pieces i d).place since ≡ true
+  by i j d le less t (inl before) =
+      let a : slice_get pieces i ≡ Some (slice_index_or pieces i d) = slice_get_read pieces (length pieces) i (slice_index_or pieces i d) refl (omega (arith, before, less)) (get_or_default pieces i d (slice_index_or pieces i d) (omega (arith, before, less))) in
+      let b : slice_get pieces j ≡ Some (slice_index_or pieces j d) = slice_get_read pieces (length pieces) j (slice_index_or pieces j d) refl less (get_or_default pieces j d (slice_index_or pieces j d) less) in
+      let low : (slice_index_or pieces i d).place < (slice_index_or pieces j d).place = rises i j (slice_index_or pieces i d) (slice_index_or pieces j d) before a b in
+      let high : (slice_index_or pieces j d).place < since = ltb-true (slice_index_or pieces j d).place since t in
+      lt-ltb (slice_index_or pieces i d).place since (omega (arith, low, high))
+  by i j d le less t (inr after) = let same : j ≡ i = omega (arith, le, after) in subst (λ (k : ℕ). nat_lt (slice_index_or pieces k d).place since ≡ true) same t
+
+pub first_by : (pieces : List Piece) (since n : ℕ) → IsPartitionPoint (λ (p : Piece). nat_lt p.place since ≡ true) (λ (p : Piece). nat_lt p.place since ≡ false) pieces n
+    → ((i : ℕ) (p : Piece) → slice_get pieces i ≡ Some p → i < n → p.place < since) × ((i : ℕ) (p : Piece) → slice_get pieces i ≡ Some p → n ≤ i → since ≤ p.place)
+first_by pieces since n point = (
+  λ i p at less. ltb-true p.place since (ap (λ (q : Piece). nat_lt q.place since) (sym (get_or_from_slice_get pieces i p p at)) ∙ point.0 i p (omega arith) less),
+  λ i p at past. ltb-false p.place since (ap (λ (q : Piece). nat_lt q.place since) (sym (get_or_from_slice_get pieces i p p at)) ∙ point.1 i p past (slice_get_within pieces i p at)),
+)
+
+pub piece_there : {X : Type 0} (ps qs : List X) (i : ℕ) (p : X) → qs ≡ ps → true ≡ nat_lt i (length qs) → p ≡ get_or qs i p → slice_get ps i ≡ Some p
+piece_there {X} ps qs i p same e is = subst (λ (xs : List X). slice_get xs i ≡ Some p) same (slice_get_read qs (length qs) i p refl (ltb-true i (length qs) (sym e)) is)
+
+pub past_end : {X : Type 0} (ps qs : List X) (i : ℕ) → qs ≡ ps → false ≡ nat_lt i (length qs) → length ps ≤ i
+past_end ps qs i same e = let past : length qs ≤ i = ltb-false i (length qs) (sym e) in let long : length qs ≡ length ps = ap length same in omega (arith, past, long)
+
+-- ---- what is answered
+
+module _ (comes : Bool) (f : Flow) (log : List Crossing) (s : Stream) (h : IsStream comes f log s) (since n count : ℕ) (first : IsFirstFrom s.pieces.items since n) (bits : List Bool) (enough : count ≤ length s.pieces.items - n) (from to : ℕ × ℕ)
+    (e : from ≡ marked comes (take n (texts_by comes f log))) (g : to ≡ marked comes (take (n + count) (texts_by comes f log))) where
+  abbrev IsThere : Type 0
+  IsThere = first_data comes count (texts_by comes f (drop since log)) ≡ Some bits
+
+  pub answered : (b : Bool) → from.1 ≡ to.1 → MatchBool b ((from.0 ≤ to.0) × (to.0 ≤ length s.bits) × (drop from.0 (take to.0 s.bits) ≡ bits)) ((from.0 ≤ to.0) × (to.0 ≤ length s.bits) × (drop from.0 (take to.0 s.bits) ≡ bits) → ⊥) → MatchBool b IsThere (IsThere → ⊥)
+  answered true same m =
+      found comes f log s h since n count first bits enough (sym (ap (λ (p : ℕ × ℕ). p.1) e) ∙ same ∙ ap (λ (p : ℕ × ℕ). p.1) g)
+      (ap (λ (p : ℕ × ℕ). drop p.0 (take (marked comes (take (n + count) (texts_by comes f log))).0 s.bits)) (sym e) ∙ ap (λ (p : ℕ × ℕ). drop from.0 (take p.0 s.bits)) (sym g) ∙ m.2)
+  answered false same m =
+      unfound comes f log s h since n count first bits enough
+      (λ (r, a, b, slice). m (
+        subst (λ (p : ℕ × ℕ). p.0 ≤ to.0) (sym e) (subst (λ (p : ℕ × ℕ). (marked comes (take n (texts_by comes f log))).0 ≤ p.0) (sym g) a),
+        subst (λ (p : ℕ × ℕ). p.0 ≤ length s.bits) (sym g) b,
+        ap (λ (p : ℕ × ℕ). drop p.0 (take to.0 s.bits)) e ∙ ap (λ (p : ℕ × ℕ). drop (marked comes (take n (texts_by comes f log))).0 (take p.0 s.bits)) g ∙ slice,
+      ))
+
+  pub unlike : (from.1 ≡ to.1 → ⊥) → MatchBool (from.1 == to.1) IsThere (IsThere → ⊥)
+  unlike other = by (from.1 == to.1) refl where
+    by : (v : Bool) → (from.1 == to.1) ≡ v → MatchBool v IsThere (IsThere → ⊥)
+    by true same = absurd (other (eqb-true from.1 to.1 same))
+    by false differ = unfound comes f log s h since n count first bits enough (λ (r, a, b, slice). other (ap (λ (p : ℕ × ℕ). p.1) e ∙ r ∙ sym (ap (λ (p : ℕ × ℕ). p.1) g)))
+
+pub not_below : (a b : ℕ) → (a < b → ⊥) → b ≤ a
+not_below a b not = elim (cases_lt a b) [ inl less ↦ absurd (not less) | inr past ↦ past ]
+
+-- ---- all streams, once more
+
+pub stream_there : (comes : Bool) (log : List Crossing) (j : Joined) (f : Flow) (o : Option ℕ) (n : ℕ) (s : Stream) → AreJoined comes log j → o ≡ map.get j.numbers f → o ≡ Some n → slice_get j.streams.items n ≡ Some s → IsStream comes f log s
+stream_there comes log j f o n s h get is at =
+    let k : StreamOf comes f log (Some n) j.streams.items = subst (λ (p : Option ℕ). StreamOf comes f log p j.streams.items) (sym get ∙ is) (h.streams f) in
+    let one : k.0 ≡ s = (let same : Some k.0 ≡ Some s = sym k.1 ∙ at in cc) in
+    subst (λ (x : Stream). IsStream comes f log x) one k.2
+
+pub no_stream : (comes : Bool) (log : List Crossing) (j : Joined) (f : Flow) (o : Option ℕ) (n : ℕ) → AreJoined comes log j → o ≡ map.get j.numbers f → o ≡ Some n → length j.streams.items ≤ n → ⊥
+no_stream comes log j f o n h get is past =
+    let k : StreamOf comes f log (Some n) j.streams.items = subst (λ (p : Option ℕ). StreamOf comes f log p j.streams.items) (sym get ∙ is) (h.streams f) in
+    let less : n < length j.streams.items = slice_get_within j.streams.items n k.0 k.1 in
+    omega (arith, less, past)
+
+no_rest : (xs ys : List (List Bool)) → [] ≡ xs ++ ys → ys ≡ []
+no_rest [] ys e = sym e
+no_rest (x ∷ xs) ys e = absurd (cc)
+
+pub none_after : (comes : Bool) (log : List Crossing) (j : Joined) (f : Flow) (o : Option ℕ) (since : ℕ) → AreJoined comes log j → o ≡ map.get j.numbers f → o ≡ None → texts_by comes f (drop since log) ≡ []
+none_after comes log j f o since h get is =
+    let none : texts_by comes f log ≡ [] = subst (λ (p : Option ℕ). StreamOf comes f log p j.streams.items) (sym get ∙ is) (h.streams f) in
+    no_rest (texts_by comes f (take since log)) (texts_by comes f (drop since log)) (sym none ∙ texts_split comes f since log)
+
+-- the data of no texts
+abbrev IsNothing : Bool → ℕ → List (List Bool) → List Bool → Type 0
+IsNothing comes count ts bits = first_data comes count ts ≡ Some bits
+
+pub nothing_counted : (comes : Bool) (count : ℕ) (ts : List (List Bool)) (bits : List Bool) (b : Bool) → ts ≡ [] → count ≡ 0 → b ≡ (length bits == 0) → MatchBool b (IsNothing comes count ts bits) (IsNothing comes count ts bits → ⊥)
+nothing_counted comes count ts bits b none zero_count e =
+    subst (λ (v : Bool). MatchBool v (IsNothing comes count ts bits) (IsNothing comes count ts bits → ⊥)) (sym e)
+    (subst (λ (n : ℕ). MatchBool (length bits == 0) (IsNothing comes n ts bits) (IsNothing comes n ts bits → ⊥)) (sym zero_count) (by bits)) where
+      by : (bs : List Bool) → MatchBool (length bs == 0) (IsNothing comes 0 ts bs) (IsNothing comes 0 ts bs → ⊥)
+      by [] = refl
+      by (x ∷ bs) = at (length (x ∷ bs) == 0) refl where
+        at : (v : Bool) → (length (x ∷ bs) == 0) ≡ v → MatchBool v (IsNothing comes 0 ts (x ∷ bs)) (IsNothing comes 0 ts (x ∷ bs) → ⊥)
+        at true same = absurd (let long : length (x ∷ bs) ≡ 0 = eqb-true (length (x ∷ bs)) 0 same in omega (arith, long))
+        at false other = λ h. (let both : Some [] ≡ Some (x ∷ bs) = h in cc)
+
+pub something_counted : (comes : Bool) (count : ℕ) (ts : List (List Bool)) (bits : List Bool) → ts ≡ [] → (count ≡ 0 → ⊥) → IsNothing comes count ts bits → ⊥
+something_counted comes count ts bits none other h = by count refl where
+  by : (n : ℕ) → count ≡ n → ⊥
+  by zero e = other e
+  by (suc n) e = let both : None ≡ Some bits = sym (ap (λ (k : ℕ). first_data comes k []) e) ∙ ap (first_data comes count) (sym none) ∙ h in cc
+
+-- ---- the data of one text
+
+pub cut_at : (end : ℕ) (text : List Bool) → drop (min 40 end) (take end text) ≡ drop 40 (take end text)
+cut_at end text = elim (cases_lt end 40) [
+  | inl short ↦
+      (let m : min 40 end ≡ end = omega (arith, short) in
+      let size : length (take end text) ≤ end = length_took end text in
+      ap (λ (k : ℕ). drop k (take end text)) m ∙ drop_all end (take end text) size ∙ sym (drop_all 40 (take end text) (omega (arith, size, short))))
+  | inr long ↦ (let m : min 40 end ≡ 40 = omega (arith, long) in ap (λ (k : ℕ). drop k (take end text)) m)
+] where
+  length_took : (n : ℕ) (xs : List Bool) → length (take n xs) ≤ n
+  length_took zero xs = omega arith
+  length_took (suc n) [] = omega arith
+  length_took (suc n) (x ∷ xs) = let r : length (take n xs) ≤ n = length_took n xs in omega (arith, r)
+
+pub data_none : (comes : Bool) (text : List Bool) (o : Option ℕ) → o ≡ end_of comes text → o ≡ None → data_in comes text ≡ None
+data_none comes text o e is = sym (data_ends comes text) ∙ ap (λ (p : Option ℕ). option_map (λ end. drop 40 (take end text)) p) (sym e ∙ is)
+
+pub data_some : (comes : Bool) (text : List Bool) (o : Option ℕ) (end : ℕ) → o ≡ end_of comes text → o ≡ Some end → data_in comes text ≡ Some (drop 40 (take end text))
+data_some comes text o end e is = sym (data_ends comes text) ∙ ap (λ (p : Option ℕ). option_map (λ end. drop 40 (take end text)) p) (sym e ∙ is)
+
+pub else_counted : (comes : Bool) (count : ℕ) (ts : List (List Bool)) (bits : List Bool) → ts ≡ [] → (count ≡ 0 → ⊥) → MatchBool (count == 0) (first_data comes count ts ≡ Some bits) (first_data comes count ts ≡ Some bits → ⊥)
+else_counted comes count ts bits none other = by (count == 0) refl where
+  by : (v : Bool) → (count == 0) ≡ v → MatchBool v (first_data comes count ts ≡ Some bits) (first_data comes count ts ≡ Some bits → ⊥)
+  by true e = absurd (other (eqb-true count 0 e))
+  by false e = something_counted comes count ts bits none other
+
+-- ---- a log, place by place
+
+pub place_more : (log : List Crossing) (place : ℕ) (c : Crossing) → place < length log → c ≡ get_or log place c → take (place + 1) log ≡ take place log ++ c ∷ []
+place_more log place c less at = take_more log place c less ∙ ap (λ (d : Crossing). take place log ++ d ∷ []) (sym at)
+
+pub none_at : (comes : Bool) (log : List Crossing) (place : ℕ) (c : Crossing) (j : Joined) → place < length log → c ≡ get_or log place c → message_of comes c ≡ None → AreJoined comes (take place log) j → AreJoined comes (take (place + 1) log) j
+none_at comes log place c j less at none h = subst (λ (cs : List Crossing). AreJoined comes cs j) (sym (place_more log place c less at)) (joined_stays comes (take place log) c j none h)
+
+pub numbered_at : (comes : Bool) (log : List Crossing) (place n : ℕ) (f : Flow) (was is : Joined) → HasNumber n f was is → AreJoined comes (take place log) was → n < length is.streams.items
+numbered_at comes log place n f was is k h = (numbered comes (take place log) n f was is k h).there
+
+-- one stream of several is another
+changed_at : (xs : List Stream) (n : ℕ) (s : Stream) → n < length xs → IsChanged n s xs (slice_set xs n s)
+changed_at [] n s less = absurd (omega (arith, less))
+changed_at (x ∷ xs) zero s less = record { here = refl; others = λ i other. same i other } where
+  same : (i : ℕ) → (i ≡ 0 → ⊥) → slice_get (s ∷ xs) i ≡ slice_get (x ∷ xs) i
+  same zero other = absurd (other refl)
+  same (suc i) other = refl
+changed_at (x ∷ xs) (suc n) s less = let r : IsChanged n s xs (slice_set xs n s) = changed_at xs n s (omega (arith, less)) in record { here = r.here; others = λ i other. same i other r } where
+  same : (i : ℕ) → (i ≡ suc n → ⊥) → IsChanged n s xs (slice_set xs n s) → slice_get (x ∷ slice_set xs n s) i ≡ slice_get (x ∷ xs) i
+  same zero other r = refl
+  same (suc i) other r = r.others i (λ e. other (ap (λ (k : ℕ). suc k) e))
+
+pub added_at : (comes : Bool) (log : List Crossing) (place n : ℕ) (c : Crossing) (m : HostMessage) (old s : Stream) (was mid is : Joined) → place < length log → c ≡ get_or log place c → Some m ≡ message_of comes c → HasNumber n m.flow was mid
+    → AreJoined comes (take place log) was → old ≡ get_or mid.streams.items n old → is.numbers ≡ mid.numbers → is.streams.items ≡ slice_set mid.streams.items n s
+    → ((f : Flow) (older : List Crossing) (d : Crossing) → length older ≡ place → text_of comes f d ≡ m.text ∷ [] → IsStream comes f older old → IsStream comes f (older ++ d ∷ []) s) → AreJoined comes (take (place + 1) log) is
+added_at comes log place n c m old s was mid is less at got k h found numbers streams more =
+    let w : Numbered comes (take place log) n m.flow mid = numbered comes (take place log) n m.flow was mid k h in
+    let here : slice_get mid.streams.items n ≡ Some old = slice_get_read mid.streams.items (length mid.streams.items) n old refl w.there found in
+    let one : w.stream.0 ≡ old = (let same : Some w.stream.0 ≡ Some old = sym w.stream.1 ∙ here in cc) in
+    let text : text_of comes m.flow c ≡ m.text ∷ [] = text_by comes c m m.flow (sym got) ∙ (let same : same_flow m.flow m.flow ≡ true = same_flow_is m.flow m.flow refl in ap (λ (b : Bool). if b then m.text ∷ [] else []) same) in
+    subst (λ (cs : List Crossing). AreJoined comes cs is) (sym (place_more log place c less at))
+    (joined_more comes (take place log) c m n s mid is (sym got) w numbers
+    (subst (λ (xs : List Stream). IsChanged n s mid.streams.items xs) (sym streams) (changed_at mid.streams.items n s w.there))
+    (more m.flow (take place log) c (length-take-le place log (omega (arith, less))) text (subst (λ (x : Stream). IsStream comes m.flow (take place log) x) one w.stream.2)))
+
+pub all_joined : (comes : Bool) (log : List Crossing) (place : ℕ) (j : Joined) → length log ≤ place → AreJoined comes (take place log) j → AreJoined comes log j
+all_joined comes log place j past h = subst (λ (cs : List Crossing). AreJoined comes cs j) (take_all place log past) h
+
+pub on_ok : {T E : Type 0} (r : Result T E) (P Q : Type 0) → (P → Q) → OnOk r P → OnOk r Q
+on_ok (Ok x) P Q k h = k h
+on_ok (Err e) P Q k h = h
+
+-- ---- what is named at a place
+
+-- flows are compared part by part
+pub nested : (a b c : Bool) → (a && (b && c)) ≡ ((a && b) && c)
+nested true b c = refl
+nested false b c = refl
+
+pub named_message : (comes : Bool) (from to : Host) (own foreign place : ℕ) (log : List Crossing) (c : Crossing) (m : HostMessage) → slice_get log place ≡ Some c → Some m ≡ message_of comes c → m.flow ≡ control_flow from to
+    → named_in own foreign (orders_of m.text) ≡ named_at comes from to own foreign place (reverse log)
+named_message comes from to own foreign place log c m at got flow =
+    sym
+    (named_there comes from to own foreign place log ∙ ap (λ (o : Option Crossing). named_of own foreign (texts_at comes (control_flow from to) o)) at
+    ∙ ap (named_of own foreign) (text_by comes c m (control_flow from to) (sym got) ∙ (let same : same_flow (control_flow from to) m.flow ≡ true = same_flow_is (control_flow from to) m.flow flow in ap (λ (b : Bool). if b then m.text ∷ [] else []) same)))
+
+pub slice_none : {X : Type 0} (xs : List X) (i : ℕ) → length xs ≤ i → slice_get xs i ≡ None
+slice_none [] i past = refl
+slice_none {X} (x ∷ xs) zero past = absurd (omega (arith, past))
+slice_none {X} (x ∷ xs) (suc i) past = slice_none xs i (omega (arith, past))
+
+pub unnamed_place : (comes : Bool) (from to : Host) (own foreign place : ℕ) (log : List Crossing) → slice_get log place ≡ None → None ≡ named_at comes from to own foreign place (reverse log)
+unnamed_place comes from to own foreign place log none = sym (named_there comes from to own foreign place log ∙ ap (λ (o : Option Crossing). named_of own foreign (texts_at comes (control_flow from to) o)) none)
+
+pub unnamed_message : (comes : Bool) (from to : Host) (own foreign place : ℕ) (log : List Crossing) (c : Crossing) → slice_get log place ≡ Some c → None ≡ message_of comes c → None ≡ named_at comes from to own foreign place (reverse log)
+unnamed_message comes from to own foreign place log c at none =
+    sym (named_there comes from to own foreign place log ∙ ap (λ (o : Option Crossing). named_of own foreign (texts_at comes (control_flow from to) o)) at ∙ ap (named_of own foreign) (no_text comes c (control_flow from to) (sym none)))
+
+pub unnamed_flow : (comes : Bool) (from to : Host) (own foreign place : ℕ) (log : List Crossing) (c : Crossing) (m : HostMessage) → slice_get log place ≡ Some c → Some m ≡ message_of comes c → same_flow (control_flow from to) m.flow ≡ false → None ≡ named_at comes from to own foreign place (reverse log)
+unnamed_flow comes from to own foreign place log c m at got other =
+    sym
+    (named_there comes from to own foreign place log ∙ ap (λ (o : Option Crossing). named_of own foreign (texts_at comes (control_flow from to) o)) at
+    ∙ ap (named_of own foreign) (text_by comes c m (control_flow from to) (sym got) ∙ ap (λ (b : Bool). if b then m.text ∷ [] else []) other))

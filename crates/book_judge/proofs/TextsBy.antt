@@ -1,15 +1,15 @@
 -- The texts that cross on a flow, and the data of the first of them.
-use Rattle.std.proofs.Common.{◌≡◌, ◌⊎◌, inl, inr, ℕ, zero, suc, ◌+◌, ◌-◌, ◌<◌, ◌≤◌, ◌&&◌, Bool, true, false, if◌then◌else◌, List, [], ◌∷◌, ◌++◌, length, take, drop, reverse, Option, Some, None, refl, ap, ap₂, sym, subst, ◌∙◌, append-nil, arith}
+use Rattle.std.proofs.Common.{◌≡◌, ℕ, zero, suc, ◌+◌, ◌-◌, ◌<◌, ◌≤◌, ◌&&◌, Bool, true, false, if◌then◌else◌, List, [], ◌∷◌, ◌++◌, length, take, drop, reverse, Option, Some, None, refl, ap, ap₂, sym, ◌∙◌, append-nil, arith}
 use Rattle.std.specs.Prelude.{max, nat_lt, option_map}
 use Rattle.std.proofs.lemmas.Bool.{ltb-false, ltb-true}
-use Rattle.std.proofs.lemmas.List.{append_assoc, drop_all, drop_at, drop-append-le, length-append, length-reverse, reverse-append, take-append-drop, take-append-le, take_all, take_at}
+use Rattle.std.proofs.lemmas.List.{append_assoc, drop_all, drop_at, drop-append-le, length-append, length-reverse, reverse-append, take-append-drop, take_all, take_at}
 use Rattle.interface.specs.declared.address.Flow.{Flow}
 use Rattle.interface.specs.declared.crossing.Crossing.{Crossing}
 use Rattle.interface.proofs.lemmas.{and_true}
 use Rattle.ncp_control.specs.DataHeader.{header_of}
 use Rattle.ncp_control.specs.declared.data_header.DataHeader.{DataHeader}
 use Rattle.promise.specs.Formed.{data_by, data_in, first_data, joined, text_of, texts_of}
-use Rattle.book_judge.specs.Inside.Joined.{all_bits, bits_in, marked, one_unread, texts_by, unread_in}
+use Rattle.book_judge.specs.Inside.Joined.{all_bits, bits_in, one_unread, texts_by, unread_in}
 use Rattle.book_judge.specs.Inside.Made.{end_by, end_of}
 
 -- ---- the messages on a link
@@ -90,7 +90,7 @@ bits_append comes [] us = refl
 bits_append comes (t ∷ ts) us = ap (λ (bs : List Bool). bits_in (data_in comes t) ++ bs) (bits_append comes ts us) ∙ sym (append_assoc (bits_in (data_in comes t)) (all_bits comes ts) (all_bits comes us))
 
 pub unread_append : (comes : Bool) (ts us : List (List Bool)) → unread_in comes (ts ++ us) ≡ unread_in comes ts + unread_in comes us
-unread_append comes [] us = refl
+unread_append comes [] us = omega arith
 unread_append comes (t ∷ ts) us = let rest : unread_in comes (ts ++ us) ≡ unread_in comes ts + unread_in comes us = unread_append comes ts us in omega (arith, rest)
 
 -- the first of these texts are all read, and have these bits
@@ -108,7 +108,10 @@ read_more comes count t ts bits (Some front) (Some rest) e f h rec =
     let whole : front ++ rest ≡ bits = cc in
     record {
       enough = (let k : count ≤ length ts = r.enough in omega (arith, k));
-      read = ap (λ (o : Option (List Bool)). one_unread o + unread_in comes (take count ts)) e ∙ r.read;
+      read =
+          (let u : one_unread (data_in comes t) + unread_in comes (take count ts) ≡ 0 + unread_in comes (take count ts) = ap (λ (o : Option (List Bool)). one_unread o + unread_in comes (take count ts)) e in
+          let v : unread_in comes (take count ts) ≡ 0 = r.read in
+          omega (arith, u, v));
       same = ap (λ (o : Option (List Bool)). bits_in o ++ all_bits comes (take count ts)) e ∙ ap (λ (bs : List Bool). front ++ bs) r.same ∙ whole;
     }
 
@@ -120,7 +123,7 @@ data_read comes (suc count) (t ∷ ts) bits e = read_more comes count t ts bits 
 data_more : (comes : Bool) (count : ℕ) (t : List Bool) (ts : List (List Bool)) (o : Option (List Bool)) → data_in comes t ≡ o → one_unread o + unread_in comes (take count ts) ≡ 0
     → (unread_in comes (take count ts) ≡ 0 → first_data comes count ts ≡ Some (all_bits comes (take count ts))) → joined o (first_data comes count ts) ≡ Some (bits_in o ++ all_bits comes (take count ts))
 data_more comes count t ts None e h rec = absurd (let n : 1 + unread_in comes (take count ts) ≡ 0 = h in omega (arith, n))
-data_more comes count t ts (Some front) e h rec = ap (λ (p : Option (List Bool)). joined (Some front) p) (rec h)
+data_more comes count t ts (Some front) e h rec = ap (λ (p : Option (List Bool)). joined (Some front) p) (rec (let n : 0 + unread_in comes (take count ts) ≡ 0 = h in omega (arith, n)))
 
 read_data_of : (comes : Bool) (count : ℕ) (ts : List (List Bool)) → count ≤ length ts → unread_in comes (take count ts) ≡ 0 → first_data comes count ts ≡ Some (all_bits comes (take count ts))
 read_data_of comes zero ts less none = refl
@@ -134,9 +137,11 @@ read_data comes count ts bits r = read_data_of comes count ts r.enough r.read �
 -- ---- a part of several texts
 
 pub take_two : (n m : ℕ) (ts : List (List Bool)) → n ≤ length ts → take (n + m) ts ≡ take n ts ++ take m (drop n ts)
-take_two zero m ts less = refl
+take_two zero m ts less = let e : 0 + m ≡ m = omega arith in ap (λ (k : ℕ). take k ts) e
 take_two (suc n) m [] less = absurd (omega (arith, less))
-take_two (suc n) m (t ∷ ts) less = ap (λ (us : List (List Bool)). t ∷ us) (take_two n m ts (omega (arith, less)))
+take_two (suc n) m (t ∷ ts) less =
+    let e : suc n + m ≡ suc (n + m) = omega arith in
+    ap (λ (k : ℕ). take k (t ∷ ts)) e ∙ ap (λ (us : List (List Bool)). t ∷ us) (take_two n m ts (omega (arith, less)))
 
 -- the bits between two marks are those of the texts between
 pub between : (comes : Bool) (n m : ℕ) (ts : List (List Bool)) → n + m ≤ length ts

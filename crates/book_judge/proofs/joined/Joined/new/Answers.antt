@@ -1,0 +1,5 @@
+use Rattle.book_judge.proofs.Streamed.{joined_none}
+use Rattle.book_judge.proofs.joined.Joined.new.Goals as goal
+
+pub returns : goal.returns
+returns c = λ comes. joined_none comes _ c.new.ensures
