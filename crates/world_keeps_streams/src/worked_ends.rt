@@ -81,7 +81,7 @@ pub fn worked_drops()
     // by its host's stop, and not by its peer's; a host that stopped owes no RRP
     ensures stopped { stage_by asker (begun_then (crossing.Down first ∷ [])) ≡ Over Stopped 2 }
     ensures peer { stage_by asker (begun_then (crossing.Down second ∷ [])) ≡ Going false false }
-    ensures forgotten { stage_by (record asker { own_stamp = 3; partner_stamp = 4 }) (begun_then (crossing.Out (rrp first second) ∷ []) ++ crossing.Up first ∷ crossing.Down first ∷ crossing.In (rst second first) ∷ []) ≡ Over Dropped 5 }
+    ensures forgotten { stage_by second_time (begun_then (crossing.Out (rrp first second) ∷ []) ++ crossing.Up first ∷ crossing.Down first ∷ crossing.In (rst second first) ∷ []) ≡ Over Dropped 5 }
 
     // by a contact of its host with its peer, where it was asked for
     ensures contact { stage (contact first 2 second ∷ []) asker (begun_then []) ≡ Over Dropped 2 }

@@ -20,7 +20,7 @@ from workshop.parts import ROOT
 
 PAGE = f"{ROOT}/docs/measured/promise.md"
 BOOK = f"{ROOT}/crates/headline/src/book.rt"
-MOST_LINES = 460  # without comments, imports and empty lines: what the clauses need, counted
+MOST_LINES = 520  # without comments, imports and empty lines: what the clauses need, counted
 LEFT = ("value", "lawful")  # clauses of `book_of` that speak of the world and its programs
 READING = ("host_pairs", "ncp_control", "bit_messages")  # crates whose definitions say how texts are read
 HEAD = """# What must be believed

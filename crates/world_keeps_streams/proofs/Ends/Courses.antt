@@ -21,7 +21,7 @@ use Rattle.net_sim.specs.Timeline.{contacts_of, crossings_of}
 use Rattle.net_sim.proofs.lemmas.{places_same}
 use Rattle.world_keeps_streams.proofs.Lives.Lists.{Named}
 
--- ---- a life by its names alone
+-- ---- a life by its names only
 
 abbrev pub key_of : Life → Life
 key_of x = new_life x.host x.socket x.peer x.foreign x.own_stamp x.partner_stamp

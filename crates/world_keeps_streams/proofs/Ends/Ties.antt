@@ -7,7 +7,6 @@ use Rattle.host_pairs.specs.Entries.{is_at, is_mine_on, is_sent}
 use Rattle.host_pairs.specs.Pair.{PairState}
 use Rattle.host_pairs.specs.declared.entry.Entry.{Entry}
 use Rattle.host_pairs.proofs.lemmas.{both}
-use Rattle.ncp_control.specs.Phases.{is_ready}
 use Rattle.ncp_control.specs.declared.command.Command.{Command}
 use Rattle.ncp_control.specs.declared.command.Command.TheVariants as command
 use Rattle.pairing_law.specs.Ends.{End, mark_taken, nothing}
@@ -206,10 +205,3 @@ module _ (hosts : List Host) (ms : List Moment) (l : Lawful hosts ms) where
 
     is : law_end x.host x.peer x.socket x.foreign ms ≡ plain itself (standing h.end)
     is = at_it.0
-
-  -- then its host is through a reset with its peer
-  pub going_ready : (h p : Host) (own foreign a : ℕ) → (law_end h p own foreign ms).asked ≡ Some a → is_ready (pair_with p (program h ms).peers).phase ≡ true
-  going_ready h p own foreign a asked = by (is_ready (pair_with p (program h ms).peers).phase) refl where
-    by : (v : Bool) → is_ready (pair_with p (program h ms).peers).phase ≡ v → v ≡ true
-    by true e = refl
-    by false e = absurd (let none : None ≡ Some a = sym (ap (λ (y : End). y.asked) ((has_now h p own foreign).idle e)) ∙ asked in cc)
