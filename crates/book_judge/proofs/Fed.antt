@@ -20,7 +20,8 @@ found_same (Some x) (Some y) e = (x, refl, ap (λ (z : Bool). Some z) (sym (same
 took_more : (xs : List Bool) (i : ℕ) (b : Bool) → slice_get xs i ≡ Some b → take (i + 1) xs ≡ take i xs ++ b ∷ []
 took_more xs i b e = take_more xs i b (slice_get_within xs i b e) ∙ ap (λ (z : Bool). take i xs ++ z ∷ []) (get_or_from_slice_get xs i b b e)
 
-pub prefix_more : (xs ys : List Bool) (i : ℕ) (a b : Option Bool) (r : Bool) → a ≡ slice_get xs i → b ≡ slice_get ys i → r ≡ same_found a b → r ≡ true
+pub prefix_more : (xs ys : List Bool) (i : ℕ) (a b : Option Bool) (r : Bool) → a ≡ slice_get xs i → b ≡ slice_get ys i
+    → r ≡ same_found a b → r ≡ true
     → take i xs ≡ take i ys → take (i + 1) xs ≡ take (i + 1) ys
 prefix_more xs ys i a b r e f g h same =
     let t = found_same a b (sym g ∙ h) in
@@ -46,20 +47,23 @@ drop_part (suc from) zero xs less = absurd (omega (arith, less))
 drop_part (suc from) (suc to) [] less = sym (took_none (suc to - suc from))
 drop_part (suc from) (suc to) (x ∷ xs) less = let e : suc to - suc from ≡ to - from = omega arith in drop_part from to xs (omega (arith, less)) ∙ ap (λ (k : ℕ). take k (drop from xs)) (sym e)
 
-pub slice_whole : (from to i : ℕ) (xs ys : List Bool) → from ≤ to → to - from ≡ length ys → i ≡ length ys → take i (drop from xs) ≡ take i ys → drop from (take to xs) ≡ ys
+pub slice_whole : (from to i : ℕ) (xs ys : List Bool) → from ≤ to → to - from ≡ length ys → i ≡ length ys
+    → take i (drop from xs) ≡ take i ys → drop from (take to xs) ≡ ys
 slice_whole from to i xs ys less size all same =
     drop_part from to xs less ∙ ap (λ (k : ℕ). take k (drop from xs)) (size ∙ sym all) ∙ same ∙ take_all i ys (omega (arith, all))
 
 -- ---- one life
 
 pub sourced_by : (b : Bool) (a : Name) (x : Life) (names : List Name) (lives : List Life)
-    → MatchBool b ((i : ℕ) × SourceAt a x names lives i) ((i : ℕ) → SourceAt a x names lives i → ⊥) → receives x ≡ true → (x.bits ≡ [] → ⊥)
+    → MatchBool b ((i : ℕ) × SourceAt a x names lives i) ((i : ℕ) → SourceAt a x names lives i → ⊥) → receives x ≡ true
+    → (x.bits ≡ [] → ⊥)
     → MatchBool b (IsSourced a x names lives) (IsSourced a x names lives → ⊥)
 sourced_by true a x names lives m r some = λ _ _. m
 sourced_by false a x names lives m r some = λ is. (let t = is r some in m t.0 t.1)
 
 pub granted_by : (b : Bool) (a : Name) (x : Life) (names : List Name) (lives : List Life)
-    → MatchBool b ((i : ℕ) × ExceedsAt a x names lives i) ((i : ℕ) → ExceedsAt a x names lives i → ⊥) → receives x ≡ true → is_granted x x.messages (length x.bits) ≡ true
+    → MatchBool b ((i : ℕ) × ExceedsAt a x names lives i) ((i : ℕ) → ExceedsAt a x names lives i → ⊥) → receives x ≡ true
+    → is_granted x x.messages (length x.bits) ≡ true
     → MatchBool (not b) (HasGranted a x names lives) (HasGranted a x names lives → ⊥)
 granted_by true a x names lives m r e = λ has. (let t = has r in t.1 m.0 m.1)
 granted_by false a x names lives m r e = λ _. (e, m)
@@ -67,7 +71,8 @@ granted_by false a x names lives m r e = λ _. (e, m)
 -- ---- the life at a place
 
 pub fed_here : (names : List Name) (lives : List Life) (handed : List (List Bool)) (n : ℕ) (a : Name) (x : Life) (h : List Bool)
-    → n < length lives → (length names ≡ length lives) × (length handed ≡ length lives) → a ≡ get_or names n a → x ≡ get_or lives n x → h ≡ get_or handed n h
+    → n < length lives → (length names ≡ length lives) × (length handed ≡ length lives) → a ≡ get_or names n a
+    → x ≡ get_or lives n x → h ≡ get_or handed n h
     → IsSourced a x names lives → IsHanded x h → FedAt names lives handed n
 fed_here names lives handed n a x h l counts e f g sourced given = λ b y i p q r.
     (let s : slice_get names n ≡ Some a = slice_get_read names (length names) n a refl (omega (arith, l, counts.0)) e in
@@ -81,21 +86,24 @@ fed_here names lives handed n a x h l counts e f g sourced given = λ b y i p q 
     (subst (λ (c : Name). P c y) one (subst (λ (z : Life). P a z) two sourced), subst (λ (k : List Bool). Q y k) three (subst (λ (z : Life). Q z h) two given)))
 
 pub unfed_here : (names : List Name) (lives : List Life) (handed : List (List Bool)) (n : ℕ) (a : Name) (x : Life) (h : List Bool)
-    → n < length lives → (length names ≡ length lives) × (length handed ≡ length lives) → a ≡ get_or names n a → x ≡ get_or lives n x → h ≡ get_or handed n h
+    → n < length lives → (length names ≡ length lives) × (length handed ≡ length lives) → a ≡ get_or names n a
+    → x ≡ get_or lives n x → h ≡ get_or handed n h
     → FedAt names lives handed n → IsSourced a x names lives × IsHanded x h
 unfed_here names lives handed n a x h l counts e f g fed =
     fed a x h (slice_get_read names (length names) n a refl (omega (arith, l, counts.0)) e) (slice_get_read lives (length lives) n x refl l f)
     (slice_get_read handed (length handed) n h refl (omega (arith, l, counts.1)) g)
 
 pub unsourced_here : (names : List Name) (lives : List Life) (handed : List (List Bool)) (n : ℕ) (a : Name) (x : Life)
-    → n < length lives → (length names ≡ length lives) × (length handed ≡ length lives) → a ≡ get_or names n a → x ≡ get_or lives n x
+    → n < length lives → (length names ≡ length lives) × (length handed ≡ length lives) → a ≡ get_or names n a
+    → x ≡ get_or lives n x
     → FedAt names lives handed n → IsSourced a x names lives
 unsourced_here names lives handed n a x l counts e f fed =
     let h = read_at handed n (omega (arith, l, counts.1)) in
     (fed a x h.0 (slice_get_read names (length names) n a refl (omega (arith, l, counts.0)) e) (slice_get_read lives (length lives) n x refl l f) h.1).0
 
 pub granted_here : (names : List Name) (lives : List Life) (n : ℕ) (a : Name) (x : Life)
-    → n < length lives → length names ≡ length lives → a ≡ get_or names n a → x ≡ get_or lives n x → HasGranted a x names lives → GrantedAt names lives n
+    → n < length lives → length names ≡ length lives → a ≡ get_or names n a → x ≡ get_or lives n x
+    → HasGranted a x names lives → GrantedAt names lives n
 granted_here names lives n a x l counts e f has = λ b y p q.
     (let s : slice_get names n ≡ Some a = slice_get_read names (length names) n a refl (omega (arith, l, counts)) e in
     let t : slice_get lives n ≡ Some x = slice_get_read lives (length lives) n x refl l f in
@@ -105,6 +113,7 @@ granted_here names lives n a x l counts e f has = λ b y p q.
     subst (λ (c : Name). P c y) one (subst (λ (z : Life). P a z) two has))
 
 pub excess_here : (names : List Name) (lives : List Life) (n : ℕ) (a : Name) (x : Life)
-    → n < length lives → length names ≡ length lives → a ≡ get_or names n a → x ≡ get_or lives n x → GrantedAt names lives n → HasGranted a x names lives
+    → n < length lives → length names ≡ length lives → a ≡ get_or names n a → x ≡ get_or lives n x
+    → GrantedAt names lives n → HasGranted a x names lives
 excess_here names lives n a x l counts e f granted =
     granted a x (slice_get_read names (length names) n a refl (omega (arith, l, counts)) e) (slice_get_read lives (length lives) n x refl l f)

@@ -62,8 +62,11 @@ pub record IsNamed (own foreign : ℕ) (octets : List ℕ) (whole : Option ℕ) 
   pub same : named_in own foreign (orders_within most octets) ≡ whole
 
 -- one command more, which names nothing
-pub named_next : (own foreign : ℕ) (octets rest : List ℕ) (whole named : Option ℕ) (read : ℕ) → IsNamed own foreign octets whole → 0 < length octets → 0 < read → read ≤ length octets → rest ≡ drop read octets → named ≡ None
-    → ((n : ℕ) → named_in own foreign (orders_within (1 + n) octets) ≡ option_or named (named_in own foreign (orders_within n (drop read octets)))) → IsNamed own foreign rest whole
+pub named_next : (own foreign : ℕ) (octets rest : List ℕ) (whole named : Option ℕ) (read : ℕ)
+    → IsNamed own foreign octets whole → 0 < length octets → 0 < read → read ≤ length octets → rest ≡ drop read octets
+    → named ≡ None
+    → ((n : ℕ) → named_in own foreign (orders_within (1 + n) octets) ≡ option_or named (named_in own foreign (orders_within n (drop read octets))))
+    → IsNamed own foreign rest whole
 named_next own foreign octets rest whole named read is some reads there e none names = by is.most refl where
   by : (most : ℕ) → is.most ≡ most → IsNamed own foreign rest whole
   by zero m = absurd (let enough : length octets ≤ is.most = is.enough in omega (arith, enough, some, m))
@@ -78,8 +81,10 @@ named_next own foreign octets rest whole named read is some reads there e none n
       }
 
 -- and one that names something
-pub named_here : (own foreign : ℕ) (octets : List ℕ) (whole named : Option ℕ) (read : ℕ) → IsNamed own foreign octets whole → 0 < length octets → is_some named ≡ true
-    → ((n : ℕ) → named_in own foreign (orders_within (1 + n) octets) ≡ option_or named (named_in own foreign (orders_within n (drop read octets)))) → named ≡ whole
+pub named_here : (own foreign : ℕ) (octets : List ℕ) (whole named : Option ℕ) (read : ℕ)
+    → IsNamed own foreign octets whole → 0 < length octets → is_some named ≡ true
+    → ((n : ℕ) → named_in own foreign (orders_within (1 + n) octets) ≡ option_or named (named_in own foreign (orders_within n (drop read octets))))
+    → named ≡ whole
 named_here own foreign octets whole named read is some there names = by is.most refl where
   first : (o p : Option ℕ) → is_some o ≡ true → o ≡ option_or o p
   first None p e = absurd (let both : false ≡ true = e in cc)
@@ -99,7 +104,8 @@ pub orders_of_none : (more : ℕ) (octets : List ℕ) → orders_within more (dr
 orders_of_none more octets =
     ap (λ (os : List ℕ). orders_within more os) (drop_all (length octets) octets (omega arith)) ∙ none_within more
 
-pub all_named : (own foreign : ℕ) (octets : List ℕ) (whole : Option ℕ) → IsNamed own foreign octets whole → length octets ≡ 0 → None ≡ whole
+pub all_named : (own foreign : ℕ) (octets : List ℕ) (whole : Option ℕ) → IsNamed own foreign octets whole
+    → length octets ≡ 0 → None ≡ whole
 all_named own foreign [] whole is e = ap (named_in own foreign) (sym (none_within is.most)) ∙ is.same
 all_named own foreign (o ∷ octets) whole is e = absurd (omega (arith, e))
 
@@ -126,7 +132,8 @@ get_cases (x ∷ xs) y z (suc place) e = elim (get_cases xs y z place e) [
 ]
 
 -- what was there before is found as before
-get_before : {X : Type 0} (xs : List X) (y : X) (place : ℕ) → (place ≡ length xs → ⊥) → slice_get (xs ++ y ∷ []) place ≡ slice_get xs place
+get_before : {X : Type 0} (xs : List X) (y : X) (place : ℕ) → (place ≡ length xs → ⊥)
+    → slice_get (xs ++ y ∷ []) place ≡ slice_get xs place
 get_before [] y zero other = absurd (other refl)
 get_before [] y (suc place) other = refl
 get_before (x ∷ xs) y zero other = refl
@@ -183,14 +190,16 @@ texts_at comes f None = []
 texts_at comes f (Some c) = text_of comes f c
 
 -- of crossings, the newest first
-named_by : (comes : Bool) (from to : Host) (own foreign place : ℕ) (log : List Crossing) (o : Option Crossing) → slice_get (reverse log) place ≡ o
+named_by : (comes : Bool) (from to : Host) (own foreign place : ℕ) (log : List Crossing) (o : Option Crossing)
+    → slice_get (reverse log) place ≡ o
     → named_at comes from to own foreign place log ≡ named_of own foreign (texts_at comes (control_flow from to) o)
 named_by comes from to own foreign place [] o e = ap (λ (p : Option Crossing). named_of own foreign (texts_at comes (control_flow from to) p)) e
 named_by comes from to own foreign place (c ∷ log) o e = by (place == length log) refl (named_by comes from to own foreign place log (slice_get (reverse log) place) refl) where
   at : slice_get (reverse log ++ c ∷ []) place ≡ o
   at = ap (λ (zs : List Crossing). slice_get zs place) (sym (one_more c log)) ∙ e
 
-  by : (v : Bool) → (place == length log) ≡ v → named_at comes from to own foreign place log ≡ named_of own foreign (texts_at comes (control_flow from to) (slice_get (reverse log) place))
+  by : (v : Bool) → (place == length log) ≡ v
+      → named_at comes from to own foreign place log ≡ named_of own foreign (texts_at comes (control_flow from to) (slice_get (reverse log) place))
       → (if v then named_of own foreign (text_of comes (control_flow from to) c) else named_at comes from to own foreign place log) ≡ named_of own foreign (texts_at comes (control_flow from to) o)
   by true s rest =
       let here : place ≡ length (reverse log) = eqb-true place (length log) s ∙ sym (length-reverse log) in
@@ -200,7 +209,8 @@ named_by comes from to own foreign place (c ∷ log) o e = by (place == length l
     other same = let both : true ≡ false = sym (eq-eqb place (length log) (same ∙ length-reverse log)) ∙ s in cc
 
 -- of a log, the oldest first
-pub named_there : (comes : Bool) (from to : Host) (own foreign place : ℕ) (log : List Crossing) → named_at comes from to own foreign place (reverse log) ≡ named_of own foreign (texts_at comes (control_flow from to) (slice_get log place))
+pub named_there : (comes : Bool) (from to : Host) (own foreign place : ℕ) (log : List Crossing)
+    → named_at comes from to own foreign place (reverse log) ≡ named_of own foreign (texts_at comes (control_flow from to) (slice_get log place))
 named_there comes from to own foreign place log =
     named_by comes from to own foreign place (reverse log) (slice_get log place) (ap (λ (zs : List Crossing). slice_get zs place) (reverse-reverse log))
 

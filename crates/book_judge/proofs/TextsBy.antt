@@ -85,11 +85,13 @@ data_ends false text = ap (λ (zs : List Bool). Some (drop 40 zs)) (take_all (le
 
 -- ---- all data of texts
 
-pub bits_append : (comes : Bool) (ts us : List (List Bool)) → all_bits comes (ts ++ us) ≡ all_bits comes ts ++ all_bits comes us
+pub bits_append : (comes : Bool) (ts us : List (List Bool))
+    → all_bits comes (ts ++ us) ≡ all_bits comes ts ++ all_bits comes us
 bits_append comes [] us = refl
 bits_append comes (t ∷ ts) us = ap (λ (bs : List Bool). bits_in (data_in comes t) ++ bs) (bits_append comes ts us) ∙ sym (append_assoc (bits_in (data_in comes t)) (all_bits comes ts) (all_bits comes us))
 
-pub unread_append : (comes : Bool) (ts us : List (List Bool)) → unread_in comes (ts ++ us) ≡ unread_in comes ts + unread_in comes us
+pub unread_append : (comes : Bool) (ts us : List (List Bool))
+    → unread_in comes (ts ++ us) ≡ unread_in comes ts + unread_in comes us
 unread_append comes [] us = omega arith
 unread_append comes (t ∷ ts) us = let rest : unread_in comes (ts ++ us) ≡ unread_in comes ts + unread_in comes us = unread_append comes ts us in omega (arith, rest)
 
@@ -99,8 +101,10 @@ pub record AreRead (comes : Bool) (count : ℕ) (ts : List (List Bool)) (bits : 
   pub read : unread_in comes (take count ts) ≡ 0
   pub same : all_bits comes (take count ts) ≡ bits
 
-read_more : (comes : Bool) (count : ℕ) (t : List Bool) (ts : List (List Bool)) (bits : List Bool) (o p : Option (List Bool)) → data_in comes t ≡ o → first_data comes count ts ≡ p → joined o p ≡ Some bits
-    → ((rest : List Bool) → first_data comes count ts ≡ Some rest → AreRead comes count ts rest) → AreRead comes (suc count) (t ∷ ts) bits
+read_more : (comes : Bool) (count : ℕ) (t : List Bool) (ts : List (List Bool)) (bits : List Bool) (o p : Option (List Bool))
+    → data_in comes t ≡ o → first_data comes count ts ≡ p → joined o p ≡ Some bits
+    → ((rest : List Bool) → first_data comes count ts ≡ Some rest → AreRead comes count ts rest)
+    → AreRead comes (suc count) (t ∷ ts) bits
 read_more comes count t ts bits None p e f h rec = absurd (let none : None ≡ Some bits = h in cc)
 read_more comes count t ts bits (Some front) None e f h rec = absurd (let none : None ≡ Some bits = h in cc)
 read_more comes count t ts bits (Some front) (Some rest) e f h rec =
@@ -115,23 +119,28 @@ read_more comes count t ts bits (Some front) (Some rest) e f h rec =
       same = ap (λ (o : Option (List Bool)). bits_in o ++ all_bits comes (take count ts)) e ∙ ap (λ (bs : List Bool). front ++ bs) r.same ∙ whole;
     }
 
-pub data_read : (comes : Bool) (count : ℕ) (ts : List (List Bool)) (bits : List Bool) → first_data comes count ts ≡ Some bits → AreRead comes count ts bits
+pub data_read : (comes : Bool) (count : ℕ) (ts : List (List Bool)) (bits : List Bool)
+    → first_data comes count ts ≡ Some bits → AreRead comes count ts bits
 data_read comes zero ts bits e = record { enough = omega arith; read = refl; same = (let none : [] ≡ bits = cc in none) }
 data_read comes (suc count) [] bits e = absurd (let none : None ≡ Some bits = e in cc)
 data_read comes (suc count) (t ∷ ts) bits e = read_more comes count t ts bits (data_in comes t) (first_data comes count ts) refl refl e (λ rest f. data_read comes count ts rest f)
 
-data_more : (comes : Bool) (count : ℕ) (t : List Bool) (ts : List (List Bool)) (o : Option (List Bool)) → data_in comes t ≡ o → one_unread o + unread_in comes (take count ts) ≡ 0
-    → (unread_in comes (take count ts) ≡ 0 → first_data comes count ts ≡ Some (all_bits comes (take count ts))) → joined o (first_data comes count ts) ≡ Some (bits_in o ++ all_bits comes (take count ts))
+data_more : (comes : Bool) (count : ℕ) (t : List Bool) (ts : List (List Bool)) (o : Option (List Bool))
+    → data_in comes t ≡ o → one_unread o + unread_in comes (take count ts) ≡ 0
+    → (unread_in comes (take count ts) ≡ 0 → first_data comes count ts ≡ Some (all_bits comes (take count ts)))
+    → joined o (first_data comes count ts) ≡ Some (bits_in o ++ all_bits comes (take count ts))
 data_more comes count t ts None e h rec = absurd (let n : 1 + unread_in comes (take count ts) ≡ 0 = h in omega (arith, n))
 data_more comes count t ts (Some front) e h rec = ap (λ (p : Option (List Bool)). joined (Some front) p) (rec (let n : 0 + unread_in comes (take count ts) ≡ 0 = h in omega (arith, n)))
 
-read_data_of : (comes : Bool) (count : ℕ) (ts : List (List Bool)) → count ≤ length ts → unread_in comes (take count ts) ≡ 0 → first_data comes count ts ≡ Some (all_bits comes (take count ts))
+read_data_of : (comes : Bool) (count : ℕ) (ts : List (List Bool)) → count ≤ length ts
+    → unread_in comes (take count ts) ≡ 0 → first_data comes count ts ≡ Some (all_bits comes (take count ts))
 read_data_of comes zero ts less none = refl
 read_data_of comes (suc count) [] less none = absurd (omega (arith, less))
 read_data_of comes (suc count) (t ∷ ts) less none =
     data_more comes count t ts (data_in comes t) refl none (λ rest. read_data_of comes count ts (omega (arith, less)) rest)
 
-pub read_data : (comes : Bool) (count : ℕ) (ts : List (List Bool)) (bits : List Bool) → AreRead comes count ts bits → first_data comes count ts ≡ Some bits
+pub read_data : (comes : Bool) (count : ℕ) (ts : List (List Bool)) (bits : List Bool) → AreRead comes count ts bits
+    → first_data comes count ts ≡ Some bits
 read_data comes count ts bits r = read_data_of comes count ts r.enough r.read ∙ ap (λ (bs : List Bool). Some bs) r.same
 
 -- ---- a part of several texts
@@ -164,18 +173,23 @@ within comes n m ts less =
     ap (λ (us : List (List Bool)). length (all_bits comes us)) (sym (take-append-drop (n + m) ts)) ∙ ap length (bits_append comes (take (n + m) ts) (drop (n + m) ts)) ∙ length-append (all_bits comes (take (n + m) ts)) (all_bits comes (drop (n + m) ts)) in
     (omega (arith, front), omega (arith, whole))
 
-pub unread_two : (comes : Bool) (n m : ℕ) (ts : List (List Bool)) → n + m ≤ length ts → unread_in comes (take (n + m) ts) ≡ unread_in comes (take n ts) + unread_in comes (take m (drop n ts))
+pub unread_two : (comes : Bool) (n m : ℕ) (ts : List (List Bool)) → n + m ≤ length ts
+    → unread_in comes (take (n + m) ts) ≡ unread_in comes (take n ts) + unread_in comes (take m (drop n ts))
 unread_two comes n m ts less = ap (unread_in comes) (take_two n m ts (omega (arith, less))) ∙ unread_append comes (take n ts) (take m (drop n ts))
 
 -- ---- texts before a place and after it
 
-pub texts_split : (comes : Bool) (f : Flow) (place : ℕ) (log : List Crossing) → texts_by comes f log ≡ texts_by comes f (take place log) ++ texts_by comes f (drop place log)
+pub texts_split : (comes : Bool) (f : Flow) (place : ℕ) (log : List Crossing)
+    → texts_by comes f log ≡ texts_by comes f (take place log) ++ texts_by comes f (drop place log)
 texts_split comes f place log = ap (texts_by comes f) (sym (take-append-drop place log)) ∙ texts_append comes f (take place log) (drop place log)
 
-pub texts_after : (comes : Bool) (f : Flow) (place n : ℕ) (log : List Crossing) → length (texts_by comes f (take place log)) ≡ n → texts_by comes f (drop place log) ≡ drop n (texts_by comes f log)
+pub texts_after : (comes : Bool) (f : Flow) (place n : ℕ) (log : List Crossing)
+    → length (texts_by comes f (take place log)) ≡ n
+    → texts_by comes f (drop place log) ≡ drop n (texts_by comes f log)
 texts_after comes f place n log e = sym (ap (drop n) (texts_split comes f place log) ∙ drop_at (texts_by comes f (take place log)) (texts_by comes f (drop place log)) n e)
 
-pub texts_less : (comes : Bool) (f : Flow) (a b : ℕ) (log : List Crossing) → a ≤ b → length (texts_by comes f (take a log)) ≤ length (texts_by comes f (take b log))
+pub texts_less : (comes : Bool) (f : Flow) (a b : ℕ) (log : List Crossing) → a ≤ b
+    → length (texts_by comes f (take a log)) ≤ length (texts_by comes f (take b log))
 texts_less comes f zero b log less = omega arith
 texts_less comes f (suc a) zero log less = absurd (omega (arith, less))
 texts_less comes f (suc a) (suc b) [] less = omega arith
@@ -185,7 +199,8 @@ texts_less comes f (suc a) (suc b) (c ∷ log) less =
     let two : length (text_of comes f c ++ texts_by comes f (take b log)) ≡ length (text_of comes f c) + length (texts_by comes f (take b log)) = length-append (text_of comes f c) (texts_by comes f (take b log)) in
     omega (arith, rest, one, two)
 
-pub texts_within : (comes : Bool) (f : Flow) (place : ℕ) (log : List Crossing) → length (texts_by comes f (take place log)) ≤ length (texts_by comes f log)
+pub texts_within : (comes : Bool) (f : Flow) (place : ℕ) (log : List Crossing)
+    → length (texts_by comes f (take place log)) ≤ length (texts_by comes f log)
 texts_within comes f place log =
     let both : length (texts_by comes f log) ≡ length (texts_by comes f (take place log)) + length (texts_by comes f (drop place log)) = ap length (texts_split comes f place log) ∙ length-append (texts_by comes f (take place log)) (texts_by comes f (drop place log)) in
     omega (arith, both)
