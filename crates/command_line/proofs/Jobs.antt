@@ -36,6 +36,7 @@ no_memory (Some options) s unread same = (
     reads = subst (λ (left : Option (List ℕ)). ReadsFirst s.input left) (sym unread) (reads_none s.input);
     reads_all = λ read kept. absurd (kept refl);
     ran_in_part = λ e. inl same;
+    nothing = λ on e. same;
     first_part = λ e. if_known s.input (λ octets. Keeps s.before s.after ⊎ StopsInput (detail_of options.texts) octets s.before s.after) (λ octets. inl same);
   },
 )
