@@ -4,8 +4,6 @@ from __future__ import annotations
 
 import unittest
 
-from dorydate.checks.explain_faults import BAD_LINES, BAD_LINES_OF_WORLDS, BAD_TOPOLOGIES, GOOD
-from dorydate.checks.explain_rows import TEXTS
 from dorydate.explain.charts import chart, short_chart
 from dorydate.explain.faults import diagnose, wrong_with_line
 from dorydate.explain.given import Input, shown
@@ -14,6 +12,8 @@ from dorydate.explain.runs import Happened
 from dorydate.explain.telling import said_beside, telling
 from dorydate.explain.topology import network_by
 from dorydate.sentences.texts import text_in_words
+from workshop.checks.explain_faults import BAD_LINES, BAD_LINES_OF_WORLDS, BAD_TOPOLOGIES, GOOD
+from workshop.checks.explain_rows import TEXTS
 
 TWO = b"raw = true\n[[imp]]\nid = 1 # UCLA\nhosts = 1\n[[imp]]\nid = 2\nhosts = 1\n[[line]]\na = 1\nb = 2\n%\n"
 SCRIPT = b"# routes\ncalm 1\nout 0/1 0/2 5 8 41\nout 0/1 0/2 5 0 -\ncalm 1\n"

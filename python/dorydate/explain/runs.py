@@ -19,7 +19,7 @@ from itertools import chain, islice
 from dorydate.explain.given import Input, is_event
 from dorydate.explain.topology import network_by
 from dorydate.marks import LAST, Marked, Unmarked, each_printed, mark_for
-from dorydate.parts import ROOT
+from dorydate.program import ROOT
 
 MOST_TRIED = 64_000_000  # octets of inputs that are run without a kept program
 Ended = tuple[int, bytes, str]  # the status of a run, its output, and what it said on standard error
