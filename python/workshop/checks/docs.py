@@ -11,7 +11,7 @@ so it is with the definitions in the tables; the rows beside them have to be fun
 stored inputs of cases/; and each other name has to be one of these, or that of a planted bug of the crate.
 
 docs/PROVED.md names each clause after the path of its call, `CRATE::..::CALL`, and docs/measured/crates.md leads to the claims of each crate.
-crates.txt names for each crate only others that its sources name.
+crates.txt names for each crate only others that its sources name. The version of the program is that of the package, the citation and the change log.
 
 The drawings of docs/pictures, the page of crates, the index of rules and the page of what must be believed have to be as they are made, the numbers in drawings as the sources have them, and
 no text of a drawing over another one or over a line. Words of the house's dialect are counted against limits that can only fall
@@ -34,7 +34,7 @@ import unittest
 from collections import Counter
 from collections.abc import Iterator
 
-from workshop.documents import anchors, believed, crates_page, dialect, named_crates, notebook, paragraphs, planted, rules, tests
+from workshop.documents import anchors, believed, crates_page, dialect, named_crates, notebook, paragraphs, planted, rules, tests, versions
 from workshop.drawings import pictures
 from workshop.parts import ROOT
 
@@ -242,7 +242,7 @@ def failed_tests() -> list[str]:
 def made() -> list[str]:
     """What isn't as it is made, and what the drawings and the words of the documents have that they shouldn't."""
     print("check docs:", dialect.summary())
-    return [*failed_tests(), *paragraphs.faults(), *anchors.faults(), *pictures.faults(), *crates_page.faults(), *planted.faults(), *rules.faults(), *believed.faults(), *notebook.faults(), *dialect.faults(), *named_crates.faults()]
+    return [*failed_tests(), *paragraphs.faults(), *anchors.faults(), *pictures.faults(), *crates_page.faults(), *planted.faults(), *rules.faults(), *believed.faults(), *notebook.faults(), *dialect.faults(), *named_crates.faults(), *versions.faults()]
 
 
 def write() -> int:
