@@ -1,7 +1,7 @@
 //! What the simulator promises, as laws over its definitions. The functions here do nothing: their clauses
 //! are the laws.
 
-ghost use Rattle.std.specs.Prelude.{◌≡◌, ◌==◌, ◌↔◌, ◌++◌, ℕ, Bool, true, false, List, [], ◌∷◌, Ok, Option, Some, None, codes, reverse};
+ghost use Rattle.std.specs.Prelude.{◌≡◌, ◌==◌, ◌↔◌, ◌++◌, ℕ, Bool, true, false, List, [], ◌∷◌, Ok, Err, Option, Some, None, codes, reverse};
 ghost use Rattle.book_judge.specs.Lives.{AreMade};
 ghost use Rattle.book_judge.specs.Runs.{IsSomeRun};
 ghost use Rattle.book_log.specs.Log as log;
@@ -29,10 +29,18 @@ ghost use Rattle.command_line.specs.Events.{is_raw};
 ghost use Rattle.command_line.specs.Lived.{AreLived};
 ghost use Rattle.command_line.specs.Logs.{Logged, LogsInput};
 ghost use Rattle.command_line.specs.Printed.{AreOneBook, PrintsBook, PrintsPart};
+ghost use Rattle.command_line.specs.Program.{Closes, EndsTask, Sides};
 ghost use Rattle.command_line.specs.Recorded.{PrintsTrace};
 ghost use Rattle.command_line.specs.Replayed.{Ran, RanInPart, ReplaysInput, StopsInput, WorldShowsFrom};
 ghost use Rattle.command_line.specs.Traced.{TraceStops, TracesInput};
 ghost use Rattle.command_line.specs.Worked.{here, life_one, there, told_one, took_one};
+ghost use Rattle.command_line.specs.WorkedSides.{only_check, unread, wrote};
+ghost use Rattle.command_line.specs.declared.auditing.AuditFault.TheVariants as unlogged;
+ghost use Rattle.command_line.specs.declared.fault.ScriptFault.TheVariants as script;
+ghost use Rattle.command_line.specs.declared.options.Options.{Options};
+ghost use Rattle.command_line.specs.declared.options.Task.TheVariants as task;
+ghost use Rattle.command_line.specs.declared.program.Done.TheVariants as did;
+ghost use Rattle.command_line.specs.declared.program.ProgramFault.TheVariants as fault;
 ghost use Rattle.command_line.specs.declared.verdict.Verdict.{Verdict};
 ghost use Rattle.command_line.specs.Laws.FirstPart.{FirstPart};
 ghost use Rattle.command_line.specs.Laws.OneOutput.{OneOutput};
@@ -160,6 +168,30 @@ pub fn named_parts()
     // where nothing is named the book is safe, and nothing is named of a safe book
     ensures safe { (b : log.Book) → SaysOf kept b → Says audit.Kept (reverse b.crossings) (log.lives_of b) b.handed }
     ensures kept { (b : log.Book) (v : Verdict) → SaysOf kept b → SaysOf v b → v ≡ kept }
+{}
+
+/// Ends that the program does not have.
+pub fn worked_programs()
+    // memory ran out, and something is written of a log, of an audit, or of an input that is only read
+    ensures log_memory { (o : Option Options) (x : ℕ) → EndsTask (Some task.Log) o (wrote (x ∷ [])) (Err (fault.Script script.OutOfMemory)) → ⊥ }
+    ensures audit_memory { (o : Option Options) (x : ℕ) → EndsTask (Some task.Audit) o (wrote (x ∷ [])) (Err (fault.Audit unlogged.OutOfMemory)) → ⊥ }
+    ensures check_memory { (x : ℕ) → EndsTask None (Some only_check) (wrote (x ∷ [])) (Err (fault.Script script.OutOfMemory)) → ⊥ }
+
+    // an input that is only read, of which something else is written
+    ensures not_ok { EndsTask None (Some only_check) (wrote (codes "end\n")) (Ok did.Written) → ⊥ }
+
+    // a log and a trace that are not written, and an audit that leaves octets
+    ensures no_log { (o : Option Options) → EndsTask (Some task.Log) o (wrote []) (Ok did.Written) → ⊥ }
+    ensures no_trace { (o : Option Options) → EndsTask (Some task.Trace) o (wrote []) (Ok did.Written) → ⊥ }
+    ensures left { (o : Option Options) (v : Verdict) (x : ℕ) → EndsTask (Some task.Audit) o (unread (x ∷ [])) (Ok (did.Audited v)) → ⊥ }
+
+    // help that is not written, and words that ask for nothing taken for a replay
+    ensures no_help { (o : Option Options) → EndsTask (Some task.Help) o (wrote []) (Ok did.Written) → ⊥ }
+    ensures not_refused { (s : Sides) → EndsTask None None s (Ok did.Written) → ⊥ }
+
+    // what was written is held back when memory runs out, and something is written before a bad line is found
+    ensures held_back { Closes (Err (fault.Script script.OutOfMemory)) false false false ⊥ → ⊥ }
+    ensures left_written { (line : ℕ) → Closes (Err (fault.Script (script.BadLine line))) false false true ⊥ → ⊥ }
 {}
 
 /// Of a log that is kept nothing else is said.
