@@ -1,7 +1,7 @@
 //! What the simulator promises, as laws over its definitions. The functions here do nothing: their clauses
 //! are the laws.
 
-ghost use Rattle.std.specs.Prelude.{◌≡◌, ◌==◌, ◌↔◌, ◌++◌, ℕ, Bool, true, false, List, [], ◌∷◌, Ok, Err, Option, Some, None, codes, reverse};
+ghost use Rattle.std.specs.Prelude.{◌≡◌, ◌==◌, ◌↔◌, ◌++◌, ◌+◌, ℕ, Bool, true, false, List, [], ◌∷◌, Ok, Err, Option, Some, None, codes, length, reverse};
 ghost use Rattle.book_judge.specs.Lives.{AreMade};
 ghost use Rattle.book_judge.specs.Runs.{IsSomeRun};
 ghost use Rattle.book_log.specs.Log as log;
@@ -14,6 +14,7 @@ ghost use Rattle.interface.specs.declared.crossing.Crossing.TheVariants as cross
 ghost use Rattle.interface.specs.declared.message.HostMessage.{HostMessage};
 ghost use Rattle.net_sim.specs.Audit.{IsWellFormed, Says};
 ghost use Rattle.net_sim.specs.Findings.{AreFed};
+ghost use Rattle.net_sim.specs.declared.auditing.findings.Finding.TheVariants as finding;
 ghost use Rattle.net_sim.specs.declared.auditing.said.Audit.TheVariants as audit;
 ghost use Rattle.promise.specs.Fates.{ClosesWhole};
 ghost use Rattle.promise.specs.Formed.{FormedBook};
@@ -192,6 +193,15 @@ pub fn worked_programs()
     // what was written is held back when memory runs out, and something is written before a bad line is found
     ensures held_back { Closes (Err (fault.Script script.OutOfMemory)) false false false ⊥ → ⊥ }
     ensures left_written { (line : ℕ) → Closes (Err (fault.Script (script.BadLine line))) false false true ⊥ → ⊥ }
+{}
+
+/// Places at which a part of a log isn't broken: partners are broken at two lives, the second one after the first, and streams, grants and closes at a life.
+pub fn worked_judged()
+    ensures one { (n : ℕ) (b : log.Book) → SaysOf (record kept { partners = Some (finding.Life n) }) b → ⊥ }
+    ensures exchanged { (n : ℕ) (b : log.Book) → SaysOf (record kept { partners = Some (finding.Lives (n + 1) n) }) b → ⊥ }
+    ensures crossing { (n : ℕ) (b : log.Book) → SaysOf (record kept { streams = Some (finding.Crossing n) }) b → ⊥ }
+    ensures list { (n : ℕ) (b : log.Book) → SaysOf (record kept { grants = Some (finding.List n) }) b → ⊥ }
+    ensures match_past { (b : log.Book) → SaysOf (record kept { closes = Some (finding.Lives 0 (length b.lives)) }) b → ⊥ }
 {}
 
 /// Of a log that is kept nothing else is said.
