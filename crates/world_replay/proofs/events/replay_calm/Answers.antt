@@ -45,14 +45,14 @@ returns-then-has_calmed-clause-ends g c =
 pub returns-clause-ends : goal.returns-clause-ends
 returns-clause-ends g c =
     let calls : Calls g.row.C.Denot = shown g.C.Carrier.calls in
-    rounds_end calls c.args.detail c.loop-passed.passed 0 c.args.rounds c.args.world.now c.loop-passed.world (g.W.Output.contents c.args.writer.now) (g.W.Output.contents c.loop-passed.writer) c.loop-passed.invariant.0 (some_passed c.args.rounds c.loop-passed.passed c.if-rounds-eq0.false c.loop-passed-test.false) (omega (arith, c.loop-passed-test.false, c.loop-passed.invariant.2.0)) (refl, refl)
+    rounds_end calls c.args.detail c.loop-passed.passed 0 c.args.rounds c.args.world.now c.loop-passed.world (g.W.Output.contents c.args.writer.now) (g.W.Output.contents c.loop-passed.writer) c.loop-passed.invariant.0 (some_passed c.args.rounds c.loop-passed.passed c.if-rounds-eq0.false c.loop-passed-test.false) (omega (arith, c.loop-passed-test.false, c.loop-passed.invariant.2)) (refl, refl)
 
 -- a long calm is handed on, or rests
 pub returns-then-has_calmed-clause-seen : goal.returns-then-has_calmed-clause-seen
 returns-then-has_calmed-clause-seen g c = λ long. inl (c.has_calmed.ensures.rest c.if-has_calmed.true)
 
 pub returns-clause-seen : goal.returns-clause-seen
-returns-clause-seen g c = λ long. inr (c.loop-passed.invariant.2.1 (omega (arith, long, c.loop-passed-test.false)))
+returns-clause-seen g c = λ long. inr (c.loop-passed.invariant.3 (omega (arith, long, c.loop-passed-test.false)))
 
 pub returns-then-rounds-eq0-clause-seen : goal.returns-then-rounds-eq0-clause-seen
 returns-then-rounds-eq0-clause-seen g c = whether_ok c.replay_one.result (λ long. absurd (omega (arith, long, c.if-rounds-eq0.true)))
