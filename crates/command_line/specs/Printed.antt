@@ -29,7 +29,7 @@ pub record AreRaw (shown : List Shown) (lives : List Life) : Type 0 where
   pub no_reports : reports_of shown ≡ []
   pub no_lives : lives ≡ []
 
--- what users are told: nothing where a network is raw, and otherwise that of the messages that crossed
+-- what users are notified of: nothing where a network is raw, and otherwise what crossed
 abbrev pub AreNoticed : Bool → List Shown → List Life → Type 0
 AreNoticed true shown lives = AreRaw shown lives
 AreNoticed false shown lives = FormedNotices (log_of shown) (notices_of shown)

@@ -50,7 +50,7 @@ pub record PrintsTrace (book : Bool) (out trace : List ℕ) (lines : List (List 
   pub traced : lines ≡ opening ∷ map recorded_text recorded
   pub printed : out ≡ text_of (λ line. line) (flat_map printed_lines recorded) ++ (book_text book lives ++ codes "end\n")
 
--- ---- the lines of a trace, as they were told
+-- ---- the lines of a trace that was written
 
 abbrev pub told_from : {C : Type 0} (calls : Calls C) (inside : Inside C) (t : TopologyFields) (opening : C) (numbers : List ℕ) (events : Asked) (before after : Option (List ℕ))
     → TracesAll calls inside t opening numbers events before after → List (List ℕ)

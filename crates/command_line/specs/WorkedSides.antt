@@ -11,6 +11,6 @@ wrote octets = sides (Some []) (Some []) false (Some []) (Some octets)
 abbrev pub unread : List ℕ → Sides
 unread octets = sides (Some octets) (Some octets) false (Some []) (Some [])
 
--- `--check` alone
+-- only `--check`
 abbrev pub only_check : Options
 only_check = record { book = false; check = true; texts = false }

@@ -95,7 +95,7 @@ COMMENTS = b"# nothing\n" * 50_000  # before a topology
 
 
 def opened(count: int) -> Iterator[str]:
-    """The crossings of so many connections between two hosts, one after another: both requests, and then both CLS."""
+    """The crossings of this many connections between two hosts, one after another: both requests, and then both CLS."""
     for at in range(count):
         own, foreign = f"{16 + 2 * at:08X}", f"{33 + 2 * at:08X}"
         requests = f"120 0008000A0001{own}{foreign}02", f"120 0008000A0002{foreign}{own}08"
