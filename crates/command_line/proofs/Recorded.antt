@@ -9,6 +9,7 @@ use Rattle.interface.specs.declared.crossing.Crossing.{Crossing}
 use Rattle.leader1822.specs.Boxes.{plain_calls}
 use Rattle.net_sim.specs.Carriers.{shown}
 use Rattle.net_sim.specs.World.{WorldState, opening_world}
+use Rattle.promise.specs.declared.life.Life.{Life}
 use Rattle.replay.proofs.lemmas.{OneReplay, in_turn_once, replays_once}
 use Rattle.replay.specs.InTurn.{InTurn, text_of}
 use Rattle.replay.specs.Output as raw

@@ -8,9 +8,11 @@ use Rattle.topology.specs.Topology.{TopologyFields}
 use Rattle.topology.specs.declared.network.CarrierKind.{CarrierKind}
 use Rattle.topology.specs.declared.network.CarrierKind.TheVariants as kind
 use Rattle.command_line.specs.Events.{Asked, Raw, World}
-use Rattle.command_line.specs.Logs.{Logged, LogsOver}
+use Rattle.leader1822.specs.Boxes.{plain_calls}
+use Rattle.subnet.specs.Working.{subnet_calls}
+use Rattle.command_line.specs.Logs.{LogsOver, raw_book, world_book}
 use Rattle.command_line.specs.Program.{Closes, EndsAudit, EndsLog, EndsReplay, EndsTask, EndsTrace, HandsOn, Sides, audited_as, finished_as}
-use Rattle.command_line.specs.Traced.{Traced, TracesOver}
+use Rattle.command_line.specs.Traced.{TracesOver}
 use Rattle.command_line.specs.WorkedSides.{only_check, unread, wrote}
 use Rattle.command_line.specs.declared.auditing.AuditFault.{AuditFault}
 use Rattle.command_line.specs.declared.auditing.AuditFault.TheVariants as log
@@ -86,10 +88,10 @@ some_log : (b : Book) → [] ≡ log_text b → ⊥
 some_log b e = no_end (map logged_line b.crossings) (map life_line b.lives) (map handed_line b.handed) (codes "end") (none_lines (log_lines b) (sym e))
 
 nothing_logged : (carrier : CarrierKind) (t : TopologyFields) (events : Asked) → LogsOver carrier t events (Some []) (Some []) → ⊥
-nothing_logged kind.Plain t (Raw events) h = some_log _ h.written
-nothing_logged kind.Plain t (World events) h = some_log _ h.written
-nothing_logged kind.Subnet t (Raw events) h = some_log _ h.written
-nothing_logged kind.Subnet t (World events) h = some_log _ h.written
+nothing_logged kind.Plain t (Raw events) h = some_log (raw_book (plain_calls.seen h.last).log) h.written
+nothing_logged kind.Plain t (World events) h = some_log (world_book h.last.kept) h.written
+nothing_logged kind.Subnet t (Raw events) h = some_log (raw_book (subnet_calls.seen h.last).log) h.written
+nothing_logged kind.Subnet t (World events) h = some_log (world_book h.last.kept) h.written
 
 pub no_log : (o : Option Options) → EndsTask (Some task.Log) o (wrote []) (Ok did.Written) → ⊥
 no_log o (Ok done, is, ends) = nothing_logged ends.ran.network.carrier ends.ran.network ends.ran.events ends.ran.logged

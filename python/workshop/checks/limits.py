@@ -89,7 +89,7 @@ TRACES: dict[str, Limit] = {
     "events of a trace": Limit(["--trace"], Topology("plain", True, [(1, 2), (2, 1)], []), ["take 0/1"] * 12_000),
     "the text of a part": Limit(["--trace"], Topology("plain", True, [(1, 1), (2, 1)], []), [f"out 0/1 0/2 {link} {FULL}" for link in range(100)]),
     "events of a trace of hosts": Limit(["--trace"], PAIR, ["take 0/1"] * 110_000),
-    "rounds of a trace of hosts": Limit(["--trace"], PAIR, [*JOINED, "send 0/1 101 8 5A", "calm 20000"]),
+    "rounds of a trace of hosts": Limit(["--trace"], PAIR, [*JOINED, "send 0/1 101 8 5A", "calm 4000"]),
 }
 COMMENTS = b"# nothing\n" * 50_000  # before a topology
 

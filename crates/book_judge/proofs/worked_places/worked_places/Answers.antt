@@ -20,4 +20,4 @@ pub returns-clause-past : goal.returns-clause-past
 returns-clause-past c = λ log xs hs fs b. not_past xs b.closes.place b.closes.at.1.0 b.closes.at.0 b.closes.at.1.1
 
 pub returns-clause-match_past : goal.returns-clause-match_past
-returns-clause-match_past c = λ log xs hs fs b. (let less : length xs < length xs = b.streams.at.1.2.0 in omega (arith, less))
+returns-clause-match_past c = λ log xs hs fs b. (let less : length xs < length xs = b.streams.at.1.2 in omega (arith, less))
