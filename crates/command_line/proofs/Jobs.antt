@@ -1,5 +1,5 @@
 -- What is written where memory runs out before anything is replayed.
-use Rattle.std.proofs.Common.{◌≡◌, ◌⊎◌, inl, inr, ℕ, List, Option, Some, None, Result, Ok, Err, IfSome, MatchResult, refl, sym, subst}
+use Rattle.std.proofs.Common.{◌≡◌, ◌⊎◌, inl, inr, ℕ, List, Option, Some, None, Result, Err, IfSome, MatchResult, refl, sym, subst}
 use Rattle.std.specs.Io.KnownBytes.{Keeps}
 use Rattle.command_line.specs.Input.{IsInputFault, IsSomeInput}
 use Rattle.command_line.specs.Options.{detail_of}

@@ -1,5 +1,5 @@
 -- What a replay prints is what its trace has as printed.
-use Rattle.std.proofs.Common.{◌≡◌, inl, inr, ℕ, suc, zero, ◌+◌, Bool, List, [], ◌∷◌, ◌++◌, Some, codes, length, map, zip, arith, refl, sym, ap, ap₂, subst, ◌∙◌}
+use Rattle.std.proofs.Common.{◌≡◌, inl, inr, ℕ, suc, zero, ◌+◌, Bool, true, false, List, [], ◌∷◌, ◌++◌, Some, codes, length, map, zip, arith, refl, sym, ap, ap₂, subst, ◌∙◌}
 use Rattle.std.proofs.lemmas.Grind.{flat_map-append}
 use Rattle.std.proofs.lemmas.List.{append-nil, length-append, map-append}
 use Rattle.std.proofs.lemmas.List.Folds.{flat_map-map}
@@ -274,14 +274,19 @@ prints_trace book input out trace h k =
 
 -- ---- outputs that a trace does not have
 
+begins : List ℕ → ℕ
+begins [] = 0
+begins (x ∷ xs) = x
+
 pub swallowed : (book : Bool) (opening trace : List ℕ) → PrintsTrace book (codes "up 0/1\nend\n") trace (opening ∷ []) → ⊥
+unfolding begins
 swallowed book opening trace h = by h.recorded h.traced h.printed where
   by : (recorded : List Recorded) → opening ∷ [] ≡ h.opening ∷ map recorded_text recorded → codes "up 0/1\nend\n" ≡ text_of (λ line. line) (flat_map printed_lines recorded) ++ (book_text book h.lives ++ codes "end\n") → ⊥
   by [] is prints = of book h.lives prints where
     of : (book : Bool) (lives : List Life) → codes "up 0/1\nend\n" ≡ book_text book lives ++ codes "end\n" → ⊥
     of false lives e = cc
     of true [] e = cc
-    of true (x ∷ lives) e = cc
+    of true (x ∷ lives) e = let bad : 117 ≡ 108 = ap begins e in omega (arith, bad)
   by (r ∷ rs) is prints = cc
 
 pub none : (book : Bool) (out trace : List ℕ) → PrintsTrace book out trace [] → ⊥

@@ -8,7 +8,6 @@ use Rattle.host_pairs.specs.declared.notice.Notice.TheVariants as notice
 use Rattle.host_services.specs.declared.report.Reported.{Reported}
 use Rattle.net_sim.specs.Book.{new_life}
 use Rattle.promise.specs.declared.life.Amount.{Amount}
-use Rattle.promise.specs.declared.book.Told.{Told}
 use Rattle.promise.specs.declared.life.Life.{Life}
 use Rattle.replay.specs.declared.print.Detail.{Detail}
 use Rattle.world_replay.specs.Output.{Crossed, Noticed, Said, Shown}

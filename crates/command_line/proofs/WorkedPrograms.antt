@@ -1,5 +1,5 @@
 -- Ends that the program does not have.
-use Rattle.std.proofs.Common.{◌≡◌, ◌⊎◌, inl, inr, ℕ, Bool, true, false, List, [], ◌∷◌, ◌++◌, Option, Some, None, Result, Ok, Err, codes, map, refl, sym, ap, ◌∙◌}
+use Rattle.std.proofs.Common.{◌≡◌, inl, inr, ℕ, true, false, List, [], ◌∷◌, ◌++◌, Option, Some, None, Result, Ok, Err, codes, map, refl, sym, ap, ◌∙◌}
 use Rattle.std.proofs.lemmas.Bool.{false≢true}
 use Rattle.std.specs.Io.KnownBytes.{Appends, Keeps}
 use Rattle.book_log.specs.Log.{Book, handed_line, life_line, log_lines, log_text, logged_line, text_of_lines}
@@ -11,7 +11,7 @@ use Rattle.command_line.specs.Events.{Asked, Raw, World}
 use Rattle.leader1822.specs.Boxes.{plain_calls}
 use Rattle.subnet.specs.Working.{subnet_calls}
 use Rattle.command_line.specs.Logs.{LogsOver, raw_book, world_book}
-use Rattle.command_line.specs.Program.{Closes, EndsAudit, EndsLog, EndsReplay, EndsTask, EndsTrace, HandsOn, Sides, audited_as, finished_as}
+use Rattle.command_line.specs.Program.{Closes, EndsReplay, EndsTask, Sides, audited_as, finished_as}
 use Rattle.command_line.specs.Traced.{TracesOver}
 use Rattle.command_line.specs.WorkedSides.{only_check, unread, wrote}
 use Rattle.command_line.specs.declared.auditing.AuditFault.{AuditFault}

@@ -1,5 +1,5 @@
 -- When what a long calm prints is handed on.
-use Rattle.std.specs.Prelude.{◌≡◌, ◌⊎◌, ℕ, ◌<◌, Bool, true, List, [], ◌∷◌}
+use Rattle.std.specs.Prelude.{◌≡◌, ◌⊎◌, ◌<◌, Bool, true, List, [], ◌∷◌}
 use Rattle.interface.specs.Calls.{Calls}
 use Rattle.net_sim.specs.Rest.{IsAtRest}
 use Rattle.net_sim.specs.World.{WorldState}

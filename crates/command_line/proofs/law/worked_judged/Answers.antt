@@ -1,4 +1,4 @@
-use Rattle.std.proofs.Common.{◌<◌, ◌+◌, ◌≡◌, length, ap, sym, subst, arith}
+use Rattle.std.proofs.Common.{◌<◌, ◌+◌, ◌≡◌, length, arith}
 use Rattle.std.proofs.lemmas.List.{length-map}
 use Rattle.book_log.specs.Log.{lives_of}
 use Rattle.command_line.proofs.law.worked_judged.Goals as goal
