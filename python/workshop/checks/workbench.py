@@ -26,12 +26,14 @@ from typing import Any
 from dorydate.model.runs import opened
 from dorydate.model.script import read_event
 from dorydate.explain import topology
+from dorydate.explain.inside import Inside
 from dorydate.explain import faults
 from dorydate.model.subnet import Subnet
 from dorydate.model.trace_subnet import every_name, part
 from dorydate.model.trace_world import program_of
 from dorydate.model.names import spell_host
 from dorydate.model.world import World
+from dorydate.sentences import DEEDS, silence
 from workshop.parts import ROOT, any_program
 
 MOST_ROUNDS = 400  # of calm in an example that the model follows
@@ -69,6 +71,29 @@ def programs_of(place: object) -> dict[str, dict[str, Any] | None]:
     """What the programs of hosts hold, where hosts have programs."""
     hosts = place.hosts.items() if isinstance(place, World) else ()
     return {f"program {spell_host(host)}": program_of(program) for host, program in hosts}
+
+
+def told_of_deeds() -> dict[str, dict[str, str]]:
+    """What ./explain says of each deed of a user, by the line of the script, in examples whose sites have no names."""
+    found: dict[str, dict[str, str]] = {}
+    for name in sorted(os.listdir(f"{ROOT}/examples")):
+        if "." in name or os.path.exists(f"{ROOT}/examples/{name}.status"):
+            continue
+        with open(f"{ROOT}/examples/{name}", "rb") as file:
+            head, _, script = file.read().decode().partition("\n%\n")
+        network = topology.read(head.encode())
+        lines = script.split("\n")
+        rounds = sum(int(it.split(" ")[1]) for it in lines if it.startswith("calm "))
+        if network.raw or network.names or rounds > MOST_ROUNDS:
+            continue
+        goes = Inside(network.topology)
+        for number, line in enumerate(lines, 1):
+            if line and not line.startswith("#"):
+                told = goes.happen(read_event(line, False))
+                words = line.split(" ", 2) if line.startswith("type ") else line.split(" ")
+                if words[0] in DEEDS and not any(it.startswith("refused ") for it in told.printed):
+                    found.setdefault(name, {})[str(number)] = f"{silence(words)} {' '.join(told.sentences)}".rstrip()
+    return found
 
 
 def model_states() -> dict[str, object]:
@@ -124,7 +149,7 @@ def fastest(program: str) -> str:
 def check_modules(command: str, program: str) -> None:
     """The tests in Node, with the states of the independent model in a file."""
     with tempfile.NamedTemporaryFile("w", suffix=".json") as states:
-        json.dump({"states": model_states(), "lines": lines_by_chance(4000)}, states)
+        json.dump({"states": model_states(), "lines": lines_by_chance(4000), "deeds": told_of_deeds()}, states)
         states.flush()
         folder = f"{ROOT}/web/workbench/tests"
         tests = [f"{folder}/{it}" for it in sorted(os.listdir(folder)) if it.endswith(".test.js")]
