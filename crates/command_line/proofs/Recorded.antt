@@ -47,6 +47,7 @@ use Rattle.command_line.specs.Events.{Asked, Raw, World}
 use Rattle.command_line.specs.Recorded.{OfElement, OfWorld, PrintsTrace, Recorded, printed_lines, recorded_text, told_from, told_lines, told_over}
 use Rattle.command_line.specs.Replayed.{ReplaysFrom, ReplaysInput, ReplaysOn, ReplaysOver, book_text}
 use Rattle.command_line.specs.Traced.{TracesAll, TracesFrom, TracesInput, TracesOver, WorldTracesFrom, asked_count}
+use Rattle.command_line.specs.WorkedSides.{starts}
 use Rattle.command_line.proofs.Printed.{no_lives}
 use Rattle.command_line.proofs.OneInput.{OneInput, input_once}
 use Rattle.command_line.proofs.Settled.{plain_settled, subnet_settled}
@@ -278,7 +279,7 @@ begins : List ℕ → ℕ
 begins [] = 0
 begins (x ∷ xs) = x
 
-pub swallowed : (book : Bool) (opening trace : List ℕ) → PrintsTrace book (codes "up 0/1\nend\n") trace (opening ∷ []) → ⊥
+pub swallowed : (book : Bool) (opening trace : List ℕ) → PrintsTrace book starts trace (opening ∷ []) → ⊥
 unfolding begins
 swallowed book opening trace h = by h.recorded h.traced h.printed where
   by : (recorded : List Recorded) → opening ∷ [] ≡ h.opening ∷ map recorded_text recorded → codes "up 0/1\nend\n" ≡ text_of (λ line. line) (flat_map printed_lines recorded) ++ (book_text book h.lives ++ codes "end\n") → ⊥

@@ -13,23 +13,17 @@ use Rattle.subnet.specs.Working.{subnet_calls}
 use Rattle.command_line.specs.Logs.{LogsOver, raw_book, world_book}
 use Rattle.command_line.specs.Program.{Closes, EndsReplay, EndsTask, Sides, audited_as, finished_as}
 use Rattle.command_line.specs.Traced.{TracesOver}
-use Rattle.command_line.specs.WorkedSides.{only_check, unread, wrote}
+use Rattle.command_line.specs.WorkedSides.{Never, only_check, out_of_memory, unread, wrote}
 use Rattle.command_line.specs.declared.auditing.AuditFault.{AuditFault}
 use Rattle.command_line.specs.declared.auditing.AuditFault.TheVariants as log
 use Rattle.command_line.specs.declared.fault.ScriptFault.{ScriptFault}
 use Rattle.command_line.specs.declared.fault.ScriptFault.TheVariants as script
-use Rattle.command_line.specs.declared.options.Options.{Options}
 use Rattle.command_line.specs.declared.options.Task.TheVariants as task
-use Rattle.command_line.specs.declared.program.Done.{Done}
 use Rattle.command_line.specs.declared.program.Done.TheVariants as did
-use Rattle.command_line.specs.declared.program.ProgramFault.{ProgramFault}
 use Rattle.command_line.specs.declared.program.ProgramFault.TheVariants as fault
 use Rattle.command_line.specs.declared.verdict.Verdict.{Verdict}
 
 -- ---- which end it was
-
-abbrev out_of_memory : Result Done ProgramFault
-out_of_memory = Err (fault.Script script.OutOfMemory)
 
 finished_memory : (ended : Result (Unit {0}) ScriptFault) → out_of_memory ≡ finished_as ended → ended ≡ Err script.OutOfMemory
 finished_memory (Ok done) is = cc
@@ -47,13 +41,13 @@ kept_nothing : (written : Option (List ℕ)) (x : ℕ) → Keeps (Some []) writt
 kept_nothing None x h k = h
 kept_nothing (Some ys) x h k = cons x [] (k ∙ h)
 
-pub log_memory : (o : Option Options) (x : ℕ) → EndsTask (Some task.Log) o (wrote (x ∷ [])) (Err (fault.Script script.OutOfMemory)) → ⊥
-log_memory o x (ended, is, ends) = cons x [] (ends.nothing (finished_memory ended is))
+pub log_memory : (x : ℕ) → Never task.Log (wrote (x ∷ [])) out_of_memory
+log_memory x o (ended, is, ends) = cons x [] (ends.nothing (finished_memory ended is))
 
-pub audit_memory : (o : Option Options) (x : ℕ) → EndsTask (Some task.Audit) o (wrote (x ∷ [])) (Err (fault.Audit log.OutOfMemory)) → ⊥
-audit_memory o x (ended, is, ends) = cons x [] (ends.nothing (audited_memory ended is))
+pub audit_memory : (x : ℕ) → Never task.Audit (wrote (x ∷ [])) (Err (fault.Audit log.OutOfMemory))
+audit_memory x o (ended, is, ends) = cons x [] (ends.nothing (audited_memory ended is))
 
-pub check_memory : (x : ℕ) → EndsTask None (Some only_check) (wrote (x ∷ [])) (Err (fault.Script script.OutOfMemory)) → ⊥
+pub check_memory : (x : ℕ) → EndsTask None (Some only_check) (wrote (x ∷ [])) out_of_memory → ⊥
 check_memory x (ended, written, inl (is, kept), ends) = kept_nothing written x (ends.nothing refl (finished_memory ended is)) kept
 check_memory x (ended, written, inr (is, other), ends) = let bad : out_of_memory ≡ Err (fault.Script script.CannotWrite) = other in cc
 
@@ -93,7 +87,7 @@ nothing_logged kind.Plain t (World events) h = some_log (world_book h.last.kept)
 nothing_logged kind.Subnet t (Raw events) h = some_log (raw_book (subnet_calls.seen h.last).log) h.written
 nothing_logged kind.Subnet t (World events) h = some_log (world_book h.last.kept) h.written
 
-pub no_log : (o : Option Options) → EndsTask (Some task.Log) o (wrote []) (Ok did.Written) → ⊥
+pub no_log : Never task.Log (wrote []) (Ok did.Written)
 no_log o (Ok done, is, ends) = nothing_logged ends.ran.network.carrier ends.ran.network ends.ran.events ends.ran.logged
 no_log o (Err f, is, ends) = cc
 
@@ -108,16 +102,16 @@ nothing_traced kind.Plain t numbers (World events) written h k = nothing_written
 nothing_traced kind.Subnet t numbers (Raw events) written h k = nothing_written h.traced.shown _ h.traced.is_shown.0 written h.traced.is_shown.1 h.traced.written k
 nothing_traced kind.Subnet t numbers (World events) written h k = nothing_written h.traced.shown _ h.traced.is_shown.0 written h.traced.is_shown.1 h.traced.written k
 
-pub no_trace : (o : Option Options) → EndsTask (Some task.Trace) o (wrote []) (Ok did.Written) → ⊥
+pub no_trace : Never task.Trace (wrote []) (Ok did.Written)
 no_trace o (Ok done, written, inl (is, kept), ends) = nothing_traced ends.ran.network.carrier ends.ran.network ends.ran.lines ends.ran.events written ends.ran.traced kept
 no_trace o (Err f, written, inl (is, kept), ends) = cc
 no_trace o (ended, written, inr (is, other), ends) = cc
 
-pub left : (o : Option Options) (v : Verdict) (x : ℕ) → EndsTask (Some task.Audit) o (unread (x ∷ [])) (Ok (did.Audited v)) → ⊥
-left o v x (Ok said, is, ends) = cons x [] (ends.reads_all (λ e. cc) (λ e. cc))
-left o v x (Err f, is, ends) = cc
+pub left : (v : Verdict) (x : ℕ) → Never task.Audit (unread (x ∷ [])) (Ok (did.Audited v))
+left v x o (Ok said, is, ends) = cons x [] (ends.reads_all (λ e. cc) (λ e. cc))
+left v x o (Err f, is, ends) = cc
 
-pub no_help : (o : Option Options) → EndsTask (Some task.Help) o (wrote []) (Ok did.Written) → ⊥
+pub no_help : Never task.Help (wrote []) (Ok did.Written)
 no_help o h = let bad : [] ≡ Rattle.command_line.specs.declared.about.TheConstants.HELP.now = h.written in cc
 
 pub not_refused : (s : Sides) → EndsTask None None s (Ok did.Written) → ⊥
@@ -126,7 +120,7 @@ not_refused s (inr bad) = cc
 
 -- ---- what is handed on
 
-pub held_back : Closes (Err (fault.Script script.OutOfMemory)) false false false ⊥ → ⊥
+pub held_back : Closes out_of_memory false false false ⊥ → ⊥
 held_back h = elim (h.handed_on refl) [
   | inl flushed ↦ false≢true flushed
   | inr none ↦ none

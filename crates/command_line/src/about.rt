@@ -8,8 +8,8 @@ use crate::carriers::write_last;
 use crate::fault::ScriptFault;
 use replay::Output;
 
-/// The version of the program. What users write and read (options, scripts, topologies, printed lines, logs, traces) is what a
-/// version promises to keep.
+/// The version of the program. What users write and read (options, scripts, topologies, printed lines, logs, traces) is
+/// what a version promises to keep.
 pub const VERSION: &str = "1.1.0";
 
 /// How the program is called, as it says itself.

@@ -1,7 +1,8 @@
 //! What the simulator promises, as laws over its definitions. The functions here do nothing: their clauses
 //! are the laws.
 
-ghost use Rattle.std.specs.Prelude.{◌≡◌, ◌==◌, ◌↔◌, ◌++◌, ◌+◌, ℕ, Bool, true, false, List, [], ◌∷◌, Ok, Err, Option, Some, None, codes, length, reverse};
+ghost use Rattle.std.specs.Prelude.{◌≡◌, ◌==◌, ◌↔◌, ◌++◌, ◌+◌, ℕ, Bool, true, false, List, [], ◌∷◌, reverse};
+ghost use Rattle.std.specs.Prelude.{Ok, Err, Option, Some, None, codes};
 ghost use Rattle.book_judge.specs.Lives.{AreMade};
 ghost use Rattle.book_judge.specs.Runs.{IsSomeRun};
 ghost use Rattle.book_log.specs.Log as log;
@@ -35,10 +36,9 @@ ghost use Rattle.command_line.specs.Recorded.{PrintsTrace};
 ghost use Rattle.command_line.specs.Replayed.{Ran, RanInPart, ReplaysInput, StopsInput, WorldShowsFrom};
 ghost use Rattle.command_line.specs.Traced.{TraceStops, TracesInput};
 ghost use Rattle.command_line.specs.Worked.{here, life_one, there, told_one, took_one};
-ghost use Rattle.command_line.specs.WorkedSides.{only_check, unread, wrote};
+ghost use Rattle.command_line.specs.WorkedSides.{Never, NotSaid, matched_past, only_check, out_of_memory, starts, unread, wrote};
 ghost use Rattle.command_line.specs.declared.auditing.AuditFault.TheVariants as unlogged;
 ghost use Rattle.command_line.specs.declared.fault.ScriptFault.TheVariants as script;
-ghost use Rattle.command_line.specs.declared.options.Options.{Options};
 ghost use Rattle.command_line.specs.declared.options.Task.TheVariants as task;
 ghost use Rattle.command_line.specs.declared.program.Done.TheVariants as did;
 ghost use Rattle.command_line.specs.declared.program.ProgramFault.TheVariants as fault;
@@ -83,7 +83,7 @@ pub fn one_replay()
 /// Outputs that a trace does not have.
 pub fn worked_traces()
     // the line of a crossing, where the trace has its first line only
-    ensures swallowed { (book : Bool) (opening trace : List ℕ) → PrintsTrace book (codes "up 0/1\nend\n") trace (opening ∷ []) → ⊥ }
+    ensures swallowed { (book : Bool) (opening trace : List ℕ) → PrintsTrace book starts trace (opening ∷ []) → ⊥ }
 
     // a trace without its first line
     ensures none { (book : Bool) (out trace : List ℕ) → PrintsTrace book out trace [] → ⊥ }
@@ -174,34 +174,35 @@ pub fn named_parts()
 /// Ends that the program does not have.
 pub fn worked_programs()
     // memory ran out, and something is written of a log, of an audit, or of an input that is only read
-    ensures log_memory { (o : Option Options) (x : ℕ) → EndsTask (Some task.Log) o (wrote (x ∷ [])) (Err (fault.Script script.OutOfMemory)) → ⊥ }
-    ensures audit_memory { (o : Option Options) (x : ℕ) → EndsTask (Some task.Audit) o (wrote (x ∷ [])) (Err (fault.Audit unlogged.OutOfMemory)) → ⊥ }
-    ensures check_memory { (x : ℕ) → EndsTask None (Some only_check) (wrote (x ∷ [])) (Err (fault.Script script.OutOfMemory)) → ⊥ }
+    ensures log_memory { (x : ℕ) → Never task.Log (wrote (x ∷ [])) out_of_memory }
+    ensures audit_memory { (x : ℕ) → Never task.Audit (wrote (x ∷ [])) (Err (fault.Audit unlogged.OutOfMemory)) }
+    ensures check_memory { (x : ℕ) → EndsTask None (Some only_check) (wrote (x ∷ [])) out_of_memory → ⊥ }
 
     // an input that is only read, of which something else is written
     ensures not_ok { EndsTask None (Some only_check) (wrote (codes "end\n")) (Ok did.Written) → ⊥ }
 
     // a log and a trace that are not written, and an audit that leaves octets
-    ensures no_log { (o : Option Options) → EndsTask (Some task.Log) o (wrote []) (Ok did.Written) → ⊥ }
-    ensures no_trace { (o : Option Options) → EndsTask (Some task.Trace) o (wrote []) (Ok did.Written) → ⊥ }
-    ensures left { (o : Option Options) (v : Verdict) (x : ℕ) → EndsTask (Some task.Audit) o (unread (x ∷ [])) (Ok (did.Audited v)) → ⊥ }
+    ensures no_log { Never task.Log (wrote []) (Ok did.Written) }
+    ensures no_trace { Never task.Trace (wrote []) (Ok did.Written) }
+    ensures left { (v : Verdict) (x : ℕ) → Never task.Audit (unread (x ∷ [])) (Ok (did.Audited v)) }
 
     // help that is not written, and words that ask for nothing taken for a replay
-    ensures no_help { (o : Option Options) → EndsTask (Some task.Help) o (wrote []) (Ok did.Written) → ⊥ }
+    ensures no_help { Never task.Help (wrote []) (Ok did.Written) }
     ensures not_refused { (s : Sides) → EndsTask None None s (Ok did.Written) → ⊥ }
 
     // what was written is held back when memory runs out, and something is written before a bad line is found
-    ensures held_back { Closes (Err (fault.Script script.OutOfMemory)) false false false ⊥ → ⊥ }
+    ensures held_back { Closes out_of_memory false false false ⊥ → ⊥ }
     ensures left_written { (line : ℕ) → Closes (Err (fault.Script (script.BadLine line))) false false true ⊥ → ⊥ }
 {}
 
-/// Places at which a part of a log isn't broken: partners are broken at two lives, the second one after the first, and streams, grants and closes at a life.
+/// Places at which a part of a log isn't broken: partners are broken at two lives, the second one after the first, and
+/// streams, grants and closes at a life.
 pub fn worked_judged()
-    ensures one { (n : ℕ) (b : log.Book) → SaysOf (record kept { partners = Some (finding.Life n) }) b → ⊥ }
-    ensures exchanged { (n : ℕ) (b : log.Book) → SaysOf (record kept { partners = Some (finding.Lives (n + 1) n) }) b → ⊥ }
-    ensures crossing { (n : ℕ) (b : log.Book) → SaysOf (record kept { streams = Some (finding.Crossing n) }) b → ⊥ }
-    ensures list { (n : ℕ) (b : log.Book) → SaysOf (record kept { grants = Some (finding.List n) }) b → ⊥ }
-    ensures match_past { (b : log.Book) → SaysOf (record kept { closes = Some (finding.Lives 0 (length b.lives)) }) b → ⊥ }
+    ensures one { (n : ℕ) → NotSaid (record kept { partners = Some (finding.Life n) }) }
+    ensures exchanged { (n : ℕ) → NotSaid (record kept { partners = Some (finding.Lives (n + 1) n) }) }
+    ensures crossing { (n : ℕ) → NotSaid (record kept { streams = Some (finding.Crossing n) }) }
+    ensures list { (n : ℕ) → NotSaid (record kept { grants = Some (finding.List n) }) }
+    ensures match_past { (b : log.Book) → SaysOf (matched_past b) b → ⊥ }
 {}
 
 /// Of a log that is kept nothing else is said.

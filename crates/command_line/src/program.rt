@@ -2,7 +2,8 @@
 
 ghost use Rattle.std.specs.Prelude.{◌≡◌, ◌≢◌, ◌⊎◌, None, Err, false, true, map, string_bytes};
 ghost use Rattle.command_line.specs.Options.{options_in, task_of};
-ghost use Rattle.command_line.specs.Program.{Closes, EndsProgram, EndsTask, Handed, HandsOn, Sides, audited_as, exit_status, finished_as, is_answered, sides};
+ghost use Rattle.command_line.specs.Program.{Closes, EndsProgram, EndsTask, Handed, HandsOn, Sides};
+ghost use Rattle.command_line.specs.Program.{audited_as, exit_status, finished_as, is_answered, sides};
 
 use crate::about::{write_help, write_version};
 use crate::auditing::{AuditFault, audit_status, run_audit};

@@ -18,8 +18,8 @@ pub struct ReadFailed;
 /// Where an input is read from. It says whether a read has failed, which the contract of the standard library's
 /// readers doesn't, and whether one has come to the end.
 ///
-/// Each read requires that none has failed and that the last one gave something. So nothing more is asked of a reader after
-/// its first failure, nor after its end: at a terminal one end of input is enough.
+/// Each read requires that none has failed and that the last one gave something. So nothing more is asked of a reader
+/// after its first failure, nor after its end: at a terminal one end of input is enough.
 pub trait Source {
     /// The octets that are left, where they are known.
     ghost remaining: { Self → Option (List ℕ) };

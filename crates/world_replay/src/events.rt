@@ -57,7 +57,8 @@ pub fn replay_events<C: Carrier, W: Output>(
     // `CannotWrite` is answered where a write failed, and nowhere else
     ensures failed { TellsCannotWrite result (W.failed writer.new) }
 
-    // where they end with a long calm that doesn't rest, all that it printed is handed on: so each of its rounds after the 64th is seen when it has passed
+    // where they end with a long calm that doesn't rest, all that it printed is handed on: so each of its rounds after
+    // the 64th is seen when it has passed
     ensures seen { OnOk result (EndsSeen (shown C.calls) events.items world.new (W.flushed writer.new)) }
 
     // a write failed: the event had already happened, or the rounds of a calm up to that one

@@ -2,16 +2,16 @@ use Rattle.std.proofs.Common.{◌≡◌, inl, inr, arith}
 use Rattle.book_judge.proofs.worked_places.worked_counts.Goals as goal
 
 pub returns-clause-later_life : goal.returns-clause-later_life
-returns-clause-later_life c = λ log x h. elim h [
+returns-clause-later_life c = λ x log h. elim h [
   | inl few ↦ (let same : 1 ≡ 0 = few.1 in omega (arith, same))
   | inr as_many ↦ (let same : 1 ≡ 0 = as_many.0 in omega (arith, same))
 ]
 
 pub returns-clause-earlier_life : goal.returns-clause-earlier_life
-returns-clause-earlier_life c = λ log x y bits h. elim h [
+returns-clause-earlier_life c = λ x y bits log h. elim h [
   | inl few ↦ (let same : 0 ≡ 1 = few.1 in omega (arith, same))
   | inr as_many ↦ (let same : 2 ≡ 1 = as_many.0 in omega (arith, same))
 ]
 
 pub returns-clause-later_list : goal.returns-clause-later_list
-returns-clause-later_list c = λ log bits h. (let same : 1 ≡ 0 = h.1 in omega (arith, same))
+returns-clause-later_list c = λ bits log h. (let same : 1 ≡ 0 = h.1 in omega (arith, same))
