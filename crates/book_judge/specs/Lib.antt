@@ -2,3 +2,4 @@ pub mod Runs
 pub mod Lives
 pub mod Broken
 pub mod Inside
+pub mod WorkedPlaces

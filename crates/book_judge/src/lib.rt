@@ -30,6 +30,7 @@ mod sought;
 mod stamps;
 mod streams;
 mod texts;
+pub mod worked_places;
 
 pub use broken::{Broken, broken_at};
 pub use lives::unmade_at;

@@ -1,5 +1,5 @@
 -- What is written where memory runs out before anything is replayed.
-use Rattle.std.proofs.Common.{◌≡◌, ◌⊎◌, inl, inr, ℕ, List, Option, Some, None, Result, Ok, Err, IfSome, MatchResult, refl, sym, subst}
+use Rattle.std.proofs.Common.{◌≡◌, ◌⊎◌, inl, inr, ℕ, List, Option, Some, None, Result, Err, IfSome, MatchResult, refl, sym, subst}
 use Rattle.std.specs.Io.KnownBytes.{Keeps}
 use Rattle.command_line.specs.Input.{IsInputFault, IsSomeInput}
 use Rattle.command_line.specs.Options.{detail_of}
@@ -36,6 +36,7 @@ no_memory (Some options) s unread same = (
     reads = subst (λ (left : Option (List ℕ)). ReadsFirst s.input left) (sym unread) (reads_none s.input);
     reads_all = λ read kept. absurd (kept refl);
     ran_in_part = λ e. inl same;
+    nothing = λ on e. same;
     first_part = λ e. if_known s.input (λ octets. Keeps s.before s.after ⊎ StopsInput (detail_of options.texts) octets s.before s.after) (λ octets. inl same);
   },
 )

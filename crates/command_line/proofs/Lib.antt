@@ -20,4 +20,5 @@ mod Sites
 mod Traced
 mod Words
 mod WorkedLines
+mod WorkedPrograms
 mod Written

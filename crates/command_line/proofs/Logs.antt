@@ -24,7 +24,6 @@ use Rattle.command_line.specs.Events.{Asked}
 use Rattle.command_line.specs.Input.{IsInput}
 use Rattle.command_line.specs.Logs.{Logged, LogsInput, LogsOn, LogsRaw, LogsWorld}
 use Rattle.command_line.specs.declared.fault.ScriptFault.{ScriptFault}
-use Rattle.command_line.specs.declared.fault.ScriptFault.TheVariants as fault
 
 pub logs_raw : {C : Type 0} (calls : Calls C) (opening last : C) (events : List RawEvent) (detail : Detail) (log : List Crossing) (x y before after : Option (List ℕ)) → Writes detail (Replays calls opening events last) x y
     → SafeMessages (calls.seen last).log → IsRun (calls.seen last).hosts (calls.seen last).log → log ≡ reverse (calls.seen last).log → Appends before after (log_text (logged_book log [] [] [])) → (AreFated [] [] → IsBook (logged_book log [] [] [])) → LogsRaw calls opening events before after

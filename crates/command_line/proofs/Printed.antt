@@ -1,5 +1,5 @@
 -- What a replay prints is a formed and safe book.
-use Rattle.std.proofs.Common.{arith, ◌≡◌, ◌+◌, inl, inr, ℕ, Bool, true, false, List, [], ◌∷◌, ◌++◌, Option, length, reverse, codes, refl, ap, sym, subst, ◌∙◌}
+use Rattle.std.proofs.Common.{arith, ◌≡◌, ◌+◌, ℕ, Bool, true, false, List, [], ◌∷◌, ◌++◌, Option, length, reverse, codes, refl, ap, sym, subst, ◌∙◌}
 use Rattle.std.proofs.lemmas.List.{length-append}
 use Rattle.std.specs.Io.KnownBytes.{Appends}
 use Rattle.std.specs.List.{Contains}
@@ -34,7 +34,7 @@ use Rattle.world_replay.specs.Output as lines
 use Rattle.world_script.specs.declared.event.WorldEvent.{WorldEvent}
 use Rattle.subnet.specs.Working.{subnet_calls}
 use Rattle.command_line.specs.Carriers.{plain_of, subnet_of}
-use Rattle.command_line.specs.Events.{Asked, Raw, World}
+use Rattle.command_line.specs.Events.{Asked, Raw, World, is_raw}
 use Rattle.command_line.specs.Lived.{AreLived, lives_in}
 use Rattle.command_line.specs.Printed.{AreOneBook, PrintsBook, PrintsPart, log_of, shown_book}
 use Rattle.command_line.specs.Replayed.{EndsFrom, EndsOver, Ran, RanInPart, ReplaysFrom, ReplaysOver, ShowsBook, WorldShowsFrom, book_text}
@@ -113,12 +113,12 @@ raw_joined shown = λ server user s u a b c d h. absurd (none_reported h.served.
 raw_lived : (shown : List Shown) → AreLived (log_of (as_world shown)) (lines.notices_of (as_world shown)) []
 raw_lived shown = sym (ap (lives_in (log_of (as_world shown))) (no_notices shown) ∙ none_lived (log_of (as_world shown)))
 
-raw_book : (hosts : List Host) (shown : List Shown) → SafeMessages (reverse (crossings_of shown)) → IsRun hosts (reverse (crossings_of shown)) → AreOneBook (as_world shown) []
+raw_book : (hosts : List Host) (shown : List Shown) → SafeMessages (reverse (crossings_of shown)) → IsRun hosts (reverse (crossings_of shown)) → AreOneBook true (as_world shown) []
 raw_book hosts shown messages run = record {
   handed = [];
   hosts = hosts;
   formed = λ x there. absurd (none_there x there);
-  told = inl (record { no_notices = no_notices shown; no_reports = no_reports shown; no_lives = refl });
+  told = record { no_notices = no_notices shown; no_reports = no_reports shown; no_lives = refl };
   safe = safe_alone (log_of (as_world shown)) (subst (λ cs. SafeMessages (reverse cs)) (same_crossings shown) messages);
   joined = raw_joined shown;
   run = subst (λ cs. IsRun hosts (reverse cs)) (same_crossings shown) run;
@@ -147,12 +147,12 @@ joined_as b other crossings reports lives joined = λ server user s u a e c d h.
       user_speaks = is_end other b (sym lives) user (u + 3) server s d h.user_speaks;
     }))
 
-world_book : {C : Type 0} (seen : C → Seen) (last : WorldState C) (shows : List lines.Shown) → ShowsBook last.kept.book shows → KeepsPromise seen last → AreOneBook shows last.kept.book.lives
+world_book : {C : Type 0} (seen : C → Seen) (last : WorldState C) (shows : List lines.Shown) → ShowsBook last.kept.book shows → KeepsPromise seen last → AreOneBook false shows last.kept.book.lives
 world_book seen last shows booked promise = record {
   handed = last.kept.handed;
   hosts = (seen last.carrier).hosts;
   formed = subst (λ log. FormedBook log last.kept.book.lives) booked.crossed promise.formed;
-  told = inr (subst (λ (told : List Told). FormedNotices (log_of shows) told) booked.told (subst (λ (log : List Crossing). FormedNotices log last.kept.book.notices) booked.crossed promise.told));
+  told = subst (λ (told : List Told). FormedNotices (log_of shows) told) booked.told (subst (λ (log : List Crossing). FormedNotices log last.kept.book.notices) booked.crossed promise.told);
   safe = subst (λ log. SafeBook log last.kept.book.lives last.kept.handed) booked.crossed promise.safe;
   joined = joined_as last.kept.book (shown_book shows last.kept.book.lives) booked.crossed booked.said refl promise.joined;
   run = subst (IsRun (seen last.carrier).hosts) booked.crossed (world_run seen last promise.lawful);
@@ -162,7 +162,7 @@ world_book seen last shows booked promise = record {
 
 -- ---- any network
 
-printed_from : {C : Type 0} (calls : Calls C) (opening : C) (book : Bool) (detail : Detail) (events : Asked) (a b : Option (List ℕ)) → ReplaysFrom calls opening book detail events a b → PrintsBook book detail a b
+printed_from : {C : Type 0} (calls : Calls C) (opening : C) (book : Bool) (detail : Detail) (events : Asked) (a b : Option (List ℕ)) → ReplaysFrom calls opening book detail events a b → PrintsBook (is_raw events) book detail a b
 printed_from calls opening book detail (Raw events) a b r = record {
   shown = as_world r.shown;
   lives = [];
@@ -173,18 +173,18 @@ printed_from calls opening book detail (Raw events) a b r = record {
 printed_from calls opening book detail (World events) a b r = record {
   shown = r.shown;
   lives = r.lives;
-  one = subst (AreOneBook r.shown) (sym r.shows.left) (world_book calls.seen r.shows.last r.shown r.shows.booked r.shows.promise);
+  one = subst (AreOneBook false r.shown) (sym r.shows.left) (world_book calls.seen r.shows.last r.shown r.shows.booked r.shows.promise);
   written = r.written;
 }
 
-printed_over : (carrier : CarrierKind) (network : TopologyFields) (book : Bool) (detail : Detail) (events : Asked) (a b : Option (List ℕ)) → ReplaysOver carrier network book detail events a b → PrintsBook book detail a b
+printed_over : (carrier : CarrierKind) (network : TopologyFields) (book : Bool) (detail : Detail) (events : Asked) (a b : Option (List ℕ)) → ReplaysOver carrier network book detail events a b → PrintsBook (is_raw events) book detail a b
 printed_over kind.Plain network book detail events a b r = printed_from plain_calls (plain_of network) book detail events a b r
 printed_over kind.Subnet network book detail events a b r = printed_from subnet_calls (subnet_of network) book detail events a b r
 
-pub printed : (book : Bool) (detail : Detail) (a b : Option (List ℕ)) → Ran book detail a b → PrintsBook book detail a b
+pub printed : (book : Bool) (detail : Detail) (a b : Option (List ℕ)) (h : Ran book detail a b) → PrintsBook (is_raw h.events) book detail a b
 printed book detail a b h = printed_over h.network.carrier h.network book detail h.events a b h.replayed
 
-part_from : {C : Type 0} (calls : Calls C) (opening : C) (detail : Detail) (events : Asked) (a b : Option (List ℕ)) → EndsFrom calls opening detail events a b → PrintsPart detail a b
+part_from : {C : Type 0} (calls : Calls C) (opening : C) (detail : Detail) (events : Asked) (a b : Option (List ℕ)) → EndsFrom calls opening detail events a b → PrintsPart (is_raw events) detail a b
 part_from calls opening detail (Raw events) a b r = record {
   shown = as_world r.shown;
   lives = [];
@@ -198,11 +198,11 @@ part_from calls opening detail (World events) a b r = record {
   written = r.written;
 }
 
-part_over : (carrier : CarrierKind) (network : TopologyFields) (detail : Detail) (events : Asked) (a b : Option (List ℕ)) → EndsOver carrier network detail events a b → PrintsPart detail a b
+part_over : (carrier : CarrierKind) (network : TopologyFields) (detail : Detail) (events : Asked) (a b : Option (List ℕ)) → EndsOver carrier network detail events a b → PrintsPart (is_raw events) detail a b
 part_over kind.Plain network detail events a b r = part_from plain_calls (plain_of network) detail events a b r
 part_over kind.Subnet network detail events a b r = part_from subnet_calls (subnet_of network) detail events a b r
 
-pub printed_in_part : (detail : Detail) (a b : Option (List ℕ)) → RanInPart detail a b → PrintsPart detail a b
+pub printed_in_part : (detail : Detail) (a b : Option (List ℕ)) (h : RanInPart detail a b) → PrintsPart (is_raw h.events) detail a b
 printed_in_part detail a b h = part_over h.network.carrier h.network detail h.events a b h.stopped
 
 -- ---- lives that are shown of no world
@@ -220,11 +220,5 @@ without_the_last opening events lives last shows more h k =
 
 -- ---- what it means that lines and lives are one book
 
-pub joined_in : (shown : List lines.Shown) (lives : List Life) (b : Book) → AreOneBook shown lives → b.crossings ≡ reverse (lines.crossings_of shown) → b.reports ≡ lines.reports_of shown → b.lives ≡ lives → JoinedBook b
-joined_in shown lives b h crossings reports alive = joined_as (shown_book shown lives) b (sym crossings) (sym reports) (sym alive) h.joined
-
-pub told_in : (shown : List lines.Shown) (lives : List Life) → AreOneBook shown lives → (lines.notices_of shown ≡ [] → ⊥) → FormedNotices (reverse (lines.crossings_of shown)) (lines.notices_of shown)
-told_in shown lives h some = elim h.told [
-  | inl bare ↦ absurd (some bare.no_notices)
-  | inr told ↦ told
-]
+pub joined_in : (raw : Bool) (shown : List lines.Shown) (lives : List Life) (b : Book) → AreOneBook raw shown lives → b.crossings ≡ reverse (lines.crossings_of shown) → b.reports ≡ lines.reports_of shown → b.lives ≡ lives → JoinedBook b
+joined_in raw shown lives b h crossings reports alive = joined_as (shown_book shown lives) b (sym crossings) (sym reports) (sym alive) h.joined

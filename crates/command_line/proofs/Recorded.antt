@@ -1,5 +1,5 @@
 -- What a replay prints is what its trace has as printed.
-use Rattle.std.proofs.Common.{◌≡◌, inl, inr, ℕ, suc, zero, ◌+◌, Bool, List, [], ◌∷◌, ◌++◌, Some, codes, length, map, zip, arith, refl, sym, ap, ap₂, subst, ◌∙◌}
+use Rattle.std.proofs.Common.{◌≡◌, inl, inr, ℕ, suc, zero, ◌+◌, Bool, true, false, List, [], ◌∷◌, ◌++◌, Some, codes, length, map, zip, arith, refl, sym, ap, ap₂, subst, ◌∙◌}
 use Rattle.std.proofs.lemmas.Grind.{flat_map-append}
 use Rattle.std.proofs.lemmas.List.{append-nil, length-append, map-append}
 use Rattle.std.proofs.lemmas.List.Folds.{flat_map-map}
@@ -9,6 +9,7 @@ use Rattle.interface.specs.declared.crossing.Crossing.{Crossing}
 use Rattle.leader1822.specs.Boxes.{plain_calls}
 use Rattle.net_sim.specs.Carriers.{shown}
 use Rattle.net_sim.specs.World.{WorldState, opening_world}
+use Rattle.promise.specs.declared.life.Life.{Life}
 use Rattle.replay.proofs.lemmas.{OneReplay, in_turn_once, replays_once}
 use Rattle.replay.specs.InTurn.{InTurn, text_of}
 use Rattle.replay.specs.Output as raw
@@ -43,9 +44,10 @@ use Rattle.world_trace.specs.Texts.{opening_text, world_line}
 use Rattle.world_trace.specs.Traces.{TellsIn, TellsInCalm, TellsOne, TellsRound, change_of, first_rounds, state_of}
 use Rattle.command_line.specs.Carriers.{ends_of, plain_of, subnet_of}
 use Rattle.command_line.specs.Events.{Asked, Raw, World}
-use Rattle.command_line.specs.Recorded.{OfElement, OfWorld, PrintsTrace, Recorded, printed_lines, recorded_text}
+use Rattle.command_line.specs.Recorded.{OfElement, OfWorld, PrintsTrace, Recorded, printed_lines, recorded_text, told_from, told_lines, told_over}
 use Rattle.command_line.specs.Replayed.{ReplaysFrom, ReplaysInput, ReplaysOn, ReplaysOver, book_text}
 use Rattle.command_line.specs.Traced.{TracesAll, TracesFrom, TracesInput, TracesOver, WorldTracesFrom, asked_count}
+use Rattle.command_line.specs.WorkedSides.{starts}
 use Rattle.command_line.proofs.Printed.{no_lives}
 use Rattle.command_line.proofs.OneInput.{OneInput, input_once}
 use Rattle.command_line.proofs.Settled.{plain_settled, subnet_settled}
@@ -212,7 +214,7 @@ abbrev in_lines : List (List ℕ) → List ℕ
 in_lines lines = text_of (λ line. line) lines
 
 raw_from : {C : Type 0} (calls : Calls C) (inside : Inside C) (Holds : C → Type 0) → AreSettled calls → IsElementary calls inside Holds → (t : TopologyFields) (opening : C) (lines : List ℕ) (events : List RawEvent) (book : Bool) (out trace : List ℕ)
-    → Holds opening → length lines ≡ length events → ReplaysFrom calls opening book Sizes (Raw events) (Some []) (Some out) → TracesFrom calls inside t opening (zip lines events) (Some []) (Some trace) → PrintsTrace book out trace
+    → Holds opening → length lines ≡ length events → ReplaysFrom calls opening book Sizes (Raw events) (Some []) (Some out) → (k : TracesFrom calls inside t opening (zip lines events) (Some []) (Some trace)) → PrintsTrace book out trace k.traced.shown
 unfolding raw_texts
 raw_from {C} calls inside Holds settled each t opening lines events book out trace holds fit h k =
     let (others, is, tells) = k.traced.is_shown in
@@ -222,14 +224,15 @@ raw_from {C} calls inside Holds settled each t opening lines events book out tra
       opening = opening_line t (object (inside.members opening));
       recorded = recorded;
       lives = [];
-      traced = k.traced.written ∙ ap in_lines (is ∙ ap (λ (ls : List (List ℕ)). opening_line t (object (inside.members opening)) ∷ ls) are);
+      written = k.traced.written;
+      traced = is ∙ ap (λ (ls : List (List ℕ)). opening_line t (object (inside.members opening)) ∷ ls) are;
       printed =
           h.written
           ∙ ap₂ (λ (xs ys : List ℕ). xs ++ (ys ++ codes "end\n")) (sym (flat_map-map ended_line (raw.shown_text Sizes) h.shown) ∙ ap in_lines prints) (sym (no_lives book));
     }
 
 world_from : {C : Type 0} (calls : Calls C) (members : C → List (List ℕ)) → AreSettled calls → (t : TopologyFields) (opening : C) (lines : List ℕ) (events : List WorldEvent) (book : Bool) (out trace : List ℕ)
-    → length lines ≡ length events → ReplaysFrom calls opening book Sizes (World events) (Some []) (Some out) → WorldTracesFrom (shown calls) members t opening (zip lines events) (Some []) (Some trace) → PrintsTrace book out trace
+    → length lines ≡ length events → ReplaysFrom calls opening book Sizes (World events) (Some []) (Some out) → (k : WorldTracesFrom (shown calls) members t opening (zip lines events) (Some []) (Some trace)) → PrintsTrace book out trace k.traced.shown
 unfolding texts
 world_from {C} calls members settled t opening lines events book out trace fit h k =
     let begins : WorldState C = opening_world (shown calls) opening in
@@ -240,12 +243,13 @@ world_from {C} calls members settled t opening lines events book out trace fit h
       opening = opening_text t (state_of members begins);
       recorded = recorded;
       lives = h.lives;
-      traced = k.traced.written ∙ ap in_lines (is ∙ ap (λ (ls : List (List ℕ)). opening_text t (state_of members begins) ∷ ls) are);
+      written = k.traced.written;
+      traced = is ∙ ap (λ (ls : List (List ℕ)). opening_text t (state_of members begins) ∷ ls) are;
       printed = h.written ∙ ap (λ (xs : List ℕ). xs ++ (book_text book h.lives ++ codes "end\n")) (sym (flat_map-map ended_line (shown_text Sizes) h.shown) ∙ ap in_lines prints);
     }
 
 all_from : {C : Type 0} (calls : Calls C) (inside : Inside C) (Holds : C → Type 0) → AreSettled calls → IsElementary calls inside Holds → (t : TopologyFields) (opening : C) (lines : List ℕ) (events : Asked) (book : Bool) (out trace : List ℕ)
-    → Holds opening → length lines ≡ asked_count events → ReplaysFrom calls opening book Sizes events (Some []) (Some out) → TracesAll calls inside t opening lines events (Some []) (Some trace) → PrintsTrace book out trace
+    → Holds opening → length lines ≡ asked_count events → ReplaysFrom calls opening book Sizes events (Some []) (Some out) → (k : TracesAll calls inside t opening lines events (Some []) (Some trace)) → PrintsTrace book out trace (told_from calls inside t opening lines events (Some []) (Some trace) k)
 all_from calls inside Holds settled each t opening lines (Raw events) book out trace holds fit h k = raw_from calls inside Holds settled each t opening lines events book out trace holds fit h k
 all_from calls inside Holds settled each t opening lines (World events) book out trace holds fit h k = world_from calls inside.members settled t opening lines events book out trace fit h k
 
@@ -256,15 +260,35 @@ subnet_elementary : IsElementary subnet_calls subnet_inside (λ (k : Kept). IsPl
 subnet_elementary = record { course = subnet.elementary; kept = subnet.placed_after }
 
 over_from : (carrier : CarrierKind) (t : TopologyFields) (lines : List ℕ) (events : Asked) (book : Bool) (out trace : List ℕ) → length lines ≡ asked_count events
-    → ReplaysOver carrier t book Sizes events (Some []) (Some out) → TracesOver carrier t lines events (Some []) (Some trace) → PrintsTrace book out trace
+    → ReplaysOver carrier t book Sizes events (Some []) (Some out) → (k : TracesOver carrier t lines events (Some []) (Some trace)) → PrintsTrace book out trace (told_over carrier t lines events (Some []) (Some trace) k)
 over_from kind.Plain t lines events book out trace fit h k = all_from plain_calls plain_inside (λ b. Unit {0}) plain_settled plain_elementary t (plain_of t) lines events book out trace tt fit h k
 over_from kind.Subnet t lines events book out trace fit h k =
     all_from subnet_calls subnet_inside (λ (k : Kept). IsPlaced k.net) subnet_settled subnet_elementary t (subnet_of t) lines events book out trace (subnet.opening (hosts_of t) (sites_of t) (ends_of t.lines)) fit h k
 
-pub prints_trace : (book : Bool) (input out trace : List ℕ) → ReplaysInput book Sizes input (Some []) (Some out) → TracesInput input (Some []) (Some trace) → PrintsTrace book out trace
+pub prints_trace : (book : Bool) (input out trace : List ℕ) → ReplaysInput book Sizes input (Some []) (Some out) → (k : TracesInput input (Some []) (Some trace)) → PrintsTrace book out trace (told_lines input (Some []) (Some trace) k)
 prints_trace book input out trace h k =
     let same : OneInput h.network k.network h.events k.events = input_once input h.network k.network h.events k.events h.input k.input.input in
     let moved : ReplaysOn k.network book Sizes k.events (Some []) (Some out) =
     subst (λ (network : TopologyFields). ReplaysOn network book Sizes k.events (Some []) (Some out)) same.same_network
     (subst (λ (events : Asked). ReplaysOn h.network book Sizes events (Some []) (Some out)) same.same_events h.replayed) in
     over_from k.network.carrier k.network k.lines k.events book out trace k.input.fits moved k.traced
+
+-- ---- outputs that a trace does not have
+
+begins : List ℕ → ℕ
+begins [] = 0
+begins (x ∷ xs) = x
+
+pub swallowed : (book : Bool) (opening trace : List ℕ) → PrintsTrace book starts trace (opening ∷ []) → ⊥
+unfolding begins
+swallowed book opening trace h = by h.recorded h.traced h.printed where
+  by : (recorded : List Recorded) → opening ∷ [] ≡ h.opening ∷ map recorded_text recorded → codes "up 0/1\nend\n" ≡ text_of (λ line. line) (flat_map printed_lines recorded) ++ (book_text book h.lives ++ codes "end\n") → ⊥
+  by [] is prints = of book h.lives prints where
+    of : (book : Bool) (lives : List Life) → codes "up 0/1\nend\n" ≡ book_text book lives ++ codes "end\n" → ⊥
+    of false lives e = cc
+    of true [] e = cc
+    of true (x ∷ lives) e = let bad : 117 ≡ 108 = ap begins e in omega (arith, bad)
+  by (r ∷ rs) is prints = cc
+
+pub none : (book : Bool) (out trace : List ℕ) → PrintsTrace book out trace [] → ⊥
+none book out trace h = let first : [] ≡ h.opening ∷ map recorded_text h.recorded = h.traced in cc

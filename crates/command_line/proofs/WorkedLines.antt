@@ -1,5 +1,5 @@
 -- Lines that no book has.
-use Rattle.std.proofs.Common.{◌≡◌, ◌==◌, ◌∙◌, ℕ, Bool, true, false, List, [], ◌∷◌, Option, inl, inr, ap, map, not, refl, subst, sym}
+use Rattle.std.proofs.Common.{◌≡◌, ◌==◌, ◌∙◌, ℕ, Bool, true, false, List, [], ◌∷◌, Option, ap, map, not, refl, subst, sym}
 use Rattle.std.proofs.lemmas.Bool.{false≢true}
 use Rattle.interface.specs.Host.{Host}
 use Rattle.interface.specs.declared.crossing.Crossing.TheVariants as crossing
@@ -8,7 +8,6 @@ use Rattle.host_pairs.specs.declared.notice.Notice.TheVariants as notice
 use Rattle.host_services.specs.declared.report.Reported.{Reported}
 use Rattle.net_sim.specs.Book.{new_life}
 use Rattle.promise.specs.declared.life.Amount.{Amount}
-use Rattle.promise.specs.declared.book.Told.{Told}
 use Rattle.promise.specs.declared.life.Life.{Life}
 use Rattle.replay.specs.declared.print.Detail.{Detail}
 use Rattle.world_replay.specs.Output.{Crossed, Noticed, Said, Shown}
@@ -16,35 +15,34 @@ use Rattle.command_line.specs.Lived.{AreLived, ungranted}
 use Rattle.command_line.specs.Printed.{AreOneBook, PrintsBook, PrintsPart}
 use Rattle.command_line.specs.Worked.{here, life_one, there, told_one, took_one}
 
-pub never_out : (m : HostMessage) (lives : List Life) → AreOneBook (Crossed (crossing.In m) ∷ []) lives → ⊥
-never_out m lives h = h.run.0.1
+pub never_out : (raw : Bool) (m : HostMessage) (lives : List Life) → AreOneBook raw (Crossed (crossing.In m) ∷ []) lives → ⊥
+never_out raw m lives h = h.run.0.1
 
-pub nothing_in : (h : Host) (socket : ℕ) (bits : List Bool) (lives : List Life) → AreOneBook (Noticed (record { host = h; place = 0; notice = notice.Arrived socket bits }) ∷ []) lives → ⊥
-nothing_in h socket bits lives book = elim book.told [
-  | inl bare ↦ (let none : record { host = h; place = 0; notice = notice.Arrived socket bits } ∷ [] ≡ [] = bare.no_notices in cc)
-  | inr told ↦ told
-]
+pub nothing_in : (raw : Bool) (h : Host) (socket : ℕ) (bits : List Bool) (lives : List Life) → AreOneBook raw (Noticed (record { host = h; place = 0; notice = notice.Arrived socket bits }) ∷ []) lives → ⊥
+nothing_in true h socket bits lives book = let none : record { host = h; place = 0; notice = notice.Arrived socket bits } ∷ [] ≡ [] = book.told.no_notices in cc
+nothing_in false h socket bits lives book = book.told
 
 some_life : (x : Life) (xs : List Life) → x ∷ xs ≡ [] → ⊥
 some_life x xs e = cc
 
-pub no_life : (h peer : Host) (socket foreign own partner : ℕ) → AreOneBook (Noticed (record { host = h; place = 0; notice = notice.Opened socket peer foreign own partner }) ∷ []) [] → ⊥
-no_life h peer socket foreign own partner book = some_life (new_life h socket peer foreign own partner) [] (sym book.lived)
+pub no_life : (raw : Bool) (h peer : Host) (socket foreign own partner : ℕ) → AreOneBook raw (Noticed (record { host = h; place = 0; notice = notice.Opened socket peer foreign own partner }) ∷ []) [] → ⊥
+no_life raw h peer socket foreign own partner book = some_life (new_life h socket peer foreign own partner) [] (sym book.lived)
 
-pub no_notice : (life : Life) (lives : List Life) → AreOneBook [] (life ∷ lives) → ⊥
-no_notice life lives book = some_life (ungranted life) (map ungranted lives) book.lived
+pub no_notice : (raw : Bool) (life : Life) (lives : List Life) → AreOneBook raw [] (life ∷ lives) → ⊥
+no_notice raw life lives book = some_life (ungranted life) (map ungranted lives) book.lived
 
-pub no_services : (m : HostMessage) (r : Reported) → (m.flow.link.0 == 0) ≡ false → AreOneBook (Crossed (crossing.Out m) ∷ Said r ∷ []) [] → ⊥
-no_services m r off book = elim book.told [
-  | inl bare ↦ (let none : r ∷ [] ≡ [] = bare.no_reports in cc)
-  | inr told ↦ false≢true (sym off ∙ told.0)
-]
+pub no_programs : (m : HostMessage) → (m.flow.link.0 == 0) ≡ false → AreOneBook false (Crossed (crossing.Out m) ∷ []) [] → ⊥
+no_programs m off book = false≢true (sym off ∙ book.told.0)
 
-pub not_printed : (book : Bool) (detail : Detail) (before after : Option (List ℕ)) (m : HostMessage) (p : PrintsBook book detail before after) → p.shown ≡ Crossed (crossing.In m) ∷ [] → ⊥
-not_printed book detail before after m p is = never_out m p.lives (subst (λ (shown : List Shown). AreOneBook shown p.lives) is p.one)
+pub no_services : (raw : Bool) (m : HostMessage) (r : Reported) → (m.flow.link.0 == 0) ≡ false → AreOneBook raw (Crossed (crossing.Out m) ∷ Said r ∷ []) [] → ⊥
+no_services true m r off book = let none : r ∷ [] ≡ [] = book.told.no_reports in cc
+no_services false m r off book = false≢true (sym off ∙ book.told.0)
 
-pub not_in_part : (detail : Detail) (before after : Option (List ℕ)) (m : HostMessage) (p : PrintsPart detail before after) → p.shown ≡ Crossed (crossing.In m) ∷ [] → ⊥
-not_in_part detail before after m p is = never_out m p.lives (subst (λ (shown : List Shown). AreOneBook shown p.lives) is p.one)
+pub not_printed : (raw book : Bool) (detail : Detail) (before after : Option (List ℕ)) (m : HostMessage) (p : PrintsBook raw book detail before after) → p.shown ≡ Crossed (crossing.In m) ∷ [] → ⊥
+not_printed raw book detail before after m p is = never_out raw m p.lives (subst (λ (shown : List Shown). AreOneBook raw shown p.lives) is p.one)
+
+pub not_in_part : (raw : Bool) (detail : Detail) (before after : Option (List ℕ)) (m : HostMessage) (p : PrintsPart raw detail before after) → p.shown ≡ Crossed (crossing.In m) ∷ [] → ⊥
+not_in_part raw detail before after m p is = never_out raw m p.lives (subst (λ (shown : List Shown). AreOneBook raw shown p.lives) is p.one)
 
 -- ---- of one life
 

@@ -17,6 +17,11 @@ abbrev pub asked_of : Events → Asked
 asked_of (given.Raw events) = Raw events.items
 asked_of (given.World events) = World events.items
 
+-- whether they are of a network without host programs
+abbrev pub is_raw : Asked → Bool
+is_raw (Raw events) = true
+is_raw (World events) = false
+
 -- a script's lines ask for these events, where its network is raw or has host programs
 abbrev pub AsksFor : Bool → Asked → List (List ℕ) → Type 0
 AsksFor true (Raw events) lines = AskFor events lines

@@ -18,4 +18,5 @@ pub mod Steps
 pub mod Stopping
 pub mod Traced
 pub mod Worked
+pub mod WorkedSides
 pub mod Laws

@@ -1,5 +1,5 @@
 -- The output, for whoever knows neither the input nor the network.
-use Rattle.std.specs.Prelude.{◌≡◌, ◌⊎◌, ℕ, Bool, List, [], ◌++◌, reverse, Option, codes}
+use Rattle.std.specs.Prelude.{◌≡◌, ℕ, Bool, true, false, List, [], ◌++◌, reverse, Option, codes}
 use Rattle.std.specs.Io.KnownBytes.{Appends}
 use Rattle.interface.specs.Host.{Host}
 use Rattle.interface.specs.Mailboxes.{IsRun}
@@ -29,28 +29,34 @@ pub record AreRaw (shown : List Shown) (lives : List Life) : Type 0 where
   pub no_reports : reports_of shown ≡ []
   pub no_lives : lives ≡ []
 
--- these lines, with these lives, are one book. It is formed, of messages that crossed; its notices of data are of such messages, unless there are no host
--- programs; it is safe; its initial connections are joined; what crossed is a run of the mailboxes; and its lives are those that crossings and notices make
-pub record AreOneBook (shown : List Shown) (lives : List Life) : Type 0 where
+-- what users are notified of: nothing where a network is raw, and otherwise what crossed
+abbrev pub AreNoticed : Bool → List Shown → List Life → Type 0
+AreNoticed true shown lives = AreRaw shown lives
+AreNoticed false shown lives = FormedNotices (log_of shown) (notices_of shown)
+
+-- these lines, with these lives, are one book, of a network that is raw or has host programs. It is formed, of messages that crossed; its notices of data
+-- are of such messages, and a raw network has none; it is safe; its initial connections are joined; what crossed is a run of the mailboxes; and its lives
+-- are those that crossings and notices make
+pub record AreOneBook (raw : Bool) (shown : List Shown) (lives : List Life) : Type 0 where
   pub handed : List (List Bool)
   pub hosts : List Host
   pub formed : FormedBook (log_of shown) lives
-  pub told : AreRaw shown lives ⊎ FormedNotices (log_of shown) (notices_of shown)
+  pub told : AreNoticed raw shown lives
   pub safe : SafeBook (log_of shown) lives handed
   pub joined : JoinedBook (shown_book shown lives)
   pub run : IsRun hosts (log_of shown)
   pub lived : AreLived (log_of shown) (notices_of shown) lives
 
 -- lines are written, then the lives of their book where it is asked for, and a last line `end`
-pub record PrintsBook (book : Bool) (detail : Detail) (before after : Option (List ℕ)) : Type 0 where
+pub record PrintsBook (raw book : Bool) (detail : Detail) (before after : Option (List ℕ)) : Type 0 where
   pub shown : List Shown
   pub lives : List Life
-  pub one : AreOneBook shown lives
+  pub one : AreOneBook raw shown lives
   pub written : Appends before after (output detail shown ++ (book_text book lives ++ codes "end\n"))
 
 -- lines are written, and nothing else
-pub record PrintsPart (detail : Detail) (before after : Option (List ℕ)) : Type 0 where
+pub record PrintsPart (raw : Bool) (detail : Detail) (before after : Option (List ℕ)) : Type 0 where
   pub shown : List Shown
   pub lives : List Life
-  pub one : AreOneBook shown lives
+  pub one : AreOneBook raw shown lives
   pub written : Appends before after (output detail shown)

@@ -1,6 +1,6 @@
 -- The whole program: what the words of its command line have it do, and how it ends.
-use Rattle.std.specs.Prelude.{◌≡◌, ◌≢◌, ◌⊎◌, ◌↔◌, ℕ, Bool, true, false, List, Option, Some, None, Result, Ok, Err, IfSome, IfOk, IfErr, MatchResult, OnOk, codes}
-use Rattle.std.specs.Io.KnownBytes.{Appends, Keeps}
+use Rattle.std.specs.Prelude.{◌≡◌, ◌≢◌, ◌⊎◌, ◌↔◌, ℕ, Bool, true, false, List, Option, Some, None, Result, Ok, Err, IfSome, IfOk, IfErr, MatchResult, OnOk, ◌++◌, codes}
+use Rattle.std.specs.Io.KnownBytes.{Appends, IsAtEnd, Keeps}
 use Rattle.command_line.specs.declared.verdict.Verdict.{Verdict}
 use Rattle.command_line.specs.Audits.{Audited, AuditsLog, IsAuditFault, IsSomeLog, audit_text, status_at, status_said}
 use Rattle.command_line.specs.Faults.{script_text, status_of}
@@ -10,6 +10,7 @@ use Rattle.command_line.specs.Options.{detail_of, options_of, task_of}
 use Rattle.command_line.specs.Reading.{ReadsAll, ReadsFirst}
 use Rattle.command_line.specs.Replayed.{Ran, RanInPart, ReplaysInput, StopsInput}
 use Rattle.command_line.specs.Traced.{TraceStops, Traced, TracedInPart, TracesInput}
+use Rattle.command_line.specs.declared.about.TheConstants.{HELP, VERSION}
 use Rattle.command_line.specs.declared.auditing.AuditFault.{AuditFault}
 use Rattle.command_line.specs.declared.auditing.AuditFault.TheVariants as log
 use Rattle.command_line.specs.declared.fault.ScriptFault.{ScriptFault}
@@ -24,7 +25,7 @@ use Rattle.command_line.specs.declared.program.ProgramFault.TheVariants as fault
 
 -- ---- its end
 
--- what the program answers, of a replay, a log or a trace, and of an audit
+-- what the program answers, of a replay, a log, a trace or what it says of itself, and of an audit
 abbrev pub finished_as : Result (Unit {0}) ScriptFault → Result Done ProgramFault
 finished_as (Ok done) = Ok did.Written
 finished_as (Err f) = Err (fault.Script f)
@@ -70,8 +71,10 @@ pub record EndsReplay (options : Options) (s : Sides) (r : Result (Unit {0}) Scr
   pub reads_all : r ≢ Err script.CannotRead → r ≢ Err script.OutOfMemory → ReadsAll s.input s.left
   pub ran_in_part : r ≡ Err script.OutOfMemory → Keeps s.before s.after ⊎ RanInPart (detail_of options.texts) s.before s.after
   pub first_part : r ≡ Err script.OutOfMemory → IfSome s.input (λ octets. Keeps s.before s.after ⊎ StopsInput (detail_of options.texts) octets s.before s.after)
+  -- an input that is only read has no first part
+  pub nothing : options.check ≡ true → r ≡ Err script.OutOfMemory → Keeps s.before s.after
 
--- an input is replayed and its log is written, or the first fault is given
+-- an input is replayed and its log is written, or the first fault is given. Where memory runs out nothing is written
 pub record EndsLog (s : Sides) (r : Result (Unit {0}) ScriptFault) : Type 0 where
   pub ran : OnOk r (Logged s.before s.after)
   pub logged : OnOk r (IfSome s.input (λ octets. LogsInput octets s.before s.after))
@@ -79,6 +82,7 @@ pub record EndsLog (s : Sides) (r : Result (Unit {0}) ScriptFault) : Type 0 wher
   pub options_read : IfErr r (λ f. f ≢ script.BadOptions)
   pub reads : ReadsFirst s.input s.left
   pub reads_all : r ≢ Err script.CannotRead → r ≢ Err script.OutOfMemory → ReadsAll s.input s.left
+  pub nothing : r ≡ Err script.OutOfMemory → Keeps s.before s.after
 
 -- an input is replayed and its trace is written, or the first fault is given, and where memory runs out the first part is written
 pub record EndsTrace (s : Sides) (r : Result (Unit {0}) ScriptFault) : Type 0 where
@@ -91,15 +95,34 @@ pub record EndsTrace (s : Sides) (r : Result (Unit {0}) ScriptFault) : Type 0 wh
   pub ran_in_part : r ≡ Err script.OutOfMemory → Keeps s.before s.after ⊎ TracedInPart s.before s.after
   pub first_part : r ≡ Err script.OutOfMemory → IfSome s.input (λ octets. Keeps s.before s.after ⊎ TraceStops octets s.before s.after)
 
--- a log is audited and what the audit says is written, or the first fault is given
+-- a log is audited and what the audit says is written, or the first fault is given. Unless a read fails or memory runs out, all of it is read; where
+-- memory runs out nothing is written
 pub record EndsAudit (s : Sides) (r : Result Verdict AuditFault) : Type 0 where
   pub audited : IfOk r (λ said. Audited said s.before s.after)
   pub says : IfOk r (λ said. IfSome s.input (λ octets. AuditsLog octets said s.before s.after))
   pub read : s.unread ≡ false → IfSome s.input (λ octets. MatchResult r (λ _. IsSomeLog octets) (IsAuditFault octets))
+  pub reads_all : r ≢ Err log.CannotRead → r ≢ Err log.OutOfMemory → IsAtEnd s.left
+  pub nothing : r ≡ Err log.OutOfMemory → Keeps s.before s.after
+
+-- what the program says of itself is written, before anything is read
+pub record Answers (text : List ℕ) (s : Sides) (r : Result Done ProgramFault) : Type 0 where
+  pub unread : s.left ≡ s.input
+  pub written : OnOk r (Appends s.before s.after text)
+  pub ends : (r ≡ Ok did.Written) ⊎ (r ≡ Err (fault.Script script.CannotWrite))
 
 -- this was written when it ended so, and it is handed on. Where memory ran out and that fails, the failed write is reported
 abbrev pub HandsOn : Result (Unit {0}) ScriptFault → Option (List ℕ) → Option (List ℕ) → Result Done ProgramFault → Type 0
 HandsOn ended written after r = ((r ≡ finished_as ended) × Keeps written after) ⊎ ((ended ≡ Err script.OutOfMemory) × (r ≡ Err (fault.Script script.CannotWrite)))
+
+-- the version of the program
+abbrev pub version_text : List ℕ
+version_text = codes "arpasim " ++ (VERSION.now ++ codes "\n")
+
+-- whether a task is answered before anything is read
+abbrev pub is_answered : Option Task → Bool
+is_answered (Some task.Help) = true
+is_answered (Some task.Version) = true
+is_answered asked = false
 
 -- the words ask for a task, or for a replay with options; other words are refused
 abbrev pub EndsTask : Option Task → Option Options → Sides → Result Done ProgramFault → Type 0
@@ -107,6 +130,8 @@ EndsTask (Some task.Log) options s r = (ended : Result (Unit {0}) ScriptFault) �
 EndsTask (Some task.Trace) options s r =
     (ended : Result (Unit {0}) ScriptFault) × (written : Option (List ℕ)) × HandsOn ended written s.after r × EndsTrace (record s { after = written }) ended
 EndsTask (Some task.Audit) options s r = (ended : Result Verdict AuditFault) × (r ≡ audited_as ended) × EndsAudit s ended
+EndsTask (Some task.Help) options s r = Answers HELP.now s r
+EndsTask (Some task.Version) options s r = Answers version_text s r
 EndsTask None (Some options) s r =
     (ended : Result (Unit {0}) ScriptFault) × (written : Option (List ℕ)) × HandsOn ended written s.after r × EndsReplay options (record s { after = written }) ended
 EndsTask None None s r = (r ≡ Err (fault.Script script.BadOptions)) ⊎ (r ≡ Err (fault.Script script.OutOfMemory))

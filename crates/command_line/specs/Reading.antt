@@ -1,6 +1,11 @@
 -- How far an input is read.
-use Rattle.std.specs.Prelude.{◌≡◌, ◌⊎◌, ◌≤◌, ℕ, List, length, Option}
+use Rattle.std.specs.Prelude.{◌≡◌, ◌⊎◌, ◌≤◌, ◌==◌, ℕ, Bool, false, List, length, Option, Result, Ok, Err}
 use Rattle.std.specs.Io.KnownBytes.{Consumes, IsAtEnd}
+
+-- a read has come to the end if it gave nothing
+abbrev pub TellsEnd : {E : Type 0} → Result ℕ E → Bool → Type 0
+TellsEnd (Ok count) ended = ended ≡ (count == 0)
+TellsEnd (Err e) ended = ended ≡ false
 
 -- the first octets are read, at most one more than an input may have
 abbrev pub ReadsFirst : Option (List ℕ) → Option (List ℕ) → Type 0

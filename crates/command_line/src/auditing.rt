@@ -1,6 +1,7 @@
 //! The audit of a log.
 
 ghost use Rattle.std.specs.Prelude.{◌≡◌, ◌≢◌, ◌↔◌, Err, IfErr, IfOk, IfSome, MatchResult, OnOk, Some, [], false, true};
+ghost use Rattle.std.specs.Io.KnownBytes.{IsAtEnd};
 ghost use Rattle.book_log.specs.Log.{IsLog};
 ghost use Rattle.command_line.specs.Audits.{Audited, AuditsLog, IsAuditFault, IsBookFault, IsLogReadFault, IsSomeLog, SaysKept, status_at, status_said};
 ghost use Rattle.command_line.specs.Logs.{Logged};
@@ -128,8 +129,9 @@ pub fn run_audit<R: Source, W: Output>(
     reader: &mut R,
     writer: &mut W,
 ) -> Result<Verdict, AuditFault>
-    // no read and no write has failed yet
+    // no read and no write has failed yet, and none has come to the end
     requires reads { R.failed reader.old ≡ false }
+    requires more { R.ended reader.old ≡ false }
     requires writes { W.failed writer.old ≡ false }
 
     // what is written is all that is wrong with some book, whatever the reader
@@ -140,6 +142,9 @@ pub fn run_audit<R: Source, W: Output>(
 
     // what is read is a log, or the first fault is given
     ensures read { R.failed reader.new ≡ false → IfSome (R.remaining reader.old) (λ octets. MatchResult result (λ _. IsSomeLog octets) (IsAuditFault octets)) }
+
+    // unless a read fails or memory runs out, the reader is asked for all octets
+    ensures reads_all { result ≢ Err AuditFault.CannotRead → result ≢ Err AuditFault.OutOfMemory → IsAtEnd (R.remaining reader.new) }
 
     // what a replay wrote as its log is read, and is kept
     ensures kept { R.failed reader.new ≡ false → IfSome (R.remaining reader.old) (λ octets. Logged (Some []) (Some octets) → SaysKept octets result) }
@@ -174,9 +179,11 @@ const CHUNK: usize = 4096;
 ///
 /// Errors: `CannotRead` where a read fails, `OutOfMemory`.
 fn read_octets<R: Source>(alloc: Global, reader: &mut R) -> Result<Vec<u8>, AuditFault>
-    requires { R.failed reader.old ≡ false }
+    requires reads { R.failed reader.old ≡ false }
+    requires more { R.ended reader.old ≡ false }
     ensures whole { IfOk result (λ octets. IfSome (R.remaining reader.old) (λ known. octets.items ≡ known)) }
     ensures fault { IfErr result IsLogReadFault }
+    ensures reads_all { OnOk result (IsAtEnd (R.remaining reader.new)) }
     ensures failed { (result ≡ Err AuditFault.CannotRead) ↔ (R.failed reader.new ≡ true) }
 {
     let mut octets = Vec::new(alloc);

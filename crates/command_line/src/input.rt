@@ -92,7 +92,8 @@ const CHUNK: usize = 4096;
 /// Errors: `CannotRead` where a read fails, `BadTopology` where there are more octets than an input may
 /// have, `OutOfMemory`.
 pub(crate) fn read_octets<R: Source>(alloc: Global, reader: &mut R) -> Result<Vec<u8>, ScriptFault>
-    requires { R.failed reader.old ≡ false }
+    requires reads { R.failed reader.old ≡ false }
+    requires more { R.ended reader.old ≡ false }
     ensures long { IfOk result (λ octets. length octets.items ≤ MAX_INPUT) }
     ensures whole { IfOk result (λ octets. IfSome (R.remaining reader.old) (λ known. octets.items ≡ known)) }
     ensures too_long { result ≡ Err ScriptFault.BadTopology → IfSome (R.remaining reader.old) (λ known. MAX_INPUT < length known) }

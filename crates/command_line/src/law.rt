@@ -1,7 +1,8 @@
 //! What the simulator promises, as laws over its definitions. The functions here do nothing: their clauses
 //! are the laws.
 
-ghost use Rattle.std.specs.Prelude.{◌≡◌, ◌==◌, ◌↔◌, ◌++◌, ℕ, Bool, true, false, List, [], ◌∷◌, Ok, Option, Some, None, reverse};
+ghost use Rattle.std.specs.Prelude.{◌≡◌, ◌==◌, ◌↔◌, ◌++◌, ◌+◌, ℕ, Bool, true, false, List, [], ◌∷◌, reverse};
+ghost use Rattle.std.specs.Prelude.{Ok, Err, Option, Some, None, codes};
 ghost use Rattle.book_judge.specs.Runs.{IsSomeRun};
 ghost use Rattle.book_log.specs.Log as log;
 ghost use Rattle.host_services.specs.declared.report.Reported.{Reported};
@@ -13,6 +14,7 @@ ghost use Rattle.interface.specs.declared.crossing.Crossing.TheVariants as cross
 ghost use Rattle.interface.specs.declared.message.HostMessage.{HostMessage};
 ghost use Rattle.net_sim.specs.Audit.{IsWellFormed, Says};
 ghost use Rattle.net_sim.specs.Findings.{AreFed};
+ghost use Rattle.net_sim.specs.declared.auditing.findings.Finding.TheVariants as finding;
 ghost use Rattle.net_sim.specs.declared.auditing.said.Audit.TheVariants as audit;
 ghost use Rattle.promise.specs.Fates.{ClosesWhole};
 ghost use Rattle.promise.specs.Formed.{FormedBook};
@@ -21,21 +23,28 @@ ghost use Rattle.promise.specs.Safe.{SafeBook, SafeGrants, SafePartners};
 ghost use Rattle.promise.specs.declared.life.Amount.{Amount};
 ghost use Rattle.promise.specs.declared.life.Life.{Life};
 ghost use Rattle.replay.specs.declared.print.Detail.{Detail};
-ghost use Rattle.replay.specs.declared.print.Detail.TheVariants.{Sizes};
 ghost use Rattle.world_replay.specs.Output as lines;
 ghost use Rattle.world_replay.specs.Output.{Shown, crossings_of, notices_of};
 ghost use Rattle.command_line.specs.Audits.{IsKeptLog, SaysKept, SaysOf, kept};
+ghost use Rattle.command_line.specs.Events.{is_raw};
 ghost use Rattle.command_line.specs.Lived.{AreLived};
 ghost use Rattle.command_line.specs.Logs.{Logged, LogsInput};
 ghost use Rattle.command_line.specs.Printed.{AreOneBook, PrintsBook, PrintsPart};
+ghost use Rattle.command_line.specs.Program.{Closes, EndsTask, Sides};
 ghost use Rattle.command_line.specs.Recorded.{PrintsTrace};
 ghost use Rattle.command_line.specs.Replayed.{Ran, RanInPart, ReplaysInput, StopsInput, WorldShowsFrom};
 ghost use Rattle.command_line.specs.Traced.{TraceStops, TracesInput};
 ghost use Rattle.command_line.specs.Worked.{here, life_one, there, told_one, took_one};
+ghost use Rattle.command_line.specs.WorkedSides.{Never, NotSaid, matched_past, only_check, out_of_memory, starts, unread, wrote};
+ghost use Rattle.command_line.specs.declared.auditing.AuditFault.TheVariants as unlogged;
+ghost use Rattle.command_line.specs.declared.fault.ScriptFault.TheVariants as script;
+ghost use Rattle.command_line.specs.declared.options.Task.TheVariants as task;
+ghost use Rattle.command_line.specs.declared.program.Done.TheVariants as did;
+ghost use Rattle.command_line.specs.declared.program.ProgramFault.TheVariants as fault;
 ghost use Rattle.command_line.specs.declared.verdict.Verdict.{Verdict};
 ghost use Rattle.command_line.specs.Laws.FirstPart.{FirstPart};
 ghost use Rattle.command_line.specs.Laws.OneOutput.{OneOutput};
-ghost use Rattle.command_line.specs.Laws.OneReplay.{OneReplayLog, OneReplayOptions};
+ghost use Rattle.command_line.specs.Laws.OneReplay.{OneReplayLog, OneReplayOptions, OneReplayTrace};
 ghost use Rattle.command_line.specs.Laws.OneBook.{OneBookJoined};
 ghost use Rattle.command_line.specs.Laws.WorkedLines.{WorkedLinesNoLife, WorkedLinesNotPrinted, WorkedLinesNothingIn};
 ghost use Rattle.command_line.specs.Laws.WorkedLives.{WorkedLivesWithoutTheLast};
@@ -67,44 +76,56 @@ pub fn one_log()
 pub fn one_replay()
     ensures options { OneReplayOptions }
     ensures log { OneReplayLog }
-    ensures trace { (book : Bool) (input out trace : List ℕ) → ReplaysInput book Sizes input (Some []) (Some out) → TracesInput input (Some []) (Some trace) → PrintsTrace book out trace }
+    ensures trace { OneReplayTrace }
+{}
+
+/// Outputs that a trace does not have.
+pub fn worked_traces()
+    // the line of a crossing, where the trace has its first line only
+    ensures swallowed { (book : Bool) (opening trace : List ℕ) → PrintsTrace book starts trace (opening ∷ []) → ⊥ }
+
+    // a trace without its first line
+    ensures none { (book : Bool) (out trace : List ℕ) → PrintsTrace book out trace [] → ⊥ }
 {}
 
 /// What is printed is one book, of whatever network and events, with the book or without it: all that lines show is in it, and its lives, which are printed
 /// where the book is asked for, are those that the lines make. In a network without host programs there are none. Where memory runs out the lines
 /// are still those of such a book.
 pub fn printed_books()
-    ensures whole { (book : Bool) (detail : Detail) (before after : Option (List ℕ)) → Ran book detail before after → PrintsBook book detail before after }
-    ensures part { (detail : Detail) (before after : Option (List ℕ)) → RanInPart detail before after → PrintsPart detail before after }
+    ensures whole { (book : Bool) (detail : Detail) (before after : Option (List ℕ)) (h : Ran book detail before after) → PrintsBook (is_raw h.events) book detail before after }
+    ensures part { (detail : Detail) (before after : Option (List ℕ)) (h : RanInPart detail before after) → PrintsPart (is_raw h.events) detail before after }
 {}
 
 /// What it means that lines and lives are one book: all that was promised holds of what the lines show.
 pub fn one_book()
-    ensures formed { (shown : List Shown) (lives : List Life) → AreOneBook shown lives → FormedBook (reverse (crossings_of shown)) lives }
-    ensures told { (shown : List Shown) (lives : List Life) → AreOneBook shown lives → (notices_of shown ≡ [] → ⊥) → FormedNotices (reverse (crossings_of shown)) (notices_of shown) }
-    ensures safe { (shown : List Shown) (lives : List Life) → AreOneBook shown lives → (handed : List (List Bool)) × SafeBook (reverse (crossings_of shown)) lives handed }
+    ensures formed { (raw : Bool) (shown : List Shown) (lives : List Life) → AreOneBook raw shown lives → FormedBook (reverse (crossings_of shown)) lives }
+    ensures told { (shown : List Shown) (lives : List Life) → AreOneBook false shown lives → FormedNotices (reverse (crossings_of shown)) (notices_of shown) }
+    ensures safe { (raw : Bool) (shown : List Shown) (lives : List Life) → AreOneBook raw shown lives → (handed : List (List Bool)) × SafeBook (reverse (crossings_of shown)) lives handed }
     ensures joined { OneBookJoined }
-    ensures run { (shown : List Shown) (lives : List Life) → AreOneBook shown lives → (hosts : List Host) × IsRun hosts (reverse (crossings_of shown)) }
-    ensures lived { (shown : List Shown) (lives : List Life) → AreOneBook shown lives → AreLived (reverse (crossings_of shown)) (notices_of shown) lives }
+    ensures run { (raw : Bool) (shown : List Shown) (lives : List Life) → AreOneBook raw shown lives → (hosts : List Host) × IsRun hosts (reverse (crossings_of shown)) }
+    ensures lived { (raw : Bool) (shown : List Shown) (lives : List Life) → AreOneBook raw shown lives → AreLived (reverse (crossings_of shown)) (notices_of shown) lives }
 {}
 
 /// Lines that no book has.
 pub fn worked_lines()
     // a message that comes in and never went out
-    ensures never_out { (m : HostMessage) (lives : List Life) → AreOneBook (lines.Crossed (crossing.In m) ∷ []) lives → ⊥ }
+    ensures never_out { (raw : Bool) (m : HostMessage) (lives : List Life) → AreOneBook raw (lines.Crossed (crossing.In m) ∷ []) lives → ⊥ }
 
     ensures nothing_in { WorkedLinesNothingIn }
 
     ensures no_life { WorkedLinesNoLife }
 
     // a life without a notice
-    ensures no_notice { (life : Life) (lives : List Life) → AreOneBook [] (life ∷ lives) → ⊥ }
+    ensures no_notice { (raw : Bool) (life : Life) (lives : List Life) → AreOneBook raw [] (life ∷ lives) → ⊥ }
 
-    // data that went out without a notice, as without host programs, beside a report of a service
-    ensures no_services { (m : HostMessage) (r : Reported) → (m.flow.link.0 == 0) ≡ false → AreOneBook (lines.Crossed (crossing.Out m) ∷ lines.Said r ∷ []) [] → ⊥ }
+    // data that went out without a notice, where hosts have programs
+    ensures no_programs { (m : HostMessage) → (m.flow.link.0 == 0) ≡ false → AreOneBook false (lines.Crossed (crossing.Out m) ∷ []) [] → ⊥ }
+
+    // and beside a report of a service, in any network
+    ensures no_services { (raw : Bool) (m : HostMessage) (r : Reported) → (m.flow.link.0 == 0) ≡ false → AreOneBook raw (lines.Crossed (crossing.Out m) ∷ lines.Said r ∷ []) [] → ⊥ }
 
     ensures not_printed { WorkedLinesNotPrinted }
-    ensures not_in_part { (detail : Detail) (before after : Option (List ℕ)) (m : HostMessage) (p : PrintsPart detail before after) → p.shown ≡ lines.Crossed (crossing.In m) ∷ [] → ⊥ }
+    ensures not_in_part { (raw : Bool) (detail : Detail) (before after : Option (List ℕ)) (m : HostMessage) (p : PrintsPart raw detail before after) → p.shown ≡ lines.Crossed (crossing.In m) ∷ [] → ⊥ }
 {}
 
 /// The lives that crossings and notices make: of an end where one message arrived.
@@ -147,6 +168,40 @@ pub fn named_parts()
     // where nothing is named the book is safe, and nothing is named of a safe book
     ensures safe { (b : log.Book) → SaysOf kept b → Says audit.Kept (reverse b.crossings) (log.lives_of b) b.handed }
     ensures kept { (b : log.Book) (v : Verdict) → SaysOf kept b → SaysOf v b → v ≡ kept }
+{}
+
+/// Ends that the program does not have.
+pub fn worked_programs()
+    // memory ran out, and something is written of a log, of an audit, or of an input that is only read
+    ensures log_memory { (x : ℕ) → Never task.Log (wrote (x ∷ [])) out_of_memory }
+    ensures audit_memory { (x : ℕ) → Never task.Audit (wrote (x ∷ [])) (Err (fault.Audit unlogged.OutOfMemory)) }
+    ensures check_memory { (x : ℕ) → EndsTask None (Some only_check) (wrote (x ∷ [])) out_of_memory → ⊥ }
+
+    // an input that is only read, of which something else is written
+    ensures not_ok { EndsTask None (Some only_check) (wrote (codes "end\n")) (Ok did.Written) → ⊥ }
+
+    // a log and a trace that are not written, and an audit that leaves octets
+    ensures no_log { Never task.Log (wrote []) (Ok did.Written) }
+    ensures no_trace { Never task.Trace (wrote []) (Ok did.Written) }
+    ensures left { (v : Verdict) (x : ℕ) → Never task.Audit (unread (x ∷ [])) (Ok (did.Audited v)) }
+
+    // help that is not written, and words that ask for nothing taken for a replay
+    ensures no_help { Never task.Help (wrote []) (Ok did.Written) }
+    ensures not_refused { (s : Sides) → EndsTask None None s (Ok did.Written) → ⊥ }
+
+    // what was written is held back when memory runs out, and something is written before a bad line is found
+    ensures held_back { Closes out_of_memory false false false ⊥ → ⊥ }
+    ensures left_written { (line : ℕ) → Closes (Err (fault.Script (script.BadLine line))) false false true ⊥ → ⊥ }
+{}
+
+/// Places at which a part of a log isn't broken: partners are broken at two lives, the second one after the first, and
+/// streams, grants and closes at a life.
+pub fn worked_judged()
+    ensures one { (n : ℕ) → NotSaid (record kept { partners = Some (finding.Life n) }) }
+    ensures exchanged { (n : ℕ) → NotSaid (record kept { partners = Some (finding.Lives (n + 1) n) }) }
+    ensures crossing { (n : ℕ) → NotSaid (record kept { streams = Some (finding.Crossing n) }) }
+    ensures list { (n : ℕ) → NotSaid (record kept { grants = Some (finding.List n) }) }
+    ensures match_past { (b : log.Book) → SaysOf (matched_past b) b → ⊥ }
 {}
 
 /// Of a log that is kept nothing else is said.

@@ -70,8 +70,9 @@ pub fn run_log<R: Source, W: Output>(
     reader: &mut R,
     writer: &mut W,
 ) -> Result<(), ScriptFault>
-    // no read and no write has failed yet
+    // no read and no write has failed yet, and none has come to the end
     requires reads { R.failed reader.old ≡ false }
+    requires more { R.ended reader.old ≡ false }
     requires writes { W.failed writer.old ≡ false }
 
     // a script is replayed over the carrier of a topology, whatever the reader, and the log of the book that it leaves is written

@@ -33,11 +33,15 @@ pub enum Task {
     Trace,
     /// The audit of a log.
     Audit,
+    /// How the program is called.
+    Help,
+    /// The version of the program.
+    Version,
 }
 
 impl Task {
-    /// Returns what the words after the program's name ask for, where they are one word: `--log`, `--trace` or
-    /// `--audit`.
+    /// Returns what the words after the program's name ask for, where they are one word: `--log`, `--trace`, `--audit`,
+    /// `--help` or `--version`.
     pub fn of(words: &[String]) -> Option<Task>
         ensures { result ≡ task_of (map string_bytes words.now) }
     {
@@ -50,6 +54,10 @@ impl Task {
             Some(Task::Trace)
         } else if words[0].as_str() == "--audit" {
             Some(Task::Audit)
+        } else if words[0].as_str() == "--help" {
+            Some(Task::Help)
+        } else if words[0].as_str() == "--version" {
+            Some(Task::Version)
         } else {
             None
         }

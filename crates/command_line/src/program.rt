@@ -2,8 +2,10 @@
 
 ghost use Rattle.std.specs.Prelude.{◌≡◌, ◌≢◌, ◌⊎◌, None, Err, false, true, map, string_bytes};
 ghost use Rattle.command_line.specs.Options.{options_in, task_of};
-ghost use Rattle.command_line.specs.Program.{Closes, EndsProgram, EndsTask, Handed, HandsOn, Sides, audited_as, exit_status, finished_as, sides};
+ghost use Rattle.command_line.specs.Program.{Closes, EndsProgram, EndsTask, Handed, HandsOn, Sides};
+ghost use Rattle.command_line.specs.Program.{audited_as, exit_status, finished_as, is_answered, sides};
 
+use crate::about::{write_help, write_version};
 use crate::auditing::{AuditFault, audit_status, run_audit};
 use crate::fault::ScriptFault;
 use crate::logging::run_log;
@@ -64,7 +66,7 @@ pub fn exit_status(outcome: Result<Done, ProgramFault>) -> u8
 }
 
 /// Does what the words after the program's name ask for: it replays an input and writes what it shows, its log or its
-/// trace, or audits a log.
+/// trace, or audits a log. How it is called and its version it says at once, and reads nothing.
 ///
 /// Errors: `BadOptions` for words that ask for nothing, with nothing read and nothing written; else as [`run_script`],
 /// [`run_log`], [`run_trace`] and [`run_audit`]. What was written before memory ran out is handed on.
@@ -74,8 +76,9 @@ pub fn run_program<R: Source, W: Output>(
     reader: &mut R,
     writer: &mut W,
 ) -> Result<Done, ProgramFault>
-    // no read and no write has failed yet
+    // no read and no write has failed yet, and none has come to the end
     requires reads { R.failed reader.old ≡ false }
+    requires more { R.ended reader.old ≡ false }
     requires writes { W.failed writer.old ≡ false }
 
     // it does what the words ask for, reads and writes what that does, and ends as that ends
@@ -83,6 +86,9 @@ pub fn run_program<R: Source, W: Output>(
 
     // words that ask for nothing are refused: nothing is read, and nothing is written
     ensures refused { task_of (map string_bytes words.now) ≡ None → options_in words.now ≡ None → (reader.new ≡ reader.old) × (writer.new ≡ writer.old) }
+
+    // what the program says of itself it says before anything is read
+    ensures answered { is_answered (task_of (map string_bytes words.now)) ≡ true → reader.new ≡ reader.old }
 
     // where a read or a write fails it is reported, and nowhere else; and what was written is handed on
     ensures closes { Closes result (R.failed reader.new) (W.failed writer.new) (W.flushed writer.new) (writer.new ≡ writer.old) }
@@ -94,6 +100,8 @@ pub fn run_program<R: Source, W: Output>(
             hand_on(ended, writer)
         }
         Some(Task::Audit) => audited(run_audit(alloc, reader, writer)),
+        Some(Task::Help) => finished(write_help(writer)),
+        Some(Task::Version) => finished(write_version(writer)),
         None => replay_words(alloc, words, reader, writer),
     }
 }
@@ -108,6 +116,7 @@ fn replay_words<R: Source, W: Output>(
     writer: &mut W,
 ) -> Result<Done, ProgramFault>
     requires reads { R.failed reader.old ≡ false }
+    requires more { R.ended reader.old ≡ false }
     requires writes { W.failed writer.old ≡ false }
     ensures ends { EndsTask None (options_in words.now) (sides (R.remaining reader.old) (R.remaining reader.new) (R.failed reader.new) (W.contents writer.old) (W.contents writer.new)) result }
     ensures refused { options_in words.now ≡ None → (reader.new ≡ reader.old) × (writer.new ≡ writer.old) }
@@ -148,7 +157,7 @@ fn hand_on<W: Output>(ended: Result<(), ScriptFault>, writer: &mut W) -> Result<
     }
 }
 
-/// Returns what the program answers after a replay, a log or a trace.
+/// Returns what the program answers after a replay, a log, a trace, or what it says of itself.
 fn finished(ended: Result<(), ScriptFault>) -> Result<Done, ProgramFault>
     ensures { result ≡ finished_as ended }
 {

@@ -27,8 +27,9 @@ pub fn run<R: Source, W: Output>(
     reader: &mut R,
     writer: &mut W,
 ) -> Result<(), ScriptFault>
-    // no read and no write has failed yet
+    // no read and no write has failed yet, and none has come to the end
     requires reads { R.failed reader.old ≡ false }
+    requires more { R.ended reader.old ≡ false }
     requires writes { W.failed writer.old ≡ false }
 
     // words that are no options are refused: nothing is read, and nothing is written
@@ -105,8 +106,9 @@ pub fn run_script<R: Source, W: Output>(
     check: bool,
     detail: Detail,
 ) -> Result<(), ScriptFault>
-    // no read and no write has failed yet
+    // no read and no write has failed yet, and none has come to the end
     requires reads { R.failed reader.old ≡ false }
+    requires more { R.ended reader.old ≡ false }
     requires writes { W.failed writer.old ≡ false }
 
     // with `check` the input is only read

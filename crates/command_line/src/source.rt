@@ -1,9 +1,10 @@
 //! Where an input is read from: a reader that says whether a read failed.
 
-ghost use Rattle.std.specs.Prelude.{◌≡◌, Bool, List, Option, false, true, ℕ};
+ghost use Rattle.std.specs.Prelude.{◌≡◌, ◌<◌, Bool, List, Option, false, length, true, ℕ};
 ghost use Rattle.std.specs.Io.{ReadsAtMost};
 ghost use Rattle.std.specs.Io.KnownBytes.{Keeps, ReadConsumes};
 ghost use Rattle.replay.specs.Failing.{TellsFailure};
+ghost use Rattle.command_line.specs.Reading.{TellsEnd};
 
 use std::io;
 use std::io::{ErrorKind, Read};
@@ -15,9 +16,10 @@ use thiserror::Error;
 pub struct ReadFailed;
 
 /// Where an input is read from. It says whether a read has failed, which the contract of the standard library's
-/// readers doesn't.
+/// readers doesn't, and whether one has come to the end.
 ///
-/// Each read requires that none has failed. So after its first failure nothing more is asked of the reader.
+/// Each read requires that none has failed and that the last one gave something. So nothing more is asked of a reader
+/// after its first failure, nor after its end: at a terminal one end of input is enough.
 pub trait Source {
     /// The octets that are left, where they are known.
     ghost remaining: { Self → Option (List ℕ) };
@@ -25,12 +27,17 @@ pub trait Source {
     /// Whether a read has failed.
     ghost failed: { Self → Bool };
 
-    /// Reads octets into a buffer, and answers how many. There are none only at the end, or where the buffer has
-    /// no room.
+    /// Whether the last read gave nothing, and so came to the end.
+    ghost ended: { Self → Bool };
+
+    /// Reads octets into a buffer that has room, and answers how many. There are none only at the end.
     ///
     /// Errors: `ReadFailed`.
     fn read(&mut self, buf: &mut [u8]) -> Result<usize, ReadFailed>
-        requires { failed self.old ≡ false }
+        requires whole { failed self.old ≡ false }
+        requires more { ended self.old ≡ false }
+        requires room { 0 < length buf.old }
+        ensures ended { TellsEnd result (ended self.new) }
         ensures failed { TellsFailure result (failed self.new) }
         ensures bound { ReadsAtMost result buf.new }
         ensures octets { ReadConsumes (remaining self.old) (remaining self.new) result buf.new };
@@ -44,17 +51,21 @@ pub struct Reader<R> {
     reader: R,
     /// Whether a read has failed.
     failed: bool,
+    /// Whether the last read gave nothing.
+    ended: bool,
 }
 
 impl<R: Read> Reader<R> {
-    /// Returns a source over a reader, of which no read has failed.
+    /// Returns a source over a reader, of which no read has failed or come to the end.
     pub fn new(reader: R) -> Reader<R>
         ensures remaining { ⟦<Reader<R> as Source>⟧.remaining result ≡ R.remaining reader }
         ensures failed { ⟦<Reader<R> as Source>⟧.failed result ≡ false }
+        ensures ended { ⟦<Reader<R> as Source>⟧.ended result ≡ false }
     {
         Reader {
             reader,
             failed: false,
+            ended: false,
         }
     }
 
@@ -71,10 +82,19 @@ impl<R: Read> Source for Reader<R> {
 
     ghost failed = { λ r. r.failed };
 
+    ghost ended = { λ r. r.ended };
+
     fn read(&mut self, buf: &mut [u8]) -> Result<usize, ReadFailed> {
-        let outcome = read_again(&mut self.reader, buf);
-        self.failed = outcome.is_err();
-        outcome.map_err(|_| ReadFailed)
+        match read_again(&mut self.reader, buf) {
+            Ok(count) => {
+                self.ended = count == 0;
+                Ok(count)
+            }
+            Err(_) => {
+                self.failed = true;
+                Err(ReadFailed)
+            }
+        }
     }
 }
 

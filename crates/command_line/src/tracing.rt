@@ -37,8 +37,9 @@ pub fn run_trace<R: Source, W: Output>(
     reader: &mut R,
     writer: &mut W,
 ) -> Result<(), ScriptFault>
-    // no read and no write has failed yet
+    // no read and no write has failed yet, and none has come to the end
     requires reads { R.failed reader.old ≡ false }
+    requires more { R.ended reader.old ≡ false }
     requires writes { W.failed writer.old ≡ false }
 
     // the trace of some script over the carrier of some topology is written, whatever the reader

@@ -1,7 +1,7 @@
 //! The whole program on its words and an input: what it writes, how it ends, and what standard error says. Bad words, a
 //! bad topology, a bad line of a script and a bad line of a log are named, and never taken for running out of memory.
 
-use command_line::{Printer, Reader, exit_status, run_program};
+use command_line::{HELP, Printer, Reader, exit_status, run_program};
 use std::alloc::{AllocError, Global};
 use std::io::Cursor;
 
@@ -38,7 +38,7 @@ type Row = (
     u8,
 );
 
-const ROWS: [Row; 19] = [
+const ROWS: [Row; 24] = [
     (&[], RAW, b"out 0/1 0/2 5 24\nin 0/1 0/2 5 24\nend\n", "", 0),
     (
         &["--texts"],
@@ -79,6 +79,23 @@ const ROWS: [Row; 19] = [
     ),
     (&["--check"], BAD_LINE, b"", "arpasim: bad script line 3", 2),
     (&["--trace"], BAD_LINE, b"", "arpasim: bad script line 3", 2),
+    (&["--version"], RAW, b"arpasim 1.1.0\n", "", 0),
+    (
+        &["--help", "--version"],
+        RAW,
+        b"",
+        "arpasim: bad arguments",
+        1,
+    ),
+    (
+        &["--version", "--book"],
+        RAW,
+        b"",
+        "arpasim: bad arguments",
+        1,
+    ),
+    (&["--help", "--help"], RAW, b"", "arpasim: bad arguments", 1),
+    (&["-h"], RAW, b"", "arpasim: bad arguments", 1),
     (&["--"], RAW, b"", "arpasim: bad arguments", 1),
     (&["--log", "--audit"], RAW, b"", "arpasim: bad arguments", 1),
     (&["--book", "--log"], RAW, b"", "arpasim: bad arguments", 1),
@@ -115,4 +132,10 @@ fn the_program_does_what_its_words_ask_for(rt: HostRuntime) {
             row.3
         );
     }
+}
+
+#[test]
+fn the_program_says_how_it_is_called(rt: HostRuntime) {
+    let row: Row = (&["--help"], RAW, HELP.as_bytes(), "", 0);
+    assert_eq!(rt; does(rt.alloc(), &row), Ok(true));
 }

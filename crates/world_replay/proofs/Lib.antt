@@ -15,3 +15,4 @@ mod Ticking
 pub mod ToldLines
 pub mod Turns
 pub mod lemmas
+pub mod SeenEvents

@@ -4,3 +4,4 @@ pub mod Calm
 pub mod Apart
 pub mod Driven
 pub mod WorkedNews
+pub mod WorkedEnds

@@ -5,6 +5,7 @@ pub mod Output
 pub mod Printed
 pub mod Replay
 pub mod Rounds
+pub mod Seen
 pub mod Steps
 pub mod Worked
 pub mod Laws

@@ -8,6 +8,7 @@ ghost use Rattle.net_sim.specs.World.{CalmGives};
 ghost use Rattle.replay.specs.Failing.{TellsCannotWrite};
 ghost use Rattle.world_replay.specs.Output.{Shown, Writes};
 ghost use Rattle.world_replay.specs.Replay.{EndsIn, EventGives, HappensInCalm, MayDo, MayStep, Replays, StopsIn};
+ghost use Rattle.world_replay.specs.Seen.{EndsSeen, IsSeen};
 ghost use Rattle.world_replay.specs.Steps.{EventEnds, OneEnds};
 ghost use Rattle.world_script.specs.declared.event.WorldEvent.TheVariants as world_event;
 
@@ -55,6 +56,10 @@ pub fn replay_events<C: Carrier, W: Output>(
 
     // `CannotWrite` is answered where a write failed, and nowhere else
     ensures failed { TellsCannotWrite result (W.failed writer.new) }
+
+    // where they end with a long calm that doesn't rest, all that it printed is handed on: so each of its rounds after
+    // the 64th is seen when it has passed
+    ensures seen { OnOk result (EndsSeen (shown C.calls) events.items world.new (W.flushed writer.new)) }
 
     // a write failed: the event had already happened, or the rounds of a calm up to that one
     ensures cannot_write { result ≡ Err ReplayFault.CannotWrite → (lines : List Shown) × EndsIn (shown C.calls) (MayDo (shown C.calls)) world.old events.items world.new lines }
@@ -110,6 +115,7 @@ fn replay_in_turn<C: Carrier, W: Output>(
 ) -> Result<(), ReplayFault>
     requires { W.failed writer.old ≡ false }
     ensures failed { TellsCannotWrite result (W.failed writer.new) }
+    ensures seen { OnOk result (EndsSeen (shown C.calls) events.items world.new (W.flushed writer.new)) }
     ensures replayed { OnOk result (Writes detail (Replays (shown C.calls) world.old events.items world.new) (W.contents writer.old) (W.contents writer.new)) }
     ensures memory { result ≡ Err ReplayFault.OutOfMemory → Writes detail (EndsIn (shown C.calls) (StopsIn (shown C.calls)) world.old events.items world.new) (W.contents writer.old) (W.contents writer.new) }
     ensures cannot_write { result ≡ Err ReplayFault.CannotWrite → (lines : List Shown) × EndsIn (shown C.calls) (MayDo (shown C.calls)) world.old events.items world.new lines }
@@ -131,6 +137,7 @@ fn replay_event<C: Carrier, W: Output>(
 ) -> Result<(), ReplayFault>
     requires { W.failed writer.old ≡ false }
     ensures ends { EventEnds (shown C.calls) detail world.old event result world.new (W.contents writer.old) (W.contents writer.new) }
+    ensures seen { OnOk result (IsSeen (shown C.calls) event world.new (W.flushed writer.new)) }
     ensures failed { TellsCannotWrite result (W.failed writer.new) }
 {
     match event {
@@ -150,6 +157,7 @@ fn replay_calm<C: Carrier, W: Output>(
 ) -> Result<(), ReplayFault>
     requires { W.failed writer.old ≡ false }
     ensures ends { EventEnds (shown C.calls) detail world.old (world_event.Calm rounds) result world.new (W.contents writer.old) (W.contents writer.new) }
+    ensures seen { OnOk result (IsSeen (shown C.calls) (world_event.Calm rounds) world.new (W.flushed writer.new)) }
     ensures failed { TellsCannotWrite result (W.failed writer.new) }
 {
     if rounds == 0 {

@@ -20,6 +20,7 @@ mod told;
 pub mod worked;
 pub mod worked_apart;
 pub mod worked_drives;
+pub mod worked_ends;
 pub mod worked_rounds;
 
 pub use events::{has_calmed, replay_events, replay_in_calm};

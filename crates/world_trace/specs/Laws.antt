@@ -5,3 +5,4 @@ pub mod WorkedFailures
 pub mod WorkedLasting
 pub mod WorkedPairs
 pub mod WorkedHosts
+pub mod WorkedTold

@@ -11,7 +11,7 @@ so it is with the definitions in the tables; the rows beside them have to be fun
 stored inputs of cases/; and each other name has to be one of these, or that of a planted bug of the crate.
 
 docs/PROVED.md names each clause after the path of its call, `CRATE::..::CALL`, and docs/measured/crates.md leads to the claims of each crate.
-crates.txt names for each crate only others that its sources name.
+crates.txt names for each crate only others that its sources name. The version of the program is that of the package, the citation and the change log.
 
 The drawings of docs/pictures, the page of crates, the index of rules, the page of what must be believed and that of the package in Python have to be as they are made, the numbers in drawings as the sources have them, and
 no text of a drawing over another one or over a line. Figures in prose have to be those of their tables (workshop.documents.figures), and each crate's lines of
@@ -35,7 +35,7 @@ import unittest
 from collections import Counter
 from collections.abc import Iterator
 
-from workshop.documents import anchors, believed, budget, crates_page, dialect, figures, named_crates, notebook, paragraphs, planted, reference, rules, tags, tests
+from workshop.documents import anchors, believed, budget, crates_page, dialect, figures, named_crates, notebook, paragraphs, planted, reference, rules, tags, tests, versions
 from workshop.drawings import pictures
 from workshop.parts import ROOT
 
@@ -244,7 +244,7 @@ def made() -> list[str]:
     """What isn't as it is made, and what the drawings and the words of the documents have that they shouldn't."""
     print("check docs:", dialect.summary())
     print("check docs:", budget.summary())
-    return [*failed_tests(), *paragraphs.faults(), *anchors.faults(), *pictures.faults(), *crates_page.faults(), *planted.faults(), *rules.faults(), *believed.faults(), *notebook.faults(), *reference.faults(), *figures.faults(), *budget.faults(), *dialect.faults(), *named_crates.faults()]
+    return [*failed_tests(), *paragraphs.faults(), *anchors.faults(), *pictures.faults(), *crates_page.faults(), *planted.faults(), *rules.faults(), *believed.faults(), *notebook.faults(), *reference.faults(), *figures.faults(), *budget.faults(), *dialect.faults(), *named_crates.faults(), *versions.faults()]
 
 
 def write() -> int:

@@ -14,6 +14,7 @@ import json
 import os
 import subprocess
 import sys
+from collections.abc import Callable, Iterable, Iterator
 from concurrent.futures import ProcessPoolExecutor, ThreadPoolExecutor
 from functools import partial
 from typing import NamedTuple
@@ -21,6 +22,7 @@ from typing import NamedTuple
 from dorydate.model.runs import expected
 from dorydate.model.topology import Topology, spelled_input
 from dorydate.model.trace import ends_trace
+from dorydate.model.trace_world import ends_world
 from dorydate.model.verdict import ends_audit
 from workshop.parts import any_program
 
@@ -82,22 +84,61 @@ LIMITS: dict[str, Limit] = {
 }
 
 
-LOG = "crossings of a log"
-TRACE = "events of a trace"
-TAKINGS = Limit(["--trace"], Topology("plain", True, [(1, 2), (2, 1)], []), ["take 0/1"] * 12_000)
-NAMES = [*LIMITS, LOG, TRACE]
+FULL = f"8063 {'5A' * 1007}5A"  # the longest text of a message
+TRACES: dict[str, Limit] = {
+    "events of a trace": Limit(["--trace"], Topology("plain", True, [(1, 2), (2, 1)], []), ["take 0/1"] * 12_000),
+    "the text of a part": Limit(["--trace"], Topology("plain", True, [(1, 1), (2, 1)], []), [f"out 0/1 0/2 {link} {FULL}" for link in range(100)]),
+    "events of a trace of hosts": Limit(["--trace"], PAIR, ["take 0/1"] * 110_000),
+    "rounds of a trace of hosts": Limit(["--trace"], PAIR, [*JOINED, "send 0/1 101 8 5A", "calm 4000"]),
+}
+COMMENTS = b"# nothing\n" * 50_000  # before a topology
 
 
-def a_log() -> bytes:
-    """A log of a million crossings: a host stops and starts."""
-    return b"down 0/1\nup 0/1\n" * 500_000 + b"end\n"
+def opened(count: int) -> Iterator[str]:
+    """The crossings of this many connections between two hosts, one after another: both requests, and then both CLS."""
+    for at in range(count):
+        own, foreign = f"{16 + 2 * at:08X}", f"{33 + 2 * at:08X}"
+        requests = f"120 0008000A0001{own}{foreign}02", f"120 0008000A0002{foreign}{own}08"
+        for one, other in (requests, (f"112 000800090003{own}{foreign}", f"112 000800090003{foreign}{own}")):
+            yield from (f"out 0/1 0/2 0 {one}", f"in 0/1 0/2 0 {one}", f"out 0/2 0/1 0 {other}", "answer rfnm 0/1 0/2 0", f"in 0/2 0/1 0 {other}", "answer rfnm 0/2 0/1 0")
+
+
+def lives_of(count: int) -> Iterator[str]:
+    """The lives of these connections, in the order in which they were opened. The first crossings are of the contact."""
+    for at in range(count):
+        own, foreign, begins = 16 + 2 * at, 33 + 2 * at, 6 + 12 * at
+        yield f"life 0/2 {foreign} 0/1 {own} {begins + 2} {begins + 1} send 0 0 0 0 0 0 ended -"
+        yield f"life 0/1 {own} 0/2 {foreign} {begins} {begins + 4} receive 0 0 0 0 0 0 closed -"
+
+
+CONTACT = ["out 0/1 0/2 0 48 00080001000C", "in 0/1 0/2 0 48 00080001000C", "out 0/2 0/1 0 48 00080001000D", "answer rfnm 0/1 0/2 0", "in 0/2 0/1 0 48 00080001000D", "answer rfnm 0/2 0/1 0"]
+CONNECTIONS = 2_500
+
+
+def in_lines(lines: Iterable[str]) -> bytes:
+    """The octets of lines."""
+    return "".join(f"{line}\n" for line in lines).encode()
+
+
+LOGS: dict[str, Callable[[], bytes]] = {
+    "crossings of a log": lambda: b"down 0/1\nup 0/1\n" * 500_000 + b"end\n",
+    # the first crossing is of no run, so that messages are looked at one by one
+    "crossings of a log that strays": lambda: b"up 0/1\n" + b"down 0/1\nup 0/1\n" * 50_000 + b"end\n",
+    "octets of a log": lambda: in_lines(f"{way} 0/1 0/2 5 {FULL}" if way != "answer" else "answer rfnm 0/1 0/2 5" for _ in range(17_500) for way in ("out", "in", "answer")) + b"end\n",
+    "lives of a log": lambda: in_lines([*CONTACT, *opened(CONNECTIONS), *lives_of(CONNECTIONS), *["handed 0 -"] * (2 * CONNECTIONS), "end"]),
+}
+DOCUMENT = "octets of a topology"
+COMMENTED = Limit([], PAIR, ["contact 0/1 0/2", "calm 3"])
+NAMES = [*LIMITS, *TRACES, *LOGS, DOCUMENT]
 
 
 def given(name: str) -> tuple[list[str], bytes]:
     """The options and the input of a limit."""
-    if name == LOG:
-        return ["--audit"], a_log()
-    limit = TAKINGS if name == TRACE else LIMITS[name]
+    if name in LOGS:
+        return ["--audit"], LOGS[name]()
+    if name == DOCUMENT:
+        return COMMENTED.options, COMMENTS + spelled_input(COMMENTED.network, COMMENTED.lines)
+    limit = (LIMITS | TRACES)[name]
     return limit.options, spelled_input(limit.network, limit.lines)
 
 
@@ -109,13 +150,18 @@ def by_program(program: str, name: str) -> End:
 
 
 def by_model(name: str) -> End:
-    """How it ends by the models."""
-    if name == LOG:
-        return end_of(*ends_audit(a_log()))
-    if name == TRACE:
-        return end_of(*ends_trace(TAKINGS.network, TAKINGS.lines))
-    limit = LIMITS[name]
+    """How it ends by the models, for which comments before a topology are nothing."""
+    if name in LOGS:
+        return end_of(*ends_audit(LOGS[name]()))
+    if name in TRACES:
+        return end_of(*ends_traced(TRACES[name]))
+    limit = COMMENTED if name == DOCUMENT else LIMITS[name]
     return end_of(*expected(limit.options, limit.network, [*limit.lines, ""]))
+
+
+def ends_traced(limit: Limit) -> tuple[int, str, str]:
+    """How the trace of a limit ends by the model of its kind of network."""
+    return (ends_trace if limit.network.raw else ends_world)(limit.network, limit.lines)
 
 
 def kept() -> dict[str, End]:
@@ -160,7 +206,7 @@ def main() -> int:
         print("check limits: there is no program of these sources")
         return 1
     wanted = kept()
-    wrong = [f"{name}: kept is no good end" for name in names if name not in wanted or wanted[name].status]
+    wrong = [f"{name}: kept is no good end" for name in names if name not in wanted or wanted[name].status not in (0, 4)]
     with ThreadPoolExecutor(os.cpu_count() or 1) as threads:
         wrong += differing("the program", dict(zip(names, threads.map(partial(by_program, program), names))), wanted)
     if "--models" in words:

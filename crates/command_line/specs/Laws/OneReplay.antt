@@ -3,9 +3,12 @@
 -- printed, in turn.
 use Rattle.std.specs.Prelude.{ℕ, Bool, List, [], Some}
 use Rattle.replay.specs.declared.print.Detail.{Detail}
+use Rattle.replay.specs.declared.print.Detail.TheVariants.{Sizes}
 use Rattle.command_line.specs.Joins.{PrintTheSame, TellTheSame}
 use Rattle.command_line.specs.Logs.{LogsInput}
+use Rattle.command_line.specs.Recorded.{PrintsTrace, told_lines}
 use Rattle.command_line.specs.Replayed.{ReplaysInput}
+use Rattle.command_line.specs.Traced.{TracesInput}
 
 abbrev pub OneReplayOptions : Type 0
 OneReplayOptions =
@@ -17,3 +20,8 @@ abbrev pub OneReplayLog : Type 0
 OneReplayLog =
     (book : Bool) (detail : Detail) (input out log : List ℕ) → ReplaysInput book detail input (Some []) (Some out) →
     LogsInput input (Some []) (Some log) → TellTheSame book detail out log
+
+abbrev pub OneReplayTrace : Type 0
+OneReplayTrace =
+    (book : Bool) (input out trace : List ℕ) → ReplaysInput book Sizes input (Some []) (Some out) →
+    (h : TracesInput input (Some []) (Some trace)) → PrintsTrace book out trace (told_lines input (Some []) (Some trace) h)

@@ -12,14 +12,14 @@ use Rattle.command_line.specs.Printed.{AreOneBook, PrintsBook}
 -- a notice that bits have arrived, where nothing crossed
 abbrev pub WorkedLinesNothingIn : Type 0
 WorkedLinesNothingIn =
-    (h : Host) (socket : ℕ) (bits : List Bool) (lives : List Life) →
-    AreOneBook (lines.Noticed (record { host = h; place = 0; notice = notice.Arrived socket bits }) ∷ []) lives → ⊥
+    (raw : Bool) (h : Host) (socket : ℕ) (bits : List Bool) (lives : List Life) →
+    AreOneBook raw (lines.Noticed (record { host = h; place = 0; notice = notice.Arrived socket bits }) ∷ []) lives → ⊥
 
 -- a notice that an end is open, without its life
 abbrev pub WorkedLinesNoLife : Type 0
 WorkedLinesNoLife =
-    (h peer : Host) (socket foreign own partner : ℕ) →
-    AreOneBook (lines.Noticed (record {
+    (raw : Bool) (h peer : Host) (socket foreign own partner : ℕ) →
+    AreOneBook raw (lines.Noticed (record {
       host = h;
       place = 0;
       notice = notice.Opened socket peer foreign own partner;
@@ -29,6 +29,6 @@ WorkedLinesNoLife =
 -- such lines are neither printed by a replay nor the first part of one
 abbrev pub WorkedLinesNotPrinted : Type 0
 WorkedLinesNotPrinted =
-    (book : Bool) (detail : Detail) (before after : Option (List ℕ)) (m : HostMessage) (p : PrintsBook book detail
-    before after) →
+    (raw book : Bool) (detail : Detail) (before after : Option (List ℕ)) (m : HostMessage) (p : PrintsBook raw book
+    detail before after) →
     p.shown ≡ lines.Crossed (crossing.In m) ∷ [] → ⊥

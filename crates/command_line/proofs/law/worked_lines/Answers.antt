@@ -1,4 +1,4 @@
-use Rattle.command_line.proofs.WorkedLines.{never_out, no_life, no_notice, no_services, not_in_part, not_printed, nothing_in}
+use Rattle.command_line.proofs.WorkedLines.{never_out, no_life, no_notice, no_programs, no_services, not_in_part, not_printed, nothing_in}
 use Rattle.command_line.proofs.law.worked_lines.Goals as goal
 
 pub returns-clause-never_out : goal.returns-clause-never_out
@@ -12,6 +12,9 @@ returns-clause-no_life c = no_life
 
 pub returns-clause-no_notice : goal.returns-clause-no_notice
 returns-clause-no_notice c = no_notice
+
+pub returns-clause-no_programs : goal.returns-clause-no_programs
+returns-clause-no_programs c = no_programs
 
 pub returns-clause-no_services : goal.returns-clause-no_services
 returns-clause-no_services c = no_services

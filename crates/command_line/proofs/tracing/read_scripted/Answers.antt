@@ -1,4 +1,4 @@
-use Rattle.std.proofs.Common.{◌≡◌, ap, length, ◌∙◌}
+use Rattle.std.proofs.Common.{ap, length, ◌∙◌}
 use Rattle.command_line.specs.Events.{asked_of}
 use Rattle.command_line.specs.Traced.{IsScriptOf}
 use Rattle.command_line.proofs.Traced.{lines_fit}

@@ -7,6 +7,7 @@ use Rattle.replay.specs.declared.events.ReplayFault.TheVariants as fault
 use Rattle.world_replay.specs.Output.{shown_text}
 use Rattle.world_replay.specs.Replay.{Happens, MayDo, StopsIn}
 use Rattle.world_replay.specs.Steps.{EventEnds}
+use Rattle.world_replay.proofs.SeenEvents.{last_seen}
 use Rattle.world_replay.proofs.events.replay_in_turn.Goals as goal
 
 pub loop-event-preserved : goal.loop-event-preserved
@@ -16,6 +17,7 @@ loop-event-preserved g c =
       one_written (Happens calls) (shown_text c.args.detail) c.args.world.now c.loop-event.world c.replay_event.new.world c.loop-event.yielded c.in-Some.event
           (g.W.Output.contents c.args.writer.now) (g.W.Output.contents c.loop-event.writer) (g.W.Output.contents c.replay_event.new.writer) c.loop-event.invariant.1 c.in_ok-replay_event.ensures.ends,
       c.in_ok-replay_event.ensures.failed,
+      last_seen calls c.loop-event.yielded c.in-Some.event c.replay_event.new.world (g.W.Output.flushed c.replay_event.new.writer) c.in_ok-replay_event.ensures.seen,
     )
 
 pub returns-in_err-replay_event-clause-memory : goal.returns-in_err-replay_event-clause-memory

@@ -1,0 +1,45 @@
+-- Words for worked rows of the whole program: what its reader and its writer show, and ends that it doesn't have.
+use Rattle.std.specs.Prelude.{true, false, List, [], ℕ, Option, Some, Result, Err, codes, length}
+use Rattle.book_log.specs.Log.{Book}
+use Rattle.net_sim.specs.declared.auditing.findings.Finding.TheVariants as finding
+use Rattle.command_line.specs.Audits.{SaysOf, kept}
+use Rattle.command_line.specs.Program.{EndsTask, Sides, sides}
+use Rattle.command_line.specs.declared.fault.ScriptFault.TheVariants as script
+use Rattle.command_line.specs.declared.options.Options.{Options}
+use Rattle.command_line.specs.declared.options.Task.{Task}
+use Rattle.command_line.specs.declared.program.Done.{Done}
+use Rattle.command_line.specs.declared.program.ProgramFault.{ProgramFault}
+use Rattle.command_line.specs.declared.program.ProgramFault.TheVariants as fault
+use Rattle.command_line.specs.declared.verdict.Verdict.{Verdict}
+
+-- nothing was to be read, and these octets are written
+abbrev pub wrote : List ℕ → Sides
+wrote octets = sides (Some []) (Some []) false (Some []) (Some octets)
+
+-- these octets are left to be read, and nothing is written
+abbrev pub unread : List ℕ → Sides
+unread octets = sides (Some octets) (Some octets) false (Some []) (Some [])
+
+-- only `--check`
+abbrev pub only_check : Options
+only_check = record { book = false; check = true; texts = false }
+
+-- memory ran out
+abbrev pub out_of_memory : Result Done ProgramFault
+out_of_memory = Err (fault.Script script.OutOfMemory)
+
+-- the task never ends so, whatever else the words are
+abbrev pub Never : Task → Sides → Result Done ProgramFault → Type 0
+Never task s r = (options : Option Options) → EndsTask (Some task) options s r → ⊥
+
+-- this is said of no log
+abbrev pub NotSaid : Verdict → Type 0
+NotSaid v = (b : Book) → SaysOf v b → ⊥
+
+-- a life that is matched after the last one
+abbrev pub matched_past : Book → Verdict
+matched_past b = record kept { closes = Some (finding.Lives 0 (length b.lives)) }
+
+-- the output of a host that starts
+abbrev pub starts : List ℕ
+starts = codes "up 0/1\nend\n"
