@@ -8,6 +8,7 @@ from dataclasses import dataclass
 from typing import Any, Union
 
 from dorydate.given import short
+from dorydate.sites import Site
 from dorydate.toml import MOST_NUMBER, document_of, line_of_key, line_of_table
 
 MOST_IMPS = MOST_NUMBER
@@ -71,6 +72,7 @@ class Imp:
     number: int
     hosts: int = 1
     name: str = ""
+    more: str = ""  # what the comment after its number says beside the name: machines, and where it is (dorydate.sites)
 
     def __str__(self) -> str:
         return self.name or f"IMP {self.number}"
@@ -240,7 +242,7 @@ class Network:
         hosts = 1
         """
         head = [f'carrier = "{self.carrier}"', f"raw = {'true' if self.raw else 'false'}"]
-        imps = [f"[[imp]]\nid = {imp.number}{f' # {imp.name}' if imp.name else ''}\nhosts = {imp.hosts}" for imp in self.imps]
+        imps = [f"[[imp]]\nid = {imp.number}{f' # {imp.name}{imp.more}' if imp.name else ''}\nhosts = {imp.hosts}" for imp in self.imps]
         lines = [f"[[line]]\na = {line.a}\nb = {line.b}" for line in self.lines]
         return "\n".join([*head, *imps, *lines]) + "\n"
 
@@ -252,6 +254,12 @@ class Network:
         True
         """
         return read(text)
+
+
+def imp_of(number: int, hosts: int, comment: str) -> Imp:
+    """An IMP, by the comment after its number."""
+    name = Site.read(comment).name
+    return Imp(number, hosts, name, comment[len(name) :])
 
 
 def check(network: Network) -> None:
@@ -307,8 +315,8 @@ def read(text: str) -> Network:
     raw, carrier = document.get("raw", False), document.get("carrier", "subnet")
     if not isinstance(raw, bool) or not isinstance(carrier, str):
         raise BadNetwork("`raw` is true or false, and `carrier` is \"plain\" or \"subnet\"")
-    names = {int(number): printable(name) for number, name in NAME.findall(text)}
-    imps = tuple(Imp(it["id"], it["hosts"], names.get(it["id"], "")) for it in tables(document, "imp"))
+    comments = {int(number): printable(comment) for number, comment in NAME.findall(text)}
+    imps = tuple(imp_of(it["id"], it["hosts"], comments.get(it["id"], "")) for it in tables(document, "imp"))
     return Network(imps, tuple(Line(it["a"], it["b"]) for it in tables(document, "line")), raw, carrier)
 
 

@@ -1,29 +1,35 @@
 /** The workbench: one script, its replay, and the step at which one is. */
 
 import { chartOf } from "./chart.js";
+import { arrangement } from "./arrangement.js";
 import { addedLines, goOn } from "./edits.js";
 import { faultOf } from "./faults.js";
 import { History } from "./fold.js";
+import { judged } from "./goals.js";
 import { stopsOfFlow, stopsWith } from "./follow.js";
 import { keepText, storedText } from "./kept.js";
 import { Past } from "./past.js";
 import { isReplay, replay } from "./runs.js";
 import { headComment, notesOf, readInput } from "./script.js";
-import { fragment, placeIn } from "./share.js";
+import { CUT, fragment, noLesson, placeIn } from "./share.js";
 import { stopAt, stopsOf } from "./stops.js";
 import { Talk } from "./talk.js";
 import { messageName, waitsOf } from "./waits.js";
+import { tripsOf } from "./trips.js";
 import { nextFollowed, nextFound, nextLine, nextRefusal, questionAt } from "./walk.js";
 import { Compare } from "./view/compare.js";
+import { makeBorder } from "./view/borders.js";
 import { byId, h, say, set } from "./view/dom.js";
 import { Editor } from "./view/editor.js";
 import { saveText, textOfFile } from "./view/files.js";
 import { drawFoot, drawSentence, drawTabs, fillLists, TABS } from "./view/frame.js";
 import { fillHandout } from "./view/handout.js";
+import { Hands } from "./view/hands.js";
 import { Index } from "./view/index.js";
 import { listenToKeys } from "./view/keys.js";
 import { MapView } from "./view/map.js";
 import { Toast } from "./view/menu.js";
+import { Next } from "./view/next.js";
 import { Panes } from "./view/panes.js";
 import { Player } from "./view/player.js";
 import { Printed } from "./view/printed.js";
@@ -81,6 +87,8 @@ export class Workbench {
     network = /** @type {SVGElement} */ (/** @type {unknown} */ (byId("network")));
     /** @type {MapView | null} */
     map = null;
+    /** @type {string} why an address wasn't opened, "" once that was said */
+    why = "";
 
     /**
      * @param {Runner} runner
@@ -95,6 +103,7 @@ export class Workbench {
         this.sheet = new SheetView(byId("sheet"), go);
         this.printed = new Printed(runner);
         this.compare = new Compare(runner, go, () => this.draw());
+        this.next = new Next(this);
         this.index = new Index(byId("index"), examples, (name) => void this.load(name));
         this.panes = new Panes(byId("pane"), {
             choose: (imp) => this.choose(imp),
@@ -144,6 +153,9 @@ export class Workbench {
             rounds: () => void this.change(["calm 3"], "Three rounds pass"),
             stop: () => this.runner.stop(),
             print: () => window.print(),
+            nearer: () => this.map?.zoom(1.4),
+            farther: () => this.map?.zoom(1 / 1.4),
+            whole: () => this.wholeMap(),
             more: () => set(byId("more"), { "aria-expanded": String(byId("rare").classList.toggle("open")) }),
         };
         for (const [id, act] of Object.entries(presses)) byId(id).addEventListener("click", act);
@@ -153,6 +165,14 @@ export class Workbench {
         byId("grain").addEventListener("change", (event) => this.setGrain(/** @type {Grain} */ (valueOf(event))));
         byId("slider").addEventListener("input", (event) => this.goStop(Number(valueOf(event))));
         listenToKeys(this);
+        new Hands(this.network, {
+            zoom: (factor, x, y) => this.map?.zoom(factor, x, y),
+            pan: (dx, dy) => this.map?.pan(dx, dy),
+            fit: () => this.map?.fit(),
+        });
+        new ResizeObserver(() => this.map?.see()).observe(this.network);
+        makeBorder("split-x", "x", () => this.draw());
+        makeBorder("split-y", "y", () => this.draw());
         window.addEventListener("hashchange", () => void this.fromAddress());
         window.addEventListener("beforeprint", () => this.print());
         window.addEventListener("afterprint", () => byId("handout").replaceChildren());
@@ -163,9 +183,18 @@ export class Workbench {
     /** Arranges the regions by the room that there is for text of the chosen size. */
     arrange() {
         const root = document.documentElement;
-        const width = (root.clientWidth * 16) / parseFloat(getComputedStyle(root).fontSize);
-        root.dataset.layout = width >= 960 ? "wide" : width > 560 ? "mid" : "narrow";
-        root.toggleAttribute("data-tight", width < 1340);
+        const scale = 16 / parseFloat(getComputedStyle(root).fontSize);
+        const { layout, isLow } = arrangement(root.clientWidth * scale, window.innerHeight * scale);
+        root.dataset.layout = layout;
+        root.toggleAttribute("data-low", isLow);
+        root.toggleAttribute("data-tight", root.clientWidth * scale < 1340);
+        this.draw();
+    }
+
+    /** Gives the map the whole page, or takes it back. */
+    wholeMap() {
+        const isWhole = document.documentElement.toggleAttribute("data-whole");
+        set(byId("whole"), { "aria-pressed": String(isWhole) });
         this.draw();
     }
 
@@ -232,9 +261,10 @@ export class Workbench {
         if (window.location.hash === "#lessons") this.index.open();
         const place = await placeIn(window.location.hash);
         if (!place) return false;
+        if (place === "cut") return this.unopened(CUT);
         const example = this.examples.find((it) => it.name === place.example);
         const text = place.text ?? example?.text;
-        if (text === undefined) return false;
+        if (text === undefined) return this.unopened(noLesson(place.example ?? "", this.examples.map((it) => it.name)));
         this.example = example?.name ?? "";
         this.open(text);
         this.grain = /** @type {Grain} */ (place.grain);
@@ -246,8 +276,20 @@ export class Workbench {
         return true;
     }
 
+    /**
+     * Says why an address isn't opened, until something else is. What was here stays, or what was here last is shown.
+     *
+     * @param {string} why
+     */
+    unopened(why) {
+        this.why = why;
+        if (this.history) this.toast.show(why, null, true);
+        return false;
+    }
+
     /** @param {string} name */
     async load(name) {
+        this.why = "";
         const example = this.examples.find((it) => it.name === name);
         if (!example) return;
         this.past.leave(this.here());
@@ -298,14 +340,32 @@ export class Workbench {
             this.text = text;
             this.history = new History(outcome);
             this.fresh();
+            void this.judge(run);
             this.go(Math.min(position, this.history.length));
-            if (outcome.cut) this.toast.show(outcome.cut, null);
+            this.toast.hide();
+            if (this.why || outcome.cut) this.toast.show(this.why || outcome.cut, null, true);
+            this.why = "";
             return true;
         } finally {
             window.clearTimeout(slow);
             byId("wait").hidden = true;
             if (run === this.runs) document.documentElement.dataset.replays = String(run);
         }
+    }
+
+    /**
+     * Says whether the script reaches its goal, if it has one.
+     *
+     * @param {number} run the number of its replay
+     */
+    async judge(run) {
+        if (!this.history) return;
+        const { isReached, text } = await judged(this.runner.batch, this.history.replay.input);
+        if (run !== this.runs) return;
+        const goal = byId("goal");
+        goal.hidden = text === "";
+        say(goal, text);
+        goal.classList.toggle("reached", isReached);
     }
 
     /**
@@ -461,14 +521,16 @@ export class Workbench {
         return this.asking !== null;
     }
 
-    /** Lets the frame that arrived last be seen to move. */
+    /** Lets the packets that moved in the last step be seen to move. */
     travel() {
         const stop = this.stops[this.at() - 1];
         const isStill = window.matchMedia("(prefers-reduced-motion: reduce)").matches;
-        if (!stop || stop.main < 0 || !this.history || isStill) return;
-        const note = this.history.notes[stop.main];
-        const isArrival = note.fate && this.history.replay.moments[stop.main].words[0] === "deliver";
-        if (note.frame && isArrival) this.map?.travel(note.line, note.from, note.frame);
+        if (!stop || !this.history || isStill) return;
+        const pace = this.player.timer ? this.player.it.pace() : 900;
+        const trips = tripsOf(this.history, stop);
+        const each = Math.max(160, Math.min(420, (0.8 * pace) / Math.max(1, Math.min(trips.length, 4))));
+        const gap = trips.length > 1 ? (0.8 * pace - each) / (trips.length - 1) : 0;
+        trips.forEach(({ line, from, frame }, at) => this.map?.travel(line, from, frame, each, Math.max(0, gap * at)));
     }
 
     // ---- changes
@@ -593,9 +655,16 @@ export class Workbench {
         const file = /** @type {HTMLInputElement} */ (byId("file")).files?.[0];
         if (!file) return;
         const text = await textOfFile(file);
-        if (text === null) {
-            return this.toast.show(`${file.name} is not UTF-8, so it is not opened. Save it as UTF-8 first.`, null);
-        }
+        if (typeof text !== "string") return this.toast.show(`${file.name} ${text.why}`, null);
+        await this.openText(text);
+    }
+
+    /**
+     * Opens a text that is no example.
+     *
+     * @param {string} text
+     */
+    async openText(text) {
         this.past.leave(this.here());
         this.example = "";
         this.open(text);
@@ -623,6 +692,7 @@ export class Workbench {
         const from = at ? stops[at - 1].from : 0;
         const before = at ? history.at(from) : null;
         if (name === "printed") this.printed.draw(byId("pane"), this.text, hidden);
+        else if (name === "next") this.next.draw(byId("pane"));
         else if (name === "compare") this.compare.draw(byId("pane"), this.origin, { history, position, to, hidden });
         else if (name !== "script") {
             const earlier = before && name === "hosts" ? (this.earlier?.goTo(from) ?? null) : null;

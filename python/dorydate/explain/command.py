@@ -74,7 +74,7 @@ def replayed(options: Sequence[str]) -> int:
     given = Input(standard_input())
     program = kept_program()
     if program and program.endswith("-unproved"):
-        print("explain: the program is not proved yet (./build proves it)", file=sys.stderr)
+        print("explain: the program was built without proofs, of the same sources (./build proves it)", file=sys.stderr)
     try:
         found = replay(given, program)
     except CannotTell as why:

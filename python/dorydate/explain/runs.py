@@ -48,7 +48,10 @@ class Replayed:
 
 
 def kept_program() -> str | None:
-    """The kept program of the present sources, which the first call builds without proofs if ./build has not proved it; None where it cannot be kept."""
+    """The program that DORYDATE_PROGRAM names, or else the kept one of the present sources, which the first call builds without proofs if ./build has
+    not proved it; None where it cannot be kept."""
+    if named := os.environ.get("DORYDATE_PROGRAM"):
+        return named
     return subprocess.run([f"{ROOT}/tools/program"], stdout=subprocess.PIPE, text=True).stdout.strip() or None
 
 

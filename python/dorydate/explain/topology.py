@@ -1,4 +1,7 @@
-"""The network that an input describes, for the explanation of it and for the independent model beside it."""
+"""The network that an input describes, for the explanation of it and for the independent model beside it.
+
+A comment after an IMP's number has its name: `id = 1 # UCLA` (dorydate.sites).
+"""
 
 from __future__ import annotations
 

@@ -105,7 +105,7 @@ TEXTS = [
     (0, "0007000100" + "0C", "malformed: commands in bytes of 7 bits, and they have to be of 8"),
     (0, "0008007900" + "00" * 121, "malformed: 121 octets of commands, and there may be 120"),
     (0, "00080000", "malformed: 32 bits, fewer than the 40 of a header"),
-    (2, "0008000700" + "48454C4C4F0D0A", "7 bytes of 8 bits: HELLO\\r\\n"),
+    (2, "0008000700" + "48454C4C4F0D0A", "7 bytes of 8 bits: “HELLO\\r\\n”"),
     (2, "0020000100" + "00000064", "1 byte of 32 bits: 00000064"),
     (2, "0008000500" + "4142", "malformed: its header announces 5 bytes of 8 bits, and 16 bits follow"),
     (2, "0008000000", "0 bytes of 8 bits"),
@@ -116,11 +116,11 @@ DIALOGUE = "from-a-terminal-to-a-server"
 
 # a script of two hosts at one IMP over plain mailboxes, or of two IMPs with a line, and what is said to wait at its last calm
 STALLS: list[tuple[str, list[str], str | None]] = [
-    ("plain", ["send 1/1 33 8 41", "calm 5"], "8 bits on socket 33 of host 1/1, for a grant: 0 messages and 0 bits are granted, and a byte has 8 bits (`grant 0/1 16 MESSAGES BITS`)"),
+    ("plain", ["send 1/1 33 8 41", "calm 5"], "8 bits on socket 33 of host 1/1, for a grant of host 0/1 (`grant 0/1 16 MESSAGES BITS`)"),
     ("plain", ["grant 0/1 16 1 4", "send 1/1 33 8 41", "calm 5"], "1 message and 4 bits are granted"),
     ("plain", ["grant 0/1 16 1 8", "send 1/1 33 8 41", "calm 5"], None),
     ("raw", ["out 0/1 0/2 5 8 41", "drop 0 + 0", "impdown 2", "enddown 1 0", "calm 9"], "message 0 of flow 0/1 0/2 5, for its answer (nothing of it is alive: `giveup 0/1 0/2 5` ends it)"),
-    ("raw", ["impdown 2", "out 0/1 0/2 5 8 41", "calm 9"], "IMP 2 is down, and its neighbours' ends of lines are up, so they don't know: `enddown 1 0`"),
+    ("raw", ["impdown 2", "out 0/1 0/2 5 8 41", "calm 9"], "IMP 2 is down, and its neighbours don't see it: `enddown 1 0`"),
     ("raw", ["out 0/1 0/2 5 8 41", "calm 9"], None),
     ("raw", ["calm 9"], None),
 ]

@@ -120,7 +120,7 @@ def joined(entry: str) -> str:
 def title_of(name: str, text: str) -> str:
     """The title of an example: the words of its file's name, as its comments write them within their sentences."""
     comments = " ".join(it for it in text.splitlines() if it.startswith("#"))
-    capitals = {it.lower(): it for it in re.findall(r"(?<=[a-z,;] )[A-Z][a-z]+\b|\b[A-Z]{2,}\b", comments)}
+    capitals = {"imp": "IMP", "rfnm": "RFNM"} | {it.lower(): it for it in re.findall(r"(?<=[a-z,;] )[A-Z][a-z]+\b|\b[A-Z]{2,}\b", comments)}
     words = [capitals.get(it, it) for it in name.split("-")]
     title = " ".join(words)
     return title[:1].upper() + title[1:]

@@ -27,6 +27,7 @@ import { legendSign } from "./map.js";
 export const TABS = /** @type {[string, string][]} */ ([
     ["script", "Script"],
     ["waits", "Waits"],
+    ["next", "Possible"],
     ["distances", "Distances"],
     ["inside", "Inside"],
     ["hosts", "Hosts"],
@@ -108,7 +109,7 @@ function introOf(history) {
 /** @param {Stop} stop */
 function roundsOf({ round, last }) {
     if (!round) return "";
-    return ` · round ${round === last ? round : `${round} to ${last}`}`;
+    return round === last ? ` · round ${round}` : ` · rounds ${round} to ${last}`;
 }
 
 /**
