@@ -22,6 +22,7 @@ COMMANDS = {
     "optimised": "workshop.builds.optimised:main",
     "pack": "workshop.wasm.pack:main",
     "release": "workshop.builds.release:main",
+    "site": "workshop.builds.site:main",
 }
 
 

@@ -260,7 +260,7 @@ class Replay:
         return self.do(events.Send(self.network.host(host), socket, text_of(text)), why)
 
     def grant(self, host: HostName, socket: int, messages: int, bits: int, why: str = "") -> Deed:
-        """A user that receives grants the sender so many messages and bits.
+        """A user that receives grants the sender a number of messages and of bits.
 
         >>> world.grant("UCLA", 18, 2, 800)
         grant 0/1 18 2 800
