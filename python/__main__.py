@@ -12,6 +12,7 @@ COMMANDS = {
     "cases": "workshop.checks.cases:run",
     "caught": "workshop.wasm.caught:main",
     "check": "workshop.commands:check",
+    "check-one": "workshop.builds.one:main",
     "explain": "dorydate.explain.command:main",
     "explore": "dorydate.explore.command:main",
     "export": "dorydate.export.command:main",

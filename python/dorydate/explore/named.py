@@ -7,6 +7,7 @@ from dataclasses import dataclass
 from dorydate.network import Network
 from dorydate.sentences.table import TABLE
 
+
 @dataclass(frozen=True)
 class Named:
     """A search: what is looked for, in words; the network, the pattern, and the kinds of events, all where none are named."""

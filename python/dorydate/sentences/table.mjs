@@ -77,6 +77,8 @@ export const TABLE = {
 "taken-and-incomplete": ["a message is taken, and its sender gets Incomplete", "raw LEFT-RIGHT", "out A B N .. then not out A B N .. then in A B N .. then not out A B N .. then answer incomplete A B N"],
 "half-open": ["a host has an open end of a connection whose other end is gone", "plain LEFT RIGHT", "not pairreset .. then up A then not down .. then life B T A S _ _ _ .. open and life A S B T .. ended and calm 20: nothing"],
 "resets-in-step": ["two resets never end, and no host stops", "LEFT-RIGHT", "not down .. then out .. and calm 50: no ready, 100 lines"],
+"one-user-in-step": ["resets never end, and a host that is ready is reset again and again", "LEFT-RIGHT", "not down .. then pairreset A B then pairreset A B then pairreset A B and calm 50: no ready, 100 lines"],
+"waits-for-a-contact": ["all is at rest, and a host waits for the reply to its reset, which never comes", "plain LEFT RIGHT", "not down .. then not ready _ _ then ready A B then not ready B A then answer incomplete A B .. then not ready B A and calm 20: nothing"],
 "lost-at-a-close": ["bits are sent, and not taken, and both users learn that the connection has ended", "plain LEFT RIGHT", "not down .. then not pairreset .. then ended A S B T and life A S B T O P send M N .. ended and life B T A S Q R receive K L .. ended and calm 5: 0 lines where L < N where O < R where Q < P"],
 "noted-before-it-comes": ["a message is noted as never come, and then it arrives", "raw LEFT-RIGHT", "noted never A B N K then arrives data A B N K"],
 "refused-before-it-comes": ["a sender gets NotTaken, and then its message arrives", "raw LEFT-RIGHT", "noted never A B N K then answer incomplete A B N then arrives data A B N K"],

@@ -17,7 +17,6 @@ It takes the proved program, or where ./build has not made that the one that was
 from __future__ import annotations
 
 import functools
-import glob
 import multiprocessing
 import os
 import subprocess
@@ -35,8 +34,10 @@ from dorydate.model.verdict import Judge, ended, ends_audit, says
 from dorydate.model.chance.worlds import Script
 from dorydate.model.runs import End
 from dorydate.model.topology import Topology, network_of, spelled_input
+from dorydate.model.without.stored import Lesson
 from workshop.checks import log_rows
 from workshop.checks.cases import Case, cases_below
+from dorydate.model.without.stored import Lesson
 from workshop.checks import headline
 from workshop.parts import ROOT, any_program
 
@@ -218,11 +219,12 @@ def check_without() -> list[str]:
     """What is wrong with the verdicts on the books that break where a rule is lacking."""
     wrong: list[str | None] = []
     seen = Counter[str]()
-    for path in sorted(glob.glob(f"{ROOT}/without/*")):
-        lesson = headline.Lesson(path)
+    for path in headline.stored():
+        lesson = Lesson(path)
         octets = spelled_log(book_of(lesson.network, lesson.run(lesson.rule, lesson.script)))
         owed = ends_audit(octets)
-        if (f"broken {lesson.breaks}" in parts_said(owed)) != (lesson.breaks in PARTS) or lesson.breaks not in PARTS and said(owed) != "kept":
+        parts = ["run", *PARTS]
+        if (f"broken {lesson.breaks}" in parts_said(owed)) != (lesson.breaks in parts) or lesson.breaks not in parts and said(owed) != "kept":
             wrong.append(f"{path}: it breaks {lesson.breaks}, and the audit in Python says {owed[1]}")
         seen[said(owed)] += 1
         wrong.append(compared(path, octets, owed))

@@ -13,8 +13,9 @@ stored inputs of cases/; and each other name has to be one of these, or that of 
 docs/PROVED.md names each clause after the path of its call, `CRATE::..::CALL`, and docs/measured/crates.md leads to the claims of each crate.
 crates.txt names for each crate only others that its sources name.
 
-The drawings of docs/pictures, the page of crates, the index of rules and the page of what must be believed have to be as they are made, the numbers in drawings as the sources have them, and
-no text of a drawing over another one or over a line. Words of the house's dialect are counted against limits that can only fall
+The drawings of docs/pictures, the page of crates, the index of rules, the page of what must be believed and that of the package in Python have to be as they are made, the numbers in drawings as the sources have them, and
+no text of a drawing over another one or over a line. Figures in prose have to be those of their tables (workshop.documents.figures), and each crate's lines of
+.antt within its budget, which a commit raises only with a line that says what for (workshop.documents.budget). Words of the house's dialect are counted against limits that can only fall
 (workshop.documents). With --write these and the page of planted bugs are made anew, and with --lower the limits are lowered to what is counted.
 With --rule the rules in which all of the words occur are printed, each with its definition, its functions, its rows and its planted bugs.
 
@@ -34,7 +35,7 @@ import unittest
 from collections import Counter
 from collections.abc import Iterator
 
-from workshop.documents import anchors, believed, crates_page, dialect, named_crates, notebook, paragraphs, planted, rules, tests
+from workshop.documents import anchors, believed, budget, crates_page, dialect, figures, named_crates, notebook, paragraphs, planted, reference, rules, tests
 from workshop.drawings import pictures
 from workshop.parts import ROOT
 
@@ -242,17 +243,20 @@ def failed_tests() -> list[str]:
 def made() -> list[str]:
     """What isn't as it is made, and what the drawings and the words of the documents have that they shouldn't."""
     print("check docs:", dialect.summary())
-    return [*failed_tests(), *paragraphs.faults(), *anchors.faults(), *pictures.faults(), *crates_page.faults(), *planted.faults(), *rules.faults(), *believed.faults(), *notebook.faults(), *dialect.faults(), *named_crates.faults()]
+    print("check docs:", budget.summary())
+    return [*failed_tests(), *paragraphs.faults(), *anchors.faults(), *pictures.faults(), *crates_page.faults(), *planted.faults(), *rules.faults(), *believed.faults(), *notebook.faults(), *reference.faults(), *figures.faults(), *budget.faults(), *dialect.faults(), *named_crates.faults()]
 
 
 def write() -> int:
-    """Makes the drawings and the pages of crates, of planted bugs, of rules and of what must be believed."""
+    """Makes the drawings and the pages of crates, of planted bugs, of rules, of what must be believed and of the package."""
     crates_page.write()
     planted.write()
     rules.write()
     believed.write()
     notebook.write()
-    print(f"check docs: docs/measured/crates.md, planted.md, rules.md, promise.md, docs/experiment.ipynb and {pictures.write()} drawings are written")
+    figures.write()
+    reference.write()
+    print(f"check docs: docs/measured/crates.md, planted.md, rules.md, promise.md, docs/experiment.ipynb, docs/reference.md and {pictures.write()} drawings are written")
     return 0
 
 
@@ -266,6 +270,7 @@ def main() -> int:
         return 0 if rules.show(options.rule) else 1
     if options.lower:
         dialect.lowered()
+        budget.lower()
     if options.write or options.lower:
         return write() if options.write else 0
     wrong = [*missing_files(), *missing_claims(), *unknown_names(), *unknown_clauses(), *made(), *over_limits()]

@@ -2,11 +2,13 @@
 
 Shows what each rule of docs/headline.md is there for: ./check headline [FILE]
 
-Each file of `without` has a network and a script, and says in its first two lines which rule is lacking and what breaks.
+Each file of `without`, and of `without/shortest`, has a network and a script, and says in its first two lines which rule is lacking and what breaks.
 It runs in the model that lacks this rule (python/dorydate/model/without), where the audit of the book has to find that part of the
 promise broken; in the model with all its rules, where nothing may break; and once more without each of its lines, where
 nothing may break either: so no line could be left out, but for one that a file may name as being there for the reader. With a
 FILE it prints both outputs, without the rule and with it.
+
+`without/shortest` has the shortest script for each rule that `./explore --without RULE` has found, and no longer one than `without`.
 
 What comes of numbers that wrap around is the same whatever their number, as long as it is more than twice the window
 (docs/numbers.md). So a file may have a line `# numbers: N W`: there the model has N numbers and a window of W, and few messages
@@ -22,74 +24,12 @@ import glob
 import os
 import random
 import sys
-from collections.abc import Iterable, Iterator
 
 from dorydate.model.chance.worlds import Script, some_world
-from dorydate.model.imp_state import NUMBERS, Numbers
-from dorydate.model.runs import Place
-from dorydate.model.topology import network_of
-from dorydate.model.without import LACKING, broken, opened_without, read_line
+from dorydate.model.without import HARMLESS, LACKING, broken, opened_without
+from dorydate.model.without.stored import Lesson, unrolled
 from dorydate.model.world import World
 from workshop.parts import ROOT
-
-HARMLESS = [
-    "an RRP before that RFNM is remembered",
-    "a request whose link a sending end has is refused",
-    "ALL adds to the counters",
-    "a receiver subtracts what was returned",
-]
-
-
-def numbers_of(words: str | None) -> Numbers:
-    """How many numbers there are and the window, as words say it; those of the program where there are no words."""
-    return Numbers(*map(int, words.split())) if words else NUMBERS
-
-
-def unrolled(lines: Iterable[str]) -> Iterator[str]:
-    """The lines of a script, those between `repeat N` and `done` N times."""
-    left = iter(lines)
-    for line in left:
-        if line.startswith("repeat "):
-            yield from [*iter(left.__next__, "done")] * int(line.removeprefix("repeat "))
-        else:
-            yield line
-
-
-class Lesson:
-    """A file of `without`: the rule, what breaks, the network and the events."""
-
-    def __init__(self, path: str) -> None:
-        with open(path, encoding="utf-8") as file:
-            self.lines = file.read().splitlines()
-        self.rule = self.lines[0].removeprefix("# lacks: ")
-        self.breaks = self.lines[1].removeprefix("# breaks: ")
-        self.beside = self.said("beside")  # a line that is there only for the reader
-        self.numbers = numbers_of(self.said("numbers"))
-        marker = self.lines.index("%")
-        self.network = network_of("\n".join(self.lines[:marker]))
-        self.script = self.lines[marker + 1 :]
-
-    def said(self, name: str) -> str | None:
-        """What the third line says under a name, None where it is another line."""
-        return self.lines[2].removeprefix(f"# {name}: ") if self.lines[2].startswith(f"# {name}: ") else None
-
-    def run(self, rule: str | None, script: Iterable[str]) -> Place:
-        """What a script comes to without a rule."""
-        place = opened_without(rule, self.network, self.numbers)
-        for line in unrolled(script):
-            if event := read_line(line, self.network.raw):
-                place.happen(*event)
-        return place
-
-    def part(self, rule: str | None, script: Iterable[str]) -> str | None:
-        """What breaks without a rule."""
-        return broken(self.run(rule, script))
-
-    def without_a_line(self) -> Iterator[tuple[int, str, list[str]]]:
-        """Each line that has to be needed, with its number in the file and the script without it."""
-        for at, line in enumerate(self.script):
-            if line != self.beside and line and not line.startswith(("#", "repeat ", "done")):
-                yield len(self.lines) - len(self.script) + at + 1, line, self.script[:at] + self.script[at + 1 :]
 
 
 def check(path: str) -> str | None:
@@ -105,6 +45,20 @@ def check(path: str) -> str | None:
         if lesson.part(lesson.rule, script) == lesson.breaks:
             return f"it breaks {lesson.breaks} without line {number} too: {line}"
     return None
+
+
+def stored() -> list[str]:
+    """The stored scripts."""
+    return sorted(it for it in [*glob.glob(f"{ROOT}/without/*"), *glob.glob(f"{ROOT}/without/shortest/*")] if os.path.isfile(it))
+
+
+def longer(path: str) -> str | None:
+    """What is wrong with a shortest script: it is longer than the one for readers."""
+    other = path.replace("/shortest/", "/")
+    if other == path or not os.path.isfile(other):
+        return None
+    short, long = (sum(bool(line) and not line.startswith("#") for line in unrolled(Lesson(it).script)) for it in (path, other))
+    return f"it has {short} events, and {os.path.relpath(other, ROOT)} has {long}" if short > long else None
 
 
 def harmless(runs: int) -> int:
@@ -140,10 +94,14 @@ def main() -> int:
         return harmless(int((sys.argv[2:3] or ["1000"])[0]))
     if len(sys.argv) > 1:
         return show(sys.argv[1])
-    wrong, paths = 0, sorted(glob.glob(f"{ROOT}/without/*"))
+    wrong, paths = 0, stored()
     for path in paths:
-        if cause := check(path):
+        if cause := check(path) or longer(path):
             wrong += 1
             print(f"check headline: {os.path.basename(path)}: {cause}")
-    print(f"check headline: {len(paths)} rules, {wrong} of them not shown")
+    rules = {Lesson(it).rule for it in paths if os.path.dirname(it).endswith("shortest")}
+    if missing := [it for it in LACKING if it not in rules and it not in HARMLESS]:
+        print(f"check headline: no shortest script without the rule: {missing[0]}")
+        wrong += 1
+    print(f"check headline: {len(paths)} scripts of {len(rules)} rules, {wrong} that don't show theirs")
     return 1 if wrong else 0

@@ -26,11 +26,12 @@ from typing import Any
 
 from dorydate.model.runs import opened
 from dorydate.model.script import read_event
-from dorydate.explain import topology
 from dorydate.explain.inside import Inside
+from dorydate.explain.topology import of_model
 from dorydate.explore.named import SEARCHES
 from dorydate.explore.pattern import read
 from dorydate.explain import faults
+from dorydate.network import Network
 from dorydate.model.subnet import Subnet
 from dorydate.model.trace_subnet import every_name, part
 from dorydate.model.trace_world import program_of
@@ -54,12 +55,12 @@ def states_of(text: bytes) -> list[dict[str, dict[str, Any] | None]] | None:
     """The parts of a subnet, and the programs of its hosts, after each event of an input, by the independent model; None for plain
     mailboxes and long calms."""
     head, _, script = text.decode().partition("\n%\n")
-    network = topology.read(head.encode())
+    network = Network.read(head)
     lines = [it for it in script.split("\n") if it and not it.startswith("#")]
     rounds = sum(int(it.split(" ")[1]) for it in lines if it.startswith("calm "))
-    if network.is_plain() or rounds > MOST_ROUNDS or len(network.topology.imps) > 16:
+    if network.carrier == "plain" or rounds > MOST_ROUNDS or len(network.imps) > 16:
         return None
-    place = opened(network.topology)
+    place = opened(of_model(network))
     subnet = getattr(place, "carrier", place)
     if not isinstance(subnet, Subnet):
         return None
@@ -84,12 +85,12 @@ def told_of_deeds() -> dict[str, dict[str, str]]:
             continue
         with open(f"{ROOT}/examples/{name}", "rb") as file:
             head, _, script = file.read().decode().partition("\n%\n")
-        network = topology.read(head.encode())
+        network = Network.read(head)
         lines = script.split("\n")
         rounds = sum(int(it.split(" ")[1]) for it in lines if it.startswith("calm "))
-        if network.raw or network.names or rounds > MOST_ROUNDS:
+        if network.raw or any(it.name for it in network.imps) or rounds > MOST_ROUNDS:
             continue
-        goes = Inside(network.topology)
+        goes = Inside(of_model(network))
         for number, line in enumerate(lines, 1):
             if line and not line.startswith("#"):
                 outcome = goes.happen(read_event(line, False))

@@ -8,7 +8,7 @@ import tempfile
 import unittest
 from unittest import mock
 
-from workshop.documents import anchors, believed, crates_page, dialect, named_crates, paragraphs, rules
+from workshop.documents import anchors, believed, believed_words, budget, crates_page, dialect, figures, named_crates, paragraphs, rules
 from workshop.drawings import facts, formats, hosts, network, pictures, repository
 from workshop.drawings.svg import Drawing
 from workshop.parts import ROOT
@@ -197,13 +197,50 @@ class Believed(unittest.TestCase):
     def test_names_are_followed_over_files_to_definitions_and_types_of_rust(self) -> None:
         modules = {("a", "A"): believed.parsed("a", BELIEVED), ("b", "B"): believed.parsed("b", "pub use Rattle.c.specs.C.{two}\n"), ("c", "C"): believed.parsed("c", "pub two : ℕ\ntwo = 2\n")}
         with mock.patch.object(believed, "module_of", lambda crate, path: modules.get((crate, path), believed.Module())):
-            found, types = believed.closure(("a", "A", "other"))
-        self.assertEqual(set(found), {("a", "A", "other"), ("a", "A", "Kind"), ("a", "A", "one"), ("c", "C", "two")})
-        self.assertEqual((types, believed.count([*found.values()])), ({("b", "declared.thing.Thing")}, 8))
+            whole = believed.Reading()
+            whole.follow(("a", "A", "other"))
+        # each before those that it names
+        self.assertEqual([*whole.definitions], [("a", "A", "other"), ("a", "A", "Kind"), ("a", "A", "one"), ("c", "C", "two")])
+        self.assertEqual((whole.types, sum(it.size for it in whole.definitions.values())), ({("b", "declared.thing.Thing")}, 8))
 
     def test_more_lines_than_may_be_are_named(self) -> None:
         with mock.patch.object(believed, "MOST_LINES", 10):
             self.assertIn("lines must be believed of the headline, of at most 10", believed.faults()[-1])
+
+    def test_a_word_that_the_key_lacks_is_named(self) -> None:
+        with mock.patch.object(believed_words, "KEY", tuple(it for it in believed_words.KEY if "Contains" not in it[0])):
+            self.assertIn("docs/measured/promise.md: the key has no word `Contains`", believed.faults())
+
+    def test_the_page_begins_with_the_promise(self) -> None:
+        first, *others = believed.reading()[0]
+        self.assertEqual([name for _, _, name in first[1]], ["Promised"])
+        self.assertEqual([heading.strip() for heading, _ in others[:5]], ["### `run`", "### `formed`", "### `told`", "### `safe`", "### `joined`"])
+
+
+class Figures(unittest.TestCase):
+    def test_a_figure_that_its_table_has_otherwise_is_named(self) -> None:
+        bugs = figures.FIGURES["planted bugs"]()
+        self.assertEqual([*figures.wrong_in("a.md", f"<!--=planted bugs-->{bugs}<!--/--> bugs")], [])
+        self.assertEqual([*figures.wrong_in("a.md", "<!--=planted bugs-->7<!--/--> bugs")], [f"a.md: `planted bugs` is {bugs}, and not 7 (./check docs --write)"])
+        self.assertEqual([*figures.wrong_in("a.md", "<!--=bugs-->7<!--/-->")], ["a.md: there is no figure `bugs`"])
+        self.assertEqual(figures.written("<!--=planted bugs-->7<!--/--> bugs"), f"<!--=planted bugs-->{bugs}<!--/--> bugs")
+
+    def test_each_figure_is_had(self) -> None:
+        self.assertEqual([name for name, figure in figures.FIGURES.items() if not figure()[0].isdigit()], [])
+
+
+class Budget(unittest.TestCase):
+    def test_a_crate_over_its_budget_is_named(self) -> None:
+        self.assertEqual(budget.over({"a": 12}, {"a": [(10, "what it had"), (2, "a law")]}, {".rt": 3}, {".rt": 3}), [])
+        (fault,) = budget.over({"a": 13}, {"a": [(10, "what it had"), (2, "a law")]}, {}, {})
+        self.assertIn("a: 13 lines of .antt, and its budget is 12", fault)
+        self.assertEqual(len(budget.over({"a": 1}, {}, {}, {})), 1)
+
+    def test_an_amount_without_a_reason_and_more_wide_lines_are_named(self) -> None:
+        self.assertEqual(budget.over({}, {"a": [(5, " ")]}, {".rt": 4}, {".rt": 3}), ["a: an amount of its budget doesn't say what for", ".rt: 4 lines of over 120 columns, of at most 3"])
+
+    def test_what_is_not_used_is_taken_off(self) -> None:
+        self.assertEqual(budget.lowered({"a": 9, "b": 4, "c": 3}, {"a": [(10, "what it had"), (2, "a law")], "b": [(4, "what it had")]}), {"a": [(7, "what it had"), (2, "a law")], "b": [(4, "what it had")], "c": [(3, "what the crate had when it got a budget")]})
 
 
 class Hook(unittest.TestCase):
