@@ -4,7 +4,7 @@ from __future__ import annotations
 
 import unittest
 
-from dorydate.explain.topology import read
+from dorydate.explain.topology import names_of
 from dorydate.network import Network
 from dorydate.sites import Site
 
@@ -29,7 +29,7 @@ class Sites(unittest.TestCase):
         self.assertEqual([it.name for it in network.imps], ["UCLA", "SRI"])
         self.assertIn("id = 1 # UCLA [Sigma 7] @ 34.07 -118.44\n", network.toml())
         self.assertEqual(Network.read(network.toml()), network)
-        self.assertEqual(read(TEXT.encode()).names, {1: "UCLA", 2: "SRI"})
+        self.assertEqual(names_of(network), {1: "UCLA", 2: "SRI"})
 
 
 if __name__ == "__main__":
