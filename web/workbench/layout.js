@@ -46,7 +46,7 @@ export function placed(network) {
         : fitted(turned(spread(numbers.length, hopCounts(network, numbers), step)));
     const outline = isKnown ? OUTLINE.map(([north, east]) => placeOn({ north, east }, wide)) : [];
     const widths = numbers.map((number) => boxes.get(number)?.w ?? box.w);
-    const room = isKnown ? 14 : 0; // between sites of one town
+    const room = isKnown ? 28 : 0; // between sites of one town
     points = apart(points, widths, room + (small ? 12 : 46), room + 2 * box.h + (small ? 15 : 52));
     const imps = new Map(numbers.map((number, place) => [number, points[place]]));
     const hosts = hostsAround(network, imps, boxes, radius, small);

@@ -93,10 +93,10 @@ def told_of_deeds() -> dict[str, dict[str, str]]:
         goes = Inside(of_model(network))
         for number, line in enumerate(lines, 1):
             if line and not line.startswith("#"):
-                told = goes.happen(read_event(line, False))
+                outcome = goes.happen(read_event(line, False))
                 words = line.split(" ", 2) if line.startswith("type ") else line.split(" ")
-                if words[0] in DEEDS and not any(it.startswith("refused ") for it in told.printed):
-                    found.setdefault(name, {})[str(number)] = f"{silence(words)} {' '.join(told.sentences)}".rstrip()
+                if words[0] in DEEDS and not any(it.startswith("refused ") for it in outcome.printed):
+                    found.setdefault(name, {})[str(number)] = f"{silence(words)} {' '.join(outcome.sentences)}".rstrip()
     return found
 
 
