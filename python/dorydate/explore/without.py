@@ -202,9 +202,9 @@ def event_of(line: str) -> Event:
 
 
 def stored_for(rule: str) -> Lesson | None:
-    """The stored script of a rule, where the folder `without` is there."""
+    """The shortest stored script of a rule, where the folder `without` is there."""
     root = repository()
-    paths = sorted((root / "without").glob("*")) if root else []
+    paths = sorted((root / "without" / "shortest").glob("*")) if root else []
     return next((it for it in (Lesson(str(path)) for path in paths if path.is_file()) if it.rule == rule), None)
 
 
