@@ -7,9 +7,11 @@ import os
 import signal
 import tempfile
 import unittest
+from collections.abc import Callable
 from concurrent.futures import Future
 from itertools import islice
 from pathlib import Path
+from typing import TypeVar
 
 from dorydate.explore import fast, without
 from dorydate.explore.breadth import Asked, Lists, Walk
@@ -20,10 +22,12 @@ from dorydate.explore.pattern import read
 from dorydate.explore.search import Job, Progress
 from dorydate.explore.sides import batches, calms_of, with_own_places
 from dorydate.explore.state import OtherState, State
+from dorydate.model.without import HARMLESS
 from dorydate.network import Network
 from dorydate.program import Program, found
 from dorydate.script import Calm, read_event
 
+Made = TypeVar("Made")
 PLAIN = Network.joined("A", "B", raw=True, carrier="plain")
 JOB = Job(PLAIN.toml(), "in A B N ..")
 
@@ -42,6 +46,22 @@ def ends_once(mark: str, first: int, many: int) -> list[int]:
         Path(mark).touch()
         os.kill(os.getpid(), signal.SIGKILL)
     return squares(first, many)
+
+
+class Bare:
+    """Workers without the package."""
+
+    def submit(self, call: Callable[..., list[Made]], *words: object) -> Future[list[Made]]:
+        future: Future[list[Made]] = Future()
+        future.set_exception(ModuleNotFoundError("no", name="dorydate"))
+        return future
+
+    def count(self) -> int:
+        return 1
+
+    def renew(self) -> None: ...
+
+    def close(self) -> None: ...
 
 
 class Executors(unittest.TestCase):
@@ -68,19 +88,6 @@ class Executors(unittest.TestCase):
             self.assertTrue(os.path.exists(f"{room}/mark"))
 
     def test_a_package_that_is_missing_is_told(self) -> None:
-        class Bare:
-            def submit(self, *_: object) -> Future[list[int]]:
-                future: Future[list[int]] = Future()
-                future.set_exception(ModuleNotFoundError("no", name="dorydate"))
-                return future
-
-            def count(self) -> int:
-                return 1
-
-            def renew(self) -> None: ...
-
-            def close(self) -> None: ...
-
         with self.assertRaisesRegex(NoCluster, "a worker has no package dorydate"):
             next(Ordered(Bare(), squares).since(0))
 
@@ -207,7 +214,7 @@ class Without(unittest.TestCase):
     def test_each_stored_script_names_a_rule(self) -> None:
         for rule in without.rules():
             lesson = without.stored_for(rule)
-            self.assertEqual(lesson is None, rule in without.HARMLESS, rule)
+            self.assertEqual(lesson is None, rule in HARMLESS, rule)
 
 
 if __name__ == "__main__":

@@ -20,7 +20,7 @@ from pathlib import Path
 
 from workshop.parts import ROOT, any_program
 
-SEARCH = ["half-open", "--seed", "3", "--matches", "3", "--quiet"]
+SEARCH = ["half-open", "--seed", "3", "--matches", "2", "--quiet"]
 TABLE = "search,network,raw,pattern,seeds,runs,matches,audit\nresets-in-step,,,,1-2,2000,1,\n,A-B,yes,out A B N .. then not out A B N .. then in A B N .. then not out A B N .. then in A B N ..,1,400,,yes\n"
 WAITS = 60.0  # seconds for a cluster to begin
 BAD = {

@@ -128,7 +128,7 @@ def page(program: Program) -> str:
             "",
             "## What a long calm leaves",
             "",
-            f"The same program has looked what 200 rounds make of every state that lists of these lengths lead to. *No rest*: something still crosses in the last rounds, in which these lines come. *Only a new contact frees a pair*: all is up and at rest, and nothing is without an answer, but a host waits for the reply to its reset. No state was a lockup: with everything up and at rest no packet was held.",
+            "The same program has looked what 200 rounds make of every state that lists of these lengths lead to. *No rest*: something still crosses in the last rounds, in which these lines come. *Only a new contact frees a pair*: all is up and at rest, and nothing is without an answer, but a host waits for the reply to its reset. No state was a lockup: with everything up and at rest no packet was held.",
             "",
             "| Network | Events | States | What they are | The shortest script |",
             "|---|---|---|---|---|",
