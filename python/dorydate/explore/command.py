@@ -248,7 +248,8 @@ def all_states(words: argparse.Namespace, program: Program) -> int:
     """Every list, by the program."""
     pattern = pattern_of(words)
     breadth.checked(network_of(words), pattern)
-    return breadth.command(asked_of(words, pattern, (1,)), program)
+    status = breadth.command(asked_of(words, pattern, (1,)), program)
+    return {FOUND: NOT_FOUND, NOT_FOUND: FOUND}[status] if words.never else status
 
 
 def found_fast(words: argparse.Namespace, program: Program) -> int:

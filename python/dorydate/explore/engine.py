@@ -207,7 +207,7 @@ def is_of_a_kill(fault: Exception) -> bool:
 def in_words(fault: Exception) -> Exception:
     """What is to be said of a task that failed by itself."""
     if isinstance(fault, ModuleNotFoundError):
-        return NoCluster(f"a worker has no package {fault.name}: it has to be installed there")
+        return NoCluster(f"a worker has no package {fault.name or 'dorydate'}: it has to be installed there")
     if isinstance(fault, NoProgram):
         return NoCluster(f"a worker has no program: {fault}")
     if is_of_a_kill(fault):

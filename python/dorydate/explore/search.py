@@ -114,6 +114,7 @@ class Search:
         self.table = self.many.table(self.maker.events)
         self.seed, self.audits = seed, audits
         self.progress = Progress()
+        self.is_stopped = False  # whether Ctrl-C has ended it
 
     # ---- looking
 
@@ -189,7 +190,7 @@ class Search:
                     shown = time.monotonic()
                     show(progress)
         except KeyboardInterrupt:
-            pass
+            self.is_stopped = True
         return progress.best
 
     def take(self, script: Script) -> None:
