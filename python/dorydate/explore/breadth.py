@@ -193,7 +193,7 @@ class Lists:
         return None
 
     def of_length(self, length: int, state: int = 0) -> Iterator[Events]:
-        """All lists of so many events that are served, from a state on."""
+        """All lists of a number of events that are served, from a state on."""
         if not length:
             yield ()
             return
@@ -249,7 +249,7 @@ def by_whom(program: Program) -> str:
 
 
 def command(asked: Asked, program: Program) -> int:
-    """Looks at every list of at most so many events, and prints what was seen."""
+    """Looks at every list of at most a number of events, and prints what was seen."""
     network, pattern = asked.network, asked.pattern
     if pattern.needs_lives() or pattern.calm.rounds:
         lists = Lists(network, pattern, program, asked.events, asked.opening)

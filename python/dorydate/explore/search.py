@@ -62,7 +62,7 @@ class Progress:
             self.reached += depth == self.deepest
 
     def line(self, length: int, runs: int = 0) -> str:
-        """A line for whoever waits, with the time that is left for so many schedules."""
+        """A line for whoever waits, with the time that is left for `runs` schedules."""
         rate = self.schedules / max(self.seconds(), 0.001)
         shortest = f"; the shortest match has {len(self.best)} events" if self.best is not None else ""
         kept = f", {self.kept} logs kept" if self.kept else ""

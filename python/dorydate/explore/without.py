@@ -88,7 +88,7 @@ def rules() -> list[str]:
 
 def print_rules() -> int:
     for rule in rules():
-        print(rule + (" (nothing was seen to break without this rule alone)" if rule in HARMLESS else ""))
+        print(rule + (" (nothing was seen to break without only this rule)" if rule in HARMLESS else ""))
     return 0
 
 
@@ -191,7 +191,7 @@ class Search:
 
 
 def event_of(line: str) -> Event:
-    """The event of a line, those of the model alone included."""
+    """The event of a line, those that only the model has included."""
     kind, _, rest = line.partition(" ")
     made = {"hold": Hold, "free": Free}.get(kind)
     if made is None:

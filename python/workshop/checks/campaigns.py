@@ -1,6 +1,6 @@
 """Searches by several processes and a cluster, killed workers and killed searches: the same answer, octet for octet (two minutes): ./check campaigns
 
-A search with a fixed seed runs by 1, 2 and 4 processes, with a worker that is killed, and once killed itself and gone on with from its state.
+A search with a fixed seed runs by 1, 2 and 4 processes, with a worker that is killed, and once killed itself and continued from its state.
 Where dask.distributed is installed it also runs over a cluster of this machine's processes, one of which is killed. So does a campaign, whose
 table of results has to be the same. Bad inputs have to be refused in one line each. It is not part of the gate, since it needs a fast program.
 """
@@ -105,7 +105,7 @@ def local(runs: Runs) -> list[str]:
     state = runs.folder / "state"
     if not runs.killed(state, *SEARCH, "--cores", "2", "--state", str(state)):
         wrong.append("the search had ended before it was killed")
-    wrong += [] if runs.run(*SEARCH, "--cores", "1", "--state", str(state))[1] == wanted else ["a search that was killed finds something else when it goes on"]
+    wrong += [] if runs.run(*SEARCH, "--cores", "1", "--state", str(state))[1] == wanted else ["a search that was killed finds something else when it continues"]
     print(f"check campaigns: 1, 2 and 4 processes, a killed worker and a killed search: {'; '.join(wrong) or 'the same octets'}", flush=True)
     return wrong
 

@@ -74,7 +74,7 @@ CLAIMS = [
 
 
 def row_of(claim: Claim, program: Program) -> str:
-    """The row of a claim in the table; a script that the program doesn't confirm is told there."""
+    """The row of a claim in the table; a script that the program doesn't confirm is marked there."""
     pattern = read(SEARCHES[claim.name].pattern)
     what = asked(claim.network, pattern, claim.depth)
     answer = fast.searched(what)

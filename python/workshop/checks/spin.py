@@ -61,7 +61,7 @@ RUNS = [
     Run("numbers", "without the rule: an IMP comes up only when nothing of it is alive", (*SMALL, STOPS, "AT_ONCE"), True),
     Run("numbers", "without the rule: a number that is new is noted when it is asked about", (*SMALL, STOPS, "ASKED_UNNOTED"), True),
     Run("numbers", "without the rule: a question about a message that waits isn't answered", (*SMALL, STOPS, "IMPATIENT"), True),
-    Run("numbers", "without the rule: no number is begun while the one a window behind is alive", (*SMALL, STOPS, "NO_WINDOW"), True),
+    Run("numbers", "without the rule: no number is begun while the one a window before is alive", (*SMALL, STOPS, "NO_WINDOW"), True),
     Run("numbers", "without the rule: no number is begun that the destination's IMP keeps", (*SMALL, STOPS, "BEGINS_KEPT"), True),
     Run("initial-connection", "two users ask one server", ()),
     Run("initial-connection", "hosts may be reset", ("RESETS",)),
