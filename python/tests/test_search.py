@@ -203,10 +203,10 @@ class Fast(unittest.TestCase):
 class Without(unittest.TestCase):
     def test_a_raw_network_is_judged_by_its_boxes(self) -> None:
         rule = "a message is given up only when nothing of it is alive"
-        lacking = without.Lacking(rule, without.OF_NETWORK[rule])
+        lacking = without.Lacking(rule, without.sought_for(rule))
         script = [*map(read_event, ("calm 2", "out 0/1 0/2 0 0 -", "giveup 0/1 0/2 0", "calm 1"))]
         self.assertEqual(lacking.breaks(script), "run")
-        self.assertIsNone(without.Lacking(None, without.OF_NETWORK[rule]).breaks(script))
+        self.assertIsNone(without.Lacking(None, without.sought_for(rule)).breaks(script))
 
     def test_events_of_the_model_alone(self) -> None:
         self.assertEqual([str(without.event_of(it)) for it in ("hold 0/2 0/1 2", "free 0/2 0/1 2", "take 0/1")], ["hold 0/2 0/1 2", "free 0/2 0/1 2", "take 0/1"])
