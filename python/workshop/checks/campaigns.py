@@ -61,21 +61,18 @@ class Runs:
                 killed = True
         return running.communicate()[0], killed
 
-    def killed(self, state: Path, *words: str) -> bool:
-        """Kills a search as soon as its state has something in it. Whether it had not ended by itself."""
+    def killed(self, state: Path, *words: str) -> str | None:
+        """Kills a search as soon as its state has something in it. What is wrong with that, None where nothing is."""
         running = self.begun(*words)
         while running.poll() is None and not state.is_file():
             time.sleep(0.05)
         ended = running.poll() is not None
-        workers = children_of(running.pid)
         running.kill()
-        running.communicate()
-        for it in workers:
-            try:
-                os.kill(it, signal.SIGKILL)
-            except ProcessLookupError:
-                continue
-        return not ended
+        try:
+            running.communicate(timeout=WAITS)  # its workers have to end, too: they hold the other end of what is read here
+        except subprocess.TimeoutExpired:
+            return "the workers of a search that was killed don't end"
+        return "the search had ended before it was killed" if ended else None
 
 
 def children_of(process: int) -> list[int]:
@@ -103,8 +100,7 @@ def local(runs: Runs) -> list[str]:
     wrong += [] if killed else ["no worker was killed"]
     wrong += [] if found == wanted else ["with a worker that is killed something else is found"]
     state = runs.folder / "state"
-    if not runs.killed(state, *SEARCH, "--cores", "2", "--state", str(state)):
-        wrong.append("the search had ended before it was killed")
+    wrong += filter(None, [runs.killed(state, *SEARCH, "--cores", "2", "--state", str(state))])
     wrong += [] if runs.run(*SEARCH, "--cores", "1", "--state", str(state))[1] == wanted else ["a search that was killed finds something else when it continues"]
     print(f"check campaigns: 1, 2 and 4 processes, a killed worker and a killed search: {'; '.join(wrong) or 'the same octets'}", flush=True)
     return wrong
