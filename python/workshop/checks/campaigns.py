@@ -50,16 +50,15 @@ class Runs:
         return running.returncode, output, said
 
     def with_a_kill(self, *words: str) -> tuple[str, bool]:
-        """What a search prints, one of whose workers is killed, and whether one was."""
+        """What a search prints, one of whose workers is killed, and whether it had to give out schedules again."""
         running = self.begun(*words)
-        killed = False
-        while running.poll() is None and not killed:
-            time.sleep(0.2)
-            workers = children_of(running.pid)
-            if len(workers) > 1 and any(spent(it) > 0.2 for it in workers):
+        while running.poll() is None:
+            time.sleep(0.02)
+            if len(workers := children_of(running.pid)) > 1:
                 os.kill(max(workers, key=spent), signal.SIGKILL)
-                killed = True
-        return running.communicate()[0], killed
+                break
+        output, said = running.communicate()
+        return output, "given out again" in said
 
     def killed(self, state: Path, *words: str) -> str | None:
         """Kills a search as soon as its state has something in it. What is wrong with that, None where nothing is."""
