@@ -26,7 +26,8 @@ def named(key: str) -> str:
 def metadata() -> str:
     """What pip reads of the package."""
     lines = ["Metadata-Version: 2.1", f"Name: {named('name')}", f"Version: {named('version')}", f"Summary: {named('description')}", f"Requires-Python: {named('requires-python')}"]
-    return "\n".join([*lines, "License: MIT OR Apache-2.0"]) + "\n"
+    extra = ["Provides-Extra: cluster", "Requires-Dist: distributed; extra == 'cluster'"]
+    return "\n".join([*lines, *extra, "License: MIT OR Apache-2.0"]) + "\n"
 
 
 def sources() -> list[Path]:

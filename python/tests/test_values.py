@@ -7,12 +7,10 @@ import re
 import sys
 import unittest
 from collections.abc import Callable
-from itertools import islice
 from pathlib import Path
 
 from dorydate import script as events
 from dorydate.explore import pattern, shrink
-from dorydate.explore.cores import Cores
 from dorydate.explore.kinds import Maker, favoured, fit, pools
 from dorydate.explore.many import moved
 from dorydate.network import BadNetwork, Host, Imp, Line, Network
@@ -238,27 +236,6 @@ class Schedules(unittest.TestCase):
         maker = Maker(pools(net), favoured=asked)
         counts = [sum(type(maker.events[it]).__name__ in ("Out", "Ask", "Deliver") for parts in maker.batch(random.Random(1), 30, number)[0] for part in parts for it in part) for number in (0, 2)]
         self.assertGreater(counts[1], 2 * counts[0])
-
-
-class Processes(unittest.TestCase):
-    def test_batches_come_in_order_from_any_number(self) -> None:
-        for processes in (1, 2, 3):
-            self.assertEqual([*islice(Cores(square, processes), 20)], [it * it for it in range(20)])
-
-    def test_what_goes_wrong_comes_in_its_place(self) -> None:
-        for processes in (1, 2):
-            batches = iter(Cores(fails_at_three, processes))
-            self.assertEqual([*islice(batches, 3)], [0, 1, 2])
-            with self.assertRaises(ZeroDivisionError):
-                next(batches)
-
-
-def square(number: int) -> int:
-    return number * number
-
-
-def fails_at_three(number: int) -> int:
-    return number if number < 3 else number // 0
 
 
 if __name__ == "__main__":

@@ -25,7 +25,8 @@ pub enum NetEvent {
     Forget(u8, u8),
 }
 
-/// What only the inside of a network shows: a message is noted with a fate, or a packet arrives for the first time where it is for.
+/// What only the inside of a network shows: a message is noted with a fate, or a packet arrives for the first time where it is
+/// for.
 #[derive(Clone, PartialEq, Eq, PartialOrd, Ord, Debug)]
 pub enum Sight {
     Noted(&'static str, Flow, u16),

@@ -2,8 +2,8 @@
 //! can be compared with it: `rustc -O --edition 2021 tools/plain/main.rs -o FILE`.
 //!
 //! It reads a topology and a script from standard input, replays the script, and prints what the hosts see. Of the options it has
-//! `--book`, `--check` and `--texts`, and `--search` of its own (search.rs). It keeps what the proved program keeps: all that crossed with its texts, what users were told,
-//! what services reported, and the lives of connections with their bits.
+//! `--book`, `--check` and `--texts`, and `--search` of its own (search.rs). It keeps what the proved program keeps: all that
+//! crossed with its texts, what users were told, what services reported, and the lives of connections with their bits.
 //!
 //! It leaves out
 //!

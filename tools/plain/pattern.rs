@@ -1,5 +1,5 @@
-//! Patterns over printed lines, and how far lines have come in one. `./explore` reads a pattern and writes it here in a form with one
-//! piece a line:
+//! Patterns over printed lines, and how far lines have come in one. `./explore` reads a pattern and writes it here in a form with
+//! one piece a line:
 //!
 //! - `sequel` begins parts that come one after another;
 //! - `part WORDS` is a line that has to come, `bar WORDS` one that must not come before the next part, or after the last;
@@ -132,7 +132,8 @@ pub struct Pattern {
     pub calm: LastCalm,
 }
 
-/// How far a pattern has come: for each of its sequels how many parts have come, with which names; and which packets have arrived.
+/// How far a pattern has come: for each of its sequels how many parts have come, with which names; and which packets have
+/// arrived.
 #[derive(Clone)]
 pub struct Reached {
     states: Vec<Vec<(usize, Names)>>,

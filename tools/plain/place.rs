@@ -131,7 +131,8 @@ impl<C: Carrier> Place for Hosts<C> {
         self.world.book.print_lives(printer);
     }
 
-    /// Packets that can't come, or a pair that waits in the midst of a reset with nothing outstanding: only a new contact frees it.
+    /// Packets that can't come, or a pair that waits in the midst of a reset with nothing outstanding: only a new contact frees
+    /// it.
     fn stuck(&self) -> Option<String> {
         if !self.world.carrier.is_all_up() || self.world.carrier.holds_packets() {
             return stuck_packets(&self.world.carrier);

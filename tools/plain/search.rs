@@ -1,8 +1,9 @@
 //! All states of a network that lists of events lead to, from the shortest list on: `--search OPTIONS < INPUT`.
 //!
-//! The input has four parts with a line `%` after each but the last: a topology, the script with which each list begins, the events
-//! of which lists are made, and a pattern. What is known of a state is a hash of 128 bits, and the event and the state from which it came
-//! first. A state that is followed is made anew by its events, from the one before it in the list as far as both have the same ones.
+//! The input has four parts with a line `%` after each but the last: a topology, the script with which each list begins, the
+//! events of which lists are made, and a pattern. What is known of a state is a hash of 128 bits, and the event and the state
+//! from which it came first. A state that is followed is made anew by its events, from the one before it in the list as far as
+//! both have the same ones.
 
 use crate::boxes::Boxes;
 use crate::carrier::Carrier;

@@ -65,8 +65,8 @@ impl<C: Carrier> World<C> {
         seats.filter_map(|(host, seat)| Some((host, seat.program.as_ref()?)))
     }
 
-    /// Appends the state of the carrier and of all hosts as octets. Lives, and the places of requests in the log by their order, only
-    /// if that is said.
+    /// Appends the state of the carrier and of all hosts as octets. Lives, and the places of requests in the log by their order,
+    /// only if that is said.
     pub fn spell(&self, with_lives: bool, to: &mut Vec<u8>) {
         self.carrier.spell(to);
         for seat in self.seats.iter().flatten() {

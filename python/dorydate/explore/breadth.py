@@ -11,7 +11,7 @@ from __future__ import annotations
 import json
 import sys
 import time
-from collections.abc import Iterator, Sequence
+from collections.abc import Callable, Iterator, Sequence
 from dataclasses import dataclass
 
 from dorydate.explore.many import CannotRun, Many
@@ -67,12 +67,13 @@ class Walk:
         self.needs_arrivals = "arrives" in pattern.heads()
         self.needs_refusals = any("refused" in it.words for it in pattern.sequels)
         self.counts: list[Count] = []
+        self.clock: Callable[[], float] = time.monotonic
         self.states: dict[tuple[object, ...], int] = {}  # of each state that was seen its number
         self.ways: list[list[tuple[Event, int]]] = []  # of each the events that are served there, and where they lead
 
     def run(self, depth: int, seconds: float, shows: bool = False) -> Events | None:
         """The first script that matches, by its length; None where none of at most `depth` events does, or time is up. The counts say which."""
-        begun = time.monotonic()
+        begun = self.clock()
         root = self.root()
         if self.is_match(root):
             return ()
@@ -90,13 +91,19 @@ class Walk:
                 if self.is_match(node):
                     return node.script
                 self.take(before, event, node, found)
-                if time.monotonic() - begun > seconds:
+                if self.clock() - begun > seconds:
                     return None
-            self.counts.append(Count(at, steps, refused, len(found), len(self.states), time.monotonic() - begun))
+            self.counts.append(Count(at, steps, refused, len(found), len(self.states), self.clock() - begun))
             if shows:
                 print(f"explore: {self.counts[-1].line()}", file=sys.stderr, flush=True)
             edge = found
+            if not edge:
+                return None
         return None
+
+    def is_all(self) -> bool:
+        """Whether there are no states but those that were seen."""
+        return bool(self.counts) and not self.counts[-1].new
 
     def take(self, before: Node, event: Event, node: Node, found: list[Node]) -> None:
         """Notes where an event leads."""
@@ -174,7 +181,7 @@ class Lists:
         """The first list that matches, by its length; None where none of at most `depth` events does, or time is up."""
         begun = time.monotonic()
         self.walk.run(depth, seconds)
-        for length in range(1, min(depth, len(self.walk.counts)) + 1):
+        for length in range(1, (depth if self.walk.is_all() else len(self.walk.counts)) + 1):
             pairs = (((*self.opening, *it), it) for it in self.of_length(length))
             for some in batches(pairs, self.many.copies):
                 self.count += len(some)
@@ -186,7 +193,7 @@ class Lists:
         return None
 
     def of_length(self, length: int, state: int = 0) -> Iterator[Events]:
-        """All lists of so many events that are served, from a state on."""
+        """All lists of a number of events that are served, from a state on."""
         if not length:
             yield ()
             return
@@ -242,17 +249,20 @@ def by_whom(program: Program) -> str:
 
 
 def command(asked: Asked, program: Program) -> int:
-    """Looks at every list of at most so many events, and prints what was seen."""
+    """Looks at every list of at most a number of events, and prints what was seen."""
     network, pattern = asked.network, asked.pattern
     if pattern.needs_lives() or pattern.calm.rounds:
         lists = Lists(network, pattern, program, asked.events, asked.opening)
         print("explore: the pattern is about lives or a last calm, so lists are looked at one by one, and not states", file=sys.stderr)
-        script, whole = lists.run(asked.depth, asked.seconds), lists.whole
+        script, whole, is_all = lists.run(asked.depth, asked.seconds), lists.whole, False
         print(f"explore: {lists.count} lists in which nothing is refused were run", file=sys.stderr)
     else:
         walk = Walk(network, pattern, program, asked.events, asked.opening)
         script = walk.run(asked.depth, asked.seconds, True)
-        whole = len(walk.counts)
+        whole, is_all = len(walk.counts), walk.is_all()
+    if script is None and is_all:
+        print(f"explore: none of any length of {asked.words()}: these are all states{by_whom(program)}", file=sys.stderr)
+        return 1
     if script is None:
         print(f"explore: none of up to {whole} of {asked.words()}{by_whom(program)}", file=sys.stderr)
         if whole < asked.depth:

@@ -118,6 +118,8 @@ class Campaign:
         self.looked += search.progress.schedules - before
         if state:
             state.keep(name, task.job, search.progress, True)
+        if search.is_stopped:
+            raise KeyboardInterrupt
         return result_of(task, search.progress, wrong)
 
     def show(self, task: Task, number: int, progress: Progress, looked: int) -> None:

@@ -38,7 +38,7 @@ class Wrong(Exception):
     """What is wrong with the words of the command."""
 
 
-# what is told in one line
+# what is said in one line
 WRONGS = (
     *(NotKept, fast.NotConfirmed, Wrong, BadPattern, BadNetwork, BadLine, BadTrace, CannotRun, NoProgram, TookTooLong),
     *(NoCluster, OtherProgram, OtherState, BadTable),
@@ -61,7 +61,7 @@ def parser() -> argparse.ArgumentParser:
     made.add_argument("--matches", type=int, default=MATCHES, help="matches to shrink; the shortest is printed")
     made.add_argument("--cores", type=int, default=available(), help="processes that look at schedules; what is found for a seed is the same for any number of them")
     made.add_argument("--cluster", metavar="tcp://HOST:PORT", help="workers of a cluster of dask.distributed look at schedules")
-    made.add_argument("--state", metavar="FILE", help="keep there how far the search has come, and go on from there")
+    made.add_argument("--state", metavar="FILE", help="keep there how far the search has come, and continue from there")
     made.add_argument("--campaign", metavar="TABLE", help="a search for each row and seed of a table (CSV); --out has the results")
     made.add_argument("--out", metavar="FILE", help="where the results of a campaign go: FILE.csv or FILE.json")
     made.add_argument("--audit", action="store_true", help="give the log of each schedule to the proved audit")
@@ -248,7 +248,8 @@ def all_states(words: argparse.Namespace, program: Program) -> int:
     """Every list, by the program."""
     pattern = pattern_of(words)
     breadth.checked(network_of(words), pattern)
-    return breadth.command(asked_of(words, pattern, (1,)), program)
+    status = breadth.command(asked_of(words, pattern, (1,)), program)
+    return {FOUND: NOT_FOUND, NOT_FOUND: FOUND}[status] if words.never else status
 
 
 def found_fast(words: argparse.Namespace, program: Program) -> int:

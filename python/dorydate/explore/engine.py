@@ -11,6 +11,8 @@ import multiprocessing
 import os
 import signal
 import sys
+import threading
+import time
 from collections import deque
 from collections.abc import Callable, Iterator
 from concurrent.futures import CancelledError, Future, ProcessPoolExecutor
@@ -85,9 +87,17 @@ class Workers(Protocol):
     def close(self) -> None: ...
 
 
-def ignore_interrupts() -> None:
-    """Whoever takes the batches is stopped by Ctrl-C, and ends this process."""
+def begin() -> None:
+    """What a process does first. Whoever takes the batches is stopped by Ctrl-C, and ends this process; if it is killed, this one ends too."""
     signal.signal(signal.SIGINT, signal.SIG_IGN)
+    threading.Thread(target=end_with, args=(os.getppid(),), daemon=True).start()
+
+
+def end_with(parent: int) -> None:
+    """Ends this process soon after its parent."""
+    while os.getppid() == parent:
+        time.sleep(1)
+    os._exit(1)
 
 
 class Local:
@@ -99,7 +109,7 @@ class Local:
         self.pool = self.made()
 
     def made(self) -> ProcessPoolExecutor:
-        return ProcessPoolExecutor(self.processes, multiprocessing.get_context("fork") if "fork" in multiprocessing.get_all_start_methods() else None, ignore_interrupts)
+        return ProcessPoolExecutor(self.processes, multiprocessing.get_context("fork") if "fork" in multiprocessing.get_all_start_methods() else None, begin)
 
     def submit(self, call: Callable[..., list[Made]], *words: object) -> Future[list[Made]]:
         try:
@@ -207,7 +217,7 @@ def is_of_a_kill(fault: Exception) -> bool:
 def in_words(fault: Exception) -> Exception:
     """What is to be said of a task that failed by itself."""
     if isinstance(fault, ModuleNotFoundError):
-        return NoCluster(f"a worker has no package {fault.name}: it has to be installed there")
+        return NoCluster(f"a worker has no package {fault.name or 'dorydate'}: it has to be installed there")
     if isinstance(fault, NoProgram):
         return NoCluster(f"a worker has no program: {fault}")
     if is_of_a_kill(fault):

@@ -1,9 +1,9 @@
 """The search for what breaks where numbers wrap around: it climbs by the age of what is left of earlier messages.
 
 A rule about numbers that wrap around matters only once a number comes again while something of its former message is left: a packet that
-is alive, or what the destination's IMP keeps. Random schedules clear such things away. So the search goes on from the networks in
+is alive, or what the destination's IMP keeps. Random schedules clear such things away. So the search continues from the networks in
 which the oldest number that was left, at some time, had been begun the most messages before; among them from the shortest scripts, or from
-those in which the most crossed for so many events.
+those in which the most crossed for their length.
 """
 
 from __future__ import annotations
@@ -35,7 +35,7 @@ def age(subnet: Subnet, is_kept: bool) -> int:
 
 
 def climbed(place: Place, events: Sequence[tuple[Event, ModelEvent]], seconds: float, most: int, is_kept: bool) -> tuple[Script | None, int]:
-    """A script after which something breaks, None where time is up or so many steps were made; and the steps. It climbs by the age
+    """A script after which something breaks, None where time is up or `most` steps were made; and the steps. It climbs by the age
     of what is kept, and then prefers short scripts, or by that of what is alive, and then prefers those in which much crosses."""
     assert isinstance(place, Subnet)
     begun, steps, tie = time.monotonic(), 0, count()

@@ -62,7 +62,7 @@ class Progress:
             self.reached += depth == self.deepest
 
     def line(self, length: int, runs: int = 0) -> str:
-        """A line for whoever waits, with the time that is left for so many schedules."""
+        """A line for whoever waits, with the time that is left for `runs` schedules."""
         rate = self.schedules / max(self.seconds(), 0.001)
         shortest = f"; the shortest match has {len(self.best)} events" if self.best is not None else ""
         kept = f", {self.kept} logs kept" if self.kept else ""
@@ -114,6 +114,7 @@ class Search:
         self.table = self.many.table(self.maker.events)
         self.seed, self.audits = seed, audits
         self.progress = Progress()
+        self.is_stopped = False  # whether Ctrl-C has ended it
 
     # ---- looking
 
@@ -189,7 +190,7 @@ class Search:
                     shown = time.monotonic()
                     show(progress)
         except KeyboardInterrupt:
-            pass
+            self.is_stopped = True
         return progress.best
 
     def take(self, script: Script) -> None:

@@ -1,4 +1,4 @@
-"""How far a search has come, in a file: `--state FILE`. A search that was stopped or killed goes on where it was.
+"""How far a search has come, in a file: `--state FILE`. A search that was stopped or killed continues where it was.
 
 The batches of a search depend on its seed and their numbers only. So its state is the number of the next batch, what was counted, and the
 best script. A file is replaced as a whole, so one that is there is never half of one.
@@ -56,19 +56,19 @@ class State:
         for word, value in asdict(job).items():
             if kept["job"].get(word) != json.loads(json.dumps(value)):
                 raise OtherState(f"{self.path} is of a search with another {word}")
-        told = dict(kept["progress"])
-        best, spent = told.pop("best"), told.pop("spent")
-        progress = Progress(**told, begun=time.monotonic() - spent)
+        counts = dict(kept["progress"])
+        best, spent = counts.pop("best"), counts.pop("spent")
+        progress = Progress(**counts, begun=time.monotonic() - spent)
         progress.best = None if best is None else tuple(map(read_event, best))
         return progress
 
     def keep(self, name: str, job: Job, progress: Progress, now: bool = False) -> None:
         """Notes how far a search has come, and writes that from time to time."""
-        told = asdict(progress)
+        counts = asdict(progress)
         spent = progress.seconds()
-        del told["begun"]
+        del counts["begun"]
         best = None if progress.best is None else list(map(str, progress.best))
-        self.kept["searches"][name] = {"job": asdict(job), "progress": {**told, "best": best, "spent": spent}}
+        self.kept["searches"][name] = {"job": asdict(job), "progress": {**counts, "best": best, "spent": spent}}
         if now or time.monotonic() - self.written > EVERY:
             self.write()
 

@@ -66,15 +66,15 @@ class Sought:
     is_kept: bool = False  # whether it climbs there by what is kept, and not by what is alive
 
 
-# rules of the network below hosts; all others are of hosts' programs
+# words of the rules of the network below hosts; all others are of hosts' programs
 OF_NETWORK = {
-    "the number of a whole message is noted": Sought(RAW, SENDING),
-    "no number is begun while the one a window behind is alive": Sought(RAW, SENDING, FEW, (*ONE_FLOW, "take 0/1", "take 0/2", *FRAMES)),
-    "an IMP comes up only when nothing of it is alive": Sought(RAW, STOPPING),
-    "a message is given up only when nothing of it is alive": Sought(RAW, SENDING),
-    "a number that is new is noted when it is asked about": Sought(RAW, SENDING),
-    "a question about a message that waits isn't answered": Sought(RAW, SENDING),
-    "no number is begun that the destination's IMP keeps": Sought(RAW, SENDING, FEW, (*ONE_FLOW, "giveup 0/1 0/2 0", "drop 0 + 0", "enddown 1 0", "endup 1 0"), True),
+    "whole message": Sought(RAW, SENDING),
+    "a window": Sought(RAW, SENDING, FEW, (*ONE_FLOW, "take 0/1", "take 0/2", *FRAMES)),
+    "an IMP comes up": Sought(RAW, STOPPING),
+    "given up": Sought(RAW, SENDING),
+    "it is asked about": Sought(RAW, SENDING),
+    "a question": Sought(RAW, SENDING),
+    "IMP keeps": Sought(RAW, SENDING, FEW, (*ONE_FLOW, "giveup 0/1 0/2 0", "drop 0 + 0", "enddown 1 0", "endup 1 0"), True),
 }
 LENGTH = 16  # events of a schedule: the model is slow
 MOST_STEPS = 200_000  # of a search that climbs
@@ -88,8 +88,13 @@ def rules() -> list[str]:
 
 def print_rules() -> int:
     for rule in rules():
-        print(rule + (" (nothing was seen to break without this rule alone)" if rule in HARMLESS else ""))
+        print(rule + (" (nothing was seen to break without only this rule)" if rule in HARMLESS else ""))
     return 0
+
+
+def sought_for(rule: str) -> Sought:
+    """Where a rule is sought."""
+    return next((it for words, it in OF_NETWORK.items() if words in rule), Sought())
 
 
 class Lacking:
@@ -136,7 +141,7 @@ class Search:
     """The search for scripts that break something without a rule."""
 
     def __init__(self, rule: str, seed: int) -> None:
-        self.sought = OF_NETWORK.get(rule, Sought())
+        self.sought = sought_for(rule)
         self.rule, self.chance = rule, random.Random(seed)
         self.lacking = Lacking(rule, self.sought)
         self.schedules = self.steps = 0
@@ -191,7 +196,7 @@ class Search:
 
 
 def event_of(line: str) -> Event:
-    """The event of a line, those of the model alone included."""
+    """The event of a line, those that only the model has included."""
     kind, _, rest = line.partition(" ")
     made = {"hold": Hold, "free": Free}.get(kind)
     if made is None:
@@ -202,9 +207,9 @@ def event_of(line: str) -> Event:
 
 
 def stored_for(rule: str) -> Lesson | None:
-    """The stored script of a rule, where the folder `without` is there."""
+    """The shortest stored script of a rule, where the folder `without` is there."""
     root = repository()
-    paths = sorted((root / "without").glob("*")) if root else []
+    paths = sorted((root / "without" / "shortest").glob("*")) if root else []
     return next((it for it in (Lesson(str(path)) for path in paths if path.is_file()) if it.rule == rule), None)
 
 

@@ -74,7 +74,7 @@ CLAIMS = [
 
 
 def row_of(claim: Claim, program: Program) -> str:
-    """The row of a claim in the table; a script that the program doesn't confirm is told there."""
+    """The row of a claim in the table; a script that the program doesn't confirm is marked there."""
     pattern = read(SEARCHES[claim.name].pattern)
     what = asked(claim.network, pattern, claim.depth)
     answer = fast.searched(what)
@@ -128,7 +128,7 @@ def page(program: Program) -> str:
             "",
             "## What a long calm leaves",
             "",
-            f"The same program has looked what 200 rounds make of every state that lists of these lengths lead to. *No rest*: something still crosses in the last rounds, in which these lines come. *Only a new contact frees a pair*: all is up and at rest, and nothing is without an answer, but a host waits for the reply to its reset. No state was a lockup: with everything up and at rest no packet was held.",
+            "The same program has looked what 200 rounds make of every state that lists of these lengths lead to. *No rest*: something still crosses in the last rounds, in which these lines come. *Only a new contact frees a pair*: all is up and at rest, and nothing is without an answer, but a host waits for the reply to its reset. No state was a lockup: with everything up and at rest no packet was held.",
             "",
             "| Network | Events | States | What they are | The shortest script |",
             "|---|---|---|---|---|",
@@ -173,11 +173,15 @@ def beside(by_trace: dict[str, Beside], finder: str) -> list[str]:
 PLANTED = {
     "two phases of a reset are spelled alike": ("pair.rs", "to.extend([self.phase.code(), self.owed as u8]);", "to.extend([self.phase.code().min(4), self.owed as u8]);"),
     "answers that wait aren't spelled": ("boxes.rs", "                answer.spell(to);\n                flow.spell(to);", "                let _ = (answer, flow);"),
-    "the bits that are expected aren't spelled": ("line.rs", "to.extend([self.busy_bits, self.next_bits, self.expected]);", "to.extend([self.busy_bits, self.next_bits]);"),
-    "what was noted is spelled by its number only": ("imp.rs", "        self.number.spell(to);\n        to.push(self.fate as u8);", "        self.number.spell(to);"),
-    "frames that only acknowledge are left out": ("subnet.rs", "            live.len().spell(to);\n            live.iter().for_each(|it| it.spell(INFINITE, to));", "            live.iter().filter(|it| !matches!(it.content, Content::Acknowledgements)).for_each(|it| it.spell(INFINITE, to));"),
+    "whether a host is up isn't spelled": ("boxes.rs", "            found.is_up.spell(to);\n", ""),
+    "whether an end of a line is up isn't spelled": ("imp.rs", "            port.is_down.spell(to);\n", ""),
+    "frames that only acknowledge are left out": (
+        "subnet.rs",
+        "            live.len().spell(to);\n            live.iter().for_each(|it| it.spell(INFINITE, to));",
+        "            live.iter().filter(|it| !matches!(it.content, Content::Acknowledgements)).for_each(|it| it.spell(INFINITE, to));",
+    ),
     "a place in the log is part of a state": ("world.rs", "        self.carrier.spell(to);\n", "        self.carrier.spell(to);\n        self.past.spell(to);\n"),
-    "a refused connection makes a pair": ("program.rs", "        let has_end = self.ready(peer)?", "        self.turn(peer, 0);\n        let has_end = self.ready(peer)?"),
+    "a close that is refused changes the byte size": ("program.rs", "        if end.close_asked || end.close_taken {\n", "        if end.close_asked || end.close_taken {\n            end.size ^= 1;\n"),
     "a start of a host that is up is refused, and loses its answers": ("boxes.rs", "        if found.is_up {\n            return Err(Refusal::IsUp);", "        if found.is_up {\n            found.answers.clear();\n            return Err(Refusal::IsUp);"),
 }
 

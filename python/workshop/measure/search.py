@@ -1,0 +1,96 @@
+"""States and steps a second of searches of all states, by the program's trace and by the plain program (minutes): ./measure search [SECONDS] [--write]
+
+Both walk through all lists of all events of five networks, with calms of one round, for SECONDS of one processor (60). Printed are the greatest
+length of which all lists were looked at, and the states and steps to there. With --write docs/measured/search.md has them.
+"""
+
+from __future__ import annotations
+
+import os
+import resource
+import subprocess
+import sys
+import tempfile
+import time
+from collections.abc import Callable
+from dataclasses import replace
+from functools import partial
+from pathlib import Path
+
+from dorydate.explore import fast
+from dorydate.explore.breadth import Asked, Walk
+from dorydate.program import Program
+from workshop.checks.shortest import BESIDE
+from workshop.parts import ROOT, any_program
+
+PAGE = f"{ROOT}/docs/measured/search.md"
+DEEPEST = 40
+MEGABYTES = 3000
+
+
+def spent() -> float:
+    """The seconds of the processor that this process and those that it has run have used."""
+    it = os.times()
+    return it.user + it.system + it.children_user + it.children_system
+
+
+def by_trace(asked: Asked, program: Program, seconds: float) -> str:
+    """What a walk by the trace comes to, as cells of the table."""
+    walk = Walk(asked.network, asked.pattern, program, asked.events, asked.opening)
+    walk.clock = spent
+    walk.run(asked.depth, seconds)
+    if not walk.counts:
+        return "none | | | "
+    last, steps = walk.counts[-1], sum(it.steps for it in walk.counts)
+    return cells(last.depth, not last.new, last.states, steps, last.seconds)
+
+
+def by_plain(asked: Asked, finder: str, seconds: float) -> str:
+    """What the plain program comes to."""
+    answer = fast.Answer()
+    limit: Callable[[], None] = partial(resource.setrlimit, resource.RLIMIT_CPU, (int(seconds), int(seconds)))
+    words = [finder, "--search", "--depth", str(asked.depth), "--seconds", "1000000", "--megabytes", str(MEGABYTES)]
+    with tempfile.TemporaryFile() as given:
+        given.write(fast.input_of(asked))
+        given.seek(0)
+        before = resource.getrusage(resource.RUSAGE_CHILDREN)
+        ran = subprocess.run(words, stdin=given, stdout=subprocess.PIPE, preexec_fn=limit, text=True, check=False)
+        after = resource.getrusage(resource.RUSAGE_CHILDREN)
+    for line in ran.stdout.splitlines():
+        answer.take(line)
+    whole = [it for it in answer.levels if it.depth <= answer.whole]
+    used = after.ru_utime + after.ru_stime - before.ru_utime - before.ru_stime
+    share = whole[-1].seconds / max(whole[-1].seconds, time_of(ran.stdout), used, 0.001) if ran.returncode else 1.0
+    return cells(answer.whole, answer.is_all, whole[-1].states, sum(it.steps for it in whole), used * share)
+
+
+def time_of(output: str) -> float:
+    """The seconds by the clock that the last line of levels names."""
+    levels = [it for it in output.splitlines() if it.startswith(("depth", "part"))]
+    return float(levels[-1].split(" ")[6]) if levels else 0.0
+
+
+def cells(depth: int, is_all: bool, states: int, steps: int, seconds: float) -> str:
+    rate = f"{steps / seconds:,.0f}" if seconds >= 0.01 else ""
+    return f"{'all' if is_all else depth} | {states:,} | {steps:,} | {rate}"
+
+
+def main() -> int:
+    words = [it for it in sys.argv[1:] if it != "--write"]
+    seconds = float(words[0]) if words else 60.0
+    path = os.environ.get("DORYDATE_PROGRAM") or any_program()
+    if path is None:
+        print("measure search: there is no program of these sources: ./build makes it")
+        return 1
+    program, finder = Program(path), fast.finder()
+    day = time.strftime("%d %B %Y").lstrip("0")
+    rows = []
+    for where, asked in BESIDE.items():
+        deep = replace(asked, depth=DEEPEST)
+        rows.append(f"| {where} | {len(asked.events)} | {by_trace(deep, program, seconds)} | {by_plain(deep, finder, seconds)} |")
+        print(rows[-1], flush=True)
+    head = "| Network | Events | Length, by the program | States | Steps | Steps a second | Length, by the plain program | States | Steps | Steps a second |"
+    text = f"# What searches of all states cost\n\n`./measure search --write` has written this page on {day}: all lists of these events, for {seconds:.0f} seconds of one processor each, by the trace of the program{' without proofs' if 'unproved' in path else ''} and by the plain program. *All*: there are no further states. Seconds are those of the processor up to that length. What it means: [the explorer](../python.md#all-states).\n\n{head}\n{'|---' * 10}|\n" + "\n".join(rows) + "\n"
+    if "--write" in sys.argv:
+        Path(PAGE).write_text(text, encoding="utf-8")
+    return 0
