@@ -15,6 +15,7 @@ from dorydate.program import NoProgram, Program, TookTooLong
 from dorydate.deeds import Stopped
 from dorydate.replay import Replay
 from dorydate.script import BadLine, Entry, Script
+from dorydate.where import here
 
 
 @dataclass(frozen=True)
@@ -49,7 +50,7 @@ def expected(script: Script, program: Program | None = None) -> Script:
 def command(paths: Sequence[str]) -> int:
     """`./explain --expect FILE..`: 0 if every event printed what is expected of it, 1 otherwise, with the first difference of each file."""
     if not paths or any(it.startswith("-") for it in paths):
-        print("usage: ./explain --expect FILE..", file=sys.stderr)
+        print(here("usage: ./explain --expect FILE.."), file=sys.stderr)
         return 1
     return max(map(judged, paths))
 

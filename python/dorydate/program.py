@@ -1,24 +1,17 @@
-"""The program `arpasim`: where it is, and runs of it with limits.
-
-It is found by the variable DORYDATE_PROGRAM; or in the repository that this package lies in, where the first call builds it
-(tools/program); or on the path.
-"""
+"""The program `arpasim`, and runs of it with limits. Where it is, dorydate.where knows."""
 
 from __future__ import annotations
 
 import os
 import select
-import shutil
 import signal
 import subprocess
 from collections.abc import Sequence
 from dataclasses import dataclass
-from functools import lru_cache
-from pathlib import Path
 
 SECONDS = 60.0  # so long may a run take where nothing else is said
+UNLIMITED = 1e7  # seconds, which no run takes
 MOST_OCTETS = 1_048_576  # of an input
-ROOT = Path(__file__).resolve().parents[2]  # the repository, where this package lies in one
 
 
 class NoProgram(Exception):
@@ -53,6 +46,15 @@ class Program:
     """
 
     path: str
+
+    @property
+    def file(self) -> str:
+        """The file whose octets are the program.
+
+        >>> net.program.file != ""
+        True
+        """
+        return self.path
 
     def run(self, octets: bytes, *options: str, seconds: float = SECONDS) -> Ran:
         """Runs it on an input.
@@ -107,23 +109,3 @@ class Program:
 def read_back(file: int) -> str:
     """What was written into a file."""
     return os.pread(file, os.fstat(file).st_size, 0).decode("latin-1")
-
-
-def repository() -> Path | None:
-    """The repository that this package lies in."""
-    return ROOT if (ROOT / "tools" / "program").is_file() else None
-
-
-@lru_cache(maxsize=1)
-def found() -> Program:
-    """The program of this machine."""
-    if path := os.environ.get("DORYDATE_PROGRAM"):
-        return Program(path)
-    if root := repository():
-        ran = subprocess.run([root / "tools" / "program"], stdout=subprocess.PIPE, text=True, check=False)
-        if ran.returncode == 0 and ran.stdout.strip():
-            return Program(ran.stdout.strip())
-        raise NoProgram("tools/program has built no program: see what it says above")
-    if path := shutil.which("arpasim"):
-        return Program(path)
-    raise NoProgram("there is no program: set DORYDATE_PROGRAM to the path of arpasim, or put it on PATH")

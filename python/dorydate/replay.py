@@ -15,7 +15,8 @@ from dorydate.inside import CannotFollow, state_of, trace_of
 from dorydate.marks import LAST, Marked, Unmarked, each_printed, mark_for
 from dorydate.network import Host, HostName, ImpName, Network
 from dorydate.printed import flow_of, kind_of, matches, may_match, without_text
-from dorydate.program import Program, found
+from dorydate.program import Program
+from dorydate.where import found
 from dorydate.script import Entry, Event, Flow, Script, octets_of
 from dorydate.state import Frame, State
 

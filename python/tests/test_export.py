@@ -22,7 +22,7 @@ from dorydate.export.leaders import body, leader, crossing_of
 from dorydate.export.replayed import Happened, Line, Replayed, as_printed, output, replayed
 from dorydate.sentences.texts import text_in_words
 from dorydate.network import Host
-from dorydate.program import found
+from dorydate.where import found
 from dorydate.script import Calm, Flow, Script, Text
 from dorydate.state import folded
 from dorydate.trace import records

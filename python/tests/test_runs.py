@@ -19,7 +19,8 @@ from dorydate.explore.named import SEARCHES, TWO, TWO_PLAIN, TWO_RAW
 from dorydate.explore.pattern import read
 from dorydate.explore.search import Search
 from dorydate.inside import CannotFollow, state_of
-from dorydate.program import Program, TookTooLong, found
+from dorydate.program import Program, TookTooLong
+from dorydate.where import found
 from dorydate.script import BadLine, Calm, Contact, Event, Flow, Out, Script, read_event
 
 RING = Network.joined("WEST-A-B-EAST-C-D-WEST", hosts={"A": 0, "B": 0, "C": 0, "D": 0})

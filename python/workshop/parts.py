@@ -31,6 +31,12 @@ def proved_program(root: str = ROOT) -> str:
     return program
 
 
+def read_octets(path: str) -> bytes:
+    """The octets of a file."""
+    with open(path, "rb") as file:
+        return file.read()
+
+
 # ---- parts
 
 

@@ -3,6 +3,7 @@
  * the page opens without a request.
  */
 
+import { octetsOf } from "./base85.js";
 import { makeRunner } from "./runner.js";
 
 /** @typedef {import("./runner.js").Runner} Runner */
@@ -27,30 +28,6 @@ export function block(id) {
     const element = document.getElementById(id);
     if (!element) throw new Error(`the page has no block ${id}`);
     return element.textContent ?? "";
-}
-
-const DIGITS = "0123456789ABCDEFGHIJKLMNOPQRSTUVWXYZabcdefghijklmnopqrstuvwxyz!#$%&()*+-;,=>?@^_.{|}~";
-
-/**
- * The octets of a text in base85, as the packer spells them: five digits for four octets, and one more than the octets
- * for those that are left.
- *
- * @param {string} text
- * @returns {Uint8Array}
- */
-export function octetsOf(text) {
-    const values = new Uint8Array(128).fill(DIGITS.length - 1);
-    for (let at = 0; at < DIGITS.length; at += 1) values[DIGITS.charCodeAt(at)] = at;
-    const groups = Math.ceil(text.length / 5);
-    const octets = new DataView(new ArrayBuffer(4 * groups));
-    for (let group = 0; group < groups; group += 1) {
-        let value = 0;
-        for (let at = 5 * group; at < 5 * group + 5; at += 1) {
-            value = 85 * value + (at < text.length ? values[text.charCodeAt(at)] : 84);
-        }
-        octets.setUint32(4 * group, value);
-    }
-    return new Uint8Array(octets.buffer, 0, text.length - groups);
 }
 
 /**

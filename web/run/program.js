@@ -10,21 +10,42 @@
 export class Full extends Error {}
 
 /**
+ * Gives the next octets of an input, at most as many as are asked for and none at its end.
+ *
+ * @typedef {(most: number) => Uint8Array | null} Reads null if they can't be read
+ */
+
+/**
+ * Reads an array from its start.
+ *
+ * @param {Uint8Array} input
+ * @returns {Reads}
+ */
+function readerOf(input) {
+    let at = 0;
+    return (most) => {
+        const piece = input.subarray(at, at + most);
+        at += piece.length;
+        return piece;
+    };
+}
+
+/**
  * Runs the module over the words of a command line and an input, and answers the exit status.
  *
- * `write` is given each piece of output, as an array of its own, and the descriptor (1 or 2). What it throws ends the
- * run.
+ * `write` is given each piece of output, as an array of its own, and the descriptor (1 or 2). It answers `false` if the
+ * write failed, as the program is told then. What it throws ends the run.
  *
  * @param {WebAssembly.Module} module
  * @param {string[]} words
- * @param {Uint8Array} input
- * @param {(descriptor: number, octets: Uint8Array) => void} write
+ * @param {Uint8Array | Reads} input
+ * @param {(descriptor: number, octets: Uint8Array) => unknown} write
  * @returns {number}
  */
 export function runModule(module, words, input, write) {
     const encoder = new TextEncoder();
     const line = ["arpasim", ...words].map((word) => encoder.encode(word));
-    let at = 0; // how much of the input was read
+    const reads = typeof input === "function" ? input : readerOf(input);
 
     /**
      * @param {bigint} address
@@ -35,17 +56,15 @@ export function runModule(module, words, input, write) {
     const env = {
         /** @type {(descriptor: number, address: bigint, count: bigint) => bigint} */
         read(descriptor, address, count) {
-            if (descriptor !== 0) return -1n;
-            const piece = input.subarray(at, at + Number(count));
+            const piece = descriptor === 0 ? reads(Number(count)) : null;
+            if (piece === null) return -1n;
             memory(address, BigInt(piece.length)).set(piece);
-            at += piece.length;
             return BigInt(piece.length);
         },
         /** @type {(descriptor: number, address: bigint, count: bigint) => bigint} */
         write(descriptor, address, count) {
             if (descriptor !== 1 && descriptor !== 2) return -1n;
-            write(descriptor, memory(address, count).slice());
-            return count;
+            return write(descriptor, memory(address, count).slice()) === false ? -1n : count;
         },
         /**
          * Puts a word there, as far as there is room, and answers how long it is; -1 for a word that isn't there.

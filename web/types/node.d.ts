@@ -1,4 +1,4 @@
-/** What the tests and `native.js` take of Node. Debian's TypeScript brings no types of it. */
+/** What the tests, `native.js` and what runs a released module take of Node. Debian's TypeScript brings no types of it. */
 
 interface Emitter {
     on(event: string, heard: (...values: any[]) => void): void;
@@ -40,13 +40,27 @@ declare module "node:assert/strict" {
 }
 
 declare module "node:fs" {
-    export function readFileSync(path: string): Uint8Array;
-    export function readFileSync(path: string, encoding: string): string;
-    export function readdirSync(path: string): string[];
+    export function readFileSync(path: string | URL): Uint8Array;
+    export function readFileSync(path: string | URL, encoding: string): string;
+    export function readSync(file: number, octets: Uint8Array, at: number, count: number, place: null): number;
+    export function writeSync(file: number, octets: Uint8Array, at: number, count: number): number;
+    export function readdirSync(path: string | URL): string[];
     export function writeFileSync(path: string, text: string, encoding?: string): void;
     export function mkdtempSync(prefix: string): string;
     export function rmSync(path: string, options: { recursive: boolean; force: boolean }): void;
-    export function existsSync(path: string): boolean;
+    export function existsSync(path: string | URL): boolean;
+}
+
+declare module "node:crypto" {
+    interface Hash {
+        update(octets: Uint8Array): Hash;
+        digest(encoding: string): string;
+    }
+    export function createHash(name: string): Hash;
+}
+
+declare module "node:zlib" {
+    export function gunzipSync(octets: Uint8Array): Uint8Array;
 }
 
 declare module "node:net" {
@@ -62,6 +76,9 @@ declare const process: {
     exitCode?: number;
     env: { [name: string]: string | undefined };
     argv: string[];
+    versions: { node: string };
+    stdout: { write(octets: string | Uint8Array): void };
+    stderr: { write(text: string): void };
     exit(status: number): never;
 };
 declare const Buffer: { compare(one: Uint8Array, other: Uint8Array): number };

@@ -15,7 +15,6 @@ independent model in Python, which replays the script beside the program and has
 from __future__ import annotations
 
 import os
-import subprocess
 import sys
 from collections.abc import Callable, Sequence
 
@@ -27,12 +26,13 @@ from dorydate.explain.logs import explained
 from dorydate.explain.runs import CannotTell, Replayed, kept_program, lives, replay
 from dorydate.explain.telling import said_beside, telling
 from dorydate.explain.topology import is_raw, names_of, network_by
-from dorydate.program import MOST_OCTETS, ROOT
+from dorydate.program import MOST_OCTETS, UNLIMITED, NoProgram, Program
+from dorydate.where import ROOT, here
 
 MOST_OF_LOG = 268_435_456  # octets of a log that is read here
-USAGE = """usage: ./explain [--chart [--short] | --page [OTHER-FILE]] < FILE
+USAGE = here("""usage: ./explain [--chart [--short] | --page [OTHER-FILE]] < FILE
 usage: ./explain --audit < LOG
-usage: ./explain --expect FILE.."""
+usage: ./explain --expect FILE..""")
 
 
 def standard_input(most: int = MOST_OCTETS) -> bytes:
@@ -48,14 +48,13 @@ def audited(words: Sequence[str]) -> int:
     if len(octets) > MOST_OF_LOG:
         print(f"explain: more than {MOST_OF_LOG} octets", file=sys.stderr)
         return 1
-    ran = subprocess.run([f"{ROOT}/arpasim", *words], input=octets, capture_output=True, check=False)
-    said = [it for it in ran.stderr.decode("latin-1").splitlines() if "./explain" not in it]
-    print(*said, sep="\n", end="\n" if said else "", file=sys.stderr, flush=True)
-    sys.stdout.buffer.write(ran.stdout)
+    program = kept_program() or Program(f"{ROOT}/arpasim")
+    ran = program.run(octets, *words, seconds=UNLIMITED)
+    print(ran.said, end="", file=sys.stderr, flush=True)
+    sys.stdout.buffer.write(ran.output.encode("latin-1"))
     if words == ["--audit"]:
-        verdict = ran.stdout.decode("latin-1").strip() or (said or [""])[-1].removeprefix("arpasim: ")
-        print(explained(octets, verdict))
-    return ran.returncode
+        print(explained(octets, ran.output.strip() or ran.said.strip().removeprefix("arpasim: ")))
+    return ran.status
 
 
 def drawn(given: Input, found: Replayed, draw: Callable[..., str]) -> str:
@@ -73,24 +72,30 @@ def replayed(options: Sequence[str]) -> int:
     """Prints what the input on standard input comes to. The status."""
     given = Input(standard_input())
     program = kept_program()
-    if program and program.endswith("-unproved"):
-        print("explain: the program was built without proofs, of the same sources (./build proves it)", file=sys.stderr)
     try:
-        found = replay(given, program)
+        ended = replay(given, program)
     except CannotTell as why:
         print(f"explain: {why}", file=sys.stderr)
         return 4
-    if found.status != 0:
-        print(f"The program says: {found.said.strip()} (status {found.status}).\n{diagnose(given, found.said)}")
+    if ended.status != 0:
+        print(f"The program says: {ended.said.strip()} (status {ended.status}).\n{diagnose(given, ended.said)}")
     elif options:
-        print(drawn(given, found, short_chart if "--short" in options else chart))
+        print(drawn(given, ended, short_chart if "--short" in options else chart))
     else:
-        print(*telling(given, found.events, lives(given, program, is_raw(given))), sep="\n")
-    return found.status
+        print(*telling(given, ended.events, lives(given, program, is_raw(given))), sep="\n")
+    return ended.status
 
 
 def main() -> int:
-    options = sys.argv[1:]
+    try:
+        return asked(sys.argv[1:])
+    except NoProgram as why:
+        print(f"explain: {why}", file=sys.stderr)
+        return 4
+
+
+def asked(options: list[str]) -> int:
+    """Does what the words of the command line ask for. The status."""
     if "--page" in options:
         return page.main(standard_input(), options)
     if options in (["--log"], ["--audit"]):
@@ -100,9 +105,9 @@ def main() -> int:
     if sorted(options) in ([], ["--chart"], ["--chart", "--short"]):
         return replayed(options)
     if {"--help", "-h"} & {*options}:
-        print(f"{USAGE}\n\n{(__doc__ or '').strip()}")
+        print(f"{USAGE}\n\n{here(__doc__ or '').strip()}")
         return 0
     print(USAGE, file=sys.stderr)
     if files := [it for it in options if os.path.isfile(it)]:
-        print(f"explain: the input is standard input, so put `<` before the file: ./explain < {files[0]}", file=sys.stderr)
+        print(f"explain: the input is standard input, so put `<` before the file: {here('./explain')} < {files[0]}", file=sys.stderr)
     return 1

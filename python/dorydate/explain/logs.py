@@ -22,6 +22,7 @@ from dorydate.model.log import BadLog, Book, read_log
 from dorydate.model.mailboxes import Holds, Mailboxes, hosts_of
 from dorydate.explain.faults import wrong_with_text, wrong_with_word
 from dorydate.given import shown
+from dorydate.where import here
 
 FORMS = {
     "out": "S D N BITS OCTETS",
@@ -122,7 +123,7 @@ def why_bad(octets: bytes, number: int) -> str:
         return f"The log ends after line {len(lines)}. Its last line has to be `end`."
     line = lines[number - 1]
     if number == 1 and b"%" in lines:
-        return f"Line {number} is:\n  {shown(line)}\nThis is an input and not a log, since a line is `%`. `./arpasim --log < FILE` prints the log of its replay."
+        return f"Line {number} is:\n  {shown(line)}\n" + here("This is an input and not a log, since a line is `%`. `./arpasim --log < FILE` prints the log of its replay.")
     before = [part for part in map(part_of, lines[: number - 1]) if part is not None]
     why = wrong_with_entry(line) or out_of_order(line, before) or "No cause was found. docs/program.md has the forms of a log's lines."
     return f"Line {number} is:\n  {shown(line)}\n{why}"

@@ -6,11 +6,14 @@ import json
 import os
 import subprocess
 import sys
+from pathlib import Path
 
 from dorydate.ending import shown_name
-from dorydate.program import ROOT
+from dorydate.program import NoProgram
+from dorydate.released import PAGE, octets_of
+from dorydate.where import ROOT, here, repository
 
-USAGE = "usage: ./explain --page [OTHER-FILE] < INPUT > page.html"
+USAGE = here("usage: ./explain --page [OTHER-FILE] < INPUT > page.html")
 EMPTY = '<script type="application/json" id="opened">[]</script>'  # the inputs with which a packed page opens
 
 
@@ -38,12 +41,23 @@ def written(given: list[tuple[str, bytes]]) -> int:
     except UnicodeDecodeError:
         print("explain: the input is not UTF-8, and a page shows no other", file=sys.stderr)
         return 4
-    made = subprocess.run([f"{ROOT}/tools/keep-wasm"], stdout=subprocess.PIPE, text=True)
-    if made.returncode:
+    packed = packed_page()
+    if packed is None:
         return 4
-    with open(made.stdout.strip(), encoding="utf-8", newline="") as packed:
-        sys.stdout.buffer.write(opened(packed.read(), inputs).encode())
+    sys.stdout.buffer.write(opened(packed, inputs).encode())
     return 0
+
+
+def packed_page() -> str | None:
+    """The workbench without inputs: in a clone of the program of its sources, and elsewhere the released one. None where it can't be made, which is said."""
+    if repository():
+        made = subprocess.run([f"{ROOT}/tools/keep-wasm", "--any"], stdout=subprocess.PIPE, text=True)
+        return Path(made.stdout.strip()).read_bytes().decode() if made.returncode == 0 else None
+    try:
+        return octets_of(PAGE).decode()
+    except (NoProgram, OSError) as why:
+        print(f"explain: {why}", file=sys.stderr)
+        return None
 
 
 def opened(page: str, inputs: list[dict[str, str]]) -> str:

@@ -8,6 +8,7 @@ from __future__ import annotations
 
 import os
 import re
+import shutil
 import subprocess
 import sys
 import tempfile
@@ -19,7 +20,8 @@ from itertools import chain, islice
 from dorydate.given import Input, is_event
 from dorydate.explain.topology import network_by
 from dorydate.marks import LAST, Marked, Unmarked, each_printed, mark_for
-from dorydate.program import ROOT
+from dorydate.program import UNLIMITED, NoProgram, Program
+from dorydate.where import ROOT, found, repository
 
 MOST_TRIED = 64_000_000  # octets of inputs that are run without a kept program
 Ended = tuple[int, bytes, str]  # the status of a run, its output, and what it said on standard error
@@ -47,20 +49,22 @@ class Replayed:
     events: list[Happened]
 
 
-def kept_program() -> str | None:
-    """The program that DORYDATE_PROGRAM names, or else the kept one of the present sources, which the first call builds without proofs if ./build has
-    not proved it; None where it cannot be kept."""
-    if named := os.environ.get("DORYDATE_PROGRAM"):
-        return named
-    return subprocess.run([f"{ROOT}/tools/program"], stdout=subprocess.PIPE, text=True).stdout.strip() or None
+def kept_program() -> Program | None:
+    """The program of this machine; None in a clone where none can be kept, so that it is built for this call."""
+    try:
+        return found()
+    except NoProgram:
+        if repository() is not None and shutil.which("rt") is not None:
+            return None
+        raise
 
 
-def answers(program: str, inputs: Iterable[bytes], options: Sequence[str] = ()) -> Iterator[Ended]:
+def answers(program: Program, inputs: Iterable[bytes], options: Sequence[str] = ()) -> Iterator[Ended]:
     """How the program ends on each of these inputs, in turn."""
 
     def run(octets: bytes) -> Ended:
-        ran = subprocess.run([program, *options], input=octets, capture_output=True)
-        return ran.returncode, ran.stdout, ran.stderr.decode()
+        ran = program.run(octets, *options, seconds=UNLIMITED)
+        return ran.status, ran.output.encode("latin-1"), ran.said
 
     left = iter(inputs)
     with ThreadPoolExecutor(os.cpu_count()) as pool:
@@ -108,7 +112,7 @@ def ends_of_cases(output: bytes, notes: str) -> list[Ended]:
     return ended
 
 
-def replay(given: Input, program: str | None) -> Replayed:
+def replay(given: Input, program: Program | None) -> Replayed:
     """How the program ends on the input, and what each event printed."""
     events = [(number, line) for number, line in given.script if is_event(line)]
     lines = [line for _, line in events]
@@ -129,7 +133,7 @@ def replay(given: Input, program: str | None) -> Replayed:
     return Replayed(0, said, [Happened(number, line.decode().split(" "), its) for (number, line), its in zip(events, printed)])
 
 
-def lives(given: Input, program: str | None, raw: bool) -> list[str]:
+def lives(given: Input, program: Program | None, raw: bool) -> list[str]:
     """The lines of the book, of a network with host programs and a kept program."""
     if program is None or raw:
         return []

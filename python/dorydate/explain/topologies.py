@@ -12,6 +12,7 @@ from dorydate.network import MOST_IMPS, MOST_LINES
 from dorydate.program import MOST_OCTETS
 from dorydate.sentences.table import filled, sentences
 from dorydate.toml import Beyond, Fault, document_of, line_in_table, line_of_key, line_of_table
+from dorydate.where import here
 
 TOPOLOGIES = sentences("topologies")
 EVENTS = {*sentences("forms"), *sentences("forms of programs")}
@@ -58,7 +59,7 @@ def wrong_with_marker(given: Input) -> Fault:
     if given.octets[:2] in (b"\xff\xfe", b"\xfe\xff"):
         return Fault(None, "The file is UTF-16, as some editors and shells of Windows write it. Save it as UTF-8 or ASCII.")
     if is_log(given.lines):
-        return Fault(None, "This is a log and not an input. `./explain --audit < FILE` says whether the book in it is safe, and why not.")
+        return Fault(None, here("This is a log and not an input. `./explain --audit < FILE` says whether the book in it is safe, and why not."))
     for number, line in enumerate(given.lines, 1):
         if line.strip() == b"%":
             beside = "It ends in a carriage return. Save the file with line feeds only." if line == b"%\r" else TOPOLOGIES["marker alone"]

@@ -22,6 +22,7 @@ from dorydate.explore.sides import Record, Sides, batches, calms_of
 from dorydate.network import Network
 from dorydate.program import Program
 from dorydate.script import Calm, Event, Script
+from dorydate.where import here
 
 Texts = tuple[tuple[str, str], ...]  # what a state is, by the names of its parts
 
@@ -269,7 +270,7 @@ def command(asked: Asked, program: Program) -> int:
             print(f"explore: not found; time was up before all of {whole + 1} were looked at", file=sys.stderr)
         return 1
     print(f"explore: {len(script)} events, and no fewer of {asked.words()} do it{by_whom(program)}", file=sys.stderr)
-    print(Script.of(network, (*asked.opening, *script), [f"Found by ./explore --all: {pattern.text}"]).text(), end="")
+    print(Script.of(network, (*asked.opening, *script), [here("Found by ./explore --all: ") + pattern.text]).text(), end="")
     return 0
 
 

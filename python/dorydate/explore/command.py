@@ -26,7 +26,8 @@ from dorydate.explore.search import MATCHES, Job, NotKept, Progress, Search
 from dorydate.explore.shrink import Script as Found
 from dorydate.explore.state import OtherState, State
 from dorydate.network import BadNetwork, Network
-from dorydate.program import NoProgram, Program, TookTooLong, found
+from dorydate.program import NoProgram, Program, TookTooLong
+from dorydate.where import found, here
 from dorydate.script import BadLine, Calm, Script, octets_of
 from dorydate.trace import BadTrace
 
@@ -141,7 +142,7 @@ class Shown:
 def written(network: Network, pattern: Pattern, script: Found, program: Program) -> str:
     """A script, with the last calm that the pattern is about, and with what each event prints as its expectation (`#=`)."""
     last = (Calm(pattern.calm.rounds),) if pattern.calm.rounds else ()
-    heading = [f"Found by ./explore: {pattern.text}"]
+    heading = [here("Found by ./explore: ") + pattern.text]
     full = expected(Script.of(network, (*script, *last), heading), program)
     short = tuple(it if len(it.expected or ()) <= MOST_EXPECTED else replace(it, expected=None) for it in full.entries)
     return replace(full, entries=short).text()
@@ -151,7 +152,7 @@ def saved(path: str, text: str, program: Program) -> None:
     """Writes a script as an example: the file, and beside it what it prints."""
     Path(path).write_text(text, encoding="utf-8")
     Path(f"{path}.stdout").write_text(program.run(octets_of(text)).output, encoding="utf-8")
-    print(f"explore: {path} has the script, and {path}.stdout what it prints; ./explain --page < {path} makes a page of it", file=sys.stderr)
+    print(f"explore: {path} has the script, and {path}.stdout what it prints; {here('./explain')} --page < {path} makes a page of it", file=sys.stderr)
 
 
 def print_list() -> int:
@@ -174,7 +175,7 @@ def searched(words: argparse.Namespace, program: Program) -> int:
     kinds = tuple(words.kinds or (SEARCHES[words.name].kinds if words.name in SEARCHES else ()))
     pools_of(words, network)
     job = Job(network.toml(), pattern.text, kinds, words.seed, words.audit)
-    state = State(words.state, hash_of(program.path)) if words.state else None
+    state = State(words.state, hash_of(program.file)) if words.state else None
     search = job.search(program)
     search.progress = (state.resumed("", job) if state else None) or search.progress
     workers = workers_of(words, program)
@@ -220,7 +221,7 @@ def campaigned(words: argparse.Namespace, program: Program) -> int:
     except (OSError, UnicodeDecodeError) as fault:
         raise Wrong(f"{words.campaign}: {getattr(fault, 'strerror', None) or 'is no text'}") from None
     campaign = Campaign.read(table, words.out)
-    state = State(words.state, hash_of(program.path)) if words.state else None
+    state = State(words.state, hash_of(program.file)) if words.state else None
     workers = workers_of(words, program)
     try:
         return FOUND if campaign.run(program, workers, state, not words.quiet) else NOT_FOUND

@@ -26,7 +26,8 @@ from typing import Any, Generic, Protocol, TypeVar
 
 from dorydate.explore.many import CannotRun
 from dorydate.explore.search import Batch, Job, Search
-from dorydate.program import NoProgram, Program, found
+from dorydate.program import NoProgram, Program
+from dorydate.where import found
 
 Made = TypeVar("Made")
 CHUNK = 8  # batches of a task
@@ -56,8 +57,8 @@ def hash_of(path: str) -> str:
 def search_of(job: Job, wanted: str) -> Search:
     """The search of a job, by the program of this machine, which has to have this hash."""
     program = found()
-    if hash_of(program.path) != wanted:
-        raise OtherProgram(f"a worker has another program: the hash of {program.path} begins with {hash_of(program.path)[:12]}, and not with {wanted[:12]}")
+    if hash_of(program.file) != wanted:
+        raise OtherProgram(f"a worker has another program: the hash of {program.path} begins with {hash_of(program.file)[:12]}, and not with {wanted[:12]}")
     return job.search(program)
 
 
@@ -227,4 +228,4 @@ def in_words(fault: Exception) -> Exception:
 
 def batches_of(job: Job, program: Program, workers: Workers | None, first: int) -> Iterator[Batch] | None:
     """The batches of a job from a number on, by workers; None where there are none, and the search makes them itself."""
-    return None if workers is None else Ordered(workers, made, job, hash_of(program.path)).since(first)
+    return None if workers is None else Ordered(workers, made, job, hash_of(program.file)).since(first)

@@ -20,8 +20,8 @@ from dorydate.explore.breadth import Asked
 from dorydate.explore.many import CannotRun
 from dorydate.explore.pattern import Part, Pattern
 from dorydate.explore.shrink import Script as Events
-from dorydate.program import repository
 from dorydate.script import read_event
+from dorydate.where import repository
 
 MEGABYTES = 1024  # of states, where nothing else is said
 

@@ -24,6 +24,7 @@ from dorydate.network import Host, Network
 from dorydate.program import Program
 from dorydate.script import Calm, Deliver, Event, Flow, Out, Script, Text, octets_of
 from dorydate.trace import opening
+from dorydate.where import here
 
 WHAT = "eight messages hold all slots of an IMP, and their pieces can never come: by a measure from the trace"
 NETWORK = Network.joined("WEST-MIDDLE-EAST", raw=True)
@@ -221,5 +222,5 @@ def command(program: Program, seed: int, seconds: float) -> int:
     tried = climb.tried
     short, runs = climb.shortest(script)
     print(f"explore: a lockup after {tried} schedules and {took:.1f} s, with {len(script)} events; shrunk to {len(short)} in {runs} runs", file=sys.stderr)
-    print(Script.of(NETWORK, (OPENING, *short, Calm(LAST)), [f"Found by ./explore lockup: {WHAT}"]).text(), end="")
+    print(Script.of(NETWORK, (OPENING, *short, Calm(LAST)), [here("Found by ./explore lockup: ") + WHAT]).text(), end="")
     return 0

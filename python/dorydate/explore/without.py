@@ -27,8 +27,8 @@ from dorydate.model.topology import Topology
 from dorydate.model.without import HARMLESS, LACKING, broken, opened_without, read_line
 from dorydate.model.without.stored import Lesson, unrolled
 from dorydate.network import Network
-from dorydate.program import repository
 from dorydate.script import Event, GiveUp, Script, read_event
+from dorydate.where import here, repository
 
 RAW = Network.joined("LEFT-RIGHT", raw=True)
 PROGRAMS = Network.joined("LEFT", "RIGHT", carrier="plain")
@@ -223,7 +223,7 @@ def command(words: str, seed: int, seconds: float, runs: int, file: str | None =
     """Prints the shortest script that breaks a promise without the rule that these words name."""
     meant = [it for it in rules() if words in it]
     if len(meant) != 1:
-        print(f"explore: {len(meant)} rules have these words; ./explore --rules prints all", file=sys.stderr)
+        print(f"explore: {len(meant)} rules have these words; {here('./explore')} --rules prints all", file=sys.stderr)
         return 2
     (rule,) = meant
     print(f"explore: without the rule: {rule}", file=sys.stderr)

@@ -13,7 +13,8 @@ from dorydate.export.replayed import Replayed, replayed
 from dorydate.inside import CannotFollow, state_of
 from dorydate.network import BadNetwork
 from dorydate.printed import refusal
-from dorydate.program import MOST_OCTETS, NoProgram, Program, TookTooLong, found
+from dorydate.program import MOST_OCTETS, NoProgram, Program, TookTooLong
+from dorydate.where import found, here
 from dorydate.deeds import Stopped
 from dorydate.script import BadLine, Script
 from dorydate.state import State
@@ -29,7 +30,7 @@ FORMATS = {
 
 
 def parser() -> argparse.ArgumentParser:
-    made = argparse.ArgumentParser(prog="export", description="Writes the replay of an input in the format of another tool: ./export --pcapng < INPUT > FILE (docs/export.md)")
+    made = argparse.ArgumentParser(prog=here("./export"), description=here("Writes the replay of an input in the format of another tool: ./export --pcapng < INPUT > FILE (docs/export.md)"))
     which = made.add_mutually_exclusive_group(required=True)
     for name, what in FORMATS.items():
         which.add_argument(f"--{name}", action="store_const", const=name, dest="format", help=what)

@@ -9,7 +9,8 @@ from typing import Any
 
 from dorydate.network import Network
 from dorydate.printed import CROSSINGS
-from dorydate.program import Program, found
+from dorydate.program import Program
+from dorydate.where import found
 from dorydate.deeds import Stopped
 from dorydate.replay import attributed
 from dorydate.script import Event, Script

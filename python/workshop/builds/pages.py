@@ -8,17 +8,20 @@ Beside a program that ./build or tools/keep-unproved keeps as NAME are afterward
 - NAME.html: the page that holds NAME.wasm, which is the workbench (docs/workbench.md)
 - NAME-plain.html: a plain page around NAME.wasm, with a box, options and what is printed
 
-They are made of the proved program if there is one, else of the one that was built without proofs, and then they say so.
+They are made of the proved program if there is one, else of the one that was built without proofs, and then they say so. With --any the page may
+also hold the released module, if that is of these sources and none is made yet: NAME is then HASH/arpasim-released.
 """
 
 from __future__ import annotations
 
+import hashlib
+import json
 import os
 import subprocess
 import sys
 
 from workshop.builds.unproved import kept_for_sources
-from workshop.parts import ROOT
+from workshop.parts import ROOT, read_octets, text_of
 from workshop.wasm import pack
 from workshop.wasm.again import build_again
 from workshop.wasm.binary import Refused
@@ -77,12 +80,41 @@ def keep_modules(program: str) -> None:
         raise Refused(f"the module that was caught is {'not ' * is_proved}the one of a proved program")
 
 
+def released_module(sources: str) -> bytes | None:
+    """The module in the released page, if that is of these sources. A page that is not as its note says is refused."""
+    try:
+        note = json.loads(text_of(f"{ROOT}/released/note.json"))
+    except OSError:
+        return None
+    if note["sources"] != sources:
+        return None
+    page = read_octets(f"{ROOT}/released/dorydate.html")
+    if hashlib.sha256(page).hexdigest() != note["files"]["dorydate.html"]["sha256"]:
+        raise Refused("released/dorydate.html was changed: its hash is not the one in released/note.json")
+    return pack.module_in(page.decode())
+
+
+def keep_released() -> str | None:
+    """Keeps the page of the released module of these sources, unless a module is made already. Its path, None where nothing is released of them."""
+    kept = kept_for_sources()
+    if os.path.exists(kept) and read_note(f"{kept}.wasm").get("makers") == makers():
+        return None
+    module = released_module(os.path.basename(os.path.dirname(kept)))
+    if module is None:
+        return None
+    os.makedirs(os.path.dirname(kept), exist_ok=True)
+    write(f"{kept}-released.html", pack.page(f"{ROOT}/web/workbench", module).encode())
+    return f"{kept}-released.html"
+
+
 def main() -> int:
     try:
+        if sys.argv[1:] == ["--any"] and (page := keep_released()):
+            print(page)
+            return 0
         program = module_of_program()
         keep_modules(program)
-        with open(f"{program}.wasm", "rb") as module:
-            octets = module.read()
+        octets = read_octets(f"{program}.wasm")
         write(f"{program}.html", pack.page(f"{ROOT}/web/workbench", octets).encode())
         write(f"{program}-plain.html", pack.page(f"{ROOT}/web/page", octets).encode())
     except (Refused, pack.Refused, OSError, subprocess.CalledProcessError) as why:

@@ -2,48 +2,48 @@
 
 FOLDER, else out/release, is made anew, and gets
 
-- arpasim, the native program, and arpasim.wasm and arpasim64.wasm, the same as WebAssembly;
+- arpasim, the native program as one static file, and arpasim.o, the object that it is linked of (workshop/builds/static.py);
+- arpasim-dynamic, the file that the toolchain linked, which the gate tried;
+- arpasim.wasm and arpasim64.wasm, the same program as WebAssembly, and arpasim-VERSION-c.tar.gz, C of the first;
 - dorydate.html, the workbench, which holds arpasim.wasm, and lessons/NAME.html for each example that docs/lessons.md names, which opens
   the workbench at it; lessons/index.html opens it at the list of all;
-- NOTE.txt: which sources, toolchain and gate all this comes from, and what it needs;
+- packages for pip (.whl), npm (.tgz) and Debian (.deb), and the manual page arpasim.1 (workshop/builds/packages.py);
+- TAG.txt, the text of the tag; NOTE.txt and note.json: which sources, toolchain and gate all this comes from, and what it needs;
 - the licences, and SHA256SUMS of everything.
 
 ./build has to have proved the program. The same sources, toolchain and commit give the same octets, so a second call can be compared with
-the first one. The page and a note of its own are also put into released/, to be committed: with them a fresh clone has something that opens
-without a build.
+the first one. The static program, the page, the wheel and their note are also put into released/, to be committed: with them a fresh clone has
+what runs without a build.
 """
 
 from __future__ import annotations
 
 import hashlib
 import html
-import json
 import os
 import re
 import shutil
 import subprocess
 import sys
 
-from workshop.parts import ROOT
+from workshop.builds import packages
+from workshop.builds.manual import manual
+from workshop.builds.packages import LICENCES, Refused, Release
+from workshop.builds.static import NotTheSame, static_program
+from workshop.documents.versions import faults as other_versions, version
+from workshop.parts import ROOT, read_octets, text_of
 from workshop.wasm.make import read_note
 from workshop.wasm.pack import title_of
 
-LICENCES = ("LICENSE-APACHE", "LICENSE-MIT")
 LESSON = re.compile(r"\]\(\.\./examples/([a-z0-9-]+)\)")
-
-
-class Refused(Exception):
-    """Why there is no release."""
+STATIC = "the machine code of the proved program that the gate tried, linked statically with Debian's C library"
+PAGE = "the workbench, which holds the module that was made of the same LLVM module"
+WHEEL = "the package for pip, with both"
 
 
 def printed(*words: str) -> str:
     """What a command prints, without the last line feed."""
     return subprocess.run(words, cwd=ROOT, stdout=subprocess.PIPE, text=True, check=True).stdout.strip()
-
-
-def read(path: str) -> bytes:
-    with open(path, "rb") as file:
-        return file.read()
 
 
 def write(path: str, octets: bytes) -> None:
@@ -53,7 +53,7 @@ def write(path: str, octets: bytes) -> None:
 
 def lessons() -> list[str]:
     """The examples that the lessons name."""
-    return sorted(set(LESSON.findall(read(f"{ROOT}/docs/lessons.md").decode())))
+    return sorted(set(LESSON.findall(text_of(f"{ROOT}/docs/lessons.md"))))
 
 
 def opening(title: str, place: str) -> str:
@@ -73,42 +73,70 @@ def write_lessons(folder: str) -> int:
     os.mkdir(folder)
     names = lessons()
     for name in names:
-        title = title_of(name, read(f"{ROOT}/examples/{name}").decode())
+        title = title_of(name, text_of(f"{ROOT}/examples/{name}"))
         write(f"{folder}/{name}.html", opening(title, f"e={name}").encode())
     write(f"{folder}/index.html", opening("All lessons, with their questions", "lessons").encode())
     return len(names)
 
 
-def needed_library(program: bytes) -> str:
-    """The version of the C library that a native program needs at least."""
-    found = {tuple(map(int, it.split(b"."))) for it in re.findall(rb"GLIBC_(\d+(?:\.\d+)+)\0", program)}
-    return ".".join(map(str, max(found)))
-
-
 def gate(kept: str) -> str:
     """What the gate said when it last passed on these sources."""
     try:
-        return read(f"{os.path.dirname(kept)}/gate").decode().strip()
+        return text_of(f"{os.path.dirname(kept)}/gate").strip()
     except OSError:
         return "none has passed on these sources in this clone"
 
 
-def note_of(kept: str, module: dict[str, object], count: int) -> str:
-    """The note of a release."""
-    return f"""Dorydate, commit {printed("git", "rev-parse", "HEAD")}
+def tag() -> str:
+    """The text of the tag, which docs/releasing.md has."""
+    text = text_of(f"{ROOT}/docs/releasing.md").split("## The tag's text\n\n")[1]
+    return "".join(f"{it.removeprefix('    ')}\n" for it in text.rstrip().splitlines()).replace("VERSION", version())
 
-Sources (tools/kept-program): {module["sources"]}
-Toolchain: {module["toolchain"]}
-Mark of the compiler in the modules: {module["mark"]}
-Gate: {gate(kept)}
 
-arpasim is for Linux on x86-64 with a processor of 2009 or later (x86-64-v2), and needs
-glibc {needed_library(read(kept))} or later, since the toolchain has no C library to be linked in.
-arpasim.wasm has addresses of 32 bits, and arpasim64.wasm of 64. Both are made of the module
-that LLVM made arpasim of. dorydate.html holds arpasim.wasm, and opens from a file in a browser
-of 2023 or later, without a network. lessons/ has {count} pages that open it, each at one lesson.
+def sha256(octets: bytes) -> str:
+    return hashlib.sha256(octets).hexdigest()
 
-docs/browser.md of the repository says what is trusted in dorydate.html beyond arpasim.
+
+def facts(kept: str) -> dict[str, object]:
+    """What the note of a release says of all its files."""
+    module = read_note(f"{kept}.wasm")
+    told = {key: module[key] for key in ("sources", "toolchain", "mark", "proved")}
+    return {
+        **told,
+        "version": version(),
+        "commit": printed("git", "rev-parse", "HEAD"),
+        "gate": gate(kept),
+        "linked": printed("gcc", "--version").splitlines()[0] + ", " + printed("ldd", "--version").splitlines()[0],
+        "module": sha256(read_octets(f"{kept}.wasm")),
+    }
+
+
+def note_of(note: dict[str, object], dynamic: bytes, count: int) -> str:
+    """The note of a release, for people."""
+    return f"""Dorydate {note["version"]}, commit {note["commit"]}
+
+Sources (tools/kept-program): {note["sources"]}
+Toolchain: {note["toolchain"]}
+Mark of the compiler in the modules: {note["mark"]}
+Gate: {note["gate"]}
+
+arpasim is for Linux on x86-64 with a processor of 2009 or later (x86-64-v2), and needs nothing else. It is
+{STATIC}
+({note["linked"]}). To link it with another one: gcc -static arpasim.o libos_c.a
+liblibc_c.a, two libraries of the toolchain. arpasim-dynamic is the file that the toolchain linked and
+the gate tried; it needs glibc {packages.needed_c_library(dynamic)} or later.
+
+arpasim.wasm has addresses of 32 bits, and arpasim64.wasm of 64. Both are made of the LLVM module
+that arpasim is made of. arpasim-{note["version"]}-c.tar.gz is C that wasm2c made of arpasim.wasm, for
+other systems; its README has the line that compiles it. dorydate.html holds arpasim.wasm, and opens
+from a file in a browser of 2023 or later, without a network. lessons/ has {count} pages that open it.
+
+    pip install dorydate-{note["version"]}-py3-none-any.whl     arpasim, dorydate explain, explore, export, ..
+    npm install -g ./dorydate-{note["version"]}.tgz              arpasim and dorydate, by Node 18 or later
+    dpkg -i dorydate_{note["version"]}_amd64.deb                  arpasim, its manual page, the workbench
+
+The wheel has arpasim, and for other systems the page, whose module Node 18 or later runs.
+docs/browser.md of the repository says what is trusted in a module beyond arpasim.
 """
 
 
@@ -120,45 +148,70 @@ def is_clean() -> bool:
 def sums_of(folder: str) -> str:
     """A line for each file of a folder and those below it, as `sha256sum -c` reads it."""
     files = sorted(os.path.relpath(f"{place}/{it}", folder) for place, _, names in os.walk(folder) for it in names)
-    return "".join(f"{hashlib.sha256(read(f'{folder}/{it}')).hexdigest()}  {it}\n" for it in files)
+    return "".join(f"{sha256(read_octets(f'{folder}/{it}'))}  {it}\n" for it in files)
 
 
-def keep_page(folder: str, module: dict[str, object]) -> None:
-    """Puts the page, and a note of what it comes from, into the repository."""
-    note: dict[str, object] = {
-        "page": hashlib.sha256(read(f"{folder}/dorydate.html")).hexdigest(),
-        "module": hashlib.sha256(read(f"{folder}/arpasim.wasm")).hexdigest(),
-        **{key: module[key] for key in ("sources", "toolchain", "mark", "proved")},
-    }
-    os.makedirs(f"{ROOT}/released", exist_ok=True)
-    shutil.copyfile(f"{folder}/dorydate.html", f"{ROOT}/released/dorydate.html")
-    write(f"{ROOT}/released/note.json", (json.dumps(note, indent=4, sort_keys=True) + "\n").encode())
+def keep(folder: str, note: dict[str, object], wheel: str) -> None:
+    """Puts what a fresh clone runs, and the note of it, into the repository, in place of what was there."""
+    kinds = {"arpasim": STATIC, "dorydate.html": PAGE, wheel: WHEEL}
+    shutil.rmtree(f"{ROOT}/released", ignore_errors=True)
+    os.mkdir(f"{ROOT}/released")
+    for name in kinds:
+        shutil.copy2(f"{folder}/{name}", f"{ROOT}/released/{name}")
+    files = {name: {"is": kind, "sha256": sha256(read_octets(f"{folder}/{name}"))} for name, kind in kinds.items()}
+    write(f"{ROOT}/released/note.json", packages.released_note(note, files))
 
 
-def make(folder: str) -> None:
-    """Makes the release."""
-    kept = printed("tools/kept-program")
-    if not os.path.exists(kept):
-        raise Refused("the program of these sources is not proved here: ./build proves it")
-    if not is_clean():
-        raise Refused("there are changes that are not committed, and a release names its commit")
-    page = printed("tools/keep-wasm")
-    module = read_note(f"{kept}.wasm")
+def empty(folder: str) -> None:
+    """Makes a folder anew, unless something else is in it."""
     if os.path.exists(folder):
         if os.listdir(folder) and not os.path.exists(f"{folder}/SHA256SUMS"):
             raise Refused(f"{folder} is there already, and is no release")
         shutil.rmtree(folder)
     os.makedirs(folder)
-    shutil.copy2(kept, f"{folder}/arpasim")
-    shutil.copyfile(f"{kept}.wasm", f"{folder}/arpasim.wasm")
-    shutil.copyfile(f"{kept}64.wasm", f"{folder}/arpasim64.wasm")
-    shutil.copyfile(page, f"{folder}/dorydate.html")
-    for name in LICENCES:
-        shutil.copyfile(f"{ROOT}/{name}", f"{folder}/{name}")
+
+
+def kept_program() -> str:
+    """The proved program of a clone without changes."""
+    kept = printed("tools/kept-program")
+    if not os.path.exists(kept):
+        raise Refused("the program of these sources is not proved here: ./build proves it")
+    if not is_clean():
+        raise Refused("there are changes that are not committed, and a release names its commit")
+    if wrong := [*other_versions()]:
+        raise Refused("; ".join(wrong))
+    return kept
+
+
+def write_packages(folder: str, note: dict[str, object]) -> str:
+    """Packs what is in the folder for those who install it. The name of the wheel."""
+    native, page, module = (read_octets(f"{folder}/{it}") for it in ("arpasim", "dorydate.html", "arpasim.wasm"))
+    files = {"arpasim": {"is": STATIC, "sha256": sha256(native)}, "dorydate.html": {"is": PAGE, "sha256": sha256(page)}}
+    release = Release(version(), native, page, module, packages.released_note(note, files))
+    write(f"{folder}/note.json", release.note)
+    write(f"{folder}/dorydate-{release.version}.tgz", packages.npm_package(release))
+    write(f"{folder}/arpasim-{release.version}-c.tar.gz", packages.c_of_module(release))
+    write(f"{folder}/arpasim.1", manual(release.version).encode())
+    packages.debian_package(release, folder)
+    return packages.wheel(release, folder)
+
+
+def make(folder: str) -> None:
+    """Makes the release."""
+    kept = kept_program()
+    page = printed("tools/keep-wasm")
+    empty(folder)
+    static_program(kept, f"{folder}/arpasim")
+    shutil.copy2(kept, f"{folder}/arpasim-dynamic")
+    for name, path in {"arpasim.wasm": f"{kept}.wasm", "arpasim64.wasm": f"{kept}64.wasm", "dorydate.html": page, **{it: f"{ROOT}/{it}" for it in LICENCES}}.items():
+        shutil.copyfile(path, f"{folder}/{name}")
+    note = facts(kept)
     count = write_lessons(f"{folder}/lessons")
-    write(f"{folder}/NOTE.txt", note_of(kept, module, count).encode())
+    wheel = write_packages(folder, note)
+    write(f"{folder}/TAG.txt", tag().encode())
+    write(f"{folder}/NOTE.txt", note_of(note, read_octets(kept), count).encode())
     write(f"{folder}/SHA256SUMS", sums_of(folder).encode())
-    keep_page(folder, module)
+    keep(folder, note, wheel)
 
 
 def main() -> int:
@@ -170,8 +223,8 @@ def main() -> int:
     folder = os.path.abspath(sys.argv[1]) if sys.argv[1:] else f"{ROOT}/out/release"
     try:
         make(folder)
-    except (Refused, OSError, subprocess.CalledProcessError) as why:
+    except (Refused, NotTheSame, OSError, subprocess.CalledProcessError) as why:
         print(f"release: {why}", file=sys.stderr)
         return 1
-    print(f"release: {folder} is made, and released/ has its page, to be committed")
+    print(f"release: {folder} is made, and released/ has what a clone runs, to be committed; ./check release tries all of it")
     return 0

@@ -19,6 +19,8 @@ no text of a drawing over another one or over a line. Figures in prose have to b
 (workshop.documents). With --write these and the page of planted bugs are made anew, and with --lower the limits are lowered to what is counted.
 With --tags a file `tags` is made, by which editors find where a name is declared. With --rule the rules in which all of the words occur are printed, each with its definition, its functions, its rows and its planted bugs.
 
+Each file in released/ has the hash that its note names.
+
 Then it counts what hides borders and what is dead, each against its limit: imports that reach into another crate's proofs/
 beside its module lemmas, names of proofs/ that are declared `pub` and are nowhere else, and folders of proofs/ with too many entries.
 """
@@ -35,6 +37,7 @@ import unittest
 from collections import Counter
 from collections.abc import Iterator
 
+from workshop.checks import release
 from workshop.documents import anchors, believed, budget, crates_page, dialect, figures, named_crates, notebook, paragraphs, planted, reference, rules, tags, tests, versions
 from workshop.drawings import pictures
 from workshop.parts import ROOT
@@ -244,7 +247,7 @@ def made() -> list[str]:
     """What isn't as it is made, and what the drawings and the words of the documents have that they shouldn't."""
     print("check docs:", dialect.summary())
     print("check docs:", budget.summary())
-    return [*failed_tests(), *paragraphs.faults(), *anchors.faults(), *pictures.faults(), *crates_page.faults(), *planted.faults(), *rules.faults(), *believed.faults(), *notebook.faults(), *reference.faults(), *figures.faults(), *budget.faults(), *dialect.faults(), *named_crates.faults(), *versions.faults()]
+    return [*failed_tests(), *paragraphs.faults(), *anchors.faults(), *pictures.faults(), *crates_page.faults(), *planted.faults(), *rules.faults(), *believed.faults(), *notebook.faults(), *reference.faults(), *figures.faults(), *budget.faults(), *dialect.faults(), *named_crates.faults(), *versions.faults(), *release.faults()]
 
 
 def write() -> int:

@@ -43,6 +43,7 @@ from dorydate.model.names import spell_flow
 from dorydate.model.runs import network_is_good, opened
 from dorydate.model.script import BadLine, Event, read_line
 from dorydate.model.topology import Topology, spelled
+from dorydate.program import Program
 from dorydate.sentences import IN_A_HOST, IN_A_SUBNET, crossing
 from workshop.checks.explain_faults import BAD_LINES, BAD_LINES_OF_WORLDS, BAD_LOG_ENDS, BAD_LOG_LINES, BAD_TOPOLOGIES, BROKEN_LOGS, GOOD
 from workshop.checks.explain_given import Wrong, example, same, told
@@ -64,7 +65,7 @@ def events_by_chance(seed: int) -> tuple[Topology, list[str], list[Event]] | Non
     return (network, lines, [it for it in asked if it]) if network_is_good(network) else None
 
 
-def check_ties(program: str, seeds: int) -> None:
+def check_ties(program: Program, seeds: int) -> None:
     """What each event prints, and what still waits after it, against the independent model."""
     count = 0
     for seed in range(seeds):
@@ -95,7 +96,7 @@ def see(past: Past, event: Happened) -> None:
         past.see(event.number, event.words, None)
 
 
-def check_refusals(program: str) -> None:
+def check_refusals(program: Program) -> None:
     """Of each refused event of the examples the cause that is meant is named."""
     meant, found = {(name, number): words for name, number, words in REFUSALS}, 0
     for name in sorted({name for name, _, _ in REFUSALS}):
@@ -112,7 +113,7 @@ def check_refusals(program: str) -> None:
 # ---- bad inputs
 
 
-def check_causes(program: str, seeds: int) -> None:
+def check_causes(program: Program, seeds: int) -> None:
     """A cause is named exactly where the independent model refuses, and the one that is meant."""
     for bad_line, words in BAD_LINES:
         check_cause(program, GOOD + b"%\ntake 0/1\n" + bad_line + b"\n", (2, "arpasim: bad script line 2\n"), words)
@@ -132,7 +133,7 @@ def check_causes(program: str, seeds: int) -> None:
     print(f"check explain: a cause named for {len(BAD_LINES) + len(BAD_TOPOLOGIES)} inputs written by hand and for {bad} random ones")
 
 
-def check_cause(program: str, octets: bytes, ended: tuple[int, str], words: str) -> None:
+def check_cause(program: Program, octets: bytes, ended: tuple[int, str], words: str) -> None:
     """The program ends so on an input, and the cause that is named has these words."""
     given = Input(octets)
     found = replay(given, program)

@@ -8,6 +8,7 @@ from dorydate.explain.telling import telling
 from dorydate.model.bits import spell_bits
 from dorydate.model.names import spell_flow, spell_host
 from dorydate.model.script import Event
+from dorydate.program import Program
 from workshop.parts import ROOT
 
 
@@ -27,12 +28,12 @@ def example(name: str) -> Input:
         return Input(file.read())
 
 
-def events_of(given: Input, program: str | None) -> list[Happened]:
+def events_of(given: Input, program: Program | None) -> list[Happened]:
     """The events of an input, each with what it printed."""
     return replay(given, program).events
 
 
-def told(given: Input, program: str | None) -> list[str]:
+def told(given: Input, program: Program | None) -> list[str]:
     """What ./explain prints of an input, line by line."""
     return [*telling(given, events_of(given, program))]
 

@@ -20,13 +20,14 @@ from dorydate.model.imp import Imp
 from dorydate.model.script import Event, read_event
 from dorydate.model.subnet import Subnet
 from dorydate.model.topology import Topology, spelled
+from dorydate.program import Program
 from workshop.checks.explain_given import Wrong, events_of, example, line_of, same, told
 from workshop.checks.explain_rows import DRAWN, INSIDES, LOST, PLAIN_PAIR, RAW_PAIR, REPEAT, STALLS, TEXTS, THROWN_AWAY
 
 PAIR = Topology("subnet", True, [(1, 1), (2, 1)], [(1, 2)])
 
 
-def check_rows(program: str) -> None:
+def check_rows(program: Program) -> None:
     """What is written by hand of events of the examples, of charts and of texts."""
     for name, number, words in INSIDES:
         lines = told(example(name), program)
@@ -41,7 +42,7 @@ def check_rows(program: str) -> None:
         same(text_in_words(link, bytes.fromhex(octets), 4 * len(octets)), words, f"the text {octets}")
 
 
-def check_inside(program: str, seeds: int) -> None:
+def check_inside(program: Program, seeds: int) -> None:
     """The independent model beside the program on random events, each with sentences; what is refused is cleared as they say."""
     check_rows(program)
     found, cleared = Counter[str](), 0
@@ -130,7 +131,7 @@ def wrongly_judged() -> list[tuple[str, list[str]]]:
 # ---- a full store, and networks at rest
 
 
-def check_full_store(program: str) -> None:
+def check_full_store(program: Program) -> None:
     """An IMP whose store is full refuses, and says what makes room."""
     script = ["calm 1", *(f"out 0/1 0/2 {link} 8063 {'00' * 1008}" for link in range(2, 7))]
     goes = Inside(PAIR)
@@ -147,7 +148,7 @@ def check_full_store(program: str) -> None:
     same([it.printed for it in events_of(given, program)], [it.printed for it in said], "a full store")
 
 
-def check_stalls(program: str) -> None:
+def check_stalls(program: Program) -> None:
     """What a network at rest waits for is said after a calm, and nothing where nothing waits."""
     for kind, script, words in STALLS:
         given = Input(((PLAIN_PAIR if kind == "plain" else RAW_PAIR) + "\n".join(script) + "\n").encode())

@@ -8,6 +8,7 @@ from dorydate.explain.charts import chart, short_chart
 from dorydate.explain.command import drawn
 from dorydate.given import Input
 from dorydate.explain.runs import lives, replay
+from dorydate.program import Program
 from workshop.checks.explain_given import events_of, example, same
 from workshop.checks.explain_rows import CHANGES, DIALOGUE
 from workshop.parts import ROOT, text_of
@@ -21,7 +22,7 @@ def table(document: str, head: str) -> list[Row]:
     return [[re.findall(r"`([^`]*)`", cell) for cell in row.split("|")[1:3]] for row in rows]
 
 
-def check_pages(program: str) -> None:
+def check_pages(program: Program) -> None:
     """The tour's table of the first message and the changes that it proposes, and the charts and the table in docs/."""
     tour = text_of(f"{ROOT}/docs/tour.md")
     given = example("first-message")
@@ -43,7 +44,7 @@ def check_pages(program: str) -> None:
     print("check explain: the tour's table and changes, and the chart and the dialogue in docs/, are what it prints, with a kept program and without")
 
 
-def check_dialogue(program: str, rows: list[Row]) -> None:
+def check_dialogue(program: Program, rows: list[Row]) -> None:
     """The script of the dialogue is the lines of these rows, after a calm, and prints what each row names, in its order. The tour's changes to it do as they say."""
     given = example(DIALOGUE)
     events = events_of(given, program)[1:]

@@ -15,7 +15,7 @@ PAGE, NOTEBOOK = f"{ROOT}/docs/python.md", f"{ROOT}/docs/experiment.ipynb"
 MAP = f"{ROOT}/docs/pictures/replay.svg"
 SHOWS = "In a notebook a replay shows itself as a map."
 BEGINS, ENDS = "## A tutorial\n", "## The explorer\n"
-HEAD = "# An experiment\n\nThe tutorial of [Experiments in Python](python.md). Start Jupyter with `PYTHONPATH=python`, or install the package first: `pip install ./python`."
+HEAD = "# An experiment\n\nThe tutorial of [Experiments in Python](python.md). Start Jupyter with `PYTHONPATH=python`, or install [the package](python.md) first."
 Cell = dict[str, object]
 
 

@@ -149,6 +149,14 @@ def read_octets(text: str) -> bytes:
     return gzip.decompress(base64.b85decode(text.translate(str.maketrans(INSTEAD, AVOIDED))))
 
 
+def module_in(page: str) -> bytes:
+    """The module that a page holds."""
+    found = re.findall(r'<script type="application/octet-stream" id="program">([^<]*)</script>', page)
+    if len(found) != 1:
+        raise Refused("the page holds no module")
+    return read_octets(str(found[0]))
+
+
 def hash_of(text: str) -> str:
     """The hash of a style or a script, as a policy names it."""
     return f"'sha256-{base64.b64encode(hashlib.sha256(text.encode()).digest()).decode()}'"

@@ -1,0 +1,128 @@
+"""Tests of what a release is made of, and of the program where pip installed it."""
+
+from __future__ import annotations
+
+import gzip
+import hashlib
+import io
+import json
+import shutil
+import tarfile
+import tempfile
+import unittest
+from pathlib import Path
+from unittest import mock
+
+from dorydate import released, where
+from dorydate.by_node import SERVED, ByNode
+from dorydate.program import NoProgram, Program, TookTooLong
+from workshop.builds.manual import as_roff, manual, worded
+from workshop.builds.packages import archive
+from workshop.parts import ROOT
+
+BY_NODE = f"{ROOT}/web/run/arpasim.mjs"
+INPUT = b"carrier = \"plain\"\nraw = true\n[[imp]]\nid = 1\nhosts = 2\n%\nout 0/1 1/1 0 8 41\n"
+
+
+class Manual(unittest.TestCase):
+    def test_markdown_becomes_roff(self) -> None:
+        self.assertEqual(worded("see [the page](a.md): `--log` of **all** .x"), "see the page: \\fB\\-\\-log\\fR of \\fBall\\fR .x")
+        self.assertEqual(worded(".x"), "\\&.x")
+        self.assertEqual(as_roff("| A | B | C |\n|---|---|---|\n| 1 | x | y |\n| 2 | | z |"), ".TP\n1\nx; y\n.TP\n2\nz")
+        self.assertEqual(as_roff("### A title"), ".SS A title")
+
+    def test_the_page_has_each_option_and_names_no_command_of_a_clone(self) -> None:
+        page = manual("7.8.9")
+        for option in ("check", "book", "texts", "log", "trace", "audit"):
+            self.assertIn(f"\n.TP\n\\fB\\-\\-{option}\\fR\n", page)
+        self.assertIn("Dorydate 7.8.9", page)
+        self.assertNotIn("./", page)
+
+
+class Archives(unittest.TestCase):
+    def test_an_archive_depends_on_what_is_in_it_only(self) -> None:
+        one = archive({"b": (b"2", 0o755), "a": (b"1", 0o644)})
+        self.assertEqual(one, archive({"a": (b"1", 0o644), "b": (b"2", 0o755)}))
+        with tarfile.open(fileobj=io.BytesIO(gzip.decompress(one))) as read:
+            self.assertEqual([(it.name, it.mode) for it in read], [("a", 0o644), ("b", 0o755)])
+
+
+class Installed(unittest.TestCase):
+    """The folder of a release, as a package has it."""
+
+    def setUp(self) -> None:
+        room = tempfile.TemporaryDirectory()
+        self.addCleanup(room.cleanup)
+        self.folder = Path(room.name)
+        changed = mock.patch.object(released, "FOLDER", self.folder)
+        changed.start()
+        self.addCleanup(changed.stop)
+
+    def put(self, name: str, text: str) -> None:
+        (self.folder / name).write_text(text, encoding="utf-8")
+        (self.folder / name).chmod(0o755)
+
+    def note(self, **files: str) -> None:
+        hashes = {name.replace("_", "."): {"sha256": hashlib.sha256(text.encode()).hexdigest()} for name, text in files.items()}
+        (self.folder / "note.json").write_text(json.dumps({"files": hashes}), encoding="utf-8")
+
+    def test_a_package_without_a_release_is_seen(self) -> None:
+        self.assertFalse(released.is_released())
+        self.note()
+        self.assertTrue(released.is_released())
+
+    def test_a_native_program_is_taken_if_it_runs_here(self) -> None:
+        text = "#!/bin/sh\necho ok\n"
+        self.put("arpasim", text)
+        self.note(arpasim=text)
+        with mock.patch("platform.system", lambda: "Linux"), mock.patch("platform.machine", lambda: "x86_64"):
+            self.assertEqual(released.released_program(), str(self.folder / "arpasim"))
+
+    def test_a_changed_program_is_refused_by_its_hash(self) -> None:
+        self.put("arpasim", "#!/bin/sh\necho ok \n")
+        self.note(arpasim="#!/bin/sh\necho ok\n")
+        with mock.patch("platform.system", lambda: "Linux"), mock.patch("platform.machine", lambda: "x86_64"):
+            with self.assertRaisesRegex(NoProgram, "was changed: its hash is"):
+                released.released_program()
+
+    def test_another_machine_has_the_program_by_node_or_is_told_the_way(self) -> None:
+        self.put("arpasim", "#!/bin/sh\necho ok\n")
+        self.put("dorydate.html", "page")
+        self.note(arpasim="#!/bin/sh\necho ok\n", dorydate_html="page")
+        with mock.patch("platform.machine", lambda: "riscv64"):
+            with mock.patch("shutil.which", lambda name: f"/bin/{name}"):
+                self.assertEqual(released.released_program(), str(self.folder / "run/arpasim.mjs"))
+            with mock.patch("shutil.which", lambda name: None), self.assertRaisesRegex(NoProgram, "riscv64.*Node 18 or later"):
+                released.released_program()
+
+    def test_words_name_the_commands_that_are_here(self) -> None:
+        self.assertEqual(where.here("./explain < F; ./arpasim --log"), "./explain < F; ./arpasim --log")
+        with mock.patch.object(where, "repository", lambda: None):
+            self.assertEqual(where.here("./explain < F; ./arpasim --log"), "dorydate explain < F; arpasim --log")
+
+
+@unittest.skipUnless(shutil.which("node"), "there is no Node")
+class ByNodeTests(unittest.TestCase):
+    """Runs of the released module, whatever sources it is of."""
+
+    def test_one_process_runs_many_inputs(self) -> None:
+        program = where.program_at(BY_NODE)
+        self.assertIsInstance(program, ByNode)
+        first = program.run(INPUT, "--texts")
+        process = SERVED[BY_NODE].process.pid
+        self.assertEqual((first.status, first.output, first.said), (0, "out 0/1 1/1 0 8 41\nend\n", ""))
+        self.assertEqual(program.run(b"no input").said, "arpasim: bad topology\n")
+        self.assertEqual([program.run(INPUT, "--texts") for _ in range(20)], [first] * 20)
+        self.assertEqual(SERVED[BY_NODE].process.pid, process)
+
+    def test_a_run_that_takes_too_long_is_stopped_and_the_next_one_runs(self) -> None:
+        program = ByNode(BY_NODE)
+        with self.assertRaises(TookTooLong):
+            program.run(INPUT, seconds=0.0)
+        self.assertEqual(program.run(INPUT).status, 0)
+
+    def test_the_same_as_a_program_of_its_own(self) -> None:
+        alone = Program(BY_NODE)
+        some: list[list[str]] = [[], ["--log"], ["--no-such"]]
+        for words in some:
+            self.assertEqual(ByNode(BY_NODE).run(INPUT, *words), alone.run(INPUT, *words))
