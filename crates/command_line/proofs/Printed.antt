@@ -113,7 +113,8 @@ raw_joined shown = λ server user s u a b c d h. absurd (none_reported h.served.
 raw_lived : (shown : List Shown) → AreLived (log_of (as_world shown)) (lines.notices_of (as_world shown)) []
 raw_lived shown = sym (ap (lives_in (log_of (as_world shown))) (no_notices shown) ∙ none_lived (log_of (as_world shown)))
 
-raw_book : (hosts : List Host) (shown : List Shown) → SafeMessages (reverse (crossings_of shown)) → IsRun hosts (reverse (crossings_of shown)) → AreOneBook true (as_world shown) []
+raw_book : (hosts : List Host) (shown : List Shown) → SafeMessages (reverse (crossings_of shown)) →
+    IsRun hosts (reverse (crossings_of shown)) → AreOneBook true (as_world shown) []
 raw_book hosts shown messages run = record {
   handed = [];
   hosts = hosts;
@@ -147,7 +148,8 @@ joined_as b other crossings reports lives joined = λ server user s u a e c d h.
       user_speaks = is_end other b (sym lives) user (u + 3) server s d h.user_speaks;
     }))
 
-world_book : {C : Type 0} (seen : C → Seen) (last : WorldState C) (shows : List lines.Shown) → ShowsBook last.kept.book shows → KeepsPromise seen last → AreOneBook false shows last.kept.book.lives
+world_book : {C : Type 0} (seen : C → Seen) (last : WorldState C) (shows : List lines.Shown) →
+    ShowsBook last.kept.book shows → KeepsPromise seen last → AreOneBook false shows last.kept.book.lives
 world_book seen last shows booked promise = record {
   handed = last.kept.handed;
   hosts = (seen last.carrier).hosts;
@@ -162,7 +164,9 @@ world_book seen last shows booked promise = record {
 
 -- ---- any network
 
-printed_from : {C : Type 0} (calls : Calls C) (opening : C) (book : Bool) (detail : Detail) (events : Asked) (a b : Option (List ℕ)) → ReplaysFrom calls opening book detail events a b → PrintsBook (is_raw events) book detail a b
+printed_from : {C : Type 0} (calls : Calls C) (opening : C) (book : Bool) (detail : Detail) (events : Asked)
+    (a b : Option (List ℕ)) → ReplaysFrom calls opening book detail events a b →
+    PrintsBook (is_raw events) book detail a b
 printed_from calls opening book detail (Raw events) a b r = record {
   shown = as_world r.shown;
   lives = [];
@@ -177,14 +181,18 @@ printed_from calls opening book detail (World events) a b r = record {
   written = r.written;
 }
 
-printed_over : (carrier : CarrierKind) (network : TopologyFields) (book : Bool) (detail : Detail) (events : Asked) (a b : Option (List ℕ)) → ReplaysOver carrier network book detail events a b → PrintsBook (is_raw events) book detail a b
+printed_over : (carrier : CarrierKind) (network : TopologyFields) (book : Bool) (detail : Detail) (events : Asked)
+    (a b : Option (List ℕ)) → ReplaysOver carrier network book detail events a b →
+    PrintsBook (is_raw events) book detail a b
 printed_over kind.Plain network book detail events a b r = printed_from plain_calls (plain_of network) book detail events a b r
 printed_over kind.Subnet network book detail events a b r = printed_from subnet_calls (subnet_of network) book detail events a b r
 
-pub printed : (book : Bool) (detail : Detail) (a b : Option (List ℕ)) (h : Ran book detail a b) → PrintsBook (is_raw h.events) book detail a b
+pub printed : (book : Bool) (detail : Detail) (a b : Option (List ℕ)) (h : Ran book detail a b) →
+    PrintsBook (is_raw h.events) book detail a b
 printed book detail a b h = printed_over h.network.carrier h.network book detail h.events a b h.replayed
 
-part_from : {C : Type 0} (calls : Calls C) (opening : C) (detail : Detail) (events : Asked) (a b : Option (List ℕ)) → EndsFrom calls opening detail events a b → PrintsPart (is_raw events) detail a b
+part_from : {C : Type 0} (calls : Calls C) (opening : C) (detail : Detail) (events : Asked) (a b : Option (List ℕ)) →
+    EndsFrom calls opening detail events a b → PrintsPart (is_raw events) detail a b
 part_from calls opening detail (Raw events) a b r = record {
   shown = as_world r.shown;
   lives = [];
@@ -198,11 +206,13 @@ part_from calls opening detail (World events) a b r = record {
   written = r.written;
 }
 
-part_over : (carrier : CarrierKind) (network : TopologyFields) (detail : Detail) (events : Asked) (a b : Option (List ℕ)) → EndsOver carrier network detail events a b → PrintsPart (is_raw events) detail a b
+part_over : (carrier : CarrierKind) (network : TopologyFields) (detail : Detail) (events : Asked)
+    (a b : Option (List ℕ)) → EndsOver carrier network detail events a b → PrintsPart (is_raw events) detail a b
 part_over kind.Plain network detail events a b r = part_from plain_calls (plain_of network) detail events a b r
 part_over kind.Subnet network detail events a b r = part_from subnet_calls (subnet_of network) detail events a b r
 
-pub printed_in_part : (detail : Detail) (a b : Option (List ℕ)) (h : RanInPart detail a b) → PrintsPart (is_raw h.events) detail a b
+pub printed_in_part : (detail : Detail) (a b : Option (List ℕ)) (h : RanInPart detail a b) →
+    PrintsPart (is_raw h.events) detail a b
 printed_in_part detail a b h = part_over h.network.carrier h.network detail h.events a b h.stopped
 
 -- ---- lives that are shown of no world
@@ -220,5 +230,8 @@ without_the_last opening events lives last shows more h k =
 
 -- ---- what it means that lines and lives are one book
 
-pub joined_in : (raw : Bool) (shown : List lines.Shown) (lives : List Life) (b : Book) → AreOneBook raw shown lives → b.crossings ≡ reverse (lines.crossings_of shown) → b.reports ≡ lines.reports_of shown → b.lives ≡ lives → JoinedBook b
-joined_in raw shown lives b h crossings reports alive = joined_as (shown_book shown lives) b (sym crossings) (sym reports) (sym alive) h.joined
+pub joined_in : (raw : Bool) (shown : List lines.Shown) (lives : List Life) (b : Book) → AreOneBook raw shown lives →
+    b.crossings ≡ reverse (lines.crossings_of shown) → b.reports ≡ lines.reports_of shown → b.lives ≡ lives →
+    JoinedBook b
+joined_in raw shown lives b h crossings reports alive =
+    joined_as (shown_book shown lives) b (sym crossings) (sym reports) (sym alive) h.joined

@@ -214,7 +214,10 @@ abbrev in_lines : List (List ℕ) → List ℕ
 in_lines lines = text_of (λ line. line) lines
 
 raw_from : {C : Type 0} (calls : Calls C) (inside : Inside C) (Holds : C → Type 0) → AreSettled calls → IsElementary calls inside Holds → (t : TopologyFields) (opening : C) (lines : List ℕ) (events : List RawEvent) (book : Bool) (out trace : List ℕ)
-    → Holds opening → length lines ≡ length events → ReplaysFrom calls opening book Sizes (Raw events) (Some []) (Some out) → (k : TracesFrom calls inside t opening (zip lines events) (Some []) (Some trace)) → PrintsTrace book out trace k.traced.shown
+    → Holds opening → length lines ≡ length events →
+    ReplaysFrom calls opening book Sizes (Raw events) (Some []) (Some out) →
+    (k : TracesFrom calls inside t opening (zip lines events) (Some []) (Some trace)) →
+    PrintsTrace book out trace k.traced.shown
 unfolding raw_texts
 raw_from {C} calls inside Holds settled each t opening lines events book out trace holds fit h k =
     let (others, is, tells) = k.traced.is_shown in
@@ -232,7 +235,9 @@ raw_from {C} calls inside Holds settled each t opening lines events book out tra
     }
 
 world_from : {C : Type 0} (calls : Calls C) (members : C → List (List ℕ)) → AreSettled calls → (t : TopologyFields) (opening : C) (lines : List ℕ) (events : List WorldEvent) (book : Bool) (out trace : List ℕ)
-    → length lines ≡ length events → ReplaysFrom calls opening book Sizes (World events) (Some []) (Some out) → (k : WorldTracesFrom (shown calls) members t opening (zip lines events) (Some []) (Some trace)) → PrintsTrace book out trace k.traced.shown
+    → length lines ≡ length events → ReplaysFrom calls opening book Sizes (World events) (Some []) (Some out) →
+    (k : WorldTracesFrom (shown calls) members t opening (zip lines events) (Some []) (Some trace)) →
+    PrintsTrace book out trace k.traced.shown
 unfolding texts
 world_from {C} calls members settled t opening lines events book out trace fit h k =
     let begins : WorldState C = opening_world (shown calls) opening in
@@ -249,7 +254,10 @@ world_from {C} calls members settled t opening lines events book out trace fit h
     }
 
 all_from : {C : Type 0} (calls : Calls C) (inside : Inside C) (Holds : C → Type 0) → AreSettled calls → IsElementary calls inside Holds → (t : TopologyFields) (opening : C) (lines : List ℕ) (events : Asked) (book : Bool) (out trace : List ℕ)
-    → Holds opening → length lines ≡ asked_count events → ReplaysFrom calls opening book Sizes events (Some []) (Some out) → (k : TracesAll calls inside t opening lines events (Some []) (Some trace)) → PrintsTrace book out trace (told_from calls inside t opening lines events (Some []) (Some trace) k)
+    → Holds opening → length lines ≡ asked_count events →
+    ReplaysFrom calls opening book Sizes events (Some []) (Some out) →
+    (k : TracesAll calls inside t opening lines events (Some []) (Some trace)) →
+    PrintsTrace book out trace (told_from calls inside t opening lines events (Some []) (Some trace) k)
 all_from calls inside Holds settled each t opening lines (Raw events) book out trace holds fit h k = raw_from calls inside Holds settled each t opening lines events book out trace holds fit h k
 all_from calls inside Holds settled each t opening lines (World events) book out trace holds fit h k = world_from calls inside.members settled t opening lines events book out trace fit h k
 
@@ -260,12 +268,16 @@ subnet_elementary : IsElementary subnet_calls subnet_inside (λ (k : Kept). IsPl
 subnet_elementary = record { course = subnet.elementary; kept = subnet.placed_after }
 
 over_from : (carrier : CarrierKind) (t : TopologyFields) (lines : List ℕ) (events : Asked) (book : Bool) (out trace : List ℕ) → length lines ≡ asked_count events
-    → ReplaysOver carrier t book Sizes events (Some []) (Some out) → (k : TracesOver carrier t lines events (Some []) (Some trace)) → PrintsTrace book out trace (told_over carrier t lines events (Some []) (Some trace) k)
+    → ReplaysOver carrier t book Sizes events (Some []) (Some out) →
+    (k : TracesOver carrier t lines events (Some []) (Some trace)) →
+    PrintsTrace book out trace (told_over carrier t lines events (Some []) (Some trace) k)
 over_from kind.Plain t lines events book out trace fit h k = all_from plain_calls plain_inside (λ b. Unit {0}) plain_settled plain_elementary t (plain_of t) lines events book out trace tt fit h k
 over_from kind.Subnet t lines events book out trace fit h k =
     all_from subnet_calls subnet_inside (λ (k : Kept). IsPlaced k.net) subnet_settled subnet_elementary t (subnet_of t) lines events book out trace (subnet.opening (hosts_of t) (sites_of t) (ends_of t.lines)) fit h k
 
-pub prints_trace : (book : Bool) (input out trace : List ℕ) → ReplaysInput book Sizes input (Some []) (Some out) → (k : TracesInput input (Some []) (Some trace)) → PrintsTrace book out trace (told_lines input (Some []) (Some trace) k)
+pub prints_trace : (book : Bool) (input out trace : List ℕ) → ReplaysInput book Sizes input (Some []) (Some out) →
+    (k : TracesInput input (Some []) (Some trace)) →
+    PrintsTrace book out trace (told_lines input (Some []) (Some trace) k)
 prints_trace book input out trace h k =
     let same : OneInput h.network k.network h.events k.events = input_once input h.network k.network h.events k.events h.input k.input.input in
     let moved : ReplaysOn k.network book Sizes k.events (Some []) (Some out) =

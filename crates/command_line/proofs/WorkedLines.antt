@@ -15,34 +15,44 @@ use Rattle.command_line.specs.Lived.{AreLived, ungranted}
 use Rattle.command_line.specs.Printed.{AreOneBook, PrintsBook, PrintsPart}
 use Rattle.command_line.specs.Worked.{here, life_one, there, told_one, took_one}
 
-pub never_out : (raw : Bool) (m : HostMessage) (lives : List Life) → AreOneBook raw (Crossed (crossing.In m) ∷ []) lives → ⊥
+pub never_out : (raw : Bool) (m : HostMessage) (lives : List Life) →
+    AreOneBook raw (Crossed (crossing.In m) ∷ []) lives → ⊥
 never_out raw m lives h = h.run.0.1
 
-pub nothing_in : (raw : Bool) (h : Host) (socket : ℕ) (bits : List Bool) (lives : List Life) → AreOneBook raw (Noticed (record { host = h; place = 0; notice = notice.Arrived socket bits }) ∷ []) lives → ⊥
+pub nothing_in : (raw : Bool) (h : Host) (socket : ℕ) (bits : List Bool) (lives : List Life) →
+    AreOneBook raw (Noticed (record { host = h; place = 0; notice = notice.Arrived socket bits }) ∷ []) lives → ⊥
 nothing_in true h socket bits lives book = let none : record { host = h; place = 0; notice = notice.Arrived socket bits } ∷ [] ≡ [] = book.told.no_notices in cc
 nothing_in false h socket bits lives book = book.told
 
 some_life : (x : Life) (xs : List Life) → x ∷ xs ≡ [] → ⊥
 some_life x xs e = cc
 
-pub no_life : (raw : Bool) (h peer : Host) (socket foreign own partner : ℕ) → AreOneBook raw (Noticed (record { host = h; place = 0; notice = notice.Opened socket peer foreign own partner }) ∷ []) [] → ⊥
-no_life raw h peer socket foreign own partner book = some_life (new_life h socket peer foreign own partner) [] (sym book.lived)
+pub no_life : (raw : Bool) (h peer : Host) (socket foreign own partner : ℕ) →
+    AreOneBook raw (Noticed (record { host = h; place = 0; notice = notice.Opened socket peer foreign own partner }) ∷ []) [] → ⊥
+no_life raw h peer socket foreign own partner book =
+    some_life (new_life h socket peer foreign own partner) [] (sym book.lived)
 
 pub no_notice : (raw : Bool) (life : Life) (lives : List Life) → AreOneBook raw [] (life ∷ lives) → ⊥
 no_notice raw life lives book = some_life (ungranted life) (map ungranted lives) book.lived
 
-pub no_programs : (m : HostMessage) → (m.flow.link.0 == 0) ≡ false → AreOneBook false (Crossed (crossing.Out m) ∷ []) [] → ⊥
+pub no_programs : (m : HostMessage) → (m.flow.link.0 == 0) ≡ false →
+    AreOneBook false (Crossed (crossing.Out m) ∷ []) [] → ⊥
 no_programs m off book = false≢true (sym off ∙ book.told.0)
 
-pub no_services : (raw : Bool) (m : HostMessage) (r : Reported) → (m.flow.link.0 == 0) ≡ false → AreOneBook raw (Crossed (crossing.Out m) ∷ Said r ∷ []) [] → ⊥
+pub no_services : (raw : Bool) (m : HostMessage) (r : Reported) → (m.flow.link.0 == 0) ≡ false →
+    AreOneBook raw (Crossed (crossing.Out m) ∷ Said r ∷ []) [] → ⊥
 no_services true m r off book = let none : r ∷ [] ≡ [] = book.told.no_reports in cc
 no_services false m r off book = false≢true (sym off ∙ book.told.0)
 
-pub not_printed : (raw book : Bool) (detail : Detail) (before after : Option (List ℕ)) (m : HostMessage) (p : PrintsBook raw book detail before after) → p.shown ≡ Crossed (crossing.In m) ∷ [] → ⊥
-not_printed raw book detail before after m p is = never_out raw m p.lives (subst (λ (shown : List Shown). AreOneBook raw shown p.lives) is p.one)
+pub not_printed : (raw book : Bool) (detail : Detail) (before after : Option (List ℕ)) (m : HostMessage)
+    (p : PrintsBook raw book detail before after) → p.shown ≡ Crossed (crossing.In m) ∷ [] → ⊥
+not_printed raw book detail before after m p is =
+    never_out raw m p.lives (subst (λ (shown : List Shown). AreOneBook raw shown p.lives) is p.one)
 
-pub not_in_part : (raw : Bool) (detail : Detail) (before after : Option (List ℕ)) (m : HostMessage) (p : PrintsPart raw detail before after) → p.shown ≡ Crossed (crossing.In m) ∷ [] → ⊥
-not_in_part raw detail before after m p is = never_out raw m p.lives (subst (λ (shown : List Shown). AreOneBook raw shown p.lives) is p.one)
+pub not_in_part : (raw : Bool) (detail : Detail) (before after : Option (List ℕ)) (m : HostMessage)
+    (p : PrintsPart raw detail before after) → p.shown ≡ Crossed (crossing.In m) ∷ [] → ⊥
+not_in_part raw detail before after m p is =
+    never_out raw m p.lives (subst (λ (shown : List Shown). AreOneBook raw shown p.lives) is p.one)
 
 -- ---- of one life
 

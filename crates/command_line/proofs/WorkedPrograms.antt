@@ -25,11 +25,13 @@ use Rattle.command_line.specs.declared.verdict.Verdict.{Verdict}
 
 -- ---- which end it was
 
-finished_memory : (ended : Result (Unit {0}) ScriptFault) → out_of_memory ≡ finished_as ended → ended ≡ Err script.OutOfMemory
+finished_memory : (ended : Result (Unit {0}) ScriptFault) → out_of_memory ≡ finished_as ended →
+    ended ≡ Err script.OutOfMemory
 finished_memory (Ok done) is = cc
 finished_memory (Err f) is = cc
 
-audited_memory : (ended : Result Verdict AuditFault) → Err (fault.Audit log.OutOfMemory) ≡ audited_as ended → ended ≡ Err log.OutOfMemory
+audited_memory : (ended : Result Verdict AuditFault) → Err (fault.Audit log.OutOfMemory) ≡ audited_as ended →
+    ended ≡ Err log.OutOfMemory
 audited_memory (Ok said) is = cc
 audited_memory (Err f) is = cc
 
@@ -48,12 +50,16 @@ pub audit_memory : (x : ℕ) → Never task.Audit (wrote (x ∷ [])) (Err (fault
 audit_memory x o (ended, is, ends) = cons x [] (ends.nothing (audited_memory ended is))
 
 pub check_memory : (x : ℕ) → EndsTask None (Some only_check) (wrote (x ∷ [])) out_of_memory → ⊥
-check_memory x (ended, written, inl (is, kept), ends) = kept_nothing written x (ends.nothing refl (finished_memory ended is)) kept
-check_memory x (ended, written, inr (is, other), ends) = let bad : out_of_memory ≡ Err (fault.Script script.CannotWrite) = other in cc
+check_memory x (ended, written, inl (is, kept), ends) =
+    kept_nothing written x (ends.nothing refl (finished_memory ended is)) kept
+check_memory x (ended, written, inr (is, other), ends) =
+    let bad : out_of_memory ≡ Err (fault.Script script.CannotWrite) = other in cc
 
 -- ---- what was written
 
-ok_kept : (written : Option (List ℕ)) → EndsReplay only_check (record (wrote (codes "end\n")) { after = written }) (Ok tt) → Keeps written (Some (codes "end\n")) → ⊥
+ok_kept : (written : Option (List ℕ)) →
+    EndsReplay only_check (record (wrote (codes "end\n")) { after = written }) (Ok tt) →
+    Keeps written (Some (codes "end\n")) → ⊥
 ok_kept None ends kept = ends.replayed
 ok_kept (Some ys) ends kept = let bad : codes "end\n" ≡ codes "ok\n" = kept ∙ ends.replayed in cc
 
@@ -81,7 +87,8 @@ no_end (x ∷ a) b c last e = cc
 some_log : (b : Book) → [] ≡ log_text b → ⊥
 some_log b e = no_end (map logged_line b.crossings) (map life_line b.lives) (map handed_line b.handed) (codes "end") (none_lines (log_lines b) (sym e))
 
-nothing_logged : (carrier : CarrierKind) (t : TopologyFields) (events : Asked) → LogsOver carrier t events (Some []) (Some []) → ⊥
+nothing_logged : (carrier : CarrierKind) (t : TopologyFields) (events : Asked) →
+    LogsOver carrier t events (Some []) (Some []) → ⊥
 nothing_logged kind.Plain t (Raw events) h = some_log (raw_book (plain_calls.seen h.last).log) h.written
 nothing_logged kind.Plain t (World events) h = some_log (world_book h.last.kept) h.written
 nothing_logged kind.Subnet t (Raw events) h = some_log (raw_book (subnet_calls.seen h.last).log) h.written
@@ -92,18 +99,26 @@ no_log o (Ok done, is, ends) = nothing_logged ends.ran.network.carrier ends.ran.
 no_log o (Err f, is, ends) = cc
 
 -- and a trace its first one
-nothing_written : (shown : List (List ℕ)) (first : List ℕ) (others : List (List ℕ)) (written : Option (List ℕ)) → shown ≡ first ∷ others → Appends (Some []) written (text_of (λ line. line) shown) → Keeps written (Some []) → ⊥
+nothing_written : (shown : List (List ℕ)) (first : List ℕ) (others : List (List ℕ)) (written : Option (List ℕ)) →
+    shown ≡ first ∷ others → Appends (Some []) written (text_of (λ line. line) shown) → Keeps written (Some []) → ⊥
 nothing_written shown first others None is h k = h
-nothing_written shown first others (Some ys) is h k = some_lines first others (ap (λ (lines : List (List ℕ)). text_of_lines lines) (sym is) ∙ sym h ∙ sym k)
+nothing_written shown first others (Some ys) is h k =
+    some_lines first others (ap (λ (lines : List (List ℕ)). text_of_lines lines) (sym is) ∙ sym h ∙ sym k)
 
-nothing_traced : (carrier : CarrierKind) (t : TopologyFields) (numbers : List ℕ) (events : Asked) (written : Option (List ℕ)) → TracesOver carrier t numbers events (Some []) written → Keeps written (Some []) → ⊥
-nothing_traced kind.Plain t numbers (Raw events) written h k = nothing_written h.traced.shown _ h.traced.is_shown.0 written h.traced.is_shown.1 h.traced.written k
-nothing_traced kind.Plain t numbers (World events) written h k = nothing_written h.traced.shown _ h.traced.is_shown.0 written h.traced.is_shown.1 h.traced.written k
-nothing_traced kind.Subnet t numbers (Raw events) written h k = nothing_written h.traced.shown _ h.traced.is_shown.0 written h.traced.is_shown.1 h.traced.written k
-nothing_traced kind.Subnet t numbers (World events) written h k = nothing_written h.traced.shown _ h.traced.is_shown.0 written h.traced.is_shown.1 h.traced.written k
+nothing_traced : (carrier : CarrierKind) (t : TopologyFields) (numbers : List ℕ) (events : Asked)
+    (written : Option (List ℕ)) → TracesOver carrier t numbers events (Some []) written → Keeps written (Some []) → ⊥
+nothing_traced kind.Plain t numbers (Raw events) written h k =
+    nothing_written h.traced.shown _ h.traced.is_shown.0 written h.traced.is_shown.1 h.traced.written k
+nothing_traced kind.Plain t numbers (World events) written h k =
+    nothing_written h.traced.shown _ h.traced.is_shown.0 written h.traced.is_shown.1 h.traced.written k
+nothing_traced kind.Subnet t numbers (Raw events) written h k =
+    nothing_written h.traced.shown _ h.traced.is_shown.0 written h.traced.is_shown.1 h.traced.written k
+nothing_traced kind.Subnet t numbers (World events) written h k =
+    nothing_written h.traced.shown _ h.traced.is_shown.0 written h.traced.is_shown.1 h.traced.written k
 
 pub no_trace : Never task.Trace (wrote []) (Ok did.Written)
-no_trace o (Ok done, written, inl (is, kept), ends) = nothing_traced ends.ran.network.carrier ends.ran.network ends.ran.lines ends.ran.events written ends.ran.traced kept
+no_trace o (Ok done, written, inl (is, kept), ends) =
+    nothing_traced ends.ran.network.carrier ends.ran.network ends.ran.lines ends.ran.events written ends.ran.traced kept
 no_trace o (Err f, written, inl (is, kept), ends) = cc
 no_trace o (ended, written, inr (is, other), ends) = cc
 

@@ -52,15 +52,20 @@ pub record PrintsTrace (book : Bool) (out trace : List ℕ) (lines : List (List 
 
 -- ---- the lines of a trace that was written
 
-abbrev pub told_from : {C : Type 0} (calls : Calls C) (inside : Inside C) (t : TopologyFields) (opening : C) (numbers : List ℕ) (events : Asked) (before after : Option (List ℕ))
+abbrev pub told_from : {C : Type 0} (calls : Calls C) (inside : Inside C) (t : TopologyFields) (opening : C)
+    (numbers : List ℕ) (events : Asked) (before after : Option (List ℕ))
     → TracesAll calls inside t opening numbers events before after → List (List ℕ)
 told_from calls inside t opening numbers (Raw events) before after h = h.traced.shown
 told_from calls inside t opening numbers (World events) before after h = h.traced.shown
 
-abbrev pub told_over : (carrier : CarrierKind) (t : TopologyFields) (numbers : List ℕ) (events : Asked) (before after : Option (List ℕ)) → TracesOver carrier t numbers events before after → List (List ℕ)
-told_over kind.Plain t numbers events before after h = told_from plain_calls plain_inside t (plain_of t) numbers events before after h
-told_over kind.Subnet t numbers events before after h = told_from subnet_calls subnet_inside t (subnet_of t) numbers events before after h
+abbrev pub told_over : (carrier : CarrierKind) (t : TopologyFields) (numbers : List ℕ) (events : Asked)
+    (before after : Option (List ℕ)) → TracesOver carrier t numbers events before after → List (List ℕ)
+told_over kind.Plain t numbers events before after h =
+    told_from plain_calls plain_inside t (plain_of t) numbers events before after h
+told_over kind.Subnet t numbers events before after h =
+    told_from subnet_calls subnet_inside t (subnet_of t) numbers events before after h
 
 -- of the trace of an input
-abbrev pub told_lines : (octets : List ℕ) (before after : Option (List ℕ)) → TracesInput octets before after → List (List ℕ)
+abbrev pub told_lines : (octets : List ℕ) (before after : Option (List ℕ)) → TracesInput octets before after →
+    List (List ℕ)
 told_lines octets before after h = told_over h.network.carrier h.network h.lines h.events before after h.traced

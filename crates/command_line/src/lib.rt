@@ -1,8 +1,8 @@
 //! The simulator and its command line: which options it takes, what it reads, and what it writes.
 //!
 //! [`run_program`] is the whole program: its words ask for a replay with [`Options`], for its log or its trace, or for the
-//! audit of a log, or for what the program says of itself. [`run`] is the part of it that replays an input or only reads
-//! it, as the options ask, and [`run_script`] does the same for options that were read already.
+//! audit of a log, or for what the program says of itself. [`run`] is the part of it that replays an input or only
+//! reads it, as the options ask, and [`run_script`] does the same for options that were read already.
 //!
 //! An input is a topology, the marker line `%` and a script. A caller may rely on three things. Every input is
 //! replayed or refused by name, with the first fault of the list. What is written is what the replay shows.

@@ -23,7 +23,6 @@ mod values;
 pub mod worked;
 pub mod worked_lasting;
 pub mod worked_networks;
-pub mod worked_told;
 
 pub use lasting::{lasts, says_all};
 pub use traced::trace_world;

@@ -1,5 +1,5 @@
-//! Worked examples of the texts of a world's trace. The functions here do nothing: each clause is a row, computed over the
-//! definitions.
+//! Worked examples of the texts of a world's trace, and of which events of a calm have lines. The functions here do
+//! nothing: each clause is a row, over the definitions.
 
 ghost use Rattle.std.specs.Prelude.{◌≡◌, ℕ, List, [], ◌∷◌, None, Some, codes, true};
 ghost use Rattle.ncp_control.specs.declared.command.Command.TheVariants as command;
@@ -18,6 +18,11 @@ ghost use Rattle.world_trace.specs.Traces.{MayTell};
 ghost use Rattle.world_trace.specs.Laws.WorkedFailures.{WorkedFailuresNothing};
 ghost use Rattle.world_trace.specs.Laws.WorkedPairs.{WorkedPairsCommands, WorkedPairsPair, WorkedPairsReceiver, WorkedPairsRefused};
 ghost use Rattle.world_trace.specs.Laws.WorkedHosts.{WorkedHostsRunning, WorkedHostsServer};
+ghost use Rattle.std.specs.List.{All};
+ghost use Rattle.world_script.specs.WorldSpelling.{IsWorldEvent};
+ghost use Rattle.world_trace.specs.Reached.{IsReached};
+ghost use Rattle.world_trace.specs.Laws.WorkedTold.{WorkedToldHeard, WorkedToldMemory, WorkedToldSilent};
+ghost use Rattle.world_trace.specs.Laws.WorkedTold.{WorkedReachedSaid};
 
 use interface::Carrier;
 
@@ -70,4 +75,19 @@ pub fn worked_carriers()
 
     // a quiet round takes nothing for a host
     ensures quiet { AreMade (Round ∷ []) (raw.Take first ∷ []) → ⊥ }
+{}
+
+/// An event without a line leaves all as it is, and one with a line prints or changes something.
+pub fn worked_events<C: Carrier>()
+    ensures silent { WorkedToldSilent (shown C.calls) }
+    ensures heard { WorkedToldHeard (shown C.calls) }
+
+    // where memory runs out the world is as it was, or has processed the event
+    ensures memory { WorkedToldMemory (shown C.calls) }
+{}
+
+/// A replay comes to a world by events that a script may ask for, and all that crossed there can be named.
+pub fn worked_reached<C: Carrier>()
+    ensures events { (opening : C) (w : WorldState C) (h : IsReached C.calls opening w) → All IsWorldEvent h.script }
+    ensures said { WorkedReachedSaid C.calls }
 {}

@@ -87,7 +87,11 @@ LIMITS: dict[str, Limit] = {
 FULL = f"8063 {'5A' * 1007}5A"  # the longest text of a message
 TRACES: dict[str, Limit] = {
     "events of a trace": Limit(["--trace"], Topology("plain", True, [(1, 2), (2, 1)], []), ["take 0/1"] * 12_000),
-    "the text of a part": Limit(["--trace"], Topology("plain", True, [(1, 1), (2, 1)], []), [f"out 0/1 0/2 {link} {FULL}" for link in range(100)]),
+    "the text of a part": Limit(
+        ["--trace"],
+        Topology("plain", True, [(1, 1), (2, 1)], []),
+        [f"out 0/1 0/2 {link} {FULL}" for link in range(100)],
+    ),
     "events of a trace of hosts": Limit(["--trace"], PAIR, ["take 0/1"] * 110_000),
     "rounds of a trace of hosts": Limit(["--trace"], PAIR, [*JOINED, "send 0/1 101 8 5A", "calm 4000"]),
 }
@@ -100,19 +104,25 @@ def opened(count: int) -> Iterator[str]:
         own, foreign = f"{16 + 2 * at:08X}", f"{33 + 2 * at:08X}"
         requests = f"120 0008000A0001{own}{foreign}02", f"120 0008000A0002{foreign}{own}08"
         for one, other in (requests, (f"112 000800090003{own}{foreign}", f"112 000800090003{foreign}{own}")):
-            yield from (f"out 0/1 0/2 0 {one}", f"in 0/1 0/2 0 {one}", f"out 0/2 0/1 0 {other}", "answer rfnm 0/1 0/2 0", f"in 0/2 0/1 0 {other}", "answer rfnm 0/2 0/1 0")
+            yield from (f"out 0/1 0/2 0 {one}", f"in 0/1 0/2 0 {one}", f"out 0/2 0/1 0 {other}")
+            yield from ("answer rfnm 0/1 0/2 0", f"in 0/2 0/1 0 {other}", "answer rfnm 0/2 0/1 0")
 
 
 def lives_of(count: int) -> Iterator[str]:
-    """The lives of these connections, in the order in which they were opened. The first crossings are of the contact."""
+    """The lives of these connections, in the order in which they were opened, after the contact."""
     for at in range(count):
         own, foreign, begins = 16 + 2 * at, 33 + 2 * at, 6 + 12 * at
         yield f"life 0/2 {foreign} 0/1 {own} {begins + 2} {begins + 1} send 0 0 0 0 0 0 ended -"
         yield f"life 0/1 {own} 0/2 {foreign} {begins} {begins + 4} receive 0 0 0 0 0 0 closed -"
 
 
-CONTACT = ["out 0/1 0/2 0 48 00080001000C", "in 0/1 0/2 0 48 00080001000C", "out 0/2 0/1 0 48 00080001000D", "answer rfnm 0/1 0/2 0", "in 0/2 0/1 0 48 00080001000D", "answer rfnm 0/2 0/1 0"]
+CONTACT = [
+    *("out 0/1 0/2 0 48 00080001000C", "in 0/1 0/2 0 48 00080001000C", "out 0/2 0/1 0 48 00080001000D"),
+    *("answer rfnm 0/1 0/2 0", "in 0/2 0/1 0 48 00080001000D", "answer rfnm 0/2 0/1 0"),
+]
 CONNECTIONS = 2_500
+# a message that is carried, and answered
+CARRIED = [f"out 0/1 0/2 5 {FULL}", f"in 0/1 0/2 5 {FULL}", "answer rfnm 0/1 0/2 5"]
 
 
 def in_lines(lines: Iterable[str]) -> bytes:
@@ -124,8 +134,10 @@ LOGS: dict[str, Callable[[], bytes]] = {
     "crossings of a log": lambda: b"down 0/1\nup 0/1\n" * 500_000 + b"end\n",
     # the first crossing is of no run, so that messages are looked at one by one
     "crossings of a log that strays": lambda: b"up 0/1\n" + b"down 0/1\nup 0/1\n" * 50_000 + b"end\n",
-    "octets of a log": lambda: in_lines(f"{way} 0/1 0/2 5 {FULL}" if way != "answer" else "answer rfnm 0/1 0/2 5" for _ in range(17_500) for way in ("out", "in", "answer")) + b"end\n",
-    "lives of a log": lambda: in_lines([*CONTACT, *opened(CONNECTIONS), *lives_of(CONNECTIONS), *["handed 0 -"] * (2 * CONNECTIONS), "end"]),
+    "octets of a log": lambda: in_lines([*CARRIED * 17_500, "end"]),
+    "lives of a log": lambda: in_lines(
+        [*CONTACT, *opened(CONNECTIONS), *lives_of(CONNECTIONS), *["handed 0 -"] * (2 * CONNECTIONS), "end"]
+    ),
 }
 DOCUMENT = "octets of a topology"
 COMMENTED = Limit([], PAIR, ["contact 0/1 0/2", "calm 3"])
@@ -206,7 +218,8 @@ def main() -> int:
         print("check limits: there is no program of these sources")
         return 1
     wanted = kept()
-    wrong = [f"{name}: kept is no good end" for name in names if name not in wanted or wanted[name].status not in (0, 4)]
+    kept = [name for name in names if name in wanted and wanted[name].status in (0, 4)]
+    wrong = [f"{name}: kept is no good end" for name in names if name not in kept]
     with ThreadPoolExecutor(os.cpu_count() or 1) as threads:
         wrong += differing("the program", dict(zip(names, threads.map(partial(by_program, program), names))), wanted)
     if "--models" in words:

@@ -1,4 +1,4 @@
-"""One version: that of the program, `VERSION` of command_line, is the version of the package, of the citation and of the change log."""
+"""One version: that of the program is that of the package, of the citation and of the change log."""
 
 from __future__ import annotations
 
@@ -32,7 +32,7 @@ def version() -> str:
 
 
 def others() -> Iterator[tuple[str, str]]:
-    """Each file that names the version too, with what it names. Packages of npm, which have names, are found wherever they are."""
+    """Each file that names the version too, with what it names. Packages of npm are found wherever they are."""
     for path, pattern in NAMED.items():
         yield path, version_in(path, pattern)
     for path in sorted(glob.glob(f"{ROOT}/**/package.json", recursive=True)):

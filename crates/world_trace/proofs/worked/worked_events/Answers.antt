@@ -1,5 +1,5 @@
 use Rattle.std.proofs.Common.{inl, inr}
-use Rattle.world_trace.proofs.worked_told.worked_told.Goals as goal
+use Rattle.world_trace.proofs.worked.worked_events.Goals as goal
 
 pub returns-clause-silent : goal.returns-clause-silent
 returns-clause-silent g c = λ members old new e lines h. h.1

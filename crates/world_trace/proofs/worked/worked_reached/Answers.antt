@@ -1,4 +1,4 @@
-use Rattle.world_trace.proofs.worked_told.worked_reached.Goals as goal
+use Rattle.world_trace.proofs.worked.worked_reached.Goals as goal
 
 pub returns-clause-events : goal.returns-clause-events
 returns-clause-events g c = λ opening w h. h.valid
