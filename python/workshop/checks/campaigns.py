@@ -2,7 +2,7 @@
 
 A search with a fixed seed runs by 1, 2 and 4 processes, with a worker that is killed, and once killed itself and continued from its state.
 Where dask.distributed is installed it also runs over a cluster of this machine's processes, one of which is killed. So does a campaign, whose
-table of results has to be the same. Bad inputs have to be refused in one line each. It is not part of the gate, since it needs a fast program.
+table of results has to be the same. Bad inputs have to be refused in one line each.
 """
 
 from __future__ import annotations
