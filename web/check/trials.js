@@ -155,6 +155,7 @@ export function measured({ $, all, want, wrong }) {
     const frame = $("network").getBoundingClientRect();
     for (const it of all("#network .arc, #network .box, #network .disc")) {
         const box = it.getBoundingClientRect();
+        if (!box.width) continue; // folded
         want(
             box.top >= frame.top - 1
                 && box.bottom <= frame.bottom + 1

@@ -293,6 +293,8 @@ async function whole(browser, address) {
         for (const name of WITH_PROGRAMS) {
             const found = await trial(browser, [openAt, [name, 0.6]], [table, "hosts"], [measured], [contrast]);
             wrong.push(...found.map((it) => `${name}, its hosts, at ${width} by ${height}: ${it}`));
+            const listed = await trial(browser, [table, "next"], [measured]);
+            wrong.push(...listed.map((it) => `${name}, what is possible, at ${width} by ${height}: ${it}`));
             await trial(browser, [table, "waits"]);
             places += 1;
         }

@@ -30,6 +30,7 @@ import { keep, s, say, set } from "./dom.js";
 /** The height of letters in a map of few IMPs, in one of many, and of its details there; and the least in pixels. */
 const [LETTERS, SMALL_LETTERS, DETAIL_LETTERS, LEAST_LETTERS] = [10, 8.5, 4.6, 9.5];
 
+const MOST_LARGER = 1.12;
 const MOST_FRAMES = 7;
 const MOST_ARCS = 6;
 
@@ -85,8 +86,9 @@ export class MapView {
         set(this.svg, { viewBox: [x, y, w, h].map((it) => it.toFixed(1)).join(" ") });
         const { scale } = this.port;
         const letters = (this.layout.small ? SMALL_LETTERS : LETTERS) * scale;
-        this.factor = box.width ? Math.max(1, LEAST_LETTERS / letters) : 1;
-        this.svg.classList.toggle("far", this.factor > 1.02);
+        const most = this.layout.small ? Infinity : MOST_LARGER; // where hosts have names, there is no room for more
+        this.factor = box.width ? Math.min(most, Math.max(1, LEAST_LETTERS / letters)) : 1;
+        this.svg.classList.toggle("far", this.layout.small && this.factor > 1.02);
         this.svg.classList.toggle("near", this.layout.small && DETAIL_LETTERS * scale >= LEAST_LETTERS);
         this.svg.style.setProperty("--wide", String(Math.max(1, 0.7 / scale)));
         this.fold();
@@ -97,7 +99,7 @@ export class MapView {
     fold() {
         const { factor } = this;
         const letters = (this.layout.small ? SMALL_LETTERS : LETTERS) * this.port.scale * factor;
-        const shown = factor > 1.02
+        const shown = this.layout.small && factor > 1.02
             ? readable(
                 this.network.sites.map(({ number, name }, place) => ({
                     at: this.imp(number),
