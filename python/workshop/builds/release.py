@@ -5,6 +5,7 @@ FOLDER, else out/release, is made anew, and gets
 - arpasim, the native program, and arpasim.wasm and arpasim64.wasm, the same as WebAssembly;
 - dorydate.html, the workbench, which holds arpasim.wasm, and lessons/NAME.html for each example that docs/lessons.md names, which opens
   the workbench at it; lessons/index.html opens it at the list of all;
+- site/, all pages and examples as files (workshop/builds/site.py), for which python3-markdown has to be installed;
 - NOTE.txt: which sources, toolchain and gate all this comes from, and what it needs;
 - the licences, and SHA256SUMS of everything.
 
@@ -24,6 +25,7 @@ import shutil
 import subprocess
 import sys
 
+from workshop.builds import site
 from workshop.parts import ROOT
 from workshop.wasm.make import read_note
 from workshop.wasm.pack import title_of
@@ -156,6 +158,7 @@ def make(folder: str) -> None:
     for name in LICENCES:
         shutil.copyfile(f"{ROOT}/{name}", f"{folder}/{name}")
     count = write_lessons(f"{folder}/lessons")
+    site.made(f"{folder}/site", f"{folder}/dorydate.html", kept)
     write(f"{folder}/NOTE.txt", note_of(kept, module, count).encode())
     write(f"{folder}/SHA256SUMS", sums_of(folder).encode())
     keep_page(folder, module)
@@ -170,7 +173,7 @@ def main() -> int:
     folder = os.path.abspath(sys.argv[1]) if sys.argv[1:] else f"{ROOT}/out/release"
     try:
         make(folder)
-    except (Refused, OSError, subprocess.CalledProcessError) as why:
+    except (Refused, site.NoSite, OSError, subprocess.CalledProcessError) as why:
         print(f"release: {why}", file=sys.stderr)
         return 1
     print(f"release: {folder} is made, and released/ has its page, to be committed")
