@@ -13,7 +13,7 @@ from dorydate.given import Input, shown
 from dorydate.explain.past import Past
 from dorydate.explain.runs import Happened, kept_program
 from dorydate.explain.telling import said_beside, telling
-from dorydate.explain.topology import names_of, network_by, of_model
+from dorydate.explain.topology import names_of, network_by
 from dorydate.model.script import read_event
 from dorydate.model.topology import Topology
 from dorydate.sentences.texts import raw_text_in_words, text_in_words

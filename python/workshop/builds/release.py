@@ -8,6 +8,7 @@ FOLDER, else out/release, is made anew, and gets
 - dorydate.html, the workbench, which holds arpasim.wasm, and lessons/NAME.html for each example that docs/lessons.md names, which opens
   the workbench at it; lessons/index.html opens it at the list of all;
 - packages for pip (.whl), npm (.tgz) and Debian (.deb), and the manual page arpasim.1 (workshop/builds/packages.py);
+- site/, all pages and examples as files (workshop/builds/site.py), for which python3-markdown has to be installed;
 - TAG.txt, the text of the tag; NOTE.txt and note.json: which sources, toolchain and gate all this comes from, and what it needs;
 - the licences, and SHA256SUMS of everything.
 
@@ -26,7 +27,7 @@ import shutil
 import subprocess
 import sys
 
-from workshop.builds import packages
+from workshop.builds import packages, site
 from workshop.builds.manual import manual
 from workshop.builds.packages import LICENCES, Refused, Release
 from workshop.builds.static import NotTheSame, static_program
@@ -207,6 +208,7 @@ def make(folder: str) -> None:
         shutil.copyfile(path, f"{folder}/{name}")
     note = facts(kept)
     count = write_lessons(f"{folder}/lessons")
+    site.made(f"{folder}/site", f"{folder}/dorydate.html", kept)
     wheel = write_packages(folder, note)
     write(f"{folder}/TAG.txt", tag().encode())
     write(f"{folder}/NOTE.txt", note_of(note, read_octets(kept), count).encode())
@@ -223,7 +225,7 @@ def main() -> int:
     folder = os.path.abspath(sys.argv[1]) if sys.argv[1:] else f"{ROOT}/out/release"
     try:
         make(folder)
-    except (Refused, NotTheSame, OSError, subprocess.CalledProcessError) as why:
+    except (Refused, NotTheSame, site.NoSite, OSError, subprocess.CalledProcessError) as why:
         print(f"release: {why}", file=sys.stderr)
         return 1
     print(f"release: {folder} is made, and released/ has what a clone runs, to be committed; ./check release tries all of it")
