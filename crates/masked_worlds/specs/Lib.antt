@@ -1,0 +1,4 @@
+pub mod Strangers
+pub mod Among
+pub mod Mixed
+pub mod Laws
