@@ -179,10 +179,10 @@ module _ (orders : Orders) (strange : Host → Bool) (hosts : List Host) where
   aside_if false x y now = refl
 
   -- the other end of a flow that has a stranger
-  to_stranger : (f : Flow) (g : Host) → strange_end strange f ≡ Some g → strange f.source ≡ false → strange f.destination ≡ true
+  pub to_stranger : (f : Flow) (g : Host) → strange_end strange f ≡ Some g → strange f.source ≡ false → strange f.destination ≡ true
   to_stranger f g e off = (if_is strange f.destination g (rw off at e)).0
 
-  from_stranger : (f : Flow) (g : Host) → strange_end strange f ≡ Some g → strange f.destination ≡ false → strange f.source ≡ true
+  pub from_stranger : (f : Flow) (g : Host) → strange_end strange f ≡ Some g → strange f.destination ≡ false → strange f.source ≡ true
   from_stranger f g e off = by (strange f.source) refl where
     by : (b : Bool) → strange f.source ≡ b → strange f.source ≡ true
     by true on = on

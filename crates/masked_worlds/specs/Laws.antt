@@ -2,3 +2,4 @@
 pub mod MaskedLogs
 pub mod OneHost
 pub mod MaskedMoments
+pub mod Worked

@@ -64,6 +64,7 @@ module _ (x : Life) (link : ℕ) where
     quiet = λ e f q h mine own asked partner. q.link ∙ h (sym q.mine ∙ mine) (sym q.own ∙ own) (sym q.asked ∙ asked) (sym q.partner ∙ partner);
     others = λ n o. tt;
     opens = λ e a b h f g goes. tt;
+    returns = λ e messages bits h o. tt;
   }
 
   bound_begins : Begins (Bound x link)
