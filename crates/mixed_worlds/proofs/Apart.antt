@@ -118,7 +118,7 @@ module _ (k : ℕ) where
     pub message_apart : (m : HostMessage) (stamp : ℕ) → m.flow.source ≡ g → Each IsApart (accepted s (inbound.Message m) stamp).1
     message_apart m stamp from =
         (message_keeps (IsBeside false) IsApart g (rules false g) s m stamp from
-        ((λ control. hears stamp _), (λ data e header found o read. open_apart false e (found_in (IsBeside false) _ (pair_with g s.peers).entries e found (beside false)) o)) (beside false)).told
+        ((λ control. hears stamp _), (λ on_link e header found o read. open_apart false e (found_in (IsBeside false) _ (pair_with g s.peers).entries e found (beside false)) o)) (beside false)).told
 
     pub answer_apart : (kind : Answer) (f : Flow) (stamp : ℕ) → f.destination ≡ g → Each IsApart (accepted s (inbound.Answer kind f) stamp).1
     answer_apart kind f stamp to = (answer_keeps (IsBeside true) IsApart g (rules true g) s kind f stamp to (beside true)).told

@@ -37,7 +37,7 @@ module _ (strange : Host → Bool) where
 
   -- ---- whose lives
 
-  among_parts : (x : Life) → is_among strange x ≡ true → (strange x.host ≡ false) × (strange x.peer ≡ false)
+  pub among_parts : (x : Life) → is_among strange x ≡ true → (strange x.host ≡ false) × (strange x.peer ≡ false)
   among_parts x is = let p : (not (strange x.host) ≡ true) × (not (strange x.peer) ≡ true) = both (not (strange x.host)) (not (strange x.peer)) is in (not_is (strange x.host) p.0, not_is (strange x.peer) p.1)
 
   -- of lives among hosts with programs none passes a test that only a stranger's passes
