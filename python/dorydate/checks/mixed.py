@@ -3,7 +3,7 @@
 Each world is judged in two ways. The lives between hosts with programs are judged as they are, at the end of each run and after each event
 of some. And the same moments happen again without the strangers, in a world all of whose hosts run the program: there the same has to cross, each
 program has to be the same but for its pairs with strangers, the lives have to be the same, and the book has to keep everything that is promised
-of any book. Programs that mix up their peers have to be found by this, but for one, whose mistake the network undoes.
+of any book. Programs that mix up their peers have to be found by this, and one that does so without any harm must not break the promise.
 """
 
 from __future__ import annotations
@@ -96,13 +96,12 @@ def run(seed: int, host_program: type[Host] = Host) -> Ran:
 
 def is_found(leak: type[Host]) -> bool:
     """Whether a program that mixes up its peers is found."""
-    for seed in range(TRIES):
-        try:
-            if run(seed, leak).part:
-                return True
-        except (AssertionError, LookupError):  # the model itself no longer knows what to do
-            return True
-    return False
+    return any(run(seed, leak).part for seed in range(TRIES))
+
+
+def is_harmful(leak: type[Host]) -> bool:
+    """Whether such a program breaks the promise itself, and doesn't only keep other things than the right one."""
+    return any(broken_among(mixed_script(seed, leak)[2]) for seed in range(TRIES))
 
 
 def check(runs: int) -> int:
@@ -110,8 +109,8 @@ def check(runs: int) -> int:
     if missed := [it.__doc__ for it in LEAKS if not is_found(it)]:
         print("check worlds: no mixed world tells these programs from the right one:", *missed, sep="\n")
         return 1
-    if is_found(HARMLESS):
-        print(f"check worlds: a program that should do no harm does: {HARMLESS.__doc__}")
+    if is_harmful(HARMLESS):
+        print(f"check worlds: a program that should do no harm breaks the promise: {HARMLESS.__doc__}")
         return 1
     came_to: Counter[str] = Counter()
     for seed in range(runs):
