@@ -9,18 +9,19 @@ from dorydate import ending
 
 # each command, and the function that runs it
 COMMANDS = {
-    "cases": "dorydate.checks.cases:run",
-    "caught": "dorydate.wasm.caught:main",
-    "check": "dorydate.commands:check",
+    "cases": "workshop.checks.cases:run",
+    "caught": "workshop.wasm.caught:main",
+    "check": "workshop.commands:check",
+    "check-one": "workshop.builds.one:main",
     "explain": "dorydate.explain.command:main",
     "explore": "dorydate.explore.command:main",
     "export": "dorydate.export.command:main",
-    "keep-unproved": "dorydate.builds.keeping:main",
-    "keep-wasm": "dorydate.builds.pages:main",
-    "measure": "dorydate.commands:measure",
-    "optimised": "dorydate.builds.optimised:main",
-    "pack": "dorydate.wasm.pack:main",
-    "release": "dorydate.builds.release:main",
+    "keep-unproved": "workshop.builds.keeping:main",
+    "keep-wasm": "workshop.builds.pages:main",
+    "measure": "workshop.commands:measure",
+    "optimised": "workshop.builds.optimised:main",
+    "pack": "workshop.wasm.pack:main",
+    "release": "workshop.builds.release:main",
 }
 
 

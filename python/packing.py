@@ -13,7 +13,6 @@ from typing import Any
 
 HERE = Path(__file__).resolve().parent
 TAG = "py3-none-any"
-OF_REPOSITORY = {"builds", "checks", "documents", "drawings", "measure", "wasm"}  # parts that build, check and draw the repository
 
 
 def named(key: str) -> str:
@@ -32,8 +31,7 @@ def metadata() -> str:
 
 def sources() -> list[Path]:
     """The files of the package."""
-    every = (it for it in (HERE / "dorydate").rglob("*") if it.relative_to(HERE).parts[1] not in OF_REPOSITORY)
-    return sorted(it for it in every if it.suffix in (".py", ".typed", ".lua", ".mjs"))
+    return sorted(it for it in (HERE / "dorydate").rglob("*") if it.suffix in (".py", ".typed", ".lua", ".mjs"))
 
 
 def recorded(name: str, octets: bytes) -> str:

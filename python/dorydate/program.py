@@ -18,6 +18,7 @@ from pathlib import Path
 
 SECONDS = 60.0  # so long may a run take where nothing else is said
 MOST_OCTETS = 1_048_576  # of an input
+ROOT = Path(__file__).resolve().parents[2]  # the repository, where this package lies in one
 
 
 class NoProgram(Exception):
@@ -91,8 +92,7 @@ def read_back(file: int) -> str:
 
 def repository() -> Path | None:
     """The repository that this package lies in."""
-    root = Path(__file__).resolve().parents[2]
-    return root if (root / "tools" / "program").is_file() else None
+    return ROOT if (ROOT / "tools" / "program").is_file() else None
 
 
 @lru_cache(maxsize=1)

@@ -2,19 +2,25 @@
 
 from __future__ import annotations
 
+import os
 import unittest
+from unittest import mock
 
-from dorydate.checks.explain_faults import BAD_LINES, BAD_LINES_OF_WORLDS, BAD_TOPOLOGIES, GOOD
-from dorydate.checks.explain_rows import TEXTS
 from dorydate.explain.charts import chart, short_chart
 from dorydate.explain.faults import diagnose, wrong_with_line
 from dorydate.explain.given import Input, shown
+from dorydate.explain.inside import Inside
 from dorydate.explain.past import Past
-from dorydate.explain.runs import Happened
+from dorydate.explain.runs import Happened, kept_program
 from dorydate.explain.telling import said_beside, telling
 from dorydate.explain.topology import network_by
-from dorydate.sentences.texts import text_in_words
+from dorydate.model.script import read_event
+from dorydate.model.topology import Topology
+from dorydate.sentences.texts import raw_text_in_words, text_in_words
+from workshop.checks.explain_faults import BAD_LINES, BAD_LINES_OF_WORLDS, BAD_TOPOLOGIES, GOOD
+from workshop.checks.explain_rows import TEXTS
 
+PAIR = Topology("subnet", True, [(1, 1), (2, 1)], [(1, 2)])
 TWO = b"raw = true\n[[imp]]\nid = 1 # UCLA\nhosts = 1\n[[imp]]\nid = 2\nhosts = 1\n[[line]]\na = 1\nb = 2\n%\n"
 SCRIPT = b"# routes\ncalm 1\nout 0/1 0/2 5 8 41\nout 0/1 0/2 5 0 -\ncalm 1\n"
 EVENTS = [
@@ -56,7 +62,7 @@ class Told(unittest.TestCase):
         lines = [*telling(Input(TWO + SCRIPT), EVENTS)]
         self.assertIn("15  out 0/1 0/2 5 0 -", lines)
         whole = "\n".join(lines)
-        self.assertIn("Host 0/1 hands its IMP a message for host 0/2 on link 5: 8 bits. It says: A.", whole)
+        self.assertIn("Host 0/1 hands its IMP a message for host 0/2 on link 5: 8 bits. It says: “A”.", whole)
         self.assertIn("Message 0 is outstanding. It is still alive: message 0 of flow 0/1 0/2 5, in channel 0 of line 0 at IMP 1", whole)
         self.assertEqual(lines[-1], "At the end the program prints: end")
 
@@ -72,11 +78,34 @@ class Told(unittest.TestCase):
         self.assertIn("participant h0_1 as Host 0/1 at UCLA", drawn)
         self.assertIn("h0_1->>network: 8 bits for 0/2 on link 5", drawn)
         self.assertIn("Note over h0_1: refused Blocked (line 15)", drawn)
-        self.assertIn("h0_1->>h0_2: A, on link 5", short_chart(EVENTS, said, True, names))
+        self.assertIn("h0_1->>h0_2: “A”, on link 5", short_chart(EVENTS, said, True, names))
+
+    def test_a_text_is_told_apart_from_octets(self) -> None:
+        self.assertEqual(raw_text_in_words(b"FF", 16), "“FF”")
+        self.assertEqual(raw_text_in_words(b"\xff", 8), "FF")
 
     def test_texts(self) -> None:
         for link, octets, words in TEXTS:
             self.assertEqual(text_in_words(link, bytes.fromhex(octets), 4 * len(octets)), words)
+
+
+class Copies(unittest.TestCase):
+    def test_why_a_copy_is_dropped(self) -> None:
+        sent = ["calm 2", "out 0/1 0/2 9 8 FF"]
+        lost = ["drop 0 + 0", "enddown 1 0", "endup 1 0", "enddown 2 0", "endup 2 0", "calm 1"]
+        for script, words in [
+            ([*sent, "ask 0/1 0/2 9", "deliver 0 + 1", "deliver 0 + 0"], "Its number was noted as never come when it was asked for"),
+            ([*sent, "deliver 0 + 0", "take 0/2", *lost[1:5], "route 2", "deliver 0 - 0", "deliver 0 + 0"], "came to its end here before"),
+        ]:
+            goes = Inside(PAIR)
+            said = [goes.happen(read_event(it)) for it in script]
+            self.assertIn(words, " ".join(said[-1].sentences))
+
+
+class Programs(unittest.TestCase):
+    def test_the_variable_names_another_program(self) -> None:
+        with mock.patch.dict(os.environ, {"DORYDATE_PROGRAM": "/a/program"}):
+            self.assertEqual(kept_program(), "/a/program")
 
 
 class Pasts(unittest.TestCase):

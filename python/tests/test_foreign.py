@@ -8,7 +8,7 @@ from typing import Any
 
 from dorydate.foreign import log_of
 from dorydate.model.verdict import says
-from dorydate.parts import ROOT, text_of
+from workshop.parts import ROOT, text_of
 
 EVENTS = [json.loads(line) for line in text_of(f"{ROOT}/python/tests/two-programs.jsonl").splitlines()]
 

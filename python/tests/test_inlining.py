@@ -4,7 +4,7 @@ from __future__ import annotations
 
 import unittest
 
-from dorydate.builds.inlining import hint_for, hinted, hints_in, owner_of
+from workshop.builds.inlining import hint_for, hinted, hints_in, owner_of
 
 SOURCE = """
 #[inline]

@@ -9,8 +9,9 @@ import tempfile
 import unittest
 from typing import Dict
 
-from dorydate.parts import ROOT
-from dorydate.wasm.pack import Refused, bare_style, hash_of, joined, page, read_octets, spell_octets, title_of
+from dorydate.explain.page import opened
+from workshop.parts import ROOT
+from workshop.wasm.pack import Refused, bare_style, hash_of, joined, page, read_octets, spell_octets, title_of
 
 NODE = shutil.which("node") or shutil.which("nodejs")
 
@@ -88,9 +89,10 @@ class Page(unittest.TestCase):
         self.assertEqual(hash_of("alert('Hello, world.');"), "'sha256-qznLcsROx4GACP2dm0UCKCzCG+HiZ1guq6ZZDob/Tng='")
 
     def test_a_page_opens_with_the_inputs_that_it_is_given(self) -> None:
-        text = page(f"{ROOT}/web/workbench", b"module", [{"name": "a", "title": "A", "text": "# <a>\n%\n"}])
+        text = opened(page(f"{ROOT}/web/workbench", b"module"), [{"name": "a", "title": "A", "text": "# <a>\n%\n"}])
         self.assertIn('id="opened">[{"name": "a", "title": "A", "text": "# \\u003ca>\\n%\\n"}]</script>', text)
-        self.assertIn('id="opened">[]</script>', page(f"{ROOT}/web/workbench", b"module"))
+        with self.assertRaises(ValueError):
+            opened(text, [])
 
     def test_a_title_has_the_capitals_of_its_comments(self) -> None:
         self.assertEqual(title_of("an-rfnm-is-lost", "# The RFNM is lost.\nout 0/1\n"), "An RFNM is lost")

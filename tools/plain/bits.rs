@@ -90,7 +90,7 @@ fn octet_at(octets: &[u8], bit: usize) -> u8 {
 }
 
 /// Bits that are appended at one end and taken from the other.
-#[derive(Default, Debug)]
+#[derive(Clone, Default, Debug)]
 pub struct BitQueue {
     bits: Bits,
     start: usize,

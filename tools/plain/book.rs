@@ -3,6 +3,7 @@
 use crate::bits::Bits;
 use crate::names::{Host, Text};
 use crate::printing::Printer;
+use crate::spelling::Spell;
 use std::collections::BTreeMap;
 
 /// What a program tells the user of its host.
@@ -62,6 +63,7 @@ pub enum Report {
 }
 
 /// One opening of one end of a connection, from the moment at which its user is told of it to its end.
+#[derive(Clone)]
 pub struct Life {
     host: Host,
     socket: u32,
@@ -90,7 +92,7 @@ impl Life {
 }
 
 /// What is kept of all hosts. Notices and contacts are with the number of crossings before them, reports with that of notices.
-#[derive(Default)]
+#[derive(Clone, Default)]
 pub struct Book {
     notices: Vec<(Host, usize, Notice)>,
     contacts: Vec<(Host, Host, usize)>,
@@ -191,6 +193,37 @@ impl Book {
             printer.number(life.messages).number(life.bits.len() as u64);
             printer.number(life.granted.0).number(life.granted.1).number(life.returned.0).number(life.returned.1);
             printer.word(if life.has_ended { b"ended" } else { b"open" }).end();
+        }
+    }
+}
+
+impl Book {
+    /// Forgets what users were told and what was reported; lives only if that is said.
+    pub fn forget(&mut self, forgets_lives: bool) {
+        self.notices.clear();
+        self.contacts.clear();
+        self.reports.clear();
+        if forgets_lives {
+            self.lives.clear();
+            self.open.clear();
+        }
+    }
+
+    /// The places in the log of the requests of lives.
+    pub fn stamps(&self) -> impl Iterator<Item = usize> + '_ {
+        self.lives.iter().flat_map(|it| [it.own, it.partner])
+    }
+
+    /// Spells the lives, with places in the log by the order in which they are in a list.
+    pub fn spell(&self, stamps: &[usize], to: &mut Vec<u8>) {
+        let place = |stamp: usize| stamps.partition_point(|it| *it < stamp) as u8;
+        self.lives.len().spell(to);
+        for life in &self.lives {
+            to.extend([life.host.address(), life.peer.address(), life.has_ended as u8, place(life.own), place(life.partner)]);
+            (life.socket, life.foreign).spell(to);
+            life.bits.spell(to);
+            (life.messages, life.granted, life.returned).spell(to);
+            life.handed.spell(to);
         }
     }
 }

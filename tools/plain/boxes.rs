@@ -1,8 +1,10 @@
 //! Plain mailboxes: a network that loses nothing and delays nothing.
 
 use crate::carrier::{Carrier, NetEvent};
-use crate::names::{Answer, Crossing, Flow, Host, Inbound, Refusal, Text, HOST_PLACES};
+use crate::names::{places_of, Answer, Crossing, Flow, Host, Inbound, Refusal, Text};
+use crate::spelling::Spell;
 use std::collections::{HashMap, VecDeque};
+use std::rc::Rc;
 
 /// What waits of a flow, and the number under which it is in its queue. A flow has at most one thing that waits.
 #[derive(Clone, Copy)]
@@ -19,6 +21,7 @@ enum What {
 }
 
 /// One host: whether it is up, and what waits for it, each queue in order of the numbers.
+#[derive(Clone)]
 struct HostBox {
     is_up: bool,
     messages: VecDeque<(u64, Flow, Text)>,
@@ -28,9 +31,10 @@ struct HostBox {
 }
 
 /// All hosts and what waits for them.
+#[derive(Clone)]
 pub struct Boxes {
     boxes: Vec<Option<HostBox>>,
-    hosts: Vec<Host>,
+    hosts: Rc<[Host]>,
     waiting: HashMap<Flow, Waiting>,
     next_id: u64,
     log: Vec<Crossing>,
@@ -39,17 +43,17 @@ pub struct Boxes {
 impl Boxes {
     /// The mailboxes of these hosts, all of them up.
     pub fn new(hosts: Vec<Host>) -> Boxes {
-        let mut boxes: Vec<Option<HostBox>> = (0..HOST_PLACES).map(|_| None).collect();
+        let mut boxes: Vec<Option<HostBox>> = (0..places_of(&hosts)).map(|_| None).collect();
         for host in &hosts {
             boxes[host.index()] =
                 Some(HostBox { is_up: true, messages: VecDeque::new(), answers: VecDeque::new(), outstanding: 0 });
         }
-        Boxes { boxes, hosts, waiting: HashMap::new(), next_id: 0, log: Vec::new() }
+        Boxes { boxes, hosts: hosts.into(), waiting: HashMap::new(), next_id: 0, log: Vec::new() }
     }
 
     /// The box of a host, which has to be there.
     fn host(&mut self, host: Host) -> Result<&mut HostBox, Refusal> {
-        self.boxes[host.index()].as_mut().ok_or(Refusal::NoSuch)
+        self.boxes.get_mut(host.index()).and_then(Option::as_mut).ok_or(Refusal::NoSuch)
     }
 
     /// The box of a host, which has to be there and up.
@@ -143,15 +147,19 @@ impl Boxes {
 
 impl Carrier for Boxes {
     fn hosts(&self) -> Vec<Host> {
-        self.hosts.clone()
+        self.hosts.to_vec()
     }
 
     fn is_up(&self, host: Host) -> bool {
-        self.boxes[host.index()].as_ref().is_some_and(|it| it.is_up)
+        self.boxes.get(host.index()).is_some_and(|it| it.as_ref().is_some_and(|it| it.is_up))
     }
 
     fn log(&self) -> &[Crossing] {
         &self.log
+    }
+
+    fn forget_log(&mut self) {
+        self.log.clear();
     }
 
     fn offer(&mut self, flow: Flow, text: Text) -> Result<(), Refusal> {
@@ -198,5 +206,23 @@ impl Carrier for Boxes {
 
     fn quiet_round(&mut self) -> bool {
         true
+    }
+}
+
+impl Spell for Boxes {
+    fn spell(&self, to: &mut Vec<u8>) {
+        for found in self.boxes.iter().flatten() {
+            found.is_up.spell(to);
+            found.messages.len().spell(to);
+            for (_, flow, text) in &found.messages {
+                flow.spell(to);
+                text.spell(to);
+            }
+            found.answers.len().spell(to);
+            for (_, answer, flow) in &found.answers {
+                answer.spell(to);
+                flow.spell(to);
+            }
+        }
     }
 }

@@ -1,6 +1,7 @@
 //! What every carrier of messages can do.
 
 use crate::names::{Crossing, Flow, Host, Inbound, Refusal, Text};
+use crate::spelling::Spell;
 
 /// The way of a line: 0 from its first IMP to its second, 1 the other way.
 pub type Way = usize;
@@ -24,8 +25,16 @@ pub enum NetEvent {
     Forget(u8, u8),
 }
 
+/// What only the inside of a network shows: a message is noted with a fate, or a packet arrives for the first time where it is for.
+#[derive(Clone, PartialEq, Eq, PartialOrd, Ord, Debug)]
+pub enum Sight {
+    Noted(&'static str, Flow, u16),
+    /// The packet's kind, its flow and number, and all of it as octets.
+    Arrived(&'static str, Flow, u16, Vec<u8>),
+}
+
 /// A network that carries messages between hosts. A refusal changes nothing.
-pub trait Carrier {
+pub trait Carrier: Clone + Spell {
     /// All hosts, in their order.
     fn hosts(&self) -> Vec<Host>;
 
@@ -34,6 +43,22 @@ pub trait Carrier {
 
     /// All that crossed so far, the oldest first.
     fn log(&self) -> &[Crossing];
+
+    /// Forgets what crossed.
+    fn forget_log(&mut self);
+
+    /// From now on the inside is watched, where it has one.
+    fn watch(&mut self) {}
+
+    /// What was seen inside since this was asked last, in order.
+    fn sights(&mut self) -> Vec<Sight> {
+        Vec::new()
+    }
+
+    /// Whether everything is up, and something is held inside that is not yet where it is for.
+    fn holds_something(&self) -> bool {
+        false
+    }
 
     /// A host hands in a message.
     fn offer(&mut self, flow: Flow, text: Text) -> Result<(), Refusal>;

@@ -1,8 +1,9 @@
 //! One IMP: its hosts, its ends of lines, and the packets that it keeps.
 
 use crate::bits::Bits;
-use crate::line::{Content, Distances, Frame, Kind, LineEnd, Packet};
+use crate::line::{spell_distances, Content, Distances, Frame, Kind, LineEnd, Packet};
 use crate::names::{Answer, Flow, Host, Inbound, Refusal, Text, MOST_IMPS};
+use crate::spelling::{spell_sorted, Spell};
 use std::collections::{HashMap, VecDeque};
 use std::rc::Rc;
 
@@ -17,11 +18,12 @@ const PIECES: usize = 8;
 /// The octets of a full piece.
 const PIECE: usize = 126;
 /// The distance that means no route.
-const INFINITE: u8 = 63;
+pub const INFINITE: u8 = 63;
 /// How many numbers ahead of the one noted last are new.
 const WINDOW: u16 = 32_767;
 
 /// A message that waits for its host.
+#[derive(Clone)]
 struct Queued {
     flow: Flow,
     number: u16,
@@ -29,6 +31,7 @@ struct Queued {
 }
 
 /// A host of this IMP.
+#[derive(Clone)]
 struct LocalHost {
     is_up: bool,
     answers: VecDeque<(Answer, Flow)>,
@@ -38,7 +41,7 @@ struct LocalHost {
 }
 
 /// An end of a line, and the distances that the neighbour there has told.
-#[derive(Default)]
+#[derive(Clone, Default)]
 struct Port {
     is_down: bool,
     end: LineEnd,
@@ -72,7 +75,7 @@ impl Source {
 
 /// What became of a message that was noted.
 #[derive(Clone, Copy, PartialEq)]
-enum Fate {
+pub enum Fate {
     Waits,
     Taken,
     Dead,
@@ -80,13 +83,14 @@ enum Fate {
 }
 
 /// A flow at its destination: the number noted last, and the fate of its message.
-#[derive(Clone, Copy)]
+#[derive(Clone, Copy, PartialEq)]
 struct Kept {
     number: u16,
     fate: Fate,
 }
 
 /// A message in reassembly, and the pieces of it that came, by place.
+#[derive(Clone)]
 struct Slot {
     flow: Flow,
     number: u16,
@@ -114,6 +118,7 @@ enum Arrival {
 }
 
 /// One IMP of the subnet.
+#[derive(Clone)]
 pub struct Imp {
     number: u8,
     hosts: Vec<LocalHost>,
@@ -130,6 +135,20 @@ pub struct Imp {
     kept: HashMap<Flow, Kept>,
     /// The frames that have to go on lines, with their ports.
     pub outbox: Vec<(u8, Frame)>,
+    /// The fates that were noted since this was emptied, in order.
+    pub noted: Vec<(Fate, Flow, u16)>,
+}
+
+impl Fate {
+    /// The word of this fate in a trace.
+    pub fn word(self) -> &'static str {
+        match self {
+            Fate::Waits => "waits",
+            Fate::Taken => "taken",
+            Fate::Dead => "dead",
+            Fate::Never => "never",
+        }
+    }
 }
 
 impl Imp {
@@ -148,6 +167,7 @@ impl Imp {
             sources: HashMap::new(),
             kept: HashMap::new(),
             outbox: Vec::new(),
+            noted: Vec::new(),
         };
         imp.learn();
         imp
@@ -262,6 +282,21 @@ impl Imp {
             || self.packets().any(|it| wanted(it.flow, it.number, it.kind.is_request()))
     }
 
+    /// Whether an end of a line at this port is up.
+    pub fn has_end_up(&self, port: usize) -> bool {
+        !self.ports[port].is_down
+    }
+
+    /// Whether all its hosts and ends of lines are up.
+    pub fn is_all_up(&self) -> bool {
+        self.hosts.iter().all(|it| it.is_up) && self.ports.iter().all(|it| !it.is_down)
+    }
+
+    /// Whether it holds a packet in its store, a channel or a slot.
+    pub fn holds_packets(&self) -> bool {
+        self.stored > 0 || !self.slots.is_empty()
+    }
+
     /// The packets in store and channels.
     fn packets(&self) -> impl Iterator<Item = &Rc<Packet>> {
         self.store.iter().chain(self.ports.iter().flat_map(|it| it.end.held()))
@@ -331,13 +366,17 @@ impl Imp {
 
     /// Notes a number as a flow's last one.
     fn note(&mut self, flow: Flow, number: u16, fate: Fate) {
-        self.kept.insert(flow, Kept { number, fate });
+        let kept = Kept { number, fate };
+        if self.kept.insert(flow, kept) != Some(kept) {
+            self.noted.push((fate, flow, number));
+        }
     }
 
     /// A message that was noted has met its end. If another number was noted since, nothing changes.
     fn end(&mut self, flow: Flow, number: u16, fate: Fate) {
-        if let Some(kept) = self.kept.get_mut(&flow).filter(|it| it.number == number) {
+        if let Some(kept) = self.kept.get_mut(&flow).filter(|it| it.number == number && it.fate != fate) {
             kept.fate = fate;
+            self.noted.push((fate, flow, number));
         }
     }
 
@@ -692,4 +731,58 @@ fn text_of(body: Vec<u8>) -> Option<Bits> {
     let last = body.iter().rposition(|it| *it != 0)?;
     let len = 8 * last + 7 - body[last].trailing_zeros() as usize;
     Some(if len == 0 { Bits::default() } else { Bits::new(body, len) })
+}
+
+impl Spell for Imp {
+    fn spell(&self, to: &mut Vec<u8>) {
+        for host in &self.hosts {
+            host.is_up.spell(to);
+            host.answers.spell(to);
+            host.messages.len().spell(to);
+            for Queued { flow, number, text } in &host.messages {
+                flow.spell(to);
+                number.spell(to);
+                text.spell(to);
+            }
+        }
+        for port in &self.ports {
+            port.is_down.spell(to);
+            port.end.spell(to);
+            port.heard.is_some().spell(to);
+            if let Some(heard) = &port.heard {
+                spell_distances(heard, INFINITE, to);
+            }
+        }
+        self.store.spell(to);
+        self.spell_tables(to);
+    }
+}
+
+impl Imp {
+    /// Spells what is known of flows.
+    fn spell_tables(&self, to: &mut Vec<u8>) {
+        let mut slots: Vec<&Slot> = self.slots.iter().collect();
+        slots.sort_unstable_by_key(|it| it.flow);
+        slots.len().spell(to);
+        for slot in slots {
+            slot.flow.spell(to);
+            slot.pieces.spell(to);
+        }
+        spell_sorted(self.sources.iter().filter(|it| it.1.begun > 0 || it.1.standing != Standing::Idle), to);
+        spell_sorted(self.kept.iter(), to);
+    }
+}
+
+impl Spell for Source {
+    fn spell(&self, to: &mut Vec<u8>) {
+        self.begun.spell(to);
+        to.push(self.standing as u8);
+    }
+}
+
+impl Spell for Kept {
+    fn spell(&self, to: &mut Vec<u8>) {
+        self.number.spell(to);
+        to.push(self.fate as u8);
+    }
 }

@@ -1,6 +1,7 @@
 //! Packets, frames, and the end of a line with its eight channels.
 
 use crate::names::{Answer, Flow, MOST_IMPS};
+use crate::spelling::Spell;
 use std::rc::Rc;
 
 /// How many channels a line has each way.
@@ -23,6 +24,17 @@ impl Kind {
     /// Whether such a packet travels to its message's destination. All others travel to the source.
     pub fn is_request(self) -> bool {
         matches!(self, Kind::Data | Kind::Ask)
+    }
+
+    /// The word of this kind in a trace.
+    pub fn word(self) -> &'static str {
+        match self {
+            Kind::Data => "data",
+            Kind::Rfnm => "rfnm",
+            Kind::Dead => "dead",
+            Kind::Ask => "ask",
+            Kind::Never => "never",
+        }
     }
 
     /// What an answer tells the source of its message.
@@ -78,7 +90,7 @@ pub struct Frame {
 }
 
 /// One end of a line: eight channels to send on, each with its bit, and the bits that are expected from the other end.
-#[derive(Default, Debug)]
+#[derive(Clone, Default, Debug)]
 pub struct LineEnd {
     busy: [Option<Rc<Packet>>; CHANNELS],
     /// Which channels are busy, a bit for each.
@@ -145,5 +157,47 @@ impl LineEnd {
     /// The packets in the channels.
     pub fn held(&self) -> impl Iterator<Item = &Rc<Packet>> {
         self.busy.iter().flatten()
+    }
+}
+
+impl Spell for Packet {
+    fn spell(&self, to: &mut Vec<u8>) {
+        to.push(self.kind as u8);
+        self.flow.spell(to);
+        self.number.spell(to);
+        to.extend([self.place, self.is_last as u8]);
+        self.octets.spell(to);
+    }
+}
+
+/// Spells the distances that are not infinite, with their IMPs.
+pub fn spell_distances(distances: &Distances, infinite: u8, to: &mut Vec<u8>) {
+    let finite = distances.iter().enumerate().filter(|it| *it.1 != infinite);
+    to.extend(finite.flat_map(|(imp, distance)| [imp as u8, *distance]));
+    to.push(u8::MAX);
+}
+
+impl Spell for LineEnd {
+    fn spell(&self, to: &mut Vec<u8>) {
+        to.extend([self.busy_bits, self.next_bits, self.expected]);
+        self.held().for_each(|it| it.spell(to));
+    }
+}
+
+impl Frame {
+    /// Spells a frame. Distances that are as far as this are infinite.
+    pub fn spell(&self, infinite: u8, to: &mut Vec<u8>) {
+        to.push(self.acknowledged);
+        match &self.content {
+            Content::Acknowledgements => to.push(0),
+            Content::Routes(distances) => {
+                to.push(1);
+                spell_distances(distances, infinite, to);
+            }
+            Content::Packet { channel, bit, packet } => {
+                to.extend([2, *channel, *bit as u8]);
+                packet.spell(to);
+            }
+        }
     }
 }

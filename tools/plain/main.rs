@@ -2,7 +2,7 @@
 //! can be compared with it: `rustc -O --edition 2021 tools/plain/main.rs -o FILE`.
 //!
 //! It reads a topology and a script from standard input, replays the script, and prints what the hosts see. Of the options it has
-//! `--book`, `--check` and `--texts`. It keeps what the proved program keeps: all that crossed with its texts, what users were told,
+//! `--book`, `--check` and `--texts`, and `--search` of its own (search.rs). It keeps what the proved program keeps: all that crossed with its texts, what users were told,
 //! what services reported, and the lives of connections with their bits.
 //!
 //! It leaves out
@@ -16,15 +16,20 @@ mod book;
 mod boxes;
 mod carrier;
 mod commands;
+mod hash;
 mod imp;
 mod line;
 mod names;
 mod pair;
+mod pattern;
+mod place;
 mod printing;
 mod program;
 mod raw;
 mod script;
+mod search;
 mod services;
+mod spelling;
 mod subnet;
 mod topology;
 mod world;
@@ -37,7 +42,7 @@ use std::io::Read;
 use std::process::ExitCode;
 use subnet::Subnet;
 use topology::Topology;
-use world::World;
+use world::{Replay, World};
 
 /// The most octets that an input may have.
 const MOST_OCTETS: usize = 1_048_576;
@@ -65,7 +70,11 @@ fn main() -> ExitCode {
 
 /// The whole program.
 fn run() -> Result<(), Fault> {
-    let options = read_options()?;
+    let words: Vec<String> = std::env::args().skip(1).collect();
+    if words.first().is_some_and(|it| it == "--search") {
+        return search::run(&words[1..], &read_input()?).map_err(|why| Fault(1, why));
+    }
+    let options = read_options(words)?;
     let bad_topology = || Fault(1, "bad topology".into());
     let input = read_input()?;
     let (document, script) = split(&input).ok_or_else(bad_topology)?;
@@ -92,19 +101,19 @@ fn replay(carrier: impl Carrier, topology: &Topology, events: Vec<Event>, option
     if topology.is_raw {
         raw::replay(carrier, events, printer);
     } else {
-        let mut world = World::new(carrier, printer);
-        world.replay(events);
+        let mut replay = Replay { world: &mut World::new(carrier), printer };
+        replay.replay(events);
         if options.book {
-            world.print_lives();
+            replay.print_lives();
         }
     }
     printer.word(b"end").end();
 }
 
 /// Reads the options.
-fn read_options() -> Result<Options, Fault> {
+fn read_options(words: Vec<String>) -> Result<Options, Fault> {
     let mut options = Options::default();
-    for word in std::env::args().skip(1) {
+    for word in words {
         let option = match word.as_str() {
             "--book" => &mut options.book,
             "--check" => &mut options.check,

@@ -7,8 +7,10 @@ use std::rc::Rc;
 /// The greatest number of an IMP.
 pub const MOST_IMPS: u8 = 63;
 
-/// This many places a table has that is looked up by `Host::index`.
-pub const HOST_PLACES: usize = 4 * (MOST_IMPS as usize + 1);
+/// This many places a table needs in which each of these hosts is found by `Host::index`.
+pub fn places_of(hosts: &[Host]) -> usize {
+    hosts.iter().map(|it| it.index() + 1).max().unwrap_or_default()
+}
 
 /// A host: the number of its IMP, and its own number there. The order of hosts is that of IMPs first.
 #[derive(Clone, Copy, PartialEq, Eq, PartialOrd, Ord, Debug)]

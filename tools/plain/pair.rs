@@ -4,6 +4,7 @@ use crate::bits::{BitQueue, Bits};
 use crate::book::Notice;
 use crate::commands::{control_message, header, Command, CONTROL_TEXT, HEADER, LINKS};
 use crate::names::Host;
+use crate::spelling::{spell_sorted, Spell};
 use std::collections::{HashMap, VecDeque};
 
 /// The most bits of data in a message.
@@ -35,7 +36,7 @@ pub enum Use {
 pub type Sockets = HashMap<u32, Use>;
 
 /// One end of a connection.
-#[derive(Default)]
+#[derive(Clone, Default)]
 pub struct End {
     /// Whether it is the host's own, and not only a request that is refused.
     pub is_mine: bool,
@@ -94,6 +95,7 @@ pub enum Parcel {
 }
 
 /// What a host keeps about one peer.
+#[derive(Clone)]
 pub struct Pair {
     pub phase: Phase,
     /// Whether an RRP is owed to the peer.
@@ -274,5 +276,76 @@ impl Pair {
                 text
             }
         }
+    }
+}
+
+impl Phase {
+    /// A number for each phase.
+    fn code(self) -> u8 {
+        match self {
+            Phase::Closed => 0,
+            Phase::Want => 1,
+            Phase::Gone { early: false } => 2,
+            Phase::Gone { early: true } => 3,
+            Phase::Heard => 4,
+            Phase::Ready => 5,
+        }
+    }
+}
+
+impl Spell for Use {
+    fn spell(&self, to: &mut Vec<u8>) {
+        match self {
+            Use::Listens(size) => to.extend([0, *size]),
+            Use::End(peer, foreign) => {
+                to.extend([1, peer.address()]);
+                foreign.spell(to);
+            }
+        }
+    }
+}
+
+impl Spell for End {
+    fn spell(&self, to: &mut Vec<u8>) {
+        let flags = [
+            self.is_mine,
+            self.own_stamp.is_some(),
+            self.partner_stamp.is_some(),
+            self.was_asked,
+            self.close_asked,
+            self.close_queued,
+            self.close_sent,
+            self.close_taken,
+        ];
+        to.push(flags.iter().fold(0, |sum, it| 2 * sum + *it as u8));
+        self.link.spell(to);
+        to.push(self.size);
+        self.messages.spell(to);
+        self.bits.spell(to);
+        let mut waiting = Bits::default();
+        self.waiting.copy_front(self.waiting.len(), &mut waiting);
+        waiting.spell(to);
+    }
+}
+
+impl Spell for Pair {
+    fn spell(&self, to: &mut Vec<u8>) {
+        to.extend([self.phase.code(), self.owed as u8]);
+        self.busy.spell(to);
+        self.queue.len().spell(to);
+        self.queue.iter().for_each(|it| it.write(to));
+        spell_sorted(self.ends.iter(), to);
+    }
+}
+
+impl Pair {
+    /// The places in the log of its ends' requests.
+    pub fn stamps(&self) -> impl Iterator<Item = (&Key, [Option<usize>; 2])> {
+        self.ends.iter().map(|(key, end)| (key, [end.own_stamp, end.partner_stamp]))
+    }
+
+    /// Whether it waits in the midst of a reset, where nothing can come any more.
+    pub fn is_in_reset(&self) -> bool {
+        !matches!(self.phase, Phase::Closed | Phase::Ready)
     }
 }

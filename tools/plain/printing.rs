@@ -4,9 +4,15 @@ use crate::bits::Bits;
 use crate::names::{Answer, Crossing, Flow, Host, Refusal};
 use std::io::{self, BufWriter, StdoutLock, Write};
 
-/// Standard output through a buffer. After its first failure nothing more is written.
+/// Where lines go: to standard output through a buffer, or into a list of octets.
+enum Lines {
+    Written(BufWriter<StdoutLock<'static>>),
+    Kept(Vec<u8>),
+}
+
+/// Prints lines. After the first write that fails nothing more is written.
 pub struct Printer {
-    out: BufWriter<StdoutLock<'static>>,
+    out: Lines,
     line: Vec<u8>,
     with_texts: bool,
     failed: Option<io::Error>,
@@ -15,7 +21,28 @@ pub struct Printer {
 impl Printer {
     /// A printer to standard output, which prints the texts of messages if that is wished.
     pub fn new(with_texts: bool) -> Printer {
-        Printer { out: BufWriter::with_capacity(1 << 16, io::stdout().lock()), line: Vec::new(), with_texts, failed: None }
+        let out = Lines::Written(BufWriter::with_capacity(1 << 16, io::stdout().lock()));
+        Printer { out, line: Vec::new(), with_texts, failed: None }
+    }
+
+    /// A printer whose lines are kept.
+    pub fn kept() -> Printer {
+        Printer { out: Lines::Kept(Vec::new()), line: Vec::new(), with_texts: false, failed: None }
+    }
+
+    /// The lines that are kept, each with its end.
+    pub fn lines(&self) -> &[u8] {
+        match &self.out {
+            Lines::Written(_) => &[],
+            Lines::Kept(lines) => lines,
+        }
+    }
+
+    /// Forgets the lines that are kept.
+    pub fn clear(&mut self) {
+        if let Lines::Kept(lines) = &mut self.out {
+            lines.clear();
+        }
     }
 
     /// Appends a word, with a space before it if it is not the first one.
@@ -52,12 +79,12 @@ impl Printer {
     }
 
     /// Appends a flow.
-    fn flow(&mut self, flow: Flow) -> &mut Printer {
+    pub fn flow(&mut self, flow: Flow) -> &mut Printer {
         self.host(flow.source).host(flow.destination).number(flow.link.into())
     }
 
     /// Appends octets as a script spells them.
-    fn octets(&mut self, octets: &[u8]) -> &mut Printer {
+    pub fn octets(&mut self, octets: &[u8]) -> &mut Printer {
         if octets.is_empty() {
             return self.word(b"-");
         }
@@ -72,8 +99,10 @@ impl Printer {
     /// Ends the line.
     pub fn end(&mut self) {
         self.line.push(b'\n');
-        if self.failed.is_none() {
-            self.failed = self.out.write_all(&self.line).err();
+        match &mut self.out {
+            Lines::Kept(lines) => lines.extend_from_slice(&self.line),
+            Lines::Written(out) if self.failed.is_none() => self.failed = out.write_all(&self.line).err(),
+            Lines::Written(_) => (),
         }
         self.line.clear();
     }
@@ -112,7 +141,11 @@ impl Printer {
 
     /// Writes what is left. Answers whether all was written.
     pub fn finish(&mut self) -> bool {
-        !self.has_failed() && self.out.flush().is_ok()
+        let is_written = match &mut self.out {
+            Lines::Written(out) => out.flush().is_ok(),
+            Lines::Kept(_) => true,
+        };
+        is_written && !self.has_failed()
     }
 }
 

@@ -6,6 +6,7 @@ use crate::commands::{read_header, Command, Fault, CONTROL_TEXT, ERRONEOUS, HEAD
 use crate::names::{Answer, Flow, Host, Inbound, Refusal};
 use crate::pair::{receives, End, Key, Pair, Parcel, Phase, Sockets, Use};
 use crate::script::Request;
+use crate::spelling::{spell_sorted, Spell};
 use std::collections::hash_map::Entry;
 use std::collections::BTreeMap;
 use std::rc::Rc;
@@ -21,6 +22,7 @@ pub struct Outgoing {
 }
 
 /// What a host's program keeps: its peers in order of their addresses, and its sockets.
+#[derive(Clone)]
 pub struct Program {
     own: Host,
     pairs: BTreeMap<u8, (Host, Pair)>,
@@ -589,5 +591,23 @@ impl Turn<'_> {
         end.messages -= 1;
         end.bits -= bits;
         Ok(Some((key.0, bits as usize)))
+    }
+}
+
+impl Spell for Program {
+    fn spell(&self, to: &mut Vec<u8>) {
+        self.pairs.len().spell(to);
+        for (address, (_, pair)) in &self.pairs {
+            to.push(*address);
+            pair.spell(to);
+        }
+        spell_sorted(self.sockets.iter(), to);
+    }
+}
+
+impl Program {
+    /// Its pairs, in order of their addresses.
+    pub fn pairs(&self) -> impl Iterator<Item = (Host, &Pair)> {
+        self.pairs.values().map(|it| (it.0, &it.1))
     }
 }

@@ -17,7 +17,7 @@ pub fn replay(mut carrier: impl Carrier, events: Vec<Event>, printer: &mut Print
                 calm(&mut carrier, rounds, printer);
                 continue;
             }
-            other => happen(&mut carrier, other),
+            other => happen(&mut carrier, &other),
         };
         printer.crossings(&carrier.log()[before..]);
         if let Err(refusal) = ended {
@@ -30,9 +30,9 @@ pub fn replay(mut carrier: impl Carrier, events: Vec<Event>, printer: &mut Print
 }
 
 /// Lets an event happen that is not a calm. Scripts of raw networks have no events of host programs.
-fn happen(carrier: &mut impl Carrier, event: Event) -> Result<(), Refusal> {
-    match event {
-        Event::Out(flow, text) => carrier.offer(flow, text),
+pub fn happen(carrier: &mut impl Carrier, event: &Event) -> Result<(), Refusal> {
+    match *event {
+        Event::Out(flow, ref text) => carrier.offer(flow, text.clone()),
         Event::Take(host) => carrier.take(host).map(|_| ()),
         Event::Net(event) => carrier.happen(event),
         _ => Ok(()),

@@ -4,6 +4,7 @@ use crate::bits::Bits;
 use crate::book::{Notice, Reason, Report, Role};
 use crate::names::Host;
 use crate::script::Request;
+use crate::spelling::Spell;
 use std::collections::BTreeSet;
 use std::rc::Rc;
 
@@ -33,6 +34,7 @@ impl Outcome {
 }
 
 /// A server of the initial connection: users ask it on `listens`, and it serves one of them on `base` and the socket above.
+#[derive(Clone)]
 pub struct Server {
     outcome: Outcome,
     listens: u32,
@@ -42,6 +44,7 @@ pub struct Server {
 }
 
 /// A user of the initial connection: from `own` it asks the socket `server` of a peer.
+#[derive(Clone)]
 pub struct User {
     outcome: Outcome,
     peer: Host,
@@ -55,12 +58,14 @@ pub struct User {
 }
 
 /// An echo service: it sends back what arrives.
+#[derive(Clone)]
 pub struct Echo {
     receives: u32,
     sends: u32,
 }
 
 /// A line terminal.
+#[derive(Clone)]
 pub struct Terminal {
     receives: u32,
     pub sends: u32,
@@ -71,6 +76,7 @@ pub struct Terminal {
 }
 
 /// One of the four. A machine that is done gives its place to what follows it.
+#[derive(Clone)]
 pub enum Service {
     Server(Server),
     User(User),
@@ -334,7 +340,7 @@ fn read_lines(part: &mut Bits, kept: &mut Vec<u8>, lines: &mut Vec<Vec<u8>>, bit
 }
 
 /// All services of a host, in the order in which they began.
-#[derive(Default)]
+#[derive(Clone, Default)]
 pub struct Services {
     list: Vec<Service>,
     /// Which of them want to hear of a socket.
@@ -376,5 +382,52 @@ impl Services {
             Notice::PairReset(_) => self.beginning.iter().map(|it| *it as usize).collect(),
             _ => Vec::new(),
         }
+    }
+}
+
+impl Outcome {
+    /// A number for each outcome.
+    fn code(self) -> u8 {
+        match self {
+            Outcome::None => 0,
+            Outcome::Done => 1,
+            Outcome::Told => 2,
+            Outcome::Failed(reason) => 3 + reason as u8,
+        }
+    }
+}
+
+impl Spell for Service {
+    fn spell(&self, to: &mut Vec<u8>) {
+        match self {
+            Service::Server(it) => {
+                to.extend([0, it.outcome.code()]);
+                (it.listens, it.base).spell(to);
+                it.opened.spell(to);
+            }
+            Service::User(it) => {
+                to.extend([1, it.outcome.code(), it.peer.address()]);
+                (it.server, it.own).spell(to);
+                it.bits.spell(to);
+                it.base.spell(to);
+                to.extend([it.is_open as u8, it.has_receiver as u8, it.has_sender as u8]);
+            }
+            Service::Echo(it) => {
+                to.push(2);
+                (it.receives, it.sends).spell(to);
+            }
+            Service::Terminal(it) => {
+                to.push(3);
+                (it.receives, it.sends).spell(to);
+                it.part.spell(to);
+                it.kept.spell(to);
+            }
+        }
+    }
+}
+
+impl Spell for Services {
+    fn spell(&self, to: &mut Vec<u8>) {
+        self.list.spell(to);
     }
 }

@@ -1,11 +1,13 @@
 //! The subnet: IMPs, and lines with the frames that are in transit on them.
 
-use crate::carrier::{Carrier, NetEvent, Way};
-use crate::imp::Imp;
+use crate::carrier::{Carrier, NetEvent, Sight, Way};
+use crate::imp::{Imp, INFINITE};
 use crate::line::{Content, Frame};
 use crate::names::{Crossing, Flow, Host, Inbound, Refusal, Text, MOST_IMPS};
+use crate::spelling::Spell;
 use crate::topology::Topology;
 use std::collections::VecDeque;
+use std::rc::Rc;
 
 /// Most frames that are in transit on a line, each way.
 const PLACES: usize = 256;
@@ -18,6 +20,7 @@ struct LinePort {
 }
 
 /// A line: its two ends, and the frames in transit each way, the oldest first.
+#[derive(Clone)]
 struct Line {
     ends: [LinePort; 2],
     live: [VecDeque<Frame>; 2],
@@ -30,17 +33,20 @@ struct Site {
     hosts: u8,
     /// The lines at the IMP's ports, and the way that leads from it.
     ports: Vec<(usize, Way)>,
-    /// The IMP, if it is up.
-    imp: Option<Imp>,
 }
 
-/// All IMPs and lines.
+/// All IMPs and lines. Copies share the IMPs that are the same.
+#[derive(Clone)]
 pub struct Subnet {
-    sites: Vec<Site>,
+    sites: Rc<[Site]>,
     /// The numbers of the IMPs that there are, in order.
-    numbers: Vec<u8>,
+    numbers: Rc<[u8]>,
+    /// The IMPs that are up, by number.
+    imps: Vec<Option<Rc<Imp>>>,
     lines: Vec<Line>,
     log: Vec<Crossing>,
+    is_watched: bool,
+    sights: Vec<Sight>,
 }
 
 impl Subnet {
@@ -62,23 +68,20 @@ impl Subnet {
             lines.push(Line { ends, live: Default::default() });
         }
         let numbers: Vec<u8> = (1..=MOST_IMPS).filter(|it| sites[*it as usize].exists).collect();
+        let mut imps = vec![None; numbers.last().map_or(0, |it| *it as usize + 1)];
         for number in &numbers {
-            let site = &mut sites[*number as usize];
-            site.imp = Some(Imp::new(*number, site.hosts, site.ports.len(), true));
+            let site = &sites[*number as usize];
+            imps[*number as usize] = Some(Rc::new(Imp::new(*number, site.hosts, site.ports.len(), true)));
         }
-        Subnet { sites, numbers, lines, log: Vec::new() }
+        let (sites, numbers) = (sites.into(), numbers.into());
+        Subnet { sites, numbers, imps, lines, log: Vec::new(), is_watched: false, sights: Vec::new() }
     }
 
     // What is there.
 
     /// The IMP of a number, if it is there and up.
     fn imp(&self, number: u8) -> Option<&Imp> {
-        self.sites[number as usize].imp.as_ref()
-    }
-
-    /// An IMP, which has to be up.
-    fn up(&mut self, number: u8) -> Result<&mut Imp, Refusal> {
-        self.sites[number as usize].imp.as_mut().ok_or(Refusal::IsDown)
+        self.imps.get(number as usize)?.as_deref()
     }
 
     /// All IMPs that are up.
@@ -113,12 +116,16 @@ impl Subnet {
 
     /// Lets an IMP, which has to be up, do something, and puts its frames on its lines.
     fn at<T>(&mut self, number: u8, call: impl FnOnce(&mut Imp) -> Result<T, Refusal>) -> Result<T, Refusal> {
-        let site = &mut self.sites[number as usize];
-        let imp = site.imp.as_mut().ok_or(Refusal::IsDown)?;
+        let imp = Rc::make_mut(self.imps.get_mut(number as usize).and_then(Option::as_mut).ok_or(Refusal::IsDown)?);
         let given = call(imp)?;
         imp.pump();
+        let noted = imp.noted.drain(..).map(|(fate, flow, number)| Sight::Noted(fate.word(), flow, number));
+        if self.is_watched {
+            self.sights.extend(noted);
+        }
+        let ports = &self.sites[number as usize].ports;
         for (port, frame) in imp.outbox.drain(..) {
-            let (line, way) = site.ports[port as usize];
+            let (line, way) = ports[port as usize];
             let live = &mut self.lines[line].live[way];
             if live.len() < PLACES {
                 live.push_back(frame);
@@ -197,8 +204,7 @@ impl Subnet {
     /// An IMP stops, and its hosts with it. What it held is gone.
     fn imp_down(&mut self, number: u8) -> Result<(), Refusal> {
         self.check_site(number)?;
-        self.up(number)?;
-        let imp = self.sites[number as usize].imp.take().expect("an IMP that is up");
+        let imp = self.imps.get_mut(number as usize).and_then(Option::take).ok_or(Refusal::IsDown)?;
         self.log.extend(imp.hosts_up().map(Crossing::Down));
         Ok(())
     }
@@ -211,11 +217,11 @@ impl Subnet {
         if is_known || self.is_alive(|flow, _, _| flow.source.imp == number || flow.destination.imp == number) {
             return Err(Refusal::StillAlive);
         }
-        let site = &mut self.sites[number as usize];
-        if site.imp.is_some() {
+        if self.imp(number).is_some() {
             return Err(Refusal::IsUp);
         }
-        site.imp = Some(Imp::new(number, site.hosts, site.ports.len(), false));
+        let site = &self.sites[number as usize];
+        self.imps[number as usize] = Some(Rc::new(Imp::new(number, site.hosts, site.ports.len(), false)));
         Ok(())
     }
 
@@ -254,7 +260,19 @@ impl Subnet {
 
     /// A frame comes to an end of a line. Answers whether it told anything but distances that were known.
     fn arrive(&mut self, end: LinePort, frame: Frame) -> bool {
+        self.see_arrival(end, &frame);
         self.at(end.imp, |imp| Ok(imp.from_line(end.port, frame))).unwrap_or(false)
+    }
+
+    /// A packet that is for this IMP is seen, if anybody watches.
+    fn see_arrival(&mut self, end: LinePort, frame: &Frame) {
+        let Content::Packet { packet, .. } = &frame.content else { return };
+        let is_up = || self.imp(end.imp).is_some_and(|it| it.has_end_up(end.port));
+        if self.is_watched && packet.target() == end.imp && is_up() {
+            let mut octets = Vec::new();
+            packet.spell(&mut octets);
+            self.sights.push(Sight::Arrived(packet.kind.word(), packet.flow, packet.number, octets));
+        }
     }
 
     /// A frame is lost.
@@ -277,6 +295,22 @@ impl Carrier for Subnet {
 
     fn log(&self) -> &[Crossing] {
         &self.log
+    }
+
+    fn forget_log(&mut self) {
+        self.log.clear();
+    }
+
+    fn watch(&mut self) {
+        self.is_watched = true;
+    }
+
+    fn sights(&mut self) -> Vec<Sight> {
+        std::mem::take(&mut self.sights)
+    }
+
+    fn holds_something(&self) -> bool {
+        self.numbers.iter().all(|it| self.imp(*it).is_some_and(Imp::is_all_up)) && self.imps().any(Imp::holds_packets)
     }
 
     fn offer(&mut self, flow: Flow, text: Text) -> Result<(), Refusal> {
@@ -352,5 +386,21 @@ impl Carrier for Subnet {
             }
         }
         is_settled && self.lines.iter().all(|it| it.live.iter().all(VecDeque::is_empty))
+    }
+}
+
+impl Spell for Subnet {
+    fn spell(&self, to: &mut Vec<u8>) {
+        for number in self.numbers.iter() {
+            let imp = self.imp(*number);
+            imp.is_some().spell(to);
+            if let Some(imp) = imp {
+                imp.spell(to);
+            }
+        }
+        for live in self.lines.iter().flat_map(|it| &it.live) {
+            live.len().spell(to);
+            live.iter().for_each(|it| it.spell(INFINITE, to));
+        }
     }
 }

@@ -2,17 +2,20 @@
 
 use crate::book::{Book, Notice, Reason, Report, Role};
 use crate::carrier::Carrier;
-use crate::names::{Crossing, Host, Refusal, Text, HOST_PLACES};
+use crate::names::{places_of, Crossing, Host, Refusal, Text};
 use crate::printing::Printer;
 use crate::program::Program;
 use crate::raw::TAKES;
 use crate::script::{Event, Request};
 use crate::services::{follower, Service, Services};
+use crate::spelling::Spell;
+use std::rc::Rc;
 
 /// So often a host offers in a round of a calm at most.
 const OFFERS: usize = 32;
 
 /// A host of the network.
+#[derive(Clone)]
 struct Seat {
     /// Its program, while it is up.
     program: Option<Program>,
@@ -21,30 +24,93 @@ struct Seat {
     terminal: Option<u32>,
 }
 
-/// A carrier, the hosts, and the book.
-pub struct World<'a, C: Carrier> {
-    carrier: C,
-    hosts: Vec<Host>,
-    seats: Vec<Option<Seat>>,
-    book: Book,
-    printer: &'a mut Printer,
+/// A carrier, the hosts, and the book. Copies share the hosts that are the same.
+#[derive(Clone)]
+pub struct World<C: Carrier> {
+    pub carrier: C,
+    hosts: Rc<[Host]>,
+    seats: Vec<Option<Rc<Seat>>>,
+    pub book: Book,
+    /// How many crossings the carrier's log had before those that it has now.
+    past: usize,
 }
 
-impl<'a, C: Carrier> World<'a, C> {
+impl<C: Carrier> World<C> {
     /// A world whose hosts are all up.
-    pub fn new(carrier: C, printer: &'a mut Printer) -> World<'a, C> {
+    pub fn new(carrier: C) -> World<C> {
         let hosts = carrier.hosts();
-        let mut seats: Vec<Option<Seat>> = (0..HOST_PLACES).map(|_| None).collect();
+        let mut seats = vec![None; places_of(&hosts)];
         for host in &hosts {
-            seats[host.index()] = Some(Seat { program: Some(Program::new(*host)), services: Services::default(), terminal: None });
+            let seat = Seat { program: Some(Program::new(*host)), services: Services::default(), terminal: None };
+            seats[host.index()] = Some(Rc::new(seat));
         }
-        World { carrier, hosts, seats, book: Book::default(), printer }
+        World { carrier, hosts: hosts.into(), seats, book: Book::default(), past: 0 }
     }
 
+    /// How many crossings there were.
+    fn place(&self) -> usize {
+        self.past + self.carrier.log().len()
+    }
+
+    /// Forgets what crossed, what users were told, and lives too if that is said.
+    pub fn forget(&mut self, forgets_lives: bool) {
+        self.past = self.place();
+        self.carrier.forget_log();
+        self.book.forget(forgets_lives);
+    }
+
+    /// The programs of hosts that are up, with their hosts.
+    pub fn programs(&self) -> impl Iterator<Item = (Host, &Program)> {
+        let seats = self.hosts.iter().filter_map(|it| Some((*it, self.seats[it.index()].as_ref()?)));
+        seats.filter_map(|(host, seat)| Some((host, seat.program.as_ref()?)))
+    }
+
+    /// Appends the state of the carrier and of all hosts as octets. Lives, and the places of requests in the log by their order, only
+    /// if that is said.
+    pub fn spell(&self, with_lives: bool, to: &mut Vec<u8>) {
+        self.carrier.spell(to);
+        for seat in self.seats.iter().flatten() {
+            seat.program.is_some().spell(to);
+            if let Some(program) = &seat.program {
+                program.spell(to);
+            }
+            seat.services.spell(to);
+            seat.terminal.spell(to);
+        }
+        if with_lives {
+            self.spell_lives(to);
+        }
+    }
+
+    /// Appends the lives, and the places of requests.
+    fn spell_lives(&self, to: &mut Vec<u8>) {
+        let mut ends: Vec<_> = self
+            .programs()
+            .flat_map(|(host, program)| program.pairs().map(move |it| (host, it)))
+            .flat_map(|(host, (peer, pair))| pair.stamps().map(move |(key, stamps)| ((host, peer, *key), stamps)))
+            .collect();
+        ends.sort_unstable();
+        let mut stamps: Vec<usize> = ends.iter().flat_map(|it| it.1).flatten().chain(self.book.stamps()).collect();
+        stamps.sort_unstable();
+        stamps.dedup();
+        for stamp in ends.iter().flat_map(|it| it.1).flatten() {
+            to.push(stamps.partition_point(|it| *it < stamp) as u8);
+        }
+        self.book.spell(&stamps, to);
+    }
+}
+
+/// A world in which events happen, and what is printed of them.
+pub struct Replay<'a, C: Carrier> {
+    pub world: &'a mut World<C>,
+    pub printer: &'a mut Printer,
+}
+
+impl<C: Carrier> Replay<'_, C> {
     /// Replays events.
     pub fn replay(&mut self, events: Vec<Event>) {
         for event in events {
-            if let Err(refusal) = self.happen(event) {
+            if let Err(refusal) = self.happen(&event) {
                 self.printer.refused(refusal);
             }
             if self.printer.has_failed() {
@@ -55,12 +121,12 @@ impl<'a, C: Carrier> World<'a, C> {
 
     /// Prints the lives of connections.
     pub fn print_lives(&mut self) {
-        self.book.print_lives(self.printer);
+        self.world.book.print_lives(self.printer);
     }
 
     /// Lets an event happen.
-    fn happen(&mut self, event: Event) -> Result<(), Refusal> {
-        match event {
+    pub fn happen(&mut self, event: &Event) -> Result<(), Refusal> {
+        match *event {
             Event::Net(event) => self.carry(|carrier| carrier.happen(event)),
             Event::Take(host) => self.take(host).map(|_| ()),
             Event::Offer(host) => self.offer(host).map(|_| ()),
@@ -68,38 +134,38 @@ impl<'a, C: Carrier> World<'a, C> {
                 self.calm(rounds);
                 Ok(())
             }
-            Event::Ask(host, request) => self.ask(host, &request),
+            Event::Ask(host, ref request) => self.ask(host, request),
             Event::Server { host, listens, base } => self.start(host, Service::server(listens, base)),
             Event::User { host, peer, server, own } => self.start(host, Service::user(peer, server, own)),
-            Event::Typed(host, text) => self.typed(host, text),
+            Event::Typed(host, ref text) => self.typed(host, text.clone()),
             Event::Out(..) => Ok(()),
         }
     }
 
     /// The seat of a host that is known to be there.
     fn seat(&mut self, host: Host) -> &mut Seat {
-        self.seats[host.index()].as_mut().expect("a host of the network")
+        Rc::make_mut(self.world.seats[host.index()].as_mut().expect("a host of the network"))
     }
 
     /// The program of a host, which has to be there and up.
     fn program(&mut self, host: Host) -> Result<&mut Program, Refusal> {
-        let seat = self.seats[host.index()].as_mut().ok_or(Refusal::NoSuch)?;
-        seat.program.as_mut().ok_or(Refusal::IsDown)
+        let seat = self.world.seats.get_mut(host.index()).and_then(Option::as_mut).ok_or(Refusal::NoSuch)?;
+        Rc::make_mut(seat).program.as_mut().ok_or(Refusal::IsDown)
     }
 
     // What the carrier does.
 
     /// Lets the carrier do something, prints what crosses, and stops and starts programs.
     fn carry<T>(&mut self, call: impl FnOnce(&mut C) -> Result<T, Refusal>) -> Result<T, Refusal> {
-        let before = self.carrier.log().len();
-        let given = call(&mut self.carrier)?;
-        let crossed = &self.carrier.log()[before..];
+        let before = self.world.carrier.log().len();
+        let given = call(&mut self.world.carrier)?;
+        let crossed = &self.world.carrier.log()[before..];
         for crossing in crossed {
             let (Crossing::Down(host) | Crossing::Up(host)) = *crossing else { continue };
             let is_up = matches!(crossing, Crossing::Up(_));
             let program = is_up.then(|| Program::new(host));
-            self.seats[host.index()] = Some(Seat { program, services: Services::default(), terminal: None });
-            self.book.stop(host);
+            self.world.seats[host.index()] = Some(Rc::new(Seat { program, services: Services::default(), terminal: None }));
+            self.world.book.stop(host);
         }
         self.printer.crossings(crossed);
         Ok(given)
@@ -109,7 +175,7 @@ impl<'a, C: Carrier> World<'a, C> {
     fn offer(&mut self, host: Host) -> Result<bool, Refusal> {
         let Some(mut next) = self.program(host)?.next() else { return Ok(false) };
         let (flow, text) = (next.flow, Text::new(std::mem::take(&mut next.text)));
-        let place = self.carrier.log().len();
+        let place = self.world.place();
         self.carry(|carrier| carrier.offer(flow, text))?;
         let notices = self.program(host)?.gone(flow, next.into_parcel(), place);
         self.tell(host, notices);
@@ -119,7 +185,7 @@ impl<'a, C: Carrier> World<'a, C> {
     /// A host takes what waits for it. Answers whether there was something.
     fn take(&mut self, host: Host) -> Result<bool, Refusal> {
         self.program(host)?;
-        let place = self.carrier.log().len();
+        let place = self.world.place();
         let Some(inbound) = self.carry(|carrier| carrier.take(host))? else { return Ok(false) };
         let notices = self.program(host)?.accept(&inbound, place);
         self.tell(host, notices);
@@ -129,20 +195,25 @@ impl<'a, C: Carrier> World<'a, C> {
     /// This many rounds, in each of which every host that is up takes what waits and then offers what it has, until one changes
     /// nothing.
     fn calm(&mut self, rounds: u32) {
-        let hosts = self.hosts.clone();
         for _ in 0..rounds {
-            let before = self.carrier.log().len();
-            let is_settled = self.carrier.quiet_round();
-            for host in &hosts {
-                if self.carrier.is_up(*host) {
-                    repeat(TAKES, || self.take(*host));
-                    repeat(OFFERS, || self.offer(*host));
-                }
-            }
-            if (is_settled && self.carrier.log().len() == before) || self.printer.has_failed() {
+            if self.round() || self.printer.has_failed() {
                 return;
             }
         }
+    }
+
+    /// A round of a calm. Answers whether it changed nothing, so that no further one would.
+    pub fn round(&mut self) -> bool {
+        let hosts = self.world.hosts.clone();
+        let before = self.world.carrier.log().len();
+        let is_settled = self.world.carrier.quiet_round();
+        for host in hosts.iter() {
+            if self.world.carrier.is_up(*host) {
+                repeat(TAKES, || self.take(*host));
+                repeat(OFFERS, || self.offer(*host));
+            }
+        }
+        is_settled && self.world.carrier.log().len() == before
     }
 
     // What users ask for.
@@ -158,9 +229,9 @@ impl<'a, C: Carrier> World<'a, C> {
     fn request(&mut self, host: Host, request: &Request) -> Result<Vec<Notice>, Refusal> {
         let notices = self.program(host)?.ask(request)?;
         match *request {
-            Request::Contact(peer) => self.book.contact(host, peer, self.carrier.log().len()),
-            Request::Send(socket, ref bits) => self.book.hand(host, socket, bits),
-            Request::Grant { socket, messages, bits } => self.book.grant(host, socket, messages, bits),
+            Request::Contact(peer) => self.world.book.contact(host, peer, self.world.place()),
+            Request::Send(socket, ref bits) => self.world.book.hand(host, socket, bits),
+            Request::Grant { socket, messages, bits } => self.world.book.grant(host, socket, messages, bits),
             _ => (),
         }
         Ok(notices)
@@ -186,9 +257,9 @@ impl<'a, C: Carrier> World<'a, C> {
 
     /// Writes notices into the book; then prints each, and what the host's services make of it.
     fn tell(&mut self, host: Host, notices: Vec<Notice>) {
-        let crossings = self.carrier.log().len();
+        let crossings = self.world.place();
         for notice in &notices {
-            self.book.tell(host, crossings, notice.clone());
+            self.world.book.tell(host, crossings, notice.clone());
         }
         for notice in notices {
             self.print_notice(host, &notice);
@@ -214,7 +285,7 @@ impl<'a, C: Carrier> World<'a, C> {
     /// A service reports something. What follows a machine that is done begins at once.
     fn report(&mut self, host: Host, place: usize, report: Report) {
         self.print_report(host, &report);
-        self.book.report(host, report.clone());
+        self.world.book.report(host, report.clone());
         match report {
             Report::Line(_) => (),
             Report::Failed(..) => self.seat(host).services.ended(place, None),

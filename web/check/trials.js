@@ -125,7 +125,7 @@ export function measured({ $, all, want, wrong }) {
         $("sheet").getBoundingClientRect().height > 60 || $("pane").getBoundingClientRect().height > 60,
         "neither the script nor a table has room",
     );
-    want($("map").getBoundingClientRect().height > 100, "the map has no room");
+    want($("map").getBoundingClientRect().height > Math.min(100, 0.35 * room.height), "the map has no room");
     want($("pane").scrollWidth <= $("pane").clientWidth + 1, "the table is " + $("pane").scrollWidth + " wide");
     for (const it of all("#head button, #foot button, #tabs button")) {
         const box = it.getBoundingClientRect();
@@ -170,6 +170,41 @@ export function measured({ $, all, want, wrong }) {
 }
 
 /**
+ * The map and the step buttons are in reach without scrolling, also where the page is low, and the present step is seen
+ * in the script.
+ *
+ * @param {Page} page
+ */
+export function reached({ $, one, press, want }) {
+    if (!one(".row.current")) press("next");
+    const { clientHeight: height, scrollHeight } = document.documentElement;
+    want(scrollHeight <= 2.5 * height, "the page is " + scrollHeight + " high at " + height);
+    for (const id of ["map", "next", "back", "slider"]) {
+        const box = $(id).getBoundingClientRect();
+        want(box.top >= -1 && box.bottom <= height + 1, id + " is out of reach: " + Math.round(box.top));
+    }
+    const row = one(".row.current");
+    const [box, frame] = [row, one(".sheet-scroll")].map((it) => it.getBoundingClientRect());
+    want(box.top >= frame.top && box.bottom <= frame.bottom + 1, "the script isn't at the present step");
+}
+
+/**
+ * An address that is cut off, and one with the name of no lesson, open nothing else without a word.
+ *
+ * @param {Page} page
+ */
+export async function unopened({ $, load, until, want }) {
+    await load("lo-of-login");
+    for (const [hash, words] of [["#s=abc", /cut off/], ["#e=late-seventies-x", /no lesson late-seventies-x/]]) {
+        location.hash = String(hash);
+        await until(() => !$("toast").hidden && RegExp(words).test($("toast").textContent), "why nothing is opened");
+        want($("lesson").value === "lo-of-login", "another script is opened");
+    }
+    await load("first-message");
+    want($("toast").hidden, "what was said of the address stays over another script");
+}
+
+/**
  * Texts that have to be read have contrast enough.
  *
  * @param {Page} page
@@ -191,13 +226,15 @@ export function contrast({ all, want }) {
         return [255, 255, 255];
     };
     const read = ["#label", "#sentence", ".row .text", ".row .number", ".row .steps", ".head", ".soft", "#count"];
-    const more = ["#legend span", ".wait p", ".wait h3", "th", "td", "#tabs button", ".holds dt", ".holds dd"];
+    const marks = ".chart .mark text:not(.plate)";
+    const more = [marks, "#legend span", ".wait p", ".wait h3", "th", "td", "#tabs button", ".holds dt", ".holds dd"];
     for (const it of all([...read, ...more].join())) {
         if (!it.textContent.trim() || !it.getBoundingClientRect().width) continue;
         const back = ground(it);
         let opacity = 1;
         for (let at = it; at; at = at.parentElement) opacity *= Number(getComputedStyle(at).opacity);
-        const front = parse(getComputedStyle(it).color).slice(0, 3).map(
+        const style = getComputedStyle(it);
+        const front = parse(it.closest("svg") ? style.fill : style.color).slice(0, 3).map(
             (value, place) => value * opacity + back[place] * (1 - opacity),
         );
         const [a, b] = [light(front), light(back)].sort((x, y) => y - x);

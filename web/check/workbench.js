@@ -16,10 +16,10 @@ import * as trials from "./trials.js";
 
 const WIDE = /** @type {[number, number]} */ ([1440, 900]);
 const SIZES = /** @type {[number, number][]} */ (
-    [[360, 640], [390, 844], [844, 390], [720, 450], [1024, 768], [1280, 720], WIDE]
+    [[360, 640], [390, 844], [844, 390], [740, 360], [640, 320], [512, 384], [320, 256], [720, 450], [1024, 768], [1280, 720], WIDE]
 );
 const LARGER = /** @type {[number, number][]} */ ([[1024, 768], WIDE]);
-const MOST_OCTETS = 900_000;
+const MOST_OCTETS = 950_000;
 const SHOWN = [
     "lo-of-login",
     "arpanet-of-december-1969",
@@ -100,6 +100,21 @@ const PLANTED = /** @type {Planted[]} */ ([
         by: "measured",
         size: [720, 450],
         words: "has room",
+    },
+    {
+        what: "a low page whose step buttons are at its end",
+        from: STYLE,
+        to: `:root[data-low] body { display: block !important; height: auto !important }${STYLE}`,
+        by: "reached",
+        size: [740, 360],
+        words: "out of reach",
+    },
+    {
+        what: "an address that is cut off is opened as none",
+        from: 'if (place === "cut") return this.unopened(CUT);',
+        to: 'if (place === "cut") return false;',
+        by: "unopened",
+        words: "why nothing is opened",
     },
     {
         what: "buttons that do not fit",
@@ -232,7 +247,8 @@ async function whole(browser, address) {
         steps += await browser.evaluate('return Number(document.getElementById("slider").max);');
     }
     const { keys, tapped, holding, distances, compared, printed, hidden, typed, measured, contrast } = trials;
-    for (const body of [keys, tapped, holding, distances, compared, printed, hidden, typed]) {
+    const { reached, unopened } = trials;
+    for (const body of [unopened, keys, tapped, holding, distances, compared, printed, hidden, typed]) {
         wrong.push(...(await trial(browser, [body])));
     }
     let places = 0;
@@ -240,7 +256,8 @@ async function whole(browser, address) {
         await browser.resize(width, height);
         for (const name of SHOWN) {
             for (const part of [0, 0.35, 0.8]) {
-                const found = await trial(browser, [openAt, [name, part]], [measured], [contrast]);
+                const tried = /** @type {[Trial, any?][]} */ ([[openAt, [name, part]], [measured], [contrast]]);
+                const found = await trial(browser, ...tried, ...(part ? [/** @type {[Trial]} */ ([reached])] : []));
                 wrong.push(...found.map((it) => `${name} at ${width} by ${height}: ${it}`));
                 places += 1;
             }

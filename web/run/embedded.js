@@ -1,5 +1,5 @@
 /**
- * The program in a page: the packer (dorydate.wasm.pack) puts the module and the worker into data blocks, which
+ * The program in a page: the packer (workshop.wasm.pack) puts the module and the worker into data blocks, which
  * the page opens without a request.
  */
 
@@ -8,7 +8,7 @@ import { makeRunner } from "./runner.js";
 /** @typedef {import("./runner.js").Runner} Runner */
 
 /**
- * What a module says of itself, in a section that is made with it (dorydate.wasm.make).
+ * What a module says of itself, in a section that is made with it (workshop.wasm.make).
  *
  * @typedef {object} Note
  * @property {boolean} proved whether it is the module of a proved program

@@ -1,6 +1,7 @@
 /** The workbench: one script, its replay, and the step at which one is. */
 
 import { chartOf } from "./chart.js";
+import { arrangement } from "./arrangement.js";
 import { addedLines, goOn } from "./edits.js";
 import { faultOf } from "./faults.js";
 import { History } from "./fold.js";
@@ -9,7 +10,7 @@ import { keepText, storedText } from "./kept.js";
 import { Past } from "./past.js";
 import { isReplay, replay } from "./runs.js";
 import { headComment, notesOf, readInput } from "./script.js";
-import { fragment, placeIn } from "./share.js";
+import { CUT, fragment, noLesson, placeIn } from "./share.js";
 import { stopAt, stopsOf } from "./stops.js";
 import { Talk } from "./talk.js";
 import { messageName, waitsOf } from "./waits.js";
@@ -81,6 +82,8 @@ export class Workbench {
     network = /** @type {SVGElement} */ (/** @type {unknown} */ (byId("network")));
     /** @type {MapView | null} */
     map = null;
+    /** @type {string} why an address wasn't opened, "" once that was said */
+    why = "";
 
     /**
      * @param {Runner} runner
@@ -163,9 +166,11 @@ export class Workbench {
     /** Arranges the regions by the room that there is for text of the chosen size. */
     arrange() {
         const root = document.documentElement;
-        const width = (root.clientWidth * 16) / parseFloat(getComputedStyle(root).fontSize);
-        root.dataset.layout = width >= 960 ? "wide" : width > 560 ? "mid" : "narrow";
-        root.toggleAttribute("data-tight", width < 1340);
+        const scale = 16 / parseFloat(getComputedStyle(root).fontSize);
+        const { layout, isLow } = arrangement(root.clientWidth * scale, window.innerHeight * scale);
+        root.dataset.layout = layout;
+        root.toggleAttribute("data-low", isLow);
+        root.toggleAttribute("data-tight", root.clientWidth * scale < 1340);
         this.draw();
     }
 
@@ -232,9 +237,10 @@ export class Workbench {
         if (window.location.hash === "#lessons") this.index.open();
         const place = await placeIn(window.location.hash);
         if (!place) return false;
+        if (place === "cut") return this.unopened(CUT);
         const example = this.examples.find((it) => it.name === place.example);
         const text = place.text ?? example?.text;
-        if (text === undefined) return false;
+        if (text === undefined) return this.unopened(noLesson(place.example ?? "", this.examples.map((it) => it.name)));
         this.example = example?.name ?? "";
         this.open(text);
         this.grain = /** @type {Grain} */ (place.grain);
@@ -246,8 +252,20 @@ export class Workbench {
         return true;
     }
 
+    /**
+     * Says why an address isn't opened, until something else is. What was here stays, or what was here last is shown.
+     *
+     * @param {string} why
+     */
+    unopened(why) {
+        this.why = why;
+        if (this.history) this.toast.show(why, null, true);
+        return false;
+    }
+
     /** @param {string} name */
     async load(name) {
+        this.why = "";
         const example = this.examples.find((it) => it.name === name);
         if (!example) return;
         this.past.leave(this.here());
@@ -299,7 +317,9 @@ export class Workbench {
             this.history = new History(outcome);
             this.fresh();
             this.go(Math.min(position, this.history.length));
-            if (outcome.cut) this.toast.show(outcome.cut, null);
+            this.toast.hide();
+            if (this.why || outcome.cut) this.toast.show(this.why || outcome.cut, null, true);
+            this.why = "";
             return true;
         } finally {
             window.clearTimeout(slow);
@@ -593,9 +613,7 @@ export class Workbench {
         const file = /** @type {HTMLInputElement} */ (byId("file")).files?.[0];
         if (!file) return;
         const text = await textOfFile(file);
-        if (text === null) {
-            return this.toast.show(`${file.name} is not UTF-8, so it is not opened. Save it as UTF-8 first.`, null);
-        }
+        if (typeof text !== "string") return this.toast.show(`${file.name} ${text.why}`, null);
         this.past.leave(this.here());
         this.example = "";
         this.open(text);

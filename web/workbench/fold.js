@@ -48,11 +48,25 @@ export class History {
             if (isIdle(moment, before)) continue;
             const after = new State(this.network, withParts(parts, moment));
             this.notes.push(noteOf(moment, before, after, accepted));
+            this.number(this.notes[this.notes.length - 1], before);
             left.push(moment);
             parts = after.parts;
             if (left.length % KEPT_EVERY === 0) this.kept.push(parts);
         }
         this.replay.moments = left;
+    }
+
+    /**
+     * Notes the flow of a packet that is not of its flow's last message: two messages of it are alive.
+     *
+     * @param {MomentNote} note
+     * @param {State} before
+     */
+    number({ frame }, before) {
+        const packet = frame?.packet;
+        if (!packet) return;
+        const last = before.imp(impOf(packet.source))?.sources.find((it) => it.flow === packet.flow);
+        if (last && last.number !== packet.number) this.network.numbered.add(packet.flow);
     }
 
     /**

@@ -3,9 +3,12 @@
 import { block, embedded, examplesInPage } from "../run/embedded.js";
 import { Workbench } from "./app.js";
 import { arranged, opened } from "./lessons.js";
+import { lacking, wanting } from "./lacking.js";
 import { byId, say } from "./view/dom.js";
 
 async function start() {
+    const lacks = lacking(globalThis);
+    if (lacks.length) throw new Error(wanting(lacks));
     const { runner, note } = await embedded();
     byId("unproved").hidden = note.proved;
     const proved = note.proved ? "proved" : "not proved";
@@ -18,4 +21,4 @@ async function start() {
     document.documentElement.dataset.ready = "yes";
 }
 
-start().catch((why) => say(byId("sentence"), `The page does not work in this browser: ${why}`));
+start().catch((why) => say(byId("sentence"), why instanceof Error ? why.message : String(why)));

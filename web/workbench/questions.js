@@ -342,6 +342,13 @@ const PROGRAMS = {
             "No: two resets go round in step.",
         ],
     ],
+    "one-user-in-step": [
+        [
+            11,
+            "Only one user ever contacts, nothing is lost, and no host stops. Does the reset end?",
+            "No: in every other round host 0/2 learns of one more reset.",
+        ],
+    ],
     "a-half-open-connection": [
         [
             14,

@@ -1,11 +1,11 @@
 /** What happens at each moment, in sentences: for a reader who sees the map, by the names of sites. */
 
 import { TABLE } from "../../python/dorydate/sentences/table.mjs";
+import { deedSentence, isDeed } from "./deeds.js";
 import { cureOf, isReachable } from "./fates.js";
 import { why } from "./refusals.js";
 import { saying } from "./texts.js";
 import { farEnd, hostName, impName, impOf, siteName } from "./topology.js";
-import { isOfHost } from "./trace.js";
 import { ANSWERS, messageName } from "./waits.js";
 import { capital, count, filled, joinedWords, listed } from "./words.js";
 
@@ -54,8 +54,28 @@ export function sentenceOf(history, at) {
     const it = new Telling(history, at);
     const { printed, words } = it.moment;
     if (printed.length === 0) return silent(it);
+    const deed = isDeed(words[0]) && !isRefused(it) ? deedSentence(words, it.before, it.after) : "";
     const told = printed.map((line, place) => printedSentence(it, line.split(" "), it.moment.kinds[place]));
-    return joinedWords([...told, words[0] === "take" || words[0] === "out" || words[0] === "offer" ? inner(it) : ""]);
+    return joinedWords([deed, ...told, (BESIDE[words[0]] ?? nothing)(it)]);
+}
+
+/** What is said after the printed lines of an event: what it did inside. */
+const BESIDE = /** @type {{[kind: string]: (it: Telling) => string}} */ ({
+    take: inner,
+    out: inner,
+    offer: inner,
+    impdown: (it) => (isRefused(it) ? "" : impStops(it)),
+    hostdown: hostStops,
+});
+
+/** Nothing to say. */
+function nothing() {
+    return "";
+}
+
+/** @param {Telling} it */
+function isRefused({ moment }) {
+    return moment.printed[0]?.startsWith("refused ") ?? false;
 }
 
 /**
@@ -156,7 +176,7 @@ export const REASONS = /** @type {{[name: string]: string}} */ (TABLE.reasons);
  * @param {Packet} packet
  */
 export function packetName(network, packet) {
-    const message = messageName(network, packet.flow);
+    const message = messageName(network, packet.flow, packet.number);
     switch (packet.kind) {
         case "rfnm":
             return `the RFNM for ${message}`;
@@ -203,7 +223,7 @@ function sendings(it, imp, how = "sends") {
  */
 function inner(it) {
     const { network, moment, after } = it;
-    if (network.plain || moment.printed[0]?.startsWith("refused")) return "";
+    if (network.plain || isRefused(it)) return "";
     const [kind, ...words] = moment.printed[0].split(" ");
     if (kind === "in" && !it.note.sent.length && impOf(words[0]) !== impOf(words[1])) {
         const way = after.way(impOf(words[1]), impOf(words[0]));
@@ -222,7 +242,11 @@ function inner(it) {
     const waiting = after.imp(imp)?.store.filter((packet) => packet.flow === flow).length ?? 0;
     if (impOf(words[1]) === imp) return filled(INSIDE["one imp"], { imp: it.imp(imp), host: it.host(words[1]) });
     const parts = pieces.length > 1 ? `It is cut into ${pieces.length} packets.` : "";
+    const number = network.numbered.has(flow)
+        ? after.imp(imp)?.sources.find((source) => source.flow === flow)?.number
+        : undefined;
     return joinedWords([
+        number === undefined ? "" : filled(INSIDE.numbered, { number }),
         parts,
         waiting ? `${waiting === 1 ? "One waits" : `${waiting} wait`} for a free channel.` : "",
     ]);
@@ -273,14 +297,11 @@ export function hopsBetween(state, from, to) {
  * @param {Telling} it
  */
 function silent(it) {
-    const { words, parts } = it.moment;
-    const [kind, what] = words;
-    if (Object.hasOwn(TABLE["forms of programs"], kind) || kind === "take") {
-        return filled(SILENT[kind === "take" || kind === "offer" ? kind : "asked"], { host: it.host(what) });
-    }
+    const [kind, what] = it.moment.words;
+    if (isDeed(kind)) return deedSentence(it.moment.words, it.before, it.after);
+    if (kind === "take" || kind === "offer") return filled(SILENT[kind], { host: it.host(what) });
     if (kind === "quiet") return filled(SILENT.quiet, { round: it.moment.round });
-    if (!it.network.plain && !parts.some(([name]) => !isOfHost(name))) return outside(it);
-    return (INNER[kind] ?? outside)(it);
+    return ((it.network.plain ? null : INNER[kind]) ?? outside)(it);
 }
 
 const SILENT = TABLE.silent;
@@ -331,14 +352,7 @@ const INNER = {
         const far = farEnd(it.network, Number(line), Number(imp));
         return filled(INSIDE["end up"], { line, imp: it.imp(imp), far: it.imp(far), number: far });
     },
-    impdown: (it) => {
-        const held = it.before.heldBy(Number(it.moment.words[1])).length;
-        return joinedWords([
-            filled(INSIDE.stops, { imp: it.imp(it.moment.words[1]) }),
-            held ? `It held ${count(held, "packet")}.` : "",
-            "Its neighbours don't see it until their ends of its lines go down.",
-        ]);
-    },
+    impdown: impStops,
     impup: (it) => joinedWords([
         filled(INSIDE.starts, { imp: it.imp(it.moment.words[1]) }),
         "Its neighbours' ends have to be reset, too, or the first packets over them may be lost.",
@@ -436,7 +450,7 @@ function fateSentence(it) {
         case "news":
             return changedRoutes(it);
         case "same":
-            return "Its distances stay as they are.";
+            return INSIDE["distances same"];
         case "fresh":
             return taken(it);
     }
@@ -452,7 +466,57 @@ function changedRoutes(it) {
     );
     const sites = it.network.sites.filter(({ number }) => was(number) !== is(number));
     const changed = sites.map(({ number }) => `${is(number)} to ${siteName(it.network, number)}`);
-    return changed.length ? `Its distance is now ${listed(changed)}.` : "It now sends over another line.";
+    return changed.length ? filled(INSIDE["distance now"], { distances: listed(changed) }) : otherLines(it);
+}
+
+/**
+ * Over which other lines an IMP sends now.
+ *
+ * @param {Telling} it
+ */
+function otherLines({ network, before, after, note }) {
+    const ways = network.sites.flatMap(({ number }) => {
+        const { line } = after.way(note.to, number);
+        if (line < 0 || line === before.way(note.to, number).line) return [];
+        return [`to ${siteName(network, number)} by way of ${siteName(network, farEnd(network, line, note.to))}`];
+    });
+    return filled(INSIDE["other line"], { ways: listed(ways) });
+}
+
+/**
+ * What an IMP's stop does inside.
+ *
+ * @param {Telling} it
+ */
+function impStops({ network, before, moment: { words } }) {
+    const imp = Number(words[1]);
+    const held = before.heldBy(imp).map(
+        ({ packet, flow, number }) => (packet ? packetName(network, packet) : messageName(network, flow, number)),
+    );
+    return joinedWords([
+        filled(INSIDE.stops, { imp: impName(network, imp) }),
+        held.length ? filled(INSIDE["goes with it"], { what: listed([...new Set(held)]) }) : INSIDE["held nothing"],
+        INSIDE.unseen,
+    ]);
+}
+
+/**
+ * What a host's stop does inside: for each message that waits for it, its IMP sends a Dead.
+ *
+ * @param {Telling} it
+ */
+function hostStops(it) {
+    const host = it.moment.words[1];
+    const waited = it.before.box(host)?.messages ?? [];
+    if (isRefused(it) || it.network.plain || waited.length === 0) return "";
+    const what = listed(waited.map(({ flow, number }) => messageName(it.network, flow, number)));
+    const imp = impOf(host);
+    const atOnce = waited.filter(({ flow }) => impOf(flow.split(" ")[0]) === imp).map(({ flow }) => flow.split(" ")[0]);
+    return joinedWords([
+        filled(INSIDE.waited, { what }),
+        sendings(it, it.imp(imp)),
+        ...new Set(atOnce.map((source) => answerWaits(it, "dead", source))),
+    ]);
 }
 
 /** @param {Telling} it */
@@ -488,6 +552,9 @@ function answerTaken(it, packet) {
     return answerWaits(it, kind, packet.source);
 }
 
+/** How many numbers the messages of a flow have, after which they begin again; one half of them is ahead of a number. */
+const NUMBERS = 65_536;
+
 /**
  * @param {Telling} it
  * @param {Packet} packet
@@ -508,7 +575,10 @@ function dataTaken(it, packet, before, after) {
     const slot = after.imp(it.note.to)?.slots.find((pieces) => pieces[0].flow === packet.flow);
     const had = before.imp(it.note.to)?.slots.find((pieces) => pieces[0].flow === packet.flow);
     if (slot && slot.length !== had?.length) return filled(INSIDE["not whole"], { count: slot.length });
-    return was ? INSIDE.old : INSIDE.dropped;
+    const ahead = was ? (packet.number - was.number + NUMBERS) % NUMBERS : 1;
+    if (!was || (ahead > 0 && ahead < NUMBERS / 2)) return INSIDE.dropped;
+    if (ahead > 0) return filled(INSIDE.older, { imp: it.imp(it.note.to), number: was.number });
+    return was.fate === "never" ? INSIDE["noted never"] : INSIDE.old;
 }
 
 /** @param {Telling} it */

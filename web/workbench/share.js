@@ -1,5 +1,9 @@
 /** The address of what one sees: the script in it, compressed, and the place. */
 
+import { TABLE } from "../../python/dorydate/sentences/table.mjs";
+import { nearest } from "./faults.js";
+import { filled } from "./words.js";
+
 /**
  * @typedef {object} Place
  * @property {string} [text] the input
@@ -26,10 +30,11 @@ export async function fragment({ text, example, at, grain, hidden, to }) {
 }
 
 /**
- * What a fragment says, null where it says nothing that can be read.
+ * What a fragment says; null where it names neither a script nor an example, and "cut" where its script can't be
+ * unpacked: mail and chat programs cut long addresses.
  *
  * @param {string} hash
- * @returns {Promise<Place | null>}
+ * @returns {Promise<Place | "cut" | null>}
  */
 export async function placeIn(hash) {
     const parts = new Map(
@@ -48,12 +53,27 @@ export async function placeIn(hash) {
         hidden: parts.has("hide"),
         to: number("to"),
     };
-    if (example) return { ...place, example: decodeURIComponent(example) };
     try {
+        if (example) return { ...place, example: decodeURIComponent(example) };
         return { ...place, text: await unpacked(packedText ?? "") };
     } catch {
-        return null;
+        return "cut";
     }
+}
+
+/** Why an address whose script can't be unpacked isn't opened. */
+export const CUT = "The address is cut off or changed, so the script in it can't be opened. Ask for it again as a file, or in "
+    + "pieces that no mail program cuts.";
+
+/**
+ * Why an address with the name of a lesson that there isn't is not opened.
+ *
+ * @param {string} name
+ * @param {string[]} names of the lessons that there are
+ */
+export function noLesson(name, names) {
+    const near = names.find((it) => it.includes(name.replace(/-\w$/, ""))) ?? nearest(name, names);
+    return `This page has no lesson ${name}.${near ? ` ${filled(TABLE.faults.meant, { meant: near })}` : ""} Lessons lists all.`;
 }
 
 /**

@@ -19,6 +19,8 @@
  * @property {Site[]} sites the IMPs in order of their numbers
  * @property {string[]} hosts all hosts in order of IMP and host
  * @property {[number, number][]} lines the two IMPs of each line
+ * @property {Set<string>} numbered the flows whose messages are named with their numbers, since in the replay two of them
+ *   are alive at once
  */
 
 /** @typedef {any} Value a text, a whole number, a boolean, a list or a table */
@@ -190,7 +192,8 @@ export function readTopology(text) {
     const hosts = sites.flatMap((site) => Array.from({ length: site.hosts }, (_, host) => `${host}/${site.number}`));
     /** @type {[number, number][]} */
     const lines = tables(values.line).map((line) => [Number(line.a), Number(line.b)]);
-    return { plain: values.carrier === "plain", raw: values.raw === true, sites, hosts, lines };
+    const numbered = new Set();
+    return { plain: values.carrier === "plain", raw: values.raw === true, sites, hosts, lines, numbered };
 }
 
 /**

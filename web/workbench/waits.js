@@ -6,7 +6,7 @@ import { TABLE } from "../../python/dorydate/sentences/table.mjs";
 import { State } from "./state.js";
 import { sends } from "./talk.js";
 import { farEnd, hostName, impName, impOf, siteName } from "./topology.js";
-import { count, listed, possessive } from "./words.js";
+import { count, filled, listed, possessive } from "./words.js";
 
 /** @typedef {import("./talk.js").Talk} Talk */
 /** @typedef {import("./talk.js").End} End */
@@ -52,9 +52,9 @@ function messageWaits(state) {
         }
         for (const { flow } of imp?.hosts.flatMap((box) => box.answers) ?? []) {
             found.push({
-                ...wait(`The answer to ${messageName(network, flow)}`),
+                ...wait(filled(WHAT.answer, { message: messageName(network, flow) })),
                 where: impName(network, site.number),
-                for: `${hostName(network, flow.split(" ")[0])} to take it`,
+                for: filled(FOR.take, { host: hostName(network, flow.split(" ")[0]) }),
                 flow,
             });
         }
@@ -76,8 +76,8 @@ function plainWaits(state) {
                 (it) => (
                     {
                         ...wait(messageName(network, it.flow)),
-                        where: `the mailbox of ${hostName(network, host)}`,
-                        for: `${hostName(network, host)} to take it`,
+                        where: filled(AT.mailbox, { host: hostName(network, host) }),
+                        for: filled(FOR.take, { host: hostName(network, host) }),
                         flow: it.flow,
                     }
                 ),
@@ -85,9 +85,14 @@ function plainWaits(state) {
             ...box.answers.map(
                 (it) => (
                     {
-                        ...wait(`${ANSWERS[it.kind]} for ${messageName(network, it.flow)}`),
-                        where: `the mailbox of ${hostName(network, host)}`,
-                        for: `${hostName(network, host)} to take it`,
+                        ...wait(
+                            filled(
+                                WHAT["answer of a kind"],
+                                { answer: ANSWERS[it.kind], message: messageName(network, it.flow) },
+                            ),
+                        ),
+                        where: filled(AT.mailbox, { host: hostName(network, host) }),
+                        for: filled(FOR.take, { host: hostName(network, host) }),
                         flow: it.flow,
                     }
                 ),
@@ -95,6 +100,9 @@ function plainWaits(state) {
         ];
     });
 }
+
+/** What waits, where it is, and what it waits for. */
+const [WHAT, AT, FOR] = [TABLE.waits, TABLE["waits at"], TABLE["waits for"]];
 
 /** The names of answers. */
 export const ANSWERS = TABLE.answers;
@@ -109,14 +117,17 @@ export const PACKETS = {
 };
 
 /**
- * A message by its source, destination and link.
+ * A message by its source, destination and link, and by its number where two messages of its flow are alive at once.
  *
  * @param {Network} network
  * @param {string} flow
+ * @param {number} [number]
  */
-export function messageName(network, flow) {
+export function messageName(network, flow, number) {
     const [source, destination, link] = flow.split(" ");
-    return `${possessive(hostName(network, source))} message to ${hostName(network, destination)} on link ${link}`;
+    const which = number !== undefined && network.numbered.has(flow) ? ` ${number}` : "";
+    return `${possessive(hostName(network, source))} message${which} to ${hostName(network, destination)} `
+        + `on link ${link}`;
 }
 
 /**
@@ -138,14 +149,14 @@ function wait(what) {
  */
 function outstanding(state, flow, number, everything) {
     const { network } = state;
-    const told = { ...wait(messageName(network, flow)), flow };
+    const told = { ...wait(messageName(network, flow, number)), flow };
     const copies = everything.filter((it) => it.flow === flow && it.number === number);
     const far = impOf(flow.split(" ")[1]);
     if (copies.length === 0) {
         const canAsk = far !== impOf(flow.split(" ")[0]) && state.way(impOf(flow.split(" ")[0]), far).line >= 0;
         return {
             ...told,
-            for: "nothing of it is alive: ask, or give it up",
+            for: FOR["nothing alive"],
             bad: true,
             cures: [...(canAsk ? [`ask ${flow}`] : []), `giveup ${flow}`],
         };
@@ -203,39 +214,39 @@ function placeOf(state, held) {
             const host = held.flow.split(" ")[1];
             return {
                 where: `${impName(network, imp)}`,
-                for: `${hostName(network, host)} to take it`,
+                for: filled(FOR.take, { host: hostName(network, host) }),
                 bad: !state.isUp(host),
                 cures: [`take ${host}`],
             };
         }
         case "slot":
             return {
-                where: `${impName(network, imp)}, a slot with ${count(place, "piece")}`,
-                for: "its other pieces",
+                where: filled(AT.slot, { imp: impName(network, imp), pieces: place }),
+                for: FOR.pieces,
                 bad: false,
                 cures: [],
             };
         case "store":
             return {
-                where: `${what}${impName(network, imp)}, in the store`,
-                for: `a free channel towards ${siteName(network, target(held))}`,
+                where: `${what}${filled(AT.store, { imp: impName(network, imp) })}`,
+                for: filled(FOR.channel, { to: siteName(network, target(held)) }),
                 bad: false,
                 cures: [],
             };
         case "line":
             return {
-                where: `${what}on the line from ${siteName(network, imp)} to ${siteName(network, far)}`,
-                for: room || "the frame to arrive",
+                where: what + filled(AT.line, { from: siteName(network, imp), to: siteName(network, far) }),
+                for: room || FOR.arrival,
                 bad: false,
                 cures: ["calm 1"],
             };
     }
     const isDown = !state.isEndUp(far, line);
     return {
-        where: `${what}${impName(network, imp)}, channel ${channel} to ${siteName(network, far)}`,
+        where: what + filled(AT.channel, { imp: impName(network, imp), channel, to: siteName(network, far) }),
         for: isDown
-            ? `the acknowledgement of ${siteName(network, far)}, whose end of line ${line} is down`
-            : room || `the acknowledgement of ${siteName(network, far)}`,
+            ? filled(FOR["acknowledgement, down"], { imp: siteName(network, far), line })
+            : room || filled(FOR.acknowledgement, { imp: siteName(network, far) }),
         bad: isDown,
         cures: isDown ? [`enddown ${imp} ${line}`] : [],
     };
@@ -255,14 +266,14 @@ function wantOfRoom(state, imp, { packet, flow, kind }) {
     const isPiece = to === imp && kind === "data" && !(packet.last && packet.place === 0);
     const hasSlot = it.slots.length < SLOTS || it.slots.some((pieces) => pieces[0].flow === flow);
     if (isPiece && !hasSlot) {
-        return `a free slot at ${impName(state.network, imp)}: all ${SLOTS} are held`;
+        return filled(FOR.slot, { imp: impName(state.network, imp), slots: SLOTS });
     }
     const stored = it.store.length + it.ports.reduce(
         (sum, port) => sum + port.sending.filter((channel) => channel.packet).length,
         0,
     );
     return to !== imp && stored >= PLACES
-        ? `room at ${impName(state.network, imp)}: its ${PLACES} places are taken`
+        ? filled(FOR.room, { imp: impName(state.network, imp), places: PLACES })
         : "";
 }
 
@@ -283,17 +294,17 @@ function connectionWaits(state, talk) {
     for (const { host, peer, state: phase } of talk.contacts) {
         if (phase === "asked") {
             found.push({
-                ...wait(`${possessive(hostName(network, host))} contact with ${hostName(network, peer)}`),
-                for: `the RRP of ${hostName(network, peer)}, after the RFNM for its own RST`,
+                ...wait(filled(WHAT.contact, { host: hostName(network, host), peer: hostName(network, peer) })),
+                for: filled(FOR.RRP, { peer: hostName(network, peer) }),
                 bad: !talk.up.get(peer),
             });
         }
     }
     for (const { host, peer, socket } of talk.users.values()) {
-        const what = `The initial connection of ${hostName(network, host)} with ${hostName(network, peer)}`;
+        const what = filled(WHAT.initial, { host: hostName(network, host), peer: hostName(network, peer) });
         found.push({
             ...wait(what),
-            for: `its server on socket ${socket} of ${hostName(network, peer)}`,
+            for: filled(FOR.server, { socket, peer: hostName(network, peer) }),
             bad: !talk.up.get(peer),
         });
     }
@@ -312,14 +323,14 @@ function endWaits(network, talk, end) {
     if (end.state === "asked") {
         return [
             {
-                ...wait(`The request from ${at}`),
-                for: `${hostName(network, end.peer)} to ask for the same connection, or to listen on socket `
-                    + end.foreign,
+                ...wait(filled(WHAT.request, { end: at })),
+                for: filled(FOR.request, { peer: hostName(network, end.peer), socket: end.foreign }),
             },
         ];
     }
     if (end.state === "closing") {
-        return [{ ...wait(`The close of ${at}`), for: `the CLS of ${hostName(network, end.peer)}` }];
+        const peer = hostName(network, end.peer);
+        return [{ ...wait(filled(WHAT.close, { end: at })), for: filled(FOR.CLS, { peer }) }];
     }
     if (!sends(end.socket) || end.state !== "open" || end.handed <= end.bits) return [];
     return [bitsThatWait(network, talk, end, at)];
@@ -341,18 +352,16 @@ function bitsThatWait(network, talk, end, at) {
     const bits = Math.max(end.heardBits - end.backBits - end.bits, 0);
     const isShort = messages < 1 || bits < (end.size || 1);
     const whose = end.service ? "service" : "program";
-    const granted = `${count(messages, "message")} and ${count(bits, "bit")}`;
+    const granted = { messages: count(messages, "message"), bits: count(bits, "bit") };
+    const [host, peer] = [hostName(network, end.host), hostName(network, end.peer)];
     const waiting = {
-        ...wait(`${count(left, "bit")} on ${at}`),
-        where: `${possessive(hostName(network, end.host))} ${whose}; ${granted} are left of the grant`,
+        ...wait(filled(WHAT.bits, { bits: left, end: at })),
+        where: filled(AT.program, { host, whose, ...granted }),
     };
-    const peer = hostName(network, end.peer);
-    if (!isShort) return { ...waiting, for: `${hostName(network, end.host)} to offer`, cures: [`offer ${end.host}`] };
-    if (mate && isOnItsWay(end, mate)) {
-        return { ...waiting, for: `the grant of ${peer} to come (ALL)`, cures: ["calm 1"] };
-    }
-    if (mate?.service) return { ...waiting, for: `a grant of ${possessive(peer)} service`, cures: ["calm 1"] };
-    return { ...waiting, for: `a grant of ${peer}`, bad: true, cures: [`grant ${end.peer} ${end.foreign} 1 ${left}`] };
+    if (!isShort) return { ...waiting, for: filled(FOR.offer, { host }), cures: [`offer ${end.host}`] };
+    if (mate && isOnItsWay(end, mate)) return { ...waiting, for: filled(FOR.ALL, { peer }), cures: ["calm 1"] };
+    if (mate?.service) return { ...waiting, for: filled(FOR.service, { peer }), cures: ["calm 1"] };
+    return { ...waiting, for: filled(FOR.grant, { peer }), bad: true, cures: [`grant ${end.peer} ${end.foreign} 1 ${left}`] };
 }
 
 /**
@@ -386,8 +395,8 @@ function deadNeighbours(state) {
         if (ends.length === 0) return [];
         return [
             {
-                ...wait(`${impName(network, number)} is down, and its neighbours don't see it`),
-                for: "its neighbours' ends of its lines to go down",
+                ...wait(filled(WHAT.unseen, { imp: impName(network, number) })),
+                for: FOR.ends,
                 bad: true,
                 cures: ends,
             },
@@ -407,7 +416,7 @@ export function grouped(network, waits) {
     const groups = new Map();
     for (const it of waits) {
         const pair = it.flow.split(" ").slice(0, 2).join(" ");
-        const isAnswer = it.what.startsWith("The answer");
+        const isAnswer = it.what.startsWith("the answer");
         const key = it.flow
             ? `${isAnswer}|${pair}|${it.where.replace(/channel \d+/, "channel")}|${it.for}`
             : `${it.what}|${it.where}|${it.for}`;
@@ -418,7 +427,7 @@ export function grouped(network, waits) {
         if (group.length === 1) return { ...first, count: 1 };
         const [source, destination] = first.flow.split(" ");
         const links = listed(group.map((it) => it.flow.split(" ")[2]), 16);
-        const start = first.what.startsWith("The answer") ? `The answers to ${group.length}` : String(group.length);
+        const start = first.what.startsWith("the answer") ? `the answers to ${group.length}` : String(group.length);
         const ends = `from ${hostName(network, source)} to ${hostName(network, destination)}`;
         const what = `${start} messages ${ends}, links ${links}`;
         const where = first.where.replace(/channel \d+/, "channels");

@@ -89,21 +89,21 @@ module _ (strange : Host → Bool) where
   answer_among s kind f stamp off order =
       ap (λ (q : PairState). heard (without_strangers strange s) q) (pair_among strange f.destination s.peers off)
       ∙ by (same_host s.own f.source) (is_busy (pair_with f.destination s.peers).busy f.link.0) where
-    work : TurnState → TurnState
-    work t = answered_turn f.destination kind f.link.0 t
+        work : TurnState → TurnState
+        work t = answered_turn f.destination kind f.link.0 t
 
-    -- an answer that finds this pair
-    heard : NcpState → PairState → NcpState × List Notice
-    heard x q =
-        if same_host s.own f.source
-        then (if is_busy q.busy f.link.0 then after_turn x f.destination (work (record { pair = q; listening = s.listening; notices = [] })) else (x, []))
-        else (x, [])
+        -- an answer that finds this pair
+        heard : NcpState → PairState → NcpState × List Notice
+        heard x q =
+            if same_host s.own f.source
+            then (if is_busy q.busy f.link.0 then after_turn x f.destination (work (record { pair = q; listening = s.listening; notices = [] })) else (x, []))
+            else (x, [])
 
-    by : (b c : Bool) → (if b then (if c then after_turn (without_strangers strange s) f.destination (work (turn_of s f.destination)) else (without_strangers strange s, [])) else (without_strangers strange s, []))
-        ≡ Without (if b then (if c then after_turn s f.destination (work (turn_of s f.destination)) else (s, [])) else (s, []))
-    by true true = after_among s f.destination (work (turn_of s f.destination)) off order
-    by true false = refl
-    by false c = refl
+        by : (b c : Bool) → (if b then (if c then after_turn (without_strangers strange s) f.destination (work (turn_of s f.destination)) else (without_strangers strange s, [])) else (without_strangers strange s, []))
+            ≡ Without (if b then (if c then after_turn s f.destination (work (turn_of s f.destination)) else (s, [])) else (s, []))
+        by true true = after_among s f.destination (work (turn_of s f.destination)) off order
+        by true false = refl
+        by false c = refl
 
   pub answer_aside : (s : NcpState) (kind : Answer) (f : Flow) (stamp : ℕ) → strange f.destination ≡ true
       → without_strangers strange (accepted s (inbound.Answer kind f) stamp).0 ≡ without_strangers strange s

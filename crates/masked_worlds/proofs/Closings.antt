@@ -90,14 +90,14 @@ more_stops l before now neither k = by (l.socket == k) refl where
 all_left : (before now : List Listener) → OnlyStop before now → left before now before ≡ now
 all_left before now only =
     filter_alike (λ k. not (stops before now k)) only.0 before before (λ k on. on) (λ k on. agree k on) ∙ sym only.1 where
-  agree : (k : ℕ) → listens_on k before ≡ true → not (stops before now k) ≡ only.0 k
-  agree k on =
-      let still : listens_on k now ≡ (only.0 k && true) =
-      ap (listens_on k) only.1 ∙ listens_left only.0 k before ∙ ap (λ (b : Bool). only.0 k && b) on in
-      rw (on, still) (by (only.0 k)) where
-    by : (b : Bool) → not (not (b && true)) ≡ b
-    by true = refl
-    by false = refl
+      agree : (k : ℕ) → listens_on k before ≡ true → not (stops before now k) ≡ only.0 k
+      agree k on =
+          let still : listens_on k now ≡ (only.0 k && true) =
+          ap (listens_on k) only.1 ∙ listens_left only.0 k before ∙ ap (λ (b : Bool). only.0 k && b) on in
+          rw (on, still) (by (only.0 k)) where
+            by : (b : Bool) → not (not (b && true)) ≡ b
+            by true = refl
+            by false = refl
 
 -- ---- the moments
 

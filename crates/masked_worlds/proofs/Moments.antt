@@ -256,9 +256,9 @@ module _ (orders : Orders) (strange : Host → Bool) (hosts : List Host) where
         let mine : strange m.flow.destination ≡ false = subst (λ (h : Host). strange h ≡ false) to off in
         let turned : program m.flow.destination (Crossed (crossing.In m) ∷ moments) ≡ (accepted (program m.flow.destination moments) (inbound.Message m) (places moments)).0 = (rw (same_host-refl m.flow.destination) refl) in
         let done : program a (closed m.flow.destination (stopped (program m.flow.destination moments).listening (accepted (program m.flow.destination moments) (inbound.Message m) (places moments)).0.listening) filling)
-            ≡ without_strangers strange (accepted (program a moments) (inbound.Message m) (places moments)).0 =
+        ≡ without_strangers strange (accepted (program a moments) (inbound.Message m) (places moments)).0 =
         subst (λ (h : Host). program a (closed h (stopped (program h moments).listening (accepted (program h moments) (inbound.Message m) (places moments)).0.listening) filling)
-            ≡ without_strangers strange (accepted (program a moments) (inbound.Message m) (places moments)).0) to (here (from_stranger m.flow g is mine)) in
+        ≡ without_strangers strange (accepted (program a moments) (inbound.Message m) (places moments)).0) to (here (from_stranger m.flow g is mine)) in
         ap (λ (b : Bool). program a (if b then filling else closed m.flow.destination (stopped (program m.flow.destination moments).listening (program m.flow.destination (Crossed (crossing.In m) ∷ moments)).listening) filling)) mine
         ∙ ap (λ (s : NcpState). program a (closed m.flow.destination (stopped (program m.flow.destination moments).listening s.listening) filling)) turned ∙ done
   crossing_aside a g (crossing.Answer kind f) moments ms off is mixed same =
@@ -290,12 +290,12 @@ module _ (orders : Orders) (strange : Host → Bool) (hosts : List Host) where
   masked_program a [] off mixed = refl
   masked_program a (Crossed c ∷ moments) off mixed =
       by (stranger_in strange c) refl (masked_program a moments off (older (Crossed c) moments mixed)) (ordered a moments off (older (Crossed c) moments mixed)) where
-    by : (o : Option Host) → stranger_in strange c ≡ o → program a (masked_moments strange hosts moments) ≡ without_strangers strange (program a moments) → AreInOrder (program a moments).peers
-        → program a (masked_crossing strange hosts o c moments (masked_moments strange hosts moments)) ≡ without_strangers strange (program_after a (places moments) (Crossed c) (program a moments))
-    by None e same order =
-        ap (λ (n : ℕ). program_after a n (Crossed c) (program a (masked_moments strange hosts moments))) (masked_places moments)
-        ∙ ap (λ (s : NcpState). program_after a (places moments) (Crossed c) s) same ∙ crossing_among a c moments off e mixed order
-    by (Some g) e same order = crossing_aside a g c moments (masked_moments strange hosts moments) off e mixed same
+        by : (o : Option Host) → stranger_in strange c ≡ o → program a (masked_moments strange hosts moments) ≡ without_strangers strange (program a moments) → AreInOrder (program a moments).peers
+            → program a (masked_crossing strange hosts o c moments (masked_moments strange hosts moments)) ≡ without_strangers strange (program_after a (places moments) (Crossed c) (program a moments))
+        by None e same order =
+            ap (λ (n : ℕ). program_after a n (Crossed c) (program a (masked_moments strange hosts moments))) (masked_places moments)
+            ∙ ap (λ (s : NcpState). program_after a (places moments) (Crossed c) s) same ∙ crossing_among a c moments off e mixed order
+        by (Some g) e same order = crossing_aside a g c moments (masked_moments strange hosts moments) off e mixed same
   masked_program a (Asked h r ∷ moments) off mixed =
       request_same a h r moments (masked_moments strange hosts moments) off (masked_places moments) (ordered a moments off (older (Asked h r) moments mixed))
       (masked_program a moments off (older (Asked h r) moments mixed)) (strange h) (is_of_stranger strange (peer_of (program h moments) r)) refl refl
@@ -360,14 +360,14 @@ module _ (orders : Orders) (strange : Host → Bool) (hosts : List Host) where
     by (Some g) e t = closed_in_time g c moments e mixed t
   masked_timeline (Asked h r ∷ moments) mixed =
       by (strange h) refl (is_of_stranger strange (peer_of (program h moments) r)) refl (masked_timeline moments (older (Asked h r) moments mixed)) where
-    by : (b : Bool) → strange h ≡ b → (c : Bool) → is_of_stranger strange (peer_of (program h moments) r) ≡ c → IsTimeline hosts (masked_moments strange hosts moments)
-        → IsTimeline hosts (if b || c then masked_moments strange hosts moments else Asked h r ∷ masked_moments strange hosts moments)
-    by true e c f t = t
-    by false e true f t = t
-    by false e false f t =
-        let may : Happens hosts (Asked h r) moments = mixed.happen.0 e in
-        let same : program h (masked_moments strange hosts moments) ≡ without_strangers strange (program h moments) = masked_program h moments e (older (Asked h r) moments mixed) in
-        ((up_among h moments e ∙ may.0, may.1, ap (λ (s : NcpState). refusal s r) same ∙ refusal_among strange (program h moments) r f may.2, may.3), t)
+        by : (b : Bool) → strange h ≡ b → (c : Bool) → is_of_stranger strange (peer_of (program h moments) r) ≡ c → IsTimeline hosts (masked_moments strange hosts moments)
+            → IsTimeline hosts (if b || c then masked_moments strange hosts moments else Asked h r ∷ masked_moments strange hosts moments)
+        by true e c f t = t
+        by false e true f t = t
+        by false e false f t =
+            let may : Happens hosts (Asked h r) moments = mixed.happen.0 e in
+            let same : program h (masked_moments strange hosts moments) ≡ without_strangers strange (program h moments) = masked_program h moments e (older (Asked h r) moments mixed) in
+            ((up_among h moments e ∙ may.0, may.1, ap (λ (s : NcpState). refusal s r) same ∙ refusal_among strange (program h moments) r f may.2, may.3), t)
 
   pub moments_run : (moments : List Moment) → IsMixed strange hosts moments → mail.IsRun hosts (crossings_of (masked_moments strange hosts moments))
   moments_run moments mixed = subst (mail.IsRun hosts) (sym (masked_crossings moments)) (masked_run strange hosts mixed.strangers (crossings_of moments) mixed.run)

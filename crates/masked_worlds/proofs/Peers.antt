@@ -171,19 +171,19 @@ module _ (strange : Host → Bool) where
   placed_kept p n [] off above = kept p [] off
   placed_kept p n (q ∷ qs) off above =
       by (nat_lt (address_octet q.host) (address_octet p.host)) refl (same_host p.host q.host) refl (strange q.host) refl (placed_kept p (address_octet q.host) qs off above.2) where
-    by : (b : Bool) → nat_lt (address_octet q.host) (address_octet p.host) ≡ b → (c : Bool) → same_host p.host q.host ≡ c → (d : Bool) → strange q.host ≡ d
-        → among strange (placed p qs) ≡ placed p (among strange qs)
-        → among strange (if b then q ∷ placed p qs else (if c then p ∷ qs else p ∷ q ∷ qs)) ≡ placed p (among strange (q ∷ qs))
-    by true before c e true on rest = left_out q (placed p qs) on ∙ rest ∙ ap (placed p) (sym (left_out q qs on))
-    by true before c e false in_it rest = kept q (placed p qs) in_it ∙ ap (λ (ps : List Peer). q ∷ ps) rest ∙ (rw (kept q qs in_it, before) refl)
-    by false before true e true on rest =
-        absurd (let is : strange q.host ≡ false = subst (λ (h : Host). strange h ≡ false) (same_host-true p.host q.host e) off in let clash : true ≡ false = sym on ∙ is in cc)
-    by false before true e false in_it rest = kept p qs off ∙ (rw (kept q qs in_it, before, e) refl)
-    by false before false e true on rest =
-        kept p (q ∷ qs) off ∙ ap (λ (ps : List Peer). p ∷ ps) (left_out q qs on)
-        ∙ sym (ap (placed p) (left_out q qs on)
-        ∙ placed_first p (address_octet q.host) (among strange qs) (omega (arith, ltb-false (address_octet q.host) (address_octet p.host) before)) (among_above (address_octet q.host) qs above.2))
-    by false before false e false in_it rest = kept p (q ∷ qs) off ∙ ap (λ (ps : List Peer). p ∷ ps) (kept q qs in_it) ∙ (rw (kept q qs in_it, before, e) refl)
+        by : (b : Bool) → nat_lt (address_octet q.host) (address_octet p.host) ≡ b → (c : Bool) → same_host p.host q.host ≡ c → (d : Bool) → strange q.host ≡ d
+            → among strange (placed p qs) ≡ placed p (among strange qs)
+            → among strange (if b then q ∷ placed p qs else (if c then p ∷ qs else p ∷ q ∷ qs)) ≡ placed p (among strange (q ∷ qs))
+        by true before c e true on rest = left_out q (placed p qs) on ∙ rest ∙ ap (placed p) (sym (left_out q qs on))
+        by true before c e false in_it rest = kept q (placed p qs) in_it ∙ ap (λ (ps : List Peer). q ∷ ps) rest ∙ (rw (kept q qs in_it, before) refl)
+        by false before true e true on rest =
+            absurd (let is : strange q.host ≡ false = subst (λ (h : Host). strange h ≡ false) (same_host-true p.host q.host e) off in let clash : true ≡ false = sym on ∙ is in cc)
+        by false before true e false in_it rest = kept p qs off ∙ (rw (kept q qs in_it, before, e) refl)
+        by false before false e true on rest =
+            kept p (q ∷ qs) off ∙ ap (λ (ps : List Peer). p ∷ ps) (left_out q qs on)
+            ∙ sym (ap (placed p) (left_out q qs on)
+            ∙ placed_first p (address_octet q.host) (among strange qs) (omega (arith, ltb-false (address_octet q.host) (address_octet p.host) before)) (among_above (address_octet q.host) qs above.2))
+        by false before false e false in_it rest = kept p (q ∷ qs) off ∙ ap (λ (ps : List Peer). p ∷ ps) (kept q qs in_it) ∙ (rw (kept q qs in_it, before, e) refl)
 
   pub put_among : (h : Host) (q : PairState) (ps : List Peer) → strange h ≡ false → AreInOrder ps → among strange (with_pair h q ps) ≡ with_pair h q (among strange ps)
   put_among h q ps off order = by (is_opening q) where

@@ -204,14 +204,14 @@ module _ (orders : Orders) (strange : Host → Bool) (hosts : List Host) where
   closed_book h (k ∷ sockets) κ ms none same =
       let rest : SameBook strange κ (kept_in (closed h sockets ms)) × ((kept_in (closed h sockets ms)).book.lives ≡ (kept_in ms).book.lives) = closed_book h sockets κ ms (λ j on. none j (later j on)) same in
       (closed_aside strange h k κ (kept_in (closed h sockets ms)) (subst (NoneOf (lives_at h k)) (sym rest.1) (none k first)) rest.0, rest.1) where
-    first : list_any (λ j. j == k) (k ∷ sockets) ≡ true
-    first = rw (eq-eqb k k refl) refl
+        first : list_any (λ j. j == k) (k ∷ sockets) ≡ true
+        first = rw (eq-eqb k k refl) refl
 
-    later : (j : ℕ) → list_any (λ i. i == j) sockets ≡ true → list_any (λ i. i == j) (k ∷ sockets) ≡ true
-    later j on = by (k == j) where
-      by : (b : Bool) → (b || list_any (λ i. i == j) sockets) ≡ true
-      by true = refl
-      by false = on
+        later : (j : ℕ) → list_any (λ i. i == j) sockets ≡ true → list_any (λ i. i == j) (k ∷ sockets) ≡ true
+        later j on = by (k == j) where
+          by : (b : Bool) → (b || list_any (λ i. i == j) sockets) ≡ true
+          by true = refl
+          by false = on
 
   module _ (moments : List Moment) (mixed : IsMixed strange hosts moments) (same : SameBook strange (mixed_kept strange moments) (kept_in (masked_moments strange hosts moments))) where
     -- the lives in question

@@ -164,8 +164,8 @@ module _ (orders : Orders) (strange : Host → Bool) (hosts : List Host) (a : Ho
         acts a k g (λ x. served_notices (program x moments) r) (program a moments) (served (program a moments) r) κ (λ x. asked x r κ)
         (λ e. request_holds a k (program a moments) r κ order (own_request g r moments mixed e).2 old)
         (λ e. asked_away a k g r κ (other_way (same_host g a) refl e)) old where
-      other_way : (b : Bool) → same_host g a ≡ b → same_host a g ≡ false → b ≡ false
-      other_way b is e = sym is ∙ same_host-sym g a ∙ e
+          other_way : (b : Bool) → same_host g a ≡ b → same_host a g ≡ false → b ≡ false
+          other_way b is e = sym is ∙ same_host-sym g a ∙ e
 
     -- a moment of a stranger
     strange_moment : (x : Moment) (s : NcpState) (κ : Kept) → Holds a k s κ → Holds a k s (crossed_only x κ)

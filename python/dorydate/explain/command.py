@@ -27,8 +27,7 @@ from dorydate.explain.logs import explained
 from dorydate.explain.runs import CannotTell, Replayed, kept_program, lives, replay
 from dorydate.explain.telling import said_beside, telling
 from dorydate.explain.topology import is_raw, network_by
-from dorydate.parts import ROOT
-from dorydate.program import MOST_OCTETS
+from dorydate.program import MOST_OCTETS, ROOT
 
 MOST_OF_LOG = 268_435_456  # octets of a log that is read here
 USAGE = """usage: ./explain [--chart [--short] | --page [OTHER-FILE]] < FILE

@@ -136,8 +136,15 @@ def taken_in(view: View, was: Before, imp: Imp, packet: Packet) -> str:
     if imp.slots.get(flow) != was.slots.get(flow) and flow in imp.slots:
         return filled(INSIDE["not whole"], count=len(imp.slots[flow][1]))
     if (flow, message) not in was.new:
-        return f"{INSIDE['old']} The last number that was noted is {was.kept[flow]}."
+        return old(was, flow, message)
     return INSIDE["dropped"]
+
+
+def old(was: Before, flow: Flow, message: int) -> str:
+    """Why a packet of a message that an IMP has noted, or that is older than one that it has noted, is dropped."""
+    if was.kept[flow] != message:
+        return filled(INSIDE["older"], imp=imp_in_words(was.number), number=was.kept[flow])
+    return INSIDE["noted never" if was.fates[flow] == "never" else "old"]
 
 
 def answer_waits(imp: Imp, answer: str, flow: Flow) -> str:

@@ -11,7 +11,7 @@ from dataclasses import dataclass
 from functools import partial
 from typing import Any
 
-from dorydate.explain import frames, messages
+from dorydate.explain import deeds, frames, messages
 from dorydate.explain.in_the_way import InTheWay, Parts, Sending
 from dorydate.explain.view import Sentences, View, view_of
 from dorydate.model.bits import octets
@@ -87,14 +87,16 @@ class Inside:
         after = self.look(kind, parts, message)
         self.place.happen(*event)
         printed = self.place.printed[lines:]
-        if self.view and printed[-1:] and printed[-1].startswith("refused "):
-            sentences = InTheWay(self.view.subnet).refusal(printed[-1].split(" ")[1], kind, parts, message)
+        if printed[-1:] and printed[-1].startswith("refused "):
+            sentences = [] if self.view is None else InTheWay(self.view.subnet).refusal(printed[-1].split(" ")[1], kind, parts, message)
         else:
             sentences = after() if after else []
         return Told(printed, beside_lines(printed, log_of(self.place)[crossed:]), [it for it in sentences if it])
 
     def look(self, kind: str, parts: Parts, message: Sending | None) -> Sentences | None:
         """What will be said of an event, looked at before it happens."""
+        if isinstance(self.place, World) and (deed := deeds.looked(self.place, kind, *parts)):
+            return deed
         if self.view is None:
             return None
         view = self.view

@@ -133,7 +133,7 @@ def imp_down(view: View, number: int) -> Sentences | None:
     if imp is None:
         return None
     held = [it.what for it in of_imp(number, imp)]
-    return lambda: [filled(INSIDE["stops"], imp=imp_in_words(number)), f"With it goes {listed(held)}." if held else "It held nothing."]
+    return lambda: [filled(INSIDE["stops"], imp=imp_in_words(number)), filled(INSIDE["goes with it"], what=listed(held)) if held else INSIDE["held nothing"]]
 
 
 def imp_up(view: View, number: int) -> Sentences:
@@ -146,7 +146,7 @@ def host_down(view: View, host: HostName) -> Sentences | None:
     if imp is None or host.number >= len(imp.hosts):
         return None
     waited = [f"message {it.number} of flow {spell_flow(it.flow)}" for it in imp.hosts[host.number].messages]
-    return lambda: [f"For it waited {listed(waited)}.", view.sendings(host.imp)] if waited else []
+    return lambda: [filled(INSIDE["waited"], what=listed(waited)), view.sendings(host.imp)] if waited else []
 
 
 # ---- rounds

@@ -2,15 +2,16 @@
 
 from __future__ import annotations
 
+import json
 import os
 import subprocess
 import sys
 
 from dorydate.ending import shown_name
-from dorydate.parts import ROOT
-from dorydate.wasm import pack
+from dorydate.program import ROOT
 
 USAGE = "usage: ./explain --page [OTHER-FILE] < INPUT > page.html"
+EMPTY = '<script type="application/json" id="opened">[]</script>'  # the inputs with which a packed page opens
 
 
 def main(octets: bytes, words: list[str]) -> int:
@@ -40,9 +41,16 @@ def written(given: list[tuple[str, bytes]]) -> int:
     made = subprocess.run([f"{ROOT}/tools/keep-wasm"], stdout=subprocess.PIPE, text=True)
     if made.returncode:
         return 4
-    with open(f"{made.stdout.strip().removesuffix('.html')}.wasm", "rb") as module:
-        sys.stdout.buffer.write(pack.page(f"{ROOT}/web/workbench", module.read(), inputs).encode())
+    with open(made.stdout.strip(), encoding="utf-8", newline="") as packed:
+        sys.stdout.buffer.write(opened(packed.read(), inputs).encode())
     return 0
+
+
+def opened(page: str, inputs: list[dict[str, str]]) -> str:
+    """A packed page that has these inputs before its examples, and opens with the first. No hash of its policy is about them."""
+    if page.count(EMPTY) != 1:
+        raise ValueError("the page has no place for inputs")
+    return page.replace(EMPTY, EMPTY.replace("[]", json.dumps(inputs, ensure_ascii=False).replace("<", "\\u003c")))
 
 
 def name_of_input() -> str:

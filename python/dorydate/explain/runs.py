@@ -19,7 +19,7 @@ from itertools import chain, islice
 from dorydate.explain.given import Input, is_event
 from dorydate.explain.topology import network_by
 from dorydate.marks import LAST, Marked, Unmarked, each_printed, mark_for
-from dorydate.parts import ROOT
+from dorydate.program import ROOT
 
 MOST_TRIED = 64_000_000  # octets of inputs that are run without a kept program
 Ended = tuple[int, bytes, str]  # the status of a run, its output, and what it said on standard error
@@ -48,7 +48,10 @@ class Replayed:
 
 
 def kept_program() -> str | None:
-    """The kept program of the present sources, which the first call builds without proofs if ./build has not proved it; None where it cannot be kept."""
+    """The program that DORYDATE_PROGRAM names, or else the kept one of the present sources, which the first call builds without proofs if ./build has
+    not proved it; None where it cannot be kept."""
+    if named := os.environ.get("DORYDATE_PROGRAM"):
+        return named
     return subprocess.run([f"{ROOT}/tools/program"], stdout=subprocess.PIPE, text=True).stdout.strip() or None
 
 

@@ -10,7 +10,7 @@ from dorydate.explain.given import Input, shown
 from dorydate.explain.past import Past
 from dorydate.explain.runs import Happened
 from dorydate.explain.topology import network_by
-from dorydate.sentences import crossing, silence
+from dorydate.sentences import DEEDS, crossing, silence
 
 
 def said_beside(given: Input, events: Sequence[Happened]) -> list[Said]:
@@ -53,8 +53,8 @@ def telling_event(past: Past, event: Happened, said: Said) -> Iterator[str]:
     if not event.printed:
         yield f"prints nothing. {quiet(event.words, said.sentences)}"
         past.see(event.number, event.words, None)
-    elif said.sentences and not event.printed[-1].startswith("refused "):
-        yield said.sentences
+    elif not event.printed[-1].startswith("refused ") and (more := beside_lines(event.words, said.sentences)):
+        yield more
 
 
 def says(text: str) -> str:
@@ -62,8 +62,13 @@ def says(text: str) -> str:
     return f"It says: {text}." if text else ""
 
 
+def beside_lines(words: Sequence[str], sentences: str) -> str:
+    """What is said of an event below what it printed."""
+    return f"{silence(words)} {sentences}".rstrip() if words[0] in DEEDS else sentences
+
+
 def quiet(words: Sequence[str], sentences: str) -> str:
     """What an event that printed nothing did."""
-    if words[0] == "calm":
+    if words[0] == "calm" or words[0] in DEEDS:
         return f"{silence(words)} {sentences}".rstrip()
     return sentences or silence(words)

@@ -18,8 +18,9 @@ from dorydate.model.connections import CLOSED, READY, End, Pair
 from dorydate.model.runs import Place
 from dorydate.model.subnet import Subnet
 from dorydate.model.world import World
-from dorydate.sentences.table import count, listed
+from dorydate.sentences.table import filled, listed, sentences
 
+WHAT, FOR = sentences("waits"), sentences("waits for")
 LOOKED = 4  # rounds after which a network that printed nothing is said to be at rest
 MOST = 4  # things that wait are listed at most
 MOST_IMPS = 12  # of a network whose rest is looked at: each look costs rounds of the model
@@ -57,7 +58,7 @@ def waiting(place: Place, carrier: Carrier) -> Iterator[str]:
                     yield of_flow(carrier, imp, flow)
     elif isinstance(carrier, Boxes):
         for flow, _ in carrier.messages:
-            yield f"the message of flow {spell_flow(flow)}, for host {spell_host(flow.destination)} to take it"
+            yield f"the message of flow {spell_flow(flow)}, for {filled(FOR['take'], host=f'host {spell_host(flow.destination)}')}"
 
 
 def of_flow(subnet: Subnet, imp: Imp, flow: Flow) -> str:
@@ -73,29 +74,29 @@ def unnoticed(subnet: Subnet, number: int) -> str:
     ends = [(near, line) for line, ends in enumerate(subnet.ends) if number in ends for near in ends if near != number]
     up = [(near, line) for near, line in ends if (node := subnet.imps[near]) is not None and node.ports[subnet.port_of(near, line)].is_up]
     cure = listed([f"`enddown {near} {line}`" for near, line in up])
-    return f"; IMP {number} is down, and its neighbours' ends of lines are up, so they don't know: {cure}" if up else ""
+    return f"; {filled(WHAT['unseen'], imp=f'IMP {number}')}: {cure}" if up else ""
 
 
 def of_program(host: HostName, program: Host) -> Iterator[str]:
     """What a host's program waits for."""
     for peer, pair in program.pairs.items():
+        hosts = {"host": f"host {spell_host(host)}", "peer": f"host {spell_host(peer)}"}
         if pair.phase not in (CLOSED, READY):
-            yield f"the contact of host {spell_host(host)} with {spell_host(peer)}, for the other's RRP"
+            yield f"{filled(WHAT['contact'], hosts)}, for {filled(FOR['RRP'], hosts)}"
         for end in pair.ends:
-            socket = f"socket {end.own} of host {spell_host(host)}"
+            at = f"socket {end.own} of host {spell_host(host)}"
             if end.waiting:
-                yield f"{count(len(end.waiting), 'bit')} on {socket}, {why_bits_wait(peer, pair, end)}"
+                yield f"{filled(WHAT['bits'], bits=len(end.waiting), end=at)}, for {what_bits_wait_for(hosts, peer, pair, end)}"
             elif end.mine and end.partner_stamp is None and end.own_stamp is not None and not end.is_closing():
-                yield f"{socket}, for a request from socket {end.foreign} of {spell_host(peer)}"
+                yield f"{filled(WHAT['request'], end=at)}, for {filled(FOR['request'], hosts, socket=end.foreign)}"
 
 
-def why_bits_wait(peer: HostName, pair: Pair, end: End) -> str:
+def what_bits_wait_for(hosts: dict[str, str], peer: HostName, pair: Pair, end: End) -> str:
     """Why what was handed over doesn't go out."""
     if not end.is_open():
-        return "whose connection isn't open"
+        return FOR["open"]
     if end.link in pair.busy:
-        return f"for the answer to the message on link {end.link} that is out"
+        return filled(FOR["answer"], link=end.link)
     if end.messages == 0 or end.bits < end.size:
-        granted = f"{count(end.messages, 'message')} and {count(end.bits, 'bit')} are granted, and a byte has {count(end.size, 'bit')}"
-        return f"for a grant: {granted} (`grant {spell_host(peer)} {end.foreign} MESSAGES BITS`)"
-    return "until the host offers"
+        return f"{filled(FOR['grant'], hosts)} (`grant {spell_host(peer)} {end.foreign} MESSAGES BITS`)"
+    return filled(FOR["offer"], hosts)

@@ -1,90 +1,118 @@
-"""Every list of events, from the shortest: so that it can be said that no shorter script does what is asked.
+"""Every list of events, from the shortest, so that it can be said that no shorter script does what is asked.
 
-In a raw network a script is followed state by state: two scripts that leave the same state, and have come as far in the pattern, continue
-alike, so one of them is enough. A state is the texts of all its parts in the trace, which leave nothing out. Many
-scripts are run side by side; a calm of one round has its own turn, since all networks share it. In networks with host
-programs each list of events is run.
+Lists are followed state by state: two that leave the same state, and have come as far in the pattern, continue alike, so one of them is
+enough. A state is the texts of all its parts, programs and services in the trace: by the laws of the trace they determine all that any later
+event does and prints, but for lives. What is refused changes nothing, so it is not followed. Patterns about lives, or
+about a last calm, are looked for in the lists themselves; those with a refused event are left out there, too.
 """
 
 from __future__ import annotations
 
 import json
-import re
 import sys
 import time
 from collections.abc import Iterator, Sequence
-from dataclasses import dataclass, replace
-from itertools import islice, product
+from dataclasses import dataclass
 
-from dorydate.explore.kinds import Pools
 from dorydate.explore.many import CannotRun, Many
 from dorydate.explore.pattern import START, Pattern, State, step
 from dorydate.explore.seen import Seen
 from dorydate.explore.shrink import Script as Events
+from dorydate.explore.sides import Record, Sides, batches, calms_of
 from dorydate.network import Network
 from dorydate.program import Program
-from dorydate.script import Calm, Event, Script, octets_of, read_event
-from dorydate.trace import records
+from dorydate.script import Calm, Event, Script
 
-NUMBERS = re.compile(r'([0-3])/(\d+)|"(imp|line) (\d+)"|"(\d+)":')
+Texts = tuple[tuple[str, str], ...]  # what a state is, by the names of its parts
 
 
 @dataclass(frozen=True)
 class Node:
-    """A script, the elementary events that it is, and where it leads."""
+    """A script, and where it leads."""
 
     script: Events
-    lines: tuple[Event, ...]
-    parts: tuple[tuple[str, str], ...]  # the texts of the state's parts
+    texts: Texts
     reached: tuple[State, ...]  # how far each part of the pattern has come
     arrived: frozenset[str]  # packets that have arrived, where the pattern asks for first arrivals
 
     def key(self) -> tuple[object, ...]:
-        return self.parts, self.reached, self.arrived
+        return self.texts, self.reached, self.arrived
+
+    def is_lost(self) -> bool:
+        """Whether the pattern can't come to its end any more, since what must not come has come."""
+        return not all(self.reached)
 
 
 @dataclass
 class Count:
-    """What was looked at at each depth: states that are new, and steps."""
+    """What was looked at at a depth: steps, how many of them were refused, states that are new, all states, and seconds."""
 
     depth: int
-    states: int
     steps: int
+    refused: int
+    new: int
+    states: int
     seconds: float
+
+    def line(self) -> str:
+        return f"{self.depth} events: {self.steps} steps, {self.refused} refused, {self.new} new states, {self.states} in all, {self.seconds:.1f} s"
 
 
 class Walk:
-    """A walk through all states of a raw network."""
+    """A walk through all states that lists of events lead to, after an opening."""
 
-    def __init__(self, network: Network, pattern: Pattern, program: Program, events: Sequence[Event]) -> None:
-        self.network, self.pattern, self.events = network, pattern, events
-        self.many = Many(network, program)
-        self.seen: set[object] = set()
+    def __init__(self, network: Network, pattern: Pattern, program: Program, events: Sequence[Event], opening: Events = ()) -> None:
+        self.network, self.pattern, self.events, self.opening = network, pattern, events, opening
+        self.sides = Sides(network, program)
         self.needs_arrivals = "arrives" in pattern.heads()
+        self.needs_refusals = any("refused" in it.words for it in pattern.sequels)
         self.counts: list[Count] = []
+        self.states: dict[tuple[object, ...], int] = {}  # of each state that was seen its number
+        self.ways: list[list[tuple[Event, int]]] = []  # of each the events that are served there, and where they lead
 
-    def run(self, depth: int, seconds: float) -> Events | None:
-        """The first script that matches, by its length; None where none of at most `depth` events does, or time is up."""
+    def run(self, depth: int, seconds: float, shows: bool = False) -> Events | None:
+        """The first script that matches, by its length; None where none of at most `depth` events does, or time is up. The counts say which."""
         begun = time.monotonic()
-        edge = [Node((), (), (), (START,) * len(self.pattern.sequels), frozenset())]
+        root = self.root()
+        if self.is_match(root):
+            return ()
+        self.states[root.key()] = 0
+        self.ways.append([])
+        edge = [root]
         for at in range(1, depth + 1):
             found: list[Node] = []
-            steps = 0
-            for node in self.successors(edge):
+            steps = refused = 0
+            for before, event, node in self.successors(edge):
                 steps += 1
+                if node is None:
+                    refused += 1
+                    continue
                 if self.is_match(node):
                     return node.script
-                if node.key() not in self.seen:
-                    self.seen.add(node.key())
-                    found.append(node)
+                self.take(before, event, node, found)
                 if time.monotonic() - begun > seconds:
                     return None
-            self.counts.append(Count(at, len(found), steps, time.monotonic() - begun))
+            self.counts.append(Count(at, steps, refused, len(found), len(self.states), time.monotonic() - begun))
+            if shows:
+                print(f"explore: {self.counts[-1].line()}", file=sys.stderr, flush=True)
             edge = found
         return None
 
+    def take(self, before: Node, event: Event, node: Node, found: list[Node]) -> None:
+        """Notes where an event leads."""
+        if node.is_lost():
+            return
+        key = node.key()
+        if key not in self.states:
+            self.states[key] = len(self.ways)
+            self.ways.append([])
+            found.append(node)
+        self.ways[self.states[before.key()]].append((event, self.states[key]))
+
     def is_match(self, node: Node) -> bool:
         """Whether the pattern has come to its end, with names that fit together."""
+        if not self.pattern.sequels:
+            return False
         found: list[dict[str, str]] = [{}]
         for sequel, state in zip(self.pattern.sequels, node.reached):
             ends = [dict(names) for at, names in state if at == len(sequel.parts)]
@@ -93,146 +121,149 @@ class Walk:
 
     # ---- steps
 
-    def successors(self, edge: Sequence[Node]) -> Iterator[Node]:
-        """What each event of the set leads to."""
-        plain = [it for it in self.events if not isinstance(it, Calm)]
-        pairs = ((node, event) for node in edge for event in plain)
-        while some := list(islice(pairs, self.many.copies)):
-            yield from self.after_events(some)
-        if len(plain) < len(self.events):
-            nodes = iter(edge)
-            while round_of := list(islice(nodes, self.many.copies)):
-                yield from self.after_calm(round_of)
+    def root(self) -> Node:
+        """The state after the opening."""
+        node = Node((), tuple(sorted(self.sides.first().items())), (START,) * len(self.pattern.sequels), frozenset())
+        if not self.opening:
+            return node
+        (told,) = self.sides.run([self.opening], is_whole=True)
+        return self.after(node, (), told)
 
-    def traced(self, scripts: Sequence[Sequence[Event]], calm: bool) -> list[str]:
-        """The records of scripts side by side, with a calm of one round after them perhaps."""
-        lines = [self.many.spelled(copy, event) for copy, script in enumerate(scripts) for event in script]
-        text = self.many.head + "".join(f"{it}\n" for it in [*lines, *(["calm 1"] if calm else [])])
-        ran = self.many.program.run(octets_of(text), "--trace")
-        if ran.status:
-            raise CannotRun(f"the program says: {ran.said.strip()} (status {ran.status})")
-        return records(ran.output)
+    def successors(self, edge: Sequence[Node]) -> Iterator[tuple[Node, Event, Node | None]]:
+        """What each event of the set leads to in each state: None where it is refused."""
+        pairs = (((*self.opening, *node.script, event), (node, event)) for node in edge for event in self.events)
+        for some in batches(pairs, self.sides.copies):
+            for (_, (node, event)), told in zip(some, self.sides.run([script for script, _ in some])):
+                is_refused = any(it.is_refused() for it in told) and not self.needs_refusals
+                yield node, event, None if is_refused else self.after(node, (event,), told)
 
-    def after_events(self, some: Sequence[tuple[Node, Event]]) -> Iterator[Node]:
-        told = self.traced([(*node.lines, event) for node, event in some], False)
-        end = 0
-        for copy, (node, event) in enumerate(some):
-            end += len(node.lines) + 1
-            yield self.after(node, event, (event,), [self.own(copy, told[end - 1])])
-
-    def after_calm(self, nodes: Sequence[Node]) -> Iterator[Node]:
-        """What a quiet round leads to: the elementary events of it that are a network's own."""
-        told = self.traced([node.lines for node in nodes], True)[sum(len(node.lines) for node in nodes) :]
-        own: list[list[str]] = [[] for _ in nodes]
-        for record in told:
-            name = re.search(r'"(imp|line) (\d+)"', record)
-            if name:
-                copy = (int(name[2]) - 1) // self.many.size if name[1] == "imp" else int(name[2]) // self.many.line_count
-                if copy < len(nodes):
-                    own[copy].append(self.own(copy, record))
-        for copy, node in enumerate(nodes):
-            events = tuple(self.own_event(copy, json.loads(it)["event"]) for it in own[copy])
-            yield self.after(node, Calm(1), events, own[copy])
-
-    def own(self, copy: int, record: str) -> str:
-        """A record of a copy as the single network has it. Only the event keeps its numbers of IMPs and lines."""
-        imps, lines = copy * self.many.size, copy * self.many.line_count
-
-        def moved(found: re.Match[str]) -> str:
-            if found[1]:
-                return f"{found[1]}/{int(found[2]) - imps}"
-            if found[3]:
-                return f'"{found[3]} {int(found[4]) - (imps if found[3] == "imp" else lines)}"'
-            return f'"{int(found[5]) - imps}":'
-
-        return NUMBERS.sub(moved, record) if copy else record
-
-    def own_event(self, copy: int, line: str) -> Event:
-        """An elementary event as the single network has it; its hosts are that already."""
-        event = read_event(line)
-        imps, lines = copy * self.many.size, copy * self.many.line_count
-        changed = {name: getattr(event, name) - by for name, by in (("imp", imps), ("other", imps), ("line", lines)) if hasattr(event, name)}
-        return replace(event, **changed) if changed else event
-
-    def after(self, node: Node, event: Event, lines: tuple[Event, ...], told: Sequence[str]) -> Node:
+    def after(self, node: Node, events: Events, told: Sequence[Record]) -> Node:
         """The node after these records."""
+        texts, reached = dict(node.texts), list(node.reached)
         seen = Seen(self.network)
-        parts = dict(node.parts)
-        seen.parts = {name: json.loads(text) for name, text in node.parts} if self.pattern.needs_trace() else {}
-        seen.arrived = set(node.arrived)
-        reached = list(node.reached)
-        for own, record in zip(lines, told):
-            read = json.loads(record)
-            read["event"] = str(own)
-            if self.pattern.needs_trace():
-                printed = next(iter(seen.lines([json.dumps(read)])))[1]
-            else:
-                printed = read["printed"]
-            for line in printed:
+        if self.pattern.needs_trace():
+            seen.parts = {name: json.loads(text) for name, text in node.texts}
+            seen.arrived = set(node.arrived)
+        for record in told:
+            for line in self.lines_of(record, seen) if self.pattern.needs_trace() else record.printed:
                 words = line.split(" ")
                 reached = [step(sequel, state, words) for sequel, state in zip(self.pattern.sequels, reached)]
-            parts.update((name, json.dumps(part, separators=(",", ":"))) for name, part in read["parts"].items())
+            texts.update(record.texts)
         arrived = frozenset(seen.arrived) if self.needs_arrivals else frozenset()
-        return Node((*node.script, event), (*node.lines, *lines), tuple(sorted(parts.items())), tuple(reached), arrived)
+        return Node((*node.script, *events), tuple(sorted(texts.items())), tuple(reached), arrived)
+
+    def lines_of(self, record: Record, seen: Seen) -> Sequence[str]:
+        """What is printed and seen of a record."""
+        read = {"event": record.event, "printed": record.printed, "parts": {name: json.loads(text) for name, text in record.texts.items()}}
+        return next(iter(seen.lines([json.dumps(read if record.fate is None else {**read, "fate": record.fate})])))[1]
 
 
-# ---- networks with host programs: every list
+# ---- patterns about lives or a last calm: the lists themselves
 
 
-def lists(network: Network, pattern: Pattern, program: Program, events: Sequence[Event], depth: int, seconds: float) -> tuple[Events | None, int, int]:
-    """The first script that matches, by its length; how many were run, and up to which length all. Lists with calms at the same places are run side by side."""
-    many, count, begun = Many(network, program), 0, time.monotonic()
-    table = many.table(events)
-    place = {event: at for at, event in enumerate(events)}
-    plain, calms = [it for it in events if not isinstance(it, Calm)], [it for it in events if isinstance(it, Calm)]
-    for length in range(1, depth + 1):
-        skeletons: Iterator[tuple[Event | None, ...]] = product([None, *calms], repeat=length)
-        for skeleton in skeletons:
-            scripts = product(*([it] if it else plain for it in skeleton))
-            while some := list(islice(scripts, many.copies)):
-                count += len(some)
+class Lists:
+    """Lists of events none of which is refused, from the shortest, and what each prints with its last calm and lives."""
+
+    def __init__(self, network: Network, pattern: Pattern, program: Program, events: Sequence[Event], opening: Events = ()) -> None:
+        self.pattern, self.opening = pattern, opening
+        self.walk = Walk(network, Pattern("", ()), program, events, opening)
+        self.many = Many(network, program)
+        self.count = self.whole = 0
+
+    def run(self, depth: int, seconds: float) -> Events | None:
+        """The first list that matches, by its length; None where none of at most `depth` events does, or time is up."""
+        begun = time.monotonic()
+        self.walk.run(depth, seconds)
+        for length in range(1, min(depth, len(self.walk.counts)) + 1):
+            pairs = (((*self.opening, *it), it) for it in self.of_length(length))
+            for some in batches(pairs, self.many.copies):
+                self.count += len(some)
+                if found := self.first_of(some):
+                    return found
                 if time.monotonic() - begun > seconds:
-                    return None, count, length - 1
-                parts = [split(script, table[copy], place) for copy, script in enumerate(some)]
-                rounds = [it.rounds for it in skeleton if isinstance(it, Calm)] + [0]
-                results = many.run([*parts, *[[[]] * len(rounds)] * (many.copies - len(parts))], rounds, pattern.calm.rounds, pattern.needs_lives())
-                for script, result in zip(some, results):
-                    if pattern.match(result.lines, result.last) is not None:
-                        return tuple(script), count, length - 1
-    return None, count, depth
+                    return None
+            self.whole = length
+        return None
+
+    def of_length(self, length: int, state: int = 0) -> Iterator[Events]:
+        """All lists of so many events that are served, from a state on."""
+        if not length:
+            yield ()
+            return
+        for event, after in self.walk.ways[state]:
+            for rest in self.of_length(length - 1, after):
+                yield (event, *rest)
+
+    def first_of(self, some: Sequence[tuple[Events, Events]]) -> Events | None:
+        """The first of some lists that matches."""
+        rounds = [*calms_of(some[0][0]), 0]
+        parts = [split(self.many, copy, script) for copy, (script, _) in enumerate(some)]
+        empty: list[list[list[str]]] = [[[]] * len(rounds)] * (self.many.copies - len(parts))
+        results = self.many.run([*parts, *empty], rounds, self.pattern.calm.rounds, self.pattern.needs_lives())
+        return next((script for (_, script), it in zip(some, results) if self.pattern.match(it.lines, it.last) is not None), None)
 
 
-def split(script: Sequence[Event], lines: Sequence[str], place: dict[Event, int]) -> list[list[str]]:
-    """The lines of a script between its calms."""
+def split(many: Many, copy: int, script: Sequence[Event]) -> list[list[str]]:
+    """The lines of a script between its calms, in a copy."""
     parts: list[list[str]] = [[]]
     for event in script:
         if isinstance(event, Calm):
             parts.append([])
         else:
-            parts[-1].append(lines[place[event]])
+            parts[-1].append(many.spelled(copy, event))
     return parts
 
 
 # ---- the command
 
 
-def command(network: Network, pattern: Pattern, program: Program, depth: int, found: Pools, seconds: float) -> int:
-    """Looks at every list of at most `depth` events, and prints what was seen."""
-    plain = [event for kind in found.values() for event in kind]
-    if network.raw and network.carrier == "subnet":
-        if pattern.calm.rounds:
-            raise CannotRun("a pattern about a last calm isn't looked for state by state")
-        walk = Walk(network, pattern, program, [*plain, Calm(1)])
-        script = walk.run(depth, seconds)
-        for it in walk.counts:
-            print(f"explore: {it.depth} events: {it.steps} steps, {it.states} new states, {it.seconds:.1f} s", file=sys.stderr)
-        whole = len(walk.counts)
+@dataclass(frozen=True)
+class Asked:
+    """What is asked: a network, a pattern, the script with which each list begins, the events of which lists are made, and limits."""
+
+    network: Network
+    pattern: Pattern
+    opening: Events
+    events: tuple[Event, ...]
+    depth: int
+    seconds: float
+
+    def words(self) -> str:
+        """The events in words."""
+        calms = sorted({it.rounds for it in self.events if isinstance(it, Calm)})
+        plain = len(self.events) - len(calms)
+        after = f" after the {len(self.opening)} of the file" if self.opening else ""
+        return f"these {plain} events" + (f" and calms of {' or '.join(map(str, calms))} rounds" if calms else "") + after
+
+
+def by_whom(program: Program) -> str:
+    """What is said of a program without proofs."""
+    return " (by the program without proofs)" if program.path.endswith("-unproved") else ""
+
+
+def command(asked: Asked, program: Program) -> int:
+    """Looks at every list of at most so many events, and prints what was seen."""
+    network, pattern = asked.network, asked.pattern
+    if pattern.needs_lives() or pattern.calm.rounds:
+        lists = Lists(network, pattern, program, asked.events, asked.opening)
+        print("explore: the pattern is about lives or a last calm, so lists are looked at one by one, and not states", file=sys.stderr)
+        script, whole = lists.run(asked.depth, asked.seconds), lists.whole
+        print(f"explore: {lists.count} lists in which nothing is refused were run", file=sys.stderr)
     else:
-        script, count, whole = lists(network, pattern, program, [*plain, Calm(1), Calm(2)], depth, seconds)
-        print(f"explore: {count} scripts of {len(plain) + 2} events were run", file=sys.stderr)
+        walk = Walk(network, pattern, program, asked.events, asked.opening)
+        script = walk.run(asked.depth, asked.seconds, True)
+        whole = len(walk.counts)
     if script is None:
-        print(f"explore: no script of at most {whole} of these {len(plain)} events and calms matches", file=sys.stderr)
+        print(f"explore: none of up to {whole} of {asked.words()}{by_whom(program)}", file=sys.stderr)
+        if whole < asked.depth:
+            print(f"explore: not found; time was up before all of {whole + 1} were looked at", file=sys.stderr)
         return 1
-    print(f"explore: no shorter script of these {len(plain)} events and calms matches", file=sys.stderr)
-    print(Script.of(network, script, [f"Found by ./explore --all: {pattern.text}"]).text(), end="")
+    print(f"explore: {len(script)} events, and no fewer of {asked.words()} do it{by_whom(program)}", file=sys.stderr)
+    print(Script.of(network, (*asked.opening, *script), [f"Found by ./explore --all: {pattern.text}"]).text(), end="")
     return 0
+
+
+def checked(network: Network, pattern: Pattern) -> None:
+    """Raises CannotRun where a pattern asks for what this network can't show."""
+    if pattern.needs_trace() and not (network.raw and network.carrier == "subnet"):
+        raise CannotRun("only raw subnets have the lines of a trace: `noted`, `arrives`, `slots`")

@@ -14,14 +14,17 @@ from pathlib import Path
 
 from dorydate import ending
 from dorydate.expect import expected
-from dorydate.explore import breadth, lockup, without
-from dorydate.explore.cores import available
-from dorydate.explore.kinds import Pools, chosen, pools
+from dorydate.explore import breadth, fast, lockup, without
+from dorydate.explore.breadth import Asked
+from dorydate.explore.campaign import BadTable, Campaign
+from dorydate.explore.engine import Cluster, Local, NoCluster, OtherProgram, Workers, available, batches_of, hash_of
+from dorydate.explore.kinds import Pools, chosen, fit, pools
 from dorydate.explore.many import CannotRun
 from dorydate.explore.named import SEARCHES
 from dorydate.explore.pattern import BadPattern, Pattern, read
-from dorydate.explore.search import MATCHES, NotKept, Progress, Search
+from dorydate.explore.search import MATCHES, Job, NotKept, Progress, Search
 from dorydate.explore.shrink import Script as Found
+from dorydate.explore.state import OtherState, State
 from dorydate.network import BadNetwork, Network
 from dorydate.program import NoProgram, Program, TookTooLong, found
 from dorydate.script import BadLine, Calm, Script, octets_of
@@ -33,6 +36,13 @@ FOUND, NOT_FOUND, WRONG = 0, 1, 2  # exit statuses; with --never the first two a
 
 class Wrong(Exception):
     """What is wrong with the words of the command."""
+
+
+# what is told in one line
+WRONGS = (
+    *(NotKept, fast.NotConfirmed, Wrong, BadPattern, BadNetwork, BadLine, BadTrace, CannotRun, NoProgram, TookTooLong),
+    *(NoCluster, OtherProgram, OtherState, BadTable),
+)
 
 
 def parser() -> argparse.ArgumentParser:
@@ -50,8 +60,17 @@ def parser() -> argparse.ArgumentParser:
     made.add_argument("--seed", type=int, default=1)
     made.add_argument("--matches", type=int, default=MATCHES, help="matches to shrink; the shortest is printed")
     made.add_argument("--cores", type=int, default=available(), help="processes that look at schedules; what is found for a seed is the same for any number of them")
+    made.add_argument("--cluster", metavar="tcp://HOST:PORT", help="workers of a cluster of dask.distributed look at schedules")
+    made.add_argument("--state", metavar="FILE", help="keep there how far the search has come, and go on from there")
+    made.add_argument("--campaign", metavar="TABLE", help="a search for each row and seed of a table (CSV); --out has the results")
+    made.add_argument("--out", metavar="FILE", help="where the results of a campaign go: FILE.csv or FILE.json")
     made.add_argument("--audit", action="store_true", help="give the log of each schedule to the proved audit")
-    made.add_argument("--all", type=int, metavar="EVENTS", help="run every list of at most EVENTS events, from the shortest; states seen before are not followed again")
+    made.add_argument("--all", type=int, metavar="EVENTS", help="look at every list of at most EVENTS events, from the shortest, state by state")
+    made.add_argument("--from", dest="opening", metavar="FILE", help="a script with which each list of --all or --fast begins; it names the network")
+    made.add_argument("--calms", type=int, nargs="*", metavar="ROUNDS", help="calms among the events of --all (1 where none is named) and --fast (1 2 3 5)")
+    made.add_argument("--fast", action="store_true", help="the same by the plain program, of which nothing is proved; what it finds is confirmed by the proved one")
+    made.add_argument("--rest", action="store_true", help="with --fast: states that a long calm doesn't bring to rest, or leaves stuck")
+    made.add_argument("--megabytes", type=int, default=fast.MEGABYTES, help="memory for the states of --fast")
     made.add_argument("--without", metavar="RULE", help="the independent model without one rule in the place of the program: which promise breaks")
     made.add_argument("--rules", action="store_true", help="print the rules that can be left out")
     made.add_argument("--save", metavar="FILE", help="write the script there too, and what it prints beside it")
@@ -63,6 +82,8 @@ def network_of(words: argparse.Namespace) -> Network:
     """The network that is explored."""
     if words.network:
         return Network.joined(*words.network, raw=words.raw, carrier="plain" if words.plain else "subnet")
+    if words.opening:
+        return opening_of(words).network
     if words.name in SEARCHES:
         return SEARCHES[words.name].network
     if words.name is None:
@@ -72,6 +93,14 @@ def network_of(words: argparse.Namespace) -> Network:
     except OSError as fault:
         raise Wrong(f"{words.name} is no search with a name, and as a file: {fault.strerror}") from None
     return Network.read(text.split("\n%\n")[0])
+
+
+def opening_of(words: argparse.Namespace) -> Script:
+    """The script with which each list begins."""
+    try:
+        return Script.of_octets(Path(words.opening).read_bytes())
+    except OSError as fault:
+        raise Wrong(f"{words.opening}: {fault.strerror}") from None
 
 
 def pattern_of(words: argparse.Namespace) -> Pattern:
@@ -89,18 +118,20 @@ def pools_of(words: argparse.Namespace, network: Network) -> Pools:
     return chosen(every, kinds) if kinds else every
 
 
+DEEPEST = 64  # events of a list of --fast, where no other number is given
+CALMS = (1, 2, 3, 5)  # rounds of the calms among them
 SELDOM = 10  # where nobody watches, one line of progress of these is written
 
 
 class Shown:
     """Writes the line of progress: over the one before on a terminal, and more seldom elsewhere."""
 
-    def __init__(self, pattern: Pattern) -> None:
-        self.pattern, self.count = pattern, 0
+    def __init__(self, pattern: Pattern, runs: int, name: str = "") -> None:
+        self.pattern, self.runs, self.name, self.count = pattern, runs, name, 0
 
     def __call__(self, progress: Progress) -> None:
         self.count += 1
-        line = f"explore: {progress.line(self.pattern.length())}"
+        line = f"explore: {self.name}{progress.line(self.pattern.length(), self.runs)}"
         if sys.stderr.isatty():
             print(f"\r{line}\033[K", end="", file=sys.stderr, flush=True)
         elif self.count % SELDOM == 0:
@@ -130,14 +161,44 @@ def print_list() -> int:
     return FOUND
 
 
+def workers_of(words: argparse.Namespace, program: Program) -> Workers | None:
+    """Who looks at schedules; None where this process does so itself."""
+    if words.cluster:
+        return Cluster(words.cluster)
+    return Local(words.cores, program) if words.cores > 1 else None
+
+
 def searched(words: argparse.Namespace, program: Program) -> int:
     """A search by random schedules."""
     network, pattern = network_of(words), pattern_of(words)
-    search = Search(network, pattern, program, words.seed, pools_of(words, network), audits=words.audit)
-    best = search.run(words.runs, words.seconds, words.matches, None if words.quiet else Shown(pattern), words.cores)
+    kinds = tuple(words.kinds or (SEARCHES[words.name].kinds if words.name in SEARCHES else ()))
+    pools_of(words, network)
+    job = Job(network.toml(), pattern.text, kinds, words.seed, words.audit)
+    state = State(words.state, hash_of(program.path)) if words.state else None
+    search = job.search(program)
+    search.progress = (state.resumed("", job) if state else None) or search.progress
+    workers = workers_of(words, program)
+    try:
+        batches = batches_of(job, program, workers, search.progress.next)
+        keep = (lambda progress: state.keep("", job, progress)) if state else None
+        search.run(words.runs, words.seconds, words.matches, None if words.quiet else Shown(pattern, words.runs), batches, keep)
+    except WRONGS:
+        if search.progress.best is not None:
+            print(written(network, pattern, search.progress.best, program), end="")
+        raise
+    finally:
+        if state:
+            state.keep("", job, search.progress, True)
+        if workers:
+            workers.close()
     if sys.stderr.isatty() and not words.quiet:
         print(file=sys.stderr)
-    progress = search.progress
+    return told(words, network, pattern, search.progress, program)
+
+
+def told(words: argparse.Namespace, network: Network, pattern: Pattern, progress: Progress, program: Program) -> int:
+    """Prints what a search found."""
+    best = progress.best
     print(f"explore: {progress.line(pattern.length())}, in {progress.seconds():.1f} s", file=sys.stderr)
     if best is None:
         print("explore: nothing found", file=sys.stderr)
@@ -150,6 +211,79 @@ def searched(words: argparse.Namespace, program: Program) -> int:
     return NOT_FOUND if words.never else FOUND
 
 
+def campaigned(words: argparse.Namespace, program: Program) -> int:
+    """The searches of a table."""
+    if not words.out:
+        raise Wrong("--campaign needs --out FILE.csv or FILE.json")
+    try:
+        table = Path(words.campaign).read_text(encoding="utf-8")
+    except (OSError, UnicodeDecodeError) as fault:
+        raise Wrong(f"{words.campaign}: {getattr(fault, 'strerror', None) or 'is no text'}") from None
+    campaign = Campaign.read(table, words.out)
+    state = State(words.state, hash_of(program.path)) if words.state else None
+    workers = workers_of(words, program)
+    try:
+        return FOUND if campaign.run(program, workers, state, not words.quiet) else NOT_FOUND
+    finally:
+        if state:
+            state.write()
+        if workers:
+            workers.close()
+
+
+def asked_of(words: argparse.Namespace, pattern: Pattern, calms: Sequence[int]) -> Asked:
+    """What is asked where all states are looked at."""
+    network = network_of(words)
+    if words.all is not None and words.all < 1:
+        raise Wrong(f"--all {words.all}: lists have at least one event")
+    rounds = words.calms if words.calms is not None else calms
+    if wrong := [it for it in rounds if it < 1]:
+        raise Wrong(f"--calms {wrong[0]}: a calm has at least one round")
+    events = [event for kind in fit(pools_of(words, network), pattern).values() for event in kind]
+    opening = opening_of(words).events if words.opening else ()
+    return Asked(network, pattern, opening, (*events, *map(Calm, rounds)), words.all or DEEPEST, words.seconds)
+
+
+def all_states(words: argparse.Namespace, program: Program) -> int:
+    """Every list, by the program."""
+    pattern = pattern_of(words)
+    breadth.checked(network_of(words), pattern)
+    return breadth.command(asked_of(words, pattern, (1,)), program)
+
+
+def found_fast(words: argparse.Namespace, program: Program) -> int:
+    """Every list, by the plain program. What it finds is shown if the program prints it, too."""
+    pattern = Pattern("", ()) if words.rest else pattern_of(words)
+    asked = asked_of(words, pattern, CALMS)
+    options = ["--megabytes", str(words.megabytes), *(["--calms"] if words.rest else [])]
+    answer = fast.searched(asked, not words.quiet, options)
+    if answer.stopped:
+        print(f"explore: stopped: {answer.stopped} was up before all of {answer.whole + 1} events were looked at", file=sys.stderr)
+    if words.rest:
+        return told_of_rest(asked, answer)
+    if answer.found is None:
+        print(f"explore: {fast.last_words(asked, answer)}", file=sys.stderr)
+        return FOUND if words.never else NOT_FOUND
+    script = (*asked.opening, *answer.found)
+    if not Search(asked.network, pattern, program).matches(script):
+        raise fast.NotConfirmed("the plain program found a script that the program doesn't confirm: " + "; ".join(map(str, script)))
+    print(f"explore: {fast.last_words(asked, answer)}{breadth.by_whom(program)}", file=sys.stderr)
+    text = written(asked.network, pattern, script, program)
+    print(text, end="")
+    if words.save:
+        saved(words.save, text, program)
+    return NOT_FOUND if words.never else FOUND
+
+
+def told_of_rest(asked: Asked, answer: fast.Answer) -> int:
+    """Prints what a long calm makes of states."""
+    for it in answer.classes:
+        print(f"{it.count} states: {it.label}\n    {'; '.join(map(str, (*asked.opening, *it.script)))}")
+    length = "of any length" if answer.is_all else f"of up to {answer.whole} events"
+    print(f"explore: {len(answer.classes)} kinds of states after lists {length} of {asked.words()}, by the plain program", file=sys.stderr)
+    return FOUND if answer.classes else NOT_FOUND
+
+
 def chose(words: argparse.Namespace) -> int:
     """Does what the words ask for."""
     if words.list:
@@ -157,13 +291,18 @@ def chose(words: argparse.Namespace) -> int:
     if words.rules:
         return without.print_rules()
     if words.without:
-        return without.command(words.without, words.seed, words.seconds, words.runs)
+        return without.command(words.without, words.seed, words.seconds, words.runs, words.save)
     program = found()
     if words.name == "lockup":
         return lockup.command(program, words.seed, words.seconds)
+    if words.campaign:
+        return campaigned(words, program)
+    if words.fast or words.rest:
+        return found_fast(words, program)
     if words.all is not None:
-        network = network_of(words)
-        return breadth.command(network, pattern_of(words), program, words.all, pools_of(words, network), words.seconds)
+        return all_states(words, program)
+    if words.opening:
+        raise Wrong("--from goes with --all or --fast")
     return searched(words, program)
 
 
@@ -172,7 +311,7 @@ def main(options: Sequence[str] | None = None) -> int:
     words = parser().parse_args(options)
     try:
         return chose(words)
-    except (NotKept, Wrong, BadPattern, BadNetwork, BadLine, BadTrace, CannotRun, NoProgram, TookTooLong) as why:
+    except WRONGS as why:
         print(f"explore: {why}", file=sys.stderr)
         return WRONG
     except BrokenPipeError:

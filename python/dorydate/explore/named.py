@@ -37,6 +37,16 @@ SEARCHES = {
         TWO,
         "not down .. then out .. and calm 50: no ready, 100 lines",
     ),
+    "one-user-in-step": Named(
+        "resets never end, and a host that is ready is reset again and again",
+        TWO,
+        "not down .. then pairreset A B then pairreset A B then pairreset A B and calm 50: no ready, 100 lines",
+    ),
+    "waits-for-a-contact": Named(
+        "all is at rest, and a host waits for the reply to its reset, which never comes",
+        TWO_PLAIN,
+        "not down .. then not ready _ _ then ready A B then not ready B A then answer incomplete A B .. then not ready B A and calm 20: nothing",
+    ),
     "lost-at-a-close": Named(
         "bits are sent, and not taken, and both users learn that the connection has ended",
         TWO_PLAIN,

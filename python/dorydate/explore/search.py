@@ -4,13 +4,13 @@ from __future__ import annotations
 
 import random
 import time
-from collections.abc import Callable, Generator, Sequence
+from collections.abc import Callable, Iterable, Sequence
 from dataclasses import dataclass, field
+from itertools import count
 
-from dorydate.explore.cores import Cores
-from dorydate.explore.kinds import Maker, Pools, favoured, fit, pools
+from dorydate.explore.kinds import Maker, Pools, chosen, favoured, fit, pools
 from dorydate.explore.many import HOSTS, CannotRun, Many, One, Result
-from dorydate.explore.pattern import Pattern
+from dorydate.explore.pattern import Pattern, read
 from dorydate.explore.seen import Seen
 from dorydate.explore.shrink import Script, Shrinker, cost
 from dorydate.network import Network
@@ -46,12 +46,14 @@ class Progress:
     best: Script | None = None
     shrinking: int = 0  # runs
     kept: int = 0  # worlds whose log the audit calls kept
+    next: int = 0  # the number of the next batch
 
     def seconds(self) -> float:
         return time.monotonic() - self.begun
 
     def take(self, batch: Batch) -> None:
         """Counts what came of a batch."""
+        self.next += 1
         self.schedules += batch.schedules
         self.kept += batch.kept
         for depth in batch.depths:
@@ -59,16 +61,42 @@ class Progress:
                 self.deepest, self.reached = depth, 0
             self.reached += depth == self.deepest
 
-    def line(self, length: int) -> str:
-        """A line for whoever waits."""
+    def line(self, length: int, runs: int = 0) -> str:
+        """A line for whoever waits, with the time that is left for so many schedules."""
         rate = self.schedules / max(self.seconds(), 0.001)
         shortest = f"; the shortest match has {len(self.best)} events" if self.best is not None else ""
         kept = f", {self.kept} logs kept" if self.kept else ""
-        return f"{self.schedules} schedules, {rate:.0f} a second{kept}; {self.deepest} of {length} parts of the pattern reached ({self.reached} times){shortest}"
+        return f"{self.schedules} schedules, {rate:.0f} a second{kept}; {self.deepest} of {length} parts of the pattern reached ({self.reached} times){shortest}{self.left(runs, rate)}"
+
+    def left(self, runs: int, rate: float) -> str:
+        """The time that is left, in words."""
+        return f"; {in_time(max(runs - self.schedules, 0) / max(rate, 0.001))} left of {runs} schedules" if runs else ""
+
+
+def in_time(seconds: float) -> str:
+    """So many seconds in words."""
+    return f"{seconds:.0f} s" if seconds < 120 else f"{seconds / 60:.0f} min" if seconds < 7200 else f"{seconds / 3600:.1f} h"
 
 
 class NotKept(Exception):
     """A log that the audit refuses, with the input that left it."""
+
+
+@dataclass(frozen=True)
+class Job:
+    """What determines the batches of a search: the network's document, the pattern, the kinds of events, the seed, and whether logs are audited."""
+
+    network: str
+    pattern: str
+    kinds: tuple[str, ...] = ()
+    seed: int = 1
+    audits: bool = False
+
+    def search(self, program: Program) -> Search:
+        """Its search."""
+        network = Network.read(self.network)
+        every = pools(network)
+        return Search(network, read(self.pattern), program, self.seed, chosen(every, self.kinds) if self.kinds else every, audits=self.audits)
 
 
 class Search:
@@ -132,18 +160,29 @@ class Search:
             raise NotKept(f"the audit says {verdict.output or verdict.said!r} of the log of this input:\n{text}")
         return self.many.copies
 
-    def run(self, runs: int, seconds: float = 3600.0, wanted: int = MATCHES, show: Callable[[Progress], None] | None = None, processes: int = 1) -> Script | None:
-        """The shortest script of some matches, None where none was found. Ctrl-C ends it with what was found. How many processes look
-        changes how soon something is found, and not what."""
-        progress, shown = self.progress, self.progress.begun
-        batches = iter(Cores(self.batch, processes))
+    def run(
+        self,
+        runs: int,
+        seconds: float = 3600.0,
+        wanted: int = MATCHES,
+        show: Callable[[Progress], None] | None = None,
+        batches: Iterable[Batch] | None = None,
+        keep: Callable[[Progress], None] | None = None,
+    ) -> Script | None:
+        """The shortest script of some matches, None where none was found. Ctrl-C ends it with what was found. The batches, from that on which
+        is next, may come from anywhere: they are the same. What was done is kept after each of them."""
+        progress, shown = self.progress, time.monotonic()
+        if progress.matches >= wanted or progress.schedules >= runs:
+            return progress.best
         try:
-            for batch in batches:
+            for batch in batches or map(self.batch, count(progress.next)):
                 progress.take(batch)
                 for script in batch.matches[: wanted - progress.matches]:
                     self.take(script)
                     if show:
                         show(progress)
+                if keep:
+                    keep(progress)
                 if progress.matches >= wanted or progress.schedules >= runs or progress.seconds() > seconds:
                     break
                 if show and time.monotonic() - shown > 1:
@@ -151,9 +190,6 @@ class Search:
                     show(progress)
         except KeyboardInterrupt:
             pass
-        finally:
-            if isinstance(batches, Generator):
-                batches.close()
         return progress.best
 
     def take(self, script: Script) -> None:

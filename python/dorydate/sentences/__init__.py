@@ -4,10 +4,10 @@ from __future__ import annotations
 
 from collections.abc import Sequence
 
-from dorydate.script import RAW, WORLD
 from dorydate.sentences.table import TABLE, count, filled, sentences
+from dorydate.sentences.texts import shown
 
-ASKED = WORLD - RAW - {"offer"}  # what users ask for: what has to be sent goes out later
+DEEDS: dict[str, list[str]] = TABLE["deeds"]  # of each event that a user asks for its words and its sentence
 LINES: dict[str, list[str]] = TABLE["lines"]  # of each kind of line its words and its sentence
 ERRORS = sentences("errors")  # what the codes of ERR mean
 REASONS = sentences("reasons")  # why an initial connection fails
@@ -42,6 +42,19 @@ def crossing(words: Sequence[str]) -> str:
     return filled(sentence, holes, meaning=meant, text=text, way=parity(holes["socket"]) if kind == "opened" else "")
 
 
+def deed(event: Sequence[str]) -> str:
+    """What a user asks for, in a sentence."""
+    kind, *words = event
+    names, sentence = DEEDS[kind]
+    holes = {name: f"host {word}" if name in HOSTS else word for name, word in zip(names.split(" "), words)}
+    if kind == "type":
+        holes["bits"] = str(8 * (len(holes["text"]) + 2))
+    if kind == "send":
+        holes["text"] = shown(bytes.fromhex(holes["octets"].strip("-")), int(holes["bits"]))
+    verb = "types" if holes.get("text", "").startswith("“") else "hands over"
+    return filled(sentence, holes, verb=verb, way=parity(holes.get("socket", "0")))
+
+
 def parity(socket: str | int) -> str:
     return "sends" if int(socket) % 2 else "receives"
 
@@ -60,8 +73,8 @@ def silence(event: Sequence[str]) -> str:
     match event:
         case ["take" | "offer" as kind, host]:
             return filled(SILENT[kind], host=f"host {host}")
-        case [kind, host, *_] if kind in ASKED:
-            return filled(SILENT["asked"], host=f"host {host}")
+        case [kind, *_] if kind in DEEDS:
+            return deed(event)
         case ["calm", rounds]:
             return filled(SILENT[{"0": "no round", "1": "one round"}.get(rounds, "rounds")], rounds=rounds)
         case ["giveup", source, destination, link]:

@@ -59,9 +59,9 @@ def data_in_words(size: int, number: int, data: Bits) -> str:
 
 
 def shown(octets: bytes, bits: int, most: int = SHOWN) -> str:
-    """Octets as text where they are text, else in hexadecimal digits; the end is left out where there is much."""
+    """Octets as text between quotation marks where they are text, else in hexadecimal digits; the end is left out where there is much."""
     is_text = bits % 8 == 0 and all(32 <= it <= 126 or it in b"\t\r\n" for it in octets)
-    words = "".join(ESCAPED.get(it, chr(it)) for it in octets) if is_text else octets.hex().upper()
+    words = f"“{''.join(ESCAPED.get(it, chr(it)) for it in octets)}”" if is_text else octets.hex().upper()
     return words if len(words) <= most else f"{words[:most]}.."
 
 

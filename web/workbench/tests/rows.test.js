@@ -7,13 +7,13 @@ import { faultOf, wrongLine } from "../faults.js";
 import { stopsOfFlow, stopsWith } from "../follow.js";
 import { headComment, readInput } from "../script.js";
 import { sentenceOf } from "../sentences.js";
-import { fragment, packed, placeIn, unpacked } from "../share.js";
+import { fragment, noLesson, packed, placeIn, unpacked } from "../share.js";
 import { stopsOf } from "../stops.js";
 import { Talk } from "../talk.js";
 import { saying } from "../texts.js";
 import { grouped, waitsOf } from "../waits.js";
 import { filled } from "../words.js";
-import { exampleText, historyOf, historyOfText, run, twoImps } from "./examples.js";
+import { exampleNames, exampleText, historyOf, historyOfText, run, twoImps } from "./examples.js";
 import { isReplay, replay } from "../runs.js";
 
 /** @typedef {import("../fold.js").History} History */
@@ -103,7 +103,7 @@ test("an initial connection is waited for until it is complete or has failed", a
     const contact = ["calm 2", "contact 0/1 0/2", "calm 20", "user 0/1 0/2 7 16"];
     const asked = waitsAtEnd(await historyOfText(programs(contact)));
     assert.deepEqual(asked.map((it) => [it.what, it.for, it.bad]), [
-        ["The initial connection of host 0/1 with host 0/2", "its server on socket 7 of host 0/2", false],
+        ["the initial connection of host 0/1 with host 0/2", "its server on socket 7 of host 0/2", false],
     ]);
     assert.deepEqual(waitsAtEnd(await historyOfText(programs([...contact, "calm 20"]))), []);
 });
@@ -280,7 +280,12 @@ test("an address brings the same text, step and view elsewhere", async () => {
         { ...place, example: "lo-of-login" },
     );
     assert.equal(await unpacked(await packed(text)), text);
-    assert.equal(await placeIn("#s=not-deflated"), null);
+    const whole = await fragment({ ...place, text });
+    assert.equal(await placeIn(whole.slice(0, whole.indexOf("&") - 9)), "cut");
+    assert.equal(await placeIn("#s=not-deflated"), "cut");
+    assert.equal(await placeIn("#e=%E0%A4"), "cut");
+    assert(noLesson("late-seventies-x", exampleNames()).includes("Is `arpanet-of-the-late-seventies` meant?"));
+    assert(noLesson("lo-of-logn", exampleNames()).includes("Is `lo-of-login` meant?"));
     assert.equal(await placeIn("#step-24"), null);
 });
 

@@ -15,15 +15,17 @@ export function saveText(text, name) {
 }
 
 /**
- * The text of a file, null where it isn't UTF-8.
+ * The text of a file, or why it isn't opened.
  *
  * @param {File} file
- * @returns {Promise<string | null>}
+ * @returns {Promise<string | {why: string}>}
  */
 export async function textOfFile(file) {
+    const octets = await file.arrayBuffer().catch(() => null);
+    if (!octets) return { why: "can't be read: it is a folder, or has changed or gone since it was chosen." };
     try {
-        return new TextDecoder("utf-8", { fatal: true }).decode(await file.arrayBuffer());
+        return new TextDecoder("utf-8", { fatal: true }).decode(octets);
     } catch {
-        return null;
+        return { why: "is not UTF-8, so it is not opened. Save it as UTF-8 first." };
     }
 }

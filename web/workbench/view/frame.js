@@ -108,7 +108,7 @@ function introOf(history) {
 /** @param {Stop} stop */
 function roundsOf({ round, last }) {
     if (!round) return "";
-    return ` · round ${round === last ? round : `${round} to ${last}`}`;
+    return round === last ? ` · round ${round}` : ` · rounds ${round} to ${last}`;
 }
 
 /**

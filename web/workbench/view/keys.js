@@ -47,6 +47,20 @@ function deeds(bench, isButton) {
 }
 
 /**
+ * What keys do in the slider: up and right go forward, as in any slider.
+ *
+ * @param {Workbench} bench
+ * @returns {{[key: string]: () => void}}
+ */
+function alongSlider(bench) {
+    return {
+        ...deeds(bench, true),
+        ArrowDown: () => bench.stepLine(-1),
+        ArrowUp: () => bench.stepLine(1),
+    };
+}
+
+/**
  * @param {Workbench} bench
  * @param {KeyboardEvent} event
  */
@@ -60,7 +74,7 @@ function pageKey(bench, event) {
     }
     if (event.ctrlKey || event.metaKey || event.altKey) return;
     const isButton = target.tagName === "BUTTON" || target.getAttribute("role") === "button";
-    const act = deeds(bench, isButton)[event.key];
+    const act = (target.id === "slider" ? alongSlider(bench) : deeds(bench, isButton))[event.key];
     if (!act || (target.getAttribute("role") === "tab" && event.key.startsWith("Arrow"))) return;
     event.preventDefault();
     act();

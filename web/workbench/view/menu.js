@@ -111,18 +111,20 @@ export class Toast {
     /**
      * @param {string} text
      * @param {(() => void) | null} undo
+     * @param {boolean} [stays] whether it stays until something else is shown
      */
-    show(text, undo) {
+    show(text, undo, stays = false) {
         window.clearTimeout(this.timer);
         this.element.replaceChildren(
             h("span", {}, text),
             undo ? h("button", { type: "button", onclick: undo }, "Undo") : "",
         );
         this.element.hidden = false;
-        this.timer = window.setTimeout(() => this.hide(), 9000);
+        if (!stays) this.timer = window.setTimeout(() => this.hide(), 9000);
     }
 
     hide() {
+        window.clearTimeout(this.timer);
         this.element.hidden = true;
     }
 }

@@ -71,7 +71,7 @@ export class Panes {
             this.intro,
             waits.length
                 ? "What is not finished, where it is, and what it waits for."
-                : "Nothing waits: every message has its answer.",
+                : "Nothing waits.",
         );
         keep(
             this.body,
@@ -411,8 +411,8 @@ function drawGroup(element, { key, title, cells }, were) {
 function impItems(state, number) {
     const { network } = state;
     if (!state.imp(number)) return [{ kind: "off", text: "down: it holds nothing" }];
-    return state.heldBy(number).map(({ packet, flow, place }) => {
-        const what = packet ? packetName(network, packet) : messageName(network, flow);
+    return state.heldBy(number).map(({ packet, flow, number: of, place }) => {
+        const what = packet ? packetName(network, packet) : messageName(network, flow, of);
         return { kind: packet?.kind ?? "data", text: `${placeWords(state, number, flow, place)}: ${what}` };
     });
 }

@@ -1,6 +1,7 @@
 """The model without one of its rules each: what the rules of docs/headline.md are there for.
 
-`LACKING` has for each rule a network that keeps all rules but this one. What breaks then is seen by the audit of the book (`audit`).
+`LACKING` has for each rule a network that keeps all rules but this one. What breaks then is seen by the audit of the book (`audit`), and of
+a raw network by the table of its boxes (`mailboxes`).
 """
 
 from __future__ import annotations
@@ -16,6 +17,7 @@ from dorydate.model.crossings import Carrier
 from dorydate.model.host import Host
 from dorydate.model.imp import Imp
 from dorydate.model.imp_state import NUMBERS, Numbers
+from dorydate.model.mailboxes import first_break
 from dorydate.model.runs import Place
 from dorydate.model.script import Event
 from dorydate.model.subnet import Subnet
@@ -80,6 +82,14 @@ LACKING: dict[str, Lacking] = {
     "a sender looks at both counters": Lacking(host=hosts.OneCounter),
 }
 
+# rules of which no book was seen to break where only one of them is lacking
+HARMLESS = [
+    "an RRP before that RFNM is remembered",
+    "a request whose link a sending end has is refused",
+    "ALL adds to the counters",
+    "a receiver subtracts what was returned",
+]
+
 
 def opened_without(rule: str | None, network: Topology, numbers: Numbers = NUMBERS) -> Place:
     """A carrier or a world at its opening that lacks a rule; none where `rule` is None."""
@@ -96,9 +106,14 @@ def read_line(line: str, raw: bool) -> Event | None:
 
 
 def broken(place: Place) -> str | None:
-    """What the book of a raw network or of a world breaks, or what users of a world see that no user should; None where nothing is."""
+    """What a raw network or the book of a world breaks, or what users of a world see that no user should; None where nothing is.
+
+    Where messages are kept, what crossed may still be no run of the mailboxes: an answer is untrue, or a message goes out while the one
+    before it waits."""
     if not isinstance(place, World):
-        return None if messages_are_kept(place.log) else "messages"
+        if not messages_are_kept(place.log):
+            return "messages"
+        return None if first_break(place.hosts(), place.log) is None else "run"
     if part := audit(place.carrier.log, place.book.lives):
         return part
     if place.book.strays:

@@ -1,0 +1,158 @@
+"""Checks one crate over libraries that were proved before on this machine (seconds to minutes): tools/check-one CRATE [WORDS FOR THE CHECKER ..]
+
+After an `rt ci`, plain `rt check` in a fresh clone proves each crate below anew. Here the crate is checked over the libraries that
+`rt ci` keeps beside the kit: of each crate below the newest whose definitions and clauses are those of this clone. Where there is none, it is named; `rt ci` with its name makes it. What a check finds is kept in out/one/, and the
+next one begins with it.
+
+The words go to the checker: `--only PATH` for one function and the lemma files that its proof cites, `--allow-holes`, `--jobs N`. No
+verdict rests on such a check: the gate is `rt ci`.
+"""
+
+from __future__ import annotations
+
+import hashlib
+import json
+import os
+import re
+import shutil
+import subprocess
+import sys
+from collections.abc import Iterator
+from dataclasses import dataclass
+from functools import cached_property
+
+from workshop.builds.drivers import crates_below
+from workshop.checks.copies import lines_of_crates
+from workshop.parts import ROOT, text_of
+
+CLAUSE = re.compile(r"^\s*(?:ensures|requires|ghost)\b.*?(?= ?(?:;|\{ ?\}?)?$)", re.MULTILINE)
+
+ANSWERS = ("Answers.antt", "Invariants.antt", "Proof.antt")  # no other file can cite what is in these
+
+
+def kit() -> str:
+    """The folder of the toolchain."""
+    return os.path.dirname(os.path.dirname(os.path.realpath(shutil.which("rt") or sys.exit("check-one: the toolchain's command rt is not on the path"))))
+
+
+def store() -> str:
+    """Where `rt ci` keeps what it proved."""
+    return f"{os.path.dirname(kit())}/rattle-kept"
+
+
+@dataclass(frozen=True)
+class Library:
+    """A proved library that `rt ci` kept: its crate, and the folder in which its files have numbers for names."""
+
+    crate: str
+    folder: str
+
+    @cached_property
+    def sums(self) -> dict[str, str]:
+        """The sum of each of its files, by the path in the library."""
+        with open(f"{self.folder}/made.json", encoding="utf-8") as file:
+            return {path.removeprefix(f"rlib/{self.crate}.rlib/"): sum_of for path, sum_of in json.load(file)["files"]}
+
+    @cached_property
+    def places(self) -> dict[str, str]:
+        """Where each of its files is kept."""
+        return {path: f"{self.folder}/{number}" for number, path in enumerate(self.sums)}
+
+    def is_of_sources(self) -> bool:
+        """Whether its definitions are those of this clone, as are the lemmas that are still there, and each of its clauses is in the sources."""
+        own = f"{ROOT}/crates/{self.crate}"
+        texts = {module_of(os.path.relpath(path, own)): sum_of(path) for path in files_of(own, ("specs", "proofs"), ".antt")}
+        kept = {path: it for path, it in self.sums.items() if re.match(r"lang/antt/(specs|proofs)[/.]", path)}
+        if any(texts[path] != it for path, it in kept.items() if path in texts and os.path.basename(path) not in ANSWERS):
+            return False
+        if {it for it in texts if it.startswith("lang/antt/specs")} != {it for it in kept if it.startswith("lang/antt/specs")}:
+            return False
+        clauses = {line for path in files_of(own, ("src",), ".rt") for line in clauses_of(path)}
+        return all(line in clauses for path, place in self.places.items() if path.startswith("lang/src/") for line in clauses_of(place))
+
+    def put(self, folder: str) -> None:
+        """Puts its files into a folder under their own names."""
+        for path, place in self.places.items():
+            os.makedirs(os.path.dirname(f"{folder}/{self.crate}.rlib/{path}"), exist_ok=True)
+            os.link(place, f"{folder}/{self.crate}.rlib/{path}") if same_device(place, folder) else shutil.copyfile(place, f"{folder}/{self.crate}.rlib/{path}")
+
+
+def same_device(one: str, other: str) -> bool:
+    return os.stat(one).st_dev == os.stat(other).st_dev
+
+
+def module_of(path: str) -> str:
+    """Where a library has a file of a crate: a folder's Lib.antt is the folder's own module."""
+    return f"lang/antt/{path.removesuffix('/Lib.antt').removesuffix('.antt')}.antt"
+
+
+def sum_of(path: str) -> str:
+    with open(path, "rb") as file:
+        return hashlib.sha256(file.read()).hexdigest()
+
+
+def files_of(folder: str, parts: tuple[str, ...], ending: str) -> Iterator[str]:
+    """The files of some parts of a crate, by their paths."""
+    for part in parts:
+        for at, _, names in os.walk(f"{folder}/{part}"):
+            yield from (f"{at}/{it}" for it in names if it.endswith(ending))
+
+
+def clauses_of(path: str) -> list[str]:
+    """The first lines of the clauses in a source, without the blanks around them."""
+    return [re.sub(r"\s+", " ", it).strip() for it in CLAUSE.findall(text_of(path))]
+
+
+def libraries_of(crate: str) -> list[Library]:
+    """What is kept of a crate, the newest first."""
+    found = [it for it in os.listdir(store()) if re.fullmatch(rf"proof-{crate}-[0-9a-f]{{64}}", it)]
+    return sorted((Library(crate, f"{store()}/{it}") for it in found), key=lambda it: -os.stat(it.folder).st_mtime)
+
+
+def chosen(needed: list[str]) -> dict[str, Library]:
+    """A library for each of these crates, of which each comes after those below it; ends where one is lacking."""
+    found: dict[str, Library] = {}
+    for crate in needed:
+        fitting = (it for it in libraries_of(crate) if it.is_of_sources())
+        library = next(fitting, None)
+        if library is None:
+            sys.exit(f"check-one: no library of {crate} is kept that is of these sources; `rt ci {crate}` makes one")
+        found[crate] = library
+    return found
+
+
+def command(crate: str, lines: dict[str, list[str]], built: dict[str, str], kept: str, words: list[str]) -> list[str]:
+    """The check that `rt ci` makes of a crate, with a place where what it finds is kept."""
+    direct = {it: f"{built[it]}/{it}.rlib" if it in built else f"{kit()}/rlibs/{it}.rlib" for it in [*lines[crate], "std"]}
+    top = "main" if os.path.exists(f"{ROOT}/crates/{crate}/src/main.rt") else "lib"
+    found = [f"{kit()}/bin/rattle", "check", "--crate-name", crate, f"src/{top}.rt"]
+    found += [word for it, path in direct.items() for word in ("--extern", f"{it}={path}")]
+    found += [word for it in [f"{kit()}/rlibs", *built.values()] for word in ("-L", f"dependency={it}")]
+    found += ["--antt-project", f"{kit()}/rattle/logic/antt-project.json", "--logic-built", f"{kit()}/logic_built"]
+    return [*found, "--links", f"{crate}=", *([] if "--jobs" in words else ["--jobs", "1"]), "--incremental", kept, *words]
+
+
+def main() -> int:
+    if not sys.argv[1:] or sys.argv[1] in ("-h", "--help"):
+        print(__doc__)
+        return 0 if sys.argv[1:] else 1
+    crate, *words = sys.argv[1:]
+    lines = {name: below.split() for name, below in lines_of_crates().items()}
+    if crate not in lines:
+        sys.exit(f"check-one: crates.txt has no crate {crate}")
+    room = f"{ROOT}/out/one"
+    found = chosen([it for it in below_first(lines, crate) if it != crate])
+    built = {}
+    for name, library in found.items():
+        built[name] = f"{room}/{os.path.basename(library.folder)}"
+        if not os.path.isdir(built[name]):
+            library.put(f"{built[name]}.new")
+            os.rename(f"{built[name]}.new", built[name])
+    ran = subprocess.run(command(crate, lines, built, f"{room}/kept-{crate}", words), cwd=f"{ROOT}/crates/{crate}", stdin=subprocess.DEVNULL, check=False)
+    return ran.returncode
+
+
+def below_first(lines: dict[str, list[str]], crate: str) -> list[str]:
+    """A crate and those that it uses, each after those below it."""
+    order = [name for name in lines if name in crates_below(lines, crate)]
+    return order

@@ -1,0 +1,287 @@
+"""The program's --audit and --log against a second reading of logs and of the promise (a minute for 500 books): ./check audit [COUNT]
+
+Tries what the program says of logs and prints as logs, against an independent reader and judge in Python (python/dorydate/model/log.py).
+
+- Logs that were written by hand (workshop.checks.log_rows), each with its verdict or the number of its bad line, and those of docs/audit.md.
+  Readings of these rules that are wrong in one place have to be distinguished from the right one by these.
+- Each prefix of a short log, and the same log with each octet changed to 00, 7F and FF; logs of as many octets as may be read, and of
+  one more.
+- What `--log` prints of each example and each stored input is the log that the model makes of it, and `--audit` says `kept`.
+- The books that break where a rule is lacking, in the folder `without`: the part that each file names is reported.
+- Random books (python/dorydate/model/chance/books.py): COUNT of worlds that the model runs, every other one broken on purpose in one place,
+  and as many small ones of few hosts and sockets. Of each tenth world the program's own log is compared too.
+
+It takes the proved program, or where ./build has not made that the one that was built without proofs.
+"""
+
+from __future__ import annotations
+
+import functools
+import multiprocessing
+import os
+import subprocess
+import sys
+from collections import Counter
+from collections.abc import Iterator
+from concurrent.futures import ProcessPoolExecutor, ThreadPoolExecutor
+
+from dorydate.model.audit import PARTS
+from dorydate.model.chance.books import of_world, small
+from dorydate.model.chance.breaking import WAYS
+from dorydate.model.log import book_of, ends_log, read_log, spelled_log
+from dorydate.model.misread_logs import MISREADINGS
+from dorydate.model.verdict import Judge, ended, ends_audit, says
+from dorydate.model.chance.worlds import Script
+from dorydate.model.runs import End
+from dorydate.model.topology import Topology, network_of, spelled_input
+from dorydate.model.without.stored import Lesson
+from workshop.checks import log_rows
+from workshop.checks.cases import Case, cases_below
+from workshop.checks import headline
+from workshop.parts import ROOT, any_program
+
+COUNT = 10_000
+LOGGED = 10  # of this many worlds one is logged by the program too
+CORES = os.cpu_count() or 1
+
+
+# ---- the program
+
+
+@functools.cache
+def program() -> str:
+    """The program of these sources."""
+    found = any_program()
+    if found is None:
+        sys.exit("check audit: there is no program of these sources")
+    return found
+
+
+def run(octets: bytes, *options: str) -> End:
+    """How the program ends: its status, its output and its words."""
+    ran = subprocess.run([program(), *options], input=octets, capture_output=True, timeout=600)
+    return ran.returncode, ran.stdout.decode("latin-1"), ran.stderr.decode("latin-1")
+
+
+def compared(what: str, octets: bytes, owed: End) -> str | None:
+    """What is wrong with the audit of a log, None where nothing is."""
+    if (found := run(octets, "--audit")) != owed:
+        return f"{what}: found {found}, wanted {owed}, of {octets[-1000:]!r}"
+    return None
+
+
+# ---- logs by hand
+
+
+def unnoticed() -> Iterator[str]:
+    """The wrong readings that judge each log by hand as it should be judged."""
+    for name, judge in MISREADINGS.items():
+        if all(judged(judge, octets) == wanted for octets, wanted in log_rows.rows()):
+            yield name
+
+
+def judged(judge: Judge, octets: bytes) -> str | None:
+    """What a wrong reading says of a log, if it comes to say anything."""
+    try:
+        return judge.says(octets)
+    except (IndexError, StopIteration):
+        return None
+
+
+def parts_said(owed: End) -> list[str]:
+    """What is printed about a log, line by line, without the lines' numbers."""
+    return [line.split(" line")[0].strip() for line in owed[1].splitlines()] or ["bad log line"]
+
+
+def said(owed: End) -> str:
+    """The same in words."""
+    return " and ".join(parts_said(owed))
+
+
+def octets_around(octets: bytes) -> Iterator[bytes]:
+    """Each prefix of a log, and the log with each octet changed."""
+    yield from (octets[:length] for length in range(len(octets)))
+    for place in range(len(octets)):
+        yield from (octets[:place] + value + octets[place + 1 :] for value in (b"\0", b"\x7f", b"\xff"))
+
+
+def check_logs() -> list[str]:
+    """What is wrong with logs by hand, and with prefixes and changed octets of one."""
+    wrong = [f"no log by hand tells this wrong reading: {it}" for it in unnoticed()]
+    by_hand = [(octets, wanted, says(octets)) for octets, wanted in log_rows.rows()]
+    of_page = [(octets, ended(wanted), ends_audit(octets)) for octets, wanted in log_rows.rows_of_page()]
+    wrong += [f"the reader in Python says {found}, and {wanted} is wanted, of {octets[-400:]!r}" for octets, wanted, found in [*by_hand, *of_page] if found != wanted]
+    rows = [*((octets, ended(wanted)) for octets, wanted, _ in by_hand), *((octets, owed) for octets, owed, _ in of_page)]
+    around = [(it, ends_audit(it)) for it in octets_around(log_rows.SHORT.encode())]
+    with ThreadPoolExecutor(CORES) as threads:
+        found = threads.map(lambda row: compared("a log by hand", *row), [*rows, *around])
+        wrong += filter(None, found)
+    ends = Counter(said(owed) for _, owed in rows)
+    print(f"check audit: {len(rows)} logs by hand ({listed(ends)}), by {len(MISREADINGS)} wrong readings of the rules not all judged rightly; {len(around)} logs around one")
+    return wrong
+
+
+def check_options() -> list[str]:
+    """What is wrong with options: neither of the two goes with another one, or twice."""
+    octets = log_rows.SHORT.encode()
+    options = [[one, other] for one in ("--log", "--audit") for other in ("--log", "--audit", "--book", "--check", "--texts")]
+    options += [[*words[::-1]] for words in options if words[::-1] not in options]
+    wrong = [f"{words}: {run(octets, *words)}" for words in options if run(octets, *words) != (1, "", "arpasim: bad arguments\n")]
+    print(f"check audit: {len(options)} pairs of options that don't go together")
+    return wrong
+
+
+# ---- logs of inputs
+
+
+def owed_log(octets: bytes) -> End:
+    """How `--log` has to end on an input: as without it, where that ends in a fault, and else with the model's log."""
+    without = run(octets)
+    if without[0]:
+        return without
+    lines = octets.decode("latin-1").split("\n")
+    marker = lines.index("%")
+    return ends_log(network_of("\n".join(lines[:marker])), lines[marker + 1 :])
+
+
+def logged(case: Case) -> tuple[str | None, int]:
+    """What is wrong with the log of a stored input, None where nothing is, and how `--log` ended."""
+    status, log, words = found = run(case.octets, "--log")
+    owed = owed_log(case.octets)
+    if found != owed:
+        return f"{case.name}: --log ends with {status} {words}and {different_line(log, owed[1])}", status
+    if status == 0:
+        book = read_log(log.encode("latin-1"))
+        if spelled_log(book) != log.encode("latin-1"):
+            return f"{case.name}: its log is not read as it was printed", status
+        return compared(case.name, log.encode("latin-1"), (0, "kept\n", "")), status
+    return None, status
+
+
+def different_line(found: str, owed: str) -> str:
+    """Where two outputs differ."""
+    lines, wanted = found.split("\n"), owed.split("\n")
+    at = next((at for at, pair in enumerate(zip(lines, wanted)) if pair[0] != pair[1]), min(len(lines), len(wanted)))
+    return f"prints {lines[at : at + 1]} as line {at + 1}, for {wanted[at : at + 1]}"
+
+
+# What crosses when one message is taken and answered, and how often it happens in a long log
+PASSED = b"out 0/1 0/2 5 24 414243\nin 0/1 0/2 5 24 414243\nanswer rfnm 0/1 0/2 5\n"
+TIMES = 520_000
+CONNECTIONS = 35_000  # of a log with a life at each end of each
+HOSTS = [f"{host}/{imp}" for imp in range(1, 64) for host in range(4)]
+
+
+def log_of_lives(count: int) -> bytes:
+    """A log of this many connections, each of two hosts that have no other, in which two octets are sent and taken. It is kept."""
+    crossings, lives, handed = [], [], []
+    for at in range(count):
+        one, other = HOSTS[at % 252], HOSTS[(at + 1 + at // 252 % 251) % 252]
+        even, odd, place = 2 * at + 16, 2 * at + 17, 9 * at
+        rts, request = f"120 0008000A0001{even:08X}{odd:08X}05", f"120 0008000A0002{odd:08X}{even:08X}08"
+        for flow, text in ((f"{one} {other} 0", rts), (f"{other} {one} 0", request), (f"{other} {one} 5", "56 00080002004849")):
+            crossings += [f"out {flow} {text}", f"in {flow} {text}", f"answer rfnm {flow}"]
+        lives.append(f"life {one} {even} {other} {odd} {place} {place + 4} receive 1 16 1 16 0 0 ended 4849")
+        lives.append(f"life {other} {odd} {one} {even} {place + 3} {place + 1} send 1 16 0 0 0 0 ended 4849")
+        handed += ["handed 0 -", "handed 16 4849"]
+    return "\n".join([*crossings, *lives, *handed, "end", ""]).encode()
+
+
+def check_long() -> list[str]:
+    """What is wrong with long logs, of 35 million octets without a good line or with one flow's messages, and of 70,000 lives: logs have no limit."""
+    kept: End = (0, "kept\n", "")
+    rows: list[tuple[bytes, End]] = [(b"x" * 36_000_000, (2, "", "arpasim: bad log line 1\n")), (PASSED * TIMES + b"end\n", kept), (log_of_lives(CONNECTIONS), kept)]
+    if ends_audit(log_of_lives(300)) != kept:
+        return ["a log of 300 connections, which is kept, is not so by the model"]
+    found = [(len(octets), owed, run(octets, "--audit")) for octets, owed in rows]
+    print(f"check audit: logs of {', '.join(f'{count:,}' for count, _, _ in found)} octets")
+    return [f"a log of {count} octets: found {ended}, wanted {owed}" for count, owed, ended in found if ended != owed]
+
+
+def check_stored() -> list[str]:
+    """What is wrong with the stored logs and inputs of the folder `logs`."""
+    cases = [*cases_below(f"{ROOT}/logs")]
+    found = [(case, run(case.octets, *(case.args or b"").decode().split())) for case in cases]
+    print(f"check audit: {len(cases)} stored in the folder `logs`")
+    return [f"{case.name}: {ended}" for case, ended in found if ended != (case.status, case.printed.decode(), case.words)]
+
+
+def check_inputs() -> list[str]:
+    cases = [case for folder in ("examples", "cases") for case in cases_below(f"{ROOT}/{folder}")]
+    with ThreadPoolExecutor(CORES) as threads:
+        found = [*threads.map(logged, cases)]
+    print(f"check audit: {len(cases)} examples and stored inputs, of which {sum(status == 0 for _, status in found)} have a log")
+    return [fault for fault, _ in found if fault]
+
+
+def check_without() -> list[str]:
+    """What is wrong with the verdicts on the books that break where a rule is lacking."""
+    wrong: list[str | None] = []
+    seen = Counter[str]()
+    for path in headline.stored():
+        lesson = Lesson(path)
+        octets = spelled_log(book_of(lesson.network, lesson.run(lesson.rule, lesson.script)))
+        owed = ends_audit(octets)
+        parts = ["run", *PARTS]
+        if (f"broken {lesson.breaks}" in parts_said(owed)) != (lesson.breaks in parts) or lesson.breaks not in parts and said(owed) != "kept":
+            wrong.append(f"{path}: it breaks {lesson.breaks}, and the audit in Python says {owed[1]}")
+        seen[said(owed)] += 1
+        wrong.append(compared(path, octets, owed))
+    print(f"check audit: the books of {sum(seen.values())} files of `without`: {listed(seen)}")
+    return [*filter(None, wrong)]
+
+
+# ---- random books
+
+
+def tried(seed: int) -> tuple[Counter[str], list[str]]:
+    """A book of a world and a small one: what they came to, and what is wrong."""
+    way, book, network, script = of_world(seed)
+    seen = Counter[str]()
+    wrong: list[str | None] = []
+    for kind, book in ("world", book), ("small", small(seed)):
+        octets = spelled_log(book)
+        owed = ends_audit(octets)
+        seen[f"{kind}: {said(owed)}"] += 1
+        seen.update({f"{kind} crossings": len(book.log), f"{kind} lives": len(book.lives)})
+        wrong.append(compared(f"the {kind} book {seed}, {way}", octets, owed))
+        if (way in WAYS) == (owed[1] == "kept\n") and kind == "world":
+            wrong.append(f"the {kind} book {seed}, {way}: {owed}")
+    seen[f"broken: {way}" if way in WAYS else f"made: {way}"] += 1
+    if seed % LOGGED == 0:
+        seen["logged"] += 1
+        wrong.append(log_of_world(seed, network, script))
+    return seen, [*filter(None, wrong)]
+
+
+def log_of_world(seed: int, network: Topology, script: Script) -> str | None:
+    """What is wrong with the program's log of a script, None where nothing is."""
+    owed = 0, spelled_log(book_of(network, script.world)).decode("latin-1"), ""
+    found = run(spelled_input(network, script.lines), "--log")
+    return f"the log of world {seed}: {different_line(found[1], owed[1])}" if found != owed else None
+
+
+def check_chance(count: int) -> list[str]:
+    seen, wrong = Counter[str](), list[str]()
+    with ProcessPoolExecutor(CORES, multiprocessing.get_context("fork")) as processes:
+        for found, faults in processes.map(tried, range(count), chunksize=8):
+            seen += found
+            wrong += faults
+    for kind, made in ("world", "of worlds"), ("small", "small ones"):
+        print(f"check audit: {count} books {made}, of {seen[f'{kind} crossings']} crossings and {seen[f'{kind} lives']} lives: {listed(seen, f'{kind}: ')}")
+    print(f"check audit: of those of worlds {listed(seen, 'made: ')}, and the others are broken in one place: {listed(seen, 'broken: ')}")
+    print(f"check audit: the program's own logs of {seen['logged']} of these worlds are the model's")
+    return wrong
+
+
+def listed(seen: Counter[str], start: str = "") -> str:
+    return ", ".join(f"{count} {name.removeprefix(start)}" for name, count in sorted(seen.items()) if name.startswith(start))
+
+
+def main() -> int:
+    count = int(sys.argv[1]) if len(sys.argv) > 1 else COUNT
+    program()  # built before the processes that try books are
+    wrong = [*check_logs(), *check_long(), *check_stored(), *check_options(), *check_inputs(), *check_without(), *check_chance(count)]
+    print(*wrong[:10], sep="\n", end="\n" if wrong else "")
+    print(f"check audit: {len(wrong)} wrong" if wrong else "check audit: the program says what it should of each log, and prints the logs that it should")
+    return 1 if wrong else 0

@@ -1,0 +1,171 @@
+"""Inputs past every limit that a library might have, against the independent models: ./check limits [--models | --write] [NAME..]
+
+Whatever grows can be refused for want of memory, and no contract can say whether memory really ran out. So a limit that somebody put into
+the code and reported as running out of memory would pass each proof. Here is one input for each thing that grows, as large as an input can ask for
+or past every limit that one might think of. How the program ends on it has to be what an independent model in Python says of it: of a script
+python/dorydate/model/script.py, of a log python/dorydate/model/log.py, of a trace python/dorydate/model/trace.py.
+
+The models take ten minutes, so what they say is kept in limits.json: the status, what standard error has, and the number and the digest of
+the octets of the output. With `--models` they are asked anew, and have to say what is kept; `--write` keeps it.
+"""
+
+import hashlib
+import json
+import os
+import subprocess
+import sys
+from concurrent.futures import ProcessPoolExecutor, ThreadPoolExecutor
+from functools import partial
+from typing import NamedTuple
+
+from dorydate.model.runs import expected
+from dorydate.model.topology import Topology, spelled_input
+from dorydate.model.trace import ends_trace
+from dorydate.model.verdict import ends_audit
+from workshop.parts import any_program
+
+KEPT = os.path.join(os.path.dirname(__file__), "limits.json")
+
+
+class End(NamedTuple):
+    """How a program ends: its status, how many octets it prints, their digest, and what it says on standard error."""
+
+    status: int
+    octets: int
+    digest: str
+    said: str
+
+
+def end_of(status: int, printed: str, said: str) -> End:
+    """This end, of a program that printed this, an octet for each character."""
+    octets = printed.encode("latin-1")
+    return End(status, len(octets), hashlib.sha256(octets).hexdigest(), said)
+
+
+PAIR = Topology("plain", False, [(1, 1), (2, 1)], [])
+MANY = Topology("plain", False, [(imp, 4) for imp in range(1, 64)], [])
+CONNECTED = ["contact 0/1 0/2", "calm 3", "openrecv 0/1 0/2 16 33", "opensend 0/2 0/1 33 16 8", "calm 3"]
+SHORT = ["contact 0/1 0/2", "calm 3", "server 0/1 7 100", "openrecv 0/1 0/2 2 1", "opensend 0/2 0/1 1 2 8", "calm 3", "grant 0/1 2 65000 1000000"]
+SERVED = ["contact 0/1 0/2", "calm 3", "server 0/1 7 100", "user 0/2 0/1 7 16", "calm 40"]
+# two echo services, each connected with the other: both servers have met a user, of which the other has the sockets
+JOINED = ["contact 0/1 0/2", "calm 3", "server 0/1 7 100", "server 0/2 9 200", "openrecv 0/2 0/1 198 7", "openrecv 0/1 0/2 98 9", "calm 3", "grant 0/2 198 1 32", "grant 0/1 98 1 32", "calm 9"]
+JOINED += ["close 0/2 200", "close 0/2 201", "openrecv 0/2 0/1 200 101", "opensend 0/2 0/1 201 100 8", "calm 5"]
+
+
+class Limit(NamedTuple):
+    """An input past a limit: the options, the network and the lines of its script."""
+
+    options: list[str]
+    network: Topology
+    lines: list[str]
+
+
+def ring(count: int) -> list[tuple[int, int]]:
+    """As many lines as this many IMPs can have: each is joined to the two before it and the two after it."""
+    return [(at + 1, (at + step) % count + 1) for step in (1, 2) for at in range(count)]
+
+
+LIMITS: dict[str, Limit] = {
+    "messages of a life": Limit(["--book"], PAIR, [*CONNECTED, "grant 0/1 16 1200 9600", *["send 0/2 33 8 5A", "calm 2"] * 1100]),
+    "bits of a life": Limit(["--book"], PAIR, [*CONNECTED, "grant 0/1 16 200 2000000", f"send 0/2 33 1048584 {'5A' * 131073}", "calm 300"]),
+    "bits that wait": Limit(["--book"], PAIR, [*CONNECTED, f"send 0/2 33 2000000 {'5A' * 250000}", "calm 4"]),
+    "crossings, notices and changes of lives": Limit([], PAIR, [*SHORT, *["send 0/2 1 8 5A", "calm 1"] * 34_000]),
+    "notices that services hear": Limit([], PAIR, [*JOINED, "send 0/1 101 8 5A", "calm 70000"]),
+    "peers": Limit([], MANY, [*[f"contact 0/1 {host}/{imp}" for imp in range(2, 64) for host in range(4)], "calm 6"]),
+    "requests in a row": Limit([], MANY, [*[f"contact {host}/{imp} 0/1" for imp in range(2, 64) for host in range(4)], "calm 12"]),
+    "ends": Limit(["--book"], PAIR, ["contact 0/1 0/2", "calm 3", *[f"openrecv 0/1 0/2 {2 * at} {2 * at + 1}" for at in range(1, 250)], "calm 20", *[f"opensend 0/1 0/2 {2 * at + 1} {2 * at} 8" for at in range(1, 5000)], "calm 1000"]),
+    "listeners": Limit([], PAIR, ["contact 0/1 0/2", "calm 3", *[f"listen 0/2 {at} 8" for at in range(1, 3000)], "openrecv 0/1 0/2 16 2999", "calm 4"]),
+    "commands that wait": Limit([], PAIR, ["contact 0/1 0/2", "calm 3", *["echo 0/1 0/2 65"] * 5000, "calm 400"]),
+    "a typed line": Limit([], PAIR, [*SERVED, f"type 0/2 {'A' * 20_000}", "calm 200"]),
+    "servers": Limit([], PAIR, ["contact 0/1 0/2", "calm 3", *[f"server 0/1 {2 * at + 1} {10_000 + 2 * at}" for at in range(600)], "user 0/2 0/1 1199 16", "calm 40"]),
+    "lines of a subnet": Limit([], Topology("subnet", True, [(imp, 1) for imp in range(1, 64)], [*ring(63)]), ["calm 40", *[f"out 0/1 0/{imp} 5 8 41" for imp in range(2, 64)], "calm 60"]),
+}
+
+
+LOG = "crossings of a log"
+TRACE = "events of a trace"
+TAKINGS = Limit(["--trace"], Topology("plain", True, [(1, 2), (2, 1)], []), ["take 0/1"] * 12_000)
+NAMES = [*LIMITS, LOG, TRACE]
+
+
+def a_log() -> bytes:
+    """A log of a million crossings: a host stops and starts."""
+    return b"down 0/1\nup 0/1\n" * 500_000 + b"end\n"
+
+
+def given(name: str) -> tuple[list[str], bytes]:
+    """The options and the input of a limit."""
+    if name == LOG:
+        return ["--audit"], a_log()
+    limit = TAKINGS if name == TRACE else LIMITS[name]
+    return limit.options, spelled_input(limit.network, limit.lines)
+
+
+def by_program(program: str, name: str) -> End:
+    """How the program ends on a limit."""
+    options, octets = given(name)
+    ran = subprocess.run([program, *options], input=octets, capture_output=True, check=False)
+    return end_of(ran.returncode, ran.stdout.decode("latin-1"), ran.stderr.decode("latin-1"))
+
+
+def by_model(name: str) -> End:
+    """How it ends by the models."""
+    if name == LOG:
+        return end_of(*ends_audit(a_log()))
+    if name == TRACE:
+        return end_of(*ends_trace(TAKINGS.network, TAKINGS.lines))
+    limit = LIMITS[name]
+    return end_of(*expected(limit.options, limit.network, [*limit.lines, ""]))
+
+
+def kept() -> dict[str, End]:
+    """What the models said of each limit."""
+    with open(KEPT, encoding="utf-8") as file:
+        found: dict[str, tuple[int, int, str, str]] = json.load(file)
+    return {name: End(*end) for name, end in found.items()}
+
+
+def by_models(names: list[str]) -> dict[str, End]:
+    """What they say of these now."""
+    with ProcessPoolExecutor(os.cpu_count() or 1) as processes:
+        return dict(zip(names, processes.map(by_model, names)))
+
+
+def write(names: list[str]) -> int:
+    """Keeps what the models say."""
+    known = kept() if os.path.isfile(KEPT) else {}
+    known |= by_models(names)
+    with open(KEPT, "w", encoding="utf-8") as file:
+        file.write("{\n" + ",\n".join(f"  {json.dumps(name)}: {json.dumps(known[name])}" for name in NAMES if name in known) + "\n}\n")
+    print(f"check limits: {len(names)} ends are kept")
+    return 0
+
+
+def differing(who: str, found: dict[str, End], wanted: dict[str, End]) -> list[str]:
+    """What is wrong with ends, in lines."""
+    return [f"{name}: {who} has {found[name]}; kept is {wanted.get(name)}" for name in found if found[name] != wanted.get(name)]
+
+
+def main() -> int:
+    """Tries all, or those that are named."""
+    words = sys.argv[1:]
+    names = [it for it in words if not it.startswith("--")] or NAMES
+    if unknown := [it for it in names if it not in NAMES]:
+        print(f"check limits: there is no limit called {unknown[0]}; there are {', '.join(NAMES)}")
+        return 1
+    if "--write" in words:
+        return write(names)
+    program = any_program()
+    if program is None:
+        print("check limits: there is no program of these sources")
+        return 1
+    wanted = kept()
+    wrong = [f"{name}: kept is no good end" for name in names if name not in wanted or wanted[name].status]
+    with ThreadPoolExecutor(os.cpu_count() or 1) as threads:
+        wrong += differing("the program", dict(zip(names, threads.map(partial(by_program, program), names))), wanted)
+    if "--models" in words:
+        wrong += differing("a model", by_models(names), wanted)
+    for line in wrong:
+        print(f"check limits: {line}")
+    print(f"check limits: {len(names)} inputs past a limit, and {len(wrong)} of them end otherwise than the models say")
+    return 1 if wrong else 0

@@ -1,0 +1,255 @@
+"""Logs that were written by hand, and what is to be said of each, with the line: rows for `check audit`.
+
+Most are made of one short log, that of docs/audit.md, with something changed in it.
+"""
+
+from __future__ import annotations
+
+import re
+import subprocess
+from collections.abc import Iterator
+
+from workshop.parts import ROOT
+
+with open(f"{ROOT}/logs/two-octets", encoding="utf-8") as log, open(f"{ROOT}/docs/audit.md", encoding="utf-8") as page:
+    SHORT, PAGE = log.read(), page.read()
+
+# ---- the short log with a text changed, and the verdict. Its crossings are the lines 1 to 9, its lives 10 and 11, its lists 12 and 13
+
+RECEIVER, SENDER = SHORT.splitlines()[9:11]
+LIST, LISTS, LISTS_TURNED = "handed 0 -\n", "handed 0 -\nhanded 24 484950\n", "handed 24 484950\nhanded 0 -\n"
+BOTH = f"{RECEIVER}\n{SENDER}\n{LISTS}"
+ENDED, NONE_TAKEN, NONE_SENT = RECEIVER.replace("open", "ended"), RECEIVER.replace("1 16 1", "0 0 1").replace("4849", "-"), SENDER.replace("1 16 0", "0 0 0").replace("4849", "-")
+ALL_TAKEN = "handed 0 -\nhanded 16 4849\n"  # the lists where no more was handed over than was taken
+ASKS, OFFERS, DATA = ("".join(f"{line}\n" for line in SHORT.splitlines()[at : at + 3]) for at in (0, 3, 6))
+MORE = DATA.replace("56 00080002004849", "48 000800010051")
+
+
+def asks(commands: str) -> str:
+    """The first three lines with other commands in the message of host 0/1."""
+    count = len(commands) // 2
+    return ASKS.replace("120 0008000A0001000000100000002105", f"{40 + 8 * count} 0008{count:04X}00{commands}")
+
+
+RTS, RTS_6 = "01000000100000002105", "01000000100000002106"
+REQUESTS = [  # what host 0/1 says in the place of its request, and the verdict
+    (RTS, "kept"),
+    (f"00{RTS}", "kept"),
+    (RTS + RTS_6, "kept"),
+    (RTS_6 + RTS, "kept"),
+    (f"01000000100000002101{RTS}", "kept"),
+    (RTS_6, "broken lives line 10"),
+    ("01000000100000002120", "broken lives line 10"),
+    ("02000000100000002105", "broken lives line 10"),
+    (RTS.replace("10", "12"), "broken lives line 10"),
+    (f"0E{RTS}", "broken lives line 10"),
+    (f"{RTS[:-2]}", "broken lives line 10"),
+]
+
+
+def again(request: str, crossed: str, took: str, sent: str) -> str:
+    """The data, then the requests of a second connection of the same sockets, what crossed then, and all lives."""
+    lives = f"{RECEIVER}\n{SENDER}\nlife 0/1 16 0/2 33 9 13 receive {took}\nlife 0/2 33 0/1 16 12 10 send {sent}\n"
+    return f"{DATA}{asks(request)}{OFFERS}{crossed}{lives}{LISTS}handed 0 -\nhanded 8 51\n"
+
+
+NOTHING, ONE = ("0 0 1 100 0 0 open -", "0 0 0 0 0 0 open -"), ("1 8 1 100 0 0 open 51", "1 8 0 0 0 0 open 51")
+ON_6 = MORE.replace("0/1 5", "0/1 6")
+VERDICTS = [
+    ("", "", "kept"),
+    # what isn't promised
+    ("484950\n", "4849FF\n", "kept"),
+    ("1 100 0 0 open", "2 999 0 0 closed", "kept"),
+    ("1 16 1 100 0 0 open 4849\n", "1 7 1 100 0 0 open 48\n", "broken lives line 10"),
+    ("receive 1 16 1 100 0 0 open 4849", "receive 0 0 1 16 0 0 open -", "kept"),
+    (LIST, "handed 8 FF\n", "kept"),
+    # the run of the mailboxes
+    ("answer rfnm 0/2 0/1 5", "answer dead 0/2 0/1 5", "broken run line 9"),
+    ("answer rfnm 0/2 0/1 5", "answer nottaken 0/2 0/1 5", "broken run line 9"),
+    ("answer rfnm 0/2 0/1 5", "answer incomplete 0/2 0/1 5", "kept"),
+    ("answer rfnm 0/2 0/1 5", "out 0/2 0/1 5 0 -", "broken run line 9"),
+    ("answer rfnm 0/2 0/1 5", "down 0/2", "kept"),
+    ("answer rfnm 0/2 0/1 5\n", "down 0/2\nanswer rfnm 0/2 0/1 5\n", "broken run line 10"),
+    ("answer rfnm 0/2 0/1 5\n", "down 0/2\nup 0/2\nanswer rfnm 0/2 0/1 5\n", "broken run line 11"),
+    # lives of the messages that crossed: none crossed, others did, not all of one, and none but the second counts
+    (DATA, "", "broken lives line 7"),
+    (DATA, DATA.replace("4849", "4142"), "broken lives line 10"),
+    ("receive 1 16 1 100 0 0 open 4849", "receive 1 8 1 100 0 0 open 48", "broken lives line 10"),
+    (DATA, MORE + DATA, "broken lives line 13"),
+    (DATA, DATA + MORE, "kept"),
+    *((ASKS, asks(commands), wanted) for commands, wanted in REQUESTS),
+    (OFFERS, OFFERS.replace("1008", "1000"), "broken lives line 10"),
+    # sockets that are used again: a life has the messages of its own link, after its own requests
+    (DATA + BOTH, again(RTS_6, "", *NOTHING), "kept"),
+    (DATA + BOTH, again(RTS_6, ON_6, *ONE), "kept"),
+    (DATA + BOTH, again(RTS, MORE, *ONE), "kept"),
+    (DATA + BOTH, again(RTS_6, MORE, *ONE), "broken lives line 21"),
+    (DATA + BOTH, again(RTS, "", "1 16 1 100 0 0 open 4849", "1 16 0 0 0 0 open 4849"), "broken lives line 18\nbroken streams line 19"),
+    # messages
+    ("answer rfnm 0/2 0/1 5", "in 0/2 0/1 5 56 00080002004849", "broken run line 9\nbroken messages line 9"),
+    ("in 0/2 0/1 5 56 00080002004849", "in 0/2 0/1 5 56 00080002004848", "broken run line 8\nbroken lives line 10\nbroken messages line 8"),
+    ("in 0/2 0/1 5 56 00080002004849", "in 0/2 0/1 6 56 00080002004849", "broken run line 8\nbroken lives line 10\nbroken messages line 8"),
+    ("in 0/2 0/1 5 56 00080002004849\n", "", "broken run line 8\nbroken lives line 9\nbroken messages line 8"),
+    ("answer rfnm 0/2 0/1 5", "answer rfnm 0/2 0/1 4", "broken run line 9\nbroken messages line 9"),
+    # stamps: one that names no such message, and which life comes first
+    ("16 0/2 33 0 4", "16 0/2 33 7 4", "broken lives line 10\nmalformed line 10"),
+    ("16 0/2 33 0 4", "16 0/2 33 1 4", "broken lives line 10\nmalformed line 10"),
+    ("16 0/2 33 0 4", "16 0/2 33 0 3", "broken lives line 10\nmalformed line 10"),
+    ("16 0/2 33 0 4", "16 0/2 33 0 9", "broken lives line 10\nmalformed line 10"),
+    ("33 0/1 16 3 1", "33 0/1 16 3 7", "broken lives line 11\nmalformed line 11"),
+    ("33 0/1 16 3 1", "33 0/1 16 18446744073709551615 1", "broken lives line 11\nmalformed line 11"),
+    ("life 0/2 33 0/1", "life 0/3 33 0/1", "broken lives line 11\nmalformed line 11"),
+    ("0/2 0/1 0", "0/2 0/1 1", "broken run line 5\nbroken lives line 11\nmalformed line 10\nbroken messages line 5"),
+    # numbers of lives and lists
+    ("handed 24 484950\n", "", "malformed line 11"),
+    (LISTS, "", "malformed line 10"),
+    (LIST, LIST + LIST, "malformed line 14"),
+    (SENDER + "\n", "", "malformed line 12"),
+    (RECEIVER + "\n" + SENDER + "\n", "", "malformed line 10"),
+    # partners
+    (f"{SENDER}\n{LIST}", f"{SENDER}\n{RECEIVER}\n{LIST}{LIST}", "broken partners lines 10 12\nbroken streams line 11"),
+    (f"{SENDER}\n{LISTS}", f"{SENDER}\n{SENDER}\n{LISTS}handed 24 484950\n", "broken partners lines 11 12"),
+    ("33 0/1 16 3 1", "33 0/1 18 3 1", "broken lives line 11\nbroken streams line 10"),
+    # streams
+    ("open 4849\nlife", "open 4848\nlife", "broken lives line 10\nbroken streams lines 10 11"),
+    ("receive 1 16 1 100 0 0 open 4849", "receive 1 17 1 100 0 0 open 484900", "broken lives line 10\nbroken streams lines 10 11"),
+    ("handed 24 484950", "handed 15 4848", "broken streams line 11"),
+    ("handed 24 484950", "handed 0 -", "broken streams line 11"),
+    ("send 1 16 0 0 0 0 open 4849", "send 1 17 0 0 0 0 open 484980", "broken lives line 11\nbroken streams line 11"),
+    (f"{SENDER}\n{LISTS}", LIST, "broken streams line 10"),
+    # grants
+    ("receive 1 16 1 100", "receive 1 16 1 15", "broken grants lines 10 11"),
+    ("receive 1 16 1 100", "receive 1 16 0 100", "broken grants lines 10 11"),
+    ("1 100 0 0", "1 100 0 85", "broken grants lines 10 11"),
+    ("1 100 0 0", "1 100 1 0", "broken grants lines 10 11"),
+    ("1 100 0 0", "2 100 1 84", "kept"),
+    ("receive 1 16 1 100", "receive 2 16 1 100", "broken lives line 10\nbroken grants lines 10 11"),
+    ("send 1 16", "send 2 16", "broken lives line 11\nbroken grants lines 10 11"),
+    # closes: a receiving life that its partner ended took all that was sent, and all that was handed over there
+    (BOTH, f"{ENDED}\n{SENDER}\n{LISTS}", "broken closes lines 10 11"),
+    (BOTH, f"{ENDED}\n{SENDER}\n{ALL_TAKEN}", "kept"),
+    (BOTH, f"{ENDED}\n{SENDER.replace('open', 'ended')}\n{ALL_TAKEN}", "kept"),
+    *((BOTH, f"{RECEIVER.replace('open', word)}\n{SENDER.replace('open', 'ended')}\n{LISTS}", "kept") for word in ("closed", "reset", "stopped")),
+    *((BOTH, f"{NONE_TAKEN.replace('open', word)}\n{SENDER}\n{LISTS}", "kept") for word in ("open", "closed", "reset", "stopped")),
+    (BOTH, f"{NONE_TAKEN.replace('open', 'ended')}\n{SENDER}\n{LISTS}", "broken closes lines 10 11"),
+    (DATA + BOTH, f"{NONE_TAKEN.replace('open', 'ended')}\n{NONE_SENT}\n{LISTS}", "broken closes lines 7 8"),
+    (DATA + BOTH, f"{NONE_TAKEN.replace('open', 'ended')}\n{NONE_SENT}\n{LIST}{LIST}", "kept"),
+    (BOTH, f"{SENDER}\n{ENDED}\n{LISTS_TURNED}", "broken closes lines 11 10"),
+    (BOTH, f"{ENDED}\n{LIST}", "broken streams line 10"),
+    (BOTH, f"{NONE_TAKEN.replace('open', 'ended')}\n{LIST}", "kept"),
+    (BOTH, f"{ENDED.replace('receive 1', 'receive 0')}\n{SENDER}\n{ALL_TAKEN}", "broken lives line 10\nbroken closes lines 10 11"),
+    (BOTH, f"{ENDED}\n{SENDER.replace('4849', '4848')}\n{ALL_TAKEN.replace('4849', '4848')}", "broken lives line 11\nbroken streams lines 10 11\nbroken closes lines 10 11"),
+    (BOTH, f"{ENDED}\n{SENDER.replace('33 0/1 16', '33 0/1 18')}\n{LISTS}", "broken lives line 11\nbroken streams line 10"),
+    (BOTH, f"{ENDED}\n{SENDER}\n{SENDER}\n{LIST}handed 16 4849\nhanded 24 484950\n", "broken partners lines 11 12\nbroken closes lines 10 11"),
+    (BOTH, f"{ENDED}\n{ENDED}\n{SENDER}\n{LIST}{LISTS}", "broken partners lines 10 11\nbroken closes lines 10 12"),
+    (BOTH, f"{ENDED}\n{ENDED.replace('1 16 1', '0 0 1').replace('4849', '-')}\n{SENDER}\n{LIST}{ALL_TAKEN}", "broken partners lines 10 11\nbroken closes lines 11 12"),
+    # the life that fails is the receiving one, wherever it is
+    (BOTH, f"{SENDER}\n{RECEIVER[:-1]}8\n{LISTS_TURNED}", "broken lives line 11\nbroken streams lines 11 10"),
+    (BOTH, f"{SENDER}\n{RECEIVER.replace('1 100', '1 15')}\n{LISTS_TURNED}", "broken grants lines 11 10"),
+    (BOTH, f"{SENDER.replace('send 1', 'send 2')}\n{RECEIVER}\n{LISTS_TURNED}", "broken lives line 10\nbroken grants lines 11 10"),
+    (BOTH, f"{SENDER}\n{RECEIVER}\n{LISTS_TURNED}", "kept"),
+    (BOTH, f"{SENDER}\n{RECEIVER}\n{LISTS}", "broken streams line 10"),
+    # each part that fails is named
+    ("receive 1 16 1 100 0 0 open 4849", "receive 1 16 0 0 0 0 open 4848", "broken lives line 10\nbroken streams lines 10 11\nbroken grants lines 10 11"),
+    (BOTH, f"{RECEIVER}\n{RECEIVER}\n{SENDER.replace('4849', '4848')}\n{LIST}{LISTS}", "broken lives line 12\nbroken partners lines 10 11\nbroken streams lines 10 12"),
+    (BOTH, f"{RECEIVER.replace('1 100', '1 15')}\n{SENDER}\n{SENDER}\n{LISTS}handed 8 48\n", "broken partners lines 11 12\nbroken streams line 12\nbroken grants lines 10 11"),
+    ("0/2 0/1 5\nlife 0/1", "0/2 0/1 6\nlife 0/1", "broken run line 9\nbroken messages line 9"),
+    # two senders of one life are odd partners, and its stream is that of either
+    (BOTH, f"{RECEIVER}\n{SENDER.replace('4849', '4848')}\n{SENDER}\n{LISTS}handed 24 484950\n", "broken lives line 11\nbroken partners lines 11 12\nbroken streams line 11"),
+]
+
+# ---- logs of one line and `end`, and the verdict; those that are bad
+
+LIFE = "life 0/1 16 0/2 33 0 4 receive 1 16 1 100 0 0 open 4849"
+GREATEST = f"life 3/63 4294967294 3/63 4294967295 {2**64 - 1} {2**64 - 1} receive {2**128 - 1} 0 {' '.join([str(2**128 - 1)] * 4)} ended -"
+LINES = {
+    "kept": [
+        *("out 0/1 0/2 5 0 -", "out 3/63 0/1 255 1 80", "out 0/1 0/1 0 8 FF", f"out 0/1 0/2 5 8063 {'FF' * 1007}FE"),
+        "down 0/1",
+    ],
+    "broken run line 1": ["answer dead 0/1 0/2 0", "answer incomplete 3/63 0/1 255", "answer nottaken 0/1 0/2 0", "up 3/63"],
+    "broken run line 1\nbroken messages line 1": ["in 0/1 0/2 5 0 -", "answer rfnm 0/1 0/2 5"],
+    "broken lives line 1\nmalformed line 1": [
+        *(LIFE, GREATEST, LIFE.replace("16 1 100", "13 1 100").replace("4849", "4848")),
+        *(LIFE.replace("open", word) for word in ("closed", "ended", "reset", "stopped")),
+    ],
+    "malformed line 1": ["handed 0 -", "handed 9 FF80"],
+}
+BAD_LINES = [
+    *("", " ", "#", "# end", "End", "end ", " end", "end\r", "end\0", "\xef\xbb\xbfend", "kept", "%", "take 0/1"),
+    *("ready 0/1 0/2", "opened 0/1 16 0/2 33", "sent 0/1 33 8", "arrived 0/1 16 8", "refused Blocked", "down", "down 0/1 0/2", "up 0", "Up 0/1"),
+    *("out 0/1 0/2 5 0", "out 0/1 0/2 5 0 - ", "out 0/1 0/2 5 0  -", "out\t0/1 0/2 5 0 -", "out 0/1 0/2 5 0 -\r", "OUT 0/1 0/2 5 0 -", "out 0/1 0/2 5 0 - -"),
+    *("out 0/1 0/2 5 8 ff", "out 0/1 0/2 5 8 F", "out 0/1 0/2 5 8 FF00", "out 0/1 0/2 5 9 FF", "out 0/1 0/2 5 7 FF", "out 0/1 0/2 5 8 -", "out 0/1 0/2 5 0 00"),
+    *("out 0/1 0/2 5 08 FF", "out 0/1 0/2 5 +8 FF", "out 0/1 0/2 5 -0 -", "out 0/1 0/2 5 0x8 FF", f"out 0/1 0/2 5 8064 {'FF' * 1008}"),
+    *("out 0/1 0/2 256 0 -", "out 0/1 0/2 05 0 -", "out 0/1 0/2 -1 0 -", "out 4/1 0/2 5 0 -", "out 0/64 0/2 5 0 -", "out 0/0 0/2 5 0 -", "out 00/1 0/2 5 0 -"),
+    *("out 0/1 0/02 5 0 -", "out 1 0/2 5 0 -", "in 0/1 0/2 5 0", "in 0/1 5 0 -", "answer rfn 0/1 0/2 5", "answer RFNM 0/1 0/2 5", "answer rfnm 0/1 0/2"),
+    *("answer rfnm 0/1 0/2 256", "answer rfnm 0/1 0/2 5 0", "answer 0/1 0/2 5", "answer notTaken 0/1 0/2 5", "answer never 0/1 0/2 5", "handed", "handed 0", "handed 0 00", "handed 8 -", "handed 1 C0", "handed 08 FF"),
+    *(LIFE.replace("0/1 16", f"0/1 {2**32 + 16}"), LIFE.replace("0/2 33", f"0/2 {2**32 + 33}"), LIFE.replace("0/2 33", f"0/2 0{33}")),
+    *(LIFE.replace(" 0 4 ", f" {2**64} 4 "), LIFE.replace(" 0 4 ", f" 0 {2**64} "), LIFE.replace(" 0 4 ", " 00 4 "), LIFE.replace(" 0 4 ", " 0 -4 ")),
+    *(LIFE.replace("receive 1 ", f"receive {2**128} "), LIFE.replace(" 1 100", f" {2**128} 100"), LIFE.replace(" 1 100", f" 1 {2**128}")),
+    *(LIFE.replace("0 0 open", f"{2**128} 0 open"), LIFE.replace("0 0 open", f"0 {2**128} open"), LIFE.replace("0 0 open", f"0 {'9' * 5000} open")),
+    *(LIFE.replace("receive", "send"), LIFE.replace("0/1 16", "0/1 17"), LIFE.replace("receive", "recv")),
+    *(LIFE.replace("open", word) for word in ("closing", "Ended", "over", "end", "0", "ended ended", "resets", "stop")),
+    *(LIFE.replace(" 4849", ""), LIFE + " ", LIFE.replace("1 16 1", "1 17 1"), LIFE.replace("1 16 1", "1 15 1"), LIFE.replace("1 16 1", "1 8 1")),
+    *(LIFE.replace("1 16 1", "1 0 1"), LIFE.replace("4849", "-"), LIFE.replace("0/1 16", "0/0 16"), LIFE.replace("life 0/1", "life 4/1"), LIFE.replace(" open", "")),
+]
+
+# ---- whole logs, octet by octet, and the verdict or the number of the bad line
+
+OCTETS: list[tuple[bytes, int | str]] = [
+    (b"", 1),
+    (b"end", 1),
+    (b"end\n", "kept"),
+    (b"\nend\n", 1),
+    (b"end\n\n", 2),
+    (b"end\nend\n", 2),
+    (b"end\nx", 2),
+    (b"end\r\n", 1),
+    (b"down 0/1\n", 2),
+    (b"down 0/1", 1),
+    (b"down 0/1\nend", 2),
+    (b"down 0/1\nup 0/1\n", 3),
+    (b"down 0/1\0\nend\n", 1),
+    (b"down 0/1\n\nend\n", 2),
+    # hosts that go down and come up: a message that went out before is forgotten, and one that waits is taken by a host that is up
+    (b"down 0/1\nup 0/1\nend\n", "kept"),
+    (b"down 0/1\ndown 0/1\nend\n", "broken run line 2"),
+    (b"down 0/1\nout 0/1 0/2 5 0 -\nend\n", "broken run line 2"),
+    (b"out 0/1 0/2 5 0 -\ndown 0/1\nup 0/1\nout 0/1 0/2 5 0 -\nend\n", "kept"),
+    (b"out 0/1 0/2 5 0 -\ndown 0/2\nup 0/2\nout 0/1 0/2 5 0 -\nend\n", "broken run line 4"),
+    (b"out 0/1 0/2 5 0 -\ndown 0/1\nin 0/1 0/2 5 0 -\nend\n", "kept"),
+    (b"out 0/1 0/2 5 0 -\ndown 0/2\nin 0/1 0/2 5 0 -\nend\n", "broken run line 3"),
+    (b"out 0/1 0/2 5 0 -\ndown 0/1\nanswer dead 0/1 0/2 5\nend\n", "broken run line 3"),
+    (b"out 0/1 0/2 5 0 -\nanswer dead 0/1 0/2 5\nout 0/1 0/2 5 0 -\nend\n", "kept"),
+    (b"out 0/1 0/2 5 0 -\nin 0/1 0/2 5 0 -\nout 0/1 0/2 5 0 -\nend\n", "broken run line 3"),
+    # each part that is broken is named: of a run the first crossing
+    (b"answer dead 0/1 0/2 5\nin 0/1 0/2 5 0 -\nend\n", "broken run line 1\nbroken messages line 2"),
+    (b"handed 0 -\ndown 0/1\nend\n", 2),
+    (f"{LIFE}\ndown 0/1\nend\n".encode(), 2),
+    (f"handed 0 -\n{LIFE}\nend\n".encode(), 2),
+    (f"{LIFE}\nhanded 0 -\n{LIFE}\nhanded 0 -\nend\n".encode(), 3),
+    (f"{LIFE}\nhanded 0 -\ndown 0/1\nend\n".encode(), 3),
+    (b"down 0/1\nno\nno\nend\n", 2),
+]
+
+
+def rows_of_page() -> Iterator[tuple[bytes, str]]:
+    """The changes of the page's log, as sed makes them, and what the program prints of each."""
+    if f"```text\n{SHORT}```" not in PAGE:
+        raise ValueError("docs/audit.md has another log than logs/two-octets")
+    for script, cell in re.findall(r"^\| `sed '(.*)'` \| ([^|]*?) \|", PAGE, re.MULTILINE):
+        changed = subprocess.run(["sed", script], input=SHORT.encode(), capture_output=True, check=True).stdout
+        yield changed, "\n".join(re.findall("`([^`]*)`", cell)) or cell
+
+
+def rows() -> Iterator[tuple[bytes, str]]:
+    """Each log, and what is to be said of it, with the line."""
+    for text, other, wanted in VERDICTS:
+        if text not in SHORT:
+            raise ValueError(f"the short log has no {text}")
+        yield SHORT.replace(text, other, 1).encode(), wanted
+    for wanted, lines in LINES.items():
+        yield from ((f"{line}\nend\n".encode(), wanted) for line in lines)
+    yield from ((f"{line}\nend\n".encode("latin-1"), "bad log line 1") for line in BAD_LINES)
+    yield from ((f"down 0/1\n{line}\nend\n".encode("latin-1"), "bad log line 2") for line in BAD_LINES)
+    yield from ((octets, f"bad log line {said}" if isinstance(said, int) else said) for octets, said in OCTETS)

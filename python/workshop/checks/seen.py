@@ -1,0 +1,95 @@
+"""What a long calm has printed is seen while it lasts, and calms that rest end at once (a second).
+
+Two echo services send one octet to and fro for as long as a calm lasts. From its 65th round on the program has to write whole lines after each
+round, so that an interrupt loses none of them. A network that rests has to end at once, however many rounds it is given, also where a host has more to
+say than its IMP has room for.
+
+./check seen [PROGRAM]: without one it takes the proved program, or the one that was built without proofs.
+"""
+
+from __future__ import annotations
+
+import socket
+import subprocess
+import sys
+import tempfile
+import time
+
+from dorydate.model.topology import Topology, spelled_input
+from workshop.checks.limits import JOINED, PAIR
+from workshop.parts import any_program
+
+MOST = 4_294_967_295
+UNSEEN = 64  # rounds of a calm, before each further one is written at once
+WITHIN = 2.0  # seconds, on a busy machine
+CHAIN = Topology("subnet", False, [(imp, 4) for imp in range(1, 14)], [(imp, imp + 1) for imp in range(1, 13)])
+CONTACTS = [f"contact 0/1 {host}/{imp}" for imp in range(2, 14) for host in range(4)]
+SILENT = Topology("subnet", True, [(1, 1), (2, 1)], [(1, 2)])
+# what comes before a calm that rests though something was refused or lost, and its network
+RESTING = {
+    "offers that are refused": (CHAIN, ["calm 20", "enddown 2 0", *CONTACTS]),
+    "frames that are lost": (SILENT, ["calm 3", "enddown 2 0", "out 0/1 0/2 9 8 41"]),
+}
+
+
+def dialogue(rounds: int) -> bytes:
+    """The input of a dialogue that lasts for this many rounds."""
+    return spelled_input(PAIR, [*JOINED, "send 0/1 101 8 5A", f"calm {rounds}"])
+
+
+def printed(program: str, octets: bytes) -> bytes:
+    """What the program prints to its end."""
+    return subprocess.run([program], input=octets, stdout=subprocess.PIPE, check=True).stdout
+
+
+def writes_of(program: str, octets: bytes) -> list[bytes]:
+    """What the program writes, a list of octets for each write."""
+    ours, theirs = socket.socketpair(socket.AF_UNIX, socket.SOCK_SEQPACKET)
+    with tempfile.TemporaryFile() as source, ours:
+        source.write(octets)
+        source.seek(0)
+        with subprocess.Popen([program], stdin=source, stdout=theirs.fileno()):
+            theirs.close()
+            return [*iter(lambda: ours.recv(1 << 20), b"")]
+
+
+def faults_of_dialogue(program: str) -> list[str]:
+    """What is wrong with a dialogue: each round after the first UNSEEN has to be written at once."""
+    writes = writes_of(program, dialogue(UNSEEN + 100))
+    before = printed(program, dialogue(UNSEEN)).removesuffix(b"end\n")
+    wrong = []
+    if b"".join(writes) != printed(program, dialogue(UNSEEN + 100)):
+        wrong.append("the writes are not the output")
+    if not b"".join(writes[:-101]).startswith(before[: len(before) // 2]) or len(writes) < 100:
+        wrong.append(f"100 rounds of a long calm were written in {len(writes)} writes")
+    if any(not it.endswith(b"\n") for it in writes):
+        wrong.append("a write ends within a line")
+    return wrong
+
+
+def faults_of_resting(program: str) -> list[str]:
+    """Which calms take as long as they have rounds, or print something else than short ones."""
+    wrong = []
+    for name, (network, lines) in RESTING.items():
+        short = printed(program, spelled_input(network, [*lines, "calm 1000"]))
+        try:
+            begun = time.monotonic()
+            ran = subprocess.run([program], input=spelled_input(network, [*lines, f"calm {MOST}"]), stdout=subprocess.PIPE, check=True, timeout=30)
+        except subprocess.TimeoutExpired:
+            wrong.append(f"{name}: the calm did not end")
+            continue
+        if ran.stdout != short or time.monotonic() - begun > WITHIN:
+            wrong.append(f"{name}: {len(ran.stdout)} octets in {time.monotonic() - begun:.1f} s, and a short calm prints {len(short)}")
+    return wrong
+
+
+def main() -> int:
+    program = sys.argv[1] if len(sys.argv) > 1 else any_program()
+    if program is None:
+        print("check seen: there is no program of these sources")
+        return 1
+    wrong = faults_of_dialogue(program) + faults_of_resting(program)
+    for it in wrong:
+        print(f"check seen: {it}")
+    print(f"check seen: a dialogue without end and {len(RESTING)} calms that rest: {len(wrong)} faults")
+    return 1 if wrong else 0

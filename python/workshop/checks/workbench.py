@@ -1,0 +1,199 @@
+"""The workbench: its modules by Node on every example and by the independent model, and with --browser its page in browsers (2 minutes).
+
+With Node (Debian's package `nodejs`), over the native program (over its module, which is faster, while it is not proved and has one):
+- each example's moments print what is stored, each stop is there once, and a change at a random position is exact;
+- what each event leaves inside, in the programs of hosts too, is what the independent model in Python has then, part for part;
+- packets that are thrown away are called repeats or lost, as rows written by hand say;
+- nothing that waits is left out at any stop, each message has its lane, each sentence is whole, and faults, texts and addresses are as by hand;
+- random lines have a fault here exactly where the reader in Python finds one;
+- planted faults in all of these are found.
+
+TypeScript (`node-typescript`) checks the types where it is there. With --browser the page of `./build --wasm` is opened in Chromium and
+Firefox, as many of them as there are: each lesson is stepped forth and back, parts are tapped, sizes measured, planted faults found.
+"""
+
+from __future__ import annotations
+
+import json
+import os
+import random
+import shutil
+import subprocess
+import sys
+import tempfile
+from typing import Any
+
+from dorydate.model.runs import opened
+from dorydate.model.script import read_event
+from dorydate.explain import topology
+from dorydate.explain.inside import Inside
+from dorydate.explain import faults
+from dorydate.model.subnet import Subnet
+from dorydate.model.trace_subnet import every_name, part
+from dorydate.model.trace_world import program_of
+from dorydate.model.names import spell_host
+from dorydate.model.world import World
+from dorydate.sentences import DEEDS, silence
+from workshop.parts import ROOT, any_program
+
+MOST_ROUNDS = 400  # of calm in an example that the model follows
+
+
+class Wrong(Exception):
+    """What differs."""
+
+
+def node() -> str | None:
+    return shutil.which("node") or shutil.which("nodejs")
+
+
+def states_of(text: bytes) -> list[dict[str, dict[str, Any] | None]] | None:
+    """The parts of a subnet, and the programs of its hosts, after each event of an input, by the independent model; None for plain
+    mailboxes and long calms."""
+    head, _, script = text.decode().partition("\n%\n")
+    network = topology.read(head.encode())
+    lines = [it for it in script.split("\n") if it and not it.startswith("#")]
+    rounds = sum(int(it.split(" ")[1]) for it in lines if it.startswith("calm "))
+    if network.is_plain() or rounds > MOST_ROUNDS or len(network.topology.imps) > 16:
+        return None
+    place = opened(network.topology)
+    subnet = getattr(place, "carrier", place)
+    if not isinstance(subnet, Subnet):
+        return None
+    states = []
+    for line in lines:
+        place.happen(*read_event(line, network.raw))
+        states.append({name: part(subnet, name) for name in every_name(subnet)} | programs_of(place))
+    return states
+
+
+def programs_of(place: object) -> dict[str, dict[str, Any] | None]:
+    """What the programs of hosts hold, where hosts have programs."""
+    hosts = place.hosts.items() if isinstance(place, World) else ()
+    return {f"program {spell_host(host)}": program_of(program) for host, program in hosts}
+
+
+def told_of_deeds() -> dict[str, dict[str, str]]:
+    """What ./explain says of each deed of a user, by the line of the script, in examples whose sites have no names."""
+    found: dict[str, dict[str, str]] = {}
+    for name in sorted(os.listdir(f"{ROOT}/examples")):
+        if "." in name or os.path.exists(f"{ROOT}/examples/{name}.status"):
+            continue
+        with open(f"{ROOT}/examples/{name}", "rb") as file:
+            head, _, script = file.read().decode().partition("\n%\n")
+        network = topology.read(head.encode())
+        lines = script.split("\n")
+        rounds = sum(int(it.split(" ")[1]) for it in lines if it.startswith("calm "))
+        if network.raw or network.names or rounds > MOST_ROUNDS:
+            continue
+        goes = Inside(network.topology)
+        for number, line in enumerate(lines, 1):
+            if line and not line.startswith("#"):
+                told = goes.happen(read_event(line, False))
+                words = line.split(" ", 2) if line.startswith("type ") else line.split(" ")
+                if words[0] in DEEDS and not any(it.startswith("refused ") for it in told.printed):
+                    found.setdefault(name, {})[str(number)] = f"{silence(words)} {' '.join(told.sentences)}".rstrip()
+    return found
+
+
+def model_states() -> dict[str, object]:
+    """Those of each example that the program replays."""
+    found: dict[str, object] = {}
+    for name in sorted(os.listdir(f"{ROOT}/examples")):
+        if "." in name or os.path.exists(f"{ROOT}/examples/{name}.status"):
+            continue
+        with open(f"{ROOT}/examples/{name}", "rb") as file:
+            states = states_of(file.read())
+        if states is not None:
+            found[name] = states
+    return found
+
+
+def lines_by_chance(count: int) -> list[tuple[str, bool, bool]]:
+    """Lines of scripts, most of them changed at one place; whether the network is raw, and whether the line is bad."""
+    chance = random.Random(59)
+    known = []
+    for name in sorted(os.listdir(f"{ROOT}/examples")):
+        if "." not in name:
+            with open(f"{ROOT}/examples/{name}", encoding="utf-8") as file:
+                head, _, script = file.read().partition("\n%\n")
+            known += [(line, "raw = true" in head) for line in script.split("\n") if line and not line.startswith("#") and len(line) < 200]
+    found = []
+    for _ in range(count):
+        line, raw = chance.choice(known)
+        at = chance.randrange(len(line) + 1)
+        changes = [line, line[:at] + chance.choice("0123456789/+-ABf ") + line[at:], line[:at] + line[at + 1 :], line[:at], chance.choice(known)[0]]
+        line = chance.choice(changes)
+        if line and not line.startswith("#"):
+            found.append((line, raw, faults.wrong_with_line(line.encode(), raw) is not None))
+    return found
+
+
+def check_types() -> None:
+    command = shutil.which("tsc")
+    if not command:
+        print("check workbench: there is no tsc here, so no types were checked")
+        return
+    ran = subprocess.run([command, "-p", f"{ROOT}/web"], capture_output=True, text=True)
+    if ran.returncode:
+        raise Wrong(ran.stdout)
+    print("check workbench: the types are right")
+
+
+def fastest(program: str) -> str:
+    """A program that was built without proofs isn't optimised, and the module that is made of it is."""
+    module = f"{program}.wasm"
+    return module if program.endswith("-unproved") and os.path.exists(module) else program
+
+
+def check_modules(command: str, program: str) -> None:
+    """The tests in Node, with the states of the independent model in a file."""
+    with tempfile.NamedTemporaryFile("w", suffix=".json") as states:
+        json.dump({"states": model_states(), "lines": lines_by_chance(4000), "deeds": told_of_deeds()}, states)
+        states.flush()
+        folder = f"{ROOT}/web/workbench/tests"
+        tests = [f"{folder}/{it}" for it in sorted(os.listdir(folder)) if it.endswith(".test.js")]
+        ran = subprocess.run([command, "--test", *tests], env={**os.environ, "ARPASIM": program, "STATES": states.name}, capture_output=True, text=True)
+    counts = {line.split(" ")[1]: line.split(" ")[2] for line in ran.stdout.splitlines() if line.startswith("# ") and line.count(" ") == 2}
+    if ran.returncode:
+        raise Wrong(f"{counts.get('fail')} tests failed\n{failures(ran.stdout)}")
+    print(f"check workbench: {counts.get('pass')} tests in Node")
+
+
+def failures(told: str) -> str:
+    lines = told.splitlines()
+    return "\n".join(line for at, line in enumerate(lines) if any("not ok" in it for it in lines[max(0, at - 14) : at + 1]))[:4000]
+
+
+def check_browsers(command: str) -> None:
+    browsers = [found[0] for names in (("chromium", "chromium-browser", "google-chrome"), ("firefox", "firefox-esr")) if (found := [path for name in names if (path := shutil.which(name))])]
+    if not browsers:
+        print("check workbench: there is no browser here, so the page was tried in none")
+        return
+    made = subprocess.run([f"{ROOT}/build", "--wasm"], stdout=subprocess.PIPE, text=True)
+    if made.returncode:
+        raise Wrong("./build --wasm made no page")
+    page = made.stdout.strip().splitlines()[-1]
+    if subprocess.run([command, f"{ROOT}/web/check/workbench.js", page, *browsers]).returncode:
+        raise Wrong("the page in a browser")
+
+
+def main() -> int:
+    if sys.argv[1:] not in ([], ["--browser"]):
+        print("usage: ./check workbench [--browser]", file=sys.stderr)
+        return 1
+    command, program = node(), any_program()
+    if not command:
+        print("check workbench: there is no Node here (Debian's package nodejs), so nothing was checked")
+        return 0
+    if not program:
+        return 1
+    try:
+        check_types()
+        check_modules(command, fastest(program))
+        if sys.argv[1:]:
+            check_browsers(command)
+    except Wrong as what:
+        print(f"check workbench: {what}")
+        return 1
+    return 0

@@ -1,0 +1,67 @@
+"""What the page of the promise says beside definitions: a key to the language's words and those of its library, and a book worked by hand."""
+
+from __future__ import annotations
+
+from workshop.documents.rules import read
+from workshop.parts import ROOT
+
+# words of a definition, and what they say. Each name that definitions take of the standard library has to be here
+KEY = (
+    ("`abbrev pub f : A → B`, `unfoldable pub`, `abbrev`, `pub`", "a definition that other files may use: its type, and then its value, for each form that its arguments can have"),
+    ("`record R .. where`", "something that has all of these fields; as a statement, all of these hold"),
+    ("`data D : Type 0 where`", "something that has one of these forms"),
+    ("`Type 0`", "the type of types and of statements: a definition that gives it is a statement about its arguments"),
+    ("`A → B`, `(x : A) → B`", "if A, then B; for each x of A, B. Of functions: what they take and give"),
+    ("`A × B`, `(x : A) × B`", "both A and B; there is an x of A with B"),
+    ("`A ⊎ B`", "A or B"),
+    ("`Unit {0}`, `⊥`", "holds always; never holds, so that `A → ⊥` says that A doesn't"),
+    ("`a ≡ b`", "both are the same"),
+    ("`x.f`, `record { f = v }`, `record x { f = v }`", "the field f of x; the value with these fields; x with another value there"),
+    ("`crossing.Out m`, `answer.Rfnm`", "a variant of a type that is declared in Rust"),
+    ("`ℕ`, `zero`, `suc n`", "the numbers 0, 1, 2, ..; 0; n + 1. Rust's unsigned numbers are such numbers here, within their range"),
+    ("`+`, `*`, `-`, `%`, `min`", "sum, product, difference (0 where it would be less), remainder, the lesser of two"),
+    ("`<`, `≤`", "less, at most, as statements"),
+    ("`Bool`, `true`, `false`, `not`, `&&`, `||`", "truth values: not, and, or"),
+    ("`==`, `nat_lt`, `nat_le`", "equal, less, at most, as truth values"),
+    ("`if c then a else b`", "a if c is true, else b"),
+    ("`List A`, `[]`, `x ∷ xs`, `xs ++ ys`, `length`", "a list; the empty one; x before xs; one after the other; how many members it has. A text is a `List Bool`"),
+    ("`take n xs`, `drop n xs`", "the first n members, or all where there are fewer; what is left without them"),
+    ("`slice_index xs n`, `slice_index_or xs n d`", "member n, from 0 on; d where there is none"),
+    ("`Contains xs x`, `list_any test xs`", "x is a member of xs; whether a member passes the test"),
+    ("`Option A`, `Some x`, `None`, `IsSome`, `option_or`", "an x, or nothing; that there is one; the first where there is one, else the second"),
+    ("`Result A E`, `Ok x`, `Err e`", "a value, or a fault"),
+    ("`Width`, `w16`, `w32`, `byte_len`, `from_be_bytes w xs`", "widths of numbers, of 16 and 32 bits; how many octets one has; the number in these octets, the highest first"),
+)
+
+# the parts of the promise, what each asks of a book, and what that is in the book of two octets
+WORKED = (
+    ("`run`", "each crossing finds its host up and the box as it needs it", "line 7 puts the data into the empty box of the flow 0/2 to 0/1 on link 5, line 8 takes them from it, and line 9, RFNM, is about a message that was taken"),
+    ("`formed`", "a life's requests crossed at its stamps, and its bits are the data of messages on the link that the RTS names", "0/1's RTS went out in line 1 (place 0) and names link 5; 0/2's STR came in in line 5 (place 4). The first message on link 5 after both is that of line 8, with the bits `4849`"),
+    ("`told`", "each notice of data reports the message that crossed just before it", "after line 7 the user at 0/2 is notified of 16 bits sent, after line 8 the one at 0/1 of 16 bits that have arrived"),
+    ("`safe`, messages", "an RFNM's message was taken once, with its text", "line 9 is about the message of line 7, which line 8 took"),
+    ("`safe`, partners", "no two lives have one request, and partners name each other", "the own request of 0/1 went out at place 0, that of 0/2 at place 3; what 0/1 took at place 4 is that of place 3, and what 0/2 took at place 1 is that of place 0"),
+    ("`safe`, streams", "what was taken is a prefix of what was sent, and that of what was handed over", "`4849` of `4849`, and that of `484950`"),
+    ("`safe`, grants", "what was taken and sent is granted", "1 message of 16 bits, where 1 of 100 bits was granted"),
+    ("`joined`", "a finished initial connection pairs the right four sockets", "nothing here: no service reports that one is finished"),
+)
+
+
+def key() -> str:
+    """The key, as a table."""
+    rows = "".join(f"| {words} | {meaning} |\n" for words, meaning in ((words.replace("|", "\\|"), meaning) for words, meaning in KEY))
+    return f"\n## The words of the language\n\n| Words | What they say |\n|---|---|\n{rows}"
+
+
+def known_words() -> set[str]:
+    """The words that the key explains."""
+    return {word for words, _ in KEY for part in words.split("`")[1::2] for word in part.replace(",", " ").split()}
+
+
+def worked() -> str:
+    """The book of two octets, and what each part of the promise says of it."""
+    log = read(f"{ROOT}/logs/two-octets").rstrip("\n")
+    rows = "".join(f"| {part} | {asks} | {here} |\n" for part, asks, here in WORKED)
+    return (
+        "\n## A book to try it on\n\nThis is [logs/two-octets](../../logs/two-octets), which [the audit's page](../audit.md#a-log-by-hand) explains line by line: nine crossings, two lives, "
+        f"and what was handed over in each.\n\n```text\n{log}\n```\n\n| Part | Asks | In this book |\n|---|---|---|\n{rows}"
+    )

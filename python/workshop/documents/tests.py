@@ -1,0 +1,261 @@
+"""Tests of what `./check docs` finds: each fault is planted, and has to be named: python3 -m unittest workshop.documents.tests (in python/)."""
+
+from __future__ import annotations
+
+import os
+import subprocess
+import tempfile
+import unittest
+from unittest import mock
+
+from workshop.documents import anchors, believed, believed_words, budget, crates_page, dialect, figures, named_crates, paragraphs, rules
+from workshop.drawings import facts, formats, hosts, network, pictures, repository
+from workshop.drawings.svg import Drawing
+from workshop.parts import ROOT
+
+
+def drawn(*texts: tuple[float, float, str]) -> Drawing:
+    drawing = Drawing("test", "a title", "a description", 100)
+    for x, y, words in texts:
+        drawing.text(x, y, words)
+    return drawing
+
+
+class Drawings(unittest.TestCase):
+    def test_texts_that_overlap_are_named(self) -> None:
+        self.assertEqual(drawn((100, 20, "one"), (300, 20, "other")).faults(), [])
+        self.assertEqual(len(drawn((100, 20, "one"), (104, 22, "other")).faults()), 1)
+
+    def test_a_text_past_the_edge_is_named(self) -> None:
+        self.assertEqual(len(drawn((470, 20, "past the edge")).faults()), 1)
+
+    def test_a_line_through_a_text_is_named(self) -> None:
+        drawing = drawn((240, 50, "a text"))
+        drawing.arrow(0, 50, 480, 50)
+        self.assertEqual(drawing.faults(), ["pictures/test.svg: a line runs through `a text`"])
+        beside = drawn((240, 50, "a text"))
+        beside.arrow(0, 80, 480, 80)
+        self.assertEqual(beside.faults(), [])
+
+    def test_a_small_text_is_named(self) -> None:
+        drawing = drawn()
+        drawing.text(100, 20, "small", size=9)
+        self.assertEqual(drawing.faults(), ["pictures/test.svg: a text of size 9"])
+
+    def test_a_number_that_no_source_has_is_named(self) -> None:
+        self.assertEqual(pictures.unknown_numbers(drawn((240, 20, "0 to 65,535"))), [])
+        self.assertEqual(pictures.unknown_numbers(drawn((240, 20, "0 to 65,534"))), ["pictures/test.svg: the number 65534 is not of the sources"])
+
+    def test_a_fact_that_the_sources_have_otherwise_is_named(self) -> None:
+        right, wrong = facts.FACTS["store_places"], facts.Fact(33, facts.FACTS["store_places"].places)
+        self.assertEqual(right.faults("store_places"), [])
+        self.assertEqual(len(wrong.faults("store_places")), 2)
+        self.assertEqual(len(facts.Fact(1, (("imp_node/specs/Room.antt", "^nothing = (1)"),)).faults("nothing")), 1)
+
+    def test_a_command_of_another_length_is_named(self) -> None:
+        with mock.patch.object(formats, "COMMANDS", formats.COMMANDS[:-1]):
+            self.assertEqual(len(formats.faults()), 1)
+
+    def test_a_crate_that_is_not_there_is_named(self) -> None:
+        wrong = (("messages", "once", (("flow_law",), ("no_such_crate",), ("net_sim",))),)
+        with mock.patch.object(repository, "PROOFS", wrong):
+            self.assertEqual(repository.faults(), ["drawings/repository.py: no crate no_such_crate"])
+
+    def test_every_drawing_is_legible_and_says_what_it_shows(self) -> None:
+        for make in (*formats.ALL, *network.ALL, *hosts.ALL, *repository.ALL):
+            drawing = make()
+            self.assertEqual(drawing.faults(), [])
+            self.assertTrue(drawing.title and len(drawing.description) > 40, drawing.name)
+            self.assertIn("prefers-color-scheme:dark", drawing.svg())
+
+
+class Pages(unittest.TestCase):
+    def test_paragraphs_are_one_line(self) -> None:
+        self.assertEqual(paragraphs.joined("a\nb\n\n- c\n  d\n- e\n\n| f |\n| g |\n"), "a b\n\n- c d\n- e\n\n| f |\n| g |\n")
+        self.assertEqual(paragraphs.joined("```\na\nb\n```\n\n    code\n    more\n"), "```\na\nb\n```\n\n    code\n    more\n")
+
+    def test_pages_that_are_too_long_are_named(self) -> None:
+        self.assertEqual(paragraphs.too_long({"README.md": "word " * 900, "docs/a.md": "word " * 65_100}), [])
+        self.assertEqual(paragraphs.too_long({"README.md": "word " * 901, "docs/a.md": "word " * 65_100}), ["README.md: 901 words, of at most 900", "all pages: 66,001 words, of at most 66,000"])
+
+    def test_headings_have_the_anchors_of_the_web(self) -> None:
+        with tempfile.NamedTemporaryFile("w", suffix=".md", encoding="utf-8") as file:
+            file.write("# What's *new*, here\n## `Code` in [a link](b.md)\n## Twice\n## Twice\n```\n# no heading\n```\n")
+            file.flush()
+            self.assertEqual(anchors.headings(file.name), {"whats-new-here", "code-in-a-link", "twice", "twice-1"})
+
+    def test_the_dialect_may_not_grow(self) -> None:
+        counted = {area: dict.fromkeys(dialect.WORDS, 3) for area in dialect.AREAS}
+        for most, faults in ((3, 0), (2, len(dialect.AREAS) * len(dialect.WORDS))):
+            limits = {area: dict.fromkeys(dialect.WORDS, most) for area in dialect.AREAS}
+            with mock.patch.object(dialect, "counts", return_value=counted), mock.patch.object(dialect, "limits", return_value=limits):
+                self.assertEqual(len(dialect.faults()), faults)
+
+    def test_a_limit_only_falls(self) -> None:
+        counted = {"docs": {"told": 5, "behind": 1}}
+        with tempfile.TemporaryDirectory() as folder:
+            path = os.path.join(folder, "limits.json")
+            with mock.patch.object(dialect, "LIMITS", path), mock.patch.object(dialect, "counts", return_value=counted):
+                dialect.lowered()
+                self.assertEqual(dialect.limits(), counted)
+            with mock.patch.object(dialect, "LIMITS", path), mock.patch.object(dialect, "counts", return_value={"docs": {"told": 9, "behind": 0}}):
+                dialect.lowered()
+                self.assertEqual(dialect.limits(), {"docs": {"told": 5, "behind": 0}})
+
+    def test_a_crate_that_is_named_without_need_is_named(self) -> None:
+        code = "use low::Bits;\nghost use Rattle.middle.specs.A.{a};\nlet high = std::other::high;\n"
+        self.assertEqual(named_crates.unnamed("top", "low middle high", code), ["crates.txt: top doesn't use high"])
+
+    def test_the_nearest_crates_are_those_that_no_other_one_brings(self) -> None:
+        direct: dict[str, list[str]] = {"low": [], "middle": ["low"], "high": ["low", "middle"]}
+        self.assertEqual(crates_page.nearest("high", direct), ["middle"])
+        self.assertEqual(crates_page.below("high", direct), {"low", "middle"})
+
+
+SPECS = """-- ---- sizes
+
+-- how many
+-- there are
+abbrev pub count : ℕ
+count = 3
+pub IsBare : ℕ
+"""
+SOURCE = """impl Shown for Store {
+    ghost shows = { count };
+
+    /// Returns how many there are.
+    pub fn count(&self) -> usize
+        ensures { result ≡ count }
+    {
+        self.len
+    }
+
+    fn other(&self)
+        ensures { IsBare };
+}
+"""
+
+
+class Rules(unittest.TestCase):
+    def test_a_definition_has_the_comment_above_it_and_its_line(self) -> None:
+        found, bare = rules.definitions_in("crates/a/specs/A.antt", SPECS)
+        self.assertEqual((found.name, found.place.line, found.words), ("count", 5, "how many there are"))
+        self.assertEqual(found.text, "-- how many\n-- there are\nabbrev pub count : ℕ\ncount = 3")
+        self.assertEqual((bare.name, bare.place.line, bare.words), ("IsBare", 7, "is bare"))
+
+    def test_a_function_has_what_its_contract_cites_and_the_bugs_in_it(self) -> None:
+        bugs = [rules.Bug(name, rules.Place(name), "crates/a/src/a.rt", old) for name, old in (("in", "self.len"), ("out", "self.size"))]
+        count, other, shows = rules.functions_in("crates/a/src/a.rt", SOURCE, bugs)
+        self.assertEqual((count.name, count.place.line, [it.name for it in count.bugs]), ("Store::count", 5, ["in"]))
+        self.assertIn("count", count.cites)
+        self.assertTrue(count.text.endswith("self.len\n    }"))
+        self.assertEqual((other.place.line, other.text, other.cites), (11, "    fn other(&self)\n        ensures { IsBare };", frozenset({"IsBare"})))
+        self.assertEqual((shows.name, shows.place.line, shows.cites), ("Store::shows", 2, frozenset({"count"})))
+
+    def test_a_rule_leads_to_the_lines_of_its_names(self) -> None:
+        definition, _ = rules.definitions_in("crates/a/specs/A.antt", SPECS)
+        rule = rules.Rule(definition, rules.functions_in("crates/a/src/a.rt", SOURCE, [])[:1], "`row`")
+        self.assertEqual(rules.row_of(rule), "| how many there are | [`count`](../../crates/a/specs/A.antt#L5) | [`Store::count`](../../crates/a/src/a.rt#L5) | `row` |  |")
+        self.assertTrue(rules.has_words("a", definition, rule.functions, ["MANY", "store"]))
+        self.assertFalse(rules.has_words("a", definition, rule.functions, ["many", "few"]))
+
+    def test_a_definition_leads_by_the_shortest_way_to_the_functions_that_cite_one_that_uses_it(self) -> None:
+        ways = rules.Ways.__new__(rules.Ways)
+        call = rules.functions_in("crates/a/src/a.rt", SOURCE, [])[0]
+        ways.users = {("a", "low"): [("a", "far"), ("b", "near")], ("a", "far"): [("b", "end")]}
+        ways.calls = {("b", "near"): [call], ("b", "end"): [call]}
+        self.assertEqual(ways.shortest(("a", "low")), (["near"], [call]))
+        self.assertEqual(ways.shortest(("b", "near")), ([], [call]))
+        self.assertEqual(ways.shortest(("a", "none")), ([], []))
+
+    def test_a_page_that_isnt_as_it_is_made_is_named(self) -> None:
+        (fault,) = rules.differing("| a | [`count`](x#L5) |", "| a | [`count`](x#L6) |\n| b | [`more`](x#L9) |")
+        self.assertIn("1 lines aren't as they are made, 2 are missing, first [`count`](x#L5)", fault)
+
+
+BELIEVED = """use Rattle.b.specs.B.{two}
+use Rattle.b.specs.declared.thing.Thing.TheVariants as thing
+
+-- a number
+abbrev pub one : ℕ
+one = two + field.three
+pub data Kind : Type 0 where
+  First : Kind
+
+pub other : Kind → ℕ
+other thing.Big = one
+"""
+
+
+class Believed(unittest.TestCase):
+    def test_a_file_has_its_definitions_and_imports(self) -> None:
+        module = believed.parsed("crates/a/specs/A.antt", BELIEVED)
+        self.assertEqual({it.name: len(it.lines) for it in module.definitions.values()}, {"one": 2, "Kind": 2, "other": 2})
+        self.assertEqual(module.definitions["one"].comment, ("-- a number",))
+        self.assertEqual((module.constructors, module.imports, module.modules), ({"First": "Kind"}, {"two": ("b", "B")}, {"thing": ("b", "declared.thing.Thing.TheVariants")}))
+
+    def test_names_are_followed_over_files_to_definitions_and_types_of_rust(self) -> None:
+        modules = {("a", "A"): believed.parsed("a", BELIEVED), ("b", "B"): believed.parsed("b", "pub use Rattle.c.specs.C.{two}\n"), ("c", "C"): believed.parsed("c", "pub two : ℕ\ntwo = 2\n")}
+        with mock.patch.object(believed, "module_of", lambda crate, path: modules.get((crate, path), believed.Module())):
+            whole = believed.Reading()
+            whole.follow(("a", "A", "other"))
+        # each before those that it names
+        self.assertEqual([*whole.definitions], [("a", "A", "other"), ("a", "A", "Kind"), ("a", "A", "one"), ("c", "C", "two")])
+        self.assertEqual((whole.types, sum(it.size for it in whole.definitions.values())), ({("b", "declared.thing.Thing")}, 8))
+
+    def test_more_lines_than_may_be_are_named(self) -> None:
+        with mock.patch.object(believed, "MOST_LINES", 10):
+            self.assertIn("lines must be believed of the headline, of at most 10", believed.faults()[-1])
+
+    def test_a_word_that_the_key_lacks_is_named(self) -> None:
+        with mock.patch.object(believed_words, "KEY", tuple(it for it in believed_words.KEY if "Contains" not in it[0])):
+            self.assertIn("docs/measured/promise.md: the key has no word `Contains`", believed.faults())
+
+    def test_the_page_begins_with_the_promise(self) -> None:
+        first, *others = believed.reading()[0]
+        self.assertEqual([name for _, _, name in first[1]], ["Promised"])
+        self.assertEqual([heading.strip() for heading, _ in others[:5]], ["### `run`", "### `formed`", "### `told`", "### `safe`", "### `joined`"])
+
+
+class Figures(unittest.TestCase):
+    def test_a_figure_that_its_table_has_otherwise_is_named(self) -> None:
+        bugs = figures.FIGURES["planted bugs"]()
+        self.assertEqual([*figures.wrong_in("a.md", f"<!--=planted bugs-->{bugs}<!--/--> bugs")], [])
+        self.assertEqual([*figures.wrong_in("a.md", "<!--=planted bugs-->7<!--/--> bugs")], [f"a.md: `planted bugs` is {bugs}, and not 7 (./check docs --write)"])
+        self.assertEqual([*figures.wrong_in("a.md", "<!--=bugs-->7<!--/-->")], ["a.md: there is no figure `bugs`"])
+        self.assertEqual(figures.written("<!--=planted bugs-->7<!--/--> bugs"), f"<!--=planted bugs-->{bugs}<!--/--> bugs")
+
+    def test_each_figure_is_had(self) -> None:
+        self.assertEqual([name for name, figure in figures.FIGURES.items() if not figure()[0].isdigit()], [])
+
+
+class Budget(unittest.TestCase):
+    def test_a_crate_over_its_budget_is_named(self) -> None:
+        self.assertEqual(budget.over({"a": 12}, {"a": [(10, "what it had"), (2, "a law")]}, {".rt": 3}, {".rt": 3}), [])
+        (fault,) = budget.over({"a": 13}, {"a": [(10, "what it had"), (2, "a law")]}, {}, {})
+        self.assertIn("a: 13 lines of .antt, and its budget is 12", fault)
+        self.assertEqual(len(budget.over({"a": 1}, {}, {}, {})), 1)
+
+    def test_an_amount_without_a_reason_and_more_wide_lines_are_named(self) -> None:
+        self.assertEqual(budget.over({}, {"a": [(5, " ")]}, {".rt": 4}, {".rt": 3}), ["a: an amount of its budget doesn't say what for", ".rt: 4 lines of over 120 columns, of at most 3"])
+
+    def test_what_is_not_used_is_taken_off(self) -> None:
+        self.assertEqual(budget.lowered({"a": 9, "b": 4, "c": 3}, {"a": [(10, "what it had"), (2, "a law")], "b": [(4, "what it had")]}), {"a": [(7, "what it had"), (2, "a law")], "b": [(4, "what it had")], "c": [(3, "what the crate had when it got a budget")]})
+
+
+class Hook(unittest.TestCase):
+    def status(self, message: str) -> int:
+        with tempfile.NamedTemporaryFile("w", encoding="utf-8") as file:
+            file.write(message)
+            file.flush()
+            return subprocess.run([f"{ROOT}/.githooks/commit-msg", file.name], stderr=subprocess.DEVNULL).returncode
+
+    def test_a_subject_has_at_most_72_columns_and_an_empty_line_after_it(self) -> None:
+        self.assertEqual(self.status(f"{'x' * 72}\n\nwhy\n# a comment of git\n"), 0)
+        self.assertEqual(self.status(f"{'x' * 73}\n"), 1)
+        self.assertEqual(self.status("a subject\nthat goes over\n"), 1)
+        self.assertEqual(self.status("# only a comment\n"), 1)
+
+
+if __name__ == "__main__":
+    unittest.main()

@@ -1,0 +1,143 @@
+"""How many seconds of the processor the gate spends on each crate, as a table in docs/measured/gate.md: ./measure gate [PID]
+
+It runs `.ci/run` in a fresh clone of what is committed, and looks every 0.4 seconds at what its processes have used: the library of
+each crate, its tests, and its planted bugs. With the PID of a `.ci/run` that was begun by `setsid`, it watches that one. Of what
+passed on this machine before the gate proves nothing again, so the table takes the place of that between the two marker
+comments of the page only where no crate was kept; else it is only printed. From nothing it takes an hour on four cores.
+"""
+
+from __future__ import annotations
+
+import os
+import re
+import subprocess
+import sys
+import tempfile
+import time
+from collections.abc import Callable, Mapping
+
+from workshop.parts import ROOT
+
+PAGE = f"{ROOT}/docs/measured/gate.md"
+MARKERS = "<!-- gate table: begin -->", "<!-- gate table: end -->"
+TICKS = os.sysconf("SC_CLK_TCK")
+PARTS = "library", "tests", "planted bugs"
+Work = tuple[str, str]  # a crate, and a part of it
+
+
+def crates() -> list[str]:
+    """The crates, in the order of crates.txt."""
+    with open(f"{ROOT}/crates.txt", encoding="utf-8") as file:
+        return [it[1] for line in file if (it := re.match(r"(\w+)[^:#]*:", line))]
+
+
+def lines_of(crate: str) -> int:
+    """The lines of a crate's sources."""
+    count = 0
+    for folder, _, names in os.walk(f"{ROOT}/crates/{crate}"):
+        if f"crates/{crate}/out" not in folder:
+            for name in names:
+                if name.endswith((".rt", ".antt")):
+                    with open(f"{folder}/{name}", "rb") as file:
+                        count += file.read().count(b"\n")
+    return count
+
+
+def read(path: str) -> str:
+    """A file of /proc, empty where its process has ended."""
+    try:
+        with open(path, "rb") as file:
+            return file.read().decode(errors="replace")
+    except OSError:
+        return ""
+
+
+def work_of(pid: str, parent: Work | None) -> Work | None:
+    """What a process works on: a crate and which part of it. Whoever is no call of the compiler works for its parent."""
+    words = read(f"/proc/{pid}/cmdline").split("\0")
+    if not words[0].endswith("/rattle") or "--crate-name" not in words:
+        return parent
+    try:
+        folder = os.readlink(f"/proc/{pid}/cwd")
+    except OSError:
+        return parent
+    crate = words[words.index("--crate-name") + 1]
+    # `rt ci` tries planted bugs in folders rt-edit.., and `./check edits --gate` in folders edits-..
+    part = 2 if re.search(r"/(rt-edit|edits-)", folder) else 1 if "--test" in words else 0
+    return crate, PARTS[part]
+
+
+def watch(session: int, goes_on: Callable[[], bool]) -> dict[Work | None, float]:
+    """The seconds of the processor of each work of a session, as long as it continues."""
+    used: dict[tuple[str, str], int] = {}
+    works: dict[tuple[str, str], Work | None] = {}
+    latest: dict[str, Work | None] = {}
+    while goes_on():
+        for pid in filter(str.isdigit, os.listdir("/proc")):
+            fields = read(f"/proc/{pid}/stat").rpartition(")")[2].split()
+            if not fields or int(fields[3]) != session:
+                continue
+            key = pid, fields[19]  # with its start, since numbers are given again
+            if works.get(key) is None:  # a process may be seen before it has become the compiler
+                works[key] = work_of(pid, latest.get(fields[1]))
+            latest[pid] = works[key]
+            used[key] = int(fields[11]) + int(fields[12])
+        time.sleep(0.4)
+    seconds: dict[Work | None, float] = {}
+    for key, ticks in used.items():
+        seconds[works[key]] = seconds.get(works[key], 0) + ticks / TICKS
+    return seconds
+
+
+def table(seconds: Mapping[Work | None, float]) -> tuple[list[str], list[str]]:
+    """The rows of the table, and the crates of which no proof was seen."""
+    rows = ["| Crate | Lines | Library | Tests | Planted bugs |", "|---|---|---|---|---|"]
+    kept: list[str] = []
+    whole = [0.0, 0.0, 0.0]
+    for crate in crates():
+        own = [seconds.get((crate, part), 0) for part in PARTS]
+        whole = [a + b for a, b in zip(whole, own)]
+        kept += [crate] * (sum(own[:2]) < 5)
+        rows.append(f"| `{crate}` | {lines_of(crate):,} | {' | '.join(f'{it:,.0f}' if it >= 0.5 else '' for it in own)} |")
+    rows.append(f"| all {len(crates())} | | {' | '.join(f'{it:,.0f}' for it in whole)} |")
+    rows.append(f"| all other work | | {seconds.get(None, 0):,.0f} | | |")
+    return rows, kept
+
+
+def write(rows: list[str]) -> None:
+    """Puts the table between the markers of the page."""
+    with open(PAGE, encoding="utf-8") as file:
+        text = file.read()
+    if [text.count(it) for it in MARKERS] != [1, 1]:
+        sys.exit(f"measure gate: docs/measured/gate.md lacks the lines `{MARKERS[0]}` and `{MARKERS[1]}`, so the table is only printed")
+    head, rest = text.split(MARKERS[0])
+    with open(PAGE, "w", encoding="utf-8") as file:
+        file.write("\n".join([head + MARKERS[0], "", *rows, "", MARKERS[1] + rest.split(MARKERS[1])[1]]))
+
+
+def gate(folder: str) -> dict[Work | None, float]:
+    """The seconds of each work of a gate in a fresh clone."""
+    subprocess.run(["git", "clone", "-q", ROOT, f"{folder}/gate"], check=True)
+    os.symlink(os.path.realpath(f"{ROOT}/../shared"), f"{folder}/shared")
+    with open(f"{ROOT}/out/gate-log", "w", encoding="utf-8") as log:
+        words, env = ["bash", ".ci/run"], {**os.environ, "CI": "true"}
+        run = subprocess.Popen(words, cwd=f"{folder}/gate", stdin=subprocess.DEVNULL, stdout=log, stderr=log, env=env, start_new_session=True)
+        seconds = watch(run.pid, lambda: run.poll() is None)
+    if run.returncode:
+        sys.exit("measure gate: the gate failed; out/gate-log says why")
+    return seconds
+
+
+def main() -> None:
+    if sys.argv[1:]:
+        seconds = watch(int(sys.argv[1]), lambda: os.path.exists(f"/proc/{sys.argv[1]}"))
+    else:
+        os.makedirs(f"{ROOT}/out", exist_ok=True)
+        with tempfile.TemporaryDirectory(prefix="gate-") as folder:
+            seconds = gate(folder)
+    rows, kept = table(seconds)
+    print(*rows, sep="\n")
+    if kept:
+        print(f"measure gate: the page stays as it is, since these were kept: {' '.join(kept)}")
+    else:
+        write(rows)

@@ -1,0 +1,195 @@
+"""Packs a page, its scripts, the examples and the program into one file: python3 python pack FOLDER MODULE FILE
+
+FOLDER has `page.html`, `page.css` and `main.js`, the module of JavaScript that the page begins with (web/page, or another one). In
+`page.html` four comments say where what is packed goes: `<!-- policy -->`, `<!-- style -->`, `<!-- data -->` and `<!-- script -->`. The
+data are blocks that no browser runs: `program` (MODULE, by gzip and base85), `worker` (web/run/worker.js), `examples` (JSON by gzip and
+base85: a name, a title and the text of each input in examples/) and `opened`, a list that is empty, into which ./explain --page puts inputs
+like these, with which the page opens.
+
+Modules are joined to one script, each in a function of its own, so names of two never meet. They may import names, or all names as one
+(`import * as it`), from other files, and export declarations and lists of names; anything else is refused. The policy of the page forbids
+every request, and runs only this style and this script, by their hashes. The same files give the same octets.
+"""
+
+from __future__ import annotations
+
+import base64
+import gzip
+import hashlib
+import json
+import os
+import re
+import sys
+from dataclasses import dataclass, field
+
+from workshop.parts import ROOT
+
+IMPORT = re.compile(r"^import\s+(?:\{([^}]*)\}|\*\s+as\s+(\w+))\s+from\s+\"(\.{1,2}/[^\"]+)\";[ ]*$", re.MULTILINE)
+EXPORT = re.compile(r"^export\s+((?:async\s+)?function\s*\*?\s*(\w+)|class\s+(\w+)|const\s+(\w+))", re.MULTILINE)
+EXPORT_LIST = re.compile(r"^export\s+\{([^}]*)\};[ ]*$", re.MULTILINE)
+COMMENT = re.compile(r"/\*\*.*?\*/", re.DOTALL)  # where types are
+DOCUMENTATION = re.compile(r"^[ ]*/\*\*(?:[^*]|\*(?!/))*\*/[ ]*\n", re.MULTILINE)
+OF_STYLE = re.compile(r"/\*(?:[^*]|\*(?!/))*\*/")
+BLANK = re.compile(r"^\s+", re.MULTILINE)  # indents, and lines with nothing
+LEFT_OVER = re.compile(r"^(?:import|export)\b.*$|\bimport\(", re.MULTILINE)
+ALIAS = re.compile(r"(\w+)(?:\s+as\s+(\w+))?")
+ENDINGS = re.compile(r"\.(?:args|stdout|stderr|status|rows|md)$")
+AVOIDED, INSTEAD = "<`", ",."  # digits of base85 that would end a block, or a text in a script, and those in their place
+
+
+class Refused(Exception):
+    """Why a page can't be packed."""
+
+
+@dataclass
+class Packed:
+    """Modules that are joined so far: the place of each, and their text."""
+
+    places: dict[str, int] = field(default_factory=dict)
+    open: list[str] = field(default_factory=list)
+    texts: list[str] = field(default_factory=list)
+
+
+def read(path: str) -> str:
+    with open(path, encoding="utf-8") as file:
+        return file.read()
+
+
+def names(text: str) -> list[tuple[str, str]]:
+    """The names of a list, each with the one that it is known by after `as`."""
+    found = [ALIAS.fullmatch(it.strip()) for it in text.split(",") if it.strip()]
+    if not all(found):
+        raise Refused(f"no list of names: {text.strip()}")
+    return [(it[1], it[2] or it[1]) for it in found if it]
+
+
+def bare(text: str, path: str) -> str:
+    """A module without its comments of documentation, indents and empty lines, which a third of its octets are."""
+    text = DOCUMENTATION.sub("", text)
+    if any(line.count("`") % 2 for line in text.splitlines()):
+        raise Refused(f"{os.path.relpath(path, ROOT)} has a text in backticks over several lines, which isn't packed")
+    return BLANK.sub("", text)
+
+
+def bare_style(text: str) -> str:
+    """A style without comments, indents and empty lines."""
+    return BLANK.sub("", OF_STYLE.sub("", text))
+
+
+def add(packed: Packed, path: str) -> int:
+    """Adds a module and those that it imports, before it, and answers its place."""
+    if path in packed.places:
+        return packed.places[path]
+    if path in packed.open:
+        raise Refused(f"{os.path.relpath(path, ROOT)} imports itself, by way of {', '.join(os.path.relpath(it, ROOT) for it in packed.open)}")
+    packed.open.append(path)
+    text = bare(read(path), path)
+
+    def imported(found: re.Match[str]) -> str:
+        place = add(packed, os.path.normpath(os.path.join(os.path.dirname(path), found[3])))
+        if found[2]:
+            return f"const {found[2]} = module{place};"
+        taken = ", ".join(name if name == here else f"{name}: {here}" for name, here in names(found[1]))
+        return f"const {{ {taken} }} = module{place};"
+
+    given: list[tuple[str, str]] = []
+    text = IMPORT.sub(imported, text)
+    for found in EXPORT.finditer(text):
+        name = found[2] or found[3] or found[4]
+        given.append((name, name))
+    for found in EXPORT_LIST.finditer(text):
+        given += names(found[1])
+    text = EXPORT_LIST.sub("", EXPORT.sub(r"\1", text))
+    left = LEFT_OVER.search(COMMENT.sub("", text))
+    if left:
+        raise Refused(f"{os.path.relpath(path, ROOT)} has a form that isn't packed: {left[0]}")
+    packed.open.remove(path)
+    place = packed.places[path] = len(packed.places)
+    answer = ", ".join(name if name == there else f"{there}: {name}" for name, there in given)
+    packed.texts.append(f"const module{place} = (() => {{\n{text}return {{ {answer} }};\n}})();\n")
+    return place
+
+
+def joined(entry: str) -> str:
+    """The script of a module and of all that it imports."""
+    packed = Packed()
+    add(packed, os.path.normpath(entry))
+    return '"use strict";\n' + "".join(packed.texts)
+
+
+def title_of(name: str, text: str) -> str:
+    """The title of an example: the words of its file's name, as its comments write them within their sentences."""
+    comments = " ".join(it for it in text.splitlines() if it.startswith("#"))
+    capitals = {"imp": "IMP", "rfnm": "RFNM"} | {it.lower(): it for it in re.findall(r"(?<=[a-z,;] )[A-Z][a-z]+\b|\b[A-Z]{2,}\b", comments)}
+    words = [capitals.get(it, it) for it in name.split("-")]
+    title = " ".join(words)
+    return title[:1].upper() + title[1:]
+
+
+def examples_in(folder: str) -> list[dict[str, str]]:
+    """The inputs of a folder, by their names."""
+    inputs = [it for it in sorted(os.listdir(folder)) if os.path.isfile(f"{folder}/{it}") and not ENDINGS.search(it)]
+    return [{"name": it, "title": title_of(it, read(f"{folder}/{it}")), "text": read(f"{folder}/{it}")} for it in inputs]
+
+
+def block(name: str, kind: str, text: str) -> str:
+    """A data block, which no browser runs."""
+    if re.search(r"</script|<!--", text, re.IGNORECASE):
+        raise Refused(f"the block {name} would end too early")
+    return f'<script type="{kind}" id="{name}">{text}</script>\n'
+
+
+def spell_octets(octets: bytes) -> str:
+    """Octets by gzip and base85, with two other digits, so that no block ends too early."""
+    return base64.b85encode(gzip.compress(octets, 9, mtime=0)).decode().translate(str.maketrans(AVOIDED, INSTEAD))
+
+
+def read_octets(text: str) -> bytes:
+    """The octets that `spell_octets` spelled."""
+    return gzip.decompress(base64.b85decode(text.translate(str.maketrans(INSTEAD, AVOIDED))))
+
+
+def hash_of(text: str) -> str:
+    """The hash of a style or a script, as a policy names it."""
+    return f"'sha256-{base64.b64encode(hashlib.sha256(text.encode()).digest()).decode()}'"
+
+
+def page(folder: str, module: bytes) -> str:
+    """The page, whole."""
+    style, script = f"\n{bare_style(read(f'{folder}/page.css'))}", f"\n{joined(f'{folder}/main.js')}"
+    if "</style" in style or "</script" in script:
+        raise Refused("the style or the script would end too early")
+    policy = f"default-src 'none'; script-src {hash_of(script)} 'wasm-unsafe-eval'; style-src {hash_of(style)}; worker-src blob:; base-uri 'none'; form-action 'none'"
+    examples = json.dumps(examples_in(f"{ROOT}/examples"), ensure_ascii=False)
+    data = block("program", "application/octet-stream", spell_octets(module))
+    data += block("worker", "text/plain", joined(f"{ROOT}/web/run/worker.js"))
+    data += block("opened", "application/json", "[]")
+    data += block("examples", "application/octet-stream", spell_octets(examples.encode()))
+    parts = {
+        "policy": f'<meta http-equiv="Content-Security-Policy" content="{policy}">',
+        "style": f"<style>{style}</style>",
+        "data": data,
+        "script": f'<script type="module">{script}</script>',
+    }
+    text = read(f"{folder}/page.html")
+    for name, part in parts.items():
+        if text.count(f"<!-- {name} -->") != 1:
+            raise Refused(f"page.html does not say once where the {name} goes")
+        text = text.replace(f"<!-- {name} -->", part)
+    return text
+
+
+def main() -> int:
+    if len(sys.argv) != 4:
+        sys.exit("usage: python3 python pack FOLDER MODULE FILE")
+    folder, module, to = sys.argv[1:]
+    try:
+        with open(module, "rb") as file:
+            text = page(os.path.realpath(folder), file.read())
+    except (Refused, OSError) as why:
+        print(f"pack: {why}", file=sys.stderr)
+        return 1
+    with open(f"{to}.new", "w", encoding="utf-8", newline="\n") as made:
+        made.write(text)
+    os.replace(f"{to}.new", to)
+    return 0
