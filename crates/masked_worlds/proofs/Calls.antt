@@ -1,5 +1,5 @@
 -- What comes in to a host and goes out of it, without the strangers among its peers.
-use Rattle.std.proofs.Common.{◌≡◌, ℕ, ◌||◌, not, Bool, true, false, List, [], ◌∷◌, Option, Some, None, refl, ap, sym, ◌∙◌, if◌then◌else◌}
+use Rattle.std.proofs.Common.{◌≡◌, ℕ, ◌||◌, not, Bool, true, false, List, [], Option, Some, refl, ap, sym, ◌∙◌, if◌then◌else◌}
 use Rattle.interface.specs.Host.{Host, same_host}
 use Rattle.interface.specs.declared.address.Flow.{Flow}
 use Rattle.interface.specs.declared.crossing.Answer.{Answer}
@@ -20,7 +20,7 @@ use Rattle.sockets.specs.Pairs.{NcpState, pair_with}
 use Rattle.sockets.specs.Peers.{AreInOrder}
 use Rattle.sockets.specs.Sending.{next_in, offered, offered_by}
 use Rattle.sockets.specs.declared.peer.Peer.{Peer}
-use Rattle.masked_worlds.specs.Among.{among, without_strangers}
+use Rattle.masked_worlds.specs.Among.{without_strangers}
 use Rattle.masked_worlds.proofs.Peers.{next_among, pair_among, put_among, put_aside}
 
 -- ---- an answer leaves what listens

@@ -1,5 +1,5 @@
 -- Sockets that a stranger's message made stop listening, closed one after the other by their user.
-use Rattle.std.proofs.Common.{◌≡◌, ℕ, ◌==◌, ◌&&◌, ◌||◌, not, Bool, true, false, List, [], ◌∷◌, filter, Option, Some, None, refl, ap, sym, subst, ◌∙◌, eq-eqb, if◌then◌else◌}
+use Rattle.std.proofs.Common.{◌≡◌, ℕ, ◌==◌, ◌&&◌, ◌||◌, not, Bool, true, false, List, [], ◌∷◌, filter, None, refl, ap, sym, subst, ◌∙◌, eq-eqb, if◌then◌else◌}
 use Rattle.std.proofs.lemmas.Bool.{eqb-true}
 use Rattle.std.proofs.lemmas.Map.Views.{any-filter_same}
 use Rattle.interface.specs.Host.{Host, same_host}
@@ -11,7 +11,7 @@ use Rattle.host_pairs.specs.declared.listener.Listener.{Listener}
 use Rattle.sockets.specs.Pairs.{NcpState}
 use Rattle.sockets.specs.Requests.{refusal, served}
 use Rattle.sockets.specs.declared.request.Request.TheVariants as request
-use Rattle.net_sim.specs.Story.{Asked, Moment, program}
+use Rattle.net_sim.specs.Story.{Moment, program}
 use Rattle.net_sim.specs.Timeline.{IsTimeline, crossings_of}
 use Rattle.masked_worlds.specs.Among.{OnlyStop}
 use Rattle.masked_worlds.specs.Mixed.{closed, stopped}

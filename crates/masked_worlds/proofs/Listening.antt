@@ -1,5 +1,5 @@
 -- By whatever a message says, sockets of the host that takes it only stop listening.
-use Rattle.std.proofs.Common.{◌≡◌, ℕ, ◌==◌, ◌&&◌, ◌||◌, not, nat_le, Bool, true, false, List, [], ◌∷◌, filter, Option, Some, None, is_some, refl, ap, sym, subst, ◌∙◌, if◌then◌else◌}
+use Rattle.std.proofs.Common.{◌≡◌, ℕ, ◌==◌, ◌&&◌, not, nat_le, Bool, true, false, List, [], ◌∷◌, filter, Option, Some, None, is_some, refl, ap, sym, ◌∙◌, if◌then◌else◌}
 use Rattle.std.specs.List.{list_any}
 use Rattle.interface.specs.Host.{Host, same_host}
 use Rattle.interface.specs.declared.crossing.Inbound.TheVariants as inbound
@@ -9,7 +9,7 @@ use Rattle.ncp_control.specs.Phases.{is_ready}
 use Rattle.ncp_control.specs.declared.command.Command.{Command}
 use Rattle.ncp_control.specs.declared.command.Command.TheVariants as command
 use Rattle.ncp_control.specs.declared.data_header.DataHeader.{DataHeader}
-use Rattle.host_pairs.specs.Commands.{Ending, Found, Open, Unconnected, all_taken, asked_on_link, asked_with_size, at_end, changed, closed_once, cls_taken_by, desk_taken, faulted, gvb_taken, interrupted, matched, matched_once, receiver_on, ret_taken, returned, rts_heard, rts_taken_by, sender_on, str_heard, str_linked, str_taken_by}
+use Rattle.host_pairs.specs.Commands.{Ending, Found, Open, Unconnected, all_taken, asked_on_link, asked_with_size, at_end, changed, cls_taken_by, desk_taken, faulted, gvb_taken, interrupted, matched, matched_once, receiver_on, ret_taken, returned, rts_heard, rts_taken_by, sender_on, str_heard, str_linked, str_taken_by}
 use Rattle.host_pairs.specs.Control.{ERRONEOUS, Legal, Order, Wrong, error, orders_of}
 use Rattle.host_pairs.specs.Data.{arrived, arrived_if, data_found, data_taken, is_acceptable, text_faulted}
 use Rattle.host_pairs.specs.Desk.{DeskState, command_queued, desk_of, desk_told, listener_on, settled, swept}

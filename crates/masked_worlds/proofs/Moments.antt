@@ -11,7 +11,6 @@ use Rattle.interface.specs.declared.crossing.Inbound.TheVariants as inbound
 use Rattle.interface.specs.declared.message.HostMessage.{HostMessage}
 use Rattle.interface.proofs.lemmas.{same_flow-true, same_host-refl, same_host-true}
 use Rattle.host_pairs.specs.Parcels.{Parcel}
-use Rattle.host_pairs.specs.declared.listener.Listener.{Listener}
 use Rattle.host_services.specs.Named.{IsAddressed}
 use Rattle.sockets.specs.Accepting.{accepted}
 use Rattle.sockets.specs.Others.{peer_of}
@@ -21,18 +20,17 @@ use Rattle.sockets.specs.Requests.{refusal, served}
 use Rattle.sockets.specs.Sending.{message_for, message_of, next_in, next_out, offered}
 use Rattle.sockets.specs.declared.peer.Peer.{Peer}
 use Rattle.sockets.specs.declared.request.Request.{Request}
-use Rattle.net_sim.specs.Clean.{HaveAddresses}
 use Rattle.net_sim.specs.Story.{Asked, Crossed, Moment, places, program, program_after}
 use Rattle.net_sim.specs.Timeline.{Happens, IsTimeline, crossings_of}
 use Rattle.net_sim.specs.Told.{host_in}
 use Rattle.net_sim.proofs.lemmas.{places_same, up_host}
 use Rattle.masked_worlds.specs.Among.{is_of_stranger, without_strangers}
-use Rattle.masked_worlds.specs.Mixed.{AreMixed, IsMixed, closed, closed_by, masked_crossing, masked_moments, stopped}
+use Rattle.masked_worlds.specs.Mixed.{IsMixed, closed, closed_by, masked_crossing, masked_moments, stopped}
 use Rattle.masked_worlds.specs.Strangers.{masked_as, masked_log, strange_end, stranger_in, turn}
 use Rattle.masked_worlds.proofs.Calls.{answer_among, answer_aside, message_among, message_aside, offer_among, offer_aside}
 use Rattle.masked_worlds.proofs.Closings.{closed_crossings, closed_elsewhere, closes, closes_in_time}
 use Rattle.masked_worlds.proofs.Listening.{message_stops}
-use Rattle.masked_worlds.proofs.Logs.{end_none, if_is, if_none, masked_length, masked_nobody, masked_run, masked_up, other_host, stranger_is}
+use Rattle.masked_worlds.proofs.Logs.{end_none, if_is, masked_length, masked_run, masked_up, other_host, stranger_is}
 use Rattle.masked_worlds.proofs.Peers.{next_among}
 use Rattle.masked_worlds.proofs.Requests.{refusal_among, served_among, served_aside}
 

@@ -1,5 +1,5 @@
 -- What a user asks for, without the strangers among the host's peers.
-use Rattle.std.proofs.Common.{◌≡◌, ℕ, ◌||◌, ◌&&◌, not, Bool, true, false, List, length, Option, Some, None, is_some, refl, ap, sym, ◌∙◌, if◌then◌else◌}
+use Rattle.std.proofs.Common.{◌≡◌, ℕ, ◌&&◌, not, Bool, true, false, List, length, Option, Some, None, is_some, refl, ap, sym, ◌∙◌, if◌then◌else◌}
 use Rattle.interface.specs.Host.{Host}
 use Rattle.interface.proofs.lemmas.{or_false}
 use Rattle.ncp_control.specs.Numbers.{is_byte_size, is_receive_socket, is_send_socket}
@@ -12,7 +12,6 @@ use Rattle.host_pairs.specs.Entries.{entry_at, free_link, sending_end}
 use Rattle.host_pairs.specs.Pair.{PairState}
 use Rattle.host_pairs.specs.Parcels.{link_of}
 use Rattle.host_pairs.specs.declared.entry.Entry.{Entry}
-use Rattle.host_pairs.specs.declared.notice.Notice.{Notice}
 use Rattle.sockets.specs.Others.{owner_host, peer_of}
 use Rattle.sockets.specs.Pairs.{NcpState, owner_of, pair_with, with_pair}
 use Rattle.sockets.specs.Peers.{AreInOrder}

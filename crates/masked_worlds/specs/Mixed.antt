@@ -14,7 +14,7 @@ use Rattle.net_sim.specs.Story.{Moment, Crossed, Asked, program}
 use Rattle.net_sim.specs.Timeline.{Happens, crossings_of}
 use Rattle.net_sim.specs.Told.{host_in}
 use Rattle.masked_worlds.specs.Among.{is_of_stranger}
-use Rattle.masked_worlds.specs.Strangers.{masked_as, stranger_in, turn}
+use Rattle.masked_worlds.specs.Strangers.{stranger_in, turn}
 
 -- ---- mixed moments
 

@@ -1,5 +1,5 @@
 -- Rows of small networks with a stranger.
-use Rattle.std.specs.Prelude.{◌≡◌, false, [], ◌∷◌}
+use Rattle.std.specs.Prelude.{◌≡◌, [], ◌∷◌}
 use Rattle.interface.specs.declared.crossing.Crossing.TheVariants as crossing
 use Rattle.sockets.specs.Worked.{second, third}
 use Rattle.sockets.specs.declared.request.Request.TheVariants as request

@@ -1,4 +1,4 @@
-use Rattle.masked_worlds.proofs.Moments.{Orders, masked_crossings, masked_program, masked_timeline, moments_run}
+use Rattle.masked_worlds.proofs.Moments.{masked_crossings, masked_program, masked_timeline, moments_run}
 use Rattle.masked_worlds.proofs.Nobody.{any_timeline, moments_nobody, only_timeline}
 use Rattle.masked_worlds.proofs.law.masked.Goals as goal
 
