@@ -1,6 +1,5 @@
 -- What a call about one peer reports of a socket on which that peer has no end: no data, and nothing that is returned.
-use Rattle.std.proofs.Common.{◌≡◌, ℕ, ◌==◌, ◌&&◌, ◌||◌, ◌*◌, Bool, true, false, List, [], ◌∷◌, filter, find, take, Option, Some, None, is_some, refl, ap, sym, subst, ◌∙◌, if◌then◌else◌}
-use Rattle.std.specs.List.{Contains}
+use Rattle.std.proofs.Common.{◌≡◌, ℕ, ◌==◌, ◌&&◌, ◌||◌, Bool, true, false, List, [], ◌∷◌, take, Option, Some, is_some, refl, ap, sym, subst, ◌∙◌, if◌then◌else◌}
 use Rattle.interface.specs.Host.{Host}
 use Rattle.interface.specs.declared.address.Flow.{Flow}
 use Rattle.interface.specs.declared.crossing.Answer.{Answer}
@@ -8,8 +7,7 @@ use Rattle.interface.specs.declared.crossing.Inbound.TheVariants as inbound
 use Rattle.interface.specs.declared.message.HostMessage.{HostMessage}
 use Rattle.ncp_control.specs.declared.command.Command.{Command}
 use Rattle.host_pairs.specs.Control.{Order}
-use Rattle.host_pairs.specs.Entries.{has_cls, is_mine_on, is_open}
-use Rattle.host_pairs.specs.Pair.{PairState}
+use Rattle.host_pairs.specs.Entries.{is_mine_on, is_open}
 use Rattle.host_pairs.specs.Parcels as parcel
 use Rattle.host_pairs.specs.Parcels.{Parcel, next_of}
 use Rattle.host_pairs.specs.declared.entry.Entry.{Entry}
@@ -25,7 +23,7 @@ use Rattle.sockets.proofs.lemmas.{next_is, next_pair}
 use Rattle.host_keeps_ranges.specs.Ranges.{AreCommands}
 use Rattle.host_keeps_streams.proofs.lemmas.Senders as senders
 use Rattle.world_keeps_lives.specs.Lives.{AreRefusing, IsSteady, mine_on}
-use Rattle.world_keeps_lives.proofs.lemmas.{Begins, Done, Each, Goes, Hears, IsOther, IsRefusing, MayTell, Quiet, Rules, answer_keeps, found_in, message_keeps, offer_keeps, open_mine, open_parts}
+use Rattle.world_keeps_lives.proofs.lemmas.{Begins, Each, Goes, Hears, IsOther, IsRefusing, MayTell, Quiet, Rules, answer_keeps, found_in, message_keeps, offer_keeps, open_mine, open_parts}
 
 module _ (k : ℕ) where
   -- a notice that changes no life on this socket

@@ -4,7 +4,6 @@ use Rattle.std.specs.List.{list_any}
 use Rattle.interface.specs.Host.{Host, same_host}
 use Rattle.interface.specs.Mailboxes as mail
 use Rattle.interface.specs.declared.address.Flow.{Flow}
-use Rattle.interface.specs.declared.crossing.Answer.{Answer}
 use Rattle.interface.specs.declared.crossing.Crossing.{Crossing}
 use Rattle.interface.specs.declared.crossing.Crossing.TheVariants as crossing
 use Rattle.interface.specs.declared.crossing.Inbound.TheVariants as inbound
@@ -29,18 +28,18 @@ use Rattle.sockets.specs.declared.request.Request.TheVariants as request
 use Rattle.sockets.proofs.lemmas.{answer_about, message_about, offer_about}
 use Rattle.net_sim.specs.Book.{Kept, all_told, asked, crossed, lives_at}
 use Rattle.net_sim.specs.Story.{Asked, Crossed, Moment, places, program}
-use Rattle.net_sim.specs.Timeline.{Happens, crossings_of}
-use Rattle.net_sim.specs.Told.{host_in, kept_by, kept_in, notices_by}
+use Rattle.net_sim.specs.Timeline.{crossings_of}
+use Rattle.net_sim.specs.Told.{host_in, kept_in, notices_by}
 use Rattle.net_sim.proofs.lemmas.{same_host-sym}
 use Rattle.host_keeps_ranges.proofs.lemmas.{pair_range}
-use Rattle.masked_worlds.specs.Among.{is_of_stranger, without_strangers}
+use Rattle.masked_worlds.specs.Among.{is_of_stranger}
 use Rattle.masked_worlds.specs.Mixed.{IsMixed, closed, closed_by, masked_crossing, masked_moments, stopped}
 use Rattle.masked_worlds.specs.Strangers.{strange_end, stranger_in, turn}
 use Rattle.masked_worlds.proofs.lemmas.{Orders, Says, answer_among, end_none, from_stranger, if_is, if_none, masked_places, masked_program, message_among, notices_among, offer_among, older, ordered, other_host, says, stranger_is}
 use Rattle.world_keeps_lives.specs.Lives.{IsFreeSocket, IsLifeOf, IsOwned, mine_on}
 use Rattle.world_keeps_lives.specs.Lives as lives
 use Rattle.world_keeps_lives.proofs.lemmas.{Each, Holds, owner_found}
-use Rattle.mixed_worlds.specs.Book.{crossed_only, is_among, lives_among, mixed_kept}
+use Rattle.mixed_worlds.specs.Book.{is_among, lives_among, mixed_kept}
 use Rattle.mixed_worlds.proofs.Among.{NoneOf}
 use Rattle.mixed_worlds.proofs.Apart.{IsApart, answer_apart, message_apart, offer_apart}
 pub use Rattle.mixed_worlds.proofs.SameBooks.{SameBook}

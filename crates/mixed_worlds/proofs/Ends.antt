@@ -1,5 +1,5 @@
 -- Whatever a peer says, of two sockets there is at most one end with it, and what waits of it is what it still has to say.
-use Rattle.std.proofs.Common.{◌≡◌, ℕ, ◌==◌, ◌&&◌, Bool, true, false, not, if◌then◌else◌, List, [], ◌∷◌, ◌++◌, Option, Some, None, is_some, refl, ap, sym, subst, ◌∙◌}
+use Rattle.std.proofs.Common.{◌≡◌, ℕ, ◌==◌, ◌&&◌, Bool, true, false, if◌then◌else◌, List, [], ◌∷◌, ◌++◌, Option, Some, None, is_some, refl, ap, sym, subst, ◌∙◌}
 use Rattle.std.specs.List.{list_any}
 use Rattle.interface.specs.Host.{Host, same_host}
 use Rattle.interface.specs.declared.crossing.Inbound.TheVariants as inbound
@@ -22,7 +22,7 @@ use Rattle.host_pairs.specs.declared.entry.Closing.TheVariants as closing
 use Rattle.host_pairs.specs.declared.entry.Entry.{Entry}
 use Rattle.sockets.specs.Accepting.{accepted, after_turn, turn_of}
 use Rattle.sockets.specs.Pairs.{NcpState, pair_with}
-use Rattle.host_keeps_pairing.specs.Ends.{HasEnd, Stand, Standing, at, close_waits, end_of, is_past, request_due, standing}
+use Rattle.host_keeps_pairing.specs.Ends.{Stand, Standing, at, close_waits, end_of, is_past, request_due, standing}
 use Rattle.host_keeps_pairing.specs.Words.{AllFit, all_taken, mark_of, marks}
 use Rattle.host_keeps_pairing.proofs.lemmas.{Found, Is, On, after_data, after_reply, after_reset, are, asked_by, change_away, change_here, closed_by, ends_swept, found_here, live_end, loose, none_here, on_queued, on_settled, on_taken, plain, put}
 use Rattle.mixed_worlds.specs.Ends.{HasSome}

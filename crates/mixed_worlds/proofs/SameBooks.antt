@@ -1,5 +1,5 @@
 -- Two books that have the same among hosts with programs: the one of a network with strangers, and the one of the masked moments.
-use Rattle.std.proofs.Common.{◌≡◌, ◌⊎◌, inl, inr, ℕ, suc, ◌==◌, ◌&&◌, not, Bool, true, false, List, [], ◌∷◌, ◌++◌, length, Option, Some, None, refl, ap, sym, subst, ◌∙◌, eq-eqb, if◌then◌else◌}
+use Rattle.std.proofs.Common.{◌≡◌, ◌⊎◌, inl, inr, ℕ, ◌==◌, ◌&&◌, not, Bool, true, false, List, [], ◌∷◌, ◌++◌, length, Some, refl, ap, sym, subst, ◌∙◌, eq-eqb, if◌then◌else◌}
 use Rattle.interface.specs.Host.{Host, same_host}
 use Rattle.interface.specs.declared.crossing.Crossing.{Crossing}
 use Rattle.interface.specs.declared.crossing.Crossing.TheVariants as crossing
@@ -17,7 +17,7 @@ use Rattle.net_sim.proofs.lemmas.{same_host-sym}
 use Rattle.masked_worlds.specs.Strangers.{stranger_in, turn}
 use Rattle.masked_worlds.proofs.lemmas.{if_is, other_host}
 use Rattle.world_keeps_lives.specs.Lives.{EachOn, at_socket}
-use Rattle.world_keeps_lives.proofs.lemmas.{Each, each_weaker}
+use Rattle.world_keeps_lives.proofs.lemmas.{Each}
 use Rattle.mixed_worlds.specs.Book.{beside_among, is_among, lives_among}
 use Rattle.mixed_worlds.proofs.Among.{NoneOf, among_more, among_other, among_where, beside_fates, beside_handed, beside_more, beside_other, beside_where, fates_length, fates_none, handed_length, handed_none, one_longer, where_length, where_none}
 use Rattle.mixed_worlds.proofs.Apart.{IsApart}

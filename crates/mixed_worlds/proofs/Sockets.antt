@@ -1,17 +1,15 @@
 -- One socket of a host that runs the program, whatever strangers do.
-use Rattle.std.proofs.Common.{◌≡◌, inl, inr, ℕ, Bool, true, false, if◌then◌else◌, List, [], ◌∷◌, Option, Some, None, refl, sym, subst, ◌∙◌}
+use Rattle.std.proofs.Common.{◌≡◌, ℕ, Bool, true, false, if◌then◌else◌, List, [], ◌∷◌, Option, Some, None, refl, sym, subst, ◌∙◌}
 use Rattle.interface.specs.Host.{Host, same_host}
 use Rattle.interface.specs.Mailboxes as mail
 use Rattle.interface.specs.declared.address.Flow.{Flow}
 use Rattle.interface.specs.declared.crossing.Answer.{Answer}
-use Rattle.interface.specs.declared.crossing.Crossing.{Crossing}
 use Rattle.interface.specs.declared.crossing.Crossing.TheVariants as crossing
 use Rattle.interface.specs.declared.crossing.Inbound.TheVariants as inbound
 use Rattle.interface.specs.declared.message.HostMessage.{HostMessage}
 use Rattle.interface.proofs.lemmas.{same_host-true}
 use Rattle.host_pairs.specs.Pair.{PairState}
 use Rattle.host_pairs.specs.Parcels.{Parcel}
-use Rattle.host_pairs.specs.declared.notice.Notice.{Notice}
 use Rattle.sockets.specs.Accepting.{accepted}
 use Rattle.sockets.specs.Pairs.{NcpState, opening_state, pair_with}
 use Rattle.sockets.specs.Peers.{AreInOrder}
@@ -21,7 +19,6 @@ use Rattle.sockets.specs.declared.peer.Peer.{Peer}
 use Rattle.sockets.specs.declared.request.Request.{Request}
 use Rattle.sockets.proofs.lemmas.{answer_leaves, message_leaves, offer_leaves}
 use Rattle.host_services.specs.Named.{IsAsked}
-use Rattle.promise.specs.declared.life.Life.{Life}
 use Rattle.host_keeps_ranges.specs.Ranges.{IsRanged}
 use Rattle.host_keeps_ranges.proofs.lemmas.{answer_ranged, message_ranged, offer_ranged, pair_range, request_ranged}
 use Rattle.host_keeps_pairing.specs.Hearing.{after_request}
@@ -33,7 +30,6 @@ use Rattle.net_sim.specs.Told.{host_in, kept_by, notices_by}
 use Rattle.net_sim.proofs.lemmas.{same_host-sym}
 use Rattle.masked_worlds.specs.Mixed.{IsMixed}
 use Rattle.masked_worlds.proofs.lemmas.{Orders, away, older, ordered, other_host}
-use Rattle.world_keeps_lives.specs.Lives.{EachIn}
 use Rattle.world_keeps_lives.proofs.lemmas.{HasEnds, Holds, acts, answer_holds, asked_away, crossed_holds, each_ending, ended_holds, idle_if, message_holds, offer_holds, opening_holds, request_holds, up_at}
 use Rattle.mixed_worlds.specs.Book.{crossed_only, mixed_kept}
 use Rattle.mixed_worlds.specs.Ends.{HasSome}

@@ -2,3 +2,4 @@ pub mod Promised
 pub mod Ends
 pub mod Book
 pub mod Laws
+pub mod Worked
