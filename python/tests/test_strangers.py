@@ -37,7 +37,9 @@ def world_of(events: list[Event]) -> MixedWorld:
 
 class Strangers(unittest.TestCase):
     def test_a_listening_socket_is_anybodys(self) -> None:
-        world = world_of([("contact", FIRST, SECOND), ("calm", 3), ("listen", SECOND, 33, 8), *READY, *said(of_sockets(RTS, 16, 33, 2)), ("openrecv", FIRST, SECOND, 18, 33), ("calm", 4)])
+        asked = said(of_sockets(RTS, 16, 33, 2))
+        first: list[Event] = [("contact", FIRST, SECOND), ("calm", 3), ("listen", SECOND, 33, 8), *READY, *asked]
+        world = world_of([*first, ("openrecv", FIRST, SECOND, 18, 33), ("calm", 4)])
         self.assertEqual([(it.host, it.peer) for it in world.book.lives], [(SECOND, THIRD)])
         self.assertEqual(world.lives_among(), [])
         self.assertIn(Asked(SECOND, "close", (33,), False), world.moments)
@@ -48,7 +50,8 @@ class Strangers(unittest.TestCase):
 
     def test_a_byte_of_another_size_is_not_counted(self) -> None:
         data: list[Event] = [("out", Flow(THIRD, SECOND, 2), header(size, 1) + "1" * size) for size in (7, 8)]
-        world = world_of([*READY, ("listen", SECOND, 16, 8), *said(of_sockets(STR, 33, 16, 8)), ("grant", SECOND, 16, 2, 16), data[0], ("calm", 2), data[1], ("calm", 2)])
+        granted: list[Event] = [("listen", SECOND, 16, 8), *said(of_sockets(STR, 33, 16, 8)), ("grant", SECOND, 16, 2, 16)]
+        world = world_of([*READY, *granted, data[0], ("calm", 2), data[1], ("calm", 2)])
         self.assertEqual([(it.bits, it.messages) for it in world.book.lives], [("1" * 8, 1)])
         self.assertFalse(determined(world.carrier.log, world.book.lives))
 

@@ -1,4 +1,5 @@
--- The program of a host without what it has with strangers (NIC 8246: a host keeps a table of its own for each other host).
+-- The program of a host without what it has with strangers (NIC 8246: a host keeps a table of its own for each other
+-- host).
 use Rattle.std.specs.Prelude.{◌≡◌, ℕ, Bool, false, not, List, filter, Option, Some, None}
 use Rattle.interface.specs.Host.{Host}
 use Rattle.host_pairs.specs.declared.listener.Listener.{Listener}

@@ -1,4 +1,5 @@
--- What happens in a network some of whose hosts are strangers, and what the other hosts have of it among themselves. Lists are read
+-- What happens in a network some of whose hosts are strangers, and what the other hosts have of it among themselves.
+-- Lists are read
 -- newest first.
 use Rattle.std.specs.Prelude.{◌≡◌, ◌||◌, ℕ, Bool, true, false, if◌then◌else◌, List, [], ◌∷◌, Option, Some, None}
 use Rattle.interface.specs.Host.{Host, is_host}
@@ -26,7 +27,8 @@ abbrev pub AreMixed : (Host → Bool) → List Host → List Moment → Type 0
 AreMixed strange hosts [] = Unit {0}
 AreMixed strange hosts (x ∷ moments) = MayHappen strange hosts x moments × AreMixed strange hosts moments
 
--- strangers are hosts of the network, and like all others they have addresses and cross by its mailboxes. Nothing else is asked of them
+-- strangers are hosts of the network, and like all others they have addresses and cross by its mailboxes. Nothing
+-- else is asked of them
 pub record IsMixed (strange : Host → Bool) (hosts : List Host) (moments : List Moment) : Type 0 where
   pub addresses : HaveAddresses hosts
   pub strangers : (h : Host) → strange h ≡ true → is_host hosts h ≡ true
@@ -38,7 +40,8 @@ pub record IsMixed (strange : Host → Bool) (hosts : List Host) (moments : List
 -- sockets that listened before, and no longer do
 abbrev pub stopped : List Listener → List Listener → List ℕ
 stopped [] now = []
-stopped (l ∷ before) now = if listens_on l.socket before || listens_on l.socket now then stopped before now else l.socket ∷ stopped before now
+stopped (l ∷ before) now = if listens_on l.socket before || listens_on l.socket now then stopped before now
+    else l.socket ∷ stopped before now
 
 -- their user closes them, one after the other
 abbrev pub closed : Host → List ℕ → List Moment → List Moment
@@ -50,14 +53,17 @@ abbrev pub closed_by : (Host → Bool) → Crossing → List Moment → List Mom
 closed_by strange (crossing.In m) moments masked =
     if strange m.flow.destination then masked
     else closed m.flow.destination
-    (stopped (program m.flow.destination moments).listening (program m.flow.destination (Crossed (crossing.In m) ∷ moments)).listening)
+    (stopped (program m.flow.destination moments).listening
+    (program m.flow.destination (Crossed (crossing.In m) ∷ moments)).listening)
     masked
 closed_by strange c moments masked = masked
 
 -- what crosses among hosts with programs stays; in place of every other crossing its stranger stops or starts
-abbrev pub masked_crossing : (Host → Bool) → List Host → Option Host → Crossing → List Moment → List Moment → List Moment
+abbrev pub masked_crossing : (Host → Bool) → List Host → Option Host → Crossing → List Moment → List Moment
+    → List Moment
 masked_crossing strange hosts None c moments masked = Crossed c ∷ masked
-masked_crossing strange hosts (Some h) c moments masked = closed_by strange c moments (Crossed (turn (is_up hosts h (crossings_of masked)) h) ∷ masked)
+masked_crossing strange hosts (Some h) c moments masked = closed_by strange c moments
+    (Crossed (turn (is_up hosts h (crossings_of masked)) h) ∷ masked)
 
 -- what users ask for stays, unless it is about a stranger
 abbrev pub masked_moments : (Host → Bool) → List Host → List Moment → List Moment

@@ -1,4 +1,5 @@
--- Strangers: hosts of a network that run anything. What crosses among the other hosts is read from a log in which each crossing of a
+-- Strangers: hosts of a network that run anything. What crosses among the other hosts is read from a log in which
+-- each crossing of a
 -- stranger is masked: the stranger stops or starts in its place. Logs are read newest first.
 use Rattle.std.specs.Prelude.{Bool, true, false, if◌then◌else◌, List, [], ◌∷◌, Option, Some, None}
 use Rattle.interface.specs.Host.{Host}
@@ -36,4 +37,5 @@ masked_as hosts (Some h) c log = turn (is_up hosts h log) h
 -- all crossings, each at its place
 abbrev pub masked_log : (Host → Bool) → List Host → List Crossing → List Crossing
 masked_log strange hosts [] = []
-masked_log strange hosts (c ∷ log) = masked_as hosts (stranger_in strange c) c (masked_log strange hosts log) ∷ masked_log strange hosts log
+masked_log strange hosts (c ∷ log) = masked_as hosts (stranger_in strange c) c (masked_log strange hosts log) ∷
+    masked_log strange hosts log

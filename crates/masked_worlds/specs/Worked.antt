@@ -1,4 +1,5 @@
--- Small networks with a stranger: words for worked examples. Hosts `first` and `second` run the program, and `third` runs anything.
+-- Small networks with a stranger: words for worked examples. Hosts `first` and `second` run the program, and `third`
+-- runs anything.
 use Rattle.std.specs.Prelude.{Bool, List, [], ◌∷◌, ◌++◌}
 use Rattle.interface.specs.Host.{Host, same_host}
 use Rattle.interface.specs.declared.crossing.Crossing.TheVariants as crossing
@@ -25,7 +26,8 @@ other_listener = record { socket = 35; size = 8 }
 -- the stranger resets its pair with the second host
 abbrev pub stranger_ready : List Moment
 stranger_ready =
-    answered_moment second third ∷ Crossed (crossing.In (rrp second third)) ∷ Crossed (crossing.Out (rrp second third)) ∷ answered_moment third second
+    answered_moment second third ∷ Crossed (crossing.In (rrp second third)) ∷ Crossed
+    (crossing.Out (rrp second third)) ∷ answered_moment third second
     ∷ Crossed (crossing.In (rst third second)) ∷ Crossed (crossing.Out (rst third second)) ∷ []
 
 -- and asks for the socket at which the second listens for anybody
@@ -33,9 +35,11 @@ abbrev pub stranger_asks : HostMessage
 stranger_asks = control third second (RTS 16 33 2)
 
 abbrev pub listener_taken : List Moment
-listener_taken = Crossed (crossing.In stranger_asks) ∷ Crossed (crossing.Out stranger_asks) ∷ Asked second (request.Listen 33 8) ∷ stranger_ready
+listener_taken = Crossed (crossing.In stranger_asks) ∷ Crossed (crossing.Out stranger_asks) ∷ Asked second
+    (request.Listen 33 8) ∷ stranger_ready
 
--- a stranger never takes or answers anything that a program would expect of it: here it says an RTS for two sockets on one link,
+-- a stranger never takes or answers anything that a program would expect of it: here it says an RTS for two sockets
+-- on one link,
 -- without any reset
 abbrev pub one_link_twice : HostMessage
 one_link_twice = control third second (RTS 16 33 2 ++ RTS 18 35 2)

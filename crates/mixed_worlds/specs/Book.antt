@@ -32,4 +32,5 @@ lives_among strange lives = filter (is_among strange) lives
 abbrev pub beside_among : {A : Type 0} → (Host → Bool) → List Life → List A → List A
 beside_among strange [] others = others
 beside_among strange (x ∷ lives) [] = []
-beside_among strange (x ∷ lives) (a ∷ others) = if is_among strange x then a ∷ beside_among strange lives others else beside_among strange lives others
+beside_among strange (x ∷ lives) (a ∷ others) = if is_among strange x then a ∷ beside_among strange lives others
+    else beside_among strange lives others

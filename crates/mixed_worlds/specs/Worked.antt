@@ -17,24 +17,33 @@ stranger_opened = Crossed (crossing.Out (control second third (STR 33 16 8))) �
 
 -- the second host contacts the stranger, which takes the RST
 abbrev pub stranger_contacted : List Moment
-stranger_contacted = Crossed (crossing.In (rst second third)) ∷ Crossed (crossing.Out (rst second third)) ∷ Asked second (request.Contact third) ∷ []
+stranger_contacted = Crossed (crossing.In (rst second third)) ∷ Crossed (crossing.Out (rst second third)) ∷ Asked
+    second (request.Contact third) ∷ []
 
--- the stranger sends to a socket that listens at the second host, with bytes of eight bits, and the second grants two messages and 16 bits
+-- the stranger sends to a socket that listens at the second host, with bytes of eight bits, and the second grants two
+-- messages and 16 bits
 abbrev pub stranger_granted : List Moment
 stranger_granted =
-    Asked second (request.Grant 16 2 16) ∷ Crossed (crossing.Out (control second third (RTS 16 33 2))) ∷ Crossed (crossing.In (control third second (STR 33 16 8)))
+    Asked second (request.Grant 16 2 16) ∷ Crossed (crossing.Out (control second third (RTS 16 33 2))) ∷ Crossed
+    (crossing.In (control third second (STR 33 16 8)))
     ∷ Crossed (crossing.Out (control third second (STR 33 16 8))) ∷ Asked second (request.Listen 16 8) ∷ stranger_ready
 
 -- then it sends one byte of seven bits, and after that one of eight
 abbrev pub odd_size : List Moment
 odd_size =
-    Crossed (crossing.In (message third second 2 (0 ∷ 8 ∷ 0 ∷ 1 ∷ 0 ∷ 255 ∷ []))) ∷ Crossed (crossing.Out (message third second 2 (0 ∷ 8 ∷ 0 ∷ 1 ∷ 0 ∷ 255 ∷ [])))
-    ∷ Crossed (crossing.Answer answer.Rfnm (on_link third second 2)) ∷ Crossed (crossing.In (message third second 2 (0 ∷ 7 ∷ 0 ∷ 1 ∷ 0 ∷ 254 ∷ [])))
+    Crossed (crossing.In (message third second 2 (0 ∷ 8 ∷ 0 ∷ 1 ∷ 0 ∷ 255 ∷ []))) ∷ Crossed
+    (crossing.Out (message third second 2 (0 ∷ 8 ∷ 0 ∷ 1 ∷ 0 ∷ 255 ∷ [])))
+    ∷ Crossed (crossing.Answer answer.Rfnm (on_link third second 2)) ∷ Crossed
+    (crossing.In (message third second 2 (0 ∷ 7 ∷ 0 ∷ 1 ∷ 0 ∷ 254 ∷ [])))
     ∷ Crossed (crossing.Out (message third second 2 (0 ∷ 7 ∷ 0 ∷ 1 ∷ 0 ∷ 254 ∷ []))) ∷ stranger_granted
 
--- the life of that: only the second message was taken
+-- the life of the end that receives, before anything is taken
+abbrev pub granting_life : Life
+granting_life = granted 2 16 (new_life second 16 third 33 8 7)
+
+-- and after it: only the second message was taken
 abbrev pub odd_life : Life
-odd_life = carried eight (granted 2 16 (new_life second 16 third 33 8 7))
+odd_life = carried eight granting_life
 
 -- a life between the other two hosts
 abbrev pub plain_life : Life

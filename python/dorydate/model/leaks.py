@@ -1,4 +1,4 @@
-"""Programs that mix up their peers: what one peer says reaches what the host has with another. `check worlds --mixed` has to find them."""
+"""Programs that mix up their peers: what one says reaches what the host has with another. `check worlds --mixed` finds them."""
 
 from __future__ import annotations
 
@@ -65,7 +65,7 @@ class LeakedResets(Leak):
 
 
 class LeakedAnswers(Leak):
-    """An RFNM frees its link with all peers. The network refuses what then goes out too early, and the program says it again."""
+    """An RFNM frees its link with all peers. The network refuses what goes out too early, and it is said again."""
 
     def take_answer(self, peer: HostName, pair: Pair, kind: str, link: int) -> None:
         for other in self.others(pair) if kind == "rfnm" else ():

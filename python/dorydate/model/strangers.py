@@ -1,8 +1,9 @@
 """Worlds some of whose hosts are strangers: they send, take, stop and start as a script says, and run no program.
 
-Such a world remembers its moments. `masked` lets the same moments happen again without the strangers, in a world all of whose hosts run
-the program: in place of each crossing of a stranger the stranger stops or starts, and a socket that a stranger's message made stop
-listening is closed. It was written from docs/among.md, in another language and another form than the definitions.
+Such a world remembers its moments. `masked` lets the same moments happen again without the strangers, in a world
+all of whose hosts run the program: in place of each crossing of a stranger the stranger stops or starts, and a socket
+that a stranger's message made stop listening is closed. It was written from docs/among.md, in another language and
+another form than the definitions.
 """
 
 from __future__ import annotations
@@ -55,12 +56,15 @@ class MixedWorld(EndingWorld):
 
     further = frozenset({"out"})
 
-    def __init__(self, carrier: Carrier, strangers: Iterable[HostName], takes: bool = True, host_program: type[Host] = Host) -> None:
+    def __init__(
+        self, carrier: Carrier, strangers: Iterable[HostName], takes: bool = True, host_program: type[Host] = Host
+    ) -> None:
         super().__init__(carrier, host_program)
         self.strangers = frozenset(strangers)
         self.takes = takes  # whether strangers take what waits for them in a calm
         self.moments: list[Moment] = []
-        self.listened: tuple[HostName, list[int]] | None = None  # who takes a stranger's message, and what listened there
+        # who takes a stranger's message, and what listened there
+        self.listened: tuple[HostName, list[int]] | None = None
         for host in self.strangers:
             self.hosts[host] = Stranger(host)
 
@@ -89,9 +93,10 @@ class MixedWorld(EndingWorld):
         before = len(self.carrier.log)
         given = super().carry(call)
         self.moments += self.carrier.log[before:]
-        if isinstance(given, Message) and given.flow.source in self.strangers and given.flow.destination not in self.strangers:
-            program = self.hosts[given.flow.destination]
-            self.listened = (given.flow.destination, [*program.listening]) if program else None
+        if isinstance(given, Message) and given.flow.source in self.strangers:
+            taker = given.flow.destination
+            program = None if taker in self.strangers else self.hosts[taker]
+            self.listened = (taker, [*program.listening]) if program else None
         return given
 
     def tell(self, host: HostName, notices: list[str]) -> None:
@@ -106,8 +111,10 @@ class MixedWorld(EndingWorld):
         program = self.program(host)
         if host in self.strangers:
             raise Refused("NoProgram")
-        owner = None if kind in ABOUT_PEER or kind == "listen" or parts[0] in program.listening else program.mine(parts[0])
-        peer = parts[0] if kind in ABOUT_PEER else owner[0] if owner else None
+        peer: HostName | None = parts[0] if kind in ABOUT_PEER else None
+        if kind not in ABOUT_PEER and kind != "listen" and parts[0] not in program.listening:
+            owner = program.mine(parts[0])
+            peer = owner[0] if owner else None
         notices = super().request(host, kind, *parts)
         self.moments.append(Asked(host, kind, parts, peer in self.strangers))
         return notices
@@ -206,13 +213,14 @@ def cross(world: EndingWorld, carrier: Told, crossing: Crossing) -> None:
 
 
 def kept_of(world: EndingWorld, host: HostName, strangers: frozenset[HostName]) -> object:
-    """All that a host's program keeps, but for what it has with strangers. A pair in the initial state counts as none."""
+    """All that a host's program keeps, but what it has with strangers. A pair in the initial state counts as none."""
     program = world.hosts[host]
     if program is None:
         return None
     fresh = world.host_program(host)
-    pairs = {peer: spelled(pair) for peer, pair in program.pairs.items() if peer not in strangers and spelled(pair) != spelled(fresh.pair(peer))}
-    return pairs, {**program.listening}
+    pairs = {peer: spelled(pair) for peer, pair in program.pairs.items() if peer not in strangers}
+    kept = {peer: pair for peer, pair in pairs.items() if pair != spelled(fresh.pair(peer))}
+    return kept, {**program.listening}
 
 
 def spelled(pair: Any) -> dict[str, Any]:
@@ -222,11 +230,13 @@ def spelled(pair: Any) -> dict[str, Any]:
 
 def differs(mixed: MixedWorld, world: EndingWorld) -> str | None:
     """What differs between a mixed world and the same without its strangers: None where nothing does."""
-    pairs = [*zip(mixed.carrier.log, world.carrier.log)]
-    if len(mixed.carrier.log) != len(world.carrier.log) or any(one != other for one, other in pairs if not {*ends_of(one)} & mixed.strangers):
+    log, other = mixed.carrier.log, world.carrier.log
+    others = [at for at, crossing in enumerate(log) if not {*ends_of(crossing)} & mixed.strangers]
+    if len(log) != len(other) or any(log[at] != other[at] for at in others):
         return "crossings"
     if mixed.lives_among() != world.book.lives:
         return "lives"
-    if any(kept_of(mixed, it, mixed.strangers) != kept_of(world, it, mixed.strangers) for it in mixed.hosts if it not in mixed.strangers):
+    hosts = [host for host in mixed.hosts if host not in mixed.strangers]
+    if any(kept_of(mixed, it, mixed.strangers) != kept_of(world, it, mixed.strangers) for it in hosts):
         return "programs"
     return None

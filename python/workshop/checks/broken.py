@@ -27,7 +27,7 @@ def pairs_that_differ(log: Log, lives: Lives) -> Iterator[tuple[Life, Life]]:
 
 
 class Watched(World):
-    """A world that remembers which messages had an effect: they changed their host's program, or it reported something."""
+    """A world that remembers which messages changed their host's program, or made it report something."""
 
     def __init__(self, carrier: Carrier) -> None:
         super().__init__(carrier)

@@ -1,9 +1,10 @@
 """Random worlds with strangers in the model: whether the hosts with programs keep the promise among each other.
 
-Each world is judged in two ways. The lives between hosts with programs are judged as they are, at the end of each run and after each event
-of some. And the same moments happen again without the strangers, in a world all of whose hosts run the program: there the same has to cross, each
-program has to be the same but for its pairs with strangers, the lives have to be the same, and the book has to keep everything that is promised
-of any book. Programs that mix up their peers have to be found by this, and one that does so without any harm must not break the promise.
+Each world is judged in two ways. The lives between hosts with programs are judged as they are, at the end of each run
+and after each event of some. And the same moments happen again without the strangers, in a world all of whose hosts run
+the program: there the same has to cross, each program has to be the same but for its pairs with strangers, the lives
+have to be the same, and the book has to keep everything that is promised of any book. Programs that mix up their peers
+have to be found by this, and one that does so without any harm must not break the promise.
 """
 
 from __future__ import annotations
@@ -71,8 +72,10 @@ def counted(world: MixedWorld) -> Counter[str]:
             counts["requests about a stranger"] += moment.is_strange
         elif {*ends_of(moment)} & world.strangers:
             counts["crossings of a stranger"] += 1
-            counts["messages of a stranger"] += isinstance(moment, Passed) and moment.kind == "out" and moment.flow.source in world.strangers
-            counts["messages of a stranger that a program took"] += isinstance(moment, Passed) and moment.kind == "in" and moment.flow.destination not in world.strangers
+            if isinstance(moment, Passed) and moment.flow.source in world.strangers:
+                is_taken = moment.kind == "in" and moment.flow.destination not in world.strangers
+                counts["messages of a stranger"] += moment.kind == "out"
+                counts["messages of a stranger that a program took"] += is_taken
     among = world.lives_among()
     counts["lives among programs"] = len(among)
     counts["lives among programs with data"] = sum(1 for life in among if life.bits)

@@ -14,7 +14,7 @@ use Rattle.sockets.specs.Requests.{refusal, served, served_notices}
 use Rattle.sockets.specs.Sending.{next_in, offered}
 use Rattle.sockets.specs.declared.peer.Peer.{Peer}
 use Rattle.sockets.specs.declared.request.Request.{Request}
-use Rattle.masked_worlds.specs.Among.{is_of_stranger, without_strangers}
+use Rattle.masked_worlds.specs.Among.{OnlyStop, is_of_stranger, without_strangers}
 
 -- ---- about a stranger
 
@@ -24,6 +24,11 @@ OneHostMessage =
     without_strangers strange (accepted s (inbound.Message m) stamp).0
     ≡ record (without_strangers strange s) { listening = (accepted s (inbound.Message m) stamp).0.listening }
 
+-- of any message
+abbrev pub OneHostListening : Type 0
+OneHostListening =
+    (s : NcpState) (m : HostMessage) (stamp : ℕ) → OnlyStop s.listening (accepted s (inbound.Message m) stamp).0.listening
+
 abbrev pub OneHostAnswer : Type 0
 OneHostAnswer =
     (strange : Host → Bool) (s : NcpState) (kind : Answer) (f : Flow) (stamp : ℕ) → strange f.destination ≡ true →
@@ -31,7 +36,8 @@ OneHostAnswer =
 
 abbrev pub OneHostOffer : Type 0
 OneHostOffer =
-    (strange : Host → Bool) (s : NcpState) (stamp : ℕ) (p : Peer) (parcel : Parcel) → next_in s.peers ≡ Some (p, parcel) → strange p.host ≡ true →
+    (strange : Host → Bool) (s : NcpState) (stamp : ℕ) (p : Peer) (parcel : Parcel)
+    → next_in s.peers ≡ Some (p, parcel) → strange p.host ≡ true →
     without_strangers strange (offered s stamp).0 ≡ without_strangers strange s
 
 abbrev pub OneHostRequest : Type 0
@@ -43,24 +49,31 @@ OneHostRequest =
 
 abbrev pub AmongMessage : Type 0
 AmongMessage =
-    (strange : Host → Bool) (s : NcpState) (m : HostMessage) (stamp : ℕ) → strange m.flow.source ≡ false → AreInOrder s.peers →
+    (strange : Host → Bool) (s : NcpState) (m : HostMessage) (stamp : ℕ) → strange m.flow.source ≡ false
+    → AreInOrder s.peers →
     accepted (without_strangers strange s) (inbound.Message m) stamp
     ≡ (without_strangers strange (accepted s (inbound.Message m) stamp).0, (accepted s (inbound.Message m) stamp).1)
 
 abbrev pub AmongAnswer : Type 0
 AmongAnswer =
-    (strange : Host → Bool) (s : NcpState) (kind : Answer) (f : Flow) (stamp : ℕ) → strange f.destination ≡ false → AreInOrder s.peers →
+    (strange : Host → Bool) (s : NcpState) (kind : Answer) (f : Flow) (stamp : ℕ) → strange f.destination ≡ false
+    → AreInOrder s.peers →
     accepted (without_strangers strange s) (inbound.Answer kind f) stamp
-    ≡ (without_strangers strange (accepted s (inbound.Answer kind f) stamp).0, (accepted s (inbound.Answer kind f) stamp).1)
+    ≡ (
+      without_strangers strange (accepted s (inbound.Answer kind f) stamp).0,
+      (accepted s (inbound.Answer kind f) stamp).1,
+    )
 
 -- it goes next there too
 pub record GoesAmong (strange : Host → Bool) (s : NcpState) (stamp : ℕ) (p : Peer) (parcel : Parcel) : Type 0 where
   pub next : next_in (without_strangers strange s).peers ≡ Some (p, parcel)
-  pub same : offered (without_strangers strange s) stamp ≡ (without_strangers strange (offered s stamp).0, (offered s stamp).1)
+  pub same : offered (without_strangers strange s) stamp ≡
+      (without_strangers strange (offered s stamp).0, (offered s stamp).1)
 
 abbrev pub AmongOffer : Type 0
 AmongOffer =
-    (strange : Host → Bool) (s : NcpState) (stamp : ℕ) (p : Peer) (parcel : Parcel) → next_in s.peers ≡ Some (p, parcel) → strange p.host ≡ false →
+    (strange : Host → Bool) (s : NcpState) (stamp : ℕ) (p : Peer) (parcel : Parcel)
+    → next_in s.peers ≡ Some (p, parcel) → strange p.host ≡ false →
     AreInOrder s.peers → GoesAmong strange s stamp p parcel
 
 -- it isn't refused there either
@@ -71,5 +84,6 @@ pub record ServedAmong (strange : Host → Bool) (s : NcpState) (r : Request) : 
 
 abbrev pub AmongRequest : Type 0
 AmongRequest =
-    (strange : Host → Bool) (s : NcpState) (r : Request) → is_of_stranger strange (peer_of s r) ≡ false → refusal s r ≡ None → AreInOrder s.peers →
+    (strange : Host → Bool) (s : NcpState) (r : Request) → is_of_stranger strange (peer_of s r) ≡ false
+    → refusal s r ≡ None → AreInOrder s.peers →
     ServedAmong strange s r

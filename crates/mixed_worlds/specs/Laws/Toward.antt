@@ -17,26 +17,34 @@ use Rattle.mixed_worlds.specs.Ends.{HasSome}
 -- one call: any message, in any order
 abbrev pub TowardEnds : Type 0
 TowardEnds =
-    (origin : ℕ → ℕ) (own foreign : ℕ) (s : NcpState) (m : HostMessage) (stamp : ℕ) → HasSome origin own foreign (pair_with m.flow.source s.peers) →
+    (origin : ℕ → ℕ) (own foreign : ℕ) (s : NcpState) (m : HostMessage) (stamp : ℕ)
+    → HasSome origin own foreign (pair_with m.flow.source s.peers) →
     HasSome origin own foreign (pair_with m.flow.source (accepted s (inbound.Message m) stamp).0.peers)
 
 abbrev pub TowardSockets : Type 0
 TowardSockets =
-    (strange : Host → Bool) (hosts : List Host) (moments : List Moment) → IsMixed strange hosts moments → (a : Host) (socket : ℕ) → strange a ≡ false →
-    IsFreeSocket a socket (program a moments) (mixed_kept strange moments) ⊎ IsOwned a socket (program a moments) (mixed_kept strange moments)
+    (strange : Host → Bool) (hosts : List Host) (moments : List Moment) → IsMixed strange hosts moments
+    → (a : Host) (socket : ℕ) → strange a ≡ false →
+    IsFreeSocket a socket (program a moments) (mixed_kept strange moments) ⊎ IsOwned a socket (program a moments)
+    (mixed_kept strange moments)
 
 abbrev pub TowardLive : Type 0
 TowardLive =
     (strange : Host → Bool) (hosts : List Host) (moments : List Moment) → IsMixed strange hosts moments → (x : Life) →
-    Contains (mixed_kept strange moments).book.lives x → strange x.host ≡ false → x.ended ≡ false → HasOpenEnd (program x.host moments) x
+    Contains (mixed_kept strange moments).book.lives x → strange x.host ≡ false → x.ended ≡ false
+    → HasOpenEnd (program x.host moments) x
 
 abbrev pub TowardTaken : Type 0
 TowardTaken =
-    (strange : Host → Bool) (hosts : List Host) (moments : List Moment) → IsMixed strange hosts moments → (receiver : Life) →
-    Contains (mixed_kept strange moments).book.lives receiver → strange receiver.host ≡ false → receives receiver ≡ true →
+    (strange : Host → Bool) (hosts : List Host) (moments : List Moment) → IsMixed strange hosts moments
+    → (receiver : Life) →
+    Contains (mixed_kept strange moments).book.lives receiver → strange receiver.host ≡ false
+    → receives receiver ≡ true →
     IsGranted receiver receiver.messages (length receiver.bits)
 
 abbrev pub TowardBounded : Type 0
 TowardBounded =
-    (strange : Host → Bool) (hosts : List Host) (moments : List Moment) → IsMixed strange hosts moments → (receiver : Life) →
-    Contains (mixed_kept strange moments).book.lives receiver → strange receiver.host ≡ false → receives receiver ≡ true → IsBounded receiver
+    (strange : Host → Bool) (hosts : List Host) (moments : List Moment) → IsMixed strange hosts moments
+    → (receiver : Life) →
+    Contains (mixed_kept strange moments).book.lives receiver → strange receiver.host ≡ false
+    → receives receiver ≡ true → IsBounded receiver

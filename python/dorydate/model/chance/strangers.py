@@ -1,8 +1,8 @@
 """Random scripts for networks with strangers.
 
-A stranger follows the rules for a while, by a program of its own of which the world knows nothing, or changes some of what that
-says, or says whatever comes: requests for sockets and links of its own connections and of others', resets at any time, data past its
-grant, texts that are no messages.
+A stranger follows the rules for a while, by a program of its own of which the world knows nothing, or changes some of
+what that says, or says whatever comes: requests for sockets and links of its own connections and of others', resets at
+any time, data past its grant, texts that are no messages.
 """
 
 from __future__ import annotations
@@ -13,7 +13,8 @@ from typing import Any, TypeVar
 
 from dorydate.model.bits import Bits, bits_of
 from dorydate.model.chance.worlds import RECEIVERS, SENDERS, SIZES, Script
-from dorydate.model.commands import ALL, CLS, ECO, ERP, GVB, INR, INS, RET, RRP, RST, RTS, STR, alone, control_message, header, of_counts, of_sockets
+from dorydate.model.commands import ALL, CLS, ECO, ERP, GVB, INR, INS, RET, RRP, RST, RTS, STR
+from dorydate.model.commands import alone, control_message, header, of_counts, of_sockets
 from dorydate.model.connections import End
 from dorydate.model.crossings import Answered, Message, Passed, Reply, Turned
 from dorydate.model.host import Host
@@ -30,7 +31,8 @@ MOST_BITS = 8063  # of a message
 def mixed_network(chance: random.Random) -> Topology:
     """A network of at least three hosts."""
     numbers = sorted(chance.sample(range(1, 64), chance.choice([1, 2, 3, 3])))
-    imps = [(number, max(chance.choice([1, 1, 2, 2]), 4 - len(numbers) - (at > 0))) for at, number in enumerate(numbers)]
+    least = {1: [3], 2: [2, 1], 3: [1, 1, 1]}[len(numbers)]
+    imps = [(number, max(chance.choice([1, 1, 2, 2]), count)) for number, count in zip(numbers, least)]
     lines: list[tuple[int, ...]] = [*zip(numbers, numbers[1:])]
     return Topology(chance.choice(["plain", "plain", "subnet"]), False, imps, lines)
 
@@ -168,22 +170,26 @@ class MixedScript(Script):
             return 0, header(8, len(cut)) + bits_of(cut)
         if kind < 0.92:
             return self.data(stranger, target)
-        return self.one(0, 2, self.chance.randrange(256)), "".join(self.chance.choices("01", k=self.one(0, 8, 39, 40, 48, 200, MOST_BITS)))
+        length = self.one(0, 8, 39, 40, 48, 200, MOST_BITS)
+        return self.one(0, 2, self.chance.randrange(256)), "".join(self.chance.choices("01", k=length))
 
     def data(self, stranger: HostName, target: HostName) -> tuple[int, Bits]:
-        """Data on a link of its own connections or of another's, of the right size or another, within its grant or past it."""
+        """Data on a link of its own or of another's, of the right size or another, within its grant or past it."""
         ends = [end for end in self.ends_at(target, self.one([stranger], self.names)) if end.receives() and end.link]
         end = self.chance.choice(ends) if ends else None
-        link, size = (end.known_link(), end.size or 8) if end and self.chance.random() < 0.85 else (self.one(1, 2, 3, 31, 255), self.one(*SIZES))
+        link, size = self.one(1, 2, 3, 31, 255), self.one(*SIZES)
+        if end and self.chance.random() < 0.85:
+            link, size = end.known_link(), end.size or 8
         size = self.one(size, size, size, size, 7, 9)
         most = end.bits // size if end else 5
         count = min(self.one(0, 1, most, most + 1), 8023 // size)
         return link, header(size, count) + "".join(self.chance.choices("01", k=size * count))
 
     def sockets(self, stranger: HostName, target: HostName, sends: bool) -> tuple[int, int]:
-        """Two sockets of a request or a CLS to a host, the stranger's own one first: of its connections, of others', of what listens, or others."""
+        """Two sockets of a request or a CLS, the stranger's own one first: of its connections or others', or any."""
         ends = [end for end in self.ends_at(target, self.one([stranger], self.names)) if end.own % 2 != sends]
-        listening = [socket for socket in self.up()[target].listening if socket % 2 != sends] if target in self.up() else []
+        listens = self.up()[target].listening if target in self.up() else {}
+        listening = [socket for socket in listens if socket % 2 != sends]
         if ends and self.chance.random() < 0.6:
             end = self.chance.choice(ends)
             return end.foreign, end.own
@@ -195,9 +201,11 @@ class MixedScript(Script):
         links = [end.link for end in self.ends_at(target, self.names) if end.link is not None]
         link = self.one(*links * 3, 2, 3, self.chance.randrange(256))
         sends = self.chance.random() < 0.5
-        code = self.chance.choices([RTS, CLS, ALL, GVB, RET, INS, ECO, RST, RRP, 14], [24, 8, 10, 4, 6, 3, 3, 5, 4, 1])[0]
+        weights = {RTS: 24, CLS: 8, ALL: 10, GVB: 4, RET: 6, INS: 3, ECO: 3, RST: 5, RRP: 4, 14: 1}
+        code = self.chance.choices([*weights], [*weights.values()])[0]
         if code == RTS:
-            return of_sockets(STR if sends else RTS, *self.sockets(stranger, target, sends), self.one(*SIZES, 0) if sends else self.one(link, 2, 3, 31))
+            last = self.one(*SIZES, 0) if sends else self.one(link, 2, 3, 31)
+            return of_sockets(STR if sends else RTS, *self.sockets(stranger, target, sends), last)
         if code == CLS:
             return of_sockets(CLS, *self.sockets(stranger, target, sends))
         if code in (ALL, RET):

@@ -8,7 +8,8 @@ pub returns-clause-up : goal.returns-clause-up
 returns-clause-up c = masked_up
 
 pub returns-clause-boxes : goal.returns-clause-boxes
-returns-clause-boxes c strange hosts f log source destination = masked_box strange hosts f log (no_end strange f source destination)
+returns-clause-boxes c strange hosts f log source destination = masked_box strange hosts f log
+    (no_end strange f source destination)
 
 pub returns-clause-run : goal.returns-clause-run
 returns-clause-run c strange hosts log hosted run = masked_run strange hosts hosted log run

@@ -1,4 +1,5 @@
-use Rattle.masked_worlds.proofs.Calls.{answer_among, answer_aside, message_among, message_aside, offer_among, offer_aside}
+use Rattle.masked_worlds.proofs.Calls.{answer_among, answer_aside, message_among, message_aside, offer_among}
+use Rattle.masked_worlds.proofs.Calls.{offer_aside}
 use Rattle.masked_worlds.proofs.Listening.{message_stops}
 use Rattle.masked_worlds.proofs.Peers.{next_among}
 use Rattle.masked_worlds.proofs.Requests.{notices_among, refusal_among, served_among, served_aside}
@@ -26,8 +27,15 @@ pub returns-clause-among_answer : goal.returns-clause-among_answer
 returns-clause-among_answer c = answer_among
 
 pub returns-clause-among_offer : goal.returns-clause-among_offer
-returns-clause-among_offer c strange s stamp p parcel next off order = record { next = next_among strange s.peers p parcel next off; same = offer_among strange s stamp p parcel next off order }
+returns-clause-among_offer c strange s stamp p parcel next off order = record {
+  next = next_among strange s.peers p parcel next off;
+  same = offer_among strange s stamp p parcel next off order;
+}
 
 pub returns-clause-among_request : goal.returns-clause-among_request
 returns-clause-among_request c strange s r off none order =
-    record { unrefused = refusal_among strange s r off none; same = served_among strange s r off order; notices = notices_among strange s r off }
+    record {
+      unrefused = refusal_among strange s r off none;
+      same = served_among strange s r off order;
+      notices = notices_among strange s r off;
+    }

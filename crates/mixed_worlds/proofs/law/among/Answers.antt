@@ -27,10 +27,16 @@ returns-clause-promise c strange hosts moments mixed =
       came = c.lives-2.ensures.came;
       calm = c.lives-2.ensures.calm;
       had = c.lives-2.ensures.handed;
-    }) hosts (masked_moments strange hosts moments) mixed.addresses (c.masked.ensures.run strange hosts moments mixed) (c.masked.ensures.timeline strange hosts moments mixed)
+    }) hosts (masked_moments strange hosts moments) mixed.addresses (c.masked.ensures.run strange hosts moments mixed)
+    (c.masked.ensures.timeline strange hosts moments mixed)
 
 pub returns-clause-lives : goal.returns-clause-lives
 returns-clause-lives c strange hosts moments mixed =
-    let orders : Orders = record { request = c.orders.ensures.request; message = c.orders.ensures.message; answer = c.orders.ensures.answer; offer = c.orders.ensures.offer } in
+    let orders : Orders = record {
+      request = c.orders.ensures.request;
+      message = c.orders.ensures.message;
+      answer = c.orders.ensures.answer;
+      offer = c.orders.ensures.offer;
+    } in
     let same : SameBook strange _ _ = same_book orders strange hosts moments mixed in
     record { lives = same.lives; handed = same.handed; fates = same.fates }

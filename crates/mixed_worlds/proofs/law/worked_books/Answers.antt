@@ -10,8 +10,19 @@ use Rattle.mixed_worlds.proofs.law.worked_books.Goals as goal
 
 pub returns-clause-mixed : goal.returns-clause-mixed
 unfolding octets_of orders_of read_of command_of packed_count accepted refusal served served_notices next_out offered
-returns-clause-mixed c =
-    ((λ off. refl), ((λ off. tt), ((λ off. absurd (cc)), ((λ off. (refl, tt, refl, omega arith)), ((λ off. tt), ((λ off. tt), ((λ off. refl), ((λ off. tt), ((λ off. tt), ((λ off. absurd (cc)), tt))))))))))
+returns-clause-mixed c = (
+  (λ off. refl),
+  (
+    (λ off. tt),
+    (
+      (λ off. absurd (cc)),
+      (
+        (λ off. (refl, tt, refl, omega arith)),
+        ((λ off. tt), ((λ off. tt), ((λ off. refl), ((λ off. tt), ((λ off. tt), ((λ off. absurd (cc)), tt)))))),
+      ),
+    ),
+  ),
+)
 
 pub returns-clause-opened : goal.returns-clause-opened
 unfolding octets_of orders_of read_of command_of packed_count accepted refusal served served_notices next_out offered

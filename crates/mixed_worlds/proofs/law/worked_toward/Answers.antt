@@ -11,8 +11,37 @@ use Rattle.mixed_worlds.proofs.law.worked_toward.Goals as goal
 
 pub returns-clause-mixed : goal.returns-clause-mixed
 unfolding octets_of orders_of read_of command_of packed_count accepted refusal served served_notices next_out offered
-returns-clause-mixed c =
-    ((λ off. tt), ((λ off. absurd (cc)), ((λ off. tt), ((λ off. tt), ((λ off. absurd (cc)), ((λ off. (refl, tt, refl, (omega arith, omega arith))), ((λ off. refl), ((λ off. tt), ((λ off. absurd (cc)), ((λ off. (refl, tt, refl, omega arith)), ((λ off. tt), ((λ off. tt), ((λ off. refl), ((λ off. tt), ((λ off. tt), ((λ off. absurd (cc)), tt))))))))))))))))
+returns-clause-mixed c = (
+  (λ off. tt),
+  (
+    (λ off. absurd (cc)),
+    (
+      (λ off. tt),
+      (
+        (λ off. tt),
+        (
+          (λ off. absurd (cc)),
+          (
+            (λ off. (refl, tt, refl, (omega arith, omega arith))),
+            (
+              (λ off. refl),
+              (
+                (λ off. tt),
+                (
+                  (λ off. absurd (cc)),
+                  (
+                    (λ off. (refl, tt, refl, omega arith)),
+                    ((λ off. tt), ((λ off. tt), ((λ off. refl), ((λ off. tt), ((λ off. tt), ((λ off. absurd (cc)), tt)))))),
+                  ),
+                ),
+              ),
+            ),
+          ),
+        ),
+      ),
+    ),
+  ),
+)
 
 pub returns-clause-granting : goal.returns-clause-granting
 unfolding octets_of orders_of read_of command_of packed_count accepted refusal served served_notices next_out offered
