@@ -14,12 +14,22 @@ Octets = Union[bytes, str, Text]
 
 
 class Stopped(Exception):
-    """Why a replay can't continue."""
+    """Why a replay can't continue.
+
+    >>> net.back(2)
+    Traceback (most recent call last):
+        ..
+    dorydate.deeds.Stopped: 1 events have happened, so 2 can't be taken back
+    """
 
 
 @dataclass(frozen=True)
 class Step:
-    """A plain event with what it printed."""
+    """A plain event with what it printed.
+
+    >>> net.out("UCLA", "SRI", 5, b"LO").steps[0].texts
+    ('out 0/1 0/2 5 16 4C4F',)
+    """
 
     event: Event
     printed: tuple[str, ...]
@@ -28,12 +38,20 @@ class Step:
 
     @property
     def refused(self) -> str | None:
-        """The name of its refusal; it changed nothing then."""
+        """The name of its refusal; it changed nothing then.
+
+        >>> print(net.take("UCLA").steps[0].refused)
+        None
+        """
         return refusal(self.printed)
 
     @property
     def meanings(self) -> list[str]:
-        """What its lines mean, a sentence each; of an event that printed nothing, what that means."""
+        """What its lines mean, a sentence each; of an event that printed nothing, what that means.
+
+        >>> net.out("UCLA", "SRI", 5, b"LO").steps[0].meanings
+        ['Host 0/1 hands its IMP a message for host 0/2 on link 5: 16 bits.']
+        """
         if not self.printed:
             return [sentences.silence(str(self.event).split(" "))]
         return [sentences.meaning(it) for it in self.printed]
@@ -44,7 +62,12 @@ class Step:
 
 @dataclass(frozen=True)
 class Deed:
-    """What a call did: the plain events that it became, those that were tried and refused, and what is to be said of it."""
+    """What a call did: the plain events that it became, those that were tried and refused, and what is to be said of it.
+
+    >>> deed = net.give_up("UCLA", "SRI")
+    >>> bool(deed), deed.refused, net.text.splitlines()[-1]
+    (False, 'NotOutstanding', 'giveup 0/1 0/2 0')
+    """
 
     steps: tuple[Step, ...]
     tried: tuple[Step, ...] = ()
@@ -52,16 +75,29 @@ class Deed:
 
     @property
     def printed(self) -> list[str]:
+        """All lines that its events printed.
+
+        >>> net.out("UCLA", "SRI", 5, b"LO").printed
+        ['out 0/1 0/2 5 16']
+        """
         return [line for step in self.steps for line in step.printed]
 
     @property
     def refused(self) -> str | None:
-        """The name of the refusal that it came to, None where all was done."""
+        """The name of the refusal that it came to, None where all was done.
+
+        >>> net.host_up("UCLA").refused
+        'IsUp'
+        """
         return next((step.refused for step in (*self.steps, *self.tried[-1:] * (not self.steps)) if step.refused), None)
 
     @property
     def flow(self) -> Flow | None:
-        """The flow of the message that it sent."""
+        """The flow of the message that it sent.
+
+        >>> str(net.out("UCLA", "SRI", 5).flow)
+        '0/1 0/2 5'
+        """
         return next((flow_of(it) for it in self.printed if it.startswith("out ")), None)
 
     def __bool__(self) -> bool:

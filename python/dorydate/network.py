@@ -5,21 +5,34 @@ from __future__ import annotations
 import re
 from collections.abc import Iterable, Mapping
 from dataclasses import dataclass
-from typing import Union
+from typing import Any, Union
 
-MOST_IMPS = 63
+from dorydate.given import short
+from dorydate.sites import Site
+from dorydate.toml import MOST_NUMBER, document_of, line_of_key, line_of_table
+
+MOST_IMPS = MOST_NUMBER
 MOST_HOSTS = 4
 MOST_LINES = 5  # of one IMP
-MOST_SHOWN = 72  # characters of a line in an error
 
 
 class BadNetwork(ValueError):
-    """Why something describes no network, or names nothing in one."""
+    """Why something describes no network, or names nothing in one.
+
+    >>> Network.joined("UCLA-SRI-UCLA").line("UCLA", "MIT")
+    Traceback (most recent call last):
+        ..
+    dorydate.network.BadNetwork: the network has no IMP MIT; it has UCLA, SRI
+    """
 
 
 @dataclass(frozen=True)
 class Host:
-    """A host: its number at its IMP, 0 to 3, and that IMP's number. It is written `host/imp`."""
+    """A host: its number at its IMP, 0 to 3, and that IMP's number. It is written `host/imp`.
+
+    >>> str(Host(0, 1)), Host(0, 1) == two.host("UCLA")
+    ('0/1', True)
+    """
 
     host: int
     imp: int
@@ -28,11 +41,20 @@ class Host:
         return f"{self.host}/{self.imp}"
 
     def order(self) -> tuple[int, int]:
-        """The order of hosts: by IMP, then by host."""
+        """The order of hosts: by IMP, then by host.
+
+        >>> sorted([Host(0, 2), Host(1, 1)], key=Host.order)[0]
+        Host(host=1, imp=1)
+        """
         return self.imp, self.host
 
     @staticmethod
     def read(word: str) -> Host:
+        """The host that a word names.
+
+        >>> Host.read("3/63")
+        Host(host=3, imp=63)
+        """
         found = re.fullmatch(r"([0-3])/([1-9]|[1-5][0-9]|6[0-3])", word)
         if not found:
             raise BadNetwork(f"`{word}` is not a host: that is its number from 0 to 3, a slash, and its IMP's number from 1 to 63")
@@ -41,11 +63,16 @@ class Host:
 
 @dataclass(frozen=True)
 class Imp:
-    """An IMP: its number, how many hosts it has, and the name of its site."""
+    """An IMP: its number, how many hosts it has, and the name of its site.
+
+    >>> two.imps[0], str(Imp(7))
+    (Imp(number=1, hosts=1, name='UCLA'), 'IMP 7')
+    """
 
     number: int
     hosts: int = 1
     name: str = ""
+    more: str = ""  # what the comment after its number says beside the name: machines, and where it is (dorydate.sites)
 
     def __str__(self) -> str:
         return self.name or f"IMP {self.number}"
@@ -53,17 +80,29 @@ class Imp:
 
 @dataclass(frozen=True)
 class Line:
-    """A line between two IMPs. Frames go `+` from the first to the second, and `-` the other way."""
+    """A line between two IMPs. Frames go `+` from the first to the second, and `-` the other way.
+
+    >>> two.lines
+    (Line(a=1, b=2),)
+    """
 
     a: int
     b: int
 
     def far(self, imp: int) -> int:
-        """The IMP at its other end."""
+        """The IMP at its other end.
+
+        >>> Line(1, 2).far(1)
+        2
+        """
         return self.a + self.b - imp
 
     def way(self, imp: int) -> str:
-        """The way that frames from an IMP go."""
+        """The way that frames from an IMP go.
+
+        >>> Line(1, 2).way(2)
+        '-'
+        """
         return "+" if imp == self.a else "-"
 
 
@@ -73,7 +112,12 @@ ImpName = Union[Imp, int, str]
 
 @dataclass(frozen=True)
 class Network:
-    """A network. `raw` says that a script itself sends and takes messages; otherwise the hosts have programs."""
+    """A network. `raw` says that a script itself sends and takes messages; otherwise the hosts have programs.
+
+    >>> two = Network.joined("UCLA-SRI", raw=True)
+    >>> two == Network((Imp(1, 1, "UCLA"), Imp(2, 1, "SRI")), (Line(1, 2),), raw=True)
+    True
+    """
 
     imps: tuple[Imp, ...]
     lines: tuple[Line, ...] = ()
@@ -89,6 +133,10 @@ class Network:
 
         `hosts` is how many each has, or a mapping from names; those that it doesn't name have one. A line that comes again, as
         between two chains, is one line.
+
+        >>> four = Network.joined("UCLA-SRI-UTAH", "SRI-UCSB-UCLA", hosts={"UTAH": 2})
+        >>> len(four.imps), len(four.lines), len(four.hosts())
+        (4, 4, 5)
         """
         names: list[str] = []
         pairs: list[tuple[str, str]] = []
@@ -110,7 +158,11 @@ class Network:
     # ---- names
 
     def imp(self, name: ImpName) -> Imp:
-        """The IMP of a name or a number."""
+        """The IMP of a name or a number.
+
+        >>> two.imp("SRI").number, two.imp(1).name
+        (2, 'UCLA')
+        """
         for it in self.imps:
             if it == name or it.number == name or (isinstance(name, str) and name in (it.name, str(it.number))):
                 return it
@@ -120,9 +172,14 @@ class Network:
         """The host of a name: `0/1`, the site's name for its host 0, or `1 at UCLA`.
 
         A host that is written with numbers need not be there: a message to one that isn't is answered Dead.
+
+        >>> two.host("SRI"), two.host("3 at SRI"), two.host("0/9")
+        (Host(host=0, imp=2), Host(host=3, imp=2), Host(host=0, imp=9))
         """
         if isinstance(name, Host):
             return name
+        if not isinstance(name, str):
+            raise BadNetwork(f"{name!r} is not a host: write `0/1`, or the site's name for its host 0, or `1 at` and that name")
         if re.fullmatch(r"[0-9]+/[0-9]+", name):
             return Host.read(name)
         number, at, site = name.partition(" at ")
@@ -133,7 +190,11 @@ class Network:
         return Host(int(number), self.imp(site).number)
 
     def line(self, a: ImpName, b: ImpName) -> int:
-        """The number of the line between two IMPs."""
+        """The number of the line between two IMPs.
+
+        >>> two.line("SRI", "UCLA")
+        0
+        """
         ends = {self.imp(a).number, self.imp(b).number}
         for number, line in enumerate(self.lines):
             if {line.a, line.b} == ends:
@@ -141,31 +202,64 @@ class Network:
         raise BadNetwork(f"no line joins {self.imp(a)} and {self.imp(b)}")
 
     def lines_of(self, imp: int) -> list[int]:
-        """The numbers of an IMP's lines, in order."""
+        """The numbers of an IMP's lines, in order.
+
+        >>> two.lines_of(2)
+        [0]
+        """
         return [number for number, line in enumerate(self.lines) if imp in (line.a, line.b)]
 
     def hosts(self) -> list[Host]:
-        """All hosts, in order of IMP and host."""
+        """All hosts, in order of IMP and host.
+
+        >>> [str(it) for it in two.hosts()]
+        ['0/1', '0/2']
+        """
         return [Host(host, imp.number) for imp in sorted(self.imps, key=lambda it: it.number) for host in range(imp.hosts)]
 
     def title(self, host: Host) -> str:
-        """How a host is called: its site's name where that is known."""
+        """How a host is called: its site's name where that is known.
+
+        >>> two.title(Host(0, 2)), two.title(Host(1, 2))
+        ('SRI', '1 at SRI')
+        """
         name = next((it.name for it in self.imps if it.number == host.imp), "")
         return (name if host.host == 0 else f"{host.host} at {name}") if name else str(host)
 
     # ---- topologies
 
     def toml(self) -> str:
-        """The topology, as the program reads it. A site's name is a comment."""
+        """The topology, as the program reads it. A site's name is a comment.
+
+        >>> print(two.toml().split("[[line]]")[0], end="")
+        carrier = "subnet"
+        raw = true
+        [[imp]]
+        id = 1 # UCLA
+        hosts = 1
+        [[imp]]
+        id = 2 # SRI
+        hosts = 1
+        """
         head = [f'carrier = "{self.carrier}"', f"raw = {'true' if self.raw else 'false'}"]
-        imps = [f"[[imp]]\nid = {imp.number}{f' # {imp.name}' if imp.name else ''}\nhosts = {imp.hosts}" for imp in self.imps]
+        imps = [f"[[imp]]\nid = {imp.number}{f' # {imp.name}{imp.more}' if imp.name else ''}\nhosts = {imp.hosts}" for imp in self.imps]
         lines = [f"[[line]]\na = {line.a}\nb = {line.b}" for line in self.lines]
         return "\n".join([*head, *imps, *lines]) + "\n"
 
     @staticmethod
     def read(text: str) -> Network:
-        """The network of a topology in the plain spelling: one key a line, as `toml` writes it. Comments may be anywhere."""
+        """The network of a topology. The comment after an IMP's number is the name of its site.
+
+        >>> Network.read(two.toml()) == two
+        True
+        """
         return read(text)
+
+
+def imp_of(number: int, hosts: int, comment: str) -> Imp:
+    """An IMP, by the comment after its number."""
+    name = Site.read(comment).name
+    return Imp(number, hosts, name, comment[len(name) :])
 
 
 def check(network: Network) -> None:
@@ -200,41 +294,42 @@ def check_lines(lines: Iterable[Line], numbers: list[int]) -> None:
                 raise BadNetwork(f"IMP {number} has more than {MOST_LINES} lines")
 
 
-PAIR = re.compile(r'[ \t]*(carrier|raw|id|hosts|a|b)[ \t]*=[ \t]*(?:"(plain|subnet)"|(true|false)|([0-9]{1,4}))[ \t]*(?:#[ \t]*(.*))?')
-TABLE = re.compile(r"[ \t]*\[\[[ \t]*(imp|line)[ \t]*\]\][ \t]*(?:#.*)?")
-KEYS = {"": {"carrier", "raw"}, "imp": {"id", "hosts"}, "line": {"a", "b"}}
+# ---- topologies
 
-
-def short(line: str) -> str:
-    """A line as an error quotes it: its middle left out where it is long."""
-    return line if len(line) <= MOST_SHOWN else f"{line[: MOST_SHOWN - 12]} .. {line[-8:]}"
+KEYS = {"imp": {"id", "hosts"}, "line": {"a", "b"}}
+NAME = re.compile(r"^[ \t]*id[ \t]*=[ \t]*(\d+)[ \t]*#[ \t]*(\S.*)$", re.MULTILINE)  # a comment after an IMP's number is the name of its site
 
 
 def read(text: str) -> Network:
-    """The network of a topology in the plain spelling."""
-    tables: list[tuple[str, dict[str, str], str]] = [("", {}, "")]
-    for number, line in enumerate(text.removeprefix("\ufeff").split("\n"), 1):
-        line = line.removesuffix("\r")
-        if not line.split("#")[0].strip():
-            continue
-        if table := TABLE.fullmatch(line):
-            tables.append((table[1], {}, ""))
-            continue
-        pair = PAIR.fullmatch(line)
-        name, values, comment = tables[-1]
-        if not pair or pair[1] not in KEYS[name] or pair[1] in values:
-            raise BadNetwork(f"line {number} of the topology, `{short(line.strip())}`, is not read here: one key with its value a line, each once in its table")
-        values[pair[1]] = pair[2] or pair[3] or pair[4]
-        tables[-1] = name, values, (pair[5] or "").strip() if pair[1] == "id" else comment
-    for name, values, _ in tables[1:]:
-        if {*values} != KEYS[name]:
-            raise BadNetwork(f"a table [[{name}]] has exactly the keys {' and '.join(sorted(KEYS[name]))}")
-    top = tables[0][1]
-    if top.get("raw", "false") not in ("true", "false") or top.get("carrier", "subnet") not in ("plain", "subnet"):
-        raise BadNetwork("`raw` is true or false, and `carrier` is \"plain\" or \"subnet\"")
+    """The network of a topology."""
+    text = text.removeprefix("\ufeff").replace("\r\n", "\n")
     try:
-        imps = tuple(Imp(int(it["id"]), int(it["hosts"]), comment) for name, it, comment in tables if name == "imp")
-        lines = tuple(Line(int(it["a"]), int(it["b"])) for name, it, _ in tables if name == "line")
-    except ValueError:
-        raise BadNetwork("numbers of IMPs, hosts and ends of lines are whole") from None
-    return Network(imps, lines, top.get("raw") == "true", top.get("carrier", "subnet"))
+        document = document_of(text)
+    except ValueError as why:
+        raise BadNetwork(f"the topology is not read: {why}") from None
+    if further := sorted({*document} - {"carrier", "raw", *KEYS}):
+        lines = text.split("\n")
+        number = line_of_table(lines, further[0], 0) or line_of_key(lines, further[0])
+        where = f"line {number} of the topology, `{short(lines[number - 1].strip())}`: " if number else ""
+        raise BadNetwork(f"{where}a topology has no key `{further[0]}`")
+    raw, carrier = document.get("raw", False), document.get("carrier", "subnet")
+    if not isinstance(raw, bool) or not isinstance(carrier, str):
+        raise BadNetwork("`raw` is true or false, and `carrier` is \"plain\" or \"subnet\"")
+    comments = {int(number): printable(comment) for number, comment in NAME.findall(text)}
+    imps = tuple(imp_of(it["id"], it["hosts"], comments.get(it["id"], "")) for it in tables(document, "imp"))
+    return Network(imps, tuple(Line(it["a"], it["b"]) for it in tables(document, "line")), raw, carrier)
+
+
+def tables(document: Mapping[str, Any], name: str) -> list[dict[str, int]]:
+    """The tables of a name, each of which has just its keys, with whole numbers."""
+    found = document.get(name, [])
+    if not isinstance(found, list) or not all(isinstance(it, dict) and {*it} == KEYS[name] for it in found):
+        raise BadNetwork(f"a table [[{name}]] has exactly the keys {' and '.join(sorted(KEYS[name]))}")
+    if not all(type(value) is int for it in found for value in it.values()):
+        raise BadNetwork("numbers of IMPs, hosts and ends of lines are whole")
+    return found
+
+
+def printable(name: str) -> str:
+    """A site's name with a space in place of each character that can't be printed."""
+    return "".join(it if it.isprintable() else " " for it in name).strip()

@@ -2,13 +2,17 @@
 
 from __future__ import annotations
 
+import re
 from collections.abc import Iterable
 
 from dorydate.script import Flow
+from dorydate.sentences import LINES
 
 CROSSINGS = ("out", "in", "answer", "down", "up")
 REPORTS = ("done", "failed", "line")
 LIFE, REFUSED = "life", "refused"
+ANSWERS = ("rfnm", "dead", "incomplete", "nottaken", "unknown")  # the second words of lines about answers
+FIRST_WORDS = {*CROSSINGS, REFUSED, *LINES} - {*ANSWERS}
 
 
 def kind_of(line: str) -> str:
@@ -40,3 +44,8 @@ def without_text(line: str) -> str:
 def matches(line: str, wanted: str) -> bool:
     """Whether a line begins with these words."""
     return line == wanted or line.startswith(f"{wanted} ")
+
+
+def may_match(wanted: str) -> bool:
+    """Whether a line can begin with these words."""
+    return wanted.split(" ")[0] in FIRST_WORDS and re.fullmatch(r"line .*|\w+( [\w/]+)*", wanted) is not None

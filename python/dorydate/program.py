@@ -22,7 +22,13 @@ ROOT = Path(__file__).resolve().parents[2]  # the repository, where this package
 
 
 class NoProgram(Exception):
-    """Why there is no program to run."""
+    """Why there is no program to run.
+
+    >>> try:
+    ...     net = Replay(two)
+    ... except NoProgram as why:
+    ...     print(why)
+    """
 
 
 class TookTooLong(Exception):
@@ -40,12 +46,21 @@ class Ran:
 
 @dataclass(frozen=True)
 class Program:
-    """A program that replays inputs."""
+    """A program that replays inputs.
+
+    >>> Program(net.program.path).run(b"nothing").said
+    'arpasim: bad topology\\n'
+    """
 
     path: str
 
     def run(self, octets: bytes, *options: str, seconds: float = SECONDS) -> Ran:
-        """Runs it on an input."""
+        """Runs it on an input.
+
+        >>> ran = net.program.run(net.script.octets(), "--check")
+        >>> ran.status, ran.output
+        (0, 'ok\\n')
+        """
         if not hasattr(os, "memfd_create") or not hasattr(os, "pidfd_open"):
             return self.run_by_pipes(octets, options, seconds)
         files = [os.memfd_create(name) for name in ("input", "output", "errors")]
@@ -53,13 +68,13 @@ class Program:
             with open(files[0], "wb", closefd=False) as file:
                 file.write(octets)
             os.lseek(files[0], 0, os.SEEK_SET)
-            status = self.spawned(files, options, seconds)
+            status = self._spawned(files, options, seconds)
             return Ran(status, read_back(files[1]), read_back(files[2]))
         finally:
             for file_number in files:
                 os.close(file_number)
 
-    def spawned(self, files: Sequence[int], options: Sequence[str], seconds: float) -> int:
+    def _spawned(self, files: Sequence[int], options: Sequence[str], seconds: float) -> int:
         """The status of a run whose three streams are these files."""
         actions = [(os.POSIX_SPAWN_DUP2, file, number) for number, file in enumerate(files)]
         pid = os.posix_spawn(self.path, [self.path, *options], os.environ, file_actions=actions)
@@ -77,7 +92,11 @@ class Program:
         return os.waitstatus_to_exitcode(os.waitpid(pid, 0)[1])
 
     def run_by_pipes(self, octets: bytes, options: Sequence[str], seconds: float) -> Ran:
-        """The same where there are no files in memory."""
+        """The same where there are no files in memory.
+
+        >>> net.program.run_by_pipes(b"nothing", [], 5.0).status
+        1
+        """
         try:
             ran = subprocess.run([self.path, *options], input=octets, capture_output=True, timeout=seconds, check=False)
         except subprocess.TimeoutExpired:

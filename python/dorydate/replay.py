@@ -12,9 +12,9 @@ from dorydate import script as events
 from dorydate.deeds import Deed, Octets, Step, Stopped, text_of, together
 from dorydate.drawing import drawn
 from dorydate.inside import CannotFollow, state_of, trace_of
-from dorydate.marks import Marked, Unmarked, each_printed, mark_for
+from dorydate.marks import LAST, Marked, Unmarked, each_printed, mark_for
 from dorydate.network import Host, HostName, ImpName, Network
-from dorydate.printed import flow_of, kind_of, matches, without_text
+from dorydate.printed import flow_of, kind_of, matches, may_match, without_text
 from dorydate.program import Program, found
 from dorydate.script import Entry, Event, Flow, Script, octets_of
 from dorydate.state import Frame, State
@@ -27,6 +27,8 @@ def output_of(program: Program, octets: bytes) -> str:
     ran = program.run(octets, "--texts")
     if ran.status:
         raise Stopped(f"the program says: {ran.said.strip()} (status {ran.status})")
+    if ran.output.splitlines()[-1:] != [LAST]:
+        raise Stopped(f"{program.path} printed no last line `{LAST}`, so it is not arpasim")
     return ran.output
 
 
@@ -47,7 +49,17 @@ def step_of(event: Event, texts: Sequence[str], why: str) -> Step:
 
 
 class Replay:
-    """A network in which events happen one after another."""
+    """A network in which events happen one after another.
+
+    >>> net = Replay(two)
+    >>> net.calm(2) and net.out("UCLA", "SRI", text=b"LO")
+    out 0/1 0/2 0 16 4C4F
+        out 0/1 0/2 0 16
+    >>> net.settle()
+    calm 2
+        in 0/1 0/2 0 16
+        answer rfnm 0/1 0/2 0
+    """
 
     def __init__(self, network: Network, program: Program | None = None, heading: Sequence[str] = ()) -> None:
         self.network = network
@@ -58,7 +70,12 @@ class Replay:
 
     @staticmethod
     def of(script: Script, program: Program | None = None) -> Replay:
-        """The replay of a script, all of whose events have happened."""
+        """The replay of a script, all of whose events have happened.
+
+        >>> net = Replay.of(Script.read(two.toml() + "%\\ncalm 2\\nout 0/1 0/2 5 0 -\\n"))
+        >>> net.printed
+        ['out 0/1 0/2 5 0']
+        """
         net = Replay(script.network, program, script.heading)
         for event in script.events:
             net._has_to_fit(event)
@@ -69,7 +86,12 @@ class Replay:
     # ---- one event after another
 
     def do(self, event: Event, why: str = "") -> Deed:
-        """Lets a plain event happen."""
+        """Lets a plain event happen.
+
+        >>> from dorydate.script import Calm
+        >>> net.do(Calm(2))
+        calm 2
+        """
         step = self._try(event, why)
         self.steps += (step,)
         return Deed((step,))
@@ -102,11 +124,23 @@ class Replay:
         return done, tried
 
     def back(self, count: int = 1) -> None:
-        """Takes back the last plain events."""
-        self.steps = self.steps[: max(len(self.steps) - count, 0)]
+        """Takes back the last plain events.
+
+        >>> net.cut("UCLA", "SRI") and net.back(2)
+        >>> net.steps
+        (Step(event=Calm(rounds=2), printed=(), texts=(), why=''),)
+        """
+        if not 0 <= count <= len(self.steps):
+            raise Stopped(f"{len(self.steps)} events have happened, so {count} can't be taken back")
+        self.steps = self.steps[: len(self.steps) - count]
 
     def branch(self) -> Replay:
-        """Another replay that has come as far as this, and continues in its own way."""
+        """Another replay that has come as far as this, and continues in its own way.
+
+        >>> other = net.branch()
+        >>> other.cut("UCLA", "SRI") and (len(net.steps), len(other.steps))
+        (1, 3)
+        """
         other = Replay(self.network, self.program, self.heading)
         other.steps, other._states = self.steps, dict(self._states)
         return other
@@ -114,61 +148,148 @@ class Replay:
     # ---- messages, with names in the place of numbers
 
     def flow(self, source: HostName, destination: HostName, link: int = 0) -> Flow:
+        """The flow from one host to another on a link.
+
+        >>> str(net.flow("UCLA", "SRI", 5))
+        '0/1 0/2 5'
+        """
         return Flow(self.network.host(source), self.network.host(destination), link)
 
     def out(self, source: HostName, destination: HostName, link: int = 0, text: Octets = b"", why: str = "") -> Deed:
-        """A host hands its IMP a message, in a raw network."""
+        """A host hands its IMP a message, in a raw network.
+
+        >>> net.out("UCLA", "SRI", link=5, text=b"LO")
+        out 0/1 0/2 5 16 4C4F
+            out 0/1 0/2 5 16
+        """
         return self.do(events.Out(self.flow(source, destination, link), text_of(text)), why)
 
     def take(self, host: HostName, why: str = "") -> Deed:
-        """A host takes what waits for it."""
+        """A host takes what waits for it.
+
+        >>> from dorydate.script import Deliver
+        >>> net.out("UCLA", "SRI", 5) and net.do(Deliver(0, "+", 0)) and net.take("SRI")
+        take 0/2
+            in 0/1 0/2 5 0
+        """
         return self.do(events.Take(self.network.host(host)), why)
 
     def offer(self, host: HostName, why: str = "") -> Deed:
-        """A host's program hands over the next message that it has."""
+        """A host's program hands over the next message that it has.
+
+        >>> world.type("UCLA", "HELLO") and world.offer("UCLA")
+        offer 0/1
+            out 0/1 0/2 2 96
+            sent 0/1 19 56
+        """
         return self.do(events.Offer(self.network.host(host)), why)
 
     def give_up(self, source: HostName, destination: HostName, link: int = 0, why: str = "") -> Deed:
+        """The network gives up the message that is outstanding on a flow: its source is informed that it is incomplete.
+
+        >>> net.out("UCLA", "SRI", 5) and net.give_up("UCLA", "SRI", 5).refused
+        'StillAlive'
+        """
         return self.do(events.GiveUp(self.flow(source, destination, link)), why)
 
     def ask(self, source: HostName, destination: HostName, link: int = 0, why: str = "") -> Deed:
+        """The source's IMP asks what became of the message that is outstanding on a flow.
+
+        >>> net.out("UCLA", "SRI", 5) and net.ask("UCLA", "SRI", 5)
+        ask 0/1 0/2 5
+        """
         return self.do(events.Ask(self.flow(source, destination, link)), why)
 
     def host_down(self, host: HostName, why: str = "") -> Deed:
+        """A host stops: its program forgets everything.
+
+        >>> net.host_down("SRI")
+        hostdown 0/2
+            down 0/2
+        """
         return self.do(events.HostDown(self.network.host(host)), why)
 
     def host_up(self, host: HostName, why: str = "") -> Deed:
+        """A host starts.
+
+        >>> net.host_up("SRI").refused
+        'IsUp'
+        """
         return self.do(events.HostUp(self.network.host(host)), why)
 
     # ---- users of hosts with programs
 
     def contact(self, host: HostName, peer: HostName, why: str = "") -> Deed:
+        """A host's program begins to reset with another host's, as it must before connections are opened.
+
+        >>> world.contact("UCLA", "SRI") and world.settle().printed[-2:]
+        ['ready 0/1 0/2', 'answer rfnm 0/2 0/1 0']
+        """
         return self.do(events.Contact(self.network.host(host), self.network.host(peer)), why)
 
     def listen(self, host: HostName, socket: int, size: int = 8, why: str = "") -> Deed:
+        """A user waits on a socket for a request, with the size of bytes that it wants.
+
+        >>> world.listen("SRI", 32)
+        listen 0/2 32 8
+        """
         return self.do(events.Listen(self.network.host(host), socket, size), why)
 
     def open_send(self, host: HostName, peer: HostName, own: int, foreign: int, size: int = 8, why: str = "") -> Deed:
+        """A user opens a connection that sends, from an odd socket of its own.
+
+        >>> world.open_receive("SRI", "UCLA", 50, 33) and world.open_send("UCLA", "SRI", 33, 50) and world.settle().printed[-1]
+        'answer rfnm 0/2 0/1 0'
+        """
         return self.do(events.OpenSend(self.network.host(host), self.network.host(peer), own, foreign, size), why)
 
     def open_receive(self, host: HostName, peer: HostName, own: int, foreign: int, why: str = "") -> Deed:
+        """A user opens a connection that receives, on an even socket of its own.
+
+        >>> world.open_receive("SRI", "UCLA", 50, 33)
+        openrecv 0/2 0/1 50 33
+        """
         return self.do(events.OpenReceive(self.network.host(host), self.network.host(peer), own, foreign), why)
 
     def send(self, host: HostName, socket: int, text: Octets, why: str = "") -> Deed:
+        """A user hands bits over to be sent on a connection, which go out as they are granted.
+
+        >>> world.send("UCLA", 19, b"HI") and "sent 0/1 19 16" in world.settle().printed
+        True
+        """
         return self.do(events.Send(self.network.host(host), socket, text_of(text)), why)
 
     def grant(self, host: HostName, socket: int, messages: int, bits: int, why: str = "") -> Deed:
+        """A user that receives grants the sender so many messages and bits.
+
+        >>> world.grant("UCLA", 18, 2, 800)
+        grant 0/1 18 2 800
+        """
         return self.do(events.Grant(self.network.host(host), socket, messages, bits), why)
 
     def close(self, host: HostName, socket: int, why: str = "") -> Deed:
+        """A user closes a connection.
+
+        >>> world.close("UCLA", 19) and "ended 0/2 100 0/1 19" in world.settle().printed
+        True
+        """
         return self.do(events.Close(self.network.host(host), socket), why)
 
     def type(self, host: HostName, text: str, why: str = "") -> Deed:
-        """A line is typed at the terminal of a host."""
+        """A line is typed at the terminal of a host.
+
+        >>> world.type("UCLA", "HELLO") and world.run_until("line").printed[-2]
+        'line 0/1 HELLO'
+        """
         return self.do(events.Type(self.network.host(host), text), why)
 
     def session(self, user: HostName, server: HostName, socket: int = 7, base: int = 100, own: int = 16) -> Deed:
-        """A user's host contacts a server's, and a line terminal is joined to an echo service there."""
+        """A user's host contacts a server's, and a line terminal is joined to an echo service there.
+
+        >>> other = Replay(pair)
+        >>> other.session(user="UCLA", server="SRI") and other.reports
+        ['done server 0/2 100 101', 'done user 0/1 18 19']
+        """
         done = [self.do(events.Server(self.network.host(server), socket, base), "a session"), self.contact(user, server), self.settle()]
         done += [self.do(events.User(self.network.host(user), self.network.host(server), socket, own)), self.settle()]
         return together(done)
@@ -176,12 +297,20 @@ class Replay:
     # ---- time
 
     def calm(self, rounds: int = 1, why: str = "") -> Deed:
-        """Quiet rounds pass."""
+        """Quiet rounds pass.
+
+        >>> net.calm(3)
+        calm 3
+        """
         return self.do(events.Calm(rounds), why)
 
     def settle(self, limit: int = MOST_ROUNDS, why: str = "") -> Deed:
         """As many rounds pass as print anything, `limit` at most: more of them print no more. They are at least as many as there
-        are IMPs, so that each knows the ways to all others."""
+        are IMPs, so that each knows the ways to all others.
+
+        >>> net.out("UCLA", "SRI") and net.settle().steps[0].event
+        Calm(rounds=2)
+        """
         happened = [it.event for it in self.steps]
         whole = self._printed([*happened, events.Calm(limit)])
         least, most = 0, limit
@@ -195,7 +324,15 @@ class Replay:
         return Deed(deed.steps, (), f"after {limit} rounds the network had not come to rest" if least == limit else "")
 
     def run_until(self, wanted: str | Callable[[Replay], object], limit: int = MOST_ROUNDS, why: str = "") -> Deed:
-        """Rounds pass until a line that begins with these words is printed, or until something holds of the replay."""
+        """Rounds pass until a line that begins with these words is printed, or until something holds of the replay.
+
+        >>> net.out("UCLA", "SRI", 5) and net.run_until("answer rfnm 0/1")
+        calm 2
+            in 0/1 0/2 5 0
+            answer rfnm 0/1 0/2 5
+        """
+        if isinstance(wanted, str) and not may_match(wanted):
+            raise Stopped(f"no printed line begins with `{wanted}`: its words are compared with a line's first words, as in `answer rfnm 0/1`")
         before = self.steps
         said = why or (f"until `{wanted}`" if isinstance(wanted, str) else "until what was wanted")
         for rounds in range(1, limit + 1):
@@ -208,23 +345,41 @@ class Replay:
     # ---- what breaks
 
     def frames_of(self, message: Deed | Flow) -> list[Frame]:
-        """The live frames that carry a piece of the message that is outstanding on a flow, or that a call sent."""
+        """The live frames that carry a piece of the message that is outstanding on a flow, or that a call sent.
+
+        >>> [str(it) for it in net.frames_of(net.out("UCLA", "SRI", 5))]
+        ['line 0 + 0: message 0 of flow 0/1 0/2 5']
+        """
         flow = message if isinstance(message, Flow) else message.flow
         state = self.state
         return [it for it in state.frames() if it.packet and it.packet.kind == "data" and (it.packet.flow, it.packet.number) == (flow, state.outstanding().get(it.packet.flow))]
 
     def lose(self, message: Deed | Flow, why: str = "") -> Deed:
-        """All live frames of a message are lost. Its IMP sends it again, until it is acknowledged."""
+        """All live frames of a message are lost. Its IMP sends it again, until it is acknowledged.
+
+        >>> net.lose(net.out("UCLA", "SRI", 5))
+        drop 0 + 0
+        """
         frames = sorted(self.frames_of(message), key=lambda it: -it.place)
         done, tried = self._perform([events.Drop(it.line, it.way, it.place) for it in frames], why or "the frames of a message are lost")
         return Deed(tuple(done), tuple(tried), "" if done else "no live frame carries it")
 
     def cut(self, a: ImpName, b: ImpName, why: str = "") -> Deed:
-        """The line between two IMPs goes down at both ends."""
+        """The line between two IMPs goes down at both ends.
+
+        >>> net.cut("UCLA", "SRI")
+        enddown 1 0
+        enddown 2 0
+        """
         return self._ends(events.EndDown, a, b, why or f"the line {self.network.imp(a)} - {self.network.imp(b)} is cut")
 
     def mend(self, a: ImpName, b: ImpName, why: str = "") -> Deed:
-        """The line between two IMPs comes up at both ends."""
+        """The line between two IMPs comes up at both ends.
+
+        >>> net.cut("UCLA", "SRI") and net.mend("UCLA", "SRI")
+        endup 1 0
+        endup 2 0
+        """
         return self._ends(events.EndUp, a, b, why or f"the line {self.network.imp(a)} - {self.network.imp(b)} is mended")
 
     def _ends(self, kind: Callable[[int, int], Event], a: ImpName, b: ImpName, why: str) -> Deed:
@@ -233,7 +388,13 @@ class Replay:
         return Deed(tuple(done), tuple(tried))
 
     def crash(self, imp: ImpName, why: str = "") -> Deed:
-        """An IMP stops, and its neighbours notice: their ends of its lines go down."""
+        """An IMP stops, and its neighbours notice: their ends of its lines go down.
+
+        >>> net.crash("SRI")
+        enddown 1 0
+        impdown 2
+            down 0/2
+        """
         if self.network.carrier == "plain":
             raise Stopped("plain mailboxes have no IMPs that stop")
         number = self.network.imp(imp).number
@@ -246,6 +407,9 @@ class Replay:
 
         Before it may start, each other IMP forgets the last numbers of its flows, and what is outstanding to it is given up.
         Where something of it is still alive, rounds pass; `tried` has what was refused, and the note what was in the way.
+
+        >>> str(net.restart("SRI").steps[-1].event)
+        'hostup 0/2'
         """
         number, said = self.network.imp(imp).number, why or f"{self.network.imp(imp)} restarts"
         before = len(self.steps)
@@ -291,11 +455,20 @@ class Replay:
 
     @property
     def events(self) -> tuple[Event, ...]:
+        """The plain events that have happened.
+
+        >>> net.cut("UCLA", "SRI") and [str(it) for it in net.events]
+        ['calm 2', 'enddown 1 0', 'enddown 2 0']
+        """
         return tuple(it.event for it in self.steps)
 
     @property
     def script(self) -> Script:
-        """What was done, as a plain script; the reason of an event is a comment."""
+        """What was done, as a plain script; the reason of an event is a comment.
+
+        >>> net.calm(1, why="one more") and net.script.entries[1].comments
+        ('one more',)
+        """
         entries, before = [], ""
         for step in self.steps:
             entries.append(Entry(step.event, (step.why,) if step.why and step.why != before else ()))
@@ -304,49 +477,92 @@ class Replay:
 
     @property
     def text(self) -> str:
-        """The input that replays all this."""
+        """The input that replays all this.
+
+        >>> net.text.splitlines()[-2:]
+        ['%', 'calm 2']
+        """
         return self.script.text()
 
     @property
     def printed(self) -> list[str]:
-        """All lines so far."""
+        """All lines so far.
+
+        >>> net.host_down("SRI") and net.printed
+        ['down 0/2']
+        """
         return [line for step in self.steps for line in step.printed]
 
     def lines(self, kind: str) -> list[str]:
-        """The lines of a kind: `crossing`, `notice`, `report` or `refused`."""
+        """The lines of a kind: `crossing`, `notice`, `report` or `refused`.
+
+        >>> len(world.lines("crossing")), world.lines("refused")
+        (30, [])
+        """
         return [it for it in self.printed if kind_of(it) == kind]
 
     @property
     def crossings(self) -> list[str]:
+        """What crossed between hosts and their IMPs.
+
+        >>> net.out("UCLA", "SRI") and net.settle() and net.crossings
+        ['out 0/1 0/2 0 0', 'in 0/1 0/2 0 0', 'answer rfnm 0/1 0/2 0']
+        """
         return self.lines("crossing")
 
     @property
     def notices(self) -> list[str]:
+        """What hosts' programs were informed of.
+
+        >>> world.notices[:2]
+        ['ready 0/2 0/1', 'ready 0/1 0/2']
+        """
         return self.lines("notice")
 
     @property
     def reports(self) -> list[str]:
+        """What users were informed of.
+
+        >>> world.reports
+        ['done server 0/2 100 101', 'done user 0/1 18 19']
+        """
         return self.lines("report")
 
     @property
     def lives(self) -> list[str]:
-        """The lives of the book."""
+        """The lives of the book.
+
+        >>> len(world.lives), world.lives[0].split(" ")[:5]
+        (6, ['life', '0/2', '7', '0/1', '16'])
+        """
         ran = self.program.run(octets_of(self.text), "--book")
         return [it for it in ran.output.splitlines() if it.startswith("life ")]
 
     @property
     def log(self) -> str:
-        """The log of the book."""
+        """The log of the book.
+
+        >>> net.out("UCLA", "SRI", 5, b"LO") and net.log.splitlines()
+        ['out 0/1 0/2 5 16 4C4F', 'end']
+        """
         return self.program.run(octets_of(self.text), "--log").output
 
     def audit(self) -> str:
-        """What the proved audit says of the log."""
+        """What the proved audit says of the log.
+
+        >>> net.out("UCLA", "SRI") and net.settle() and net.audit()
+        'kept'
+        """
         ran = self.program.run(self.log.encode("latin-1"), "--audit")
         return ran.output.strip() or ran.said.strip()
 
     @property
     def trace(self) -> str:
-        """The trace."""
+        """The trace.
+
+        >>> len(net.trace.splitlines()) > 2
+        True
+        """
         return trace_of(self.program, self.network, self._kept())
 
     def _kept(self) -> tuple[Event, ...]:
@@ -355,14 +571,22 @@ class Replay:
 
     @property
     def state(self) -> State:
-        """The state inside the network, folded from the trace."""
+        """The state inside the network, folded from the trace.
+
+        >>> net.state.distances(1)
+        {2: 1}
+        """
         kept = self._kept()
         if kept not in self._states:
             self._states = {kept: state_of(self.program, self.network, kept)}
         return self._states[kept]
 
     def unanswered(self) -> list[Flow]:
-        """The flows whose last message has no answer yet, by what crossed."""
+        """The flows whose last message has no answer yet, by what crossed.
+
+        >>> net.out("UCLA", "SRI", 5) and [str(it) for it in net.unanswered()]
+        ['0/1 0/2 5']
+        """
         waiting: dict[Flow, bool] = {}
         for line in self.crossings:
             word, *words = line.split(" ")
@@ -373,7 +597,10 @@ class Replay:
         return [flow for flow, it in waiting.items() if it]
 
     def expect(self, *wanted: str) -> None:
-        """Raises `Stopped` unless the last event printed exactly these lines."""
+        """Raises `Stopped` unless the last event printed exactly these lines.
+
+        >>> net.calm(1) and net.expect()
+        """
         printed = self.steps[-1].printed if self.steps else ()
         if printed != wanted:
             raise Stopped(f"`{self.steps[-1].event if self.steps else 'nothing'}` printed {list(printed)}, and {list(wanted)} were expected")

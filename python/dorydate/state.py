@@ -155,26 +155,48 @@ def flows_of(notes: Iterable[Value], key: str) -> dict[Flow, tuple[str, int]]:
 
 @dataclass(frozen=True)
 class State:
-    """The parts of a network."""
+    """The parts of a network.
+
+    >>> net.out("UCLA", "SRI", 5, b"LO") and [str(it) for it in net.state.outstanding()]
+    ['0/1 0/2 5']
+    """
 
     network: Network
     parts: Mapping[str, Any]
 
     def imp(self, number: int) -> ImpState | None:
-        """An IMP; None where it is down, or nothing is known of it."""
+        """An IMP; None where it is down, or nothing is known of it.
+
+        >>> held = net.state.imp(1)
+        >>> held.ends_up, held.store
+        ((True,), ())
+        """
         part = self.parts.get(f"imp {number}")
         return ImpState.read(part) if part else None
 
     def is_down(self, number: int) -> bool:
+        """Whether an IMP is down.
+
+        >>> net.crash("SRI") and net.state.is_down(2)
+        True
+        """
         return f"imp {number}" in self.parts and self.parts[f"imp {number}"] is None
 
     def end_is_up(self, imp: int, line: int) -> bool:
-        """Whether an IMP's end of a line is up."""
+        """Whether an IMP's end of a line is up.
+
+        >>> net.cut("UCLA", "SRI") and net.state.end_is_up(1, 0)
+        False
+        """
         state = self.imp(imp)
         return not self.is_down(imp) and (state is None or state.ends_up[self.network.lines_of(imp).index(line)])
 
     def frames(self) -> Iterator[Frame]:
-        """The frames that are live, line by line, the oldest first."""
+        """The frames that are live, line by line, the oldest first.
+
+        >>> net.out("UCLA", "SRI", 5) and [str(it) for it in net.state.frames()]
+        ['line 0 + 0: message 0 of flow 0/1 0/2 5']
+        """
         for number in range(len(self.network.lines)):
             for way in "+-":
                 for place, it in enumerate(self.parts.get(f"line {number}", {}).get(way, [])):
@@ -182,7 +204,11 @@ class State:
                     yield Frame(number, way, place, packet, it.get("channel"), "routes" in it)
 
     def alive(self) -> Iterator[Held]:
-        """All packets and messages, with their places."""
+        """All packets and messages, with their places.
+
+        >>> net.out("UCLA", "SRI", 5) and [str(it) for it in net.state.alive()]
+        ['message 0 of flow 0/1 0/2 5, in a channel of line 0 at IMP 1', 'message 0 of flow 0/1 0/2 5, in frame 0 on line 0 +']
+        """
         for imp in self.network.imps:
             state = self.imp(imp.number)
             if state:
@@ -192,7 +218,11 @@ class State:
                 yield Held(str(frame.packet), frame.packet.flow, frame.packet.number, f"in frame {frame.place} on line {frame.line} {frame.way}")
 
     def outstanding(self) -> dict[Flow, int]:
-        """The flows with a message that has no answer, with its number."""
+        """The flows with a message that has no answer, with its number.
+
+        >>> net.out("UCLA", "SRI", 5) and [*net.state.outstanding().values()]
+        [0]
+        """
         found: dict[Flow, int] = {}
         for imp in self.network.imps:
             state = self.imp(imp.number)
@@ -200,7 +230,11 @@ class State:
         return found
 
     def distances(self, imp: int) -> dict[int, int]:
-        """The distance of an IMP to each other one that it knows a way to."""
+        """The distance of an IMP to each other one that it knows a way to.
+
+        >>> net.state.distances(2)
+        {1: 1}
+        """
         state = self.imp(imp)
         return {to: distance for to, distance in (state.distances if state else {}).items() if to != imp}
 

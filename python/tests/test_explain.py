@@ -8,12 +8,12 @@ from unittest import mock
 
 from dorydate.explain.charts import chart, short_chart
 from dorydate.explain.faults import diagnose, wrong_with_line
-from dorydate.explain.given import Input, shown
 from dorydate.explain.inside import Inside
+from dorydate.given import Input, shown
 from dorydate.explain.past import Past
 from dorydate.explain.runs import Happened, kept_program
 from dorydate.explain.telling import said_beside, telling
-from dorydate.explain.topology import network_by
+from dorydate.explain.topology import names_of, network_by, of_model
 from dorydate.model.script import read_event
 from dorydate.model.topology import Topology
 from dorydate.sentences.texts import raw_text_in_words, text_in_words
@@ -73,7 +73,7 @@ class Told(unittest.TestCase):
     def test_charts(self) -> None:
         given = Input(TWO + SCRIPT)
         network = network_by(given)
-        said, names = said_beside(given, EVENTS), network.names if network else {}
+        said, names = said_beside(given, EVENTS), names_of(network) if network else {}
         drawn = chart(EVENTS, said, True, names)
         self.assertIn("participant h0_1 as Host 0/1 at UCLA", drawn)
         self.assertIn("h0_1->>network: 8 bits for 0/2 on link 5", drawn)

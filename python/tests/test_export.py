@@ -18,7 +18,7 @@ from xml.etree import ElementTree
 from dorydate import Network
 from dorydate.export import chart, pcapng, perfetto, shiviz
 from dorydate.export.command import DISSECTOR, written
-from dorydate.export.leaders import body, leader, packet_of
+from dorydate.export.leaders import body, leader, crossing_of
 from dorydate.export.replayed import Happened, Line, Replayed, as_printed, output, replayed
 from dorydate.sentences.texts import text_in_words
 from dorydate.network import Host
@@ -62,11 +62,11 @@ class Octets(unittest.TestCase):
     def test_whose_interface(self) -> None:
         rows = [("out 0/1 1/2 5 0 -", "0/1", True, "00420500 8000"), ("in 0/1 1/2 5 0 -", "1/2", False, "00010500 8000"), ("answer nottaken 0/1 1/2 5", "0/1", False, "09420500"), ("down 0/2", "0/2", True, "")]
         for line, host, is_from_host, octets in rows:
-            packet = packet_of(tuple(line.split(" ")))
+            packet = crossing_of(tuple(line.split(" ")))
             assert packet
             self.assertEqual((str(packet.host), packet.is_from_host, packet.octets), (host, is_from_host, bytes.fromhex(octets)), line)
         for line in ("ready 0/1 0/2", "refused NoSuch", "line 0/1 out of it"):
-            self.assertIsNone(packet_of(tuple(line.split(" "))))
+            self.assertIsNone(crossing_of(tuple(line.split(" "))))
 
 
 class Replays(unittest.TestCase):
@@ -146,7 +146,7 @@ class Dissected(unittest.TestCase):
 
     def test_examples(self) -> None:
         """Of each example: the lines of the log, the interface and the event of each."""
-        crossed = [(str(packet.host), happened.said, as_printed(str(line))) for what in replays().values() for happened, line in what.lines() if (packet := packet_of(line.words))]
+        crossed = [(str(packet.host), happened.said, as_printed(str(line))) for what in replays().values() for happened, line in what.lines() if (packet := crossing_of(line.words))]
         rows = self.dissected([*map(pcapng.capture, replays().values())], "frame.interface_name", "dorydate.line", "frame.comment")
         self.assertEqual([(host, comments.split(";")[-1], line) for host, line, comments in rows], crossed)
         self.assertGreater(len(rows), 2_000)

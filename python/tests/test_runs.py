@@ -3,9 +3,11 @@
 from __future__ import annotations
 
 import os
+import re
 import unittest
+from collections.abc import Callable
 
-from dorydate import Network, Replay, Stopped
+from dorydate import BadNetwork, Network, Replay, Stopped
 from dorydate.ending import shown_name
 from dorydate.expect import differences, expected
 from dorydate.explore.breadth import Walk, lists
@@ -67,6 +69,24 @@ class Replays(unittest.TestCase):
         self.assertEqual(net.steps[0].meanings, ["2 rounds pass, and no host takes anything."])
         self.assertIn("hands its IMP a message for host 0/2 on link 5: 8 bits", net.out("UCLA", "SRI", 5, b"A").steps[0].meanings[0])
         self.assertEqual(net.out("UCLA", "SRI", 5).steps[0].meanings, ["A message of this flow is outstanding, or an answer about one waits for its source."])
+
+    def test_what_can_never_be_is_refused_by_its_name(self) -> None:
+        net = raw()
+        rows: list[tuple[Callable[[], object], str]] = [
+            (lambda: net.out("UCLA", "SRI", 300), "300 is not from 0 to 255"),
+            (lambda: net.calm("x"), "'x' is not a whole number from 0 to 4294967295"),  # type: ignore[arg-type]
+            (lambda: net.out(1, 2), "1 is not a host: write `0/1`"),  # type: ignore[arg-type]
+            (lambda: net.back(2), "1 events have happened, so 2 can't be taken back"),
+            (lambda: net.back(-1), "can't be taken back"),
+            (lambda: net.run_until("nonsense"), "no printed line begins with `nonsense`"),
+            (lambda: net.run_until("in (.*"), "no printed line begins with `in"),
+            (lambda: Replay(net.network, Program("/bin/true")).calm(), "/bin/true printed no last line `end`"),
+        ]
+        for call, words in rows:
+            with self.subTest(words), self.assertRaisesRegex((BadLine, BadNetwork, Stopped), re.escape(words)):
+                call()
+        self.assertEqual(len(net.steps), 1)
+        self.assertEqual(net.run_until("line 0/1", 1).note, "not until `line 0/1` in 1 rounds")
 
     def test_back_and_branch(self) -> None:
         net = raw()

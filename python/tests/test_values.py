@@ -4,6 +4,7 @@ from __future__ import annotations
 
 import random
 import re
+import sys
 import unittest
 from collections.abc import Callable
 from itertools import islice
@@ -86,6 +87,17 @@ class Scripts(unittest.TestCase):
         for text, words in rows:
             with self.subTest(words), self.assertRaisesRegex((BadLine, BadNetwork), re.escape(words)):
                 Script.read(text)
+
+    @unittest.skipIf(sys.version_info < (3, 11), "this Python has no reader of TOML")
+    def test_a_topology_in_any_spelling_of_toml(self) -> None:
+        text = 'line = [{a = 1, b = 2}]\nraw = true\n[[imp]]\nhosts = 1\nid = 1 # A\tB\n[[imp]]\nid = 0x2\nhosts = 1\n'
+        self.assertEqual(Network.read(text), Network((Imp(1, 1, "A B"), Imp(2)), (Line(1, 2),), True))
+
+    def test_topologies_that_are_none(self) -> None:
+        rows = {"imp": "not read", "[[imp]]\nid = 1": "exactly the keys hosts and id", "[[imp]]\nid = true\nhosts = 1": "are whole", "raw = 1": "`raw` is true or false", "imp = 1": "exactly the keys", "": "1 to 63 IMPs"}
+        for text, words in rows.items():
+            with self.subTest(text), self.assertRaisesRegex(BadNetwork, words):
+                Network.read(text)
 
     def test_inputs_of_any_octets(self) -> None:
         text = Network.joined("Łódź-Zürich", raw=True).toml()

@@ -162,6 +162,10 @@ impl Carrier for Boxes {
         self.log.clear();
     }
 
+    fn is_all_up(&self) -> bool {
+        self.boxes.iter().flatten().all(|it| it.is_up)
+    }
+
     fn offer(&mut self, flow: Flow, text: Text) -> Result<(), Refusal> {
         self.up(flow.source)?;
         if self.waiting.contains_key(&flow) {

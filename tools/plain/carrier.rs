@@ -55,8 +55,11 @@ pub trait Carrier: Clone + Spell {
         Vec::new()
     }
 
-    /// Whether everything is up, and something is held inside that is not yet where it is for.
-    fn holds_something(&self) -> bool {
+    /// Whether everything is up.
+    fn is_all_up(&self) -> bool;
+
+    /// Whether packets are held inside that are not yet where they are for.
+    fn holds_packets(&self) -> bool {
         false
     }
 

@@ -280,6 +280,11 @@ impl Pair {
 }
 
 impl Phase {
+    /// The word of this phase in a trace.
+    pub fn word(self) -> &'static str {
+        ["closed", "want", "gone", "early", "heard", "ready"][self.code() as usize]
+    }
+
     /// A number for each phase.
     fn code(self) -> u8 {
         match self {
@@ -342,6 +347,11 @@ impl Pair {
     /// The places in the log of its ends' requests.
     pub fn stamps(&self) -> impl Iterator<Item = (&Key, [Option<usize>; 2])> {
         self.ends.iter().map(|(key, end)| (key, [end.own_stamp, end.partner_stamp]))
+    }
+
+    /// Whether it is as one with which nothing was done yet.
+    pub fn is_new(&self) -> bool {
+        self.phase == Phase::Closed && !self.owed && self.busy == 0 && self.queue.is_empty() && self.ends.is_empty()
     }
 
     /// Whether it waits in the midst of a reset, where nothing can come any more.

@@ -1,7 +1,7 @@
 //! Networks that are searched: states that can be copied, spelled, and changed by an event.
 
 use crate::carrier::{Carrier, Sight};
-use crate::names::Refusal;
+use crate::names::{Host, Refusal};
 use crate::pair::Pair;
 use crate::printing::Printer;
 use crate::raw;
@@ -94,8 +94,13 @@ impl<C: Carrier> Place for Raw<C> {
     fn print_lives(&self, _: &mut Printer) {}
 
     fn stuck(&self) -> Option<String> {
-        self.0.holds_something().then(|| "all is up, and packets are held that can't come".into())
+        stuck_packets(&self.0)
     }
+}
+
+/// What is said where all is up, and packets are held that can't come.
+fn stuck_packets(carrier: &impl Carrier) -> Option<String> {
+    (carrier.is_all_up() && carrier.holds_packets()).then(|| "all is up, and packets are held that can't come".into())
 }
 
 /// A network whose hosts have programs, with the lives of their connections if a pattern asks for them.
@@ -126,20 +131,16 @@ impl<C: Carrier> Place for Hosts<C> {
         self.world.book.print_lives(printer);
     }
 
-    /// A pair that waits in the midst of a reset with nothing outstanding: only a new contact frees it.
+    /// Packets that can't come, or a pair that waits in the midst of a reset with nothing outstanding: only a new contact frees it.
     fn stuck(&self) -> Option<String> {
-        if self.world.carrier.hosts().iter().any(|it| !self.world.carrier.is_up(*it)) {
-            return None;
+        if !self.world.carrier.is_all_up() || self.world.carrier.holds_packets() {
+            return stuck_packets(&self.world.carrier);
         }
-        let is_waiting = |pair: &Pair| pair.is_in_reset() && pair.busy == 0;
-        let mut pairs: Vec<(String, bool)> = Vec::new();
-        for (host, program) in self.world.programs() {
-            for (peer, pair) in program.pairs() {
-                let words = format!("{}/{} {:?} for {}/{}", host.number, host.imp, pair.phase, peer.number, peer.imp);
-                pairs.push((words, is_waiting(pair)));
-            }
-        }
-        let words: Vec<&str> = pairs.iter().map(|it| it.0.as_str()).collect();
-        pairs.iter().any(|it| it.1).then(|| format!("a pair waits: {}", words.join(", ")))
+        let pairs = || self.world.programs().flat_map(|(host, program)| program.pairs().map(move |it| (host, it)));
+        let words = |(host, (peer, pair)): (Host, (Host, &Pair))| {
+            format!("{}/{} is {} with {}/{}", host.number, host.imp, pair.phase.word(), peer.number, peer.imp)
+        };
+        let waits = pairs().all(|it| it.1 .1.busy == 0) && pairs().any(|it| it.1 .1.is_in_reset());
+        waits.then(|| format!("only a new contact frees a pair: {}", pairs().map(words).collect::<Vec<_>>().join(", ")))
     }
 }

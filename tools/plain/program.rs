@@ -596,11 +596,11 @@ impl Turn<'_> {
 
 impl Spell for Program {
     fn spell(&self, to: &mut Vec<u8>) {
-        self.pairs.len().spell(to);
-        for (address, (_, pair)) in &self.pairs {
+        for (address, (_, pair)) in self.pairs.iter().filter(|it| !it.1 .1.is_new()) {
             to.push(*address);
             pair.spell(to);
         }
+        to.push(u8::MAX);
         spell_sorted(self.sockets.iter(), to);
     }
 }

@@ -31,15 +31,15 @@ struct Options {
     megabytes: usize,
     /// Whether each refused event is checked to have changed nothing.
     checks: bool,
-    /// Whether each state is printed, by a name and its script.
-    names: bool,
+    /// Whether the script of each state is printed.
+    scripts: bool,
     /// Whether it is looked at what a calm makes of each state.
     calms: bool,
 }
 
 /// Reads the options: five numbers and words in any order. There are none where one isn't known.
 fn read_options(words: &[String]) -> Option<Options> {
-    let mut options = Options { depth: 64, seconds: 60.0, megabytes: 1024, checks: false, names: false, calms: false };
+    let mut options = Options { depth: 64, seconds: 60.0, megabytes: 1024, checks: false, scripts: false, calms: false };
     let mut words = words.iter();
     while let Some(word) = words.next() {
         match word.as_str() {
@@ -47,7 +47,7 @@ fn read_options(words: &[String]) -> Option<Options> {
             "--seconds" => options.seconds = words.next()?.parse().ok()?,
             "--megabytes" => options.megabytes = words.next()?.parse().ok()?,
             "--check" => options.checks = true,
-            "--names" => options.names = true,
+            "--scripts" => options.scripts = true,
             "--calms" => options.calms = true,
             _ => return None,
         }
@@ -314,8 +314,8 @@ impl<'a> Search<'a> {
 
     /// Looks at a new state: whether the pattern is met there, and what a calm makes of it.
     fn judged<P: Place>(&mut self, reach: &Reach<P>, node: usize) -> Option<End> {
-        if self.options.names {
-            println!("state {:032x} {}", hash_of(&spelled(reach)), self.script(node).join("; "));
+        if self.options.scripts {
+            println!("state {}", self.script(node).join("; "));
         }
         if self.options.calms {
             self.classify(reach.place.clone(), node);

@@ -309,8 +309,12 @@ impl Carrier for Subnet {
         std::mem::take(&mut self.sights)
     }
 
-    fn holds_something(&self) -> bool {
-        self.numbers.iter().all(|it| self.imp(*it).is_some_and(Imp::is_all_up)) && self.imps().any(Imp::holds_packets)
+    fn is_all_up(&self) -> bool {
+        self.numbers.iter().all(|it| self.imp(*it).is_some_and(Imp::is_all_up))
+    }
+
+    fn holds_packets(&self) -> bool {
+        self.imps().any(Imp::holds_packets)
     }
 
     fn offer(&mut self, flow: Flow, text: Text) -> Result<(), Refusal> {

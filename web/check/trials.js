@@ -189,6 +189,144 @@ export function reached({ $, one, press, want }) {
 }
 
 /**
+ * A network of 63 IMPs with 252 hosts is soon there, and each step, too; its labels can be read, and it can be looked at
+ * from near, moved, and given the whole page.
+ *
+ * @param {Page} page
+ * @param {string} text
+ */
+export async function large({ $, one, all, changed, pause, press, key, want, wrong }, text) {
+    const given = new DataTransfer();
+    given.items.add(new File([text], "large.txt"));
+    $("file").files = given.files;
+    const start = performance.now();
+    await changed(() => $("file").dispatchEvent(new Event("change")));
+    const first = performance.now() - start;
+    want($("label").textContent === "A script", "the large network is not shown");
+    const times = [];
+    for (let at = 0; at < 30; at += 1) {
+        const was = performance.now();
+        press("next");
+        times.push(performance.now() - was);
+        await pause(0);
+    }
+    const median = times.sort((a, b) => a - b)[15];
+    document.documentElement.dataset.measured = `first ${Math.round(first)} ms, a step ${Math.round(median)} ms`;
+    want(median < 100, `a step takes ${Math.round(median)} ms`);
+    want(first < 6000, `the first picture takes ${Math.round(first)} ms`);
+    const shown = () => all("#network .part.imp:not(.folded) .title").filter((it) => it.getBoundingClientRect().width);
+    want(shown().length > 8, `only ${shown().length} labels`);
+    for (const it of shown()) {
+        const { height } = it.getBoundingClientRect();
+        want(height >= 9, `a label is ${height.toFixed(1)} pixels high: ${it.textContent}`);
+    }
+    want(all("#network .part.host").every((it) => !it.getBoundingClientRect().width), "hosts are not folded");
+    const box = () => one("#network .part.imp .box").getBoundingClientRect();
+    const far = box().width;
+    const frame = $("network").getBoundingClientRect();
+    const [clientX, clientY] = [frame.x + frame.width / 2, frame.y + frame.height / 2];
+    $("network").dispatchEvent(new WheelEvent("wheel", { deltaY: -900, clientX, clientY, cancelable: true }));
+    for (let at = 0; at < 4; at += 1) press("nearer");
+    want(all("#network .part.host:not(.folded)").length > 200, "hosts stay folded from near");
+    want(all("#network .part.imp.folded").length === 0, "labels are left out from near");
+    const view = () => $("network").getAttribute("viewBox");
+    let before = view();
+    key("ArrowRight", $("network"), { shiftKey: true });
+    want(view() !== before, "keys do not move the map");
+    before = view();
+    const at = { bubbles: true, pointerId: 7, button: 0 };
+    $("network").dispatchEvent(new PointerEvent("pointerdown", { ...at, clientX, clientY }));
+    $("network").dispatchEvent(new PointerEvent("pointermove", { ...at, clientX: clientX - 40, clientY: clientY - 20 }));
+    $("network").dispatchEvent(new PointerEvent("pointerup", { ...at, clientX: clientX - 40, clientY: clientY - 20 }));
+    want(view() !== before, "the map is not moved by a pointer");
+    before = view();
+    for (const [id, x] of [[8, 0], [9, 30]]) {
+        $("network").dispatchEvent(
+            new PointerEvent("pointerdown", { ...at, pointerId: id, clientX: clientX + x, clientY }),
+        );
+    }
+    $("network").dispatchEvent(new PointerEvent("pointermove", { ...at, pointerId: 9, clientX: clientX + 20, clientY }));
+    want(view() !== before, "two fingers do nothing");
+    for (const id of [8, 9]) $("network").dispatchEvent(new PointerEvent("pointerup", { ...at, pointerId: id }));
+    key("0", $("network"));
+    want(Math.abs(box().width - far) < 2, "the whole map does not come back");
+    if (document.documentElement.dataset.layout === "wide") {
+        const { width } = $("map").getBoundingClientRect();
+        key("ArrowLeft", $("split-x"));
+        want($("map").getBoundingClientRect().width > width + 5, "the border is not drawn by keys");
+        const { height } = $("map").getBoundingClientRect();
+        key("ArrowDown", $("split-y"));
+        want($("map").getBoundingClientRect().height > height + 5, "the lower border is not drawn by keys");
+    }
+    press("whole");
+    await pause(60);
+    const { width, height } = $("map").getBoundingClientRect();
+    const room = document.documentElement;
+    want(width > 0.98 * room.clientWidth && height > 0.4 * room.clientHeight, "the map does not take the whole page");
+    press("whole");
+    await pause(60);
+    const other = $("pane").getBoundingClientRect().height + $("sheet").getBoundingClientRect().height;
+    want(other > 40, "the map does not give the page back");
+    if (wrong.length) wrong.push(document.documentElement.dataset.measured);
+}
+
+/**
+ * What can happen now is listed by the program, and a tap on it does it; a surprise is played, and a search finds.
+ *
+ * @param {Page} page
+ */
+export async function happening({ $, one, all, until, changed, press, slide, load, want }) {
+    await load("first-message");
+    slide(1);
+    press("tab-next");
+    const listed = () => all("#pane .possible button code").map((it) => it.textContent);
+    await until(() => listed().length, "what can happen");
+    want(listed().includes("take 0/2") && listed().includes("giveup 0/1 0/2 5"), "can happen: " + listed());
+    want(!listed().includes("hostup 0/1") && !listed().some((it) => /^out 0\/1 0\/2 5/.test(it)), "refused: " + listed());
+    const take = all("#pane .possible button").find((it) => it.textContent.includes("take 0/2"));
+    want(/prints: in 0\/1 0\/2 5 24/.test(take.textContent), "what it prints: " + take.textContent);
+    await changed(() => take.click());
+    want(/takes host 0\/1's message/.test($("sentence").textContent), "it did not happen: " + $("sentence").textContent);
+    await changed(() => press("undo"));
+    await load("rerouted-over-a-triangle");
+    slide(14);
+    await until(() => one("#pane .possible h3") && listed().some((it) => it.startsWith("deliver ")), "frames can arrive");
+    want(all("#pane .possible h3").map((it) => it.textContent).join() === "Hosts,Lines,IMPs", "no groups");
+    await changed(() => press("surprise"));
+    want(all(".row.added").length >= 3 && $("play").textContent === "Pause", "no surprise is played");
+    want(!all(".row.added").some((it) => it.classList.contains("refused")), "a surprise is refused");
+    press("play");
+    $("search").value = "taken-and-incomplete";
+    await changed(() => press("search-go"));
+    await until(() => $("label").textContent === "A script", "a search finds a script");
+    want(all(".row.event").length < 14, "what is found is long");
+    press("tab-waits");
+}
+
+/**
+ * An exercise says when its goal is reached, and how many events the shortest known script has.
+ *
+ * @param {Page} page
+ */
+export async function judged({ $, one, all, until, changed, press, load, want }) {
+    await load("exercise-an-rfnm");
+    const goal = () => $("goal").textContent;
+    await until(() => goal(), "the goal");
+    want(/not reached yet.*shortest script that is known has 3 events/.test(goal()), goal());
+    want(!/Goal:/.test($("sentence").textContent), "the pattern is in the introduction");
+    press("edit");
+    const area = one("textarea");
+    area.value += "calm 1\nout 0/1 0/2 5 8 41\ncalm 2\n";
+    await changed(() => area.dispatchEvent(new Event("input")));
+    await until(() => /is reached, with 3 events/.test(goal()), "that the goal is reached: " + goal());
+    want($("goal").classList.contains("reached"), "a reached goal looks as others");
+    one(".editor-head button").click();
+    await load("first-message");
+    await until(() => $("goal").hidden, "a lesson without a goal has none");
+    want(all("#lesson option").filter((it) => it.value.startsWith("exercise-")).length === 10, "ten exercises");
+}
+
+/**
  * An address that is cut off, and one with the name of no lesson, open nothing else without a word.
  *
  * @param {Page} page
@@ -267,6 +405,9 @@ export async function keys({ $, one, all, focused, load, key, want }) {
     want(/^step 0 of/.test($("slider").getAttribute("aria-valuetext")), "the slider has no text");
     key("Enter", $("network"));
     want(focused() && focused().closest("#network"), "Enter goes into the map");
+    const rows = all("#sheet [role=list] > [role=listitem]");
+    want(rows.length > 5, "the script is no list for who hears it: " + rows.length + " rows");
+    want(rows.filter((it) => it.getAttribute("aria-current") === "step").length <= 1, "two rows are the present step");
     const part = focused();
     want(part.getAttribute("aria-label"), "a part without a name");
     key("Enter", part);
@@ -279,7 +420,7 @@ export async function keys({ $, one, all, focused, load, key, want }) {
     $("tab-waits").focus();
     key("ArrowRight", $("tab-waits"));
     want(
-        $("tab-distances").getAttribute("aria-selected") === "true" && focused() === $("tab-distances"),
+        $("tab-next").getAttribute("aria-selected") === "true" && focused() === $("tab-next"),
         "arrows do not go from tab to tab",
     );
     want(
@@ -477,7 +618,7 @@ export async function compared({ $, one, all, until, changed, press, load, want 
         "the index has other lessons than the list",
     );
     want(
-        all("#index .lessons ul > li").filter((it) => !it.querySelector("ol")).length === 2,
+        all("#index .lessons ul > li").filter((it) => !it.querySelector("ol")).length === 12,
         "lessons without a question: " + all("#index .lessons ul > li").filter((it) => !it.querySelector("ol")).map(
             (it) => it.querySelector("button").textContent,
         ),

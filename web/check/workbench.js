@@ -18,6 +18,7 @@ const WIDE = /** @type {[number, number]} */ ([1440, 900]);
 const SIZES = /** @type {[number, number][]} */ (
     [[360, 640], [390, 844], [844, 390], [740, 360], [640, 320], [512, 384], [320, 256], [720, 450], [1024, 768], [1280, 720], WIDE]
 );
+const LARGE = /** @type {[number, number][]} */ ([[1280, 800], [360, 740]]);
 const LARGER = /** @type {[number, number][]} */ ([[1024, 768], WIDE]);
 const MOST_OCTETS = 950_000;
 const SHOWN = [
@@ -78,6 +79,20 @@ const index = ({ press, $ }, isOpen) => {
     if (!isOpen) $("index").close();
 };
 
+/** 63 IMPs in a ring with chords, four hosts at each, and messages across. */
+function largeNetwork() {
+    const imps = Array.from({ length: 63 }, (_, place) => place + 1);
+    const ring = imps.map((imp) => [imp, (imp % 63) + 1]);
+    const chords = imps.filter((imp) => imp % 4 === 1).map((imp) => [imp, ((imp + 20) % 63) + 1]);
+    const script = ["calm 13", "out 0/1 0/30 5 8 41", "out 1/2 2/40 5 8 42", "calm 12", "take 0/30", "calm 12"];
+    return [
+        "raw = true",
+        ...imps.flatMap((imp) => ["[[imp]]", `id = ${imp}`, "hosts = 4"]),
+        ...[...ring, ...chords].flatMap(([a, b]) => ["[[line]]", `a = ${a}`, `b = ${b}`]),
+        ...["%", ...script, "out 3/50 2/7 9 16 4142", "calm 12", ""],
+    ].join("\n");
+}
+
 /**
  * A fault for the page.
  *
@@ -115,6 +130,13 @@ const PLANTED = /** @type {Planted[]} */ ([
         to: 'if (place === "cut") return false;',
         by: "unopened",
         words: "why nothing is opened",
+    },
+    {
+        what: "labels that shrink with the map",
+        from: "Math.max(1, LEAST_LETTERS / letters)",
+        to: "1",
+        by: "large",
+        words: "pixels high",
     },
     {
         what: "buttons that do not fit",
@@ -247,8 +269,14 @@ async function whole(browser, address) {
         steps += await browser.evaluate('return Number(document.getElementById("slider").max);');
     }
     const { keys, tapped, holding, distances, compared, printed, hidden, typed, measured, contrast } = trials;
-    const { reached, unopened } = trials;
-    for (const body of [unopened, keys, tapped, holding, distances, compared, printed, hidden, typed]) {
+    const { happening, judged, large, reached, unopened } = trials;
+    for (const size of LARGE) {
+        await browser.resize(...size);
+        wrong.push(...(await trial(browser, [large, largeNetwork()])));
+        console.log(`63 IMPs: ${await browser.evaluate("return document.documentElement.dataset.measured;")}`);
+    }
+    await browser.resize(...WIDE);
+    for (const body of [unopened, happening, judged, keys, tapped, holding, distances, compared, printed, hidden, typed]) {
         wrong.push(...(await trial(browser, [body])));
     }
     let places = 0;
@@ -296,7 +324,8 @@ async function planted(browser, page, file) {
         writeFileSync(file, opened(page.replace(from, to)));
         await browser.resize(...(size ?? WIDE));
         await browser.open(`file://${file}`);
-        const found = await trial(browser, [/** @type {Trial} */ (trials[by])]);
+        const given = by === "large" ? largeNetwork() : undefined;
+        const found = await trial(browser, [/** @type {Trial} */ (trials[by]), given]);
         if (!found.some((it) => it.includes(words))) missed.push(`${what}: found only ${found.slice(0, 3).join("; ")}`);
         if (by === "paper") await browser.look({});
     }

@@ -76,5 +76,12 @@ export function nativeRunner(program) {
         for (const end of [...stops]) end();
     }
 
-    return { run, stop };
+    /** @type {Runner["batch"]} */
+    async function batch(words, inputs, limits) {
+        const found = [];
+        for (const input of inputs) found.push(await run(words, input, limits));
+        return found;
+    }
+
+    return { run, batch, stop };
 }

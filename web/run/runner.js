@@ -35,8 +35,12 @@
  *
  * `stop` ends every run of this runner that is under way, as `stopped`.
  *
+ * `batch` runs the program on several inputs, one after the other in one worker, with limits for all of them together.
+ * It answers how those ended that came to their own end before a limit was reached or `stop` was called, in order.
+ *
  * @typedef {object} Runner
  * @property {(words: string[], input: Uint8Array, limits: Limits) => Promise<Outcome>} run
+ * @property {(words: string[], inputs: Uint8Array[], limits: Limits) => Promise<Outcome[]>} batch
  * @property {() => void} stop
  */
 
@@ -77,12 +81,32 @@ export function makeRunner(module, spawn) {
     let ready = spawn();
 
     /** @type {Runner["run"]} */
-    function run(words, input, limits) {
+    async function run(words, input, limits) {
+        const { done, last } = await perform(words, [input], limits);
+        return done[0] ?? last;
+    }
+
+    /** @type {Runner["batch"]} */
+    async function batch(words, inputs, limits) {
+        return inputs.length ? (await perform(words, inputs, limits)).done : [];
+    }
+
+    /**
+     * Runs the program on inputs: those that came to their own end, and how the last one ended.
+     *
+     * @param {string[]} words
+     * @param {Uint8Array[]} inputs
+     * @param {Limits} limits
+     * @returns {Promise<{done: Outcome[], last: Outcome}>}
+     */
+    function perform(words, inputs, limits) {
         const worker = ready;
         ready = spawn();
         return new Promise((resolve, reject) => {
+            /** @type {Outcome[]} */
+            const done = [];
             /** @type {Uint8Array[][]} */
-            const written = [[], [], []];
+            let written = [[], [], []];
             const timer = setTimeout(() => end("time"), limits.seconds * 1000);
             const stop = () => end("stopped");
             stops.add(stop);
@@ -95,13 +119,17 @@ export function makeRunner(module, spawn) {
 
             /** @param {Outcome["ended"]} ended */
             function end(ended, status = -1) {
-                leave();
-                resolve({
+                const last = {
                     status,
                     stdout: joined(written[1]),
                     stderr: new TextDecoder().decode(joined(written[2])),
                     ended,
-                });
+                };
+                written = [[], [], []];
+                if (ended === "exit") done.push(last);
+                if (ended === "exit" && done.length < inputs.length) return;
+                leave();
+                resolve({ done, last });
             }
 
             /** @param {string} why */
@@ -119,7 +147,7 @@ export function makeRunner(module, spawn) {
                 else fail(`the program broke off: ${said.broken}`);
             };
             worker.onerror = (event) => fail(`the program can't be started: ${event.message}`);
-            worker.postMessage({ module, words, input, octets: limits.octets });
+            worker.postMessage({ module, words, inputs, octets: limits.octets });
         });
     }
 
@@ -127,5 +155,5 @@ export function makeRunner(module, spawn) {
         for (const end of [...stops]) end();
     }
 
-    return { run, stop };
+    return { run, batch, stop };
 }

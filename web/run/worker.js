@@ -1,5 +1,6 @@
 /**
- * The worker of a run: it is sent one task, runs the program once, and says what the program writes and how it ends.
+ * The worker of runs: it is sent one task, runs the program on each of its inputs, and says what the program writes and
+ * how it ends.
  */
 
 import { Full, runModule } from "./program.js";
@@ -12,17 +13,19 @@ function say(said, /** @type {Transferable[]} */ moved = []) {
     worker.postMessage(said, moved);
 }
 
-/** @param {{module: WebAssembly.Module, words: string[], input: Uint8Array, octets: number}} task */
-function perform({ module, words, input, octets }) {
+/** @param {{module: WebAssembly.Module, words: string[], inputs: Uint8Array[], octets: number}} task */
+function perform({ module, words, inputs, octets }) {
     let room = octets;
     try {
-        const status = runModule(module, words, input, (descriptor, written) => {
-            const fits = written.slice(0, room);
-            say({ descriptor, octets: fits }, [fits.buffer]);
-            if (written.length > room) throw new Full();
-            room -= written.length;
-        });
-        say({ status });
+        for (const input of inputs) {
+            const status = runModule(module, words, input, (descriptor, written) => {
+                const fits = written.slice(0, room);
+                say({ descriptor, octets: fits }, [fits.buffer]);
+                if (written.length > room) throw new Full();
+                room -= written.length;
+            });
+            say({ status });
+        }
     } catch (why) {
         say(why instanceof Full ? { full: true } : { broken: String(why) });
     }

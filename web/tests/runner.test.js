@@ -34,7 +34,7 @@ test("a run hands over its task, joins what is written, and ends its worker", as
     const { started, spawn } = workers();
     const run = makeRunner(module, spawn).run(["--texts"], octets("in"), LIMITS);
     const [worker] = started;
-    assert.deepEqual(worker.task, { module, words: ["--texts"], input: octets("in"), octets: 100 });
+    assert.deepEqual(worker.task, { module, words: ["--texts"], inputs: [octets("in")], octets: 100 });
     const written = /** @type {[number, string][]} */ ([[1, "a"], [2, "x"], [1, "bc"], [2, "é"]]);
     for (const [descriptor, text] of written) worker.onmessage({ data: { descriptor, octets: octets(text) } });
     worker.onmessage({ data: { status: 3 } });

@@ -5,6 +5,7 @@ import { arrangement } from "./arrangement.js";
 import { addedLines, goOn } from "./edits.js";
 import { faultOf } from "./faults.js";
 import { History } from "./fold.js";
+import { judged } from "./goals.js";
 import { stopsOfFlow, stopsWith } from "./follow.js";
 import { keepText, storedText } from "./kept.js";
 import { Past } from "./past.js";
@@ -14,17 +15,21 @@ import { CUT, fragment, noLesson, placeIn } from "./share.js";
 import { stopAt, stopsOf } from "./stops.js";
 import { Talk } from "./talk.js";
 import { messageName, waitsOf } from "./waits.js";
+import { tripsOf } from "./trips.js";
 import { nextFollowed, nextFound, nextLine, nextRefusal, questionAt } from "./walk.js";
 import { Compare } from "./view/compare.js";
+import { makeBorder } from "./view/borders.js";
 import { byId, h, say, set } from "./view/dom.js";
 import { Editor } from "./view/editor.js";
 import { saveText, textOfFile } from "./view/files.js";
 import { drawFoot, drawSentence, drawTabs, fillLists, TABS } from "./view/frame.js";
 import { fillHandout } from "./view/handout.js";
+import { Hands } from "./view/hands.js";
 import { Index } from "./view/index.js";
 import { listenToKeys } from "./view/keys.js";
 import { MapView } from "./view/map.js";
 import { Toast } from "./view/menu.js";
+import { Next } from "./view/next.js";
 import { Panes } from "./view/panes.js";
 import { Player } from "./view/player.js";
 import { Printed } from "./view/printed.js";
@@ -98,6 +103,7 @@ export class Workbench {
         this.sheet = new SheetView(byId("sheet"), go);
         this.printed = new Printed(runner);
         this.compare = new Compare(runner, go, () => this.draw());
+        this.next = new Next(this);
         this.index = new Index(byId("index"), examples, (name) => void this.load(name));
         this.panes = new Panes(byId("pane"), {
             choose: (imp) => this.choose(imp),
@@ -147,6 +153,9 @@ export class Workbench {
             rounds: () => void this.change(["calm 3"], "Three rounds pass"),
             stop: () => this.runner.stop(),
             print: () => window.print(),
+            nearer: () => this.map?.zoom(1.4),
+            farther: () => this.map?.zoom(1 / 1.4),
+            whole: () => this.wholeMap(),
             more: () => set(byId("more"), { "aria-expanded": String(byId("rare").classList.toggle("open")) }),
         };
         for (const [id, act] of Object.entries(presses)) byId(id).addEventListener("click", act);
@@ -156,6 +165,14 @@ export class Workbench {
         byId("grain").addEventListener("change", (event) => this.setGrain(/** @type {Grain} */ (valueOf(event))));
         byId("slider").addEventListener("input", (event) => this.goStop(Number(valueOf(event))));
         listenToKeys(this);
+        new Hands(this.network, {
+            zoom: (factor, x, y) => this.map?.zoom(factor, x, y),
+            pan: (dx, dy) => this.map?.pan(dx, dy),
+            fit: () => this.map?.fit(),
+        });
+        new ResizeObserver(() => this.map?.see()).observe(this.network);
+        makeBorder("split-x", "x", () => this.draw());
+        makeBorder("split-y", "y", () => this.draw());
         window.addEventListener("hashchange", () => void this.fromAddress());
         window.addEventListener("beforeprint", () => this.print());
         window.addEventListener("afterprint", () => byId("handout").replaceChildren());
@@ -171,6 +188,13 @@ export class Workbench {
         root.dataset.layout = layout;
         root.toggleAttribute("data-low", isLow);
         root.toggleAttribute("data-tight", root.clientWidth * scale < 1340);
+        this.draw();
+    }
+
+    /** Gives the map the whole page, or takes it back. */
+    wholeMap() {
+        const isWhole = document.documentElement.toggleAttribute("data-whole");
+        set(byId("whole"), { "aria-pressed": String(isWhole) });
         this.draw();
     }
 
@@ -316,6 +340,7 @@ export class Workbench {
             this.text = text;
             this.history = new History(outcome);
             this.fresh();
+            void this.judge(run);
             this.go(Math.min(position, this.history.length));
             this.toast.hide();
             if (this.why || outcome.cut) this.toast.show(this.why || outcome.cut, null, true);
@@ -326,6 +351,21 @@ export class Workbench {
             byId("wait").hidden = true;
             if (run === this.runs) document.documentElement.dataset.replays = String(run);
         }
+    }
+
+    /**
+     * Says whether the script reaches its goal, if it has one.
+     *
+     * @param {number} run the number of its replay
+     */
+    async judge(run) {
+        if (!this.history) return;
+        const { isReached, text } = await judged(this.runner.batch, this.history.replay.input);
+        if (run !== this.runs) return;
+        const goal = byId("goal");
+        goal.hidden = text === "";
+        say(goal, text);
+        goal.classList.toggle("reached", isReached);
     }
 
     /**
@@ -481,14 +521,16 @@ export class Workbench {
         return this.asking !== null;
     }
 
-    /** Lets the frame that arrived last be seen to move. */
+    /** Lets the packets that moved in the last step be seen to move. */
     travel() {
         const stop = this.stops[this.at() - 1];
         const isStill = window.matchMedia("(prefers-reduced-motion: reduce)").matches;
-        if (!stop || stop.main < 0 || !this.history || isStill) return;
-        const note = this.history.notes[stop.main];
-        const isArrival = note.fate && this.history.replay.moments[stop.main].words[0] === "deliver";
-        if (note.frame && isArrival) this.map?.travel(note.line, note.from, note.frame);
+        if (!stop || !this.history || isStill) return;
+        const pace = this.player.timer ? this.player.it.pace() : 900;
+        const trips = tripsOf(this.history, stop);
+        const each = Math.max(160, Math.min(420, (0.8 * pace) / Math.max(1, Math.min(trips.length, 4))));
+        const gap = trips.length > 1 ? (0.8 * pace - each) / (trips.length - 1) : 0;
+        trips.forEach(({ line, from, frame }, at) => this.map?.travel(line, from, frame, each, Math.max(0, gap * at)));
     }
 
     // ---- changes
@@ -614,6 +656,15 @@ export class Workbench {
         if (!file) return;
         const text = await textOfFile(file);
         if (typeof text !== "string") return this.toast.show(`${file.name} ${text.why}`, null);
+        await this.openText(text);
+    }
+
+    /**
+     * Opens a text that is no example.
+     *
+     * @param {string} text
+     */
+    async openText(text) {
         this.past.leave(this.here());
         this.example = "";
         this.open(text);
@@ -641,6 +692,7 @@ export class Workbench {
         const from = at ? stops[at - 1].from : 0;
         const before = at ? history.at(from) : null;
         if (name === "printed") this.printed.draw(byId("pane"), this.text, hidden);
+        else if (name === "next") this.next.draw(byId("pane"));
         else if (name === "compare") this.compare.draw(byId("pane"), this.origin, { history, position, to, hidden });
         else if (name !== "script") {
             const earlier = before && name === "hosts" ? (this.earlier?.goTo(from) ?? null) : null;

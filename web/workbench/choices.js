@@ -4,7 +4,7 @@
  */
 
 import { frameName } from "./sentences.js";
-import { farEnd, hostName, impName, impOf, linesOf, siteName, wayOf } from "./topology.js";
+import { farEnd, hostName, impName, impOf, linesOf, machineOf, siteName, wayOf } from "./topology.js";
 import { messageName } from "./waits.js";
 import { capital } from "./words.js";
 
@@ -54,7 +54,8 @@ export function partTitle(state, part) {
         case "imp":
             return capital(impName(network, part.imp));
     }
-    return capital(hostName(network, part.host));
+    const machine = machineOf(network, part.host);
+    return `${capital(hostName(network, part.host))}${machine ? ` (${machine}, host ${part.host})` : ""}`;
 }
 
 /**

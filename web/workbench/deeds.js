@@ -85,7 +85,6 @@ function next(kind, host, socket, before, after) {
 function bitsNext({ end, pair }, host) {
     const { messages, bits } = end.allocation;
     const size = end.size ?? 1;
-    if (end.requests.own === null || end.requests.peer === null) return NEXT["not open"];
     if (messages === 0 || bits < size) {
         return filled(NEXT["no grant"], { messages: count(messages, "message"), bits: count(bits, "bit") });
     }

@@ -114,11 +114,11 @@ function fateOf(told, frame, line, to, before, after, accepted) {
  * @param {State} after
  */
 function hasNews(imp, before, after) {
-    return before.network.sites.some(({ number }) => {
-        const was = before.way(imp, number);
-        const is = after.way(imp, number);
-        return was.distance !== is.distance || was.line !== is.line;
-    });
+    const [was, is] = [before.imp(imp), after.imp(imp)];
+    if (was === is || !was || !is) return false;
+    return before.network.sites.some(
+        ({ number }) => was.distances[number] !== is.distances[number] || was.next[number] !== is.next[number],
+    );
 }
 
 /**

@@ -36,22 +36,22 @@ export class History {
     }
 
     fold() {
-        const { moments } = this.replay;
-        let parts = this.replay.opening;
+        const { moments, opening } = this.replay;
         /** @type {Accepted} */
         const accepted = new Accepted(this.network);
         /** @type {Moment[]} */
         const left = [];
-        this.kept.push(parts);
+        const before = new State(this.network, { ...opening });
+        const after = new State(this.network, { ...opening });
+        this.kept.push(opening);
         for (const moment of moments) {
-            const before = new State(this.network, parts);
             if (isIdle(moment, before)) continue;
-            const after = new State(this.network, withParts(parts, moment));
+            put(after.parts, moment);
             this.notes.push(noteOf(moment, before, after, accepted));
             this.number(this.notes[this.notes.length - 1], before);
             left.push(moment);
-            parts = after.parts;
-            if (left.length % KEPT_EVERY === 0) this.kept.push(parts);
+            put(before.parts, moment);
+            if (left.length % KEPT_EVERY === 0) this.kept.push({ ...after.parts });
         }
         this.replay.moments = left;
     }
@@ -77,20 +77,20 @@ export class History {
      */
     at(position) {
         const place = Math.floor(position / KEPT_EVERY);
-        let parts = this.kept[place];
-        for (let at = place * KEPT_EVERY; at < position; at += 1) parts = withParts(parts, this.replay.moments[at]);
+        const parts = { ...this.kept[place] };
+        for (let at = place * KEPT_EVERY; at < position; at += 1) put(parts, this.replay.moments[at]);
         return new State(this.network, parts);
     }
 }
 
 /**
- * Parts with those that a moment left in their place.
+ * Puts the parts that a moment left in their places.
  *
  * @param {{[name: string]: Part}} parts
  * @param {Moment} moment
  */
-function withParts(parts, moment) {
-    return moment.parts.length ? { ...parts, ...Object.fromEntries(moment.parts) } : parts;
+function put(parts, moment) {
+    for (const [name, part] of moment.parts) parts[name] = part;
 }
 
 /**

@@ -3,6 +3,7 @@
  * the number of lines between them. The same network is always placed alike.
  */
 
+import { isInStates, OUTLINE, placeOn } from "./states.js";
 import { farEnd, linesOf } from "./topology.js";
 
 /** @typedef {import("./topology.js").Network} Network */
@@ -18,6 +19,7 @@ import { farEnd, linesOf } from "./topology.js";
  * @property {{w: number, h: number}} box half the size of the widest box of an IMP
  * @property {Map<number, {w: number, h: number}>} boxes half the size of each IMP's box
  * @property {number} radius of a host's circle
+ * @property {Point[]} outline of the land on which the sites are; empty where it isn't known where they are
  */
 
 /**
@@ -36,13 +38,21 @@ export function placed(network) {
     const box = sized(Math.max(0, ...network.sites.map((site) => site.name.length)));
     const radius = small ? 5 : 15;
     const step = small ? 74 : 172;
-    let points = spread(numbers.length, hopCounts(network, numbers), step);
+    const places = network.sites.map((site) => site.place);
+    const isKnown = areFarApart(places);
+    const wide = small ? 820 : 1000;
+    let points = isKnown
+        ? places.map((it) => placeOn(it ?? { north: 0, east: 0 }, wide))
+        : fitted(turned(spread(numbers.length, hopCounts(network, numbers), step)));
+    const outline = isKnown ? OUTLINE.map(([north, east]) => placeOn({ north, east }, wide)) : [];
     const widths = numbers.map((number) => boxes.get(number)?.w ?? box.w);
-    points = apart(fitted(turned(points)), widths, small ? 12 : 46, 2 * box.h + (small ? 15 : 52));
+    const room = isKnown ? 14 : 0; // between sites of one town
+    points = apart(points, widths, room + (small ? 12 : 46), room + 2 * box.h + (small ? 15 : 52));
     const imps = new Map(numbers.map((number, place) => [number, points[place]]));
     const hosts = hostsAround(network, imps, boxes, radius, small);
     const margin = small ? 12 : 26;
     const all = [
+        ...outline,
         ...[...imps].flatMap(
             ([number, { x, y }]) => [
                 { x: x - (boxes.get(number)?.w ?? 0), y: y - box.h },
@@ -55,7 +65,7 @@ export function placed(network) {
     ];
     const left = Math.min(...all.map((it) => it.x)) - margin;
     const top = Math.min(...all.map((it) => it.y)) - margin;
-    for (const it of [...imps.values(), ...hosts.values()]) {
+    for (const it of [...imps.values(), ...hosts.values(), ...outline]) {
         Object.assign(it, { x: Math.round(10 * (it.x - left)) / 10, y: Math.round(10 * (it.y - top)) / 10 });
     }
     return {
@@ -67,8 +77,22 @@ export function placed(network) {
         box,
         boxes,
         radius,
+        outline,
     };
 }
+
+/**
+ * Whether sites are all on the map of the United States, and from coast to coast: on it a few of one coast would be a
+ * heap.
+ *
+ * @param {(import("./states.js").Place | null)[]} places
+ */
+function areFarApart(places) {
+    const known = places.flatMap((it) => (it && isInStates(it) ? [it.east] : []));
+    return known.length === places.length && Math.max(...known) - Math.min(...known) > COAST_TO_COAST;
+}
+
+const COAST_TO_COAST = 30; // degrees
 
 /**
  * Over how many lines each IMP is from each other, by their places; those that no route joins are far.

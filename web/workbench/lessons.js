@@ -1,5 +1,7 @@
 /** The lessons in the order in which a class takes them, with their questions. */
 
+import { EXERCISES, inputOf } from "./exercises.js";
+import { INTRODUCTIONS } from "./introductions.js";
 import { QUESTIONS, SUBJECTS } from "./questions.js";
 
 /** @typedef {import("./app.js").Example} Example */
@@ -27,6 +29,10 @@ const HOURS = /** @type {[string, string[]][]} */ ([
         ],
     ],
     [
+        "The years",
+        ["arpanet-of-december-1970", "arpanet-of-april-1971"],
+    ],
+    [
         "Exercises, solved",
         [
             "a-sender-stops-before-its-rfnm",
@@ -52,8 +58,12 @@ export function arranged(examples) {
             left.delete(name);
             return example ? [{ ...example, group: title, text: asking(example.text, name) }] : [];
         });
-    const known = [...HOURS, ...SUBJECTS].flatMap(([title, names]) => group(title, names));
-    return [...known, ...group("What is refused", [...left.keys()])];
+    const hours = HOURS.flatMap(([title, names]) => group(title, names));
+    const subjects = SUBJECTS.flatMap(([title, names]) => group(title, names));
+    const exercises = EXERCISES.map((it) => (
+        { name: it.name, title: it.title, group: "A third hour: exercises that judge themselves", text: inputOf(it) }
+    ));
+    return [...hours, ...exercises, ...subjects, ...group("What is refused", [...left.keys()])];
 }
 
 /**
@@ -72,13 +82,15 @@ export function opened(inputs, examples) {
 }
 
 /**
- * The text of an example with its questions.
+ * The text of an example with its introduction, if it has none of its own, and its questions.
  *
  * @param {string} text
  * @param {string} name
  */
 function asking(text, name) {
-    return withQuestions(text, QUESTIONS[name] ?? []);
+    const introduction = INTRODUCTIONS[name];
+    const whole = withQuestions(text, QUESTIONS[name] ?? []);
+    return introduction && !text.startsWith("#") ? `# ${introduction}\n${whole}` : whole;
 }
 
 /**

@@ -1,5 +1,6 @@
 /** Starts the workbench with the program and the examples in the page. */
 
+import { TABLE } from "../../python/dorydate/sentences/table.mjs";
 import { block, embedded, examplesInPage } from "../run/embedded.js";
 import { Workbench } from "./app.js";
 import { arranged, opened } from "./lessons.js";
@@ -11,7 +12,8 @@ async function start() {
     if (lacks.length) throw new Error(wanting(lacks));
     const { runner, note } = await embedded();
     byId("unproved").hidden = note.proved;
-    const proved = note.proved ? "proved" : "not proved";
+    const proved = note.proved ? "proved" : "built without proofs";
+    byId("unproved").title = TABLE.words["not proved"];
     const sources = note.sources.slice(0, 12);
     const words = `The program in this page is arpasim as WebAssembly, ${proved}. Sources ${sources}.`;
     say(byId("note"), `${words} The page makes no request.`);

@@ -201,6 +201,25 @@ const SUBNET = {
             "They count up: each believes the neighbour that is nearer, and adds a line, until 63: no route.",
         ],
     ],
+    "arpanet-of-december-1970": [
+        [
+            6,
+            "The line from UTAH to MIT is cut while a message for MIT is on its way from UCLA. What becomes of it?",
+            "It comes to MIT by the other way across the country, over RAND and BBN, and UCLA gets its RFNM.",
+        ],
+        [
+            14,
+            "No line joins east and west any more, and UCLA doesn't know it yet. Which answer does its message get?",
+            "None, while the west counts to infinity: the message is lost, and has to be given up.",
+        ],
+    ],
+    "arpanet-of-april-1971": [
+        [
+            7,
+            "ILLINOIS, which is between UTAH and MIT, stops. How will a message from UTAH come to MIT?",
+            "Over SDC, RAND and BBN.",
+        ],
+    ],
     "how-long-until-utah-is-gone": [
         [
             12,

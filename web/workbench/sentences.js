@@ -7,6 +7,7 @@ import { why } from "./refusals.js";
 import { saying } from "./texts.js";
 import { farEnd, hostName, impName, impOf, siteName } from "./topology.js";
 import { ANSWERS, messageName } from "./waits.js";
+import { movesOf } from "./trips.js";
 import { capital, count, filled, joinedWords, listed } from "./words.js";
 
 /** @typedef {import("./fold.js").History} History */
@@ -300,8 +301,24 @@ function silent(it) {
     const [kind, what] = it.moment.words;
     if (isDeed(kind)) return deedSentence(it.moment.words, it.before, it.after);
     if (kind === "take" || kind === "offer") return filled(SILENT[kind], { host: it.host(what) });
-    if (kind === "quiet") return filled(SILENT.quiet, { round: it.moment.round });
+    if (kind === "quiet") return quietRound(it);
     return ((it.network.plain ? null : INNER[kind]) ?? outside)(it);
+}
+
+/**
+ * A quiet round as a whole: to which IMPs packets have come in it.
+ *
+ * @param {Telling} it
+ */
+function quietRound(it) {
+    const moved = it.network.plain ? [] : movesOf(it.before, it.after).map(
+        ({ packet, to }) => filled(
+            INSIDE["has come"],
+            { packet: packetName(it.network, packet), imps: listed(to.map((imp) => siteName(it.network, imp))) },
+        ),
+    );
+    const begins = filled(SILENT.quiet, { round: it.moment.round });
+    return moved.length ? `${begins} ${capital(listed(moved))}.` : begins;
 }
 
 const SILENT = TABLE.silent;
@@ -475,11 +492,16 @@ function changedRoutes(it) {
  * @param {Telling} it
  */
 function otherLines({ network, before, after, note }) {
-    const ways = network.sites.flatMap(({ number }) => {
+    /** @type {Map<number, string[]>} */
+    const sites = new Map();
+    for (const { number } of network.sites) {
         const { line } = after.way(note.to, number);
-        if (line < 0 || line === before.way(note.to, number).line) return [];
-        return [`to ${siteName(network, number)} by way of ${siteName(network, farEnd(network, line, note.to))}`];
-    });
+        if (line < 0 || line === before.way(note.to, number).line) continue;
+        sites.set(line, [...(sites.get(line) ?? []), siteName(network, number)]);
+    }
+    const ways = [...sites].map(
+        ([line, names]) => `to ${listed(names)} by way of ${siteName(network, farEnd(network, line, note.to))}`,
+    );
     return filled(INSIDE["other line"], { ways: listed(ways) });
 }
 

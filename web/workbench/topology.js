@@ -9,7 +9,9 @@
  * @typedef {object} Site
  * @property {number} number the IMP's number, 1 to 63
  * @property {number} hosts how many hosts it has, 0 to 4
- * @property {string} name the comment after its number, "" if there is none
+ * @property {string} name of the comment after its number, "" if there is none
+ * @property {string[]} machines that its hosts are, as far as the comment names them
+ * @property {{north: number, east: number} | null} place in degrees
  */
 
 /**
@@ -186,7 +188,7 @@ export function readTopology(text) {
     /** @type {Site[]} */
     const sites = [];
     for (const imp of tables(values.imp)) {
-        sites.push({ number: Number(imp.id), hosts: Number(imp.hosts), name: comments.get(imp) ?? "" });
+        sites.push({ number: Number(imp.id), hosts: Number(imp.hosts), ...readSite(comments.get(imp) ?? "") });
     }
     sites.sort((a, b) => a.number - b.number);
     const hosts = sites.flatMap((site) => Array.from({ length: site.hosts }, (_, host) => `${host}/${site.number}`));
@@ -194,6 +196,35 @@ export function readTopology(text) {
     const lines = tables(values.line).map((line) => [Number(line.a), Number(line.b)]);
     const numbered = new Set();
     return { plain: values.carrier === "plain", raw: values.raw === true, sites, hosts, lines, numbered };
+}
+
+/**
+ * What the comment after an IMP's number says (docs/program.md): `UCLA [Sigma 7] @ 34.07 -118.44`. One in another form
+ * is a name as a whole.
+ *
+ * @param {string} comment
+ * @returns {Pick<Site, "name" | "machines" | "place">}
+ */
+export function readSite(comment) {
+    const form = /^([^[@]*?)\s*(?:\[([^\]]*)\])?\s*(?:@\s*(-?\d+(?:\.\d+)?)\s+(-?\d+(?:\.\d+)?))?\s*$/;
+    const found = form.exec(comment);
+    if (!found) return { name: comment, machines: [], place: null };
+    const [, name, machines, north, east] = found;
+    return {
+        name,
+        machines: machines ? machines.split(",").map((it) => it.trim()) : [],
+        place: north === undefined ? null : { north: Number(north), east: Number(east) },
+    };
+}
+
+/**
+ * The machine that a host is; "" where nobody says it.
+ *
+ * @param {Network} network
+ * @param {string} host
+ */
+export function machineOf(network, host) {
+    return network.sites.find((it) => it.number === impOf(host))?.machines[Number(host.split("/")[0])] ?? "";
 }
 
 /**
@@ -227,8 +258,19 @@ export function impOf(host) {
  * @returns {number[]}
  */
 export function linesOf(network, imp) {
-    return network.lines.flatMap(([a, b], line) => (a === imp || b === imp ? [line] : []));
+    let found = PORTS.get(network);
+    if (!found) {
+        found = Array.from({ length: MOST_IMPS + 1 }, () => []);
+        for (const [line, ends] of network.lines.entries()) for (const end of ends) found[end]?.push(line);
+        PORTS.set(network, found);
+    }
+    return found[imp] ?? [];
 }
+
+const MOST_IMPS = 63;
+
+/** @type {WeakMap<Network, number[][]>} of each network by IMP its lines: they are asked for at each step */
+const PORTS = new WeakMap();
 
 /**
  * The IMP at the other end of a line.
@@ -280,8 +322,8 @@ export function impName(network, imp) {
 }
 
 /**
- * A host in words: UCLA where it is the site's only host, UCLA's host 1/1 where there are more, host 0/1 where the site
- * has no name.
+ * A host in words: UCLA where it is the site's only host, UCLA's Sigma 7 or UCLA's host 1/1 where there are more, host
+ * 0/1 where the site has no name.
  *
  * @param {Network} network
  * @param {string} host
@@ -290,5 +332,6 @@ export function impName(network, imp) {
 export function hostName(network, host) {
     const site = network.sites.find((it) => it.number === impOf(host));
     if (!site?.name || Number(host.split("/")[0]) >= site.hosts) return `host ${host}`;
-    return site.hosts === 1 ? site.name : `${site.name}'s host ${host}`;
+    if (site.hosts === 1) return site.name;
+    return `${site.name}'s ${site.machines[Number(host.split("/")[0])] || `host ${host}`}`;
 }

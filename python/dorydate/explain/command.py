@@ -22,11 +22,11 @@ from collections.abc import Callable, Sequence
 from dorydate.expect import command as expect
 from dorydate.explain import faults, page
 from dorydate.explain.charts import chart, short_chart
-from dorydate.explain.given import Input
+from dorydate.given import Input
 from dorydate.explain.logs import explained
 from dorydate.explain.runs import CannotTell, Replayed, kept_program, lives, replay
 from dorydate.explain.telling import said_beside, telling
-from dorydate.explain.topology import is_raw, network_by
+from dorydate.explain.topology import is_raw, names_of, network_by
 from dorydate.program import MOST_OCTETS, ROOT
 
 MOST_OF_LOG = 268_435_456  # octets of a log that is read here
@@ -61,7 +61,7 @@ def audited(words: Sequence[str]) -> int:
 def drawn(given: Input, found: Replayed, draw: Callable[..., str]) -> str:
     """The replay as a chart."""
     network = network_by(given)
-    return draw(found.events, said_beside(given, found.events), is_raw(given), network.names if network else {})
+    return draw(found.events, said_beside(given, found.events), is_raw(given), names_of(network) if network else {})
 
 
 def diagnose(given: Input, said: str) -> str:
@@ -74,7 +74,7 @@ def replayed(options: Sequence[str]) -> int:
     given = Input(standard_input())
     program = kept_program()
     if program and program.endswith("-unproved"):
-        print("explain: the program is not proved yet (./build proves it)", file=sys.stderr)
+        print("explain: the program was built without proofs, of the same sources (./build proves it)", file=sys.stderr)
     try:
         found = replay(given, program)
     except CannotTell as why:

@@ -52,8 +52,6 @@ def held_end(place: World, host: HostName, socket: int) -> tuple[End, Pair] | No
 def bits_next(end: End, pair: Pair, host: str) -> str:
     """What becomes of bits that were handed over."""
     size = end.size or 1
-    if end.own_stamp is None or end.partner_stamp is None:
-        return NEXT["not open"]
     if end.messages == 0 or end.bits < size:
         return filled(NEXT["no grant"], messages=count(end.messages, "message"), bits=count(end.bits, "bit"))
     if end.link in pair.busy:

@@ -9,7 +9,7 @@ from __future__ import annotations
 import difflib
 import re
 
-from dorydate.explain.given import Input, shown
+from dorydate.given import Input, shown
 from dorydate.explain.topologies import wrong_with_topology
 from dorydate.sentences.table import TABLE, filled, sentences
 

@@ -21,7 +21,7 @@ from dorydate.model.names import Flow, spell_flow, spell_host
 from dorydate.model.log import BadLog, Book, read_log
 from dorydate.model.mailboxes import Holds, Mailboxes, hosts_of
 from dorydate.explain.faults import wrong_with_text, wrong_with_word
-from dorydate.explain.given import shown
+from dorydate.given import shown
 
 FORMS = {
     "out": "S D N BITS OCTETS",

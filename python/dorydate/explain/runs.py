@@ -16,7 +16,7 @@ from concurrent.futures import ThreadPoolExecutor
 from dataclasses import dataclass
 from itertools import chain, islice
 
-from dorydate.explain.given import Input, is_event
+from dorydate.given import Input, is_event
 from dorydate.explain.topology import network_by
 from dorydate.marks import LAST, Marked, Unmarked, each_printed, mark_for
 from dorydate.program import ROOT
@@ -113,7 +113,7 @@ def replay(given: Input, program: str | None) -> Replayed:
     events = [(number, line) for number, line in given.script if is_event(line)]
     lines = [line for _, line in events]
     network = network_by(given)
-    marked = Marked(given.topology(), lines, mark_for(network.hosts(), lines) if network else None)
+    marked = Marked(given.topology(), lines, mark_for(map(str, network.hosts()), lines) if network else None)
     parts = [*marked.parts()]
     inputs = chain([given.octets], map(marked.input, parts))
     ended = answers(program, inputs) if program else answers_without_proofs(inputs)

@@ -6,23 +6,23 @@ from collections.abc import Iterator, Sequence
 
 from dorydate.explain import beside
 from dorydate.explain.beside import Said
-from dorydate.explain.given import Input, shown
+from dorydate.given import Input, shown
 from dorydate.explain.past import Past
 from dorydate.explain.runs import Happened
-from dorydate.explain.topology import network_by
+from dorydate.explain.topology import network_by, of_model
 from dorydate.sentences import DEEDS, crossing, silence
 
 
 def said_beside(given: Input, events: Sequence[Happened]) -> list[Said]:
     """What the independent model adds to each event."""
     network = network_by(given)
-    return beside.said(network.topology, events) if network else [Said.nothing(it.printed) for it in events]
+    return beside.said(of_model(network), events) if network else [Said.nothing(it.printed) for it in events]
 
 
 def past_of(given: Input) -> Past:
     """What is known before the first event."""
     network = network_by(given)
-    return Past(network.hosts() if network else None, network is None or network.is_plain())
+    return Past([*map(str, network.hosts())] if network else None, network is None or network.carrier == "plain")
 
 
 def telling(given: Input, events: Sequence[Happened], book: Sequence[str] = ()) -> Iterator[str]:

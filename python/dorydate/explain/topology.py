@@ -1,68 +1,38 @@
-"""The network that an input describes, with the names of its sites.
+"""The network that an input describes, for the explanation of it and for the independent model beside it.
 
-The program has accepted the topology already, so nothing is judged here. A comment after an IMP's number is its name:
-`id = 1 # UCLA`.
+A comment after an IMP's number has its name: `id = 1 # UCLA` (dorydate.sites).
 """
 
 from __future__ import annotations
 
 import re
-from collections.abc import Mapping
-from dataclasses import dataclass, field
 
-from dorydate.explain.given import Input
-from dorydate.explain.topologies import document_of
+from dorydate.given import Input
 from dorydate.model.topology import Topology
+from dorydate.network import Network
 
-NAME = re.compile(r"^[ \t]*id[ \t]*=[ \t]*(\d+)[ \t]*#[ \t]*(\S.*)$", re.MULTILINE)
 IS_RAW = re.compile(rb"^[ \t]*raw[ \t]*=[ \t]*true\b", re.MULTILINE)
 SHOWN = 14  # characters of a site's name that are shown
 
 
-class Unreadable(Exception):
-    """Why a topology that the program accepts can't be read here."""
+def of_model(network: Network) -> Topology:
+    """A network as the independent model has it."""
+    return Topology(network.carrier, network.raw, [(it.number, it.hosts) for it in network.imps], [(it.a, it.b) for it in network.lines])
 
 
-@dataclass(frozen=True)
-class Network:
-    """A network, and the names of sites by the numbers of their IMPs."""
-
-    topology: Topology
-    names: Mapping[int, str] = field(default_factory=dict)
-
-    @property
-    def raw(self) -> bool:
-        return self.topology.raw
-
-    def hosts(self) -> list[str]:
-        """All hosts in order of IMP and host, as they are printed."""
-        return [f"{host}/{imp}" for imp, count in sorted(self.topology.imps) for host in range(count)]
-
-    def is_plain(self) -> bool:
-        return self.topology.carrier == "plain"
-
-
-def read(octets: bytes) -> Network:
-    """The network of a topology in UTF-8."""
-    text = octets.decode().removeprefix("\ufeff").replace("\r\n", "\n")
-    try:
-        document = document_of(text)
-    except ValueError:
-        raise Unreadable("this Python has no reader of TOML, and the topology isn't in the plain spelling of one key a line") from None
-    imps = [(imp["id"], imp["hosts"]) for imp in document["imp"]]
-    lines = [(line["a"], line["b"]) for line in document.get("line", [])]
-    names = {int(number): name.rstrip()[:SHOWN].rstrip() for number, name in NAME.findall(text)}
-    return Network(Topology(document.get("carrier", "subnet"), document.get("raw", False), imps, [*lines]), names)
+def names_of(network: Network) -> dict[int, str]:
+    """The names of sites that have one, by the numbers of their IMPs."""
+    return {it.number: it.name[:SHOWN].rstrip() for it in network.imps if it.name}
 
 
 # ---- of an input that may be refused
 
 
 def network_by(given: Input) -> Network | None:
-    """The network of an input's topology; None where that can't be read here."""
+    """The network of an input's topology; None where it has none that can be read here."""
     try:
-        return read(given.topology())
-    except (Unreadable, KeyError, TypeError, ValueError):
+        return Network.read(given.topology().decode())
+    except ValueError:
         return None
 
 

@@ -47,14 +47,14 @@ def finder() -> str:
     return str(kept)
 
 
-def build(sources: Path, file: Path) -> None:
+def build(sources: Path, file: Path, *options: str) -> None:
     """Builds the plain program of some sources. What was built of others is removed."""
     if not shutil.which("rustc"):
         raise CannotRun("--fast needs the compiler rustc, which isn't on the path (Debian's package rustc has one)")
     file.parent.mkdir(exist_ok=True)
     with tempfile.TemporaryDirectory(dir=file.parent) as room:
         made = Path(room) / "plain"
-        ran = subprocess.run(["rustc", "-O", "--edition", "2021", str(sources / "main.rs"), "-o", str(made)], capture_output=True, text=True)
+        ran = subprocess.run(["rustc", *(options or ("-O",)), "--edition", "2021", str(sources / "main.rs"), "-o", str(made)], capture_output=True, text=True)
         if ran.returncode:
             raise CannotRun(f"rustc can't build tools/plain: {ran.stderr.strip()[:400]}")
         for other in file.parent.glob("plain-*"):
@@ -187,13 +187,12 @@ def searched(asked: Asked, shows: bool = False, options: Sequence[str] = ("--meg
     return answer
 
 
-def names(asked: Asked, program: str, options: Sequence[str] = ()) -> Iterator[tuple[str, Events]]:
-    """The states, each by a name, with its shortest script."""
-    for line in lines_of(program, asked, ["--names", "--check", *options]):
+def scripts(asked: Asked, program: str) -> Iterator[Events]:
+    """Of each state that isn't the first the shortest script."""
+    for line in lines_of(program, asked, ["--scripts"]):
         kind, _, rest = line.partition(" ")
-        if kind == "state":
-            name, _, script = rest.partition(" ")
-            yield name, events_of(script)
+        if kind == "state" and rest:
+            yield events_of(rest)
 
 
 def last_words(asked: Asked, answer: Answer) -> str:

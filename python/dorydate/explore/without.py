@@ -63,6 +63,7 @@ class Sought:
     kinds: tuple[str, ...] = ()
     numbers: Numbers = NUMBERS
     lines: tuple[str, ...] = ()
+    is_kept: bool = False  # whether it climbs there by what is kept, and not by what is alive
 
 
 # rules of the network below hosts; all others are of hosts' programs
@@ -73,7 +74,7 @@ OF_NETWORK = {
     "a message is given up only when nothing of it is alive": Sought(RAW, SENDING),
     "a number that is new is noted when it is asked about": Sought(RAW, SENDING),
     "a question about a message that waits isn't answered": Sought(RAW, SENDING),
-    "no number is begun that the destination's IMP keeps": Sought(RAW, SENDING, FEW, (*ONE_FLOW, "giveup 0/1 0/2 0", "drop 0 + 0", "enddown 1 0", "endup 1 0")),
+    "no number is begun that the destination's IMP keeps": Sought(RAW, SENDING, FEW, (*ONE_FLOW, "giveup 0/1 0/2 0", "drop 0 + 0", "enddown 1 0", "endup 1 0"), True),
 }
 LENGTH = 16  # events of a schedule: the model is slow
 MOST_STEPS = 200_000  # of a search that climbs
@@ -156,7 +157,7 @@ class Search:
         """Climbs by the age of what is left."""
         events = [(it, self.lacking.of_model(it)) for it in map(read_event, self.sought.lines)]
         place = opened_without(self.rule, self.lacking.as_model, self.sought.numbers)
-        script, self.steps = climbed(place, events, seconds, MOST_STEPS)
+        script, self.steps = climbed(place, events, seconds, MOST_STEPS, self.sought.is_kept)
         if script:
             self.take(script, self.lacking, f"after {self.steps} steps")
 

@@ -12,7 +12,7 @@ ANSWERS = {"rfnm": 5, "dead": 7, "incomplete": 9, "nottaken": 9}  # the types of
 
 
 @dataclass(frozen=True)
-class Packet:
+class Crossing:
     """What crosses a host's interface: from the host or from its IMP. Where the host stops or starts it has no octets."""
 
     host: Host
@@ -20,17 +20,17 @@ class Packet:
     octets: bytes
 
 
-def packet_of(words: tuple[str, ...]) -> Packet | None:
-    """The packet of a printed line with texts; None of a line about no crossing."""
+def crossing_of(words: tuple[str, ...]) -> Crossing | None:
+    """The crossing of a printed line with texts; None of a line about no crossing."""
     match words:
         case ["out" | "in" as kind, source, destination, link, bits, octets]:
             own, other = (source, destination) if kind == "out" else (destination, source)
             content = leader(REGULAR, Host.read(other), int(link)) + body(Text.read(bits, octets))
-            return Packet(Host.read(own), kind == "out", content)
+            return Crossing(Host.read(own), kind == "out", content)
         case ["answer", answer, source, destination, link]:
-            return Packet(Host.read(source), False, leader(ANSWERS[answer], Host.read(destination), int(link)))
+            return Crossing(Host.read(source), False, leader(ANSWERS[answer], Host.read(destination), int(link)))
         case ["down" | "up", host]:
-            return Packet(Host.read(host), True, b"")
+            return Crossing(Host.read(host), True, b"")
     return None
 
 

@@ -10,7 +10,7 @@ from __future__ import annotations
 import struct
 from collections.abc import Iterable, Iterator
 
-from dorydate.export.leaders import packet_of
+from dorydate.export.leaders import crossing_of
 from dorydate.export.replayed import Replayed
 
 SECTION, INTERFACE, PACKET = 0x0A0D0D0A, 1, 6  # types of blocks
@@ -56,7 +56,7 @@ def blocks(what: Replayed) -> Iterator[bytes]:
     for host in hosts:
         yield interface(USER1 if what.network.raw else USER0, str(host), f"host {what.network.title(host)}")
     for happened, line in what.lines():
-        if crossed := packet_of(line.words):
+        if crossed := crossing_of(line.words):
             said = [happened.said] if crossed.octets else [str(line), happened.said]
             yield packet(hosts.index(crossed.host), line.time, crossed.octets, OUTBOUND if crossed.is_from_host else INBOUND, said)
 

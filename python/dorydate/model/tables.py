@@ -14,7 +14,7 @@ from dorydate.model.packets import INFINITE, MOST_IMPS
 IMPS = range(1, MOST_IMPS + 1)
 
 
-class Network:
+class Exchange:
     """IMPs 1 to `count` with these lines, of which every port has heard this distance to each IMP at first, or None."""
 
     def __init__(self, count: int, lines: Sequence[tuple[int, int]], heard: int | None) -> None:

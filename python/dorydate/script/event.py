@@ -9,7 +9,12 @@ from typing import ClassVar, TypeVar
 
 @dataclass(frozen=True)
 class Event:
-    """An event of a script."""
+    """An event of a script.
+
+    >>> from dorydate.script import Calm, read_event
+    >>> read_event("calm 3") == Calm(3), str(Calm(3))
+    (True, 'calm 3')
+    """
 
     word: ClassVar[str] = ""
 

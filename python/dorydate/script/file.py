@@ -5,7 +5,8 @@ from __future__ import annotations
 from collections.abc import Iterator, Sequence
 from dataclasses import dataclass
 
-from dorydate.network import BadNetwork, Network, short
+from dorydate.given import Input, short
+from dorydate.network import BadNetwork, Network
 from dorydate.script.event import Event
 from dorydate.script.lines import read_event
 from dorydate.script.values import BadLine
@@ -33,7 +34,11 @@ class Entry:
 
 @dataclass(frozen=True)
 class Script:
-    """A network and the events that happen in it."""
+    """A network and the events that happen in it.
+
+    >>> from dorydate.script import Calm
+    >>> script = Script.of(two, [Calm(1)])
+    """
 
     network: Network
     entries: tuple[Entry, ...] = ()
@@ -41,39 +46,56 @@ class Script:
 
     @staticmethod
     def of(network: Network, events: Sequence[Event], heading: Sequence[str] = ()) -> Script:
+        """The script of some events.
+
+        >>> Script.of(two, [], heading=["A test."]).text().splitlines()[0]
+        '# A test.'
+        """
         return Script(network, tuple(Entry(it) for it in events), tuple(heading))
 
     @property
     def events(self) -> tuple[Event, ...]:
+        """Its events, without comments.
+
+        >>> Script.read(two.toml() + "%\\n# go\\ncalm 1\\n").events
+        (Calm(rounds=1),)
+        """
         return tuple(it.event for it in self.entries)
 
     def text(self) -> str:
-        """The whole input, as the program reads it."""
+        """The whole input, as the program reads it.
+
+        >>> Script.of(two, []).text() == two.toml() + "%\\n"
+        True
+        """
         head = [f"# {it}".rstrip() for it in self.heading]
         lines = [line for entry in self.entries for line in entry.lines()]
         return "\n".join([*head, self.network.toml() + "%", *lines]) + "\n"
 
     def octets(self) -> bytes:
-        """The whole input as octets."""
+        """The whole input as octets.
+
+        >>> len(Script.of(two, []).octets())
+        116
+        """
         return octets_of(self.text())
 
     @staticmethod
     def of_octets(octets: bytes) -> Script:
-        """The script of an input's octets, which in comments may be any."""
-        return Script.read(octets.decode("utf-8", "surrogateescape"))
+        """The script of an input's octets, which in comments may be any. A comment that begins with `#=` is what the event before it is
+        expected to print.
 
-    @staticmethod
-    def read(text: str) -> Script:
-        """The script of an input. A comment that begins with `#=` is what the event before it is expected to print."""
-        every = text.split("\n")
-        if "%" not in every:
+        >>> Script.of_octets(two.toml().encode() + b"%\\ncalm 1\\n#=\\n").entries[0].expected
+        ()
+        """
+        given = Input(octets)
+        if given.marker is None:
             raise BadLine("no line is `%`, which separates the topology from the script")
-        marker = every.index("%")
-        head, lines = every[:marker], every[marker + 1 :]
-        network = Network.read("\n".join(head))
+        head = decoded(given.topology())
+        network = Network.read(head)
         entries: list[Entry] = []
         comments: list[str] = []
-        for number, line in enumerate(lines[:-1] if lines[-1:] == [""] else lines, marker + 2):
+        for number, line in ((number, decoded(octets)) for number, octets in given.script):
             if line.startswith(EXPECTED):
                 expect(entries, line, number)
             elif line.startswith("#"):
@@ -84,13 +106,27 @@ class Script:
                 except (BadLine, BadNetwork) as why:
                     raise BadLine(f"line {number}, `{short(line)}`: {why}") from None
                 comments = []
-        heading = tuple(it[1:].strip() for it in head if it.startswith("#"))
+        heading = tuple(it[1:].strip() for it in head.split("\n") if it.startswith("#"))
         return Script(network, tuple(entries), heading)
+
+    @staticmethod
+    def read(text: str) -> Script:
+        """The script of an input.
+
+        >>> Script.read(two.toml() + "%\\ncalm 1\\n").entries[0].number
+        13
+        """
+        return Script.of_octets(octets_of(text))
 
 
 def octets_of(text: str) -> bytes:
-    """An input as octets: in UTF-8, and what `of_octets` found to be none as it was."""
+    """An input as octets: in UTF-8, and what `decoded` found to be none as it was."""
     return text.encode("utf-8", "surrogateescape")
+
+
+def decoded(octets: bytes) -> str:
+    """Octets of an input as a text, from which `octets_of` makes the same octets."""
+    return octets.decode("utf-8", "surrogateescape")
 
 
 def expect(entries: list[Entry], line: str, number: int) -> None:

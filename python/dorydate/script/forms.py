@@ -6,7 +6,8 @@ from collections.abc import Callable
 from dataclasses import dataclass, field
 from typing import Any
 
-from dorydate.script.values import MOST_NUMBER, BadLine, Flow, Text, host_of, whole
+from dorydate.network import Host
+from dorydate.script.values import MOST_NUMBER, BadLine, Flow, Text, host_of, in_range, whole
 
 
 @dataclass(frozen=True)
@@ -15,29 +16,33 @@ class Form:
 
     words: int
     read: Callable[..., Any]
+    kind: type
     most: int = MOST_NUMBER
     least: int = 0
 
     def check(self, value: Any) -> None:
-        if isinstance(value, int) and not self.least <= value <= self.most:
-            raise BadLine(f"{value} is not from {self.least} to {self.most}")
+        """Refuses a value that no line spells."""
+        if self.kind is int:
+            in_range(value, self.most, self.least)
+        elif not isinstance(value, self.kind):
+            raise BadLine(f"{value!r} is not a {self.kind.__name__}")
 
 
-def part(words: int, read: Callable[..., Any]) -> Any:
-    return field(metadata={"form": Form(words, read)})
+def part(words: int, read: Callable[..., Any], kind: type = str) -> Any:
+    return field(metadata={"form": Form(words, read, kind)})
 
 
 def number(most: int = MOST_NUMBER, least: int = 0) -> Any:
-    return field(metadata={"form": Form(1, lambda word: whole(word, most, least), most, least)})
+    return field(metadata={"form": Form(1, lambda word: whole(word, most, least), int, most, least)})
 
 
 def a_host() -> Any:
-    return part(1, host_of)
+    return part(1, host_of, Host)
 
 
 def a_flow() -> Any:
-    return part(3, Flow.read)
+    return part(3, Flow.read, Flow)
 
 
 def a_text() -> Any:
-    return part(2, Text.read)
+    return part(2, Text.read, Text)

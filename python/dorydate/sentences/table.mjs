@@ -66,13 +66,41 @@ export const TABLE = {
 "after deeds": {
 "commands": "To go out when {host} offers: {commands}.",
 "contact": "An RST goes out when {host} offers.",
-"not open": "The connection isn't open yet, so they wait.",
 "no grant": "No grant allows them yet: {messages} and {bits} are left of it.",
 "busy": "They wait for the answer to the message on link {link} that is out.",
 "in part": "The grant allows {bits} of them, which go out when {host} offers.",
 "allowed": "A grant allows them, and they go out when {host} offers.",
 "close waits": "Its CLS waits until what was sent is answered.",
 "no longer listens": "It listens no longer."
+},
+"searches": {
+"taken-and-incomplete": ["a message is taken, and its sender gets Incomplete", "raw LEFT-RIGHT", "out A B N .. then not out A B N .. then in A B N .. then not out A B N .. then answer incomplete A B N"],
+"half-open": ["a host has an open end of a connection whose other end is gone", "plain LEFT RIGHT", "not pairreset .. then up A then not down .. then life B T A S _ _ _ .. open and life A S B T .. ended and calm 20: nothing"],
+"resets-in-step": ["two resets never end, and no host stops", "LEFT-RIGHT", "not down .. then out .. and calm 50: no ready, 100 lines"],
+"one-user-in-step": ["resets never end, and a host that is ready is reset again and again", "LEFT-RIGHT", "not down .. then pairreset A B then pairreset A B then pairreset A B and calm 50: no ready, 100 lines"],
+"waits-for-a-contact": ["all is at rest, and a host waits for the reply to its reset, which never comes", "plain LEFT RIGHT", "not down .. then not ready _ _ then ready A B then not ready B A then answer incomplete A B .. then not ready B A and calm 20: nothing"],
+"lost-at-a-close": ["bits are sent, and not taken, and both users learn that the connection has ended", "plain LEFT RIGHT", "not down .. then not pairreset .. then ended A S B T and life A S B T O P send M N .. ended and life B T A S Q R receive K L .. ended and calm 5: 0 lines where L < N where O < R where Q < P"],
+"noted-before-it-comes": ["a message is noted as never come, and then it arrives", "raw LEFT-RIGHT", "noted never A B N K then arrives data A B N K"],
+"refused-before-it-comes": ["a sender gets NotTaken, and then its message arrives", "raw LEFT-RIGHT", "noted never A B N K then answer incomplete A B N then arrives data A B N K"],
+"twice": ["a message is taken twice: no schedule does that", "raw LEFT-RIGHT", "out A B N .. then not out A B N .. then in A B N .. then not out A B N .. then in A B N .."]
+},
+"goals": {
+"reached": "The goal is reached, with {events event}.",
+"not reached": "The goal is not reached yet.",
+"shortest": "The shortest script that is known has {events event}.",
+"bad": "The goal can't be read: {why}."
+},
+"words": {
+"calm": "`calm N` lets N rounds pass. In each, all IMPs tell their distances and send again what is not acknowledged, all frames arrive once, and every host takes what waits for it; hosts with programs send, too.",
+"raw": "In a network with `raw = true` hosts have no programs: the script itself sends (`out`) and takes (`take`).",
+"out": "`out` hands an IMP a message that the script writes, in a network with `raw = true`.",
+"offer": "`offer` lets the program of a host send its next message, where hosts have programs.",
+"take": "`take` lets a host take what waits for it: first an answer, then a message.",
+"deliver": "`deliver` lets a frame arrive. It stays on its line, so it can arrive again, until `drop` takes it away.",
+"drop": "`drop` takes a frame from its line. If it has not arrived, it is lost.",
+"deed": "What users ask of the programs of hosts, such as `contact` or `send`, is done at once at their host, and goes out at its next `offer`.",
+"proved": "Proved: the prover has checked that this program keeps its contracts.",
+"not proved": "Built without proofs: the same sources, for which the prover was not run. Nothing is wrong with it, and nothing is shown."
 },
 "ways": {
 "sends": "sends",
@@ -213,6 +241,7 @@ export const TABLE = {
 "unseen": "Its neighbours don't see it until their ends of its lines go down.",
 "waited": "For it waited {what}.",
 "numbered": "It is message {number} of its flow.",
+"has come": "{packet} has come to {imps}",
 "distances same": "Its distances stay as they are.",
 "distance now": "Its distance is now {distances}.",
 "other line": "It now sends {ways}.",

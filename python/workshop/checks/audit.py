@@ -37,6 +37,7 @@ from dorydate.model.topology import Topology, network_of, spelled_input
 from dorydate.model.without.stored import Lesson
 from workshop.checks import log_rows
 from workshop.checks.cases import Case, cases_below
+from dorydate.model.without.stored import Lesson
 from workshop.checks import headline
 from workshop.parts import ROOT, any_program
 

@@ -13,7 +13,7 @@ stored inputs of cases/; and each other name has to be one of these, or that of 
 docs/PROVED.md names each clause after the path of its call, `CRATE::..::CALL`, and docs/measured/crates.md leads to the claims of each crate.
 crates.txt names for each crate only others that its sources name.
 
-The drawings of docs/pictures, the page of crates, the index of rules and the page of what must be believed have to be as they are made, the numbers in drawings as the sources have them, and
+The drawings of docs/pictures, the page of crates, the index of rules, the page of what must be believed and that of the package in Python have to be as they are made, the numbers in drawings as the sources have them, and
 no text of a drawing over another one or over a line. Figures in prose have to be those of their tables (workshop.documents.figures), and each crate's lines of
 .antt within its budget, which a commit raises only with a line that says what for (workshop.documents.budget). Words of the house's dialect are counted against limits that can only fall
 (workshop.documents). With --write these and the page of planted bugs are made anew, and with --lower the limits are lowered to what is counted.
@@ -35,7 +35,7 @@ import unittest
 from collections import Counter
 from collections.abc import Iterator
 
-from workshop.documents import anchors, believed, budget, crates_page, dialect, figures, named_crates, notebook, paragraphs, planted, rules, tests
+from workshop.documents import anchors, believed, budget, crates_page, dialect, figures, named_crates, notebook, paragraphs, planted, reference, rules, tests
 from workshop.drawings import pictures
 from workshop.parts import ROOT
 
@@ -244,18 +244,19 @@ def made() -> list[str]:
     """What isn't as it is made, and what the drawings and the words of the documents have that they shouldn't."""
     print("check docs:", dialect.summary())
     print("check docs:", budget.summary())
-    return [*failed_tests(), *paragraphs.faults(), *anchors.faults(), *pictures.faults(), *crates_page.faults(), *planted.faults(), *rules.faults(), *believed.faults(), *notebook.faults(), *figures.faults(), *budget.faults(), *dialect.faults(), *named_crates.faults()]
+    return [*failed_tests(), *paragraphs.faults(), *anchors.faults(), *pictures.faults(), *crates_page.faults(), *planted.faults(), *rules.faults(), *believed.faults(), *notebook.faults(), *reference.faults(), *figures.faults(), *budget.faults(), *dialect.faults(), *named_crates.faults()]
 
 
 def write() -> int:
-    """Makes the drawings and the pages of crates, of planted bugs, of rules and of what must be believed."""
+    """Makes the drawings and the pages of crates, of planted bugs, of rules, of what must be believed and of the package."""
     crates_page.write()
     planted.write()
     rules.write()
     believed.write()
     notebook.write()
     figures.write()
-    print(f"check docs: docs/measured/crates.md, planted.md, rules.md, promise.md, docs/experiment.ipynb and {pictures.write()} drawings are written")
+    reference.write()
+    print(f"check docs: docs/measured/crates.md, planted.md, rules.md, promise.md, docs/experiment.ipynb, docs/reference.md and {pictures.write()} drawings are written")
     return 0
 
 

@@ -32,7 +32,7 @@ from collections import Counter
 from dorydate.model.chance.inputs import changed, some_network, some_script
 from dorydate.explain.command import diagnose
 from dorydate.explain.faults import wrong_with_line
-from dorydate.explain.given import Input, is_event
+from dorydate.given import Input, is_event
 from dorydate.explain.past import Past
 from dorydate.explain.runs import Happened, kept_program, replay
 from dorydate.explain.telling import past_of

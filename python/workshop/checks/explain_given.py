@@ -2,7 +2,7 @@
 
 from __future__ import annotations
 
-from dorydate.explain.given import Input
+from dorydate.given import Input
 from dorydate.explain.runs import Happened, replay
 from dorydate.explain.telling import telling
 from dorydate.model.bits import spell_bits

@@ -11,7 +11,7 @@ from dorydate.model.chance.subnets import Chance
 from dorydate.explain import frames
 from dorydate.explain.charts import chart, short_chart
 from dorydate.explain.command import drawn
-from dorydate.explain.given import Input
+from dorydate.given import Input
 from dorydate.explain.inside import Inside, Told
 from dorydate.explain.runs import replay
 from dorydate.sentences.texts import text_in_words

@@ -6,7 +6,7 @@ import re
 
 from dorydate.explain.charts import chart, short_chart
 from dorydate.explain.command import drawn
-from dorydate.explain.given import Input
+from dorydate.given import Input
 from dorydate.explain.runs import lives, replay
 from workshop.checks.explain_given import events_of, example, same
 from workshop.checks.explain_rows import CHANGES, DIALOGUE

@@ -6,22 +6,22 @@ import random
 from collections.abc import Iterator
 
 from dorydate.model.packets import INFINITE, MOST_IMPS
-from dorydate.model.tables import Network
+from dorydate.model.tables import Exchange
 
 ROUNDS = 0, 1, 2, 7, 40, INFINITE, INFINITE + 1
 HEARD = None, 0, 5, INFINITE
 
 
-def networks() -> Iterator[Network]:
+def networks() -> Iterator[Exchange]:
     """The networks that are tried, each with what its ports have heard at first."""
     row = [(at, at + 1) for at in range(1, MOST_IMPS)]
     rings = [(at + 1, (at + step) % MOST_IMPS + 1) for step in (1, 2) for at in range(MOST_IMPS)]
     for heard in HEARD:
-        yield from (Network(MOST_IMPS, row, heard), Network(MOST_IMPS, rings, heard), Network(MOST_IMPS, [], heard))
+        yield from (Exchange(MOST_IMPS, row, heard), Exchange(MOST_IMPS, rings, heard), Exchange(MOST_IMPS, [], heard))
     for count in range(1, MOST_IMPS + 1):
         chance = random.Random(count)
         lines = [(chance.randint(1, count), chance.randint(1, count)) for _ in range(chance.randint(0, 2 * count))]
-        yield Network(count, [(a, b) for a, b in lines if a != b], chance.choice(HEARD))
+        yield Exchange(count, [(a, b) for a, b in lines if a != b], chance.choice(HEARD))
 
 
 def table_rows() -> tuple[list[str], list[str]]:

@@ -17,6 +17,7 @@ from __future__ import annotations
 import json
 import os
 import random
+import re
 import shutil
 import subprocess
 import sys
@@ -25,9 +26,12 @@ from typing import Any
 
 from dorydate.model.runs import opened
 from dorydate.model.script import read_event
-from dorydate.explain import topology
 from dorydate.explain.inside import Inside
+from dorydate.explain.topology import of_model
+from dorydate.explore.named import SEARCHES
+from dorydate.explore.pattern import read
 from dorydate.explain import faults
+from dorydate.network import Network
 from dorydate.model.subnet import Subnet
 from dorydate.model.trace_subnet import every_name, part
 from dorydate.model.trace_world import program_of
@@ -51,12 +55,12 @@ def states_of(text: bytes) -> list[dict[str, dict[str, Any] | None]] | None:
     """The parts of a subnet, and the programs of its hosts, after each event of an input, by the independent model; None for plain
     mailboxes and long calms."""
     head, _, script = text.decode().partition("\n%\n")
-    network = topology.read(head.encode())
+    network = Network.read(head)
     lines = [it for it in script.split("\n") if it and not it.startswith("#")]
     rounds = sum(int(it.split(" ")[1]) for it in lines if it.startswith("calm "))
-    if network.is_plain() or rounds > MOST_ROUNDS or len(network.topology.imps) > 16:
+    if network.carrier == "plain" or rounds > MOST_ROUNDS or len(network.imps) > 16:
         return None
-    place = opened(network.topology)
+    place = opened(of_model(network))
     subnet = getattr(place, "carrier", place)
     if not isinstance(subnet, Subnet):
         return None
@@ -81,12 +85,12 @@ def told_of_deeds() -> dict[str, dict[str, str]]:
             continue
         with open(f"{ROOT}/examples/{name}", "rb") as file:
             head, _, script = file.read().decode().partition("\n%\n")
-        network = topology.read(head.encode())
+        network = Network.read(head)
         lines = script.split("\n")
         rounds = sum(int(it.split(" ")[1]) for it in lines if it.startswith("calm "))
-        if network.raw or network.names or rounds > MOST_ROUNDS:
+        if network.raw or any(it.name for it in network.imps) or rounds > MOST_ROUNDS:
             continue
-        goes = Inside(network.topology)
+        goes = Inside(of_model(network))
         for number, line in enumerate(lines, 1):
             if line and not line.startswith("#"):
                 told = goes.happen(read_event(line, False))
@@ -129,6 +133,27 @@ def lines_by_chance(count: int) -> list[tuple[str, bool, bool]]:
     return found
 
 
+def patterns_by_chance(count: int) -> list[dict[str, object]]:
+    """Patterns over lines of examples that were shuffled or cut, and the names with which ./explore says that they match."""
+    chance = random.Random(80)
+    printed = []
+    for name in sorted(os.listdir(f"{ROOT}/examples")):
+        if name.endswith(".stdout"):
+            with open(f"{ROOT}/examples/{name}", encoding="utf-8") as file:
+                printed.append([it for it in file.read().split("\n") if re.match("(?:out|in|answer|up|down|refused|ready|life) ", it)])
+    patterns = [it.pattern for it in SEARCHES.values() if not read(it.pattern).needs_trace()]
+    patterns += ["in A B N .. then in A B N ..", "out A B N K then not in A B N K then out A B N M where K < M", "answer _ A B N and in B A M ..", "up A then not down A"]
+    found: list[dict[str, object]] = []
+    for _ in range(count):
+        lines = chance.choice(printed)
+        at = chance.randrange(len(lines) + 1)
+        lines = [*lines[at : at + 14], *chance.sample(lines, min(3, len(lines)))]
+        last = lines[: chance.randrange(4)]
+        pattern = chance.choice(patterns)
+        found.append({"pattern": pattern, "lines": lines, "last": last, "names": read(pattern).match(lines, last)})
+    return found
+
+
 def check_types() -> None:
     command = shutil.which("tsc")
     if not command:
@@ -149,7 +174,7 @@ def fastest(program: str) -> str:
 def check_modules(command: str, program: str) -> None:
     """The tests in Node, with the states of the independent model in a file."""
     with tempfile.NamedTemporaryFile("w", suffix=".json") as states:
-        json.dump({"states": model_states(), "lines": lines_by_chance(4000), "deeds": told_of_deeds()}, states)
+        json.dump({"states": model_states(), "lines": lines_by_chance(4000), "deeds": told_of_deeds(), "patterns": patterns_by_chance(400)}, states)
         states.flush()
         folder = f"{ROOT}/web/workbench/tests"
         tests = [f"{folder}/{it}" for it in sorted(os.listdir(folder)) if it.endswith(".test.js")]

@@ -12,6 +12,8 @@ import os
 from workshop.parts import ROOT, text_of
 
 PAGE, NOTEBOOK = f"{ROOT}/docs/python.md", f"{ROOT}/docs/experiment.ipynb"
+MAP = f"{ROOT}/docs/pictures/replay.svg"
+SHOWS = "In a notebook a replay shows itself as a map."
 BEGINS, ENDS = "## A tutorial\n", "## The explorer\n"
 HEAD = "# An experiment\n\nThe tutorial of [Experiments in Python](python.md). Start Jupyter with `PYTHONPATH=python`, or install the package first: `pip install ./python`."
 Cell = dict[str, object]
@@ -34,6 +36,12 @@ def code(source: str, printed: str) -> Cell:
     return {"cell_type": "code", "execution_count": None, "metadata": {}, "source": lines_of(source), "outputs": [output] if printed else []}
 
 
+def map_of_net() -> Cell:
+    """A cell that shows the replay of the tutorial. What it shows is kept as a picture, which a test compares with the replay."""
+    shown: Cell = {"output_type": "execute_result", "execution_count": None, "metadata": {}, "data": {"image/svg+xml": lines_of(text_of(MAP))}}
+    return {"cell_type": "code", "execution_count": None, "metadata": {}, "source": ["net"], "outputs": [shown]}
+
+
 def tutorial() -> str:
     """The section of the page."""
     return text_of(PAGE).split(BEGINS, 1)[1].split(ENDS, 1)[0]
@@ -45,7 +53,8 @@ def cells() -> list[Cell]:
     for part in doctest.DocTestParser().parse(tutorial()):
         if isinstance(part, str):
             if part.strip() and not waiting:
-                found.append(prose(part.strip()))
+                before, *after = part.strip().partition(SHOWS)
+                found += [prose(before + after[0]), *([map_of_net(), prose(after[1].strip())] if after[0] else [])]
             continue
         waiting += part.source
         if part.want:

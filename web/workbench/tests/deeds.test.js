@@ -37,10 +37,9 @@ test("the letters of LOGIN are typed, by the names of the sites", async () => {
     assert(said.some((it) => it.startsWith("SRI's user grants 10 messages and 80 bits on socket 16")), said.join("\n"));
 });
 
-test("what becomes of bits is told: not open, no grant, in part, a message without its answer", async () => {
+test("what becomes of bits is told: no grant, in part, a message without its answer", async () => {
     const open = ["calm 2", "contact 0/1 0/2", "calm 6", "listen 0/2 16 8", "opensend 0/1 0/2 33 16 8"];
     const rows = /** @type {[string[], string][]} */ ([
-        [[], "The connection isn't open yet, so they wait."],
         [["calm 6"], "No grant allows them yet: 0 messages and 0 bits are left of it."],
         [["calm 6", "grant 0/2 16 2 20", "calm 3"], "The grant allows 16 bits of them, which go out when host 0/1 offers."],
         [["calm 6", "grant 0/2 16 9 99", "calm 3"], "A grant allows them, and they go out when host 0/1 offers."],

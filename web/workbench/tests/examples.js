@@ -12,10 +12,12 @@ import { isReplay, replay } from "../runs.js";
 const root = new URL("../../../", import.meta.url).pathname;
 
 /** The path of the program, as `./check workbench` gives it, or of a module (FILE.wasm). */
-const program = process.env.ARPASIM ?? "";
-if (!program) throw new Error("ARPASIM has to be the path of the program: ./check workbench gives it");
+const path = process.env.ARPASIM ?? "";
+if (!path) throw new Error("ARPASIM has to be the path of the program: ./check workbench gives it");
 
-export const { run } = program.endsWith(".wasm") ? moduleRunner(program) : nativeRunner(program);
+export const program = path.endsWith(".wasm") ? moduleRunner(path) : nativeRunner(path);
+
+export const { run } = program;
 
 /** Time for a program that was built without proofs. */
 export const PATIENT = { seconds: 120, octets: 40_000_000 };

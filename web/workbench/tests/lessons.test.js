@@ -3,9 +3,10 @@
 import assert from "node:assert/strict";
 import { test } from "node:test";
 
+import { INTRODUCTIONS } from "../introductions.js";
 import { arranged, opened, withQuestions } from "../lessons.js";
 import { QUESTIONS } from "../questions.js";
-import { notesOf, readInput } from "../script.js";
+import { headComment, notesOf, readInput } from "../script.js";
 import { exampleNames, exampleText, historyOf, historyOfText, twoImps } from "./examples.js";
 
 const REFUSED = ["a-bad-line", "an-unknown-event"];
@@ -29,11 +30,22 @@ test("questions and answers are comments before their line", () => {
 test("each example is in one group, and each that runs has a question", () => {
     const names = exampleNames();
     const lessons = arranged(names.map(given));
-    assert.deepEqual(lessons.map((it) => it.name).sort(), [...names].sort());
+    const own = lessons.filter((it) => !it.name.startsWith("exercise-"));
+    assert.deepEqual(own.map((it) => it.name).sort(), [...names].sort());
     assert.deepEqual(lessons.slice(0, 2).map((it) => it.name), ["first-message", "a-message-given-up"]);
     assert.deepEqual(lessons.filter((it) => it.group === "What is refused").map((it) => it.name).sort(), REFUSED);
     assert.deepEqual(names.filter((name) => !QUESTIONS[name]), REFUSED);
     assert.deepEqual(Object.keys(QUESTIONS).filter((name) => !names.includes(name)), []);
+});
+
+test("each lesson says what it is about before its first step, in a few words", () => {
+    for (const { name, text } of arranged(exampleNames().map(given))) {
+        const introduction = headComment(readInput(text));
+        assert(introduction.length > 40 && !UNPLAIN.test(INTRODUCTIONS[name] ?? ""), `${name}: ${introduction}`);
+    }
+    for (const [name, text] of Object.entries(INTRODUCTIONS)) {
+        assert(exampleNames().includes(name) && /[.?]$/.test(text) && text.length < 200, name);
+    }
 });
 
 test("an example with which a page opens has its questions, and another input is as it is", () => {

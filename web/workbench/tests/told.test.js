@@ -116,5 +116,5 @@ test("an IMP that sends over another line says to where", async () => {
     );
     const said = history.replay.moments.map((_, at) => sentenceOf(history, at));
     const over = said.filter((it) => /It now sends/.test(it));
-    assert(over.length > 0 && over.every((it) => /to IMP \d by way of IMP \d\.$/.test(it)), over.join("\n"));
+    assert(over.length > 0 && over.every((it) => /to IMP \d.* by way of IMP \d\.$/.test(it)), over.join("\n"));
 });

@@ -27,6 +27,7 @@ import { legendSign } from "./map.js";
 export const TABS = /** @type {[string, string][]} */ ([
     ["script", "Script"],
     ["waits", "Waits"],
+    ["next", "Possible"],
     ["distances", "Distances"],
     ["inside", "Inside"],
     ["hosts", "Hosts"],

@@ -1,7 +1,8 @@
 /** The index of all lessons with their questions: to choose from, and for paper. */
 
+import { glossary } from "../glossary.js";
 import { headComment, notesOf, readInput } from "../script.js";
-import { byId, h, set } from "./dom.js";
+import { byId, h, sayWithCode, set } from "./dom.js";
 
 /** @typedef {import("../app.js").Example} Example */
 
@@ -34,7 +35,7 @@ export class Index {
     }
 
     open() {
-        if (!this.list.firstChild) this.list.replaceChildren(...this.groups((it) => this.button(it)));
+        if (!this.list.firstChild) this.list.replaceChildren(this.words(), ...this.groups((it) => this.button(it)));
         if (!this.dialog.open) this.dialog.showModal();
     }
 
@@ -55,6 +56,16 @@ export class Index {
         });
     }
 
+    /** The words of scripts, for who meets them for the first time. */
+    words() {
+        const rows = glossary().map(([word, meaning]) => {
+            const told = h("dd");
+            sayWithCode(told, meaning);
+            return h("div", {}, h("dt", {}, word), told);
+        });
+        return h("section", { class: "words" }, h("h3", {}, "Words"), h("dl", {}, ...rows));
+    }
+
     /** @param {Example} example */
     button(example) {
         const choose = () => {
@@ -69,7 +80,7 @@ export class Index {
     forPaper() {
         const answers = this.dialog.classList.contains("with-answers") ? "with-answers" : "";
         const groups = this.groups((it) => h("b", {}, it.title));
-        return h("div", { class: `lessons ${answers}` }, h("h1", {}, "Dorydate: all lessons"), ...groups);
+        return h("div", { class: `lessons ${answers}` }, h("h1", {}, "Dorydate: all lessons"), this.words(), ...groups);
     }
 }
 

@@ -41,6 +41,7 @@ function deeds(bench, isButton) {
         h: () => bench.hide(),
         c: () => void bench.change(["calm 1"], "A round passes"),
         r: () => bench.goToRefusal(),
+        m: () => bench.wholeMap(),
         "/": () => byId("find").focus(),
         ...(isButton ? {} : { " ": () => bench.player.toggle() }),
     };
@@ -111,12 +112,13 @@ class MapKeys {
         const at = parts.indexOf(/** @type {SVGElement} */ (document.activeElement));
         const by = FORTH[event.key];
         const opens = at >= 0 && (event.key === "Enter" || event.key === " ");
-        if (!parts.length || (!by && !opens && event.key !== "Enter")) return;
+        if (event.shiftKey || !parts.length || (!by && !opens && event.key !== "Enter")) return;
         event.preventDefault();
         event.stopPropagation();
         if (opens) return this.bench.taps.openMenu(JSON.parse(parts[at].dataset.what ?? "{}"), parts[at]);
         const last = Math.min(this.focused, parts.length - 1);
         this.focused = by && at >= 0 ? (at + by + parts.length) % parts.length : last;
         parts[this.focused]?.focus();
+        if (parts[this.focused]) this.bench.map?.bring(parts[this.focused]);
     }
 }

@@ -3,7 +3,8 @@
 import { partTitle } from "../choices.js";
 import { leaving, placed } from "../layout.js";
 import { FAR } from "../state.js";
-import { impOf, siteName, wayOf } from "../topology.js";
+import { impOf, machineOf, siteName, wayOf } from "../topology.js";
+import { readable, Viewport } from "../viewport.js";
 import { keep, s, say, set } from "./dom.js";
 
 /** @typedef {import("../topology.js").Network} Network */
@@ -25,6 +26,9 @@ import { keep, s, say, set } from "./dom.js";
  * @property {number} count how many are drawn that way
  * @property {number} more how many are not, of the last one that is
  */
+
+/** The height of letters in a map of few IMPs, in one of many, and of its details there; and the least in pixels. */
+const [LETTERS, SMALL_LETTERS, DETAIL_LETTERS, LEAST_LETTERS] = [10, 8.5, 4.6, 9.5];
 
 const MOST_FRAMES = 7;
 const MOST_ARCS = 6;
@@ -49,13 +53,16 @@ export class MapView {
         this.tap = tap;
         this.layout = placed(network);
         const { width, height } = this.layout;
-        set(
-            svg,
-            {
-                viewBox: `0 0 ${Math.max(width, 200).toFixed(1)} ${Math.max(height, 120).toFixed(1)}`,
-                "data-small": this.layout.small,
-            },
+        this.port = new Viewport(
+            { width: Math.max(width, 200), height: Math.max(height, 120) },
+            this.layout.small ? 18 : 0,
         );
+        set(svg, { "data-small": this.layout.small });
+        /** @type {Scene | null} */
+        this.scene = null;
+        this.factor = 1; // by how much signs and labels are larger than they are drawn, so that they can be read
+        const { outline } = this.layout;
+        this.land = s("path", { class: "land", d: outline.length ? `M${outline.map(spelled).join("L")}Z` : "" });
         this.arcs = s("g", { class: "arcs" });
         this.spokes = s("g", { class: "spokes" });
         this.lines = s("g", { class: "lines" });
@@ -63,10 +70,141 @@ export class MapView {
         this.frames = s("g", { class: "frames" });
         this.imps = s("g", { class: "imps" });
         this.hosts = s("g", { class: "hosts" });
-        svg.replaceChildren(hatch(), this.arcs, this.spokes, this.lines, this.ways, this.frames, this.imps, this.hosts);
+        svg.replaceChildren(hatch(), this.land, this.arcs, this.spokes, this.lines, this.ways, this.imps, this.hosts, this.frames);
         this.drawLines();
         this.drawImps();
         this.drawHosts();
+        this.see();
+    }
+
+    /** Shows the part of the map that is looked at, with labels that can be read. */
+    see() {
+        const box = this.svg.getBoundingClientRect();
+        this.port.resize(box.width, box.height);
+        const { x, y, width: w, height: h } = this.port.view;
+        set(this.svg, { viewBox: [x, y, w, h].map((it) => it.toFixed(1)).join(" ") });
+        const { scale } = this.port;
+        const letters = (this.layout.small ? SMALL_LETTERS : LETTERS) * scale;
+        this.factor = box.width ? Math.max(1, LEAST_LETTERS / letters) : 1;
+        this.svg.classList.toggle("far", this.factor > 1.02);
+        this.svg.classList.toggle("near", this.layout.small && DETAIL_LETTERS * scale >= LEAST_LETTERS);
+        this.svg.style.setProperty("--wide", String(Math.max(1, 0.7 / scale)));
+        this.fold();
+        if (this.scene) this.updateFrames(this.scene);
+    }
+
+    /** At a distance, leaves out labels for which there is no room, and hosts of which nothing is to be seen. */
+    fold() {
+        const { factor } = this;
+        const letters = (this.layout.small ? SMALL_LETTERS : LETTERS) * this.port.scale * factor;
+        const shown = factor > 1.02
+            ? readable(
+                this.network.sites.map(({ number, name }, place) => ({
+                    at: this.imp(number),
+                    width: 0.62 * letters * (name || String(number)).length + 8,
+                    weight: this.weight(number, name, this.imps.children[place]),
+                })),
+                this.port.scale,
+                letters + 6,
+            )
+            : this.network.sites.map(() => true);
+        this.network.sites.forEach(({ number }, place) => {
+            const { x, y } = this.imp(number);
+            const by = shown[place] ? factor : Math.min(factor, 1.25);
+            const element = this.imps.children[place];
+            element.classList.toggle("folded", !shown[place]);
+            set(element, {
+                transform: by > 1.02 ? `translate(${x} ${y}) scale(${by.toFixed(3)}) translate(${-x} ${-y})` : null,
+            });
+        });
+        this.network.hosts.forEach((host, place) => {
+            const element = this.hosts.children[place];
+            const isQuiet = !element.classList.contains("down") && !element.querySelector(".badge.shown");
+            const isFolded = this.layout.small && factor > 1.02 && isQuiet && !this.isBusy(host);
+            element.classList.toggle("folded", isFolded);
+            this.spokes.children[place].classList.toggle("folded", isFolded);
+        });
+    }
+
+    /**
+     * How much the label of an IMP matters at a distance.
+     *
+     * @param {number} number
+     * @param {string} name
+     * @param {Element} element
+     */
+    weight(number, name, element) {
+        const has = (/** @type {string} */ it) => element.classList.contains(it);
+        const ofBusy = this.scene ? this.busyImps().has(number) : false;
+        return (has("chosen") ? 16 : 0) + (has("down") ? 8 : 0) + (ofBusy ? 4 : 0) + (name ? 2 : 0)
+            + (element.querySelector(".badge.shown") ? 1 : 0);
+    }
+
+    /** The IMPs of hosts that have a message without an answer. */
+    busyImps() {
+        const flows = [...(this.scene?.talk.messages.keys() ?? [])];
+        return new Set(flows.flatMap((flow) => flow.split(" ").slice(0, 2).map(impOf)));
+    }
+
+    /**
+     * Whether a host has sent a message that has no answer, or one is for it.
+     *
+     * @param {string} host
+     */
+    isBusy(host) {
+        return [...(this.scene?.talk.messages.keys() ?? [])].some((flow) => flow.split(" ").slice(0, 2).includes(host));
+    }
+
+    /**
+     * Zooms at a point of the page.
+     *
+     * @param {number} factor
+     * @param {number} [x]
+     * @param {number} [y]
+     */
+    zoom(factor, x, y) {
+        this.port.zoom(factor, x === undefined || y === undefined ? undefined : this.pointAt(x, y));
+        this.see();
+    }
+
+    /**
+     * @param {number} dx
+     * @param {number} dy
+     */
+    pan(dx, dy) {
+        this.port.pan(dx, dy);
+        this.see();
+    }
+
+    fit() {
+        this.port.fit();
+        this.see();
+    }
+
+    /**
+     * Brings a part into sight.
+     *
+     * @param {SVGElement} part
+     */
+    bring(part) {
+        const box = part.getBoundingClientRect();
+        this.port.show(this.pointAt(box.x + box.width / 2, box.y + box.height / 2));
+        this.see();
+    }
+
+    /**
+     * A point of the page as one of the map.
+     *
+     * @param {number} x
+     * @param {number} y
+     */
+    pointAt(x, y) {
+        const box = this.svg.getBoundingClientRect();
+        const { view, scale } = this.port;
+        return {
+            x: view.x + view.width / 2 + (x - box.x - box.width / 2) / scale,
+            y: view.y + view.height / 2 + (y - box.y - box.height / 2) / scale,
+        };
     }
 
     /**
@@ -119,7 +257,7 @@ export class MapView {
             const crosses = [a, b].map((end) => cross(between(end, middle, 0.55), this.layout.small ? 3 : 5));
             const hit = s("line", { class: "hit", x1: a.x, y1: a.y, x2: b.x, y2: b.y });
             const label = this.layout.small
-                ? []
+                ? [s("text", { class: "detail", x: middle.x, y: middle.y + 2 }, String(line))]
                 : [
                     s("rect", { class: "plate", x: middle.x - 7, y: middle.y - 7, width: 14, height: 14, rx: 3 }),
                     s("text", { class: "number", x: middle.x, y: middle.y + 3.5 }, String(line)),
@@ -167,7 +305,11 @@ export class MapView {
                 s("circle", { class: "disc", cx: x, cy: y, r: radius }),
                 s("path", { class: "crossed", d: crossPath(x, y, radius * 0.6) }),
             ];
-            if (!small) parts.push(s("text", { class: "name", x, y: y + 3.5 }, host));
+            parts.push(
+                small
+                    ? s("text", { class: "detail", x, y: y + 2 }, host)
+                    : s("text", { class: "name", x, y: y + 3.5 }, host),
+            );
             parts.push(badge(x + radius * 0.86, y - radius * 0.98, small ? 5 : 7.5));
             this.hosts.append(this.part({ kind: "host", host }, `host ${host}`, parts));
         }
@@ -199,11 +341,13 @@ export class MapView {
      * @param {Scene} scene
      */
     draw(scene) {
+        this.scene = scene;
         this.updateLines(scene);
         this.updateImps(scene);
         this.updateHosts(scene);
         this.updateArcs(scene);
         this.updateWays(scene);
+        if (this.factor > 1.02) this.fold();
         this.updateFrames(scene);
     }
 
@@ -266,7 +410,8 @@ export class MapView {
             const box = state.box(host);
             const waits = box ? box.messages.length + box.answers.length : 0;
             updateBadge(element, waits);
-            label(element, `Host ${host}${isUp ? "" : ", down"}${waits ? `, ${waits} wait for it` : ""}`);
+            const machine = machineOf(this.network, host);
+            label(element, `Host ${host}${machine ? `, ${machine}` : ""}${isUp ? "" : ", down"}${waits ? `, ${waits} wait for it` : ""}`);
         });
     }
 
@@ -382,14 +527,15 @@ export class MapView {
         const [a, b] = this.ends(line);
         const [from, to] = way === "+" ? [a, b] : [b, a];
         const length = Math.hypot(to.x - from.x, to.y - from.y) || 1;
-        const gap = Math.min(this.layout.small ? 11 : 17, (0.9 * length) / Math.max(count, 1));
+        const { factor } = this;
+        const gap = Math.min(factor * (this.layout.small ? 11 : 17), (0.9 * length) / Math.max(count, 1));
         const along = Math.max(0.06 * length, length / 2 + gap * ((count - 1) / 2 - place));
-        const side = this.layout.small ? 6 : 11;
+        const side = factor * (this.layout.small ? 6 : 11);
         const x = from.x + ((to.x - from.x) * along) / length - (side * (to.y - from.y)) / length;
         const y = from.y + ((to.y - from.y) * along) / length + (side * (to.x - from.x)) / length;
         const angle = (Math.atan2(to.y - from.y, to.x - from.x) * 180) / Math.PI;
         const kind = frame.packet ? frame.packet.kind : frame.routes ? "routes" : "ack";
-        const scale = this.layout.small ? 0.6 : 1;
+        const scale = factor * (this.layout.small ? 0.6 : 1);
         set(
             element,
             {
@@ -414,18 +560,21 @@ export class MapView {
      * @param {number} line
      * @param {number} from
      * @param {Frame} frame
+     * @param {number} [duration] in milliseconds
+     * @param {number} [delay]
      */
-    travel(line, from, frame) {
+    travel(line, from, frame, duration = 420, delay = 0) {
         const [a, b] = this.ends(line);
         const [start, end] = this.network.lines[line][0] === from ? [a, b] : [b, a];
         const kind = frame.packet ? frame.packet.kind : frame.routes ? "routes" : "ack";
         const angle = (Math.atan2(end.y - start.y, end.x - start.x) * 180) / Math.PI;
-        const turn = kind === "data" || kind === "routes" ? `rotate(${angle}) scale(1.25)` : "scale(1.25)";
+        const size = (1.25 * this.factor * (this.layout.small ? 0.6 : 1)).toFixed(2);
+        const turn = kind === "data" || kind === "routes" ? `rotate(${angle}) scale(${size})` : `scale(${size})`;
         const ghost = s(
             "g",
             { class: `ghost frame ${kind}`, "aria-hidden": "true" },
             s("path", { class: "sign", d: SIGNS[kind], transform: turn }),
-            s("path", { class: "stroke", d: STROKES[kind] ?? "" }),
+            s("path", { class: "stroke", d: STROKES[kind] ?? "", transform: `scale(${size})` }),
         );
         this.svg.append(ghost);
         const moved = ghost.animate(
@@ -433,7 +582,7 @@ export class MapView {
                 { transform: `translate(${start.x}px, ${start.y}px)` },
                 { transform: `translate(${end.x}px, ${end.y}px)` },
             ],
-            { duration: 420, easing: "ease-in-out" },
+            { duration, delay, easing: "ease-in-out", fill: "backwards" },
         );
         moved.onfinish = () => ghost.remove();
         moved.oncancel = () => ghost.remove();
@@ -503,6 +652,11 @@ export function legendSign(kind) {
         s("path", { class: "sign", d: SIGNS[kind] }),
         s("path", { class: "stroke", d: STROKES[kind] ?? "" }),
     );
+}
+
+/** @param {Point} point */
+function spelled({ x, y }) {
+    return `${x.toFixed(1)} ${y.toFixed(1)}`;
 }
 
 /**

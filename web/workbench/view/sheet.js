@@ -2,6 +2,7 @@
 
 import { rowsOf, seen } from "../sheet.js";
 import { hostName, impOf } from "../topology.js";
+import { wordOf } from "../glossary.js";
 import { keep, s, say, set, h } from "./dom.js";
 
 /** @typedef {import("../fold.js").History} History */
@@ -26,7 +27,7 @@ export class SheetView {
     constructor(element, go) {
         this.go = go;
         this.heads = h("div", { class: "heads" });
-        this.rows = h("div", { class: "rows" });
+        this.rows = h("div", { class: "rows", role: "list", "aria-label": "script" });
         this.svg = s("svg", { class: "chart", "aria-hidden": "true" });
         this.body = h("div", { class: "sheet-body" }, this.rows, this.svg);
         this.scroller = h(
@@ -90,7 +91,7 @@ export class SheetView {
             ({ row }) => this.makeRow(row),
             (element, { row, place }) => {
                 element.dataset.place = String(place);
-                element.className = `row ${row.kind}`;
+                element.className = `row ${row.kind} ${row.stop >= 0 || row.steps ? "goal" : ""}`;
                 element.classList.toggle("refused", row.refused);
                 element.classList.toggle("added", row.kind === "event" && sheet.added.has(row.line));
                 const head = element.querySelector(".steps");
@@ -105,14 +106,14 @@ export class SheetView {
      */
     makeRow(row) {
         const isGoal = row.kind === "event" || row.kind === "stop";
-        const text = h("span", { class: "text" }, row.text);
+        const meant = isGoal ? wordOf(row.text) : "";
+        const text = isGoal
+            ? h("button", { class: "text", type: "button", tabindex: -1, title: meant || null }, row.text)
+            : h("span", { class: "text" }, row.text);
         if (row.steps) text.append(h("small", { class: "steps" }));
-        const element = h(
-            isGoal ? "button" : "div",
-            { class: "row", tabindex: isGoal ? -1 : null },
-            h("span", { class: "number" }, row.number),
-            text,
-        );
+        const number = h("span", { class: "number" }, row.number);
+        const element = h("div", { class: "row", role: "listitem" }, number, text);
+        if (row.refused) element.append(h("span", { class: "heard" }, "refused"));
         if (isGoal) {
             element.addEventListener("click", () => {
                 const it = this.list[Number(element.dataset.place)];

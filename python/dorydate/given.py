@@ -43,4 +43,9 @@ def shown(line: bytes, most: int | None = SHOWN) -> str:
     """A line of the file as it can be printed, its middle left out where it has more than `most` characters."""
     text = line.decode("utf-8", "backslashreplace")
     text = "".join(it if it.isprintable() else it.encode("unicode_escape").decode() for it in text)
-    return text if most is None or len(text) <= most else f"{text[: most - 12]} .. {text[-8:]}"
+    return text if most is None else short(text, most)
+
+
+def short(text: str, most: int = SHOWN) -> str:
+    """A text, its middle left out where it has more than `most` characters."""
+    return text if len(text) <= most else f"{text[: most - 12]} .. {text[-8:]}"

@@ -1,0 +1,90 @@
+"""docs/reference.md: each public name of the package, with its parts, made of their docstrings, which have examples.
+
+The tests in python/tests/test_reference.py run every example. `./check docs` compares the page with what is made.
+"""
+
+from __future__ import annotations
+
+import doctest
+import inspect
+import os
+import re
+from collections.abc import Iterator
+from typing import Any
+
+import dorydate
+from workshop.parts import ROOT, text_of
+
+PAGE = f"{ROOT}/docs/reference.md"
+BEGINNING = """two = Network.joined("UCLA-SRI", raw=True)  # its hosts have no programs
+net = Replay(two)
+net.calm(2)  # each IMP knows the way to the other
+pair = Network.joined("UCLA-SRI")
+world = Replay(pair)
+world.session("UCLA", "SRI")
+"""
+HEAD = f"""<!-- made by python/workshop/documents/reference.py: ./check docs --write -->
+# The package in Python: reference
+
+[Experiments in Python](python.md) has a tutorial. Here are the public names, and what each can do. The examples begin with these lines:
+
+```python
+from dorydate import *
+
+{BEGINNING}```
+"""
+NAMES = "Network Host Imp Line Replay Deed Step State Script Event Flow Text Program BadNetwork BadLine Stopped NoProgram".split()  # in the page's order
+CALLER = {"Replay": "net"}  # the name of an instance in a signature; of others their own in small letters
+
+
+def members(kind: type) -> dict[str, Any]:
+    """The public calls and properties that a class defines itself."""
+    return {name: it for name, it in vars(kind).items() if not name.startswith("_") and isinstance(it, (property, staticmethod)) or inspect.isfunction(it) and not name.startswith("_")}
+
+
+def spelled(kind: str, name: str, member: Any) -> str:
+    """How a member is written in a program."""
+    if isinstance(member, property):
+        return f"{CALLER.get(kind, kind.lower())}.{name}"
+    call = member.__func__ if isinstance(member, staticmethod) else member
+    words = [str(it.replace(annotation=inspect.Parameter.empty)) for it in inspect.signature(call).parameters.values() if it.name not in ("self", "why")]
+    of = kind if isinstance(member, staticmethod) else CALLER.get(kind, kind.lower())
+    return f"{of}.{name}({', '.join(words)})"
+
+
+def sections(doc: str) -> Iterator[str]:
+    """The paragraphs of a docstring, its examples as blocks of code."""
+    for part in doctest.DocTestParser().parse(inspect.cleandoc(doc)):
+        if isinstance(part, str):
+            yield from (re.sub(r"\s*\n\s*", " ", it.strip()) for it in part.split("\n\n") if it.strip())
+            continue
+        first, *more = part.source.rstrip("\n").split("\n")
+        shown = "\n".join([f">>> {first}", *(f"... {it}" for it in more), *part.want.rstrip("\n").split("\n")]).rstrip()
+        yield f"```python\n{shown}\n```"
+
+
+def documented(heading: str, doc: str) -> str:
+    """A name with its docstring; examples that follow one another are one block."""
+    return "\n\n".join([heading, *sections(doc)]).replace("\n```\n\n```python\n", "\n") + "\n"
+
+
+def made() -> str:
+    """The page."""
+    parts = [HEAD]
+    for name in NAMES:
+        kind = getattr(dorydate, name)
+        parts.append(documented(f"## {name}", kind.__doc__ or ""))
+        parts += [documented(f"### `{spelled(name, part, it)}`", it.__doc__ or "") for part, it in members(kind).items()]
+    return "\n".join(parts)
+
+
+def write() -> None:
+    text = made()
+    with open(PAGE, "w", encoding="utf-8") as file:
+        file.write(text)
+
+
+def faults() -> list[str]:
+    """Whether the page is as it is made."""
+    is_made = os.path.exists(PAGE) and text_of(PAGE) == made()
+    return [] if is_made else ["docs/reference.md: not as it is made (./check docs --write)"]

@@ -1,0 +1,65 @@
+/** Patterns, by rows and as ./explore reads them; and searches by them. */
+
+import assert from "node:assert/strict";
+import { readFileSync } from "node:fs";
+import { test } from "node:test";
+
+import { chance } from "../../check/chance.js";
+import { BadPattern, match, readPattern } from "../pattern.js";
+import { find, headOf, matching, searches } from "../schedules.js";
+import { readTopology } from "../topology.js";
+import { program } from "./examples.js";
+
+/** @type {{pattern: string, lines: string[], last: string[], names: {[name: string]: string} | null}[]} */
+const told = process.env.STATES ? JSON.parse(readFileSync(process.env.STATES, "utf8")).patterns ?? [] : [];
+
+test("patterns match as they say", () => {
+    const taken = ["out 0/1 0/2 5 8", "in 0/1 0/2 5 8", "answer incomplete 0/1 0/2 5"];
+    const rows = /** @type {[string, string[], boolean][]} */ ([
+        ["in A B N ..", taken, true],
+        ["in A B N", taken, false],
+        ["in A B N .. then answer incomplete A B N", taken, true],
+        ["in A B N .. then answer incomplete B A N", taken, false],
+        ["answer _ A B N then in A B N ..", taken, false],
+        ["out A .. then not in .. then answer .. A B N", taken, false],
+        ["out A .. then answer incomplete ..", taken, true],
+        ["in A B .. then not answer ..", taken, false],
+        ["in A B .. then not refused ..", taken, true],
+        ["in A B N M where N < M", taken, true],
+        ["in A B N M where M < N", taken, false],
+        ["in A B .. where A != B", taken, true],
+        ["in A .. and answer incomplete A ..", taken, true],
+    ]);
+    for (const [pattern, lines, isMatch] of rows) {
+        assert.equal(match(readPattern(pattern), lines) !== null, isMatch, pattern);
+    }
+    const calm = readPattern("calm 5: no ready, 2 lines");
+    assert(match(calm, [], ["up 0/1", "down 0/1"]) && !match(calm, [], ["up 0/1"]) && !match(calm, [], ["up 0/1", "ready 0/1"]));
+    for (const bad of ["", "not in A", "In A", "in A where A", "calm 5: some", "noted never A"]) {
+        assert.throws(() => readPattern(bad), BadPattern);
+    }
+});
+
+test("patterns match where ./explore says so, with its names", () => {
+    for (const { pattern, lines, last, names } of told) {
+        const found = match(readPattern(pattern), lines, last);
+        assert.equal(found !== null, names !== null, `${pattern}\n${lines.join("\n")}`);
+    }
+    assert(!process.env.STATES || told.length > 100);
+});
+
+test("a search by name finds a short script, and what is left of it is needed", async () => {
+    for (const name of ["taken-and-incomplete", "resets-in-step"]) {
+        const search = searches().find((it) => it.name === name);
+        assert(search, name);
+        const head = headOf(search.network);
+        const network = readTopology(head.join("\n"));
+        const how = { seconds: 100, isOver: () => false, tell: () => {} };
+        const { script, count } = await find(program.batch, head, network, search.pattern, chance(3), how);
+        assert(script && script.length < 14, `${name}: ${count} schedules, ${script}`);
+        const pattern = readPattern(search.pattern);
+        assert.deepEqual(await matching(program.batch, head, pattern, [script]), [true]);
+        const without = script.map((_, at) => script.filter((_, place) => place !== at));
+        assert(!(await matching(program.batch, head, pattern, without)).includes(true), `${name}: ${script}`);
+    }
+});
