@@ -103,7 +103,8 @@ module _ (strange : Host → Bool) where
         (message_taken m.flow.source stamp m.flow.link.0 m.text (turn_of s m.flow.source)) else (s, [])).0
         ≡ record (without_strangers strange s) {
           listening = (if b then after_turn s m.flow.source
-              (message_taken m.flow.source stamp m.flow.link.0 m.text (turn_of s m.flow.source)) else (s, [])).0.listening;
+              (message_taken m.flow.source stamp m.flow.link.0 m.text (turn_of s m.flow.source))
+              else (s, [])).0.listening;
         }
     by true = after_aside s m.flow.source
         (message_taken m.flow.source stamp m.flow.link.0 m.text (turn_of s m.flow.source)) on

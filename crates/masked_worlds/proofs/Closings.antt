@@ -155,7 +155,8 @@ module _ (hosts : List Host) (h : Host) (now : List Listener) (moments : List Mo
       (are_closed before (λ k on. within k (later_on l before k on))) where
         by : (b : Bool) → (listens_on l.socket before || listens_on l.socket now) ≡ b
             → AreClosed hosts h before now (stopped before now) moments
-            → AreClosed hosts h (l ∷ before) now (if b then stopped before now else l.socket ∷ stopped before now) moments
+            → AreClosed hosts h (l ∷ before) now
+            (if b then stopped before now else l.socket ∷ stopped before now) moments
         by true e older = record {
           program = older.program
               ∙ ap (λ (ls : List Listener). record (program h moments) { listening = ls })

@@ -166,8 +166,8 @@ module _ (strange : Host → Bool) where
         by : (b : Bool) → is_among strange x ≡ b
             → beside_among strange lives (fates_where test change lives fates) ≡ fates_where test change
             (lives_among strange lives) (beside_among strange lives fates)
-            → beside_among strange (x ∷ lives) (fates_where test change (x ∷ lives) (f ∷ fates)) ≡ fates_where test change
-            (lives_among strange (x ∷ lives)) (beside_among strange (x ∷ lives) (f ∷ fates))
+            → beside_among strange (x ∷ lives) (fates_where test change (x ∷ lives) (f ∷ fates)) ≡
+            fates_where test change (lives_among strange (x ∷ lives)) (beside_among strange (x ∷ lives) (f ∷ fates))
         by true e rest = rw e (ap (λ (ys : List Fate). (if test x then change f else f) ∷ ys) rest)
         by false e rest = rw e rest
 
@@ -179,8 +179,8 @@ module _ (strange : Host → Bool) where
   beside_more (x ∷ lives) [] y a e is = absurd (cc)
   beside_more {A = A} (x ∷ lives) (b ∷ others) y a e is = by (is_among strange x)
       (beside_more lives others y a (let r : length others ≡ length lives = cc in r) is) where
-        by : (c : Bool) → beside_among strange (lives ++ y ∷ []) (others ++ a ∷ []) ≡ beside_among strange lives others ++
-            a ∷ []
+        by : (c : Bool) → beside_among strange (lives ++ y ∷ []) (others ++ a ∷ []) ≡
+            beside_among strange lives others ++ a ∷ []
             →
             (if c then b ∷ beside_among strange (lives ++ y ∷ []) (others ++ a ∷ []) else beside_among strange
             (lives ++ y ∷ []) (others ++ a ∷ [])) ≡

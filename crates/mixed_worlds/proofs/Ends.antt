@@ -142,8 +142,8 @@ module _ (origin : ℕ → ℕ) (own foreign : ℕ) where
       (entry_at send receive d.entries) refl where
         P : Bool → Option Entry → Type 0
         P v o = SomeEnd
-            (if v then faulted ERRONEOUS (command.Rts receive send link) d else rts_taken_by peer send receive link stamp
-            o d)
+            (if v then faulted ERRONEOUS (command.Rts receive send link) d
+            else rts_taken_by peer send receive link stamp o d)
 
         by : (v : Bool) → list_any (sends_on link) d.entries ≡ v → (o : Option Entry)
             → entry_at send receive d.entries ≡ o

@@ -134,8 +134,9 @@ module _ (orders : Orders) (strange : Host → Bool) (hosts : List Host) (a : Ho
         by (Crossed (crossing.Down g)) mixed h order = fit_if (same_host a g) (opening_state a) _ (λ e. opening_fit a) h
         by (Crossed (crossing.Up g)) mixed h order = fit_if (same_host a g) (opening_state a) _ (λ e. opening_fit a) h
         by (Asked g r) mixed h order =
-            fit_if (same_host a g) _ _ (λ e. let may : Happens hosts (Asked a r) moments = own_request g r moments mixed e
-            in request_fit (program a moments) r may.2 may.3 h) h
+            fit_if (same_host a g) _ _ (λ e.
+            let may : Happens hosts (Asked a r) moments = own_request g r moments mixed e in
+            request_fit (program a moments) r may.2 may.3 h) h
 
   -- a host that is down has a program that does nothing
   pub idle : (moments : List Moment) → IsMixed strange hosts moments

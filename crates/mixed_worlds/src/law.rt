@@ -21,7 +21,7 @@ use world_keeps_lives::law::programs;
 use world_keeps_pairing::law as pairing;
 use world_keeps_streams::law as streams;
 
-/// Hosts with programs among each other, whatever strangers send, take and are told.
+/// Hosts with programs among each other, whatever strangers send and take.
 pub fn among()
     // the masked moments keep the whole promise, and every clause of endings
     ensures promise { AmongPromise }

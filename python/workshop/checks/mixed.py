@@ -25,7 +25,7 @@ from dorydate.model.strangers import Asked, MixedWorld, Unsaid, differs, ends_of
 from dorydate.model.topology import Topology
 
 CLOSELY = 10  # of this many runs one is judged after each event
-TRIES = 300  # so many runs at most have to find a program that mixes up its peers
+TRIES = 300  # at most this many runs have to find a program that mixes up its peers
 
 
 class Ran(NamedTuple):

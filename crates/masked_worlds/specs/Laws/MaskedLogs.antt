@@ -25,7 +25,8 @@ MaskedLogsRun =
 -- each crossing keeps its place
 abbrev pub MaskedLogsPlaces : Type 0
 MaskedLogsPlaces =
-    (strange : Host → Bool) (hosts : List Host) (log : List Crossing) → length (masked_log strange hosts log) ≡ length log
+    (strange : Host → Bool) (hosts : List Host) (log : List Crossing)
+    → length (masked_log strange hosts log) ≡ length log
 
 abbrev pub MaskedLogsNobody : Type 0
 MaskedLogsNobody =

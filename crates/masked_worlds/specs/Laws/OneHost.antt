@@ -27,7 +27,8 @@ OneHostMessage =
 -- of any message
 abbrev pub OneHostListening : Type 0
 OneHostListening =
-    (s : NcpState) (m : HostMessage) (stamp : ℕ) → OnlyStop s.listening (accepted s (inbound.Message m) stamp).0.listening
+    (s : NcpState) (m : HostMessage) (stamp : ℕ)
+    → OnlyStop s.listening (accepted s (inbound.Message m) stamp).0.listening
 
 abbrev pub OneHostAnswer : Type 0
 OneHostAnswer =

@@ -31,7 +31,22 @@ returns-clause-mixed c = (
                   (λ off. absurd (cc)),
                   (
                     (λ off. (refl, tt, refl, omega arith)),
-                    ((λ off. tt), ((λ off. tt), ((λ off. refl), ((λ off. tt), ((λ off. tt), ((λ off. absurd (cc)), tt)))))),
+                    (
+                      (λ off. tt),
+                      (
+                        (λ off. tt),
+                        (
+                          (λ off. refl),
+                          (
+                            (λ off. tt),
+                            (
+                              (λ off. tt),
+                              ((λ off. absurd (cc)), tt),
+                            ),
+                          ),
+                        ),
+                      ),
+                    ),
                   ),
                 ),
               ),
