@@ -125,6 +125,7 @@ shut_rules k n p = record {
   quiet = λ e f q shut own asked. q.closing (shut (sym q.own ∙ own) (sym q.asked ∙ asked));
   others = λ m o. tt;
   opens = λ e a b shut f g o. tt;
+  returns = λ e messages bits shut o. tt;
 }
 
 shut_begins : (k n : ℕ) → Begins (IsShut k n)

@@ -125,6 +125,7 @@ module _ (x : Life) (link : ℕ) (N : Type 0) where
         (let k : (e.link ≡ Some link) × (is_open e ≡ true → N) = h (sym q.mine ∙ mine) (sym q.own ∙ own) (sym q.asked ∙ asked) (sym q.partner ∙ partner) in (q.link ∙ k.0, λ o. k.1 (open_back e f q o)));
     others = λ n o. tt;
     opens = λ e a b h f g goes. tt;
+    returns = λ e messages bits h o. tt;
   }
 
   pub held_begins : Begins Held

@@ -159,6 +159,7 @@ module _ (h p : Host) (log : List Crossing) where
     quiet = quiet_grounded;
     others = other_told;
     opens = λ e a b g asked partner goes. (let mine : e.mine ≡ true = own_end e g.refusing goes in (refl, opening_by_ends e a b (g.asked mine a asked) (g.partner mine b partner)));
+    returns = λ e messages bits g o. tt;
   }
 
   pub grounded_hears : (m : HostMessage) (stamp : ℕ) → m.flow ≡ control_flow p h → CrossedAt stamp (coming m) log → Hears (Grounded h p log) stamp (orders_of m.text)
@@ -210,6 +211,7 @@ module _ (h p : Host) (log : List Crossing) where
     );
     others = other_told;
     opens = λ e a b g asked partner goes. (let mine : e.mine ≡ true = own_end e g.0.refusing goes in (refl, opening_by_ends e a b (g.0.asked mine a asked) (g.0.partner mine b partner)));
+    returns = λ e messages bits g o. tt;
   }
 
   taken_in : (n : ℕ) (queue : List Command) (c : Command) → Contains (take n queue) c → Contains queue c
@@ -331,7 +333,7 @@ module _ (P : Entry → Type 0) (N : Notice → Type 0) (a b : Host) (rules : Ru
 -- ---- all moments
 
 quietly : (P : Entry → Type 0) (N : Notice → Type 0) (p : Host) → Rules P N p → Rules P Nothing p
-quietly P N p r = record { quiet = r.quiet; others = λ n o. tt; opens = λ e a b g f k o. tt }
+quietly P N p r = record { quiet = r.quiet; others = λ n o. tt; opens = λ e a b g f k o. tt; returns = λ e messages bits g o. tt }
 
 pub flow_is : (f : Flow) (x y : Host) → x ≡ f.source → y ≡ f.destination → f.link.0 ≡ 0 → f ≡ control_flow x y
 flow_is f x y s d l =

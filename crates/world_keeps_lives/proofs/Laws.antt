@@ -5,7 +5,7 @@ use Rattle.interface.specs.Calls.{Seen}
 use Rattle.interface.specs.Host.{Host, same_host}
 use Rattle.interface.specs.Mailboxes as mail
 use Rattle.interface.proofs.lemmas.{same_host-refl}
-use Rattle.sockets.specs.Pairs.{pair_with}
+use Rattle.sockets.specs.Pairs.{NcpState, pair_with}
 use Rattle.promise.specs.declared.life.Life.{Life}
 use Rattle.net_sim.specs.Book.{Kept}
 use Rattle.net_sim.specs.Clean.{HaveAddresses, IsLawful}
@@ -15,7 +15,7 @@ use Rattle.net_sim.specs.Timeline.{IsTimeline, crossings_of}
 use Rattle.net_sim.specs.Told.{kept_in}
 use Rattle.net_sim.specs.World.{WorldState}
 use Rattle.world_keeps_pairing.proofs.lemmas.{book_lives, book_run}
-use Rattle.world_keeps_lives.specs.Lives.{EachIn, EachOn, HasOpenEnd, IsBounded, IsLifeOf, IsOwned, NoneOf, at_socket, mine_on}
+use Rattle.world_keeps_lives.specs.Lives.{EachIn, EachOn, HasOpenEnd, IsBounded, IsLifeOf, IsOwned, IsSafe, NoneOf, at_socket, mine_on}
 use Rattle.world_keeps_lives.proofs.Books.{One, each_weaker}
 use Rattle.world_keeps_lives.proofs.Hosts.{Holds}
 use Rattle.world_keeps_lives.proofs.Moments.{held}
@@ -44,6 +44,40 @@ all_handed [] (t ∷ handed) e = absurd (e (record { imp = 0; host = 0 }) 0)
 all_handed (x ∷ lives) [] e = absurd (e (record { imp = 0; host = 0 }) 0)
 all_handed (x ∷ lives) (t ∷ handed) e = ((λ s. ((e x.host x.socket).0 (own_socket x)).0.front s), all_handed lives handed (λ a k. (e a k).1))
 
+-- ---- one host
+
+-- what holds of all lives of a socket
+pub any_life : (a : Host) (k : ℕ) (s : NcpState) (κ : Kept) → Holds a k s κ → EachIn a k Any κ
+any_life a k s κ h = elim h.socket [
+  | inl f ↦ each_weaker a k NoneOf Any κ.book.lives κ.handed (λ x t there i. tt) f.lives
+  | inr o ↦ each_weaker a k (IsLifeOf o.peer o.end) Any κ.book.lives κ.handed (λ x t there i. tt) o.lives
+]
+
+-- a life is safe, and one that isn't over is that of an open end
+pub safe_life : (s : NcpState) (κ : Kept) (x : Life) → Contains κ.book.lives x → Holds x.host x.socket s κ → (t : List Bool) × IsSafe x t
+safe_life s κ x there h =
+    let f : (t : List Bool) × (at_socket x.host x.socket x ≡ true → One Any x t) = found x.host x.socket Any κ.book.lives κ.handed x there (any_life x.host x.socket s κ h) in
+    (f.0, (f.1 (own_socket x)).0)
+
+pub live_end : (s : NcpState) (κ : Kept) (x : Life) → Contains κ.book.lives x → x.ended ≡ false → Holds x.host x.socket s κ → HasOpenEnd s x
+live_end s κ x there goes h = elim h.socket [
+  | inl f ↦
+      (let i : (t : List Bool) × (at_socket x.host x.socket x ≡ true → One NoneOf x t) = found x.host x.socket NoneOf κ.book.lives κ.handed x there f.lives in
+      absurd ((i.1 (own_socket x)).1 goes))
+  | inr o ↦
+      (let i : (t : List Bool) × (at_socket x.host x.socket x ≡ true → One (IsLifeOf o.peer o.end) x t) = found x.host x.socket (IsLifeOf o.peer o.end) κ.book.lives κ.handed x there o.lives in
+      its o i.0 ((i.1 (own_socket x)).1 goes))
+] where
+  its : (o : IsOwned x.host x.socket s κ) → (t : List Bool) → IsLifeOf o.peer o.end x t → HasOpenEnd s x
+  its o t i = record {
+    end = o.end;
+    one = subst (λ (g : Host). mine_on x.socket (pair_with g s.peers).entries ≡ o.end ∷ []) (sym i.peers) o.one;
+    others = λ g off. o.others g (subst (λ (h : Host). same_host g h ≡ false) i.peers off);
+    foreign = i.foreign;
+    own = i.own;
+    partner = i.partner;
+  }
+
 -- ---- moments
 
 module _ (hosts : List Host) (moments : List Moment) (addresses : HaveAddresses hosts) (run : mail.IsRun hosts (crossings_of moments)) (time : IsTimeline hosts moments) where
@@ -51,42 +85,19 @@ module _ (hosts : List Host) (moments : List Moment) (addresses : HaveAddresses 
   holds a k = held a k hosts addresses moments run time
 
   any : (a : Host) (k : ℕ) → EachIn a k Any (kept_in moments)
-  any a k = elim (holds a k).socket [
-    | inl f ↦ each_weaker a k NoneOf Any (kept_in moments).book.lives (kept_in moments).handed (λ x t there i. tt) f.lives
-    | inr o ↦ each_weaker a k (IsLifeOf o.peer o.end) Any (kept_in moments).book.lives (kept_in moments).handed (λ x t there i. tt) o.lives
-  ]
+  any a k = any_life a k (program a moments) (kept_in moments) (holds a k)
 
   pub handed : AreHanded (kept_in moments).book.lives (kept_in moments).handed
   handed = all_handed (kept_in moments).book.lives (kept_in moments).handed any
 
   pub taken : (receiver : Life) → Contains (kept_in moments).book.lives receiver → receives receiver ≡ true → IsGranted receiver receiver.messages (length receiver.bits)
-  taken x there r =
-      let f : (t : List Bool) × (at_socket x.host x.socket x ≡ true → One Any x t) = found x.host x.socket Any (kept_in moments).book.lives (kept_in moments).handed x there (any x.host x.socket) in
-      (f.1 (own_socket x)).0.within r
+  taken x there r = (safe_life (program x.host moments) (kept_in moments) x there (holds x.host x.socket)).1.within r
 
   pub bounded : (receiver : Life) → Contains (kept_in moments).book.lives receiver → receives receiver ≡ true → IsBounded receiver
-  bounded x there r =
-      let f : (t : List Bool) × (at_socket x.host x.socket x ≡ true → One Any x t) = found x.host x.socket Any (kept_in moments).book.lives (kept_in moments).handed x there (any x.host x.socket) in
-      (f.1 (own_socket x)).0.bounded r
+  bounded x there r = (safe_life (program x.host moments) (kept_in moments) x there (holds x.host x.socket)).1.bounded r
 
   pub live : (x : Life) → Contains (kept_in moments).book.lives x → x.ended ≡ false → HasOpenEnd (program x.host moments) x
-  live x there goes = elim (holds x.host x.socket).socket [
-    | inl f ↦
-        (let i : (t : List Bool) × (at_socket x.host x.socket x ≡ true → One NoneOf x t) = found x.host x.socket NoneOf (kept_in moments).book.lives (kept_in moments).handed x there f.lives in
-        absurd ((i.1 (own_socket x)).1 goes))
-    | inr o ↦
-        (let i : (t : List Bool) × (at_socket x.host x.socket x ≡ true → One (IsLifeOf o.peer o.end) x t) = found x.host x.socket (IsLifeOf o.peer o.end) (kept_in moments).book.lives (kept_in moments).handed x there o.lives in
-        its o i.0 ((i.1 (own_socket x)).1 goes))
-  ] where
-    its : (o : IsOwned x.host x.socket (program x.host moments) (kept_in moments)) → (t : List Bool) → IsLifeOf o.peer o.end x t → HasOpenEnd (program x.host moments) x
-    its o t i = record {
-      end = o.end;
-      one = subst (λ (g : Host). mine_on x.socket (pair_with g (program x.host moments).peers).entries ≡ o.end ∷ []) (sym i.peers) o.one;
-      others = λ g off. o.others g (subst (λ (h : Host). same_host g h ≡ false) i.peers off);
-      foreign = i.foreign;
-      own = i.own;
-      partner = i.partner;
-    }
+  live x there goes = live_end (program x.host moments) (kept_in moments) x there goes (holds x.host x.socket)
 
 -- ---- worlds
 

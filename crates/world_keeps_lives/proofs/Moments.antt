@@ -43,13 +43,13 @@ has_ends hosts moments addresses run time a p own foreign two = elim two [
       all_tied hosts (origin_in (crossings_of moments)) moments (are_origins 0 (crossings_of moments) [] moments refl) c.story c.run (served_in hosts moments time)
 
 -- a host that isn't up has a program that does nothing
-idle_if : (a h : Host) (up : Bool) (s new : NcpState) → up ≡ false → (same_host a h ≡ true → up ≡ true) → s ≡ opening_state a → (if same_host a h then new else s) ≡ opening_state a
+pub idle_if : (a h : Host) (up : Bool) (s new : NcpState) → up ≡ false → (same_host a h ≡ true → up ≡ true) → s ≡ opening_state a → (if same_host a h then new else s) ≡ opening_state a
 idle_if a h up s new down needs is = by (same_host a h) refl where
   by : (b : Bool) → same_host a h ≡ b → (if b then new else s) ≡ opening_state a
   by true e = clash _ up (needs e) down
   by false e = is
 
-up_at : (hosts : List Host) (a h : Host) (log : List Crossing) → mail.is_up hosts h log ≡ true → same_host a h ≡ true → mail.is_up hosts a log ≡ true
+pub up_at : (hosts : List Host) (a h : Host) (log : List Crossing) → mail.is_up hosts h log ≡ true → same_host a h ≡ true → mail.is_up hosts a log ≡ true
 up_at hosts a h log up e = subst (λ (g : Host). mail.is_up hosts g log ≡ true) (sym (same_host-true a h e)) up
 
 idle_program : (hosts : List Host) (a : Host) (moments : List Moment) → mail.IsRun hosts (crossings_of moments) → IsTimeline hosts moments → mail.is_up hosts a (crossings_of moments) ≡ false → program a moments ≡ opening_state a
@@ -73,7 +73,7 @@ idle_program hosts a (Asked h r ∷ moments) run time down =
 
 module _ (a : Host) (k : ℕ) where
   -- a program that starts
-  opening_holds : (κ : Kept) → EachIn a k NoneOf κ → Holds a k (opening_state a) κ
+  pub opening_holds : (κ : Kept) → EachIn a k NoneOf κ → Holds a k (opening_state a) κ
   opening_holds κ e = record { steady = record { refusing = λ p. tt; idle = λ p i. refl }; socket = inl (record { none = λ p. refl; lives = e }) }
 
   -- all lives of a host end with it
@@ -82,14 +82,14 @@ module _ (a : Host) (k : ℕ) where
     all : (x : Life) → at_socket a k x ≡ true → x.ended ≡ false → lives_on a x ≡ true
     all x there goes = let host : same_host a x.host ≡ true = (both (same_host a x.host) (x.socket == k) there).0 in rw (host, goes) refl
 
-  ended_holds : (s : NcpState) (κ : Kept) → Holds a k s κ → Holds a k (opening_state a) (crossed (crossing.Down a) κ)
+  pub ended_holds : (s : NcpState) (κ : Kept) → Holds a k s κ → Holds a k (opening_state a) (crossed (crossing.Down a) κ)
   ended_holds s κ h = elim h.socket [
     | inl f ↦ opening_holds (crossed (crossing.Down a) κ) (down_lives NoneOf κ f.lives)
     | inr o ↦ opening_holds (crossed (crossing.Down a) κ) (down_lives (IsLifeOf o.peer o.end) κ o.lives)
   ]
 
   -- what another host's user asks for
-  asked_away : (h : Host) (r : Request) (κ : Kept) → same_host h a ≡ false → (P : Life → List Bool → Type 0) → EachIn a k P κ → EachIn a k P (asked h r κ)
+  pub asked_away : (h : Host) (r : Request) (κ : Kept) → same_host h a ≡ false → (P : Life → List Bool → Type 0) → EachIn a k P κ → EachIn a k P (asked h r κ)
   asked_away h (request.Send socket bits) κ off P e =
       each_handed a k (lives_at h socket) bits P P κ.book.lives κ.handed (λ x t there on o. absurd (away_at a k h socket x off there on)) (λ x t there out o. o) e
   asked_away h (request.Grant socket messages bits) κ off P e = each_apart a k (lives_at h socket) (granted messages bits) P κ.book.lives κ.handed (λ x. refl) (λ x. away_at a k h socket x off) e
@@ -103,7 +103,7 @@ module _ (a : Host) (k : ℕ) where
     turned false f = refl
 
   -- one host or another acts
-  acts : (h : Host) (ns : Host → List Notice) (s new : NcpState) (κ : Kept) (next : Host → Kept) → (same_host a h ≡ true → Holds a k new (all_told a (ns a) (next a))) → (same_host a h ≡ false → (P : Life → List Bool → Type 0) → EachIn a k P κ → EachIn a k P (next h))
+  pub acts : (h : Host) (ns : Host → List Notice) (s new : NcpState) (κ : Kept) (next : Host → Kept) → (same_host a h ≡ true → Holds a k new (all_told a (ns a) (next a))) → (same_host a h ≡ false → (P : Life → List Bool → Type 0) → EachIn a k P κ → EachIn a k P (next h))
       → Holds a k s κ → Holds a k (if same_host a h then new else s) (all_told h (ns h) (next h))
   acts h ns s new κ next here there e = by (same_host a h) refl where
     by : (b : Bool) → same_host a h ≡ b → Holds a k (if b then new else s) (all_told h (ns h) (next h))
@@ -111,7 +111,7 @@ module _ (a : Host) (k : ℕ) where
     by false f = away h (ns h) s κ (next h) f (there f) e
 
   -- what crosses is added
-  crossed_holds : (s : NcpState) (c : Crossing) (κ : Kept) → ((P : Life → List Bool → Type 0) → EachIn a k P κ → EachIn a k P (crossed c κ)) → Holds a k s κ → Holds a k s (crossed c κ)
+  pub crossed_holds : (s : NcpState) (c : Crossing) (κ : Kept) → ((P : Life → List Bool → Type 0) → EachIn a k P κ → EachIn a k P (crossed c κ)) → Holds a k s κ → Holds a k s (crossed c κ)
   crossed_holds s c κ w h = holds_same a k s κ (crossed c κ) w h
 
   pub held : (hosts : List Host) → HaveAddresses hosts → (moments : List Moment) → mail.IsRun hosts (crossings_of moments) → IsTimeline hosts moments → Holds a k (program a moments) (kept_in moments)

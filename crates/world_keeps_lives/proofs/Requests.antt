@@ -119,11 +119,12 @@ quiet_off e = record { own = refl; foreign = refl; mine = refl; asked = refl; pa
 pub sockets_of : (own foreign : ℕ) (e : Entry) → is_at own foreign e ≡ true → (e.own ≡ own) × (e.foreign ≡ foreign)
 sockets_of own foreign e t = let parts : ((e.own == own) ≡ true) × ((e.foreign == foreign) ≡ true) = both (e.own == own) (e.foreign == foreign) t in (eqb-true e.own own parts.0, eqb-true e.foreign foreign parts.1)
 
--- a notice of no opening, and of no data
+-- a notice of no opening, of no data, and of nothing that is returned
 abbrev pub IsOther : Notice → Type 0
 IsOther (notice.Opened socket peer foreign own partner) = ⊥
 IsOther (notice.Sent socket bits) = ⊥
 IsOther (notice.Arrived socket bits) = ⊥
+IsOther (notice.Returned socket messages bits) = ⊥
 IsOther n = Unit {0}
 
 -- what holds of each end, and of each notice
@@ -131,6 +132,7 @@ pub record Rules (P : Entry → Type 0) (N : Notice → Type 0) (peer : Host) : 
   pub quiet : (e f : Entry) → Quiet e f → P e → P f
   pub others : (n : Notice) → IsOther n → N n
   pub opens : (e : Entry) (a b : ℕ) → P e → e.asked ≡ Some a → e.partner ≡ Some b → is_ending e ≡ false → N (notice.Opened e.own peer e.foreign a b)
+  pub returns : (e : Entry) (messages bits : ℕ) → P e → is_open e ≡ true → N (notice.Returned e.own messages bits)
 
 -- what holds of an end where it begins
 pub record Begins (P : Entry → Type 0) : Type 0 where
@@ -290,10 +292,19 @@ module _ (P : Entry → Type 0) (N : Notice → Type 0) (peer : Host) (rules : R
         good_matched own foreign (command.Str foreign own size) e (asked_with_size stamp size) d
         (λ x t i. hears.str own foreign size x there odd even (sockets_of own foreign x t).0 (sockets_of own foreign x t).1 i) h
 
-    good_ret : (link messages bits : ℕ) (e : Entry) (d : DeskState) → Good d → Good (ret_taken link messages bits e d)
-    good_ret link messages bits e d h =
-        good_if _ _ _ (good_told _ (changed (receives_on link) (commands.returned messages bits) d) (rules.others _ tt, tt) (good_quiet (receives_on link) (commands.returned messages bits) d (λ x. record { own = refl; foreign = refl; mine = refl; asked = refl; partner = refl; link = refl; closing = λ c. c; off = λ c. c }) h))
+    good_ret : (link messages bits : ℕ) (e : Entry) (d : DeskState) → P e → is_open e ≡ true → Good d → Good (ret_taken link messages bits e d)
+    good_ret link messages bits e d i o h =
+        good_if _ _ _ (good_told _ (changed (receives_on link) (commands.returned messages bits) d) (rules.returns e messages bits i o, tt) (good_quiet (receives_on link) (commands.returned messages bits) d (λ x. record { own = refl; foreign = refl; mine = refl; asked = refl; partner = refl; link = refl; closing = λ c. c; off = λ c. c }) h))
         (good_fault ERRONEOUS (command.Ret link messages bits) d h)
+
+    -- only an open end is given something back
+    ret_found : (link messages bits : ℕ) (d : DeskState) (o : Option Entry) → find (receives_on link) d.entries ≡ o → Good d → Good (at_end (command.Ret link messages bits) (ret_taken link messages bits) (commands.found_in o) d)
+    ret_found link messages bits d None f h = good_fault NOT_CONNECTED (command.Ret link messages bits) d h
+    ret_found link messages bits d (Some e) f h = by (is_open e) refl (is_ending e) where
+      by : (b : Bool) → is_open e ≡ b → (c : Bool) → Good (at_end (command.Ret link messages bits) (ret_taken link messages bits) (if b then Open e else (if c then Ending else Unconnected)) d)
+      by true o c = good_ret link messages bits e d (found_in P (receives_on link) d.entries e f h.ends) o h
+      by false o true = h
+      by false o false = good_fault NOT_CONNECTED (command.Ret link messages bits) d h
 
     good_taken : (busy : List ℕ) (c : Command) (d : DeskState) → IsOrder (Legal c) → Contains orders (Legal c) → Good d → Good (desk_taken peer busy stamp c d)
     good_taken busy (command.Rts receive send link) d ok there h = good_rts send receive link d there ok.1 ok.3 h
@@ -304,7 +315,7 @@ module _ (P : Entry → Type 0) (N : Notice → Type 0) (peer : Host) (rules : R
     good_taken busy (command.Gvb link messages bits) d ok there h =
         good_at (command.Gvb link messages bits) (gvb_taken link messages bits) (sender_on link d) d
         (λ e. good_queued _ (changed (sends_on link) (commands.given_back messages bits) d) (good_quiet (sends_on link) (commands.given_back messages bits) d (λ x. record { own = refl; foreign = refl; mine = refl; asked = refl; partner = refl; link = refl; closing = λ c. c; off = λ c. c }) h)) h
-    good_taken busy (command.Ret link messages bits) d ok there h = good_at (command.Ret link messages bits) (ret_taken link messages bits) (receiver_on link d) d (λ e. good_ret link messages bits e d h) h
+    good_taken busy (command.Ret link messages bits) d ok there h = ret_found link messages bits d (find (receives_on link) d.entries) refl h
     good_taken busy (command.Inr link) d ok there h = good_at (command.Inr link) interrupted (sender_on link d) d (λ e. good_told _ d (rules.others _ tt, tt) h) h
     good_taken busy (command.Ins link) d ok there h = good_at (command.Ins link) interrupted (receiver_on link d) d (λ e. good_told _ d (rules.others _ tt, tt) h) h
     good_taken busy (command.Eco octet) d ok there h = good_queued (command.Erp octet) d h

@@ -67,6 +67,7 @@ module _ (lives : List Life) (here : ℕ) where
         subst (λ (n : ℕ). Now n f.foreign a b) (sym q.own) (subst (λ (n : ℕ). Now e.own n a b) (sym q.foreign) (d (open_back e f q o) a b (sym q.asked ∙ asked) (sym q.partner ∙ partner)));
     others = other;
     opens = λ e a b d asked partner goes. (let o : is_open e ≡ true = rw (asked, partner, goes) refl in d o a b asked partner);
+    returns = λ e messages bits d o. tt;
   }
 
   begins : Begins Due

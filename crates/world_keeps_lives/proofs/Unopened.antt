@@ -62,6 +62,7 @@ module _ (p : Host) (own foreign : ℕ) where
       | inl h ↦ no (is_ending e) h goes
       | inr none ↦ no_place a (sym none.0 ∙ asked)
     ];
+    returns = λ e messages bits shut o. tt;
   }
 
   shut_begins : (g : Host) → Begins (Shut g (Unit {0}))

@@ -1,5 +1,7 @@
--- The lemmas of this crate that others may use: the proofs of headline and world_keeps_streams do. All others in proofs/ are its own.
-pub use Rattle.world_keeps_lives.proofs.Books.{all_told_append}
+-- The lemmas of this crate that others may use: the proofs of headline, mixed_worlds and world_keeps_streams do.
+-- All others in proofs/ are its own.
+pub use Rattle.world_keeps_lives.proofs.Asks.{request_holds}
+pub use Rattle.world_keeps_lives.proofs.Books.{all_told_append, each_ending}
 pub use Rattle.world_keeps_lives.proofs.Desks.{AreAside, At, Elsewhere, IsLess, Near, Place, at_aside, clash, open_mine, open_parts}
 pub use Rattle.world_keeps_lives.proofs.Drained.{drained, world_drained}
 pub use Rattle.world_keeps_lives.proofs.Ends.{IsRefusing, found_changed, none_changed, refusing_found}
@@ -7,14 +9,19 @@ pub use Rattle.world_keeps_lives.proofs.FirstBooks.{WasAt, linked_book, linked_e
 pub use Rattle.world_keeps_lives.proofs.FirstEnds.{HasOwner, Together}
 pub use Rattle.world_keeps_lives.proofs.Formed.{first_book, formed_book}
 pub use Rattle.world_keeps_lives.proofs.Goes.{IsOfTwo, Waits, all_go, unasked_by}
-pub use Rattle.world_keeps_lives.proofs.Hosts.{Holds, same_turned, waits}
-pub use Rattle.world_keeps_lives.proofs.Laws.{handed, live, taken, world_handed, world_taken}
+pub use Rattle.world_keeps_lives.proofs.Hosts.{HasEnds, Holds, answer_holds, message_holds}
+pub use Rattle.world_keeps_lives.proofs.Hosts.{offer_holds, same_turned, waits}
+pub use Rattle.world_keeps_lives.proofs.Laws.{handed, live, live_end, safe_life, taken, world_handed, world_taken}
 pub use Rattle.world_keeps_lives.proofs.Linked.{Linked, LinkedBook}
-pub use Rattle.world_keeps_lives.proofs.Moments.{has_ends, held}
+pub use Rattle.world_keeps_lives.proofs.Moments.{acts, asked_away, crossed_holds, ended_holds, has_ends}
+pub use Rattle.world_keeps_lives.proofs.Moments.{held, idle_if, opening_holds, up_at}
 pub use Rattle.world_keeps_lives.proofs.Named.{NamedAt, Names, found_at, held_in, named_again, named_is, named_there, names_of, some_named, way_of}
 pub use Rattle.world_keeps_lives.proofs.Notices.{world_told}
 pub use Rattle.world_keeps_lives.proofs.Owners.{owner_found}
-pub use Rattle.world_keeps_lives.proofs.Requests.{Each, each_of, each_weaker}
+pub use Rattle.world_keeps_lives.proofs.RequestCalls.{Done, Ends, answer_keeps, message_keeps}
+pub use Rattle.world_keeps_lives.proofs.RequestCalls.{offer_keeps, request_told}
+pub use Rattle.world_keeps_lives.proofs.Requests.{Begins, Each, Goes, Hears, IsOther, MayTell, Quiet}
+pub use Rattle.world_keeps_lives.proofs.Requests.{Rules, each_of, each_weaker, found_in}
 pub use Rattle.world_keeps_lives.proofs.Rows.{none_there}
 pub use Rattle.world_keeps_lives.proofs.Steps.{called_less, closed_less, good_queued, heard_less, sent_less}
 pub use Rattle.world_keeps_lives.proofs.Takes.{G, good_data, good_taken}

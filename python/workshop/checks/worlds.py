@@ -1,6 +1,7 @@
-"""The promise of the book, in random worlds that only the model runs (half a minute for 1,000): ./check worlds [RUNS]
+"""The promise of the book, in random worlds that only the model runs (half a minute for 1,000): ./check worlds [--mixed] [RUNS]
 
-Runs hosts with their programs over random networks, only in the model, and audits their books: ./check worlds [RUNS]
+Runs hosts with their programs over random networks, only in the model, and audits their books: ./check worlds [RUNS]. With --mixed
+some hosts of each network are strangers, that run anything (python/workshop/checks/mixed.py).
 
 The model is the independent model of the rules (python/dorydate/model/world.py). Of each book it is computed whether it keeps its promise,
 from the crossings, the lives and the bits that were handed over (python/dorydate/model/audit.py): at the end of each run, and after each
@@ -23,14 +24,13 @@ from collections.abc import Callable, Iterable, Iterator
 from dataclasses import replace
 from typing import Any, NamedTuple, TypeVar
 
-from dorydate.model.audit import CONTROL, Lives, Log, audit, match, partners_are_kept
+from workshop.checks import mixed
+from workshop.checks.broken import Watched, broken
+from dorydate.model.audit import CONTROL, audit, partners_are_kept
 from dorydate.model.book import Life
 from dorydate.model.chance.worlds import reached, some_script
-from dorydate.model.clean import unclean
 from dorydate.model.crossings import Answered, Carrier, Crossing, Passed
 from dorydate.model.endings import EndingWorld
-from dorydate.model.firsts import determined
-from dorydate.model.host import Host
 from dorydate.model.misread_endings import MISREADINGS as MISREAD_ENDINGS
 from dorydate.model.misreadings import MISREADINGS
 from dorydate.model.names import Flow, HostName
@@ -169,55 +169,6 @@ def unnoticed_endings() -> Iterator[str]:
             yield str(kind.__doc__)
 
 
-def pairs_that_differ(log: Log, lives: Lives) -> Iterator[tuple[Life, Life]]:
-    """Lives that continue, with each other's hosts and sockets, that are not one connection."""
-    going = [life for life in lives if not life.has_ended]
-    for life in filter(Life.receives, going):
-        for other in going:
-            swapped = (other.host, other.socket, other.peer, other.foreign) == (life.peer, life.foreign, life.host, life.socket)
-            if swapped and not match(log, life, other):
-                yield life, other
-
-
-class Watched(World):
-    """A world that remembers which messages had an effect: they changed their host's program, or it reported something."""
-
-    def __init__(self, carrier: Carrier) -> None:
-        super().__init__(carrier)
-        self.effects: set[int] = set()
-
-    def take(self, host: HostName) -> bool:
-        before, told, place = kept_by(self.hosts.get(host)), len(self.book.notices), len(self.carrier.log)
-        given = super().take(host)
-        if given and (kept_by(self.hosts[host]), len(self.book.notices)) != (before, told):
-            self.effects.add(place)
-        return given
-
-
-def kept_by(program: Host | None) -> Any:
-    """All that a host's program keeps. A pair in the initial state counts as none."""
-    if program is None:
-        return None
-    pairs = {peer: (it.phase, it.early, it.owed, {*it.busy}, [{**vars(end)} for end in it.ends], [*it.queue]) for peer, it in program.pairs.items()}
-    return {peer: it for peer, it in pairs.items() if it != ("closed", False, False, set(), [], [])}, {**program.listening}
-
-
-def broken(world: World) -> str | None:
-    """What a world's book breaks, None where it keeps all."""
-    log, lives = world.carrier.log, world.book.lives
-    if isinstance(world, Watched) and unclean(log, world.book.contacts, world.effects) is not None:
-        return "a clean reset"
-    if part := audit(log, lives):
-        return part
-    if next(pairs_that_differ(log, lives), None):
-        return "lives that go on and are no connection"
-    if any(notice.startswith("error") for _, notice, _ in world.book.notices):
-        return "an error"
-    if not determined(log, lives):
-        return "what a log says of the bits of its lives"
-    return world.judged() if isinstance(world, EndingWorld) else None
-
-
 class Ran(NamedTuple):
     """A random run: what breaks, the script as far as it happened, what was reached, and how often each promise on endings was tried."""
 
@@ -245,6 +196,8 @@ def run(seed: int) -> Ran:
 
 def main() -> int:
     """The exit status."""
+    if sys.argv[1:2] == ["--mixed"]:
+        return mixed.check(int(sys.argv[2]) if len(sys.argv) > 2 else RUNS)
     for wanted, book in wrong_books():
         if audit(*book) != wanted:
             print(f"check worlds: a book that breaks {wanted} is found to break {audit(*book)}")

@@ -1,0 +1,9 @@
+pub mod Logs
+pub mod Peers
+pub mod Calls
+pub mod Requests
+pub mod Listening
+pub mod Closings
+pub mod Moments
+pub mod Nobody
+pub mod lemmas

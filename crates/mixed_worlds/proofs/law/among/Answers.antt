@@ -1,0 +1,42 @@
+use Rattle.masked_worlds.proofs.lemmas.{Orders}
+use Rattle.masked_worlds.specs.Mixed.{masked_moments}
+use Rattle.mixed_worlds.proofs.Books.{SameBook, same_book}
+use Rattle.mixed_worlds.proofs.Promised.{promised}
+use Rattle.mixed_worlds.proofs.law.among.Goals as goal
+
+pub returns-clause-promise : goal.returns-clause-promise
+returns-clause-promise c strange hosts moments mixed =
+    promised (record {
+      partners = c.lives.ensures.partners;
+      one = c.lives.ensures.one;
+      formed = c.programs.ensures.formed;
+      told = c.programs.ensures.told;
+      taken = c.programs.ensures.taken;
+      handed = c.programs.ensures.handed;
+      drained = c.programs.ensures.drained;
+      source = c.lives-2.ensures.source;
+      sent = c.lives-2.ensures.sent;
+      firsts = c.lives-2.ensures.firsts;
+      whole = c.lives-2.ensures.whole;
+      arrives = c.lives-2.ensures.arrives;
+      answered = c.lives-2.ensures.answered;
+      closes = c.lives-2.ensures.closes;
+      rests = c.lives-2.ensures.rests;
+      agree = c.lives-2.ensures.agree;
+      comes = c.lives-2.ensures.comes;
+      came = c.lives-2.ensures.came;
+      calm = c.lives-2.ensures.calm;
+      had = c.lives-2.ensures.handed;
+    }) hosts (masked_moments strange hosts moments) mixed.addresses (c.masked.ensures.run strange hosts moments mixed)
+    (c.masked.ensures.timeline strange hosts moments mixed)
+
+pub returns-clause-lives : goal.returns-clause-lives
+returns-clause-lives c strange hosts moments mixed =
+    let orders : Orders = record {
+      request = c.orders.ensures.request;
+      message = c.orders.ensures.message;
+      answer = c.orders.ensures.answer;
+      offer = c.orders.ensures.offer;
+    } in
+    let same : SameBook strange _ _ = same_book orders strange hosts moments mixed in
+    record { lives = same.lives; handed = same.handed; fates = same.fates }

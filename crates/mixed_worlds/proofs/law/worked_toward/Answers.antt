@@ -1,0 +1,71 @@
+use Rattle.std.proofs.Common.{◌≡◌, Some, refl, replicate, true, arith}
+use Rattle.bit_messages.specs.Octets.{octets_of}
+use Rattle.ncp_control.specs.Packing.{packed_count}
+use Rattle.ncp_control.specs.Reading.{command_of, read_of}
+use Rattle.host_pairs.specs.Control.{orders_of}
+use Rattle.sockets.specs.Accepting.{accepted}
+use Rattle.sockets.specs.Requests.{refusal, served, served_notices}
+use Rattle.sockets.specs.Sending.{next_out, offered}
+use Rattle.net_sim.specs.Worked.{eight}
+use Rattle.mixed_worlds.proofs.law.worked_toward.Goals as goal
+
+pub returns-clause-mixed : goal.returns-clause-mixed
+unfolding octets_of orders_of read_of command_of packed_count accepted refusal served served_notices next_out offered
+returns-clause-mixed c = (
+  (λ off. tt),
+  (
+    (λ off. absurd (cc)),
+    (
+      (λ off. tt),
+      (
+        (λ off. tt),
+        (
+          (λ off. absurd (cc)),
+          (
+            (λ off. (refl, tt, refl, (omega arith, omega arith))),
+            (
+              (λ off. refl),
+              (
+                (λ off. tt),
+                (
+                  (λ off. absurd (cc)),
+                  (
+                    (λ off. (refl, tt, refl, omega arith)),
+                    (
+                      (λ off. tt),
+                      (
+                        (λ off. tt),
+                        (
+                          (λ off. refl),
+                          (
+                            (λ off. tt),
+                            (
+                              (λ off. tt),
+                              ((λ off. absurd (cc)), tt),
+                            ),
+                          ),
+                        ),
+                      ),
+                    ),
+                  ),
+                ),
+              ),
+            ),
+          ),
+        ),
+      ),
+    ),
+  ),
+)
+
+pub returns-clause-granting : goal.returns-clause-granting
+unfolding octets_of orders_of read_of command_of packed_count accepted refusal served served_notices next_out offered
+returns-clause-granting c = refl
+
+pub returns-clause-life : goal.returns-clause-life
+unfolding octets_of orders_of read_of command_of packed_count accepted refusal served served_notices next_out offered
+returns-clause-life c = refl
+
+pub returns-clause-unfirst : goal.returns-clause-unfirst
+unfolding octets_of orders_of read_of command_of packed_count accepted refusal served served_notices next_out offered
+returns-clause-unfirst c f = absurd (let clash : Some (replicate 7 true) ≡ Some eight = f.bits in cc)

@@ -1,0 +1,36 @@
+-- The book of a network with strangers: only hosts with programs have users, notices and lives (NIC 8246).
+use Rattle.std.specs.Prelude.{◌&&◌, Bool, not, if◌then◌else◌, List, [], ◌∷◌, filter}
+use Rattle.interface.specs.Host.{Host}
+use Rattle.promise.specs.declared.life.Life.{Life}
+use Rattle.net_sim.specs.Book.{Kept, all_told, crossed, opening_kept}
+use Rattle.net_sim.specs.Story.{Moment, Crossed, Asked}
+use Rattle.net_sim.specs.Told.{host_in, kept_by, notices_by}
+
+-- ---- what is kept
+
+-- of a stranger only what crosses
+abbrev pub crossed_only : Moment → Kept → Kept
+crossed_only (Crossed c) k = crossed c k
+crossed_only (Asked h r) k = k
+
+abbrev pub mixed_kept : (Host → Bool) → List Moment → Kept
+mixed_kept strange [] = opening_kept
+mixed_kept strange (x ∷ moments) =
+    if strange (host_in x) then crossed_only x (mixed_kept strange moments)
+    else all_told (host_in x) (notices_by x moments) (kept_by x (mixed_kept strange moments))
+
+-- ---- among hosts with programs
+
+-- a life of such a host with such a peer
+abbrev pub is_among : (Host → Bool) → Life → Bool
+is_among strange x = not (strange x.host) && not (strange x.peer)
+
+abbrev pub lives_among : (Host → Bool) → List Life → List Life
+lives_among strange lives = filter (is_among strange) lives
+
+-- what another list has beside these lives
+abbrev pub beside_among : {A : Type 0} → (Host → Bool) → List Life → List A → List A
+beside_among strange [] others = others
+beside_among strange (x ∷ lives) [] = []
+beside_among strange (x ∷ lives) (a ∷ others) = if is_among strange x then a ∷ beside_among strange lives others
+    else beside_among strange lives others

@@ -1,0 +1,5 @@
+pub mod Promised
+pub mod Ends
+pub mod Book
+pub mod Laws
+pub mod Worked

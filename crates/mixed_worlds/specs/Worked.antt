@@ -1,0 +1,50 @@
+-- Small networks with a stranger, `third`: words for worked examples.
+use Rattle.std.specs.Prelude.{List, [], ◌∷◌}
+use Rattle.interface.specs.declared.crossing.Answer.TheVariants as answer
+use Rattle.interface.specs.declared.crossing.Crossing.TheVariants as crossing
+use Rattle.promise.specs.declared.life.Life.{Life}
+use Rattle.sockets.specs.Worked.{RTS, STR, control, first, message, on_link, second, third}
+use Rattle.sockets.specs.declared.request.Request.TheVariants as request
+use Rattle.net_sim.specs.Book.{carried, granted, new_life}
+use Rattle.net_sim.specs.Story.{Asked, Crossed, Moment}
+use Rattle.net_sim.specs.Worked.{eight}
+use Rattle.net_sim.specs.WorkedResets.{rst}
+use Rattle.masked_worlds.specs.Worked.{listener_taken, stranger_ready}
+
+-- the second host answers the stranger that took its listening socket, and so the end is open there
+abbrev pub stranger_opened : List Moment
+stranger_opened = Crossed (crossing.Out (control second third (STR 33 16 8))) ∷ listener_taken
+
+-- the second host contacts the stranger, which takes the RST
+abbrev pub stranger_contacted : List Moment
+stranger_contacted = Crossed (crossing.In (rst second third)) ∷ Crossed (crossing.Out (rst second third)) ∷ Asked
+    second (request.Contact third) ∷ []
+
+-- the stranger sends to a socket that listens at the second host, with bytes of eight bits, and the second grants two
+-- messages and 16 bits
+abbrev pub stranger_granted : List Moment
+stranger_granted =
+    Asked second (request.Grant 16 2 16) ∷ Crossed (crossing.Out (control second third (RTS 16 33 2))) ∷ Crossed
+    (crossing.In (control third second (STR 33 16 8)))
+    ∷ Crossed (crossing.Out (control third second (STR 33 16 8))) ∷ Asked second (request.Listen 16 8) ∷ stranger_ready
+
+-- then it sends one byte of seven bits, and after that one of eight
+abbrev pub odd_size : List Moment
+odd_size =
+    Crossed (crossing.In (message third second 2 (0 ∷ 8 ∷ 0 ∷ 1 ∷ 0 ∷ 255 ∷ []))) ∷ Crossed
+    (crossing.Out (message third second 2 (0 ∷ 8 ∷ 0 ∷ 1 ∷ 0 ∷ 255 ∷ [])))
+    ∷ Crossed (crossing.Answer answer.Rfnm (on_link third second 2)) ∷ Crossed
+    (crossing.In (message third second 2 (0 ∷ 7 ∷ 0 ∷ 1 ∷ 0 ∷ 254 ∷ [])))
+    ∷ Crossed (crossing.Out (message third second 2 (0 ∷ 7 ∷ 0 ∷ 1 ∷ 0 ∷ 254 ∷ []))) ∷ stranger_granted
+
+-- the life of the end that receives, before anything is taken
+abbrev pub granting_life : Life
+granting_life = granted 2 16 (new_life second 16 third 33 8 7)
+
+-- and after it: only the second message was taken
+abbrev pub odd_life : Life
+odd_life = carried eight granting_life
+
+-- a life between the other two hosts
+abbrev pub plain_life : Life
+plain_life = new_life first 16 second 33 6 10

@@ -1,0 +1,80 @@
+//! Networks with strangers. The functions here do nothing: each clause is a law.
+
+ghost use Rattle.std.specs.Prelude.{◌≡◌, true, false, [], ◌∷◌, length};
+ghost use Rattle.promise.specs.Safe.{IsGranted};
+ghost use Rattle.sockets.specs.Worked.{second, third};
+ghost use Rattle.net_sim.specs.Book.{new_life};
+ghost use Rattle.net_sim.specs.Timeline.{crossings_of};
+ghost use Rattle.net_sim.specs.Told.{kept_in};
+ghost use Rattle.masked_worlds.specs.Mixed.{AreMixed};
+ghost use Rattle.masked_worlds.specs.Worked.{is_third, three};
+ghost use Rattle.world_keeps_lives.specs.Firsts.{IsFirst};
+ghost use Rattle.mixed_worlds.specs.Book.{beside_among, lives_among, mixed_kept};
+ghost use Rattle.mixed_worlds.specs.Laws.Among.{AmongLives, AmongPromise};
+ghost use Rattle.mixed_worlds.specs.Laws.Toward.{TowardBounded, TowardEnds, TowardLive, TowardSockets, TowardTaken};
+ghost use Rattle.mixed_worlds.specs.Worked.{granting_life, odd_life, odd_size, plain_life};
+ghost use Rattle.mixed_worlds.specs.Worked.{stranger_contacted, stranger_granted, stranger_opened};
+
+use masked_worlds::law::masked;
+use net_sim::law::orders;
+use world_keeps_lives::law::programs;
+use world_keeps_pairing::law as pairing;
+use world_keeps_streams::law as streams;
+
+/// Hosts with programs among each other, whatever strangers send and take.
+pub fn among()
+    // the masked moments keep the whole promise, and every clause of endings
+    ensures promise { AmongPromise }
+
+    // the lives among these hosts, with what was handed over in them and their fates, are those of the masked moments
+    ensures lives { AmongLives }
+{
+    masked();
+    orders();
+    pairing::lives();
+    programs();
+    streams::lives();
+}
+
+/// A host with a program, toward strangers and all others.
+pub fn toward()
+    // whatever a peer says, of two sockets there is at most one end with it, and what waits is what it still has to say
+    ensures ends { TowardEnds }
+
+    // each socket is free, or has one end with one peer, whose lives are all that continue there
+    ensures sockets { TowardSockets }
+
+    // so a life that isn't over is that of one open end, and no receiving life takes more than it granted
+    ensures live { TowardLive }
+    ensures taken { TowardTaken }
+    ensures bounded { TowardBounded }
+{
+    orders();
+}
+
+/// What is kept of a network with a stranger, and what of it is among hosts with programs.
+pub fn worked_books()
+    // a stranger took a listening socket: the host has a life with it, which isn't among hosts with programs
+    ensures mixed { AreMixed is_third three stranger_opened }
+    ensures opened { (mixed_kept is_third stranger_opened).book.lives ≡ new_life second 33 third 16 8 7 ∷ [] }
+    ensures toward { lives_among is_third (mixed_kept is_third stranger_opened).book.lives ≡ [] }
+
+    // nobody at a stranger is notified, as the user of a host with a program would be
+    ensures untold { (mixed_kept is_third stranger_contacted).book.notices ≡ [] }
+    ensures told { length (kept_in stranger_contacted).book.notices ≡ 1 }
+
+    // of several lives those between other hosts, and what another list has beside them
+    ensures among { lives_among is_third (odd_life ∷ plain_life ∷ []) ≡ plain_life ∷ [] }
+    ensures beside { beside_among is_third (odd_life ∷ plain_life ∷ []) (true ∷ false ∷ []) ≡ false ∷ [] }
+    ensures owner { lives_among is_third (new_life third 33 second 16 7 8 ∷ []) ≡ [] }
+{}
+
+/// What isn't promised toward a stranger: a message of another byte size is answered by ERR and not taken, so what was
+/// taken is no longer the first on its link. It is still within what was granted.
+pub fn worked_toward()
+    ensures mixed { AreMixed is_third three odd_size }
+    ensures granting { (mixed_kept is_third stranger_granted).book.lives ≡ granting_life ∷ [] }
+    ensures life { (mixed_kept is_third odd_size).book.lives ≡ odd_life ∷ [] }
+    ensures unfirst { IsFirst (crossings_of odd_size) (record { life = odd_life; link = 2 }) → ⊥ }
+    ensures granted { IsGranted odd_life 1 (length odd_life.bits) }
+{}

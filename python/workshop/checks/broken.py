@@ -1,0 +1,65 @@
+"""What the book of a world in the model breaks of all that is promised of it."""
+
+from __future__ import annotations
+
+from collections.abc import Iterator
+from typing import Any
+
+from dorydate.model.audit import Lives, Log, audit, match
+from dorydate.model.book import Life
+from dorydate.model.clean import unclean
+from dorydate.model.crossings import Carrier
+from dorydate.model.endings import EndingWorld
+from dorydate.model.firsts import determined
+from dorydate.model.host import Host
+from dorydate.model.names import HostName
+from dorydate.model.world import World
+
+
+def pairs_that_differ(log: Log, lives: Lives) -> Iterator[tuple[Life, Life]]:
+    """Lives that continue, with each other's hosts and sockets, that are not one connection."""
+    going = [life for life in lives if not life.has_ended]
+    for life in filter(Life.receives, going):
+        for other in going:
+            swapped = (other.host, other.socket, other.peer, other.foreign) == (life.peer, life.foreign, life.host, life.socket)
+            if swapped and not match(log, life, other):
+                yield life, other
+
+
+class Watched(World):
+    """A world that remembers which messages changed their host's program, or made it report something."""
+
+    def __init__(self, carrier: Carrier) -> None:
+        super().__init__(carrier)
+        self.effects: set[int] = set()
+
+    def take(self, host: HostName) -> bool:
+        before, told, place = kept_by(self.hosts.get(host)), len(self.book.notices), len(self.carrier.log)
+        given = super().take(host)
+        if given and (kept_by(self.hosts[host]), len(self.book.notices)) != (before, told):
+            self.effects.add(place)
+        return given
+
+
+def kept_by(program: Host | None) -> Any:
+    """All that a host's program keeps. A pair in the initial state counts as none."""
+    if program is None:
+        return None
+    pairs = {peer: (it.phase, it.early, it.owed, {*it.busy}, [{**vars(end)} for end in it.ends], [*it.queue]) for peer, it in program.pairs.items()}
+    return {peer: it for peer, it in pairs.items() if it != ("closed", False, False, set(), [], [])}, {**program.listening}
+
+
+def broken(world: World) -> str | None:
+    """What a world's book breaks, None where it keeps all."""
+    log, lives = world.carrier.log, world.book.lives
+    if isinstance(world, Watched) and unclean(log, world.book.contacts, world.effects) is not None:
+        return "a clean reset"
+    if part := audit(log, lives):
+        return part
+    if next(pairs_that_differ(log, lives), None):
+        return "lives that go on and are no connection"
+    if any(notice.startswith("error") for _, notice, _ in world.book.notices):
+        return "an error"
+    if not determined(log, lives):
+        return "what a log says of the bits of its lives"
+    return world.judged() if isinstance(world, EndingWorld) else None
