@@ -10,7 +10,7 @@ from collections.abc import Callable
 from dorydate import BadNetwork, Network, Replay, Stopped
 from dorydate.ending import shown_name
 from dorydate.expect import differences, expected
-from dorydate.explore.breadth import Walk, lists
+from dorydate.explore.breadth import Lists, Walk
 from dorydate.explore.kinds import chosen, pools
 from dorydate.explore.lockup import SOURCE, Climb
 from dorydate.explore.lockup import events as outs
@@ -225,9 +225,10 @@ class Explorations(unittest.TestCase):
 
     def test_every_list(self) -> None:
         contacts = [Contact(a, b) for a, b in zip(TWO.hosts(), reversed(TWO.hosts()))]
-        script, count, whole = lists(TWO, read(SEARCHES["resets-in-step"].pattern), found(), [*contacts, Calm(1)], 4, 60)
+        search = Lists(TWO, read(SEARCHES["resets-in-step"].pattern), found(), [*contacts, Calm(1)])
+        script = search.run(4, 60)
         assert script is not None
-        self.assertEqual((len(script), whole), (4, 3))
+        self.assertEqual((len(script), search.whole), (4, 3))
 
     def test_networks_that_do_not_fit(self) -> None:
         with self.assertRaises(CannotRun):

@@ -24,7 +24,8 @@ from dorydate.explore.sides import batches, calms_of, with_own_places
 from dorydate.explore.state import OtherState, State
 from dorydate.model.without import HARMLESS
 from dorydate.network import Network
-from dorydate.program import Program, found
+from dorydate.program import Program
+from dorydate.where import found
 from dorydate.script import Calm, read_event
 
 Made = TypeVar("Made")

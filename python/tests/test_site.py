@@ -9,7 +9,7 @@ import tempfile
 import unittest
 from pathlib import Path
 
-from dorydate.program import found
+from dorydate.where import found
 from workshop.builds.site import NoSite, broken, index_of, listing
 from workshop.builds.site_charts import NotDrawn, drawn, read
 from workshop.parts import ROOT

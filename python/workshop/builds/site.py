@@ -115,6 +115,7 @@ def write_sources(folder: str, paths: Iterable[str]) -> int:
 
 def make(folder: str, workbench: str, program: str | None) -> int:
     """Makes the site. How many pages it has, sources not counted."""
+    from dorydate.where import program_at
     from workshop.builds.site_examples import example_pages
     from workshop.builds.site_pages import Linked, Page, page_of
 
@@ -125,7 +126,7 @@ def make(folder: str, workbench: str, program: str | None) -> int:
     linked = Linked()
     pages: list[Page] = [page_of(it, text_of(f"{ROOT}/{it}"), linked) for it in documents()]
     titles = {it.address: it.title for it in pages}
-    pages += example_pages(program)
+    pages += example_pages(program_at(program) if program else None)
     for it in [*pages, Page("pages.html", "All pages", listing(titles))]:
         write(folder, it.address, whole(it.address, it.title, it.body))
     write(folder, "index.js", index_of((it.title, heading, f"{it.address}#{anchor}" if anchor else it.address, text) for it in pages for heading, anchor, text in it.sections()))

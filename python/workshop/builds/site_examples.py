@@ -14,6 +14,7 @@ from dorydate.explain.command import drawn
 from dorydate.explain.runs import CannotTell, replay
 from dorydate.explain.topology import network_by
 from dorydate.given import Input
+from dorydate.program import Program
 from dorydate.state import State
 from workshop.builds.site_charts import drawn as chart_of
 from workshop.builds.site_pages import Page
@@ -32,7 +33,7 @@ def shortened(chart: str) -> tuple[str, int]:
     return "\n".join(lines[: begin + MOST_ROWS]), max(len(lines) - begin - MOST_ROWS, 0)
 
 
-def chart_part(given: Input, program: str) -> Iterator[str]:
+def chart_part(given: Input, program: Program) -> Iterator[str]:
     """The chart of a replay; nothing of an input that is refused, or that has too many hosts."""
     try:
         found = replay(given, program)
@@ -68,7 +69,7 @@ def command_of(name: str) -> str:
     return " ".join(["./arpasim", *(text_of(path).split() if os.path.exists(path) else []), f"&lt; examples/{name}"])
 
 
-def body_of(example: dict[str, str], program: str | None, in_lessons: bool) -> str:
+def body_of(example: dict[str, str], program: Program | None, in_lessons: bool) -> str:
     """The page's body."""
     name, given = example["name"], Input(example["text"].encode())
     lines = "".join(f"<span>{html.escape(it)}</span>\n" for it in example["text"].rstrip("\n").split("\n"))
@@ -85,7 +86,7 @@ def body_of(example: dict[str, str], program: str | None, in_lessons: bool) -> s
     return "\n".join(parts)
 
 
-def example_pages(program: str | None) -> list[Page]:
+def example_pages(program: Program | None) -> list[Page]:
     """The pages of all examples, and the list of them."""
     named = {*re.findall(r"\]\(\.\./examples/([a-z0-9-]+)\)", text_of(f"{ROOT}/docs/lessons.md"))}
     examples = examples_in(f"{ROOT}/examples")
