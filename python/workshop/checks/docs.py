@@ -22,7 +22,7 @@ With --tags a file `tags` is made, by which editors find where a name is declare
 Each file in released/ has the hash that its note names.
 
 Then it counts what hides borders and what is dead, each against its limit: imports that reach into another crate's proofs/
-beside its module lemmas, names of proofs/ that are declared `pub` and are nowhere else, and folders of proofs/ with too many entries.
+beside its module lemmas, declarations of proofs/ to which nothing leads that is proved, and folders of proofs/ with too many entries.
 """
 
 from __future__ import annotations
@@ -38,12 +38,12 @@ from collections import Counter
 from collections.abc import Iterator
 
 from workshop.checks import release
-from workshop.documents import anchors, believed, budget, crates_page, dialect, figures, named_crates, notebook, paragraphs, planted, reference, rules, tags, tests, versions
+from workshop.documents import anchors, believed, budget, crates_page, dead, dialect, figures, named_crates, notebook, paragraphs, planted, reference, rules, tags, tests, versions
 from workshop.drawings import pictures
 from workshop.parts import ROOT
 
 MOST_REACHING = 0  # imports into another crate's proofs/ beside lemmas
-MOST_DEAD = 0  # names of proofs/ that are declared `pub` and are nowhere else
+MOST_DEAD = 200  # declarations of proofs/ that nothing leads to that is proved; `python3 python dead` names them
 MOST_ENTRIES = 40  # of a folder of proofs/
 # files that the checker asks for by their names, and what each crate lends to others
 ASKED_FOR = ("Answers.antt", "Invariants.antt", "Proof.antt", "Lib.antt")
@@ -198,23 +198,6 @@ def reaching() -> Iterator[str]:
                 yield f"{os.path.relpath(path, ROOT)}: it reaches into {crate}/proofs beside lemmas"
 
 
-def dead() -> Iterator[str]:
-    """The names that a file of proofs/ declares as `pub`, and that are nowhere else in the sources, or in their own file beyond what they are."""
-    text = {path: re.sub(r"(?m)(^|\s)--( .*|-*)$", "", text_of(path)) if path.endswith(".antt") else text_of(path) for path in sources()}
-    counts = {path: Counter(TOKEN.findall(it)) for path, it in text.items()}
-    total = sum(counts.values(), Counter[str]())
-    for path, it in text.items():
-        if "/proofs/" not in path or os.path.basename(path) in ASKED_FOR:
-            continue
-        for name in re.findall(r"(?m)^ *(?:(?:pattern|unfoldable|abbrev) )*pub (?:(?:pattern|unfoldable|abbrev) )*([^\s(){}\[\],.;:@`\"◌]+) : ", it):
-            if total[name] > counts[path][name]:
-                continue
-            # what it is: its type, and the clauses below, which begin with its name
-            itself = len(re.findall(rf"(?m)^ *(?:\w+ )*{re.escape(name)}(?=\s|$)", it))
-            if total[name] <= itself:
-                yield f"{os.path.relpath(path, ROOT)}: nothing cites `{name}`"
-
-
 def crowded() -> Iterator[str]:
     """The folders of proofs/ with too many entries."""
     for folder in {part for path in sources("crates/*/proofs") for part in parents(path)}:
@@ -231,7 +214,7 @@ def parents(path: str) -> Iterator[str]:
 
 def over_limits() -> Iterator[str]:
     """What is above the limits, after a line with the counts."""
-    kinds = ("imports into another crate's proofs/ beside lemmas", [*reaching()], MOST_REACHING), ("names that nothing cites", [*dead()], MOST_DEAD), ("crowded folders", sorted(crowded()), 0)
+    kinds = ("imports into another crate's proofs/ beside lemmas", [*reaching()], MOST_REACHING), ("declarations of proofs that nothing leads to", dead.faults(), MOST_DEAD), ("crowded folders", sorted(crowded()), 0)
     print("check docs:", ", ".join(f"{len(found)} {what}" for what, found, _ in kinds))
     for _, found, most in kinds:
         yield from found if len(found) > most else []

@@ -71,7 +71,8 @@ def taken_in(source: Source, line: str) -> bool:
 
 def parsed(path: str, text: str) -> Source:
     """The declarations of a file, by its layout: each begins at the indent of its section, and what is further in belongs to it."""
-    source, current = Source(path), None
+    source = Source(path)
+    current: Block | None = None
     indents = [0]  # of the sections that are open
     lines = text.split("\n")
     for at, whole in enumerate(lines):
