@@ -65,8 +65,8 @@ class Host:
 class Imp:
     """An IMP: its number, how many hosts it has, and the name of its site.
 
-    >>> two.imps[0], str(Imp(7))
-    (Imp(number=1, hosts=1, name='UCLA'), 'IMP 7')
+    >>> str(two.imps[0]), str(Imp(7))
+    ('UCLA', 'IMP 7')
     """
 
     number: int

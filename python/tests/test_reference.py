@@ -53,4 +53,6 @@ class Reference(unittest.TestCase):
         self.assertEqual(spelled("Replay", "text", row["text"]), "net.text")
 
     def test_paragraphs_and_examples(self) -> None:
-        self.assertEqual([*sections("One\n    two.\n\n    >>> 1\n    1\n    ")], ["One two.", "```python\n>>> 1\n1\n```"])
+        self.assertEqual(
+            [*sections("One\n    two.\n\n    >>> 1\n    1\n    ")], ["One two.", "```python\n>>> 1\n1\n```"]
+        )

@@ -27,16 +27,25 @@ class Charts(unittest.TestCase):
     def test_lanes_and_rows(self) -> None:
         lanes, rows = read(CHART)
         self.assertEqual(lanes, {"h0_1": "Host 0/1 at UCLA", "h0_2": "Host 0/2"})
-        self.assertEqual([(it.kind, it.source, it.destination) for it in rows], [("->>", "h0_1", "h0_2"), ("-x", "h0_1", "h0_2"), ("note", "h0_2", "h0_2")])
+        self.assertEqual(
+            [(it.kind, it.source, it.destination) for it in rows],
+            [("->>", "h0_1", "h0_2"), ("-x", "h0_1", "h0_2"), ("note", "h0_2", "h0_2")],
+        )
         self.assertEqual(rows[0].words, "1 byte of 8 bits: #, on link 2")
 
     def test_a_lost_message_ends_in_a_cross_and_long_words_in_a_second_line(self) -> None:
         picture = drawn(CHART)
-        self.assertEqual((picture.count('class="head"'), picture.count('class="lost"'), picture.count("<rect")), (1, 2, 1))
+        self.assertEqual(
+            (picture.count('class="head"'), picture.count('class="lost"'), picture.count("<rect")), (1, 2, 1)
+        )
         self.assertGreater(len(read(CHART)[1][1].lines(["h0_1", "h0_2"])), 1)
 
     def test_what_is_not_drawn_is_refused(self) -> None:
-        for chart, words in (("graph TD\n", "begins with graph TD"), (CHART + "    loop x\n", "the line loop x"), (CHART + "    Note over h9_9: x\n", "no participant h9_9")):
+        for chart, words in (
+            ("graph TD\n", "begins with graph TD"),
+            (CHART + "    loop x\n", "the line loop x"),
+            (CHART + "    Note over h9_9: x\n", "no participant h9_9"),
+        ):
             with self.subTest(words), self.assertRaisesRegex(NotDrawn, words):
                 read(chart)
 
@@ -44,7 +53,9 @@ class Charts(unittest.TestCase):
 class Parts(unittest.TestCase):
     def test_a_link_that_leads_nowhere_is_found(self) -> None:
         with tempfile.TemporaryDirectory() as folder:
-            Path(folder, "a.html").write_text('<a href="b.html">b</a> <a href="a.html#there">x</a> <a href="#none">y</a> <h1 id="there">A</h1> <a href="https://example.org/">z</a>')
+            Path(folder, "a.html").write_text(
+                '<a href="b.html">b</a> <a href="a.html#there">x</a> <a href="#none">y</a> <h1 id="there">A</h1> <a href="https://example.org/">z</a>'
+            )
             self.assertEqual([*broken(folder)], ["a.html: b.html", "a.html: #none"])
 
     def test_each_page_is_in_a_group(self) -> None:
@@ -53,7 +64,10 @@ class Parts(unittest.TestCase):
             listing({"other.html": "Other"})
 
     def test_words_of_a_section_are_found_once(self) -> None:
-        self.assertEqual(index_of([("A page", "Head", "a.html#head", "One two, one")]), 'window.SECTIONS = [["A page","Head","a.html#head","one two"]];\n')
+        self.assertEqual(
+            index_of([("A page", "Head", "a.html#head", "One two, one")]),
+            'window.SECTIONS = [["A page","Head","a.html#head","one two"]];\n',
+        )
 
 
 class Whole(unittest.TestCase):
@@ -61,7 +75,9 @@ class Whole(unittest.TestCase):
         with tempfile.TemporaryDirectory() as room:
             folder = f"{room}/site"
             env = {**os.environ, "DORYDATE_PROGRAM": found().path}
-            ran = subprocess.run([sys.executable, "-B", f"{ROOT}/python", "site", folder], capture_output=True, text=True, env=env)
+            ran = subprocess.run(
+                [sys.executable, "-B", f"{ROOT}/python", "site", folder], capture_output=True, text=True, env=env
+            )
             if "no package markdown" in ran.stderr:
                 self.skipTest(ran.stderr.strip())
             self.assertEqual((ran.returncode, ran.stderr), (0, ""))
@@ -69,4 +85,7 @@ class Whole(unittest.TestCase):
             page = Path(folder, "examples", "lo-of-login.html").read_text(encoding="utf-8")
             self.assertIn('href="../dorydate.html#e=lo-of-login"', page)
             self.assertIn('<div class="chart"><svg', page)
-            self.assertIn('<span id="L1">', Path(folder, "sources", "crates", "headline", "src", "book.rt.html").read_text(encoding="utf-8"))
+            self.assertIn(
+                '<span id="L1">',
+                Path(folder, "sources", "crates", "headline", "src", "book.rt.html").read_text(encoding="utf-8"),
+            )

@@ -21,11 +21,31 @@ from collections.abc import Iterable, Iterator
 
 from workshop.parts import ROOT, any_program, text_of
 
-PAGES = ("README.md", "CONTRIBUTING.md", "CHANGELOG.md", "docs/*.md", "docs/measured/*.md", "crates/*/CLAIMS.md", "web/README.md")
+PAGES = (
+    "README.md",
+    "CONTRIBUTING.md",
+    "CHANGELOG.md",
+    "docs/*.md",
+    "docs/measured/*.md",
+    "crates/*/CLAIMS.md",
+    "web/README.md",
+)
 ASSETS = ("style.css", "search.js")
 SYSTEM = "/usr/bin/python3"  # sees the system's packages, where another interpreter is first on the path
-NAVIGATION = {"Tour": "docs/tour.html", "Lessons": "docs/lessons.html", "Examples": "examples/index.html", "Workbench": "dorydate.html", "All pages": "pages.html"}
-GROUPS = {"To begin with": r"index|docs/(tour|lessons|workbench|program|python|reference|export|audit)", "Rules and laws": r"docs/[a-z-]+", "How it is made": r"docs/[A-Z]+|contributing|changelog|web/README", "Measured and listed": r"docs/measured/.*", "Claims of crates": r"crates/.*"}
+NAVIGATION = {
+    "Tour": "docs/tour.html",
+    "Lessons": "docs/lessons.html",
+    "Examples": "examples/index.html",
+    "Workbench": "dorydate.html",
+    "All pages": "pages.html",
+}
+GROUPS = {
+    "To begin with": r"index|docs/(tour|lessons|workbench|program|python|reference|export|audit)",
+    "Rules and laws": r"docs/[a-z-]+",
+    "How it is made": r"docs/[A-Z]+|contributing|changelog|web/README",
+    "Measured and listed": r"docs/measured/.*",
+    "Claims of crates": r"crates/.*",
+}
 MOST_WORDS = 400  # of a section, that can be found
 HREF = re.compile(r'\b(?:href|src|srcset)="([^"]+)"')
 
@@ -72,7 +92,12 @@ def listing(titles: dict[str, str]) -> str:
     left, parts = dict(titles), ["<h1>All pages</h1>"]
     for group, pattern in GROUPS.items():
         own = {to: left.pop(to) for to in [*left] if re.fullmatch(rf"(?:{pattern})\.html", to)}
-        parts += [f"<h2>{group}</h2>", "<ul>", *(f'<li><a href="{to}">{html.escape(title)}</a></li>' for to, title in own.items()), "</ul>"]
+        parts += [
+            f"<h2>{group}</h2>",
+            "<ul>",
+            *(f'<li><a href="{to}">{html.escape(title)}</a></li>' for to, title in own.items()),
+            "</ul>",
+        ]
     if left:
         raise NoSite(f"no group has the page {min(left)}")
     return "\n".join(parts)
@@ -92,9 +117,16 @@ def source_page(path: str) -> str:
     full = f"{ROOT}/{path}"
     if os.path.isdir(full):
         names = [it for it in sorted(os.listdir(full)) if it != "out"]
-        return f"<h1><code>{html.escape(path)}</code></h1>\n<ul>\n" + "\n".join(f"<li><code>{html.escape(it)}</code></li>" for it in names) + "\n</ul>"
+        return (
+            f"<h1><code>{html.escape(path)}</code></h1>\n<ul>\n"
+            + "\n".join(f"<li><code>{html.escape(it)}</code></li>" for it in names)
+            + "\n</ul>"
+        )
     with open(full, encoding="utf-8", errors="replace") as file:
-        lines = "".join(f'<span id="L{number}">{html.escape(line)}</span>\n' for number, line in enumerate(file.read().split("\n"), 1))
+        lines = "".join(
+            f'<span id="L{number}">{html.escape(line)}</span>\n'
+            for number, line in enumerate(file.read().split("\n"), 1)
+        )
     return f'<h1><code>{html.escape(path)}</code></h1>\n<pre class="lines">{lines}</pre>'
 
 
@@ -129,7 +161,15 @@ def make(folder: str, workbench: str, program: str | None) -> int:
     pages += example_pages(program_at(program) if program else None)
     for it in [*pages, Page("pages.html", "All pages", listing(titles))]:
         write(folder, it.address, whole(it.address, it.title, it.body))
-    write(folder, "index.js", index_of((it.title, heading, f"{it.address}#{anchor}" if anchor else it.address, text) for it in pages for heading, anchor, text in it.sections()))
+    write(
+        folder,
+        "index.js",
+        index_of(
+            (it.title, heading, f"{it.address}#{anchor}" if anchor else it.address, text)
+            for it in pages
+            for heading, anchor, text in it.sections()
+        ),
+    )
     write_sources(folder, linked.paths)
     shutil.copyfile(workbench, f"{folder}/dorydate.html")
     for name in ASSETS:
@@ -163,7 +203,9 @@ def broken(folder: str) -> Iterator[str]:
 def made(folder: str, workbench: str, program: str) -> None:
     """Makes the site in a process of its own, which may be another Python: a release does."""
     env = {**os.environ, "DORYDATE_PROGRAM": program}
-    ran = subprocess.run([sys.executable, "-B", f"{ROOT}/python", "site", folder, workbench], capture_output=True, text=True, env=env)
+    ran = subprocess.run(
+        [sys.executable, "-B", f"{ROOT}/python", "site", folder, workbench], capture_output=True, text=True, env=env
+    )
     if ran.returncode:
         raise NoSite((ran.stderr.strip() or ran.stdout.strip()).split("\n")[-1])
 
@@ -183,7 +225,11 @@ def main() -> int:
         return 1
     folder = os.path.abspath(sys.argv[1])
     try:
-        count = make(folder, sys.argv[2] if len(sys.argv) > 2 else f"{ROOT}/released/dorydate.html", os.environ.get("DORYDATE_PROGRAM") or any_program())
+        count = make(
+            folder,
+            sys.argv[2] if len(sys.argv) > 2 else f"{ROOT}/released/dorydate.html",
+            os.environ.get("DORYDATE_PROGRAM") or any_program(),
+        )
     except (NoSite, OSError) as why:
         print(f"site: {why}", file=sys.stderr)
         return 1

@@ -8,7 +8,11 @@ import textwrap
 from collections.abc import Iterator, Sequence
 from dataclasses import dataclass
 
-LANE, CHARACTER, LINE = 164, 6.6, 17  # pixels from one lane to the next, so that a telephone has room for two, and of a character and a line at most
+LANE, CHARACTER, LINE = (
+    164,
+    6.6,
+    17,
+)  # pixels from one lane to the next, so that a telephone has room for two, and of a character and a line at most
 PARTICIPANT = re.compile(r"participant (\w+) as (.+)")
 ARROW = re.compile(r"(\w+)(->>|-->>|-x)(\w+): (.*)")
 NOTE = re.compile(r"Note over (\w+): (.*)")
@@ -90,7 +94,9 @@ def drawn(chart: str) -> str:
         lines = row.lines(names)
         if row.source == row.destination:
             height = LINE * len(lines) + 8
-            parts.append(f'<rect x="{at[row.source] - LANE / 2 + 6:g}" y="{y + 6:g}" width="{LANE - 12}" height="{height}" rx="4"/>')
+            parts.append(
+                f'<rect x="{at[row.source] - LANE / 2 + 6:g}" y="{y + 6:g}" width="{LANE - 12}" height="{height}" rx="4"/>'
+            )
             parts += words(at[row.source], y + 21, lines)
             y += height + 6
         else:

@@ -52,7 +52,10 @@ def map_part(given: Input) -> Iterator[str]:
     if network and len(network.imps) <= MOST_IMPS:
         picture = map_of(network, State(network, {}))
         if len(network.imps) <= 2:  # they are side by side, in the middle
-            picture = picture.replace(f'viewBox="0 0 {SIZE} {SIZE}" width="{SIZE}" height="{SIZE}"', f'viewBox="0 {SIZE // 2 - 40} {SIZE} 90" width="{SIZE}" height="90"')
+            picture = picture.replace(
+                f'viewBox="0 0 {SIZE} {SIZE}" width="{SIZE}" height="{SIZE}"',
+                f'viewBox="0 {SIZE // 2 - 40} {SIZE} 90" width="{SIZE}" height="90"',
+            )
         yield f'<h2>The network</h2>\n<div class="picture">{picture}</div>'
 
 
@@ -91,5 +94,7 @@ def example_pages(program: Program | None) -> list[Page]:
     named = {*re.findall(r"\]\(\.\./examples/([a-z0-9-]+)\)", text_of(f"{ROOT}/docs/lessons.md"))}
     examples = examples_in(f"{ROOT}/examples")
     rows = "\n".join(f'<li><a href="{it["name"]}.html">{html.escape(it["title"])}</a></li>' for it in examples)
-    pages = [Page(f"examples/{it['name']}.html", it["title"], body_of(it, program, it["name"] in named)) for it in examples]
+    pages = [
+        Page(f"examples/{it['name']}.html", it["title"], body_of(it, program, it["name"] in named)) for it in examples
+    ]
     return [Page("examples/index.html", "Examples", f"<h1>Examples</h1>\n<ul>\n{rows}\n</ul>"), *pages]

@@ -12,7 +12,13 @@ import markdown
 from workshop.builds.site_charts import drawn
 from workshop.parts import ROOT
 
-OWN = {"README.md": "index.html", "CONTRIBUTING.md": "contributing.html", "CHANGELOG.md": "changelog.html", "released/dorydate.html": "dorydate.html", "examples": "examples/index.html"}
+OWN = {
+    "README.md": "index.html",
+    "CONTRIBUTING.md": "contributing.html",
+    "CHANGELOG.md": "changelog.html",
+    "released/dorydate.html": "dorydate.html",
+    "examples": "examples/index.html",
+}
 COPIED = (".svg", ".png", ".ipynb")
 MERMAID = re.compile(r"^```mermaid\n(.*?)^```$", re.MULTILINE | re.DOTALL)
 LIST_AFTER_TEXT = re.compile(r"^((?![-*>|#]|\d+\. |\s).*\S.*)\n(?=(?:[-*]|\d+\.) )", re.MULTILINE)
@@ -128,6 +134,8 @@ def page_of(path: str, text: str, linked: Linked) -> Page:
     body = markdown.markdown(source, extensions=["tables", "fenced_code", "sane_lists", "md_in_html"])
     body = re.sub(r"<p>BLOCK(\d+)BLOCK</p>", lambda found: kept[int(found[1])], body)
     body = unique_anchors(body).replace("<table>", '<div class="table"><table>').replace("</table>", "</table></div>")
-    body = ADDRESS.sub(lambda found: f'{found[1]}="{html.escape(linked.rewritten(path, html.unescape(found[2])), quote=True)}"', body)
+    body = ADDRESS.sub(
+        lambda found: f'{found[1]}="{html.escape(linked.rewritten(path, html.unescape(found[2])), quote=True)}"', body
+    )
     heading = HEADING.search(body)
     return Page(address_of(path), plain(heading[3]) if heading else path, body)

@@ -39,7 +39,14 @@ CALLER = {"Replay": "net"}  # the name of an instance in a signature; of others 
 
 def members(kind: type) -> dict[str, Any]:
     """The public calls and properties that a class defines itself."""
-    return {name: it for name, it in vars(kind).items() if not name.startswith("_") and isinstance(it, (property, staticmethod)) or inspect.isfunction(it) and not name.startswith("_")}
+    return {
+        name: it
+        for name, it in vars(kind).items()
+        if not name.startswith("_")
+        and isinstance(it, (property, staticmethod))
+        or inspect.isfunction(it)
+        and not name.startswith("_")
+    }
 
 
 def spelled(kind: str, name: str, member: Any) -> str:
@@ -47,7 +54,11 @@ def spelled(kind: str, name: str, member: Any) -> str:
     if isinstance(member, property):
         return f"{CALLER.get(kind, kind.lower())}.{name}"
     call = member.__func__ if isinstance(member, staticmethod) else member
-    words = [str(it.replace(annotation=inspect.Parameter.empty)) for it in inspect.signature(call).parameters.values() if it.name not in ("self", "why")]
+    words = [
+        str(it.replace(annotation=inspect.Parameter.empty))
+        for it in inspect.signature(call).parameters.values()
+        if it.name not in ("self", "why")
+    ]
     of = kind if isinstance(member, staticmethod) else CALLER.get(kind, kind.lower())
     return f"{of}.{name}({', '.join(words)})"
 
@@ -74,7 +85,9 @@ def made() -> str:
     for name in NAMES:
         kind = getattr(dorydate, name)
         parts.append(documented(f"## {name}", kind.__doc__ or ""))
-        parts += [documented(f"### `{spelled(name, part, it)}`", it.__doc__ or "") for part, it in members(kind).items()]
+        parts += [
+            documented(f"### `{spelled(name, part, it)}`", it.__doc__ or "") for part, it in members(kind).items()
+        ]
     return "\n".join(parts)
 
 
