@@ -7,6 +7,7 @@
 - one connection after the other, always on the same two sockets of the same two hosts, so that all lives of a host are alike;
 - connections that are all open before the first of them has a message, so the way from a request to its message is long;
 - connections whose requests go out first and are taken at the end, so the way back from a stamp to its message is long;
+- connections of two hosts on one link, each of which counts all messages that follow;
 - messages that all go out before the first of them is taken, and are all taken before the first of them is answered, without lives.
 
 The others are broken, the first four of them in one place at the end, so all is looked at: an RFNM comes twice, two lives have one
@@ -38,6 +39,7 @@ OCTETS = 33_000_000
 DATA = "01000001" * 2
 TEXT = header(8, 2) + DATA
 LINKS = range(2, 32)
+REQUESTS = 12  # of ten octets each, in a control message of 120
 Make = Callable[[int], Book]  # a book of this many messages or connections
 Ends = tuple[HostName, HostName, int]  # a receiver, its sender and the link
 
@@ -118,6 +120,21 @@ def taken_late(count: int) -> Book:
     return book
 
 
+def one_link(count: int) -> Book:
+    """Connections of two hosts on one link, as many as messages without data that each of them counts."""
+    book = Book([], [], [])
+    receiver, sender, link = next(ends())
+    for first in range(0, count, REQUESTS):
+        pairs = [(2 * at, 2 * at + 1) for at in range(first, min(count, first + REQUESTS))]
+        asked = passed(book.log, Flow(receiver, sender, 0), control_message([of_sockets(RTS, own, foreign, link) for own, foreign in pairs]))
+        answered = passed(book.log, Flow(sender, receiver, 0), control_message([of_sockets(STR, foreign, own, 8) for own, foreign in pairs]))
+        book.lives.extend(Life(receiver, own, sender, foreign, asked[0], answered[1], "", count, [count, 0]) for own, foreign in pairs)
+        book.handed.extend([""] * len(pairs))
+    for _ in range(count):
+        passed(book.log, Flow(sender, receiver, link), header(8, 0))
+    return book
+
+
 def passed_out(log: list[Crossing], request: tuple[Flow, str]) -> int:
     log.append(Passed("out", *request))
     return len(log) - 1
@@ -169,6 +186,7 @@ MEASURED: list[tuple[str, Make]] = [
     ("connections of the same sockets", partial(one_after_another, True)),
     ("connections that are open at once", open_at_once),
     ("requests that are taken late", taken_late),
+    ("connections on one link that count the same messages", one_link),
     ("messages that all go out before one is taken", all_at_once),
     ("the same, and an RFNM comes twice", answered_twice),
     ("two lives with one request", one_request),
