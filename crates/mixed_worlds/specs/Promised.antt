@@ -20,8 +20,8 @@ use Rattle.world_keeps_streams.specs.Rests.{AllAgree, AllCalm, AllRest}
 
 -- each message that goes out is what its host's program says next, and what crosses is a run of the mailboxes. Of the
 -- book that comes of it: lives and notices are made of what crossed (the first two), it is safe, crossings determine
--- the bits of its lives (`firsts`), each life has its fate, and an orderly close loses nothing (`whole`). The other clauses
--- are those of `IsExact` in headline
+-- the bits of its lives (`firsts`), each life has its fate, and an orderly close loses nothing (`whole`). The other
+-- clauses are those of `IsExact` in headline
 pub record Promises (hosts : List Host) (moments : List Moment) : Type 0 where
   pub time : IsTimeline hosts moments
   pub run : IsRun hosts (crossings_of moments)
