@@ -12,6 +12,8 @@ from dorydate.explain.inside import Inside
 from dorydate.given import Input, shown
 from dorydate.explain.past import Past
 from dorydate.explain.runs import Happened, kept_program
+from dorydate.program import Program
+from dorydate.where import found
 from dorydate.explain.telling import said_beside, telling
 from dorydate.explain.topology import names_of, network_by
 from dorydate.model.script import read_event
@@ -104,8 +106,11 @@ class Copies(unittest.TestCase):
 
 class Programs(unittest.TestCase):
     def test_the_variable_names_another_program(self) -> None:
+        found.cache_clear()
         with mock.patch.dict(os.environ, {"DORYDATE_PROGRAM": "/a/program"}):
-            self.assertEqual(kept_program(), "/a/program")
+            named = kept_program()
+        found.cache_clear()
+        self.assertEqual(named, Program("/a/program"))
 
 
 class Pasts(unittest.TestCase):

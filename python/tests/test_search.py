@@ -73,7 +73,7 @@ class Executors(unittest.TestCase):
 
     def setUp(self) -> None:
         before = os.environ.get("DORYDATE_PROGRAM")
-        self.addCleanup(lambda: os.environ.pop("DORYDATE_PROGRAM") if before is None else os.environ.update(DORYDATE_PROGRAM=before))
+        self.addCleanup(lambda: os.environ.pop("DORYDATE_PROGRAM", None) if before is None else os.environ.update(DORYDATE_PROGRAM=before))
 
     def test_batches_come_in_order_from_any_number_on(self) -> None:
         for first in (0, 5):

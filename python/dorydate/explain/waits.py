@@ -18,7 +18,7 @@ from dorydate.model.connections import CLOSED, READY, End, Pair
 from dorydate.model.runs import Place
 from dorydate.model.subnet import Subnet
 from dorydate.model.world import World
-from dorydate.sentences.table import filled, listed, sentences
+from dorydate.sentences.table import count, filled, listed, sentences
 
 WHAT, FOR = sentences("waits"), sentences("waits for")
 LOOKED = 4  # rounds after which a network that printed nothing is said to be at rest
@@ -98,5 +98,6 @@ def what_bits_wait_for(hosts: dict[str, str], peer: HostName, pair: Pair, end: E
     if end.link in pair.busy:
         return filled(FOR["answer"], link=end.link)
     if end.messages == 0 or end.bits < end.size:
-        return f"{filled(FOR['grant'], hosts)} (`grant {spell_host(peer)} {end.foreign} MESSAGES BITS`)"
+        left = f": {count(end.messages, 'message')} and {count(end.bits, 'bit')} are granted, and a byte has {count(end.size, 'bit')}"
+        return f"{filled(FOR['grant'], hosts)}{left if end.messages or end.bits else ''} (`grant {spell_host(peer)} {end.foreign} MESSAGES BITS`)"
     return filled(FOR["offer"], hosts)
