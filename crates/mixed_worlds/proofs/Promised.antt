@@ -9,13 +9,13 @@ use Rattle.net_sim.specs.Clean.{HaveAddresses}
 use Rattle.net_sim.specs.Story.{Asked, Crossed, Moment}
 use Rattle.net_sim.specs.Timeline.{IsTimeline, crossings_of}
 use Rattle.world_keeps_pairing.specs.Laws.Lives.{LivesOne, LivesPartners}
-use Rattle.world_keeps_lives.specs.Laws.Programs.{ProgramsDrained, ProgramsFormed, ProgramsHanded, ProgramsTaken}
+use Rattle.world_keeps_lives.specs.Laws.Programs.{ProgramsDrained, ProgramsHanded, ProgramsTaken}
 use Rattle.world_keeps_lives.specs.Laws.Programs.{ProgramsTold}
 use Rattle.world_keeps_streams.specs.Arrivals.{AllCome}
 use Rattle.world_keeps_streams.specs.Came.{AllCame}
 use Rattle.world_keeps_streams.specs.Closes.{EachHanded}
 use Rattle.world_keeps_streams.specs.Rests.{AllCalm}
-use Rattle.world_keeps_streams.specs.Laws.Lives.{LivesAgree, LivesAnswered, LivesArrives, LivesCloses, LivesFirsts}
+use Rattle.world_keeps_streams.specs.Laws.Lives.{LivesAgree, LivesAnswered, LivesArrives, LivesCloses, LivesFirsts, LivesFormed}
 use Rattle.world_keeps_streams.specs.Laws.Lives.{LivesRests, LivesSent, LivesSource, LivesWhole}
 use Rattle.mixed_worlds.specs.Promised.{Promises}
 
@@ -28,7 +28,7 @@ Always Clause = (hosts : List Host) (moments : List Moment) → HaveAddresses ho
 pub record Known : Type 0 where
   pub partners : LivesPartners
   pub one : LivesOne
-  pub formed : ProgramsFormed
+  pub formed : LivesFormed
   pub told : ProgramsTold
   pub taken : ProgramsTaken
   pub handed : ProgramsHanded

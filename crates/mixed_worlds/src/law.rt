@@ -8,7 +8,7 @@ ghost use Rattle.net_sim.specs.Timeline.{crossings_of};
 ghost use Rattle.net_sim.specs.Told.{kept_in};
 ghost use Rattle.masked_worlds.specs.Mixed.{AreMixed};
 ghost use Rattle.masked_worlds.specs.Worked.{is_third, three};
-ghost use Rattle.world_keeps_lives.specs.Firsts.{IsFirst};
+ghost use Rattle.promise.specs.Formed.{IsFormed};
 ghost use Rattle.mixed_worlds.specs.Book.{beside_among, lives_among, mixed_kept};
 ghost use Rattle.mixed_worlds.specs.Laws.Among.{AmongLives, AmongPromise};
 ghost use Rattle.mixed_worlds.specs.Laws.Toward.{TowardBounded, TowardEnds, TowardLive, TowardSockets, TowardTaken};
@@ -75,6 +75,6 @@ pub fn worked_toward()
     ensures mixed { AreMixed is_third three odd_size }
     ensures granting { (mixed_kept is_third stranger_granted).book.lives ≡ granting_life ∷ [] }
     ensures life { (mixed_kept is_third odd_size).book.lives ≡ odd_life ∷ [] }
-    ensures unfirst { IsFirst (crossings_of odd_size) (record { life = odd_life; link = 2 }) → ⊥ }
+    ensures unfirst { IsFormed (crossings_of odd_size) odd_life → ⊥ }
     ensures granted { IsGranted odd_life 1 (length odd_life.bits) }
 {}

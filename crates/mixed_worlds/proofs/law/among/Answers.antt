@@ -9,7 +9,7 @@ returns-clause-promise c strange hosts moments mixed =
     promised (record {
       partners = c.lives.ensures.partners;
       one = c.lives.ensures.one;
-      formed = c.programs.ensures.formed;
+      formed = c.lives-2.ensures.formed;
       told = c.programs.ensures.told;
       taken = c.programs.ensures.taken;
       handed = c.programs.ensures.handed;
