@@ -59,10 +59,10 @@ def version(words: list[str]) -> None:
         raise Refused("usage: dorydate version")
     program = found()
     print(f"program: {program.path}{' (by Node)' if isinstance(program, ByNode) else ''}")
-    told = note() if is_released() else {}
+    said = note() if is_released() else {}
     for key in ("version", "commit", "sources", "toolchain", "mark", "gate"):
-        if key in told:
-            print(f"{key}: {told[key]}")
+        if key in said:
+            print(f"{key}: {said[key]}")
 
 
 SHORT: dict[str, Callable[[list[str]], None]] = {"examples": examples, "page": page, "version": version}

@@ -128,7 +128,7 @@ class MixedWorld(EndingWorld):
 
 
 class Told(Carrier):
-    """A carrier by which crosses what it is told."""
+    """A carrier by which crosses what the script says."""
 
     def __init__(self, hosts: list[HostName]) -> None:
         super().__init__()

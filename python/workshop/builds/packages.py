@@ -1,6 +1,6 @@
 """What a release is packed into for those who install it: a wheel, a package for npm, a package for Debian, and the C of the module.
 
-Each is made of files alone, with fixed times and modes, so the same files give the same octets.
+Each is made only of files, with fixed times and modes, so the same files give the same octets.
 """
 
 from __future__ import annotations

@@ -2,7 +2,7 @@
 
 The change is all that differs from the revision, by default from origin/main, or from main where there is none: commits, what isn't committed,
 and files that git doesn't know yet. Crates that a change of contracts or definitions has proved again are those above it, by crates.txt; a change
-of bodies and proofs alone leaves them. Which checks look at a file is in the table below.
+of nothing but bodies and proofs leaves them. Which checks look at a file is in the table below.
 """
 
 from __future__ import annotations

@@ -57,7 +57,7 @@ def broken(world: World) -> str | None:
     if part := audit(log, lives):
         return part
     if next(pairs_that_differ(log, lives), None):
-        return "lives that go on and are no connection"
+        return "lives that continue and are no connection"
     if any(notice.startswith("error") for _, notice, _ in world.book.notices):
         return "an error"
     if not determined(log, lives):

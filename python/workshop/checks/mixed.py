@@ -45,7 +45,7 @@ def broken_among(world: MixedWorld) -> str | None:
     if part := audit(log, lives):
         return part
     if next(pairs_that_differ(log, lives), None):
-        return "lives that go on and are no connection"
+        return "lives that continue and are no connection"
     peers = {notice.split(" ")[1] for _, notice, _ in world.book.notices if notice.startswith("error ")}
     if peers - {spell_host(it) for it in world.strangers}:
         return "an error"
@@ -110,7 +110,7 @@ def is_harmful(leak: type[Host]) -> bool:
 def check(runs: int) -> int:
     """The exit status."""
     if missed := [it.__doc__ for it in LEAKS if not is_found(it)]:
-        print("check worlds: no mixed world tells these programs from the right one:", *missed, sep="\n")
+        print("check worlds: no mixed world shows these programs to differ from the right one:", *missed, sep="\n")
         return 1
     if is_harmful(HARMLESS):
         print(f"check worlds: a program that should do no harm breaks the promise: {HARMLESS.__doc__}")
