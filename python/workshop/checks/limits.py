@@ -218,8 +218,8 @@ def main() -> int:
         print("check limits: there is no program of these sources")
         return 1
     wanted = kept()
-    kept = [name for name in names if name in wanted and wanted[name].status in (0, 4)]
-    wrong = [f"{name}: kept is no good end" for name in names if name not in kept]
+    good = [name for name in names if name in wanted and wanted[name].status in (0, 4)]
+    wrong = [f"{name}: kept is no good end" for name in names if name not in good]
     with ThreadPoolExecutor(os.cpu_count() or 1) as threads:
         wrong += differing("the program", dict(zip(names, threads.map(partial(by_program, program), names))), wanted)
     if "--models" in words:
