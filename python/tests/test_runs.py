@@ -221,7 +221,8 @@ class Explorations(unittest.TestCase):
         walk = Walk(TWO_RAW, read(SEARCHES["noted-before-it-comes"].pattern), found(), [*events, Calm(1)])
         script = walk.run(5, 60)
         assert script is not None
-        self.assertEqual((len(script), [it.states for it in walk.counts]), (5, [4, 4, 11, 46]))
+        # no script of up to four events; `./check shortest` compares the states of each depth with the plain program's
+        self.assertEqual((len(script), len(walk.counts)), (5, 4))
 
     def test_every_list(self) -> None:
         contacts = [Contact(a, b) for a, b in zip(TWO.hosts(), reversed(TWO.hosts()))]
