@@ -26,13 +26,13 @@ export const INTRODUCTIONS = {
     "rerouted-over-a-triangle": "Three IMPs in a triangle. A line fails under a message, and its answer has to find another way back.",
     "a-late-duplicate-after-a-restart":
         "An IMP that stops forgets all numbers. What has to be gone before it may come up and begin at 0 again?",
-    "an-imp-comes-up-when-its-past-is-gone": "The same without words: each refusal names the next thing that stands in the way.",
+    "an-imp-comes-up-when-its-past-is-gone": "The same without words: each refusal names the next thing that is in the way.",
     "a-host-stops-with-a-message": "A message waits for a host that stops, and the next one finds it down. Both senders learn it.",
     "a-host-that-stops-gives-dead": "A message has reached its IMP, and its host stops before it takes it.",
     "a-host-comes-up-when-settled": "A host stops with a message of its own outstanding. It may not start before that one has its end.",
     "give-up-waits-until-nothing-is-alive":
         "Giving a message up is refused as long as anything of it is alive: a late answer would be taken for that of the next one.",
-    "no-route-is-dead-at-once": "Before the IMPs have told one another distances, nobody knows a route.",
+    "no-route-is-dead-at-once": "Before the IMPs have exchanged distances, nobody knows a route.",
     "abandon-frees-a-slot": "Half of a long message is lost for good, and the other half holds a slot until an operator throws it away.",
     "slots-are-held": "An IMP collects pieces in eight slots. Eight messages lose their second pieces.",
     "reassembly-lockup":

@@ -66,7 +66,7 @@ test("questions are in plain words, and end as questions and answers do", () => 
 
 for (const name of Object.keys(QUESTIONS)) {
     test(`${name}: each question is before an event, and changes nothing that is printed`, async () => {
-        const [{ text }] = arranged([given(name)]);
+        const { text } = /** @type {{ text: string }} */ (arranged([given(name)]).find((it) => it.name === name));
         const { lines } = readInput(exampleText(name));
         for (const [line] of QUESTIONS[name]) assert.equal(lines[line - 1].kind, "event", `line ${line}`);
         const asked = notesOf(readInput(text)).filter((it) => it.kind !== "comment");
