@@ -34,7 +34,6 @@ import io
 import os
 import re
 import unittest
-from collections import Counter
 from collections.abc import Iterator
 
 from workshop.checks import release
@@ -45,9 +44,6 @@ from workshop.parts import ROOT
 MOST_REACHING = 0  # imports into another crate's proofs/ beside lemmas
 MOST_DEAD = 200  # declarations of proofs/ that nothing leads to that is proved; `python3 python dead` names them
 MOST_ENTRIES = 40  # of a folder of proofs/
-# files that the checker asks for by their names, and what each crate lends to others
-ASKED_FOR = ("Answers.antt", "Invariants.antt", "Proof.antt", "Lib.antt")
-TOKEN = re.compile(r"[^\s(){}\[\],.;:@`\"]+")
 DECLARED = re.compile(
     r"\bimpl(?:<[^>]*>)? +(?:\w+::)*(\w+)"
     r"|\b(?:fn|struct|enum|trait|const|ensures|requires|ghost|abbrev pub|record|data|pub(?= \w+ :)) +(\w+)"
