@@ -2,6 +2,7 @@
 
 ghost use Rattle.std.specs.Prelude.{◌≡◌};
 ghost use Rattle.headline.specs.Promise.{IsExact};
+ghost use Rattle.promise.specs.Arrived.{ArrivedBook};
 ghost use Rattle.promise.specs.Fates.{AreFated, ClosesWhole};
 ghost use Rattle.promise.specs.Promised.{Promised};
 ghost use Rattle.world_keeps_streams.specs.Over.{AreOver};
@@ -47,6 +48,7 @@ pub fn book_of<C: Carrier>(world: &World<C>) -> &Book
     ensures lawful { IsExact C.calls.seen world.now }
     ensures fated { AreFated result.now.book.lives result.now.fates }
     ensures whole { ClosesWhole result.now.book.crossings result.now.book.lives result.now.handed result.now.fates }
+    ensures arrived { ArrivedBook result.now.book.crossings result.now.book.lives result.now.fates }
     ensures over { AreOver result.now.book.contacts result.now.book.crossings result.now.book.lives result.now.fates }
 {
     world.book()

@@ -6,4 +6,5 @@ pub mod Formed
 pub mod Notices
 pub mod Connections
 pub mod Fates
+pub mod Arrived
 pub mod Ends

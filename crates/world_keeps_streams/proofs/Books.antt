@@ -4,6 +4,7 @@ pub mod All
 pub mod Agree
 pub mod Answered
 pub mod Arrives
+pub mod Arrived
 pub mod Began
 pub mod Books
 pub mod Clauses
@@ -25,6 +26,7 @@ pub mod Later
 pub mod Lies
 pub mod One
 pub mod Parted
+pub mod Placed
 pub mod Run
 pub mod Settled
 pub mod Silent

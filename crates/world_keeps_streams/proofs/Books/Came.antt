@@ -45,14 +45,14 @@ named_same x t n None = refl
 named_same x t n (Some p) =
     ap (λ (k : ℕ). let r : Name = record { place = p; own = k; foreign = t.socket } in Some r) n.foreign ∙ ap (λ (k : ℕ). let r : Name = record { place = p; own = x.foreign; foreign = k } in Some r) n.socket
 
-partner_named : (log : List Crossing) (x t : Life) → Named x t → partner_request log t ≡ partner_request log x
+pub partner_named : (log : List Crossing) (x t : Life) → Named x t → partner_request log t ≡ partner_request log x
 partner_named log x t n =
     named_same x t n (last_out (control_flow t.peer t.host) (before t.partner_stamp log))
     ∙ ap (λ (h : Host). named x (last_out (control_flow h t.host) (before t.partner_stamp log))) n.peer
     ∙ ap (λ (h : Host). named x (last_out (control_flow x.peer h) (before t.partner_stamp log))) n.host
     ∙ ap (λ (k : ℕ). named x (last_out (control_flow x.peer x.host) (before k log))) n.partner
 
-match_named : (log : List Crossing) (x t s : Life) → Named x t → Match log x s → Match log t s
+pub match_named : (log : List Crossing) (x t s : Life) → Named x t → Match log x s → Match log t s
 match_named log x t s n m = record {
   receiving = ap is_receive_socket n.socket ∙ m.receiving;
   sending = m.sending;
