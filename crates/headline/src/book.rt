@@ -48,7 +48,7 @@ pub fn book_of<C: Carrier>(world: &World<C>) -> &Book
     ensures lawful { IsExact C.calls.seen world.now }
     ensures fated { AreFated result.now.book.lives result.now.fates }
     ensures whole { ClosesWhole result.now.book.crossings result.now.book.lives result.now.handed result.now.fates }
-    ensures arrived { ArrivedBook result.now.book.crossings result.now.book.lives result.now.fates }
+    ensures arrived { ArrivedBook result.now.book.contacts result.now.book.crossings result.now.book.lives result.now.fates }
     ensures over { AreOver result.now.book.contacts result.now.book.crossings result.now.book.lives result.now.fates }
 {
     world.book()

@@ -1,5 +1,5 @@
 -- What RFNM of data says to the host that sent them, by crossings, lives and fates alone (BBN Report 1822, RFNM; NIC 8246, messages of data).
-use Rattle.std.specs.Prelude.{◌≡◌, ℕ, ◌<◌, ◌==◌, false, true, List, [], ◌∷◌, ◌++◌, length, option_map, Some}
+use Rattle.std.specs.Prelude.{◌≡◌, ℕ, ◌<◌, ◌==◌, Bool, false, true, List, [], ◌∷◌, ◌++◌, length, option_map, Some}
 use Rattle.std.specs.List.{Contains}
 use Rattle.interface.specs.Messages.{SinceLastOut}
 use Rattle.interface.specs.declared.address.Flow.{Flow}
@@ -7,9 +7,11 @@ use Rattle.interface.specs.declared.crossing.Answer.TheVariants as answer
 use Rattle.interface.specs.declared.crossing.Crossing.{Crossing}
 use Rattle.interface.specs.declared.crossing.Crossing.TheVariants as crossing
 use Rattle.interface.specs.declared.message.HostMessage.{HostMessage}
+use Rattle.promise.specs.Ends.{Going, stage}
 use Rattle.promise.specs.Fates.{IsBeside}
 use Rattle.promise.specs.Formed.{CrossedAt, flow_of, link_of, texts_on}
 use Rattle.promise.specs.Safe.{Match, before, receives, sends}
+use Rattle.promise.specs.declared.book.Called.{Called}
 use Rattle.promise.specs.declared.life.Fate.{Fate}
 use Rattle.promise.specs.declared.life.Fate.TheVariants as fate
 use Rattle.promise.specs.declared.life.Life.{Life}
@@ -35,8 +37,11 @@ pub record HasArrived (log older : List Crossing) (lives : List Life) (fates : L
   pub taken : CrossedAt place (crossing.In out.message) older
   pub arrived : (receiver : Life) → IsBeside receiver fate.Open lives fates → Match log receiver sender → IsCounted log place out.message receiver
 
--- an open receiving life counts each message that came in on its link after both of its requests. And each RFNM of data means that they have arrived
-pub record ArrivedBook (log : List Crossing) (lives : List Life) (fates : List Fate) : Type 0 where
+-- an open receiving life counts each message that came in on its link after both of its requests. Once its partner's CLS has come it has all that the life
+-- which it matches sent. And each RFNM of data means that they have arrived
+pub record ArrivedBook (contacts : List Called) (log : List Crossing) (lives : List Life) (fates : List Fate) : Type 0 where
   pub all : (x : Life) → IsBeside x fate.Open lives fates → receives x ≡ true → x.messages ≡ length (texts_on x (link_of log x) log)
+  pub closed : (receiver sender : Life) (own : Bool) → IsBeside receiver fate.Open lives fates → stage contacts receiver log ≡ Going own true → Contains lives sender
+      → Match log receiver sender → (receiver.bits ≡ sender.bits) × (receiver.messages ≡ sender.messages)
   pub answered : (newer older : List Crossing) (f : Flow) → log ≡ newer ++ crossing.Answer answer.Rfnm f ∷ older → (f.link.0 == 0) ≡ false
       → HasArrived log older lives fates f

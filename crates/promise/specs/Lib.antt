@@ -6,5 +6,5 @@ pub mod Formed
 pub mod Notices
 pub mod Connections
 pub mod Fates
-pub mod Arrived
 pub mod Ends
+pub mod Arrived

@@ -4,7 +4,6 @@ pub mod All
 pub mod Agree
 pub mod Answered
 pub mod Arrives
-pub mod Arrived
 pub mod Began
 pub mod Books
 pub mod Clauses

@@ -129,7 +129,7 @@ pub fn worlds<C: Carrier>()
     ensures came { (hosts : List Host) (w : WorldState C) → (lawful : IsLawful C.calls.seen hosts w) → AllCame lawful.whole.moments }
     ensures handed { (hosts : List Host) (w : WorldState C) → (lawful : IsLawful C.calls.seen hosts w) → AllHanded lawful.whole.moments }
     ensures whole { (hosts : List Host) (w : WorldState C) → IsLawful C.calls.seen hosts w → ClosesWhole w.kept.book.crossings w.kept.book.lives w.kept.handed w.kept.fates }
-    ensures arrived { (hosts : List Host) (w : WorldState C) → IsLawful C.calls.seen hosts w → ArrivedBook w.kept.book.crossings w.kept.book.lives w.kept.fates }
+    ensures arrived { (hosts : List Host) (w : WorldState C) → IsLawful C.calls.seen hosts w → ArrivedBook w.kept.book.contacts w.kept.book.crossings w.kept.book.lives w.kept.fates }
     ensures over { (hosts : List Host) (w : WorldState C) → IsLawful C.calls.seen hosts w → AreOver w.kept.book.contacts w.kept.book.crossings w.kept.book.lives w.kept.fates }
     ensures formed { (hosts : List Host) (w : WorldState C) → IsLawful C.calls.seen hosts w → FormedBook w.kept.book.crossings w.kept.book.lives }
     ensures firsts { (hosts : List Host) (w : WorldState C) → IsLawful C.calls.seen hosts w → FirstBook w.kept.book.crossings w.kept.book.lives }

@@ -101,7 +101,7 @@ LivesWhole =
 abbrev pub LivesArrived : Type 0
 LivesArrived =
     (hosts : List Host) (moments : List Moment) → HaveAddresses hosts → mail.IsRun hosts (crossings_of moments) → IsTimeline hosts moments →
-    ArrivedBook (crossings_of moments) (kept_in moments).book.lives (kept_in moments).fates
+    ArrivedBook (contacts_of moments) (crossings_of moments) (kept_in moments).book.lives (kept_in moments).fates
 
 -- each life is over as its fate says, and by what its fate says
 abbrev pub LivesOver : Type 0

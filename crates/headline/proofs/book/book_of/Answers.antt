@@ -28,7 +28,7 @@ returns-clause-whole g c =
 
 pub returns-clause-arrived : goal.returns-clause-arrived
 returns-clause-arrived g c =
-    subst (λ (k : Kept). ArrivedBook k.book.crossings k.book.lives k.fates) (sym c.book.ensures.value)
+    subst (λ (k : Kept). ArrivedBook k.book.contacts k.book.crossings k.book.lives k.fates) (sym c.book.ensures.value)
     (world_arrived g.C.Carrier.calls.seen (g.C.Carrier.calls.seen c.args.world.now.carrier).hosts c.args.world.now c.book.ensures.lawful)
 
 pub returns-clause-over : goal.returns-clause-over

@@ -1,7 +1,7 @@
 use Rattle.world_keeps_streams.proofs.Books.Agree.{settled}
 use Rattle.world_keeps_streams.proofs.Books.All.{sent, source}
 use Rattle.world_keeps_streams.proofs.Books.Answered.{answered}
-use Rattle.world_keeps_streams.proofs.Books.Arrived.{arrived_book}
+use Rattle.world_keeps_streams.proofs.Ends.Arrived.{arrived_book}
 use Rattle.world_keeps_streams.proofs.Books.Arrives.{arrives}
 use Rattle.world_keeps_streams.proofs.Books.Calm.{all_calm}
 use Rattle.world_keeps_streams.proofs.Books.Came.{all_came}

@@ -1,7 +1,7 @@
 use Rattle.world_keeps_streams.proofs.Books.Agree.{world_agrees}
 use Rattle.world_keeps_streams.proofs.Books.All.{world_sent, world_source}
 use Rattle.world_keeps_streams.proofs.Books.Answered.{world_answered}
-use Rattle.world_keeps_streams.proofs.Books.Arrived.{world_arrived}
+use Rattle.world_keeps_streams.proofs.Ends.Arrived.{world_arrived}
 use Rattle.world_keeps_streams.proofs.Books.Arrives.{world_arrives}
 use Rattle.world_keeps_streams.proofs.Books.Calm.{world_calms}
 use Rattle.world_keeps_streams.proofs.Books.Came.{world_came}

@@ -14,6 +14,7 @@ use Rattle.interface.specs.declared.message.HostMessage.{HostMessage}
 use Rattle.ncp_control.specs.Numbers.{is_receive_socket, is_send_socket}
 use Rattle.host_pairs.specs.Control.{orders_of}
 use Rattle.host_pairs.specs.declared.entry.Entry.{Entry}
+use Rattle.pairing_law.specs.Ends.{End}
 use Rattle.stream_law.specs.Receivers.{Receiver}
 use Rattle.stream_law.specs.Streams.{Box, Empty, Stream, Taken, Waiting}
 use Rattle.stream_law.specs.Within.{waiting_in}
@@ -21,16 +22,18 @@ use Rattle.stream_law.proofs.lemmas.{Inv, came_inv, some_is, waiting_of, waits_o
 use Rattle.host_keeps_streams.specs.Histories.{HasClosed, name_now, numbered, receiver_now}
 use Rattle.host_keeps_streams.proofs.lemmas.{closed_first}
 use Rattle.promise.specs.Arrived.{ArrivedBook, HasArrived, IsCounted}
+use Rattle.promise.specs.Ends.{Course, Going, stage}
 use Rattle.promise.specs.Fates.{IsBeside}
 use Rattle.promise.specs.Formed.{CrossedAt, flow_of, link_of, named_in, own_named, partner_named, texts_for, texts_of, texts_on}
 use Rattle.promise.specs.Safe.{Match, Name, before, control_flow, last_out, named, own_request, partner_request, receives, sends}
+use Rattle.promise.specs.declared.book.Called.{Called}
 use Rattle.promise.specs.declared.life.Fate.{Fate}
 use Rattle.promise.specs.declared.life.Fate.TheVariants as fate
 use Rattle.promise.specs.declared.life.Life.{Life}
 use Rattle.net_sim.specs.Book.{Kept}
 use Rattle.net_sim.specs.Clean.{IsLawful}
 use Rattle.net_sim.specs.Story.{Asked, Crossed, Moment, program}
-use Rattle.net_sim.specs.Timeline.{crossings_of}
+use Rattle.net_sim.specs.Timeline.{contacts_of, crossings_of}
 use Rattle.net_sim.specs.Told.{kept_in}
 use Rattle.net_sim.specs.World.{WorldState}
 use Rattle.net_sim.proofs.lemmas.{kept_fated}
@@ -45,6 +48,7 @@ use Rattle.world_keeps_pairing.proofs.LinkTurns.{odd_send}
 use Rattle.world_keeps_pairing.proofs.lemmas.{book_run, send_odd}
 use Rattle.world_keeps_streams.specs.Answered as moments
 use Rattle.world_keeps_streams.specs.Calls.{own_calls}
+use Rattle.world_keeps_streams.specs.Closes.{IsClosedByPartner, WasClosedByPartner}
 use Rattle.world_keeps_streams.proofs.Books.All.{all_given}
 use Rattle.world_keeps_streams.proofs.Books.Answered.{answered}
 use Rattle.world_keeps_streams.proofs.Books.Arrives.{rest_lawful, unlike}
@@ -57,12 +61,16 @@ use Rattle.world_keeps_streams.proofs.Books.Closes.{AtLink}
 use Rattle.world_keeps_streams.proofs.Books.Ended.{all_crossings}
 use Rattle.world_keeps_streams.proofs.Books.Ending.{at_link, never_closed}
 use Rattle.world_keeps_streams.proofs.Books.Firsts.{firsts, linked, together}
-use Rattle.world_keeps_streams.proofs.Books.Later.{named_request}
+use Rattle.world_keeps_streams.proofs.Books.Later.{closes_whole, named_request}
 use Rattle.world_keeps_streams.proofs.Books.Placed.{WentAt, before_end, before_later, crossed_end, crossed_later, crossed_one, link_later, none_out, texts_past, went_at}
 use Rattle.world_keeps_streams.proofs.Books.Run.{whole}
 use Rattle.world_keeps_streams.proofs.Books.Source.{Granter, granted_of}
 use Rattle.world_keeps_streams.proofs.Books.Unasked.{life_of_link, own_below, partner_below}
 use Rattle.world_keeps_streams.proofs.Books.Whole.{Whole, since}
+use Rattle.world_keeps_streams.proofs.Ends.Courses.{course_key, course_same, key_of}
+use Rattle.world_keeps_streams.proofs.Ends.Fits.{fits_now}
+use Rattle.world_keeps_streams.proofs.Ends.Kinds.{end_of, stage_of}
+use Rattle.world_keeps_streams.proofs.Ends.Ties.{entry_is}
 use Rattle.world_keeps_streams.proofs.Lives.Fates.{beside_of, beside_over}
 use Rattle.world_keeps_streams.proofs.Lives.Lists.{Grown, IsOf, Named, contains, grown, is_of, named_itself, of_drop, of_left, of_map, of_parts}
 use Rattle.world_keeps_streams.proofs.Requests.Names.{request_grows}
@@ -145,6 +153,32 @@ module _ (hosts : List Host) (ms : List Moment) (l : Lawful hosts ms) where
           let now : (receiver_now numbered x.peer (suc n) (own_calls x.host x.peer ms)).first c ≡ true = ap (λ (r : Receiver). r.first c) (sym (closes.same hosts ms l x f)) ∙ e in
           absurd (never_closed hosts ms l x i kind n end_now
           (subst (λ (k : ℕ). HasClosed numbered x.peer (suc n) k (own_calls x.host x.peer ms)) (closes.place hosts ms l x f).1 (closed_first numbered x.peer (suc n) c (own_calls x.host x.peer ms) now)))
+
+    -- where its partner's CLS has come, it was closed by that, and by no user
+    closed_by_partner : (v : Bool) → stage (contacts_of ms) x (crossings_of ms) ≡ Going v true → WasClosedByPartner ms x
+    closed_by_partner v is = record { there = contains x (lives_in ms) i_in; later = []; earlier = ms; is = refl; receiver = x; then = now; same = refl } where
+      same : stage (contacts_of ms) x (crossings_of ms) ≡ stage_of (key_of x) ms
+      same = ap (λ (k : Course). k.stage) (sym (course_key (contacts_of ms) x (crossings_of ms)) ∙ course_same (key_of x) ms)
+
+      second : (a b c d : Bool) → Going a b ≡ Going c d → b ≡ d
+      second a b c d e = cc
+
+      taken : (end_of (key_of x) ms).taken ≡ true
+      taken = sym (second v true (end_of (key_of x) ms).gone (end_of (key_of x) ms).taken (sym is ∙ same ∙ (fits_now hosts ms l x fate.Open i).1 refl))
+
+      now : IsClosedByPartner ms x
+      now = record {
+        there = contains x (lives_in ms) i_in;
+        receiving = kind;
+        goes = goes;
+        end = f.end;
+        closed = ap (λ (e : End). e.taken) (sym (entry_is hosts ms l x.host x.peer x.socket x.foreign f.end.end (closes.at_it hosts ms l x f).0 (closes.own hosts ms l x f) f.end.foreign).0) ∙ taken;
+        link = f.link;
+        linked = f.linked;
+        unclosed = λ h.
+            never_closed hosts ms l x i kind n end_now
+            (subst (λ (k : ℕ). HasClosed numbered x.peer k (name_now numbered x.peer (own_calls x.host x.peer ms) x.socket x.foreign) (own_calls x.host x.peer ms)) (closes.place_is hosts ms l x f) h);
+      }
 
     counts_all : x.messages ≡ length (texts_on x (link_of (crossings_of ms) x) (crossings_of ms))
     counts_all =
@@ -554,8 +588,12 @@ arrival hosts later since older c f m l out is_m none off =
       k : Lawful hosts ((later ++ Crossed c ∷ since) ++ Crossed (crossing.In m) ∷ older)
       k = subst (λ (ns : List Moment). Lawful hosts ns) (sym (append_assoc later (Crossed c ∷ since) (Crossed (crossing.In m) ∷ older))) l
 
-pub arrived_book : (hosts : List Host) (ms : List Moment) → Lawful hosts ms → ArrivedBook (crossings_of ms) (kept_in ms).book.lives (kept_in ms).fates
-arrived_book hosts ms l = record { all = λ x i kind. counts_all hosts ms l x i kind; answered = each } where
+pub arrived_book : (hosts : List Host) (ms : List Moment) → Lawful hosts ms → ArrivedBook (contacts_of ms) (crossings_of ms) (kept_in ms).book.lives (kept_in ms).fates
+arrived_book hosts ms l = record {
+  all = λ x i kind. counts_all hosts ms l x i kind;
+  closed = λ x s own i is there m. closes_whole hosts ms l x (closed_by_partner hosts ms l x i m.receiving own is) s there m;
+  answered = each;
+} where
   each : (newer older : List Crossing) (f : Flow) → crossings_of ms ≡ newer ++ crossing.Answer answer.Rfnm f ∷ older → (f.link.0 == 0) ≡ false → Arrival ms older f
   each newer older f e off =
       let p : Parted ms (crossing.Answer answer.Rfnm f) older = parted ms newer older (crossing.Answer answer.Rfnm f) e in
@@ -569,8 +607,9 @@ arrived_book hosts ms l = record { all = λ x i kind. counts_all hosts ms l x i 
 
 -- ---- worlds
 
-pub world_arrived : {C : Type 0} (seen : C → Seen) (hosts : List Host) (w : WorldState C) → IsLawful seen hosts w → ArrivedBook w.kept.book.crossings w.kept.book.lives w.kept.fates
+pub world_arrived : {C : Type 0} (seen : C → Seen) (hosts : List Host) (w : WorldState C) → IsLawful seen hosts w → ArrivedBook w.kept.book.contacts w.kept.book.crossings w.kept.book.lives w.kept.fates
 world_arrived seen hosts w lawful =
-    subst (λ (log : List Crossing). ArrivedBook log w.kept.book.lives w.kept.fates) (sym lawful.whole.crossings)
-    (subst (λ (k : Kept). ArrivedBook (crossings_of lawful.whole.moments) k.book.lives k.fates) (sym lawful.whole.kept)
-    (arrived_book hosts lawful.whole.moments (lawful.addresses, book_run seen hosts w lawful, lawful.whole.timeline)))
+    subst (λ (cs : List Called). ArrivedBook cs w.kept.book.crossings w.kept.book.lives w.kept.fates) (sym lawful.whole.contacts)
+    (subst (λ (log : List Crossing). ArrivedBook (contacts_of lawful.whole.moments) log w.kept.book.lives w.kept.fates) (sym lawful.whole.crossings)
+    (subst (λ (k : Kept). ArrivedBook (contacts_of lawful.whole.moments) (crossings_of lawful.whole.moments) k.book.lives k.fates) (sym lawful.whole.kept)
+    (arrived_book hosts lawful.whole.moments (lawful.addresses, book_run seen hosts w lawful, lawful.whole.timeline))))
