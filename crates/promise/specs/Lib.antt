@@ -7,4 +7,3 @@ pub mod Notices
 pub mod Connections
 pub mod Fates
 pub mod Ends
-pub mod Arrived

@@ -14,7 +14,7 @@ ghost use Rattle.net_sim.specs.Told.{kept_in, notices_by};
 ghost use Rattle.net_sim.specs.World.{WorldState};
 ghost use Rattle.net_sim.specs.Worked.{eight};
 ghost use Rattle.net_sim.specs.WorkedMoments.{all_given, bits_sent, connected, eight_sent, sent_moments};
-ghost use Rattle.promise.specs.Arrived.{ArrivedBook};
+ghost use Rattle.world_keeps_streams.specs.Arrived.{ArrivedBook};
 ghost use Rattle.promise.specs.Fates.{ClosesWhole};
 ghost use Rattle.promise.specs.Formed.{FormedBook, texts_for};
 ghost use Rattle.world_keeps_lives.specs.Firsts.{FirstBook};

@@ -21,7 +21,7 @@ use Rattle.stream_law.specs.Within.{waiting_in}
 use Rattle.stream_law.proofs.lemmas.{Inv, came_inv, some_is, waiting_of, waits_of}
 use Rattle.host_keeps_streams.specs.Histories.{HasClosed, name_now, numbered, receiver_now}
 use Rattle.host_keeps_streams.proofs.lemmas.{closed_first}
-use Rattle.promise.specs.Arrived.{ArrivedBook, HasArrived, IsCounted}
+use Rattle.world_keeps_streams.specs.Arrived.{ArrivedBook, HasArrived, IsCounted}
 use Rattle.promise.specs.Ends.{Course, Going, stage}
 use Rattle.promise.specs.Fates.{IsBeside}
 use Rattle.promise.specs.Formed.{CrossedAt, flow_of, link_of, named_in, own_named, partner_named, texts_for, texts_of, texts_on}
@@ -88,9 +88,9 @@ took_all x h c end unclosed = by (x.receiver.over c) refl where
   all : length (x.sender.sent c) ≡ x.receiver.came c + waiting_of c x.box
   all = h.came c
 
-  open : x.receiver.over c ≡ false → (v : Bool) → x.receiver.closed ≡ v → length (x.receiver.taken c) ≡ x.receiver.came c
-  open unheard true said = absurd (unlike (x.receiver.first c) (h.firsts c end said unheard) unclosed)
-  open unheard false unsaid =
+  unheard_by : x.receiver.over c ≡ false → (v : Bool) → x.receiver.closed ≡ v → length (x.receiver.taken c) ≡ x.receiver.came c
+  unheard_by unheard true said = absurd (unlike (x.receiver.first c) (h.firsts c end said unheard) unclosed)
+  unheard_by unheard false unsaid =
       let is : x.sender.sent c ≡ x.receiver.taken c ++ waiting_in x.box = h.whole c end unsaid unheard in
       let long : length (x.sender.sent c) ≡ length (x.receiver.taken c) + length (waiting_in x.box) = ap (λ (ts : List (List Bool)). length ts) is ∙ length-append (x.receiver.taken c) (waiting_in x.box) in
       let box : waiting_of c x.box ≡ length (waiting_in x.box) = no_waiting c x.box (λ k size bits e. some_is c k (sym end ∙ waits_of x h k size bits e)) in
@@ -98,7 +98,7 @@ took_all x h c end unclosed = by (x.receiver.over c) refl where
 
   by : (v : Bool) → x.receiver.over c ≡ v → length (x.receiver.taken c) ≡ x.receiver.came c
   by true heard = ap (λ (ts : List (List Bool)). length ts) (h.settled c heard unclosed) ∙ came_inv x h c heard
-  by false unheard = open unheard x.receiver.closed refl
+  by false unheard = unheard_by unheard x.receiver.closed refl
 
 -- ---- an open life counts all that came in
 
@@ -249,7 +249,7 @@ module _ (hosts : List Host) (ms : List Moment) (l : Lawful hosts ms) where
         ∙ ap (λ (k : ℕ). named_in s.foreign k (orders_of heard.message.text)) m.sockets.0
         ∙ sym (named_there true s.peer s.host s.foreign s.socket s.partner_stamp heard.message (crossings_of ms) heard.flow heard.crossed)
 
-    pub one_link : link_of (crossings_of ms) x ≡ link_of (crossings_of ms) s
+    one_link : link_of (crossings_of ms) x ≡ link_of (crossings_of ms) s
     one_link =
         ap (λ (v : Bool). if v then own_named (crossings_of ms) x else partner_named (crossings_of ms) x) m.receiving ∙ names_same
         ∙ sym (ap (λ (v : Bool). if v then own_named (crossings_of ms) s else partner_named (crossings_of ms) s) (send_odd s.socket m.sending))
@@ -288,7 +288,7 @@ later_life (y ∷ newer) older x i =
         own = k.own ∙ o.names.own;
         partner = k.partner ∙ o.names.partner;
       };
-      counts = (let first : x.messages ≤ o.life.messages = o.counts in let then : o.life.messages ≤ (g.change o.life).messages = g.counts o.life in omega (arith, first, then));
+      counts = (let first : x.messages ≤ o.life.messages = o.counts in let next : o.life.messages ≤ (g.change o.life).messages = g.counts o.life in omega (arith, first, next));
     }
 
 -- what is so of a life, but for what it counts, has and was granted, is so of one with its names
@@ -389,6 +389,9 @@ module _ (hosts : List Host) (newer older : List Moment) (f : Flow) (m : HostMes
   abbrev all : List Moment
   all = newer ++ Crossed (crossing.In m) ∷ older
 
+  abbrev whole_log : List Crossing
+  whole_log = crossings_of (newer ++ Crossed (crossing.In m) ∷ older)
+
   abbrev more : List Crossing
   more = crossings_of newer ++ crossing.In m ∷ []
 
@@ -396,21 +399,21 @@ module _ (hosts : List Host) (newer older : List Moment) (f : Flow) (m : HostMes
   old = rest_lawful hosts (Crossed (crossing.In m) ∷ []) older (rest_lawful hosts newer (Crossed (crossing.In m) ∷ older) l)
 
   -- the whole log
-  log_is : crossings_of (newer ++ Crossed (crossing.In m) ∷ older) ≡ crossings_of newer ++ crossing.In m ∷ crossings_of older
+  log_is : whole_log ≡ crossings_of newer ++ crossing.In m ∷ crossings_of older
   log_is = all_crossings newer (Crossed (crossing.In m) ∷ older)
 
-  log_more : crossings_of (newer ++ Crossed (crossing.In m) ∷ older) ≡ (crossings_of newer ++ crossing.In m ∷ []) ++ crossings_of older
+  log_more : whole_log ≡ more ++ crossings_of older
   log_more = log_is ∙ sym (append_assoc (crossings_of newer) (crossing.In m ∷ []) (crossings_of older))
 
   abbrev place : ℕ
   place = length out.before
 
   out_there : CrossedAt (length out.before) (crossing.Out out.message) (crossings_of older)
-  out_there = subst (λ (log : List Crossing). CrossedAt (length out.before) (crossing.Out out.message) log) (sym out.parts) (crossed_end out.since out.before (crossing.Out out.message))
+  out_there = subst (λ (xs : List Crossing). CrossedAt (length out.before) (crossing.Out out.message) xs) (sym out.parts) (crossed_end out.since out.before (crossing.Out out.message))
 
-  pub out_less : length out.before < length (crossings_of older)
+  out_less : length out.before < length (crossings_of older)
   out_less =
-      let e : length (crossings_of older) ≡ length (out.since ++ crossing.Out out.message ∷ out.before) = ap (λ (log : List Crossing). length log) out.parts in
+      let e : length (crossings_of older) ≡ length (out.since ++ crossing.Out out.message ∷ out.before) = ap (λ (xs : List Crossing). length xs) out.parts in
       let all_of : length (out.since ++ crossing.Out out.message ∷ out.before) ≡ length out.since + length (crossing.Out out.message ∷ out.before) = length-append out.since (crossing.Out out.message ∷ out.before) in
       omega (arith, e, all_of)
 
@@ -418,47 +421,47 @@ module _ (hosts : List Host) (newer older : List Moment) (f : Flow) (m : HostMes
   off_out = ap (λ (g : Flow). g.link.0 == 0) out.flow ∙ off
 
   -- the sending life as it was then
-  abbrev then : (x : Life) × Contains (lives_in older) x × IsSentIn (crossings_of older) (length out.before) out.message x
-  then = (firsts hosts older old).sent (length out.before) out.message out_there off_out
+  abbrev was : (x : Life) × Contains (lives_in older) x × IsSentIn (crossings_of older) (length out.before) out.message x
+  was = (firsts hosts older old).sent (length out.before) out.message out_there off_out
 
   abbrev s : Life
-  s = then.0
+  s = was.0
 
   s_in : IsOf s (lives_in older)
-  s_in = is_of s (lives_in older) then.1
+  s_in = is_of s (lives_in older) was.1
 
   sent : IsSentIn (crossings_of older) (length out.before) out.message s
-  sent = then.2
+  sent = was.2
 
   kind : sends s ≡ true
   kind = odd_send s.socket sent.sending
 
   -- and now
-  abbrev now : LaterLife (newer ++ Crossed (crossing.In m) ∷ older) s
+  abbrev now : LaterLife all s
   now = subst (λ (ns : List Moment). LaterLife ns s) (append_assoc newer (Crossed (crossing.In m) ∷ []) older) (later_life (newer ++ Crossed (crossing.In m) ∷ []) older s s_in)
 
-  sits : Sits (crossings_of (newer ++ Crossed (crossing.In m) ∷ older)) (length out.before) out.message s.messages s
-  sits = subst (λ (log : List Crossing). Sits log (length out.before) out.message s.messages s) (sym log_more) (record {
+  sits : Sits whole_log (length out.before) out.message s.messages s
+  sits = subst (λ (xs : List Crossing). Sits xs (length out.before) out.message s.messages s) (sym log_more) (record {
     flow = ap (λ (o : Option ℕ). option_map (flow_of s) o) link ∙ sent.flow;
     own = sent.own;
     partner = sent.partner;
-    counted = subst (λ (k : ℕ). k < s.messages) (sym (ap (λ (o : Option ℕ). length (texts_on s o (before (length out.before) ((crossings_of newer ++ crossing.In m ∷ []) ++ crossings_of older)))) link
-        ∙ ap (λ (log : List Crossing). length (texts_on s (link_of (crossings_of older) s) log)) (before_later (crossings_of newer ++ crossing.In m ∷ []) (crossings_of older) (length out.before) below)))
+    counted = subst (λ (k : ℕ). k < s.messages) (sym (ap (λ (o : Option ℕ). length (texts_on s o (before (length out.before) (more ++ crossings_of older)))) link
+        ∙ ap (λ (xs : List Crossing). length (texts_on s (link_of (crossings_of older) s) xs)) (before_later more (crossings_of older) (length out.before) below)))
         sent.counted;
   }) where
     below : length out.before ≤ length (crossings_of older)
     below = let less : length out.before < length (crossings_of older) = out_less in omega (arith, less)
 
-    link : link_of ((crossings_of newer ++ crossing.In m ∷ []) ++ crossings_of older) s ≡ link_of (crossings_of older) s
-    link = link_later (crossings_of newer ++ crossing.In m ∷ []) (crossings_of older) s (own_below hosts older old s s_in) (partner_below hosts older old s s_in)
+    link : link_of (more ++ crossings_of older) s ≡ link_of (crossings_of older) s
+    link = link_later more (crossings_of older) s (own_below hosts older old s s_in) (partner_below hosts older old s s_in)
 
-  pub counted : IsCounted (crossings_of (newer ++ Crossed (crossing.In m) ∷ older)) (length out.before) out.message now.life
+  counted : IsCounted whole_log (length out.before) out.message now.life
   counted =
-      counted_by (crossings_of (newer ++ Crossed (crossing.In m) ∷ older)) (length out.before) out.message s.messages now.life now.counts
-      (by_names (λ (x : Life). Sits (crossings_of (newer ++ Crossed (crossing.In m) ∷ older)) (length out.before) out.message s.messages x) s now.life now.names
+      counted_by whole_log (length out.before) out.message s.messages now.life now.counts
+      (by_names (λ (x : Life). Sits whole_log (length out.before) out.message s.messages x) s now.life now.names
       (record { flow = sits.flow; own = sits.own; partner = sits.partner; counted = sits.counted }))
 
-  pub sending : sends now.life ≡ true
+  sending : sends now.life ≡ true
   sending = ap is_send_socket now.names.socket ∙ kind
 
   -- ---- the receiving life that matches it
@@ -469,20 +472,20 @@ module _ (hosts : List Host) (newer older : List Moment) (f : Flow) (m : HostMes
   abbrev r : Life
   r = gave.0
 
-  abbrev r_now : LaterLife (newer ++ Crossed (crossing.In m) ∷ older) r
+  abbrev r_now : LaterLife all r
   r_now = subst (λ (ns : List Moment). LaterLife ns r) (append_assoc newer (Crossed (crossing.In m) ∷ []) older) (later_life (newer ++ Crossed (crossing.In m) ∷ []) older r gave.1)
 
-  still : Match (crossings_of (newer ++ Crossed (crossing.In m) ∷ older)) r_now.life now.life
+  still : Match whole_log r_now.life now.life
   still =
       subst (λ (ns : List Moment). Match (crossings_of ns) r_now.life now.life) (append_assoc newer (Crossed (crossing.In m) ∷ []) older)
       (match_later hosts (newer ++ Crossed (crossing.In m) ∷ []) older old r s r_now.life now.life gave.1 s_in r_now.names now.names gave.2)
 
-  module _ (x : Life) (i : IsBeside x fate.Open (kept_in all).book.lives (kept_in all).fates) (match : Match (crossings_of (newer ++ Crossed (crossing.In m) ∷ older)) x now.life) where
-    x_in : IsOf x (lives_in (newer ++ Crossed (crossing.In m) ∷ older))
-    x_in = beside_of (lives_in (newer ++ Crossed (crossing.In m) ∷ older)) (kept_in (newer ++ Crossed (crossing.In m) ∷ older)).fates x fate.Open i
+  module _ (x : Life) (i : IsBeside x fate.Open (kept_in all).book.lives (kept_in all).fates) (match : Match whole_log x now.life) where
+    x_in : IsOf x (lives_in all)
+    x_in = beside_of (lives_in all) (kept_in all).fates x fate.Open i
 
     same : x ≡ r_now.life
-    same = one_receiver hosts Own Heard (λ a b. all_given hosts a b) (newer ++ Crossed (crossing.In m) ∷ older) l x r_now.life now.life x_in r_now.there match still
+    same = one_receiver hosts Own Heard (λ a b. all_given hosts a b) all l x r_now.life now.life x_in r_now.there match still
 
     own : x.own_stamp < length (crossings_of older)
     own =
@@ -496,38 +499,38 @@ module _ (hosts : List Host) (newer older : List Moment) (f : Flow) (m : HostMes
         let less : r.partner_stamp < length (crossings_of older) = partner_below hosts older old r gave.1 in
         omega (arith, e, less)
 
-    flow : option_map (flow_of x) (link_of (crossings_of (newer ++ Crossed (crossing.In m) ∷ older)) x) ≡ Some out.message.flow
+    flow : option_map (flow_of x) (link_of whole_log x) ≡ Some out.message.flow
     flow =
-        ap (λ (o : Option ℕ). option_map (flow_of x) o) (one_link hosts (newer ++ Crossed (crossing.In m) ∷ older) l x now.life x_in now.there match)
-        ∙ flow_same x now.life (link_of (crossings_of (newer ++ Crossed (crossing.In m) ∷ older)) now.life) (flows hosts (newer ++ Crossed (crossing.In m) ∷ older) l x now.life x_in now.there match)
+        ap (λ (o : Option ℕ). option_map (flow_of x) o) (one_link hosts all l x now.life x_in now.there match)
+        ∙ flow_same x now.life (link_of whole_log now.life) (flows hosts all l x now.life x_in now.there match)
         ∙ counted.flow
 
-    abbrev on : (k : ℕ) × (link_of (crossings_of (newer ++ Crossed (crossing.In m) ∷ older)) x ≡ Some k) × (flow_of x k ≡ out.message.flow)
-    on = link_known x (link_of (crossings_of (newer ++ Crossed (crossing.In m) ∷ older)) x) out.message.flow flow
+    abbrev on : (k : ℕ) × (link_of whole_log x ≡ Some k) × (flow_of x k ≡ out.message.flow)
+    on = link_known x (link_of whole_log x) out.message.flow flow
 
     -- as much came in as it counts, and this did after what was before
-    fewer : length (texts_for x on.0 (crossings_of older)) < length (texts_for x on.0 (crossings_of (newer ++ Crossed (crossing.In m) ∷ older)))
+    fewer : length (texts_for x on.0 (crossings_of older)) < length (texts_for x on.0 whole_log)
     fewer =
-        subst (λ (v : Bool). length (texts_of v (flow_of x on.0) x.own_stamp x.partner_stamp (crossings_of older)) < length (texts_of v (flow_of x on.0) x.own_stamp x.partner_stamp (crossings_of (newer ++ Crossed (crossing.In m) ∷ older))))
+        subst (λ (v : Bool). length (texts_of v (flow_of x on.0) x.own_stamp x.partner_stamp (crossings_of older)) < length (texts_of v (flow_of x on.0) x.own_stamp x.partner_stamp whole_log))
         (sym match.receiving)
-        (subst (λ (log : List Crossing). length (texts_of true (flow_of x on.0) x.own_stamp x.partner_stamp (crossings_of older)) < length (texts_of true (flow_of x on.0) x.own_stamp x.partner_stamp log)) (sym log_is)
+        (subst (λ (xs : List Crossing). length (texts_of true (flow_of x on.0) x.own_stamp x.partner_stamp (crossings_of older)) < length (texts_of true (flow_of x on.0) x.own_stamp x.partner_stamp xs)) (sym log_is)
         (texts_past (flow_of x on.0) x.own_stamp x.partner_stamp m (crossings_of newer) (crossings_of older) (on.2 ∙ ap (λ (k : HostMessage). k.flow) is_m) own partner))
 
-    before_is : before (length (crossings_of older)) (crossings_of (newer ++ Crossed (crossing.In m) ∷ older)) ≡ crossings_of older
-    before_is = ap (before (length (crossings_of older))) log_more ∙ before_end (crossings_of newer ++ crossing.In m ∷ []) (crossings_of older)
+    before_is : before (length (crossings_of older)) whole_log ≡ crossings_of older
+    before_is = ap (before (length (crossings_of older))) log_more ∙ before_end more (crossings_of older)
 
-    pub arrived : IsCounted (crossings_of (newer ++ Crossed (crossing.In m) ∷ older)) (length (crossings_of older)) out.message x
+    arrived : IsCounted whole_log (length (crossings_of older)) out.message x
     arrived = record {
       flow = flow;
       own = own;
       partner = partner;
       counted =
-          (let then_is : length (texts_on x (link_of (crossings_of (newer ++ Crossed (crossing.In m) ∷ older)) x) (before (length (crossings_of older)) (crossings_of (newer ++ Crossed (crossing.In m) ∷ older)))) ≡ length (texts_for x on.0 (crossings_of older)) =
-          ap (λ (o : Option ℕ). length (texts_on x o (before (length (crossings_of older)) (crossings_of (newer ++ Crossed (crossing.In m) ∷ older))))) on.1 ∙ ap (λ (log : List Crossing). length (texts_for x on.0 log)) before_is in
-          let all_is : x.messages ≡ length (texts_for x on.0 (crossings_of (newer ++ Crossed (crossing.In m) ∷ older))) =
-          counts_all hosts (newer ++ Crossed (crossing.In m) ∷ older) l x i match.receiving ∙ ap (λ (o : Option ℕ). length (texts_on x o (crossings_of (newer ++ Crossed (crossing.In m) ∷ older)))) on.1 in
-          let less : length (texts_for x on.0 (crossings_of older)) < length (texts_for x on.0 (crossings_of (newer ++ Crossed (crossing.In m) ∷ older))) = fewer in
-          omega (arith, then_is, all_is, less));
+          (let was_is : length (texts_on x (link_of whole_log x) (before (length (crossings_of older)) whole_log)) ≡ length (texts_for x on.0 (crossings_of older)) =
+          ap (λ (o : Option ℕ). length (texts_on x o (before (length (crossings_of older)) whole_log))) on.1 ∙ ap (λ (xs : List Crossing). length (texts_for x on.0 xs)) before_is in
+          let all_is : x.messages ≡ length (texts_for x on.0 whole_log) =
+          counts_all hosts all l x i match.receiving ∙ ap (λ (o : Option ℕ). length (texts_on x o whole_log)) on.1 in
+          let less : length (texts_for x on.0 (crossings_of older)) < length (texts_for x on.0 whole_log) = fewer in
+          omega (arith, was_is, all_is, less));
     }
 
 -- ---- each RFNM of data

@@ -7,7 +7,7 @@ use Rattle.interface.specs.declared.address.Flow.{Flow}
 use Rattle.interface.specs.declared.crossing.Answer.TheVariants as answer
 use Rattle.interface.specs.declared.crossing.Crossing.TheVariants as crossing
 use Rattle.interface.specs.declared.message.HostMessage.{HostMessage}
-use Rattle.promise.specs.Arrived.{ArrivedBook}
+use Rattle.world_keeps_streams.specs.Arrived.{ArrivedBook}
 use Rattle.promise.specs.Fates.{ClosesWhole, IsBeside}
 use Rattle.promise.specs.Formed.{FormedBook}
 use Rattle.promise.specs.declared.life.Fate.TheVariants as fate

@@ -1,6 +1,6 @@
 use Rattle.std.proofs.Common.{sym, subst}
 use Rattle.net_sim.specs.Book.{Kept}
-use Rattle.promise.specs.Arrived.{ArrivedBook}
+use Rattle.world_keeps_streams.specs.Arrived.{ArrivedBook}
 use Rattle.promise.specs.Fates.{AreFated, ClosesWhole}
 use Rattle.promise.specs.Promised.{Promised}
 use Rattle.net_sim.proofs.lemmas.{world_fated}

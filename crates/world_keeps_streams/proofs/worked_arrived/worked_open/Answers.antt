@@ -7,7 +7,7 @@ use Rattle.interface.specs.declared.crossing.Crossing.{Crossing}
 use Rattle.interface.specs.declared.crossing.Crossing.TheVariants as crossing
 use Rattle.ncp_control.specs.Reading.{command_of, read_of}
 use Rattle.host_pairs.specs.Control.{orders_of}
-use Rattle.promise.specs.Arrived.{ArrivedBook, HasArrived}
+use Rattle.world_keeps_streams.specs.Arrived.{ArrivedBook, HasArrived}
 use Rattle.promise.specs.Ends.{Going, stage}
 use Rattle.promise.specs.Fates.{IsBeside}
 use Rattle.promise.specs.Formed.{link_of, texts_on}
@@ -39,10 +39,10 @@ none_answered [] (d ∷ newer) older f o e = let no : [] ≡ d ∷ (newer ++ cro
 none_answered (c ∷ log) [] older f o e =
     let is : c ≡ crossing.Answer answer.Rfnm f = (heads c (crossing.Answer answer.Rfnm f) log older e).0 in
     let no : false ≡ true = ap (λ (d : Crossing). if is_answer d then false else all_other log) (sym is) ∙ o in cc
-none_answered (c ∷ log) (d ∷ newer) older f o e = by (is_answer c) o where
-  by : (v : Bool) → (if v then false else all_other log) ≡ true → ⊥
-  by true p = let no : false ≡ true = p in cc
-  by false p = none_answered log newer older f p (heads c d log (newer ++ crossing.Answer answer.Rfnm f ∷ older) e).1
+none_answered (c ∷ log) (d ∷ newer) older f o e = by (is_answer c) o (λ p. none_answered log newer older f p (heads c d log (newer ++ crossing.Answer answer.Rfnm f ∷ older) e).1) where
+  by : (v : Bool) → (if v then false else all_other log) ≡ true → (all_other log ≡ true → ⊥) → ⊥
+  by true p rest = let no : false ≡ true = p in cc
+  by false p rest = rest p
 
 -- ---- the rows
 

@@ -5,7 +5,7 @@ use Rattle.bit_messages.specs.Octets.{octets_of}
 use Rattle.interface.specs.declared.crossing.Crossing.TheVariants as crossing
 use Rattle.ncp_control.specs.Reading.{command_of, read_of}
 use Rattle.host_pairs.specs.Control.{orders_of}
-use Rattle.promise.specs.Arrived.{HasArrived, IsCounted}
+use Rattle.world_keeps_streams.specs.Arrived.{HasArrived, IsCounted}
 use Rattle.promise.specs.Fates.{IsBeside}
 use Rattle.promise.specs.Formed.{flow_of, link_of, texts_on}
 use Rattle.promise.specs.Safe.{Match, before, receives, sends}
