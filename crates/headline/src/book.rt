@@ -2,10 +2,10 @@
 
 ghost use Rattle.std.specs.Prelude.{◌≡◌};
 ghost use Rattle.headline.specs.Promise.{IsExact};
-ghost use Rattle.world_keeps_streams.specs.Arrived.{ArrivedBook};
+ghost use Rattle.promise.specs.Arrived.{ArrivedBook};
 ghost use Rattle.promise.specs.Fates.{AreFated, ClosesWhole};
 ghost use Rattle.promise.specs.Promised.{Promised};
-ghost use Rattle.world_keeps_streams.specs.Over.{AreOver};
+ghost use Rattle.promise.specs.Over.{AreOver};
 
 use interface::Carrier;
 use net_sim::{Book, World};

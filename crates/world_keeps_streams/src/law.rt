@@ -14,7 +14,7 @@ ghost use Rattle.net_sim.specs.Told.{kept_in, notices_by};
 ghost use Rattle.net_sim.specs.World.{WorldState};
 ghost use Rattle.net_sim.specs.Worked.{eight};
 ghost use Rattle.net_sim.specs.WorkedMoments.{all_given, bits_sent, connected, eight_sent, sent_moments};
-ghost use Rattle.world_keeps_streams.specs.Arrived.{ArrivedBook};
+ghost use Rattle.promise.specs.Arrived.{ArrivedBook};
 ghost use Rattle.promise.specs.Fates.{ClosesWhole};
 ghost use Rattle.promise.specs.Formed.{FormedBook, texts_for};
 ghost use Rattle.world_keeps_lives.specs.Firsts.{FirstBook};
@@ -28,7 +28,7 @@ ghost use Rattle.world_keeps_streams.specs.Rests.{Agree, AllAgree, AllCalm, AllR
 ghost use Rattle.world_keeps_streams.specs.Settled.{EachAgrees, HasSettled};
 ghost use Rattle.world_keeps_lives.specs.WorkedFormed.{gave};
 ghost use Rattle.world_keeps_streams.specs.Closes.{AllClose, AllHanded, EachHanded, IsClosedByPartner, TookHanded, WasClosedBy, WasClosedByPartner};
-ghost use Rattle.world_keeps_streams.specs.Over.{AreOver};
+ghost use Rattle.promise.specs.Over.{AreOver};
 ghost use Rattle.world_keeps_streams.specs.Laws.Programs.{ProgramsCalls, ProgramsAllowed, ProgramsReceiver, ProgramsSender};
 ghost use Rattle.world_keeps_streams.specs.Laws.Streams.{StreamsFront, StreamsWhole, StreamsTaken, StreamsSent};
 ghost use Rattle.world_keeps_streams.specs.Laws.Lives.{LivesSource, LivesCloses, LivesFirsts, LivesFormed, LivesArrived, LivesArrives, LivesAgree, LivesAnswered, LivesRests, LivesSent, LivesEnded, LivesOver, LivesWhole};

@@ -2,7 +2,7 @@
 //! definitions.
 
 ghost use Rattle.std.specs.Prelude.{[], ◌∷◌};
-ghost use Rattle.world_keeps_streams.specs.Arrived.{ArrivedBook, HasArrived};
+ghost use Rattle.promise.specs.Arrived.{ArrivedBook, HasArrived};
 ghost use Rattle.promise.specs.declared.life.Fate.TheVariants as fate;
 ghost use Rattle.world_keeps_lives.specs.WorkedFormed.{gave, sent_log, took};
 ghost use Rattle.world_keeps_streams.specs.WorkedArrived.{answered_log, closed_log, closed_receiver, closed_sender, on_two, sent_more, took_nothing};

@@ -1,5 +1,5 @@
 -- Where the end of a receiving life has taken its partner's CLS, all that its partner sent has come in; and it sends nothing more.
-use Rattle.std.proofs.Common.{◌≡◌, ◌⊎◌, inl, inr, ℕ, zero, suc, ◌+◌, ◌≤◌, ◌==◌, Bool, true, false, List, [], ◌∷◌, ◌++◌, length, map, take, Option, Some, None, refl, ap, sym, subst, ◌∙◌, eq-eqb, arith}
+use Rattle.std.proofs.Common.{◌≡◌, ◌⊎◌, inl, inr, ℕ, zero, suc, ◌+◌, ◌≤◌, ◌==◌, Bool, true, false, List, [], ◌∷◌, ◌++◌, length, map, Option, Some, None, refl, ap, sym, subst, ◌∙◌, eq-eqb, arith}
 use Rattle.std.specs.List.{Contains}
 use Rattle.interface.specs.Calls.{Seen}
 use Rattle.interface.specs.Host.{Host}
@@ -18,7 +18,7 @@ use Rattle.promise.specs.declared.life.Life.{Life}
 use Rattle.promise.specs.Formed.{texts_for}
 use Rattle.world_keeps_pairing.proofs.lemmas.{book_run}
 use Rattle.world_keeps_streams.specs.Calls.{own_calls}
-use Rattle.world_keeps_streams.specs.Came.{AllCame, CameAll, HadTakenCls, HasTakenCls}
+use Rattle.world_keeps_streams.specs.Came.{AllCame, CameAll, HasTakenCls}
 use Rattle.world_keeps_streams.proofs.Books.All.{all_given}
 use Rattle.world_keeps_streams.proofs.Books.Arrives.{rest_lawful, unlike}
 use Rattle.world_keeps_streams.proofs.Books.Books.{one_own, same_name}
@@ -29,8 +29,7 @@ use Rattle.world_keeps_streams.proofs.Books.Closes.{AtLink}
 use Rattle.world_keeps_streams.proofs.Books.Later.{Answers, named_request, same_link}
 use Rattle.world_keeps_streams.proofs.Books.Run.{below}
 use Rattle.world_keeps_streams.proofs.Books.Finished.{Done, Fixed, has_sent, has_source, next_is}
-use Rattle.world_keeps_streams.proofs.Books.Whole.{since}
-use Rattle.world_keeps_streams.proofs.Lives.Lists.{Grown, IsOf, Named, contains, grown, is_of, named_itself, of_left, of_map}
+use Rattle.world_keeps_streams.proofs.Lives.Lists.{IsOf, Named, contains, grown, is_of, named_itself, of_left, of_map}
 use Rattle.world_keeps_streams.proofs.Requests.Sides.{Heard, Lawful, Own, lives_in}
 use Rattle.world_keeps_streams.proofs.Steps.Overs.{over_alike}
 

@@ -1,5 +1,5 @@
 -- Where messages of a run crossed: what was before a place, the texts that came in since, and what a message that comes in was when it went out.
-use Rattle.std.proofs.Common.{◌≡◌, ◌⊎◌, inl, inr, ℕ, zero, suc, ◌+◌, ◌-◌, ◌<◌, ◌≤◌, ◌==◌, ◌&&◌, nat_lt, Bool, true, false, if◌then◌else◌, List, [], ◌∷◌, ◌++◌, drop, length, Option, Some, None, refl, ap, sym, subst, ◌∙◌, arith}
+use Rattle.std.proofs.Common.{◌≡◌, inl, inr, ℕ, suc, ◌+◌, ◌-◌, ◌<◌, ◌≤◌, ◌==◌, ◌&&◌, nat_lt, Bool, true, false, if◌then◌else◌, List, [], ◌∷◌, ◌++◌, drop, length, Some, refl, ap, sym, subst, ◌∙◌, arith}
 use Rattle.std.proofs.Math.Seq.{drop-append_seam}
 use Rattle.std.proofs.lemmas.Bool.{eqb-true}
 use Rattle.std.proofs.lemmas.List.{length-append}
@@ -12,7 +12,7 @@ use Rattle.interface.specs.declared.crossing.Crossing.{Crossing}
 use Rattle.interface.specs.declared.crossing.Crossing.TheVariants as crossing
 use Rattle.interface.specs.declared.message.HostMessage.{HostMessage}
 use Rattle.interface.proofs.lemmas.{or_false, same_flow-refl, waits_with}
-use Rattle.promise.specs.Formed.{CrossedAt, link_of, named_at, named_of, text_of, texts_of}
+use Rattle.promise.specs.Formed.{CrossedAt, link_of, named_at, text_of, texts_of}
 use Rattle.promise.specs.Safe.{before, last_out, receives}
 use Rattle.promise.specs.declared.life.Life.{Life}
 use Rattle.world_keeps_lives.proofs.lemmas.{texts_one}

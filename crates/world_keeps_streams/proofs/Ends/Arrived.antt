@@ -1,5 +1,5 @@
 -- An open receiving life counts all that came in on its link. So data of which a host got RFNM are among its bits, where it matches the life that sent them.
-use Rattle.std.proofs.Common.{◌≡◌, ◌⊎◌, inl, inr, ℕ, zero, suc, ◌+◌, ◌<◌, ◌≤◌, ◌==◌, Bool, true, false, if◌then◌else◌, List, [], ◌∷◌, ◌++◌, length, map, Option, Some, None, refl, ap, sym, subst, ◌∙◌, eq-eqb, arith}
+use Rattle.std.proofs.Common.{◌≡◌, ◌⊎◌, inl, inr, ℕ, suc, ◌+◌, ◌<◌, ◌≤◌, ◌==◌, Bool, true, false, if◌then◌else◌, List, [], ◌∷◌, ◌++◌, length, map, Option, Some, None, refl, ap, sym, subst, ◌∙◌, eq-eqb, arith}
 use Rattle.std.specs.List.{Contains}
 use Rattle.std.specs.Prelude.{option_map}
 use Rattle.std.proofs.lemmas.List.{append_assoc, length-append}
@@ -11,7 +11,7 @@ use Rattle.interface.specs.declared.crossing.Answer.TheVariants as answer
 use Rattle.interface.specs.declared.crossing.Crossing.{Crossing}
 use Rattle.interface.specs.declared.crossing.Crossing.TheVariants as crossing
 use Rattle.interface.specs.declared.message.HostMessage.{HostMessage}
-use Rattle.ncp_control.specs.Numbers.{is_receive_socket, is_send_socket}
+use Rattle.ncp_control.specs.Numbers.{is_send_socket}
 use Rattle.host_pairs.specs.Control.{orders_of}
 use Rattle.host_pairs.specs.declared.entry.Entry.{Entry}
 use Rattle.pairing_law.specs.Ends.{End}
@@ -21,31 +21,24 @@ use Rattle.stream_law.specs.Within.{waiting_in}
 use Rattle.stream_law.proofs.lemmas.{Inv, came_inv, some_is, waiting_of, waits_of}
 use Rattle.host_keeps_streams.specs.Histories.{HasClosed, name_now, numbered, receiver_now}
 use Rattle.host_keeps_streams.proofs.lemmas.{closed_first}
-use Rattle.world_keeps_streams.specs.Arrived.{ArrivedBook, HasArrived, IsCounted}
+use Rattle.promise.specs.Arrived.{ArrivedBook, HasArrived, IsCounted}
 use Rattle.promise.specs.Ends.{Course, Going, stage}
 use Rattle.promise.specs.Fates.{IsBeside}
 use Rattle.promise.specs.Formed.{CrossedAt, flow_of, link_of, named_in, own_named, partner_named, texts_for, texts_of, texts_on}
-use Rattle.promise.specs.Safe.{Match, Name, before, control_flow, last_out, named, own_request, partner_request, receives, sends}
+use Rattle.promise.specs.Safe.{Match, Name, before, control_flow, last_out, named, own_request, receives, sends}
 use Rattle.promise.specs.declared.book.Called.{Called}
-use Rattle.promise.specs.declared.life.Fate.{Fate}
 use Rattle.promise.specs.declared.life.Fate.TheVariants as fate
 use Rattle.promise.specs.declared.life.Life.{Life}
 use Rattle.net_sim.specs.Book.{Kept}
 use Rattle.net_sim.specs.Clean.{IsLawful}
-use Rattle.net_sim.specs.Story.{Asked, Crossed, Moment, program}
+use Rattle.net_sim.specs.Story.{Asked, Crossed, Moment}
 use Rattle.net_sim.specs.Timeline.{contacts_of, crossings_of}
 use Rattle.net_sim.specs.Told.{kept_in}
 use Rattle.net_sim.specs.World.{WorldState}
 use Rattle.net_sim.proofs.lemmas.{kept_fated}
-use Rattle.world_keeps_lives.specs.Firsts.{FirstBook, IsSentIn}
-use Rattle.world_keeps_lives.proofs.FirstBooks.{good}
-use Rattle.world_keeps_lives.proofs.FirstEnds.{AtEnd, Good, Tracked, at_end, is_end}
-use Rattle.world_keeps_lives.proofs.FirstLists.{From, from_map, life_of}
-use Rattle.world_keeps_lives.proofs.Formed.{link_is}
-use Rattle.world_keeps_lives.proofs.Requests.{each_in}
-use Rattle.world_keeps_lives.proofs.lemmas.{Linked, LinkedBook, named_there}
-use Rattle.world_keeps_pairing.proofs.LinkTurns.{odd_send}
-use Rattle.world_keeps_pairing.proofs.lemmas.{book_run, send_odd}
+use Rattle.world_keeps_lives.specs.Firsts.{IsSentIn}
+use Rattle.world_keeps_lives.proofs.lemmas.{end_link, Linked, LinkedBook, named_there}
+use Rattle.world_keeps_pairing.proofs.lemmas.{book_run, odd_send, send_odd}
 use Rattle.world_keeps_streams.specs.Answered as moments
 use Rattle.world_keeps_streams.specs.Calls.{own_calls}
 use Rattle.world_keeps_streams.specs.Closes.{IsClosedByPartner, WasClosedByPartner}
@@ -62,7 +55,7 @@ use Rattle.world_keeps_streams.proofs.Books.Ended.{all_crossings}
 use Rattle.world_keeps_streams.proofs.Books.Ending.{at_link, never_closed}
 use Rattle.world_keeps_streams.proofs.Books.Firsts.{firsts, linked, together}
 use Rattle.world_keeps_streams.proofs.Books.Later.{closes_whole, named_request}
-use Rattle.world_keeps_streams.proofs.Books.Placed.{WentAt, before_end, before_later, crossed_end, crossed_later, crossed_one, link_later, none_out, texts_past, went_at}
+use Rattle.world_keeps_streams.proofs.Books.Placed.{WentAt, before_end, before_later, crossed_end, crossed_one, link_later, none_out, texts_past, went_at}
 use Rattle.world_keeps_streams.proofs.Books.Run.{whole}
 use Rattle.world_keeps_streams.proofs.Books.Source.{Granter, granted_of}
 use Rattle.world_keeps_streams.proofs.Books.Unasked.{life_of_link, own_below, partner_below}
@@ -103,20 +96,6 @@ took_all x h c end unclosed = by (x.receiver.over c) refl where
 -- ---- an open life counts all that came in
 
 module _ (hosts : List Host) (ms : List Moment) (l : Lawful hosts ms) where
-  -- the link of a life that isn't over is that of its end
-  abbrev IsLinked : Life → Type 0
-  IsLinked x = x.ended ≡ false → (link : ℕ) → (f : AtLink ms x) → f.link ≡ link → link_of (crossings_of ms) x ≡ Some link
-
-  linked_as : (x : Life) → Contains (lives_in ms) x → IsLinked x
-  linked_as x there =
-      let g : Good ms = good hosts (together hosts) ms l in
-      let f : From life_of g.links x = from_map life_of g.links x (subst (λ (ls : List Life). Contains ls x) (sym g.all) there) in
-      let t : Tracked ms f.one = each_in (Tracked ms) g.links f.one f.there g.tracked in
-      subst IsLinked f.is (λ goes link a is.
-      (let i : AtEnd ms f.one = at_end hosts (together hosts) ms l f.one (subst (λ (z : Life). Contains (lives_in ms) z) (sym f.is) there) t goes in
-      let same : i.end ≡ a.end.end = is_end hosts (together hosts) ms l f.one.life a.end i.end i.there i.mine i.own in
-      link_is hosts ms l f.one t.first.asked ∙ sym i.link ∙ ap (λ (e : Entry). e.link) same ∙ a.linked ∙ ap (λ (n : ℕ). Some n) is))
-
   module _ (x : Life) (i : IsBeside x fate.Open (kept_in ms).book.lives (kept_in ms).fates) (kind : receives x ≡ true) where
     i_in : IsOf x (lives_in ms)
     i_in = beside_of (lives_in ms) (kept_in ms).fates x fate.Open i
@@ -183,7 +162,7 @@ module _ (hosts : List Host) (ms : List Moment) (l : Lawful hosts ms) where
     counts_all : x.messages ≡ length (texts_on x (link_of (crossings_of ms) x) (crossings_of ms))
     counts_all =
         (closes.going hosts ms l x f).messages ∙ took_all stream inv c end unclosed ∙ sym (came_as hosts ms l x f)
-        ∙ ap (λ (o : Option ℕ). length (texts_on x o (crossings_of ms))) (sym (linked_as x (contains x (lives_in ms) i_in) goes f.link f refl))
+        ∙ ap (λ (o : Option ℕ). length (texts_on x o (crossings_of ms))) (sym (end_link hosts ms l (together hosts) x (contains x (lives_in ms) i_in) goes f.end ∙ f.linked))
 
 -- ---- the two lives of a connection have one link
 

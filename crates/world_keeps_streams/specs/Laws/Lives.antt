@@ -7,7 +7,7 @@ use Rattle.interface.specs.declared.address.Flow.{Flow}
 use Rattle.interface.specs.declared.crossing.Answer.TheVariants as answer
 use Rattle.interface.specs.declared.crossing.Crossing.TheVariants as crossing
 use Rattle.interface.specs.declared.message.HostMessage.{HostMessage}
-use Rattle.world_keeps_streams.specs.Arrived.{ArrivedBook}
+use Rattle.promise.specs.Arrived.{ArrivedBook}
 use Rattle.promise.specs.Fates.{ClosesWhole, IsBeside}
 use Rattle.promise.specs.Formed.{FormedBook}
 use Rattle.promise.specs.declared.life.Fate.TheVariants as fate
@@ -20,7 +20,7 @@ use Rattle.net_sim.specs.Told.{kept_in}
 use Rattle.world_keeps_lives.specs.Firsts.{FirstBook}
 use Rattle.world_keeps_streams.specs.Answered.{HasArrived}
 use Rattle.world_keeps_streams.specs.Arrivals.{Arrives, ComesFor}
-use Rattle.world_keeps_streams.specs.Over.{AreOver}
+use Rattle.promise.specs.Over.{AreOver}
 use Rattle.world_keeps_streams.specs.Rests.{Agree, AreAtRest, AreSettled}
 use Rattle.world_keeps_streams.specs.Closes.{TookAll, WasClosedByPartner}
 

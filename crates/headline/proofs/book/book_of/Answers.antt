@@ -1,11 +1,11 @@
 use Rattle.std.proofs.Common.{sym, subst}
 use Rattle.net_sim.specs.Book.{Kept}
-use Rattle.world_keeps_streams.specs.Arrived.{ArrivedBook}
+use Rattle.promise.specs.Arrived.{ArrivedBook}
 use Rattle.promise.specs.Fates.{AreFated, ClosesWhole}
 use Rattle.promise.specs.Promised.{Promised}
 use Rattle.net_sim.proofs.lemmas.{world_fated}
 use Rattle.world_keeps_streams.proofs.lemmas.{world_arrived, world_ended, world_over}
-use Rattle.world_keeps_streams.specs.Over.{AreOver}
+use Rattle.promise.specs.Over.{AreOver}
 use Rattle.headline.proofs.Promise.{exact, promised}
 use Rattle.headline.proofs.book.book_of.Goals as goal
 

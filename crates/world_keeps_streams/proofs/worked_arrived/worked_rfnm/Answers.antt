@@ -1,11 +1,10 @@
-use Rattle.std.proofs.Common.{◌≡◌, ◌⊎◌, inl, inr, ℕ, ◌<◌, true, false, List, [], ◌∷◌, drop, length, Option, Some, refl, ap, sym, subst, ◌∙◌, arith}
-use Rattle.std.specs.List.{Contains}
+use Rattle.std.proofs.Common.{◌≡◌, inl, inr, ℕ, ◌<◌, true, false, List, [], ◌∷◌, drop, length, Option, Some, refl, ap, sym, subst, ◌∙◌, arith}
 use Rattle.std.specs.Prelude.{option_map}
 use Rattle.bit_messages.specs.Octets.{octets_of}
 use Rattle.interface.specs.declared.crossing.Crossing.TheVariants as crossing
 use Rattle.ncp_control.specs.Reading.{command_of, read_of}
 use Rattle.host_pairs.specs.Control.{orders_of}
-use Rattle.world_keeps_streams.specs.Arrived.{HasArrived, IsCounted}
+use Rattle.promise.specs.Arrived.{HasArrived, IsCounted}
 use Rattle.promise.specs.Fates.{IsBeside}
 use Rattle.promise.specs.Formed.{flow_of, link_of, texts_on}
 use Rattle.promise.specs.Safe.{Match, before, receives, sends}
@@ -14,7 +13,7 @@ use Rattle.promise.specs.declared.life.Fate.TheVariants as fate
 use Rattle.promise.specs.declared.life.Life.{Life}
 use Rattle.net_sim.specs.WorkedMoments.{eight_sent}
 use Rattle.world_keeps_lives.specs.WorkedFormed.{gave, sent_log, took}
-use Rattle.world_keeps_lives.proofs.Requests.{each_in}
+use Rattle.world_keeps_lives.proofs.lemmas.{each_in}
 use Rattle.world_keeps_streams.specs.WorkedArrived.{answered_log, on_two, took_nothing}
 use Rattle.world_keeps_streams.proofs.worked_arrived.worked_rfnm.Goals as goal
 

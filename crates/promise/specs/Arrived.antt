@@ -1,5 +1,5 @@
 -- What RFNM of data says to the host that sent them, by crossings, lives and fates alone (BBN Report 1822, RFNM; NIC 8246, messages of data).
-use Rattle.std.specs.Prelude.{◌≡◌, ℕ, ◌<◌, ◌==◌, Bool, false, true, List, [], ◌∷◌, ◌++◌, length, option_map, Some}
+use Rattle.std.specs.Prelude.{◌≡◌, ℕ, ◌<◌, ◌==◌, Bool, false, true, List, ◌∷◌, ◌++◌, length, option_map, Some}
 use Rattle.std.specs.List.{Contains}
 use Rattle.interface.specs.Messages.{SinceLastOut}
 use Rattle.interface.specs.declared.address.Flow.{Flow}
