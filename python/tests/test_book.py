@@ -4,7 +4,7 @@ from __future__ import annotations
 
 import unittest
 
-from dorydate.explain.book import NoSuchLine, told
+from dorydate.explain.book import NoSuchLine, said_of
 from dorydate.model.log import Book, read_log
 from workshop.parts import ROOT
 
@@ -23,13 +23,13 @@ def book(*changes: tuple[str, str]) -> Book:
 
 def said(line: int, *changes: tuple[str, str]) -> dict[str, str]:
     """What each clause says of a line of it."""
-    found = (it.strip().split(": ", 1) for it in told(book(*changes), line)[1:])
+    found = (it.strip().split(": ", 1) for it in said_of(book(*changes), line)[1:])
     return {clause: sentence for clause, sentence in found}
 
 
 class OfBooks(unittest.TestCase):
     def test_list(self) -> None:
-        self.assertEqual([it.split(":")[0] for it in told(book(), None)], ["line 10", "line 11", "line 7"])
+        self.assertEqual([it.split(":")[0] for it in said_of(book(), None)], ["line 10", "line 11", "line 7"])
 
     def test_receiver(self) -> None:
         clauses = said(10)
@@ -60,7 +60,7 @@ class OfBooks(unittest.TestCase):
 
     def test_no_such_line(self) -> None:
         for line in (0, 9, 12, 99):
-            self.assertRaises(NoSuchLine, told, book(), line)
+            self.assertRaises(NoSuchLine, said_of, book(), line)
 
 
 if __name__ == "__main__":

@@ -38,7 +38,7 @@ class NoSuchLine(Exception):
     """A line of the log that is neither a life nor a message."""
 
 
-def told(book: Book, line: int | None) -> list[str]:
+def said_of(book: Book, line: int | None) -> list[str]:
     """What the clauses say of the life or the message in a line of the log, or the lines that may be asked for."""
     log, lives, _ = book
     if line is None:
@@ -135,7 +135,7 @@ def paired(book: Book, life: Life) -> str:
     found = [it for it in book.lives if own_request(it) == asked]
     if place is None or len(own) > 1 or len(same) > 1 or any(partner_request(log, it) != own_request(life) for it in found):
         return SAID["unpaired"]
-    return filled(SAID["partners"], line=place + 1, other=line_of(book, found[0])) if found else filled(SAID["alone"], line=place + 1)
+    return filled(SAID["partners"], line=place + 1, other=line_of(book, found[0])) if found else filled(SAID["single"], line=place + 1)
 
 
 def stream(book: Book, at: int, others: list[Life]) -> Said:

@@ -70,7 +70,7 @@ def of_book(words: Sequence[str]) -> int:
             return ran.status
         octets = ran.output.encode("latin-1")
     try:
-        print(*book.told(read_log(octets), int(words[0]) if words else None), sep="\n")
+        print(*book.said_of(read_log(octets), int(words[0]) if words else None), sep="\n")
     except BadLog as line:
         print(f"bad log line {line}", file=sys.stderr)
         return 2

@@ -18,7 +18,7 @@ Log = Sequence[Crossing]
 Lives = Sequence[Life]
 
 
-class Told(NamedTuple):
+class Rfnm(NamedTuple):
     """A message of data of which its host got RFNM: its flow, and the places where it went out and came in."""
 
     flow: Flow
@@ -45,7 +45,7 @@ class Arrived:
         """Whether a receiving life counts all that came in on its link, if it is open."""
         return life.fate != "open" or life.messages == len(self.places(log, life))
 
-    def told(self, log: Log) -> Iterator[Told]:
+    def rfnms(self, log: Log) -> Iterator[Rfnm]:
         """The messages of data of which their hosts got RFNM."""
         went: dict[Flow, int] = {}
         came: dict[Flow, int] = {}
@@ -53,9 +53,9 @@ class Arrived:
             if isinstance(crossing, Passed):
                 (went if crossing.kind == "out" else came)[crossing.flow] = at
             elif isinstance(crossing, Answered) and crossing.answer == "rfnm" and crossing.flow.link != CONTROL:
-                yield Told(crossing.flow, went[crossing.flow], came[crossing.flow])
+                yield Rfnm(crossing.flow, went[crossing.flow], came[crossing.flow])
 
-    def has_arrived(self, log: Log, lives: Lives, message: Told) -> bool:
+    def has_arrived(self, log: Log, lives: Lives, message: Rfnm) -> bool:
         """Whether a message is one of a sending life, and of the receiving one that this matches."""
         senders = [it for it in lives if not it.receives() and flow_of(log, it) == message.flow and message.out in self.counted(log, it)]
         receivers = [it for it in lives for sender in senders if it.receives() and self.is_unclosed(it) and match(log, it, sender)]
@@ -65,7 +65,7 @@ class Arrived:
         """What a book breaks."""
         if not all(self.has_all(log, it) for it in lives if it.receives()):
             return "an open life has all that came in on its link"
-        return None if all(self.has_arrived(log, lives, it) for it in self.told(log)) else "an RFNM of data means that they arrived"
+        return None if all(self.has_arrived(log, lives, it) for it in self.rfnms(log)) else "an RFNM of data means that they arrived"
 
 
 broken = Arrived().broken

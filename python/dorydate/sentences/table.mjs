@@ -377,7 +377,7 @@ export const TABLE = {
 "link only": "The RTS names link {link}. No message that {crossed} there after both requests is counted.",
 "unmade": "It isn't made of messages that crossed.",
 "partners": "No other life has its own request. Its partner's went out in line {line}, and is the own request of the life of line {other}, whose partner's is its own.",
-"alone": "No other life has its own request. Its partner's went out in line {line}, and is no life's own.",
+"single": "No other life has its own request. Its partner's went out in line {line}, and is no life's own.",
 "unpaired": "Its request or its partner's is that of another life too, or names none.",
 "source": "The {bits bit} that it took are a prefix of the {sent bit} of the one life that it matches, of line {other}.",
 "nothing": "It took nothing.",
