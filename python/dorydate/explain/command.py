@@ -5,7 +5,8 @@ also what a message says, and what an event does inside the network. For a refus
 that the program refuses it says what is probably wrong. With --chart it writes a sequence chart in Mermaid's language
 instead, which GitHub and GitLab draw; with --short it draws one arrow for each message, and leaves out RFNMs and most of
 what users learn. With --book it says what the promise says of one life or one message: LINE is its line in the log, and
-without it they are listed; FILE is a log, or an input. With --page it writes a page for a browser (docs/workbench.md). Its exit status is that of the program.
+without it they are listed; FILE is a log, or an input. With --page it writes a page for a browser (docs/workbench.md).
+Its exit status is that of the program.
 
 Which script line printed what the program itself says, in a run with refused events between those of the script (dorydate.marks).
 
@@ -16,6 +17,7 @@ independent model in Python, which replays the script beside the program and has
 from __future__ import annotations
 
 import os
+import re
 import sys
 from collections.abc import Callable, Sequence
 
@@ -123,7 +125,7 @@ def asked(options: list[str]) -> int:
         return page.main(standard_input(), options)
     if options in (["--log"], ["--audit"]):
         return audited(options)
-    if options[:1] == ["--book"] and all(it.isascii() and it.isdigit() and len(it) < 20 for it in options[1:]) and len(options) < 3:
+    if options[:1] == ["--book"] and len(options) < 3 and all(re.fullmatch("[0-9]{1,19}", it) for it in options[1:]):
         return of_book(options[1:])
     if options[:1] == ["--expect"]:
         return expect(options[1:])

@@ -1,4 +1,4 @@
-"""What RFNM of data means, by crossings, lives and their fates: the data are among the bits of the receiving life, if that is open or has ended.
+"""What RFNM of data means: they are among the bits of the receiving life, if that is open or has ended.
 
 It was written from docs/headline.md, in another language and another form than the definitions.
 """
@@ -27,7 +27,7 @@ class Rfnm(NamedTuple):
 
 
 class Arrived:
-    """What an open life has, and what RFNM of data means. `misread_arrived` has readings that are wrong in one place each."""
+    """What an open life has, and what RFNM of data means. `misread_arrived` has readings that are wrong in one place."""
 
     def is_unclosed(self, life: Life) -> bool:
         """Whether nobody at its host closed a life, and it was neither reset nor stopped."""
@@ -57,15 +57,19 @@ class Arrived:
 
     def has_arrived(self, log: Log, lives: Lives, message: Rfnm) -> bool:
         """Whether a message is one of a sending life, and of the receiving one that this matches."""
-        senders = [it for it in lives if not it.receives() and flow_of(log, it) == message.flow and message.out in self.counted(log, it)]
-        receivers = [it for it in lives for sender in senders if it.receives() and self.is_unclosed(it) and match(log, it, sender)]
-        return len(senders) == 1 and message.out < message.taken and all(message.taken in self.counted(log, it) for it in receivers)
+        on_flow = [it for it in lives if not it.receives() and flow_of(log, it) == message.flow]
+        senders = [it for it in on_flow if message.out in self.counted(log, it)]
+        unclosed = [it for it in lives if it.receives() and self.is_unclosed(it)]
+        receivers = [it for it in unclosed for sender in senders if match(log, it, sender)]
+        have_it = all(message.taken in self.counted(log, it) for it in receivers)
+        return len(senders) == 1 and message.out < message.taken and have_it
 
     def broken(self, log: Log, lives: Lives) -> str | None:
         """What a book breaks."""
         if not all(self.has_all(log, it) for it in lives if it.receives()):
             return "an open life has all that came in on its link"
-        return None if all(self.has_arrived(log, lives, it) for it in self.rfnms(log)) else "an RFNM of data means that they arrived"
+        have_arrived = all(self.has_arrived(log, lives, it) for it in self.rfnms(log))
+        return None if have_arrived else "an RFNM of data means that they arrived"
 
 
 broken = Arrived().broken

@@ -36,7 +36,8 @@ class OfAllLinks(Arrived):
     def places(self, log: Log, life: Life) -> list[int]:
         way = ("in", life.peer, life.host) if life.receives() else ("out", life.host, life.peer)
         begun = max(life.own, life.partner) + 1
-        return [at for at, it in enumerate(log[begun:], begun) if isinstance(it, Passed) and (it.kind, *it.flow[:2]) == way and it.flow.link != 0]
+        data = [(at, it) for at, it in enumerate(log[begun:], begun) if isinstance(it, Passed) and it.flow.link != 0]
+        return [at for at, it in data if (it.kind, *it.flow[:2]) == way]
 
 
 MISREADINGS = EvenClosing, OpenOrClosing, OfOlderToo, OfAllLinks

@@ -7,7 +7,8 @@ The model is the independent model of the rules (python/dorydate/model/world.py)
 from the crossings, the lives and the bits that were handed over (python/dorydate/model/audit.py): at the end of each run, and after each
 event of some; in these it is looked at too whether what had an effect on a host went out after that host's last clean point for
 its sender (python/dorydate/model/clean.py). Of each run it is judged too what endings mean, at each moment (python/dorydate/model/endings.py), and
-whether the log determines the bits of its lives (python/dorydate/model/firsts.py), and what RFNM of data means (python/dorydate/model/arrived.py). So this script doesn't try the program. It tries the promise itself,
+whether the log determines the bits of its lives (python/dorydate/model/firsts.py), and
+what RFNM of data means (python/dorydate/model/arrived.py). So this script doesn't try the program. It tries the promise itself,
 and with it two facts that are stronger: no program is ever notified of an error, and two lives that continue and have each other's hosts and sockets are
 one connection.
 
@@ -216,13 +217,14 @@ def main() -> int:
         print("check worlds: a book with a life that has no partner's request, or one of another host, keeps what is promised of partners")
         return 1
     if missed := [*unnoticed()]:
-        print("check worlds: no book by hand tells these wrong readings of the promise:", *missed, sep="\n")
+        print("check worlds: no book by hand distinguishes these wrong readings of the promise:", *missed, sep="\n")
         return 1
     if any(world_of(lines, EndingWorld).judged() for lines in ENDINGS) or [*unnoticed_endings()]:
         print("check worlds: a script by hand ends wrongly, or none tells these wrong readings of endings:", *unnoticed_endings(), sep="\n")
         return 1
     if any(arrived.broken(*book_of(lines)) for lines in ENDINGS) or [*unnoticed_arrived()]:
-        print("check worlds: a script by hand loses data of which RFNM came, or none tells these wrong readings of it:", *unnoticed_arrived(), sep="\n")
+        print("check worlds: a script by hand loses data of which RFNM came, or none is unlike these wrong readings:")
+        print(*unnoticed_arrived(), sep="\n")
         return 1
     came_to: Counter[str] = Counter()
     tried: Counter[str] = Counter()
@@ -235,7 +237,8 @@ def main() -> int:
         came_to += ran.reached
         tried += ran.tried
     print(f"check worlds: {len([*wrong_books(), *wrong_partners()])} books written by hand, each judged rightly, and by {len(MISREADINGS)} wrong readings of the promise not all")
-    print(f"check worlds: {len(ENDINGS)} scripts written by hand, each ends rightly, and by {len(MISREAD_ENDINGS)} wrong readings of endings and {len(MISREAD_ARRIVED)} of RFNM not all")
+    readings = f"{len(MISREAD_ENDINGS)} wrong readings of endings and {len(MISREAD_ARRIVED)} of RFNM"
+    print(f"check worlds: {len(ENDINGS)} scripts written by hand, each ends rightly, and by {readings} not all")
     print("check worlds: the runs came to", ", ".join(f"{count} {name}" for name, count in sorted(came_to.items())))
     for kind, count in sorted(tried.items()):
         print(f"check worlds: {kind}: {count} times")
