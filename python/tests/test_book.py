@@ -33,7 +33,8 @@ class OfBooks(unittest.TestCase):
 
     def test_receiver(self) -> None:
         clauses = said(10)
-        self.assertRegex(clauses["promise.formed.bits"], "^The RTS names link 5. Its 16 bits .* the first 1 message .*: line 8.$")
+        bits = clauses["promise.formed.bits"]
+        self.assertRegex(bits, "^The RTS names link 5. Its 16 bits .* the first 1 message .*: line 8.$")
         self.assertIn("of the life of line 11, whose partner's is its own", clauses["promise.safe.partners"])
         self.assertEqual(clauses["arrived.all"], "It is open, and counts all 1 message that came in on its link.")
 

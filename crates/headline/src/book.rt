@@ -12,8 +12,8 @@ use net_sim::{Book, World};
 
 /// Returns the book of a world. It keeps the promise, whatever the world's carrier is made of and whatever happened.
 ///
-/// The promise is all of these clauses but `value` and `lawful`. They speak of crossings, notices, contacts, lives and fates,
-/// and of no program. What each says is in the comments of its definition, field by field:
+/// The promise is all of these clauses but `value` and `lawful`. They speak of crossings, notices, contacts, lives
+/// and fates, and of no program. What each says is in the comments of its definition, field by field:
 ///
 /// - `promise`: `Promised`, whose parts are `run`, `formed`, `told`, `safe` and `joined`.
 /// - `fated`: `AreFated`. Each life has a fate, which says whether it is over.

@@ -1,4 +1,5 @@
--- A small book whose eight bits were answered, and one in which the sending user closes: words for worked examples. All logs are read newest first.
+-- A small book whose eight bits were answered, and one in which the sending user closes: words for worked examples.
+-- All logs are read newest first.
 use Rattle.std.specs.Prelude.{List, [], ◌∷◌}
 use Rattle.interface.specs.declared.address.Flow.{Flow}
 use Rattle.interface.specs.declared.crossing.Answer.TheVariants as answer
@@ -24,7 +25,9 @@ took_nothing = record took { bits = []; messages = 0 }
 
 -- the two requests, and the CLS of the sending user, which was taken
 abbrev pub closed_log : List Crossing
-closed_log = crossing.In partner_cls ∷ crossing.Out partner_cls ∷ crossing.In str ∷ crossing.Out str ∷ crossing.In rts ∷ crossing.Out rts ∷ []
+closed_log =
+    crossing.In partner_cls ∷ crossing.Out partner_cls ∷ crossing.In str ∷ crossing.Out str ∷ crossing.In rts
+    ∷ crossing.Out rts ∷ []
 
 -- the two lives, and a sending one that says that it had sent a message
 abbrev pub closed_receiver : Life

@@ -85,8 +85,8 @@ pub fn lives()
     // so an orderly close loses nothing: such a life took all that its partner sent, and all that was handed over there
     ensures whole { LivesWhole }
 
-    // an open receiving life counts each message that came in on its link after both of its requests. So data of which a host got RFNM are among the bits of the
-    // life that its own matches, if that is open
+    // an open receiving life counts each message that came in on its link after both of its requests. So data of
+    // which a host got RFNM are among the bits of the life that its own matches, if that is open
     ensures arrived { LivesArrived }
 
     // each life is over as its fate says, by what its fate says: by both CLS of its sockets, as its connections are dropped, or as its host stops. So one whose fate

@@ -1,5 +1,5 @@
-//! Worked examples of what RFNM of data means, and of what an open life has. The functions here do nothing: each clause is a row, computed over the
-//! definitions.
+//! Worked examples of what RFNM of data means, and of what an open life has. The functions here do nothing: each
+//! clause is a row, computed over the definitions.
 
 ghost use Rattle.std.specs.Prelude.{[], ◌∷◌};
 ghost use Rattle.promise.specs.Arrived.{ArrivedBook, HasArrived};

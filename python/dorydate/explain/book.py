@@ -1,4 +1,4 @@
-"""What `./explain --book [LINE] < FILE` says of a life or a message: what each clause of `headline::book_of` says of it.
+"""What each clause of `headline::book_of` says of a life or a message: `./explain --book [LINE] < FILE`.
 
 FILE is a log, or an input, of whose replay the log is taken. LINE is a line of the log; without it the lives and the
 messages of data are listed. The names before each sentence are those of docs/measured/promise.md. All is worked out by

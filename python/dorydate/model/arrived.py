@@ -27,7 +27,7 @@ class Rfnm(NamedTuple):
 
 
 class Arrived:
-    """What an open life has, and what RFNM of data means. `misread_arrived` has readings that are wrong in one place."""
+    """What an open life has, and what RFNM of data means. `misread_arrived` has wrong readings."""
 
     def is_unclosed(self, life: Life) -> bool:
         """Whether nobody at its host closed a life, and it was neither reset nor stopped."""

@@ -60,7 +60,7 @@ BOOKS: list[tuple[str, list[str], int, list[str]]] = [
     ("logs/two-octets", ["7"], 0, ["arrived.answered.arrived: It is message 1 of the life of line 10"]),
     ("logs/two-octets", ["9"], 1, ["line 9 of the log is no life and no message"]),
     ("logs/two-octets", ["x"], 1, ["usage: ./explain"]),
-    ("examples/a-connection-and-its-book", ["25"], 0, ["Its own request went out in line 9", "over: It is ended: both CLS"]),
+    ("examples/a-connection-and-its-book", ["25"], 0, ["Its own request went out in line 9", "It is ended: both CLS"]),
 ]
 
 
@@ -224,7 +224,7 @@ ENDINGS = [(">&-", "standard output is closed"), ("<&-", "standard input is clos
 
 
 def check_books() -> None:
-    """Of a life and a message of a log, or of an input's log, each clause says what it says; other lines are neither."""
+    """Of a life and a message of a log, or of an input's log, each clause says what it says."""
     for name, line, status, words in BOOKS:
         with open(f"{ROOT}/{name}", "rb") as file:
             ran = subprocess.run([f"{ROOT}/explain", "--book", *line], stdin=file, capture_output=True, check=False)

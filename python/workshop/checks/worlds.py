@@ -8,7 +8,8 @@ from the crossings, the lives and the bits that were handed over (python/dorydat
 event of some; in these it is looked at too whether what had an effect on a host went out after that host's last clean point for
 its sender (python/dorydate/model/clean.py). Of each run it is judged too what endings mean, at each moment (python/dorydate/model/endings.py), and
 whether the log determines the bits of its lives (python/dorydate/model/firsts.py), and
-what RFNM of data means (python/dorydate/model/arrived.py). So this script doesn't try the program. It tries the promise itself,
+what RFNM of data means (python/dorydate/model/arrived.py). So this script doesn't try the program. It tries the promise
+itself,
 and with it two facts that are stronger: no program is ever notified of an error, and two lives that continue and have each other's hosts and sockets are
 one connection.
 

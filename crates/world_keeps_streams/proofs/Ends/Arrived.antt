@@ -536,7 +536,8 @@ module _ (hosts : List Host) (newer older : List Moment) (f : Flow) (m : HostMes
     x_in = beside_of (lives_in all) (kept_in all).fates x fate.Open i
 
     same : x ≡ r_now.life
-    same = one_receiver hosts Own Heard (λ a b. all_given hosts a b) all l x r_now.life now.life x_in r_now.there match still
+    same =
+        one_receiver hosts Own Heard (λ a b. all_given hosts a b) all l x r_now.life now.life x_in r_now.there match still
 
     own : x.own_stamp < length (crossings_of older)
     own =

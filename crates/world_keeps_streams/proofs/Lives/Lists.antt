@@ -188,7 +188,10 @@ grown_on xs ys zs g h = record {
     partner = (h.names (g.change x)).partner ∙ (g.names x).partner;
   };
   still = λ x e. ap h.change (g.still x e) ∙ h.still x e;
-  counts = λ x. (let first : x.messages ≤ (g.change x).messages = g.counts x in let next : (g.change x).messages ≤ (h.change (g.change x)).messages = h.counts (g.change x) in omega (arith, first, next));
+  counts = λ x.
+      (let first : x.messages ≤ (g.change x).messages = g.counts x in
+      let next : (g.change x).messages ≤ (h.change (g.change x)).messages = h.counts (g.change x) in
+      omega (arith, first, next));
 }
 
 -- a change of those that pass a test, which none that has ended does

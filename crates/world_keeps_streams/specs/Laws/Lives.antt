@@ -96,8 +96,8 @@ LivesWhole =
     (hosts : List Host) (moments : List Moment) → HaveAddresses hosts → mail.IsRun hosts (crossings_of moments) → IsTimeline hosts moments →
     ClosesWhole (crossings_of moments) (kept_in moments).book.lives (kept_in moments).handed (kept_in moments).fates
 
--- an open receiving life counts each message that came in on its link; so RFNM of data means that they are among the bits of the life that matches, if that is
--- open
+-- an open receiving life counts each message that came in on its link; so RFNM of data means that they are among the
+-- bits of the life that matches, if that is open
 abbrev pub LivesArrived : Type 0
 LivesArrived =
     (hosts : List Host) (moments : List Moment) → HaveAddresses hosts → mail.IsRun hosts (crossings_of moments) → IsTimeline hosts moments →
