@@ -86,7 +86,8 @@ pub link_later : (xs ys : List Crossing) (x : Life) → x.own_stamp < length ys 
 link_later xs ys x own partner = by (receives x) where
   by : (v : Bool) → (if v then named_at false x.host x.peer x.socket x.foreign x.own_stamp
       (xs ++ ys) else named_at true x.peer x.host x.foreign x.socket x.partner_stamp (xs ++ ys))
-      ≡ (if v then named_at false x.host x.peer x.socket x.foreign x.own_stamp ys else named_at true x.peer x.host x.foreign x.socket x.partner_stamp ys)
+      ≡ (if v then named_at false x.host x.peer x.socket x.foreign x.own_stamp ys
+          else named_at true x.peer x.host x.foreign x.socket x.partner_stamp ys)
   by true = named_later false x.host x.peer x.socket x.foreign x.own_stamp xs ys own
   by false = named_later true x.peer x.host x.foreign x.socket x.partner_stamp xs ys partner
 
