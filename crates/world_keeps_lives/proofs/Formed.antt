@@ -160,10 +160,10 @@ module _ (hosts : List Host) (ms : List Moment) (l : Lawful hosts ms) where
     end_link x there =
         let g : Good ms = good hosts given ms l in
         let f : From life_of g.links x =
-            from_map life_of g.links x (subst (λ (ls : List Life). Contains ls x) (sym g.all) there) in
+        from_map life_of g.links x (subst (λ (ls : List Life). Contains ls x) (sym g.all) there) in
         let t : Tracked ms f.one = each_in (Tracked ms) g.links f.one f.there g.tracked in
         subst IsLinked f.is (λ goes o.
         (let i : AtEnd ms f.one =
-            at_end hosts given ms l f.one (subst (λ (z : Life). Contains (lives_in ms) z) (sym f.is) there) t goes in
+        at_end hosts given ms l f.one (subst (λ (z : Life). Contains (lives_in ms) z) (sym f.is) there) t goes in
         let same : i.end ≡ o.end = is_end hosts given ms l f.one.life o i.end i.there i.mine i.own in
         link_is f.one t.first.asked ∙ sym i.link ∙ ap (λ (e : Entry). e.link) same))

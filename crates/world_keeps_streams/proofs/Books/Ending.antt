@@ -484,9 +484,9 @@ ended_by_partner hosts ms l x i kind = (fated hosts ms l x fate.Ended i kind).en
 pub never_closed : (hosts : List Host) (ms : List Moment) → Lawful hosts ms → (x : Life)
     → IsBeside x fate.Open (kept_in ms).book.lives (kept_in ms).fates → receives x ≡ true → (m : ℕ)
     → (receiver_now numbered x.peer (suc m) (own_calls x.host x.peer ms)).end
-      ≡ Some (name_now numbered x.peer (own_calls x.host x.peer ms) x.socket x.foreign)
+    ≡ Some (name_now numbered x.peer (own_calls x.host x.peer ms) x.socket x.foreign)
     → HasClosed numbered x.peer (suc m) (name_now numbered x.peer (own_calls x.host x.peer ms) x.socket x.foreign)
-        (own_calls x.host x.peer ms)
+    (own_calls x.host x.peer ms)
     → ⊥
 unfolding IsOpen
 never_closed hosts ms l x i kind m end closed = (fated hosts ms l x fate.Open i kind).opened refl m end closed

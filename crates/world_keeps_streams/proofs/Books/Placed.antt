@@ -87,7 +87,7 @@ link_later xs ys x own partner = by (receives x) where
   by : (v : Bool) → (if v then named_at false x.host x.peer x.socket x.foreign x.own_stamp
       (xs ++ ys) else named_at true x.peer x.host x.foreign x.socket x.partner_stamp (xs ++ ys))
       ≡ (if v then named_at false x.host x.peer x.socket x.foreign x.own_stamp ys
-          else named_at true x.peer x.host x.foreign x.socket x.partner_stamp ys)
+      else named_at true x.peer x.host x.foreign x.socket x.partner_stamp ys)
   by true = named_later false x.host x.peer x.socket x.foreign x.own_stamp xs ys own
   by false = named_later true x.peer x.host x.foreign x.socket x.partner_stamp xs ys partner
 
@@ -98,9 +98,9 @@ texts_more : (comes : Bool) (f : Flow) (a b : ℕ) (xs ys : List Crossing)
 texts_more comes f a b [] ys = omega arith
 texts_more comes f a b (x ∷ xs) ys =
     let less : length (texts_of comes f a b ys) ≤ length (texts_of comes f a b (xs ++ ys)) =
-        texts_more comes f a b xs ys in
+    texts_more comes f a b xs ys in
     let all : length (texts_of comes f a b (xs ++ ys) ++ new) ≡ length (texts_of comes f a b (xs ++ ys)) + length new =
-        length-append (texts_of comes f a b (xs ++ ys)) new in
+    length-append (texts_of comes f a b (xs ++ ys)) new in
     omega (arith, less, all) where
       new : List (List Bool)
       new = if nat_lt a (length (xs ++ ys)) && nat_lt b (length (xs ++ ys)) then text_of comes f x else []
@@ -114,11 +114,11 @@ pub texts_past : (f : Flow) (a b : ℕ) (m : HostMessage) (xs ys : List Crossing
     → b < length ys → length (texts_of true f a b ys) < length (texts_of true f a b (xs ++ crossing.In m ∷ ys))
 texts_past f a b m xs ys same after behind =
     let one : texts_of true f a b (crossing.In m ∷ ys) ≡ texts_of true f a b ys ++ m.text ∷ [] =
-        texts_one true f a b (crossing.In m) ys m.text after behind (text_there f m.flow m.text same) in
+    texts_one true f a b (crossing.In m) ys m.text after behind (text_there f m.flow m.text same) in
     let long : length (texts_of true f a b (crossing.In m ∷ ys)) ≡ length (texts_of true f a b ys) + 1 =
-        ap (λ (ts : List (List Bool)). length ts) one ∙ length-append (texts_of true f a b ys) (m.text ∷ []) in
+    ap (λ (ts : List (List Bool)). length ts) one ∙ length-append (texts_of true f a b ys) (m.text ∷ []) in
     let less : length (texts_of true f a b (crossing.In m ∷ ys))
-        ≤ length (texts_of true f a b (xs ++ crossing.In m ∷ ys)) = texts_more true f a b xs (crossing.In m ∷ ys) in
+    ≤ length (texts_of true f a b (xs ++ crossing.In m ∷ ys)) = texts_more true f a b xs (crossing.In m ∷ ys) in
     omega (arith, long, less)
 
 -- ---- what went out last
@@ -129,7 +129,7 @@ last_since f m [] ys same none = let here : same_flow f m.flow ≡ true =
     subst (λ (h : Flow). same_flow f h ≡ true) same (same_flow-refl f) in rw here refl
 last_since f m (crossing.Out n ∷ since) ys same none =
     let off : (same_flow f n.flow ≡ false) × (went_out f since ≡ false) =
-        or_false (same_flow f n.flow) (went_out f since) none in
+    or_false (same_flow f n.flow) (went_out f since) none in
     rw off.0 (last_since f m since ys same off.1)
 last_since f m (crossing.In n ∷ since) ys same none = last_since f m since ys same none
 last_since f m (crossing.Answer kind g ∷ since) ys same none = last_since f m since ys same none
@@ -141,7 +141,7 @@ pub none_out : (f : Flow) (xs ys : List Crossing) → went_out f xs ≡ false �
 none_out f [] ys a b = b
 none_out f (crossing.Out n ∷ xs) ys a b =
     let off : (same_flow f n.flow ≡ false) × (went_out f xs ≡ false) =
-        or_false (same_flow f n.flow) (went_out f xs) a in
+    or_false (same_flow f n.flow) (went_out f xs) a in
     rw off.0 (none_out f xs ys off.1 b)
 none_out f (crossing.In n ∷ xs) ys a b = none_out f xs ys a b
 none_out f (crossing.Answer kind g ∷ xs) ys a b = none_out f xs ys a b
@@ -162,24 +162,24 @@ pub went_at : (hosts : List Host) (log : List Crossing) → IsRun hosts log → 
 went_at hosts [] run taken place m i last = absurd i
 went_at hosts (c ∷ log) run taken place m (inl i) last =
     let needs : WaitsWith (box_of m.flow log) m.text =
-        (subst (λ (d : Crossing). IsRun hosts (d ∷ log)) (sym i.0) run).0.1 in
+    (subst (λ (d : Crossing). IsRun hosts (d ∷ log)) (sym i.0) run).0.1 in
     let box : (at : ℕ) × (box_of m.flow log ≡ Waiting at m.text) = waits_with (box_of m.flow log) m.text needs in
     let w : Waits m.flow m.text log = waiting m.flow log box.0 m.text box.1 in
     let here : before taken (c ∷ log) ≡ log = ap (λ (n : ℕ). before n (c ∷ log)) i.1 ∙ before_end (c ∷ []) log in
     let is : length w.out.before ≡ place =
     place_is (length w.out.before) place
     (sym (last_since m.flow w.out.message w.out.since w.out.before (sym w.out.flow) w.out.last)
-        ∙ ap (last_out m.flow) (sym w.out.parts) ∙ ap (last_out m.flow) (sym here) ∙ last) in
+    ∙ ap (last_out m.flow) (sym w.out.parts) ∙ ap (last_out m.flow) (sym here) ∙ last) in
     record {
       message = w.out.message;
       crossed = inr (subst (λ (xs : List Crossing). CrossedAt place (crossing.Out w.out.message) xs) (sym w.out.parts)
           (subst (λ (n : ℕ). CrossedAt n (crossing.Out w.out.message)
-              (w.out.since ++ crossing.Out w.out.message ∷ w.out.before)) is
-              (crossed_end w.out.since w.out.before (crossing.Out w.out.message))));
+          (w.out.since ++ crossing.Out w.out.message ∷ w.out.before)) is
+          (crossed_end w.out.since w.out.before (crossing.Out w.out.message))));
       text = w.text_is;
     }
 went_at hosts (c ∷ log) run taken place m (inr i) last =
     let less : taken < length log = crossed_less taken (crossing.In m) log i in
     let w : WentAt m place log = went_at hosts log run.1 taken place m i
-        (ap (last_out m.flow) (sym (before_more taken c log (omega (arith, less)))) ∙ last) in
+    (ap (last_out m.flow) (sym (before_more taken c log (omega (arith, less)))) ∙ last) in
     record { message = w.message; crossed = inr w.crossed; text = w.text }

@@ -91,9 +91,9 @@ took_all x h c end unclosed = by (x.receiver.over c) refl where
   unheard_by unheard false unsaid =
       let is : x.sender.sent c ≡ x.receiver.taken c ++ waiting_in x.box = h.whole c end unsaid unheard in
       let long : length (x.sender.sent c) ≡ length (x.receiver.taken c) + length (waiting_in x.box) =
-          ap (λ (ts : List (List Bool)). length ts) is ∙ length-append (x.receiver.taken c) (waiting_in x.box) in
+      ap (λ (ts : List (List Bool)). length ts) is ∙ length-append (x.receiver.taken c) (waiting_in x.box) in
       let box : waiting_of c x.box ≡ length (waiting_in x.box) =
-          no_waiting c x.box (λ k size bits e. some_is c k (sym end ∙ waits_of x h k size bits e)) in
+      no_waiting c x.box (λ k size bits e. some_is c k (sym end ∙ waits_of x h k size bits e)) in
       omega (arith, all, long, box)
 
   by : (v : Bool) → x.receiver.over c ≡ v → length (x.receiver.taken c) ≡ x.receiver.came c
@@ -142,16 +142,24 @@ module _ (hosts : List Host) (ms : List Moment) (l : Lawful hosts ms) where
       by false e = refl
       by true e =
           let now : (receiver_now numbered x.peer (suc n) (own_calls x.host x.peer ms)).first c ≡ true =
-              ap (λ (r : Receiver). r.first c) (sym (closes.same hosts ms l x f)) ∙ e in
+          ap (λ (r : Receiver). r.first c) (sym (closes.same hosts ms l x f)) ∙ e in
           absurd (never_closed hosts ms l x i kind n end_now
           (subst (λ (k : ℕ). HasClosed numbered x.peer (suc n) k (own_calls x.host x.peer ms))
-              (closes.place hosts ms l x f).1
-              (closed_first numbered x.peer (suc n) c (own_calls x.host x.peer ms) now)))
+          (closes.place hosts ms l x f).1
+          (closed_first numbered x.peer (suc n) c (own_calls x.host x.peer ms) now)))
 
     -- where its partner's CLS has come, it was closed by that, and by no user
     closed_by_partner : (v : Bool) → stage (contacts_of ms) x (crossings_of ms) ≡ Going v true → WasClosedByPartner ms x
-    closed_by_partner v is = record { there = contains x (lives_in ms) i_in; later = []; earlier = ms; is =
-        refl; receiver = x; then = now; same = refl } where
+    closed_by_partner v is = record {
+      there = contains x (lives_in ms) i_in;
+      later = [];
+      earlier = ms;
+      is =
+          refl;
+      receiver = x;
+      then = now;
+      same = refl;
+    } where
       same : stage (contacts_of ms) x (crossings_of ms) ≡ stage_of (key_of x) ms
       same = ap (λ (k : Course). k.stage)
           (sym (course_key (contacts_of ms) x (crossings_of ms)) ∙ course_same (key_of x) ms)
@@ -177,15 +185,15 @@ module _ (hosts : List Host) (ms : List Moment) (l : Lawful hosts ms) where
         unclosed = λ h.
             never_closed hosts ms l x i kind n end_now
             (subst (λ (k : ℕ). HasClosed numbered x.peer k
-                (name_now numbered x.peer (own_calls x.host x.peer ms) x.socket x.foreign) (own_calls x.host x.peer ms))
-                (closes.place_is hosts ms l x f) h);
+            (name_now numbered x.peer (own_calls x.host x.peer ms) x.socket x.foreign) (own_calls x.host x.peer ms))
+            (closes.place_is hosts ms l x f) h);
       }
 
     counts_all : x.messages ≡ length (texts_on x (link_of (crossings_of ms) x) (crossings_of ms))
     counts_all =
         (closes.going hosts ms l x f).messages ∙ took_all stream inv c end unclosed ∙ sym (came_as hosts ms l x f)
         ∙ ap (λ (o : Option ℕ). length (texts_on x o (crossings_of ms)))
-            (sym (end_link hosts ms l (together hosts) x (contains x (lives_in ms) i_in) goes f.end ∙ f.linked))
+        (sym (end_link hosts ms l (together hosts) x (contains x (lives_in ms) i_in) goes f.end ∙ f.linked))
 
 -- ---- the two lives of a connection have one link
 
@@ -193,8 +201,8 @@ some_place : (s : Life) (o : Option ℕ) (name : Name) → named s o ≡ Some na
 some_place s None name e = absurd (let no : None ≡ Some name = e in cc)
 some_place s (Some p) name e = ap (λ (k : ℕ). Some k)
     (at (record { place = p; own = s.foreign; foreign = s.socket }) name e) where
-  at : (a b : Name) → Some a ≡ Some b → a.place ≡ b.place
-  at a b f = let same : a ≡ b = cc in ap (λ (z : Name). z.place) same
+      at : (a b : Name) → Some a ≡ Some b → a.place ≡ b.place
+      at a b f = let same : a ≡ b = cc in ap (λ (z : Name). z.place) same
 
 same_out : (m n : HostMessage) → crossing.Out m ≡ crossing.Out n → m ≡ n
 same_out m n e = cc
@@ -218,19 +226,27 @@ module _ (hosts : List Host) (ms : List Moment) (l : Lawful hosts ms) where
   own_at x i =
       let b : LinkedBook (crossings_of ms) (lives_in ms) = linked hosts ms l in
       let r : (p : Linked) × Contains b.links p × (p.life ≡ x) =
-          life_of_link x b.links (subst (λ (ys : List Life). IsOf x ys) (sym b.all) i) in
+      life_of_link x b.links (subst (λ (ys : List Life). IsOf x ys) (sym b.all) i) in
       subst (λ (y : Life). OwnAt (crossings_of ms) y) r.2
-          (record { message = (b.first r.0 r.1).asked.own.message; flow = (b.first r.0 r.1).asked.own.flow; crossed =
-          (b.first r.0 r.1).asked.own.crossed })
+      (record {
+        message = (b.first r.0 r.1).asked.own.message;
+        flow = (b.first r.0 r.1).asked.own.flow;
+        crossed =
+            (b.first r.0 r.1).asked.own.crossed;
+      })
 
   partner_at : (x : Life) → IsOf x (lives_in ms) → PartnerAt (crossings_of ms) x
   partner_at x i =
       let b : LinkedBook (crossings_of ms) (lives_in ms) = linked hosts ms l in
       let r : (p : Linked) × Contains b.links p × (p.life ≡ x) =
-          life_of_link x b.links (subst (λ (ys : List Life). IsOf x ys) (sym b.all) i) in
+      life_of_link x b.links (subst (λ (ys : List Life). IsOf x ys) (sym b.all) i) in
       subst (λ (y : Life). PartnerAt (crossings_of ms) y) r.2
-          (record { message = (b.first r.0 r.1).asked.partner.message; flow =
-          (b.first r.0 r.1).asked.partner.flow; crossed = (b.first r.0 r.1).asked.partner.crossed })
+      (record {
+        message = (b.first r.0 r.1).asked.partner.message;
+        flow =
+            (b.first r.0 r.1).asked.partner.flow;
+        crossed = (b.first r.0 r.1).asked.partner.crossed;
+      })
 
   module _ (x s : Life) (here : IsOf x (lives_in ms)) (there : IsOf s (lives_in ms))
       (m : Match (crossings_of ms) x s) where
@@ -245,31 +261,31 @@ module _ (hosts : List Host) (ms : List Moment) (l : Lawful hosts ms) where
         went_at hosts (crossings_of ms) l.1 s.partner_stamp x.own_stamp heard.message heard.crossed
         (ap (λ (g : Flow). last_out g (before s.partner_stamp (crossings_of ms))) heard.flow
         ∙ some_place s (last_out (control_flow s.peer s.host) (before s.partner_stamp (crossings_of ms)))
-            (own_request x) m.answered)
+        (own_request x) m.answered)
 
     texts : rts.message.text ≡ heard.message.text
     texts =
         let same : went.message ≡ rts.message = same_out went.message rts.message
-            (crossed_one x.own_stamp (crossing.Out went.message) (crossing.Out rts.message)
-            (crossings_of ms) went.crossed rts.crossed) in
+        (crossed_one x.own_stamp (crossing.Out went.message) (crossing.Out rts.message)
+        (crossings_of ms) went.crossed rts.crossed) in
         ap (λ (k : HostMessage). k.text) (sym same) ∙ went.text
 
     names_same : own_named (crossings_of ms) x ≡ partner_named (crossings_of ms) s
     names_same =
         named_there false x.host x.peer x.socket x.foreign x.own_stamp rts.message
-            (crossings_of ms) rts.flow rts.crossed
+        (crossings_of ms) rts.flow rts.crossed
         ∙ ap (λ (t : List Bool). named_in x.socket x.foreign (orders_of t)) texts
         ∙ ap (λ (k : ℕ). named_in k x.foreign (orders_of heard.message.text)) (sym m.sockets.1)
         ∙ ap (λ (k : ℕ). named_in s.foreign k (orders_of heard.message.text)) m.sockets.0
         ∙ sym (named_there true s.peer s.host s.foreign s.socket s.partner_stamp heard.message
-            (crossings_of ms) heard.flow heard.crossed)
+        (crossings_of ms) heard.flow heard.crossed)
 
     one_link : link_of (crossings_of ms) x ≡ link_of (crossings_of ms) s
     one_link =
         ap (λ (v : Bool). if v then own_named (crossings_of ms) x else partner_named (crossings_of ms) x) m.receiving
-            ∙ names_same
+        ∙ names_same
         ∙ sym (ap (λ (v : Bool). if v then own_named (crossings_of ms) s else partner_named (crossings_of ms) s)
-            (send_odd s.socket m.sending))
+        (send_odd s.socket m.sending))
 
     flows : (k : ℕ) → flow_of x k ≡ flow_of s k
     flows k =
@@ -297,7 +313,7 @@ later_life (y ∷ newer) older x i =
       life = g.change o.life;
       there = subst (λ (ys : List Life). IsOf (g.change o.life) ys) (sym g.is)
           (of_left (g.change o.life) (map g.change (lives_in (newer ++ older))) g.more
-              (of_map g.change o.life (lives_in (newer ++ older)) o.there));
+          (of_map g.change o.life (lives_in (newer ++ older)) o.there));
       names = record {
         host = k.host ∙ o.names.host;
         socket = k.socket ∙ o.names.socket;
@@ -348,8 +364,13 @@ record Sits (log : List Crossing) (place : ℕ) (m : HostMessage) (count : ℕ) 
 
 counted_by : (log : List Crossing) (place : ℕ) (m : HostMessage) (count : ℕ) (x : Life) → count ≤ x.messages
     → Sits log place m count (bare_of x) → IsCounted log place m x
-counted_by log place m count x less s = record { flow = s.flow; own = s.own; partner = s.partner; counted =
-    (let c : length (texts_on x (link_of log x) (before place log)) < count = s.counted in omega (arith, c, less)) }
+counted_by log place m count x less s = record {
+  flow = s.flow;
+  own = s.own;
+  partner = s.partner;
+  counted =
+      (let c : length (texts_on x (link_of log x) (before place log)) < count = s.counted in omega (arith, c, less));
+}
 
 -- ---- who granted what was sent
 
@@ -360,9 +381,9 @@ granter hosts ms l s i kind some = elim (of_parts (since s.peer s.host ms) s (li
       (all_given hosts s.peer s.host) ms l s early refl refl kind).granted
   | inr late ↦
       (let w : Whole s.peer s.host (Own s.peer s.host) (Heard s.peer s.host) ms =
-          whole hosts s.peer s.host (Own s.peer s.host) (Heard s.peer s.host) (all_given hosts s.peer s.host) ms l in
+      whole hosts s.peer s.host (Own s.peer s.host) (Heard s.peer s.host) (all_given hosts s.peer s.host) ms l in
       new w (granted_of s.peer s.host (Own s.peer s.host) (Heard s.peer s.host) ms
-          ((all_given hosts s.peer s.host).matched ms l) w s late refl refl kind))
+      ((all_given hosts s.peer s.host).matched ms l) w s late refl refl kind))
 ] where
   none : s.messages ≡ 0 → (r : Life) × IsOf r (lives_in ms) × Match (crossings_of ms) r s
   none e = absurd (omega (arith, e, some))
@@ -450,10 +471,10 @@ module _ (hosts : List Host) (newer older : List Moment) (f : Flow) (m : HostMes
   out_less : length out.before < length (crossings_of older)
   out_less =
       let e : length (crossings_of older) ≡ length (out.since ++ crossing.Out out.message ∷ out.before) =
-          ap (λ (xs : List Crossing). length xs) out.parts in
+      ap (λ (xs : List Crossing). length xs) out.parts in
       let all_of : length (out.since ++ crossing.Out out.message ∷ out.before)
-          ≡ length out.since + length (crossing.Out out.message ∷ out.before) =
-          length-append out.since (crossing.Out out.message ∷ out.before) in
+      ≡ length out.since + length (crossing.Out out.message ∷ out.before) =
+      length-append out.since (crossing.Out out.message ∷ out.before) in
       omega (arith, e, all_of)
 
   off_out : (out.message.flow.link.0 == 0) ≡ false
@@ -490,7 +511,7 @@ module _ (hosts : List Host) (newer older : List Moment) (f : Flow) (m : HostMes
         (sym (ap (λ (o : Option ℕ). length
         (texts_on s o (before (length out.before) (more ++ crossings_of older)))) link
         ∙ ap (λ (xs : List Crossing). length (texts_on s (link_of (crossings_of older) s) xs))
-            (before_later more (crossings_of older) (length out.before) below)))
+        (before_later more (crossings_of older) (length out.before) below)))
         sent.counted;
   }) where
     below : length out.before ≤ length (crossings_of older)
@@ -526,9 +547,9 @@ module _ (hosts : List Host) (newer older : List Moment) (f : Flow) (m : HostMes
   still : Match whole_log r_now.life now.life
   still =
       subst (λ (ns : List Moment). Match (crossings_of ns) r_now.life now.life)
-          (append_assoc newer (Crossed (crossing.In m) ∷ []) older)
+      (append_assoc newer (Crossed (crossing.In m) ∷ []) older)
       (match_later hosts (newer ++ Crossed
-          (crossing.In m) ∷ []) older old r s r_now.life now.life gave.1 s_in r_now.names now.names gave.2)
+      (crossing.In m) ∷ []) older old r s r_now.life now.life gave.1 s_in r_now.names now.names gave.2)
 
   module _ (x : Life) (i : IsBeside x fate.Open (kept_in all).book.lives (kept_in all).fates)
       (match : Match whole_log x now.life) where
@@ -564,13 +585,13 @@ module _ (hosts : List Host) (newer older : List Moment) (f : Flow) (m : HostMes
     fewer : length (texts_for x on.0 (crossings_of older)) < length (texts_for x on.0 whole_log)
     fewer =
         subst (λ (v : Bool). length (texts_of v (flow_of x on.0) x.own_stamp x.partner_stamp (crossings_of older))
-            < length (texts_of v (flow_of x on.0) x.own_stamp x.partner_stamp whole_log))
+        < length (texts_of v (flow_of x on.0) x.own_stamp x.partner_stamp whole_log))
         (sym match.receiving)
         (subst (λ (xs : List Crossing). length
-            (texts_of true (flow_of x on.0) x.own_stamp x.partner_stamp (crossings_of older))
-            < length (texts_of true (flow_of x on.0) x.own_stamp x.partner_stamp xs)) (sym log_is)
+        (texts_of true (flow_of x on.0) x.own_stamp x.partner_stamp (crossings_of older))
+        < length (texts_of true (flow_of x on.0) x.own_stamp x.partner_stamp xs)) (sym log_is)
         (texts_past (flow_of x on.0) x.own_stamp x.partner_stamp m (crossings_of newer) (crossings_of older)
-            (on.2 ∙ ap (λ (k : HostMessage). k.flow) is_m) own partner))
+        (on.2 ∙ ap (λ (k : HostMessage). k.flow) is_m) own partner))
 
     before_is : before (length (crossings_of older)) whole_log ≡ crossings_of older
     before_is = ap (before (length (crossings_of older))) log_more ∙ before_end more (crossings_of older)
@@ -582,9 +603,9 @@ module _ (hosts : List Host) (newer older : List Moment) (f : Flow) (m : HostMes
       partner = partner;
       counted =
           (let was_is : length (texts_on x (link_of whole_log x) (before (length (crossings_of older)) whole_log))
-              ≡ length (texts_for x on.0 (crossings_of older)) =
+          ≡ length (texts_for x on.0 (crossings_of older)) =
           ap (λ (o : Option ℕ). length (texts_on x o (before (length (crossings_of older)) whole_log))) on.1
-              ∙ ap (λ (xs : List Crossing). length (texts_for x on.0 xs)) before_is in
+          ∙ ap (λ (xs : List Crossing). length (texts_for x on.0 xs)) before_is in
           let all_is : x.messages ≡ length (texts_for x on.0 whole_log) =
           counts_all hosts all l x i match.receiving ∙ ap (λ (o : Option ℕ). length (texts_on x o whole_log)) on.1 in
           let less : length (texts_for x on.0 (crossings_of older)) < length (texts_for x on.0 whole_log) = fewer in
@@ -609,15 +630,25 @@ parted [] [] older c e = absurd (let no : [] ≡ c ∷ older = e in cc)
 parted [] (d ∷ newer) older c e = absurd (let no : [] ≡ d ∷ (newer ++ c ∷ older) = e in cc)
 parted (Asked h r ∷ ms) newer older c e =
     let p : Parted ms c older = parted ms newer older c e in
-    record { later = Asked h r ∷ p.later; earlier = p.earlier; is =
-        ap (λ (ns : List Moment). Asked h r ∷ ns) p.is; below = p.below }
+    record {
+      later = Asked h r ∷ p.later;
+      earlier = p.earlier;
+      is =
+          ap (λ (ns : List Moment). Asked h r ∷ ns) p.is;
+      below = p.below;
+    }
 parted (Crossed d ∷ ms) [] older c e =
     let both : (d ≡ c) × (crossings_of ms ≡ older) = same_head d c (crossings_of ms) older e in
     record { later = []; earlier = ms; is = ap (λ (k : Crossing). Crossed k ∷ ms) both.0; below = both.1 }
 parted (Crossed d ∷ ms) (b ∷ newer) older c e =
     let p : Parted ms c older = parted ms newer older c (same_head d b (crossings_of ms) (newer ++ c ∷ older) e).1 in
-    record { later = Crossed d ∷ p.later; earlier = p.earlier; is =
-        ap (λ (ns : List Moment). Crossed d ∷ ns) p.is; below = p.below }
+    record {
+      later = Crossed d ∷ p.later;
+      earlier = p.earlier;
+      is =
+          ap (λ (ns : List Moment). Crossed d ∷ ns) p.is;
+      below = p.below;
+    }
 
 -- what a host got RFNM for, where it was taken at these moments
 abbrev Arrival : List Moment → List Crossing → Flow → Type 0
@@ -627,11 +658,11 @@ arrival : (hosts : List Host) (later since older : List Moment) (c : Crossing) (
     → Lawful hosts (later ++ Crossed c ∷ (since ++ Crossed (crossing.In m) ∷ older))
     → (out : SinceLastOut f (crossings_of older)) → out.message ≡ m
     → went_out f (crossings_of since) ≡ false → (f.link.0 == 0) ≡ false
-        → Arrival (later ++ Crossed c ∷ (since ++ Crossed (crossing.In m) ∷ older))
-        (crossings_of (since ++ Crossed (crossing.In m) ∷ older)) f
+    → Arrival (later ++ Crossed c ∷ (since ++ Crossed (crossing.In m) ∷ older))
+    (crossings_of (since ++ Crossed (crossing.In m) ∷ older)) f
 arrival hosts later since older c f m l out is_m none off =
     subst (λ (ns : List Moment). Arrival ns (crossings_of (since ++ Crossed (crossing.In m) ∷ older)) f)
-        (append_assoc later (Crossed c ∷ since) (Crossed (crossing.In m) ∷ older)) (record {
+    (append_assoc later (Crossed c ∷ since) (Crossed (crossing.In m) ∷ older)) (record {
       out = record {
         since = crossings_of since ++ crossing.In m ∷ out.since;
         message = out.message;
@@ -639,7 +670,7 @@ arrival hosts later since older c f m l out is_m none off =
         parts = all_crossings since (Crossed (crossing.In m) ∷ older)
             ∙ ap (λ (xs : List Crossing). crossings_of since ++ crossing.In m ∷ xs) out.parts
             ∙ sym (append_assoc (crossings_of since) (crossing.In m ∷ out.since)
-                (crossing.Out out.message ∷ out.before));
+            (crossing.Out out.message ∷ out.before));
         flow = out.flow;
         last = none_out f (crossings_of since) (crossing.In m ∷ out.since) none out.last;
       };
@@ -653,8 +684,8 @@ arrival hosts later since older c f m l out is_m none off =
       taken = subst (λ (log : List Crossing). CrossedAt (length (crossings_of older)) (crossing.In out.message) log)
           (sym (all_crossings since (Crossed (crossing.In m) ∷ older)))
           (subst (λ (z : HostMessage). CrossedAt (length (crossings_of older)) (crossing.In out.message)
-              (crossings_of since ++ crossing.In z ∷ crossings_of older)) is_m
-              (crossed_end (crossings_of since) (crossings_of older) (crossing.In out.message)));
+          (crossings_of since ++ crossing.In z ∷ crossings_of older)) is_m
+          (crossed_end (crossings_of since) (crossings_of older) (crossing.In out.message)));
       arrived = λ x i match. arrived hosts newer older f m k out is_m off x i match;
     }) where
       newer : List Moment
@@ -676,22 +707,22 @@ arrived_book hosts ms l = record {
       → (f.link.0 == 0) ≡ false → Arrival ms older f
   each newer older f e off =
       let p : Parted ms (crossing.Answer answer.Rfnm f) older =
-          parted ms newer older (crossing.Answer answer.Rfnm f) e in
+      parted ms newer older (crossing.Answer answer.Rfnm f) e in
       let k : Lawful hosts (p.later ++ Crossed (crossing.Answer answer.Rfnm f) ∷ p.earlier) =
-          subst (λ (ns : List Moment). Lawful hosts ns) p.is l in
+      subst (λ (ns : List Moment). Lawful hosts ns) p.is l in
       let h : moments.HasArrived f p.earlier = answered hosts p.earlier f
-          (rest_lawful hosts p.later (Crossed (crossing.Answer answer.Rfnm f) ∷ p.earlier) k) in
+      (rest_lawful hosts p.later (Crossed (crossing.Answer answer.Rfnm f) ∷ p.earlier) k) in
       let along : p.later ++ Crossed (crossing.Answer answer.Rfnm f) ∷ p.earlier
-          ≡ p.later ++ Crossed (crossing.Answer answer.Rfnm f) ∷
-          (h.since ++ Crossed (crossing.In h.message) ∷ h.before) =
+      ≡ p.later ++ Crossed (crossing.Answer answer.Rfnm f) ∷
+      (h.since ++ Crossed (crossing.In h.message) ∷ h.before) =
       ap (λ (ns : List Moment). p.later ++ Crossed (crossing.Answer answer.Rfnm f) ∷ ns) h.is in
       subst (λ (ns : List Moment). Arrival ns older f) (sym (p.is ∙ along))
       (subst (λ (log : List Crossing). Arrival
-          (p.later ++ Crossed (crossing.Answer answer.Rfnm f) ∷
-          (h.since ++ Crossed (crossing.In h.message) ∷ h.before)) log f)
-          (ap (λ (ns : List Moment). crossings_of ns) (sym h.is) ∙ p.below)
+      (p.later ++ Crossed (crossing.Answer answer.Rfnm f) ∷
+      (h.since ++ Crossed (crossing.In h.message) ∷ h.before)) log f)
+      (ap (λ (ns : List Moment). crossings_of ns) (sym h.is) ∙ p.below)
       (arrival hosts p.later h.since h.before (crossing.Answer answer.Rfnm f) f h.message
-          (subst (λ (ns : List Moment). Lawful hosts ns) along k) h.out h.whole h.last off))
+      (subst (λ (ns : List Moment). Lawful hosts ns) along k) h.out h.whole h.last off))
 
 -- ---- worlds
 
@@ -699,9 +730,9 @@ pub world_arrived : {C : Type 0} (seen : C → Seen) (hosts : List Host) (w : Wo
     → ArrivedBook w.kept.book.contacts w.kept.book.crossings w.kept.book.lives w.kept.fates
 world_arrived seen hosts w lawful =
     subst (λ (cs : List Called). ArrivedBook cs w.kept.book.crossings w.kept.book.lives w.kept.fates)
-        (sym lawful.whole.contacts)
+    (sym lawful.whole.contacts)
     (subst (λ (log : List Crossing). ArrivedBook (contacts_of lawful.whole.moments) log w.kept.book.lives w.kept.fates)
-        (sym lawful.whole.crossings)
+    (sym lawful.whole.crossings)
     (subst (λ (k : Kept). ArrivedBook (contacts_of lawful.whole.moments)
-        (crossings_of lawful.whole.moments) k.book.lives k.fates) (sym lawful.whole.kept)
+    (crossings_of lawful.whole.moments) k.book.lives k.fates) (sym lawful.whole.kept)
     (arrived_book hosts lawful.whole.moments (lawful.addresses, book_run seen hosts w lawful, lawful.whole.timeline))))

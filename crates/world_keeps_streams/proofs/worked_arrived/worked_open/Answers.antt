@@ -41,9 +41,9 @@ none_answered (c ∷ log) [] older f o e =
     let no : false ≡ true = ap (λ (d : Crossing). if is_answer d then false else all_other log) (sym is) ∙ o in cc
 none_answered (c ∷ log) (d ∷ newer) older f o e = by (is_answer c) o
     (λ p. none_answered log newer older f p (heads c d log (newer ++ crossing.Answer answer.Rfnm f ∷ older) e).1) where
-  by : (v : Bool) → (if v then false else all_other log) ≡ true → (all_other log ≡ true → ⊥) → ⊥
-  by true p rest = let no : false ≡ true = p in cc
-  by false p rest = rest p
+      by : (v : Bool) → (if v then false else all_other log) ≡ true → (all_other log ≡ true → ⊥) → ⊥
+      by true p rest = let no : false ≡ true = p in cc
+      by false p rest = rest p
 
 -- ---- the rows
 
@@ -81,16 +81,23 @@ returns-clause-closed c = record {
   sent_by r s m i there =
       let k : (r.bits ≡ []) × (r.messages ≡ 0) = none r s m i in
       let n : (s.bits ≡ []) × (s.messages ≡ 0) = each_in (λ (y : Life). (y.bits ≡ []) × (y.messages ≡ 0))
-          (closed_receiver ∷ closed_sender ∷ []) s there ((refl, refl), ((refl, refl), tt)) in
+      (closed_receiver ∷ closed_sender ∷ []) s there ((refl, refl), ((refl, refl), tt)) in
       (k.0 ∙ sym n.0, k.1 ∙ sym n.1)
 
 pub returns-clause-lost : goal.returns-clause-lost
 returns-clause-lost c a =
     let pairs : Match closed_log closed_receiver sent_more =
-        record { receiving = refl; sending = refl; peers = (refl, refl); sockets = (refl, refl); asked =
-        refl; answered = refl } in
+    record {
+      receiving = refl;
+      sending = refl;
+      peers = (refl, refl);
+      sockets = (refl, refl);
+      asked =
+          refl;
+      answered = refl;
+    } in
     let same : 0 ≡ 1 = (a.closed closed_receiver sent_more false (inl (refl, refl)) closed_stage
-        (1, omega arith, refl) pairs).1 in
+    (1, omega arith, refl) pairs).1 in
     omega (arith, same)
 
 took_link : link_of sent_log took_nothing ≡ Some 2
@@ -100,7 +107,7 @@ took_link = refl
 pub returns-clause-uncounted : goal.returns-clause-uncounted
 returns-clause-uncounted c a =
     let same : 0 ≡ length (texts_on took_nothing (Some 2) sent_log) =
-        subst (λ (o : Option ℕ). 0 ≡ length (texts_on took_nothing o sent_log)) took_link
-        (a.all took_nothing (inl (refl, refl)) refl) in
+    subst (λ (o : Option ℕ). 0 ≡ length (texts_on took_nothing o sent_log)) took_link
+    (a.all took_nothing (inl (refl, refl)) refl) in
     let one : length (texts_on took_nothing (Some 2) sent_log) ≡ 1 = refl in
     omega (arith, same, one)

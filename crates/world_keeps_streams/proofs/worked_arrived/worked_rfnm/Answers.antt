@@ -48,8 +48,15 @@ taken = record {
 by_receiver : (x : Life) (f : Fate) → (f ≡ fate.Open → IsCounted answered_log 16 eight_sent x)
     → HasArrived answered_log sent_log (x ∷ gave ∷ []) (f ∷ fate.Open ∷ []) on_two
 by_receiver x f counts = record {
-  out = record { since = crossing.In eight_sent ∷ []; message = eight_sent; before = drop 2 sent_log; parts =
-      refl; flow = refl; last = refl };
+  out = record {
+    since = crossing.In eight_sent ∷ [];
+    message = eight_sent;
+    before = drop 2 sent_log;
+    parts =
+        refl;
+    flow = refl;
+    last = refl;
+  };
   sender = gave;
   there = (1, omega arith, refl);
   sending = refl;
@@ -73,28 +80,35 @@ returns-clause-closing c = by_receiver took_nothing fate.Closing
     (λ e. absurd (let no : fate.Closing ≡ fate.Open = e in cc))
 
 pairs : Match answered_log took_nothing gave
-pairs = record { receiving = refl; sending = refl; peers = (refl, refl); sockets = (refl, refl); asked =
-    refl; answered = refl }
+pairs = record {
+  receiving = refl;
+  sending = refl;
+  peers = (refl, refl);
+  sockets = (refl, refl);
+  asked =
+      refl;
+  answered = refl;
+}
 
 -- its sending life is the only one
 the_sender : (x : Life) (fates : List Fate) → sends x ≡ false
     → (a : HasArrived answered_log sent_log (x ∷ gave ∷ []) fates on_two) → (a.sender ≡ gave → ⊥) → ⊥
 the_sender x fates odd a other =
     each_in (λ (y : Life). a.sender ≡ y → ⊥) (x ∷ gave ∷ []) a.sender a.there
-        ((λ is. absurd (let no : true ≡ false = sym a.sending ∙ ap sends is ∙ odd in cc)), (other, tt)) refl
+    ((λ is. absurd (let no : true ≡ false = sym a.sending ∙ ap sends is ∙ odd in cc)), (other, tt)) refl
 
 pub returns-clause-lost : goal.returns-clause-lost
 returns-clause-lost c a =
     the_sender took_nothing (fate.Open ∷ fate.Open ∷ []) refl a
     (λ is.
     (let k : IsCounted answered_log a.place a.out.message took_nothing =
-        a.arrived took_nothing (inl (refl, refl))
-        (subst (λ (y : Life). Match answered_log took_nothing y) (sym is) pairs) in
+    a.arrived took_nothing (inl (refl, refl))
+    (subst (λ (y : Life). Match answered_log took_nothing y) (sym is) pairs) in
     let less : length (texts_on took_nothing (link_of answered_log took_nothing) (before a.place answered_log)) < 0 =
-        k.counted in
+    k.counted in
     absurd (omega (arith, less))))
 
 pub returns-clause-stray : goal.returns-clause-stray
 returns-clause-stray c a =
     each_in (λ (y : Life). a.sender ≡ y → ⊥) (took ∷ []) a.sender a.there
-        ((λ is. absurd (let no : true ≡ false = sym a.sending ∙ ap sends is in cc)), tt) refl
+    ((λ is. absurd (let no : true ≡ false = sym a.sending ∙ ap sends is in cc)), tt) refl
