@@ -42,6 +42,7 @@ pub fn known_partners()
 {}
 
 /// Openings of which users are notified, and lives.
+#[tactic(auto, using(crate::proofs::Rows::some_among, crate::proofs::Rows::none_turned, crate::proofs::Rows::none_twice, crate::proofs::Rows::dialogue_lives))]
 pub fn worked_openings()
     ensures { WorkedOpenings }
 {}

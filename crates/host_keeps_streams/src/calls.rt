@@ -103,6 +103,7 @@ pub fn worked_commands()
 {}
 
 /// What else the calls are on a link.
+#[tactic(auto, using(crate::proofs::GoesOut::unsaid))]
 pub fn worked_moves()
     ensures { WorkedMoves }
 {}

@@ -1,8 +1,8 @@
 """docs/measured/rules.md: from each definition that a contract cites to the function, the rows and the planted bugs, each with its place.
 
-Read from the sources: definitions of specs/ with the comment above them, the clauses `ensures` of functions in src/, the fields of a clause that is
-one record of specs/Laws, the tables of rows in CLAIMS.md, and the edits of must-fail/ and wrong-bodies/ by the function that they change. `./check docs --rule WORD..` prints the rules that
-have these words, each with its definition and its functions; of a definition that no contract cites, the functions whose contracts
+Read from the sources: definitions of specs/ with the comment above them, the clauses `ensures` of functions in src/ and the
+fields of those that are records of specs/Laws, the tables of rows in CLAIMS.md, and the edits of must-fail/ and wrong-bodies/ by
+the function that they change. `./check docs --rule WORD..` prints the rules that have these words, each with its definition and its functions; of a definition that no contract cites, the functions whose contracts
 cite one that uses it, by the shortest way.
 """
 
@@ -63,7 +63,7 @@ class Definition(Text):
 
 @dataclass(frozen=True)
 class Law(Definition):
-    """A record of specs/Laws, whose fields are the clauses of a function that ensures nothing else: what each of them says, by its name."""
+    """A record of specs/Laws, whose fields are the clauses of a function: what each of them says, by its name."""
 
     fields: dict[str, str]
 
@@ -84,7 +84,7 @@ class Bug:
 
 @dataclass(frozen=True)
 class Function(Text):
-    """A function of src/: its name with its type, the names that its clauses cite, the planted bugs in it, and the laws that it ensures."""
+    """A function of src/: its name with its type, the names that its clauses cite, its planted bugs, and the laws that it ensures."""
 
     cites: frozenset[str]
     bugs: tuple[Bug, ...]
@@ -156,8 +156,12 @@ def definitions(crate: str) -> dict[str, Definition]:
 
 def laws_in(file: str, text: str) -> list[Law]:
     """The laws of a file of specs/Laws."""
-    records = [it for it in definitions_in(file, text) if re.search(rf"^pub record {it.name}\b", it.text, re.MULTILINE)]
-    return [Law(it.name, it.place, it.text, it.words, {name: " ".join(said.split()) for name, said in FIELD.findall(it.text)}) for it in records]
+    found = []
+    for it in definitions_in(file, text):
+        if re.search(rf"^pub record {it.name}\b", it.text, re.MULTILINE):
+            fields = {name: " ".join(said.split()) for name, said in FIELD.findall(it.text)}
+            found.append(Law(it.name, it.place, it.text, it.words, fields))
+    return found
 
 
 @functools.cache
@@ -185,7 +189,7 @@ def owner_at(text: str, place: int) -> str:
 
 
 def functions_in(file: str, text: str, planted: list[Bug], known: dict[str, Law] | None = None) -> list[Function]:
-    """The functions of a file of src/, and then what its types say of themselves as traits ask for it (`ghost calls = { plain_calls };`).
+    """The functions of a file of src/, and then what its types say of themselves as traits ask for it (`ghost calls = { ..};`).
 
     A clause that is a known law, of whatever values, has the law's fields for its clauses.
     """
@@ -198,8 +202,10 @@ def functions_in(file: str, text: str, planted: list[Bug], known: dict[str, Law]
         own = re.match(rf".*[;}}]$|[\s\S]*?^{start[1]}(?:}}|{{}})$|[\s\S]*?\}};$", whole, re.MULTILINE)
         clauses = CLAUSE.findall(whole)
         cited = frozenset(WORD.findall("\n".join(clauses)))
-        ensured = tuple(law for clause in clauses if (law := (known or {}).get(clause.split()[0])) and re.fullmatch(r"[\w. ]+", clause))
-        found.append(Function(name, place, own[0] if own else whole, cited, tuple(it for it in planted if it.file == file and it.old in whole), ensured))
+        inside = tuple(it for it in planted if it.file == file and it.old in whole)
+        ensured = [(known or {}).get(clause.split()[0]) for clause in clauses if re.fullmatch(r"[\w. ]+", clause)]
+        laws_of = tuple(it for it in ensured if it)
+        found.append(Function(name, place, own[0] if own else whole, cited, inside, laws_of))
     for it in MEMBER.finditer(text):
         place = Place(file, text.count("\n", 0, it.start()) + 1)
         found.append(Function(owner_at(text, it.start()) + it[1], place, it[0], frozenset(WORD.findall(it[2])), ()))
@@ -240,7 +246,8 @@ def rows(crate: str) -> dict[str, str]:
 def rules(crate: str) -> list[Rule]:
     """The definitions of a crate that contracts of its functions cite."""
     calls, guarded = functions(crate), rows(crate)
-    found = [Rule(it, [call for call in calls if name in call.names()], guarded.get(name, "")) for name, it in definitions(crate).items()]
+    known = definitions(crate).items()
+    found = [Rule(it, [call for call in calls if name in call.names()], guarded.get(name, "")) for name, it in known]
     return [it for it in found if it.functions]
 
 
@@ -305,11 +312,13 @@ class Ways:
         self.calls: dict[tuple[str, str], list[Function]] = {}
         for crate in crates():
             for call in functions(crate):
-                for it in named(crate, call.place.file, call.cites).union(*(named(crate, law.place.file, law.names()) for law in call.laws)):
+                of_laws = (named(crate, law.place.file, law.names()) for law in call.laws)
+                for it in named(crate, call.place.file, call.cites).union(*of_laws):
                     self.calls.setdefault(it, []).append(call)
             for name, definition in definitions(crate).items():
                 self.found[crate, name] = definition
-                for it in named(crate, definition.place.file, WORD.findall(re.sub(r"--.*", "", definition.text))) - {(crate, name)}:
+                used = WORD.findall(re.sub(r"--.*", "", definition.text))
+                for it in named(crate, definition.place.file, used) - {(crate, name)}:
                     self.users.setdefault(it, []).append((crate, name))
 
     def shortest(self, start: tuple[str, str]) -> tuple[list[str], list[Function]]:

@@ -150,6 +150,15 @@ pub record Sending : Type 0 where
 pub record Books {C : Type 0} (calls : Calls C) : Type 0 where
   pub kept : IsKept calls
 """
+OF_LAWS = """pub fn sending()
+    ensures { Sending }
+{}
+
+pub fn books<C: Carrier>()
+    ensures { Books C.calls }
+    ensures other { Other → Sending }
+{}
+"""
 
 
 class Rules(unittest.TestCase):
@@ -170,15 +179,17 @@ class Rules(unittest.TestCase):
 
     def test_a_clause_that_is_a_record_of_laws_has_its_fields_for_clauses(self) -> None:
         found = rules.laws_in("crates/a/specs/Laws.antt", LAWS)
-        self.assertEqual([(it.name, it.place.line, it.words) for it in found], [("Sending", 4, "what is sent"), ("Books", 12, "books")])
-        self.assertEqual(found[0].fields, {"granted": "(n : ℕ) → n ≡ count", "data": "IsBare → IsBare × IsBare", "last": "IsLast"})
-        source = "pub fn sending()\n    ensures { Sending }\n{}\n\npub fn books<C: Carrier>()\n    ensures { Books C.calls }\n    ensures other { Other → Sending }\n{}\n"
-        sending, books = rules.functions_in("crates/a/src/law.rt", source, [], {it.name: it for it in found})
+        places = [(it.name, it.place.line, it.words) for it in found]
+        self.assertEqual(places, [("Sending", 4, "what is sent"), ("Books", 12, "books")])
+        fields = {"granted": "(n : ℕ) → n ≡ count", "data": "IsBare → IsBare × IsBare", "last": "IsLast"}
+        self.assertEqual(found[0].fields, fields)
+        sending, books = rules.functions_in("crates/a/src/law.rt", OF_LAWS, [], {it.name: it for it in found})
         self.assertEqual(([it.name for it in sending.laws], [it.name for it in books.laws]), (["Sending"], ["Books"]))
         self.assertEqual((sending.cites, books.names() & {"IsKept", "IsBare"}), (frozenset({"Sending"}), {"IsKept"}))
         self.assertLess({"Sending", "count", "IsBare", "IsLast"}, sending.names())
         self.assertNotIn("nobody", sending.names())
-        self.assertTrue(rules.shown(rules.definitions_in("crates/a/specs/A.antt", SPECS)[0], [], [sending], "").endswith(f"specs/Laws.antt:4\n{found[0].text}\n\n"))
+        shown = rules.shown(rules.definitions_in("crates/a/specs/A.antt", SPECS)[0], [], [sending], "")
+        self.assertTrue(shown.endswith(f"specs/Laws.antt:4\n{found[0].text}\n\n"))
 
     def test_a_rule_leads_to_the_lines_of_its_names(self) -> None:
         definition, _ = rules.definitions_in("crates/a/specs/A.antt", SPECS)
