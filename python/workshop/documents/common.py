@@ -1,4 +1,4 @@
-"""A crate's proofs/Common.antt passes on the names that several of its proofs take from elsewhere: one line in each file.
+"""A crate's proofs/Common.antt passes on the names that several of its proofs take from elsewhere: one line a file.
 
 Elsewhere is std, other crates and the crate's own definitions. A name that two modules declare keeps its own lines, and
 so does one that a file unfolds, renames or declares. `python3 python common CRATE ..` writes the module and the lines.
