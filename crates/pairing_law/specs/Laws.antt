@@ -64,9 +64,9 @@ pub record WorkedPlaces : Type 0 where
   pub bits : tagged 2 (true ∷ []) ≡ true ∷ true ∷ false ∷ true ∷ []
   -- a text with the same bits at another place is distinguished from it
   pub two :
-      stay.said_in_stay one two 0 (placed (reset.Out one two 0 (reset.Other (true ∷ [])) ∷
-      reset.Told one two 0 answer.Rfnm ∷ reset.In one two 0 (reset.Other (true ∷ [])) ∷ message))
-      ≡ tagged 5 (true ∷ []) ∷ tagged 8 (true ∷ []) ∷ []
+      stay.said_in_stay one two 0
+      (placed (reset.Out one two 0 (reset.Other (true ∷ [])) ∷ reset.Told one two 0 answer.Rfnm ∷
+      reset.In one two 0 (reset.Other (true ∷ [])) ∷ message)) ≡ tagged 5 (true ∷ []) ∷ tagged 8 (true ∷ []) ∷ []
 
 -- A connection that is opened, closed, and opened again.
 pub record WorkedConnection : Type 0 where

@@ -46,6 +46,7 @@ pub record Streams : Type 0 where
 -- Data, ALL, GVB and RET name the link only. Whoever takes one has on that link the end of the connection in which it
 -- was said.
 pub record Owners : Type 0 where
+  -- whoever takes data, a return, a grant or what is asked back has the end of the connection in which it was said
   pub «data» :
       (events : List Event) (c size size_told : ℕ) (bits told : List Bool) →
       IsRun (Receives (receivers.Take size_told told) ∷ events) → (stream events).box ≡ Waiting c size bits →

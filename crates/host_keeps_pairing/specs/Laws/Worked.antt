@@ -26,12 +26,12 @@ use Rattle.host_keeps_pairing.specs.Words.{all_gone, all_taken, AllFit, marks, m
 pub record WorkedOpenings : Type 0 where
   -- an opening of the two sockets is a life, the newest first; one of other sockets, or the same the other way, is none
   pub told :
-      with_openings (λ p. p + 20) 16 33 (notice.Opened 16 second 33 6 10 ∷ notice.Ended 16 second 33 ∷
-      notice.Opened 16 second 33 14 15 ∷ []) []
+      with_openings (λ p. p + 20) 16 33
+      (notice.Opened 16 second 33 6 10 ∷ notice.Ended 16 second 33 ∷ notice.Opened 16 second 33 14 15 ∷ []) []
       ≡ record { own = 14; partner = 35 } ∷ record { own = 6; partner = 30 } ∷ []
   pub apart :
-      with_openings (λ p. p) 16 33 (notice.Opened 33 first 16 8 7 ∷ notice.Opened 16 second 35 6 10 ∷
-      notice.Opened 18 second 33 6 10 ∷ []) [] ≡ []
+      with_openings (λ p. p) 16 33
+      (notice.Opened 33 first 16 8 7 ∷ notice.Opened 16 second 35 6 10 ∷ notice.Opened 18 second 33 6 10 ∷ []) [] ≡ []
   -- the lives of what was said, and of what was heard
   pub said :
       all_lives_gone (Ask 6 ∷ Close ∷ []) (record { asked = None; partner = Some 8; gone = false; taken = false }) []
@@ -59,7 +59,8 @@ pub record WorkedOpenings : Type 0 where
   -- both programs of a dialogue report the life that the other's has, turned about
   pub dialogue :
       with_openings (λ p. if p == 10 then 8 else 0) 16 33
-      (map (λ n. n.1) (filter (λ n. same_host first n.0)
+      (map (λ n. n.1)
+      (filter (λ n. same_host first n.0)
       (worked.talk (worked.reset ++ worked.opening_connection ++ worked.closing)).notices)) []
       ≡ record { own = 6; partner = 8 } ∷ []
 
@@ -76,8 +77,9 @@ pub record WorkedEndings : Type 0 where
       all_known (λ p. p + 20) second 16 33 (notice.Opened 16 second 33 14 15 ∷ notice.PairReset second ∷ []) [] ≡ []
   -- the next opening is another one
   pub again :
-      all_known (λ p. p + 20) second 16 33 (notice.Opened 16 second 33 14 15 ∷ notice.Ended 16 second 33 ∷
-      notice.Opened 16 second 33 6 10 ∷ []) [] ≡ record { own = 6; partner = 30 } ∷ []
+      all_known (λ p. p + 20) second 16 33
+      (notice.Opened 16 second 33 14 15 ∷ notice.Ended 16 second 33 ∷ notice.Opened 16 second 33 6 10 ∷ []) []
+      ≡ record { own = 6; partner = 30 } ∷ []
   -- where none was known to be over, both are known; but no end is open by both
   pub twice :
       all_known (λ p. p + 20) second 16 33 (notice.Opened 16 second 33 14 15 ∷ notice.Opened 16 second 33 6 10 ∷ []) []
@@ -87,17 +89,17 @@ pub record WorkedEndings : Type 0 where
       (record { asked = Some 6; partner = Some 8; gone = false; taken = false }) → ⊥
   -- ends of other sockets, of the same the other way and of another peer are others, and data report nothing
   pub sockets :
-      all_known (λ p. p + 20) second 16 33 (notice.Ended 33 second 16 ∷ notice.Ended 16 second 35 ∷
-      notice.Ended 18 second 33 ∷ notice.Opened 33 second 16 8 7 ∷ notice.Opened 16 second 35 6 10 ∷
-      notice.Opened 18 second 33 6 10 ∷ []) (record { own = 14; partner = 35 } ∷ [])
-      ≡ record { own = 14; partner = 35 } ∷ []
+      all_known (λ p. p + 20) second 16 33
+      (notice.Ended 33 second 16 ∷ notice.Ended 16 second 35 ∷ notice.Ended 18 second 33 ∷
+      notice.Opened 33 second 16 8 7 ∷ notice.Opened 16 second 35 6 10 ∷ notice.Opened 18 second 33 6 10 ∷ [])
+      (record { own = 14; partner = 35 } ∷ []) ≡ record { own = 14; partner = 35 } ∷ []
   pub peers :
-      all_known (λ p. p + 20) second 16 33 (notice.Ended 16 third 33 ∷ notice.PairReset third ∷
-      notice.Opened 16 third 33 6 10 ∷ []) (record { own = 14; partner = 35 } ∷ [])
-      ≡ record { own = 14; partner = 35 } ∷ []
+      all_known (λ p. p + 20) second 16 33
+      (notice.Ended 16 third 33 ∷ notice.PairReset third ∷ notice.Opened 16 third 33 6 10 ∷ [])
+      (record { own = 14; partner = 35 } ∷ []) ≡ record { own = 14; partner = 35 } ∷ []
   pub «data» :
-      all_known (λ p. p + 20) second 16 33 (notice.Sent 16 (true ∷ []) ∷ notice.Arrived 16 (true ∷ []) ∷
-      notice.Interrupt 16 ∷ []) [] ≡ []
+      all_known (λ p. p + 20) second 16 33
+      (notice.Sent 16 (true ∷ []) ∷ notice.Arrived 16 (true ∷ []) ∷ notice.Interrupt 16 ∷ []) [] ≡ []
   -- an end that is known is open by these two requests, also while it closes; not by others, and not turned about
   pub «open» :
       Knows (record { own = 6; partner = 8 } ∷ [])
@@ -117,17 +119,20 @@ pub record WorkedEndings : Type 0 where
   -- in a dialogue host `first` knows of its end while it is open
   pub dialogue :
       all_known (λ p. if p == 10 then 8 else 0) second 16 33
-      (map (λ n. n.1) (filter (λ n. same_host first n.0)
-      (worked.talk (worked.reset ++ worked.opening_connection)).notices)) [] ≡ record { own = 6; partner = 8 } ∷ []
+      (map (λ n. n.1)
+      (filter (λ n. same_host first n.0) (worked.talk (worked.reset ++ worked.opening_connection)).notices)) []
+      ≡ record { own = 6; partner = 8 } ∷ []
   pub closed :
       all_known (λ p. if p == 10 then 8 else 0) second 16 33
-      (map (λ n. n.1) (filter (λ n. same_host first n.0)
+      (map (λ n. n.1)
+      (filter (λ n. same_host first n.0)
       (worked.talk (worked.reset ++ worked.opening_connection ++ worked.closing)).notices)) [] ≡ []
   -- and `second` of its own, the other way about: each is the other's partner, and with another place neither is
   pub peer :
       all_known (λ p. if p == 7 then 6 else 0) first 33 16
-      (map (λ n. n.1) (filter (λ n. same_host second n.0)
-      (worked.talk (worked.reset ++ worked.opening_connection)).notices)) [] ≡ record { own = 8; partner = 6 } ∷ []
+      (map (λ n. n.1)
+      (filter (λ n. same_host second n.0) (worked.talk (worked.reset ++ worked.opening_connection)).notices)) []
+      ≡ record { own = 8; partner = 6 } ∷ []
   pub partners : ArePartners (record { own = 6; partner = 8 }) (record { own = 8; partner = 6 })
   pub apart : ArePartners (record { own = 6; partner = 8 }) (record { own = 8; partner = 4 }) → ⊥
   pub older_partner : ArePartners (record { own = 6; partner = 4 }) (record { own = 8; partner = 6 }) → ⊥
@@ -139,8 +144,9 @@ pub record WorkedWords : Type 0 where
   pub sender : marks 5 33 16 (command.Str 33 16 8 ∷ command.Cls 33 16 ∷ []) ≡ Ask 5 ∷ Close ∷ []
   -- nothing of that is said of the same sockets the other way, or of others
   pub apart :
-      marks 5 33 16 (command.Rts 16 33 2 ∷ command.Cls 16 33 ∷ command.Str 35 16 8 ∷ command.Str 33 18 8 ∷
-      command.All 2 1 100 ∷ []) ≡ []
+      marks 5 33 16
+      (command.Rts 16 33 2 ∷ command.Cls 16 33 ∷ command.Str 35 16 8 ∷ command.Str 33 18 8 ∷ command.All 2 1 100 ∷ [])
+      ≡ []
   pub others :
       marks 5 16 33 (command.Rts 16 35 2 ∷ command.Rts 18 33 2 ∷ command.Cls 16 35 ∷ command.Cls 18 33 ∷ []) ≡ []
   -- an error that is read says nothing
@@ -186,57 +192,28 @@ pub record WorkedEnds : Type 0 where
       ≡ record { asked = None; partner = Some 29; gone = false; taken = false }
   -- once both CLS have passed there is none
   pub past :
-      end_of (λ p. p) (record {
-        mine = true;
-        asked = Some 3;
-        partner = Some 5;
-        closing = closing.Sent;
-        partner_closed = true;
-      }) ≡ nothing
+      end_of (λ p. p)
+      (record { mine = true; asked = Some 3; partner = Some 5; closing = closing.Sent; partner_closed = true })
+      ≡ nothing
   -- a CLS before the own request, a foreign end that doesn't close or that has asked, and two ends of the same sockets
   -- are refused
   pub early :
-      IsSound true (record {
-        mine = true;
-        asked = None;
-        partner = Some 5;
-        closing = closing.Sent;
-        partner_closed = false;
-      }) → ⊥
+      IsSound true
+      (record { mine = true; asked = None; partner = Some 5; closing = closing.Sent; partner_closed = false }) → ⊥
   pub kept :
-      IsSound true (record {
-        mine = false;
-        asked = None;
-        partner = Some 5;
-        closing = closing.No;
-        partner_closed = false;
-      }) → ⊥
+      IsSound true
+      (record { mine = false; asked = None; partner = Some 5; closing = closing.No; partner_closed = false }) → ⊥
   pub stranger :
-      IsSound true (record {
-        mine = false;
-        asked = Some 3;
-        partner = Some 5;
-        closing = closing.Queued;
-        partner_closed = false;
-      }) → ⊥
+      IsSound true
+      (record { mine = false; asked = Some 3; partner = Some 5; closing = closing.Queued; partner_closed = false }) → ⊥
   pub twins : (s : Standing) (x : End) → Stand true (λ p. p) 5 (s ∷ s ∷ []) [] x → ⊥
   -- nor does one whose CLS have both passed, once it is to be swept
   pub swept :
-      IsSound true (record {
-        mine = true;
-        asked = Some 3;
-        partner = Some 5;
-        closing = closing.Sent;
-        partner_closed = true;
-      }) → ⊥
+      IsSound true
+      (record { mine = true; asked = Some 3; partner = Some 5; closing = closing.Sent; partner_closed = true }) → ⊥
   pub unswept :
-      IsSound false (record {
-        mine = true;
-        asked = Some 3;
-        partner = Some 5;
-        closing = closing.Sent;
-        partner_closed = true;
-      })
+      IsSound false
+      (record { mine = true; asked = Some 3; partner = Some 5; closing = closing.Sent; partner_closed = true })
   -- where there is no end the law has none, and an end that has to ask has its request in the queue
   pub nobody : Stand true (λ p. p) 5 [] [] (record { asked = Some 3; partner = None; gone = false; taken = false }) → ⊥
   pub silent : (x : End) → Stand true (λ p. p) 5 (standing (sending_end 33 16 8) ∷ []) [] x → ⊥
@@ -296,8 +273,10 @@ pub record WorkedPrograms : Type 0 where
       (record { asked = Some 8; partner = Some 6; gone = false; taken = false })
   -- after a CLS each way neither has an end
   pub closed :
-      HasEnd (λ p. p) 16 33 (pair_with second
+      HasEnd (λ p. p) 16 33
+      (pair_with second
       (state_of (worked.talk (worked.reset ++ worked.opening_connection ++ worked.closing)) first).peers) nothing
   pub over :
-      HasEnd (λ p. p) 33 16 (pair_with first (state_of
-      (worked.talk (worked.reset ++ worked.opening_connection ++ worked.closing)) second).peers) nothing
+      HasEnd (λ p. p) 33 16
+      (pair_with first
+      (state_of (worked.talk (worked.reset ++ worked.opening_connection ++ worked.closing)) second).peers) nothing

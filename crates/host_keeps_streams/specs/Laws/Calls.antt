@@ -54,6 +54,7 @@ pub record Commands : Type 0 where
 
 -- Names of connections may change where no end has them: so sockets whose end is gone get a new number.
 pub record Naming : Type 0 where
+  -- where each end keeps its number, what the law has is so under the other names too
   pub received :
       (name other : ℕ → ℕ → ℕ) (link : ℕ) (entries : List Entry) (r : Receiver) →
       numbers other entries ≡ numbers name entries → HasReceiver name link entries r → HasReceiver other link entries r
@@ -66,11 +67,13 @@ pub record Naming : Type 0 where
 
 -- A message of data of the peer, on any link, is a matter of the receiver of its link.
 pub record Data : Type 0 where
+  -- the receiver of the link takes it or drops it, and no other makes a move
   pub received :
       (name : ℕ → ℕ → ℕ) (link l : ℕ) (text : List Bool) (d : DeskState) (r : Receiver) →
       HasReceiver name link d.entries r →
       MayAllReceive (data_received link l text (header_of text)) r ×
       HasReceiver name link (data_taken l text d).entries (all_received (data_received link l text (header_of text)) r)
+  -- no sender makes a move, and what holds of all ends is kept
   pub sent :
       (name : ℕ → ℕ → ℕ) (link l : ℕ) (text : List Bool) (d : DeskState) (s : Sender) →
       IsSending name link d.entries s → IsSending name link (data_taken l text d).entries s
@@ -80,6 +83,7 @@ pub record Data : Type 0 where
 
 -- What goes out of a host's program: a command, where a CLS is that of an end which said it, or bytes.
 pub record GoingOut : Type 0 where
+  -- a command makes the moves that `received_out` and `sent_out` give, and what holds of all ends is kept
   pub command_received :
       (name : ℕ → ℕ → ℕ) (link : ℕ) (peer : Host) (stamp : ℕ) (c : Command) (d : DeskState) (r : Receiver) →
       HasSaid c d.entries → AreSound name d.entries → HasReceiver name link d.entries r →
@@ -93,6 +97,7 @@ pub record GoingOut : Type 0 where
   pub command_sound :
       (name : ℕ → ℕ → ℕ) (peer : Host) (stamp : ℕ) (c : Command) (d : DeskState) → AreSound name d.entries →
       AreSound name (command_gone peer stamp c d).entries
+  -- bytes are sent on the link of their end, and no receiver makes a move
   pub bytes_received :
       (name : ℕ → ℕ → ℕ) (link : ℕ) (peer : Host) (stamp : ℕ) (listening : List Listener) (q : PairState) (e : Entry)
       (size count : ℕ) (r : Receiver) → next_of q ≡ Some (Bytes e size count) → HasReceiver name link q.entries r →
@@ -110,6 +115,7 @@ pub record GoingOut : Type 0 where
 
 -- The answer to what was sent on a link. The sender of that link is notified, and each end that has to close does so.
 pub record Answering : Type 0 where
+  -- no receiver makes a move; the sender is notified on its link, and each end closes that has to
   pub received :
       (name : ℕ → ℕ → ℕ) (link l : ℕ) (peer : Host) (t : TurnState) (r : Receiver) →
       HasReceiver name link t.pair.entries r → HasReceiver name link (answered_turn peer answer.Rfnm l t).pair.entries r
@@ -158,6 +164,7 @@ pub record CallsOpening : Type 0 where
 
 -- A user asks something of an end: to grant and to ask back where it receives, and to send.
 pub record Using : Type 0 where
+  -- a grant is a move of the receiver on the link of its end
   pub grants :
       (name : ℕ → ℕ → ℕ) (link socket messages bits : ℕ) (q : PairState) (e : Entry) (r : Receiver) →
       find (is_mine_on socket) q.entries ≡ Some e → is_open e ≡ true → passes e.allocation messages bits ≡ false →
@@ -178,8 +185,9 @@ pub record Using : Type 0 where
       (name : ℕ → ℕ → ℕ) (link socket messages bits : ℕ) (q : PairState) (e : Entry) (r : Receiver) →
       find (is_mine_on socket) q.entries ≡ Some e → is_open e ≡ true → HasReceiver name link q.entries r →
       MayAllReceive (on_link link e (receivers.AskBack (named name e) messages bits ∷ [])) r ×
-      HasReceiver name link q.entries (all_received
-      (on_link link e (receivers.AskBack (named name e) messages bits ∷ [])) r)
+      HasReceiver name link q.entries
+      (all_received (on_link link e (receivers.AskBack (named name e) messages bits ∷ [])) r)
+  -- bits that are to be sent wait, and that is no move
   pub sends_received :
       (name : ℕ → ℕ → ℕ) (link socket : ℕ) (bits : List Bool) (q : PairState) (e : Entry) (r : Receiver) →
       find (is_mine_on socket) q.entries ≡ Some e → is_receive_socket socket ≡ false →
@@ -195,6 +203,7 @@ pub record Using : Type 0 where
 
 -- A user closes an end: one that receives closes on its link, and each sending end that has to close then does so.
 pub record ClosingEnds : Type 0 where
+  -- an end that receives closes on its link, and each sending end that has to close then does so
   pub received :
       (name : ℕ → ℕ → ℕ) (link socket : ℕ) (q : PairState) (e : Entry) (r : Receiver) →
       find (is_mine_on socket) q.entries ≡ Some e → was_closed e ≡ false → HasReceiver name link q.entries r →

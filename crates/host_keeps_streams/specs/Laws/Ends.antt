@@ -165,11 +165,11 @@ pub record Opening : Type 0 where
       (name : ℕ → ℕ → ℕ) (link : ℕ) (peer : Host) (busy : List ℕ) (stamp own foreign size : ℕ) (d : DeskState)
       (e : Entry) (r : Receiver) → entry_at own foreign d.entries ≡ Some e → receives_on link e ≡ true →
       is_some e.partner ≡ false → HasReceiver name link d.entries r →
-      MayAllReceive (receivers.Hear (Str (name e.own e.foreign) size) ∷
-      received_open (is_some e.asked) (name e.own e.foreign)) r ×
+      MayAllReceive
+      (receivers.Hear (Str (name e.own e.foreign) size) ∷ received_open (is_some e.asked) (name e.own e.foreign)) r ×
       HasReceiver name link (desk_taken peer busy stamp (command.Str foreign own size) d).entries
-      (all_received (receivers.Hear (Str (name e.own e.foreign) size) ∷
-      received_open (is_some e.asked) (name e.own e.foreign)) r)
+      (all_received
+      (receivers.Hear (Str (name e.own e.foreign) size) ∷ received_open (is_some e.asked) (name e.own e.foreign)) r)
   -- an RTS is heard for a sending end, and names a free link: it has the link, and opens if its own STR has gone out.
   -- What the law knows of its connection before has to be so
   pub rts_heard :
@@ -247,10 +247,12 @@ pub record SenderCloses : Type 0 where
       (name : ℕ → ℕ → ℕ) (link : ℕ) (peer : Host) (busy : List ℕ) (stamp own foreign : ℕ) (d : DeskState) (e : Entry)
       (s : Sender) → entry_at own foreign d.entries ≡ Some e → sends_on link e ≡ true → e.partner_closed ≡ false →
       HasSender name link d.entries s →
-      MayAllSend (senders.Hear (Cls (name e.own e.foreign)) ∷
+      MayAllSend
+      (senders.Hear (Cls (name e.own e.foreign)) ∷
       sent_heard e.closing (is_answered busy e.link) (name e.own e.foreign)) s ×
       HasSender name link (desk_taken peer busy stamp (command.Cls foreign own) d).entries
-      (all_sent (senders.Hear (Cls (name e.own e.foreign)) ∷
+      (all_sent
+      (senders.Hear (Cls (name e.own e.foreign)) ∷
       sent_heard e.closing (is_answered busy e.link) (name e.own e.foreign)) s)
   -- its own CLS goes out: the law had said it before
   pub gone :

@@ -204,11 +204,12 @@ pub record WorkedMoves : Type 0 where
   pub unsaid : HasSaid (command.Cls 16 33) (receiving_end 16 33 5 ∷ []) → ⊥
   -- this many bytes of an end go out on its link
   pub bytes :
-      bytes_sent (λ own foreign. own) 5 (record (asked_on_link 7 5 (sending_end 33 16 1))
-      { bits = true ∷ false ∷ true ∷ [] }) 1 2 ≡ senders.Send 33 1 (true ∷ false ∷ []) ∷ []
+      bytes_sent (λ own foreign. own) 5
+      (record (asked_on_link 7 5 (sending_end 33 16 1)) { bits = true ∷ false ∷ true ∷ [] }) 1 2
+      ≡ senders.Send 33 1 (true ∷ false ∷ []) ∷ []
   pub bytes_elsewhere :
-      bytes_sent (λ own foreign. own) 7 (record (asked_on_link 7 5 (sending_end 33 16 1))
-      { bits = true ∷ false ∷ true ∷ [] }) 1 2 ≡ []
+      bytes_sent (λ own foreign. own) 7
+      (record (asked_on_link 7 5 (sending_end 33 16 1)) { bits = true ∷ false ∷ true ∷ [] }) 1 2 ≡ []
   -- a receiving end asks on its link, and on no other
   pub asks :
       (asks_for 5 16 (Some 5) ≡ receivers.Ask 16 ∷ []) × (asks_for 7 16 (Some 5) ≡ []) × (asks_for 5 16 None ≡ [])
@@ -217,7 +218,8 @@ pub record WorkedMoves : Type 0 where
       (on_link 7 (receiving_end 16 33 5) (receivers.Grant 16 1 2 ∷ []) ≡ [])
   -- all sending ends close that are due and have no answer to wait for
   pub closes :
-      closes (λ own foreign. own) (7 ∷ []) (record (asked_on_link 7 5 (sending_end 33 16 8)) { closing = closing.Due } ∷
+      closes (λ own foreign. own) (7 ∷ [])
+      (record (asked_on_link 7 5 (sending_end 33 16 8)) { closing = closing.Due } ∷
       record (asked_on_link 7 7 (sending_end 35 18 8)) { closing = closing.Due } ∷
       record (sending_end 37 20 8) { closing = closing.Due } ∷ sending_end 39 22 8 ∷
       record (receiving_end 16 33 5) { closing = closing.Due } ∷ []) ≡ senders.Close 33 ∷ senders.Close 37 ∷ []

@@ -60,12 +60,14 @@ pub record WorkedSteps : Type 0 where
   -- the receiver's words are its RTS with its link and the CLS of its receiving sockets; the sender's its STR and the
   -- others
   pub receiver :
-      words_by Receiver 5 (Legal (command.Rts 16 33 2) ∷ Legal (command.Str 35 18 8) ∷ Legal (command.Cls 16 33) ∷
+      words_by Receiver 5
+      (Legal (command.Rts 16 33 2) ∷ Legal (command.Str 35 18 8) ∷ Legal (command.Cls 16 33) ∷
       Legal (command.Cls 35 18) ∷ Wrong 1 [] ∷ [])
       ≡ record { sockets = first_sockets; link = 2; mark = Ask 5 } ∷
       record { sockets = first_sockets; link = 0; mark = Close } ∷ []
   pub sender :
-      words_by Sender 5 (Legal (command.Rts 16 33 2) ∷ Legal (command.Str 35 18 8) ∷ Legal (command.Cls 16 33) ∷
+      words_by Sender 5
+      (Legal (command.Rts 16 33 2) ∷ Legal (command.Str 35 18 8) ∷ Legal (command.Cls 16 33) ∷
       Legal (command.Cls 35 18) ∷ Wrong 1 [] ∷ [])
       ≡ record { sockets = second_sockets; link = 0; mark = Ask 5 } ∷
       record { sockets = second_sockets; link = 0; mark = Close } ∷ []
