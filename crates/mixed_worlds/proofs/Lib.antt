@@ -5,3 +5,10 @@ pub mod Apart
 pub mod Among
 pub mod SameBooks
 pub mod Books
+pub mod RealLogs
+pub mod Settled
+pub mod Joined
+pub mod Quiet
+pub mod Asked
+pub mod AskedLives
+pub mod Handed

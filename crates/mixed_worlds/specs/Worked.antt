@@ -37,6 +37,10 @@ odd_size =
     (crossing.In (message third second 2 (0 ∷ 7 ∷ 0 ∷ 1 ∷ 0 ∷ 254 ∷ [])))
     ∷ Crossed (crossing.Out (message third second 2 (0 ∷ 7 ∷ 0 ∷ 1 ∷ 0 ∷ 254 ∷ []))) ∷ stranger_granted
 
+-- the last of these moments: the byte of eight bits is taken
+abbrev pub eight_taken : Moment
+eight_taken = Crossed (crossing.In (message third second 2 (0 ∷ 8 ∷ 0 ∷ 1 ∷ 0 ∷ 255 ∷ [])))
+
 -- the life of the end that receives, before anything is taken
 abbrev pub granting_life : Life
 granting_life = granted 2 16 (new_life second 16 third 33 8 7)

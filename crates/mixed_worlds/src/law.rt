@@ -1,22 +1,28 @@
 //! Networks with strangers. The functions here do nothing: each clause is a law.
 
-ghost use Rattle.std.specs.Prelude.{◌≡◌, true, false, [], ◌∷◌, length};
+ghost use Rattle.std.specs.Prelude.{◌≡◌, true, false, [], ◌∷◌, length, replicate};
+ghost use Rattle.host_pairs.specs.declared.notice.Notice.TheVariants as notice;
 ghost use Rattle.promise.specs.Safe.{IsGranted};
 ghost use Rattle.sockets.specs.Worked.{second, third};
 ghost use Rattle.net_sim.specs.Book.{new_life};
 ghost use Rattle.net_sim.specs.Timeline.{crossings_of};
 ghost use Rattle.net_sim.specs.Told.{kept_in};
+ghost use Rattle.net_sim.specs.Worked.{eight};
 ghost use Rattle.masked_worlds.specs.Mixed.{AreMixed};
 ghost use Rattle.masked_worlds.specs.Worked.{is_third, three};
 ghost use Rattle.promise.specs.Formed.{IsFormed};
 ghost use Rattle.mixed_worlds.specs.Book.{beside_among, lives_among, mixed_kept};
-ghost use Rattle.mixed_worlds.specs.Laws.Among.{AmongLives, AmongPromise};
-ghost use Rattle.mixed_worlds.specs.Laws.Toward.{TowardBounded, TowardEnds, TowardLive, TowardSockets, TowardTaken};
-ghost use Rattle.mixed_worlds.specs.Worked.{granting_life, odd_life, odd_size, plain_life};
+ghost use Rattle.mixed_worlds.specs.Laws.Among.{AmongJoined, AmongLives, AmongPromise, AmongSettled};
+ghost use Rattle.mixed_worlds.specs.Laws.Toward.{TowardAsked, TowardBounded, TowardEnds, TowardHanded, TowardLive};
+ghost use Rattle.mixed_worlds.specs.Laws.Toward.{TowardMessages, TowardOthers, TowardOwner, TowardReported};
+ghost use Rattle.mixed_worlds.specs.Laws.Toward.{TowardSender, TowardSockets, TowardTaken};
+ghost use Rattle.mixed_worlds.specs.Toward.{HasAsked, ReportsData};
+ghost use Rattle.mixed_worlds.specs.Worked.{eight_taken, granting_life, odd_life, odd_size, plain_life};
 ghost use Rattle.mixed_worlds.specs.Worked.{stranger_contacted, stranger_granted, stranger_opened};
 
-use masked_worlds::law::masked;
+use masked_worlds::law::{masked, masked_logs};
 use net_sim::law::orders;
+use world_keeps_connections::law as connections;
 use world_keeps_lives::law::programs;
 use world_keeps_pairing::law as pairing;
 use world_keeps_streams::law as streams;
@@ -28,12 +34,19 @@ pub fn among()
 
     // the lives among these hosts, with what was handed over in them and their fates, are those of the masked moments
     ensures lives { AmongLives }
+
+    // a finished initial connection among them pairs the right four sockets, and where they have nothing left to do all
+    // lives that match agree
+    ensures joined { AmongJoined }
+    ensures settled { AmongSettled }
 {
+    masked_logs();
     masked();
     orders();
     pairing::lives();
     programs();
     streams::lives();
+    connections::lives();
 }
 
 /// A host with a program, toward strangers and all others.
@@ -48,6 +61,23 @@ pub fn toward()
     ensures live { TowardLive }
     ensures taken { TowardTaken }
     ensures bounded { TowardBounded }
+
+    // what a sending life sent is a prefix of what was handed over in it
+    ensures handed { TowardHanded }
+
+    // each life is of such a host, and both its requests crossed at its stamps
+    ensures owner { TowardOwner }
+    ensures asked { TowardAsked }
+
+    // what a user hears of data has just crossed
+    ensures reported { TowardReported }
+
+    // a message that is taken reports of its sender only, and leaves what its host has with all others
+    ensures sender { TowardSender }
+    ensures others { TowardOthers }
+
+    // and RFNM says that the interface of its destination took the message, once, whoever that is
+    ensures messages { TowardMessages }
 {
     orders();
 }
@@ -77,4 +107,14 @@ pub fn worked_toward()
     ensures life { (mixed_kept is_third odd_size).book.lives ≡ odd_life ∷ [] }
     ensures unfirst { IsFormed (crossings_of odd_size) odd_life → ⊥ }
     ensures granted { IsGranted odd_life 1 (length odd_life.bits) }
+
+    // its requests crossed at its stamps, and at no other two
+    ensures asked { HasAsked (crossings_of odd_size) odd_life }
+    ensures turned { HasAsked (crossings_of odd_size) (new_life second 16 third 33 7 8) → ⊥ }
+
+    // where the second message is taken its eight bits may be reported as arrived, not the seven of the first one, and
+    // nothing as sent
+    ensures arrived { ReportsData eight_taken (notice.Arrived 16 eight) }
+    ensures others { ReportsData eight_taken (notice.Arrived 16 (replicate 7 true)) → ⊥ }
+    ensures unsent { ReportsData eight_taken (notice.Sent 16 eight) → ⊥ }
 {}

@@ -1,4 +1,4 @@
-use Rattle.std.proofs.Common.{◌≡◌, Some, refl, replicate, true, arith}
+use Rattle.std.proofs.Common.{◌≡◌, Some, refl, replicate, false, true, arith}
 use Rattle.bit_messages.specs.Octets.{octets_of}
 use Rattle.ncp_control.specs.Packing.{packed_count}
 use Rattle.ncp_control.specs.Reading.{command_of, read_of}
@@ -69,3 +69,22 @@ returns-clause-life c = refl
 pub returns-clause-unfirst : goal.returns-clause-unfirst
 unfolding octets_of orders_of read_of command_of packed_count accepted refusal served served_notices next_out offered
 returns-clause-unfirst c f = absurd (let clash : Some (replicate 7 true) ≡ Some eight = f.bits in cc)
+
+pub returns-clause-asked : goal.returns-clause-asked
+unfolding octets_of orders_of read_of command_of packed_count accepted refusal served served_notices next_out offered
+returns-clause-asked c = record { own = refl; partner = refl }
+
+pub returns-clause-turned : goal.returns-clause-turned
+unfolding octets_of orders_of read_of command_of packed_count accepted refusal served served_notices next_out offered
+returns-clause-turned c h = absurd (let clash : false ≡ true = h.own in cc)
+
+pub returns-clause-arrived : goal.returns-clause-arrived
+unfolding octets_of
+returns-clause-arrived c = (refl, refl)
+
+pub returns-clause-others : goal.returns-clause-others
+unfolding octets_of
+returns-clause-others c h = absurd (let clash : Some eight ≡ Some (replicate 7 true) = h.1 in cc)
+
+pub returns-clause-unsent : goal.returns-clause-unsent
+returns-clause-unsent c h = absurd h
