@@ -321,8 +321,7 @@ module _ (orders : Orders) (strange : Host → Bool) (hosts : List Host) (a : Ho
       message_keeps (Placed a p (crossing.In m ∷ crossings_of moments))
       (Tells a p (crossing.In m ∷ crossings_of moments) (Crossed (crossing.In m))) p
       (rules a p (crossing.In m ∷ crossings_of moments) (Crossed (crossing.In m))) (program a moments) m
-      (places moments) from
-      (
+      (places moments) from (
         λ zero.
             hears a p (crossing.In m ∷ crossings_of moments) m (places moments)
             (control_is m.flow p a (sym from) to (eqb-true m.flow.link.0 0 zero)) (inl (refl, places_same moments)),

@@ -1,7 +1,6 @@
 -- What each life of a host that runs the program sent is a prefix of what was handed over in it, whatever its peer sends.
-use Rattle.std.proofs.Common.{◌≡◌, ◌⊎◌, inl, inr, ℕ, suc, Bool, true, List, [], ◌∷◌, refl, ap, sym, subst, ◌∙◌}
-use Rattle.std.proofs.Common.{eq-eqb, arith}
-use Rattle.std.specs.List.{Contains}
+use Rattle.std.proofs.Common.{◌≡◌, ◌⊎◌, inl, inr, ℕ, Bool, true, List, [], ◌∷◌, refl, ap, sym, subst, ◌∙◌}
+use Rattle.std.proofs.Common.{eq-eqb}
 use Rattle.interface.specs.Host.{Host, same_host}
 use Rattle.interface.proofs.lemmas.{same_host-refl}
 use Rattle.promise.specs.Fates.{IsBeside}
@@ -33,11 +32,3 @@ safe_beside s κ x t i h = by h.socket where
   by (inl free) = beside_safe x.host x.socket NoneOf κ.book.lives κ.handed free.lives x t i (here x)
   by (inr owned) = beside_safe x.host x.socket (IsLifeOf owned.peer owned.end) κ.book.lives κ.handed owned.lives x t i
       (here x)
-
-pub beside_there : (x : Life) (t : List Bool) (lives : List Life) (handed : List (List Bool))
-    → IsBeside x t lives handed → Contains lives x
-beside_there x t [] handed i = absurd i
-beside_there x t (y ∷ lives) [] i = absurd i
-beside_there x t (y ∷ lives) (u ∷ handed) (inl (e, f)) = (0, omega arith, sym e)
-beside_there x t (y ∷ lives) (u ∷ handed) (inr i) =
-    let rest : Contains lives x = beside_there x t lives handed i in (suc rest.0, omega (arith, rest.1), rest.2)

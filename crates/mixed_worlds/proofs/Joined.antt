@@ -114,8 +114,12 @@ module _ (orders : Orders) (matches : LivesMatches) (strange : Host → Bool) (h
       → IsEnd (book_among strange moments reports) b q a p y → is_receive_socket p ≡ true → is_send_socket q ≡ true
       → Match (book_among strange moments reports).crossings x y
   ends_match a b p q x y one two even odd =
-      let o : AreOpposite x y = (one.peer ∙ sym two.host, two.peer ∙ sym one.host, one.foreign ∙ sym two.socket,
-      two.foreign ∙ sym one.socket) in
+      let o : AreOpposite x y = (
+        one.peer ∙ sym two.host,
+        two.peer ∙ sym one.host,
+        one.foreign ∙ sym two.socket,
+        two.foreign ∙ sym one.socket,
+      ) in
       let here : Contains (kept_in (masked_moments strange hosts moments)).book.lives x = in_masked x one.there in
       let there : Contains (kept_in (masked_moments strange hosts moments)).book.lives y = in_masked y two.there in
       let m : Match (crossings_of (masked_moments strange hosts moments)) x y =

@@ -6,7 +6,10 @@ pub mod Among
 pub mod SameBooks
 pub mod Books
 pub mod RealLogs
+pub mod RealFormed
+pub mod RealBooks
 pub mod Settled
+pub mod RealAmong
 pub mod Joined
 pub mod Quiet
 pub mod Asked

@@ -50,8 +50,10 @@ module _ (P : Entry → Type 0) (quiet : (e f : Entry) → Quiet e f → P e →
   all_settled : (busy : List ℕ) (es : List Entry) → Each P es
       → Each P (map (λ e. closed_when (must_close busy e) e) es)
   all_settled busy [] h = tt
-  all_settled busy (e ∷ es) h = (quiet e (closed_when (must_close busy e) e) (queued_quiet (must_close busy e) e) h.0,
-      all_settled busy es h.1)
+  all_settled busy (e ∷ es) h = (
+    quiet e (closed_when (must_close busy e) e) (queued_quiet (must_close busy e) e) h.0,
+    all_settled busy es h.1,
+  )
 
   still_due : (c : Closing) → has_cls c ≡ true → has_cls (close_due c) ≡ true
   still_due closing.No e = e

@@ -11,7 +11,7 @@ use Rattle.promise.specs.Safe.{Match, Name, before, control_flow, last_out, name
 use Rattle.promise.specs.declared.life.Life.{Life}
 use Rattle.masked_worlds.specs.Strangers.{masked_as, masked_log, strange_end, stranger_in, turn}
 
-masked_length : (strange : Host → Bool) (hosts : List Host) (log : List Crossing)
+pub masked_length : (strange : Host → Bool) (hosts : List Host) (log : List Crossing)
     → length (masked_log strange hosts log) ≡ length log
 masked_length strange hosts [] = refl
 masked_length strange hosts (c ∷ log) = ap suc (masked_length strange hosts log)
@@ -29,10 +29,10 @@ masked_before strange hosts place log =
     ap (λ (n : ℕ). drop (n - place) (masked_log strange hosts log)) (masked_length strange hosts log)
     ∙ masked_drop strange hosts (length log - place) log
 
-module _ (strange : Host → Bool) (hosts : List Host) (f : Flow) (source : strange f.source ≡ false)
+module _ (strange : Host → Bool) (f : Flow) (source : strange f.source ≡ false)
     (destination : strange f.destination ≡ false) where
   -- a flow of a stranger is another one
-  flow_off : (k : Flow) (g : Host) → strange_end strange k ≡ Some g → same_flow f k ≡ false
+  pub flow_off : (k : Flow) (g : Host) → strange_end strange k ≡ Some g → same_flow f k ≡ false
   flow_off k g some = by (same_flow f k) refl where
     none : strange_end strange f ≡ None
     none = rw (source, destination) refl
@@ -65,9 +65,9 @@ module _ (strange : Host → Bool) (hosts : List Host) (f : Flow) (source : stra
   same_there (crossing.Up h) log masked long same = same
 
   -- the last message of a flow between hosts with programs went out where it did
-  pub masked_last : (log : List Crossing) → last_out f (masked_log strange hosts log) ≡ last_out f log
-  masked_last [] = refl
-  masked_last (c ∷ log) = by (stranger_in strange c) refl (masked_last log) where
+  pub masked_last : (hosts : List Host) (log : List Crossing) → last_out f (masked_log strange hosts log) ≡ last_out f log
+  masked_last hosts [] = refl
+  masked_last hosts (c ∷ log) = by (stranger_in strange c) refl (masked_last hosts log) where
     by : (o : Option Host) → stranger_in strange c ≡ o → last_out f (masked_log strange hosts log) ≡ last_out f log
         → last_out f (masked_as hosts o c (masked_log strange hosts log) ∷ masked_log strange hosts log)
         ≡ last_out f (c ∷ log)
@@ -82,7 +82,7 @@ module _ (strange : Host → Bool) (hosts : List Host) (log : List Crossing) whe
       ap (λ (l : List Crossing). named x (last_out (control_flow x.peer x.host) l))
       (masked_before strange hosts x.partner_stamp log)
       ∙ ap (named x)
-      (masked_last strange hosts (control_flow x.peer x.host) peer host (before x.partner_stamp log))
+      (masked_last strange (control_flow x.peer x.host) peer host hosts (before x.partner_stamp log))
 
   pub real_match : (x y : Life) → strange x.host ≡ false → strange x.peer ≡ false → strange y.host ≡ false
       → strange y.peer ≡ false → Match (masked_log strange hosts log) x y → Match log x y

@@ -12,7 +12,8 @@ ghost use Rattle.masked_worlds.specs.Mixed.{AreMixed};
 ghost use Rattle.masked_worlds.specs.Worked.{is_third, three};
 ghost use Rattle.promise.specs.Formed.{IsFormed};
 ghost use Rattle.mixed_worlds.specs.Book.{beside_among, lives_among, mixed_kept};
-ghost use Rattle.mixed_worlds.specs.Laws.Among.{AmongJoined, AmongLives, AmongPromise, AmongSettled};
+ghost use Rattle.mixed_worlds.specs.Laws.Among.{AmongFormed, AmongJoined, AmongLives, AmongPromise, AmongSafe};
+ghost use Rattle.mixed_worlds.specs.Laws.Among.{AmongSettled, AmongWhole};
 ghost use Rattle.mixed_worlds.specs.Laws.Toward.{TowardAsked, TowardBounded, TowardEnds, TowardHanded, TowardLive};
 ghost use Rattle.mixed_worlds.specs.Laws.Toward.{TowardMessages, TowardOthers, TowardOwner, TowardReported};
 ghost use Rattle.mixed_worlds.specs.Laws.Toward.{TowardSender, TowardSockets, TowardTaken};
@@ -34,6 +35,11 @@ pub fn among()
 
     // the lives among these hosts, with what was handed over in them and their fates, are those of the masked moments
     ensures lives { AmongLives }
+
+    // so over all that really crossed these are formed and safe, and an orderly close among them loses nothing
+    ensures formed { AmongFormed }
+    ensures safe { AmongSafe }
+    ensures whole { AmongWhole }
 
     // a finished initial connection among them pairs the right four sockets, and where they have nothing left to do all
     // lives that match agree

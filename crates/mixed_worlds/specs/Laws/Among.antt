@@ -5,6 +5,9 @@ use Rattle.interface.specs.Mailboxes.{Empty, box_of, is_up}
 use Rattle.interface.specs.declared.address.Flow.{Flow}
 use Rattle.host_services.specs.declared.report.Reported.{Reported}
 use Rattle.promise.specs.Connections.{JoinedBook}
+use Rattle.promise.specs.Fates.{ClosesWhole}
+use Rattle.promise.specs.Formed.{FormedBook}
+use Rattle.promise.specs.Safe.{SafeBook}
 use Rattle.sockets.specs.Sending.{next_out}
 use Rattle.net_sim.specs.Reports.{IsBacked}
 use Rattle.net_sim.specs.Story.{Moment, program}
@@ -32,6 +35,26 @@ pub record HasAmong (strange : Host → Bool) (hosts : List Host) (moments : Lis
 abbrev pub AmongLives : Type 0
 AmongLives = (strange : Host → Bool) (hosts : List Host) (moments : List Moment) → IsMixed strange hosts moments
     → HasAmong strange hosts moments
+
+-- so the book itself is formed and safe among these hosts, over all that really crossed, and an orderly close loses
+-- nothing
+abbrev pub AmongFormed : Type 0
+AmongFormed =
+    (strange : Host → Bool) (hosts : List Host) (moments : List Moment) → IsMixed strange hosts moments
+    → FormedBook (crossings_of moments) (lives_among strange (mixed_kept strange moments).book.lives)
+
+abbrev pub AmongSafe : Type 0
+AmongSafe =
+    (strange : Host → Bool) (hosts : List Host) (moments : List Moment) → IsMixed strange hosts moments →
+    SafeBook (crossings_of moments) (lives_among strange (mixed_kept strange moments).book.lives)
+    (beside_among strange (mixed_kept strange moments).book.lives (mixed_kept strange moments).handed)
+
+abbrev pub AmongWhole : Type 0
+AmongWhole =
+    (strange : Host → Bool) (hosts : List Host) (moments : List Moment) → IsMixed strange hosts moments →
+    ClosesWhole (crossings_of moments) (lives_among strange (mixed_kept strange moments).book.lives)
+    (beside_among strange (mixed_kept strange moments).book.lives (mixed_kept strange moments).handed)
+    (beside_among strange (mixed_kept strange moments).book.lives (mixed_kept strange moments).fates)
 
 -- whatever services of the hosts with programs reported, if each report is true of what its host heard until then
 abbrev pub AmongJoined : Type 0

@@ -12,7 +12,8 @@ use Rattle.world_keeps_lives.proofs.lemmas.{live_end, safe_life}
 use Rattle.mixed_worlds.specs.Book.{mixed_kept}
 use Rattle.mixed_worlds.proofs.AskedLives.{data_reported, has_asked, plain_owner}
 use Rattle.mixed_worlds.proofs.Ends.{any_message}
-use Rattle.mixed_worlds.proofs.Handed.{beside_there, safe_beside}
+use Rattle.mixed_worlds.proofs.Handed.{safe_beside}
+use Rattle.mixed_worlds.proofs.RealBooks.{beside_in}
 use Rattle.mixed_worlds.proofs.Sockets.{held}
 use Rattle.mixed_worlds.proofs.law.toward.Goals as goal
 
@@ -72,7 +73,7 @@ returns-clause-handed c strange hosts moments mixed x text there kind =
     } in
     (safe_beside (program x.host moments) (mixed_kept strange moments) x text there
     (held orders strange hosts x.host
-    (plain_owner orders strange hosts moments mixed x (beside_there x text (mixed_kept strange moments).book.lives
+    (plain_owner orders strange hosts moments mixed x (beside_in x text (mixed_kept strange moments).book.lives
     (mixed_kept strange moments).handed there)) x.socket moments mixed)).front kind
 
 pub returns-clause-owner : goal.returns-clause-owner
