@@ -168,13 +168,13 @@ module _ (h p : Host) (log : List Crossing) where
     begins = begins;
     rts = λ own foreign link e there even odd o f i. record {
       refusing = i.refusing;
-      asked = λ mine a is. record { named = (i.asked mine a is).named; crossed = (i.asked mine a is).crossed };
+      asked = λ mine a is. i.asked mine a is;
       partner = λ mine b is. came link e.own e.foreign b (one_place stamp b is)
           (sym (request_as e.foreign e.own foreign own link f o ∙ rts_is foreign own link even)) there;
     };
     str = λ own foreign size e there odd even o f i. record {
       refusing = i.refusing;
-      asked = λ mine a is. record { named = (i.asked mine a is).named; crossed = (i.asked mine a is).crossed };
+      asked = λ mine a is. i.asked mine a is;
       partner = λ mine b is. came size e.own e.foreign b (one_place stamp b is)
           (sym (request_as e.foreign e.own foreign own size f o ∙ str_is foreign own size odd)) there;
     };
@@ -199,13 +199,13 @@ module _ (h p : Host) (log : List Crossing) where
       refusing = i.refusing;
       asked = λ mine a is. went link e.own e.foreign a (one_place stamp a is)
           (sym (request_as e.own e.foreign own foreign link o f ∙ rts_is own foreign link even)) there;
-      partner = λ mine b is. record { named = (i.partner mine b is).named; crossed = (i.partner mine b is).crossed };
+      partner = λ mine b is. i.partner mine b is;
     };
     str = λ own foreign size e there odd o f i. record {
       refusing = i.refusing;
       asked = λ mine a is. went size e.own e.foreign a (one_place stamp a is)
           (sym (request_as e.own e.foreign own foreign size o f ∙ str_is own foreign size odd)) there;
-      partner = λ mine b is. record { named = (i.partner mine b is).named; crossed = (i.partner mine b is).crossed };
+      partner = λ mine b is. i.partner mine b is;
     };
   } where
     went : (k own foreign a : ℕ) → stamp ≡ a → {c : Command} → c ≡ request own foreign k
@@ -250,9 +250,6 @@ placed_still h p d log e i = record {
 
 module _ (orders : Orders) (strange : Host → Bool) (hosts : List Host) (a : Host) (off : strange a ≡ false)
     (moments : List Moment) (below : IsMixed strange hosts moments) where
-  abbrev s : NcpState
-  s = program a moments
-
   order : AreInOrder (program a moments).peers
   order = ordered orders strange hosts a moments off below
 
@@ -260,12 +257,6 @@ module _ (orders : Orders) (strange : Host → Bool) (hosts : List Host) (a : Ho
   module _ (m : HostMessage) (from : a ≡ m.flow.source) (out : Says (program a moments) m) (p : Host)
       (to : out.peer.host ≡ p)
       (old : Ends (Placed a p (crossing.Out m ∷ crossings_of moments)) p (program a moments)) where
-    abbrev here : List Crossing
-    here = crossing.Out m ∷ crossings_of moments
-
-    abbrev now : Moment
-    now = Crossed (crossing.Out m)
-
     destination : p ≡ m.flow.destination
     destination = sym to ∙ ap (λ (y : HostMessage). y.flow.destination) out.message
 

@@ -3,6 +3,7 @@ use Rattle.std.proofs.Common.{◌≡◌, ℕ, ◌==◌, ◌&&◌, nat_lt, suc, B
 use Rattle.std.proofs.Common.{length, Option, Some, None, refl, ap, sym, subst, ◌∙◌}
 use Rattle.std.specs.Prelude.{IsSome}
 use Rattle.interface.specs.Host.{Host}
+use Rattle.interface.specs.Mailboxes.{is_up}
 use Rattle.interface.specs.declared.address.Flow.{Flow}
 use Rattle.interface.specs.declared.crossing.Crossing.{Crossing}
 use Rattle.interface.specs.declared.crossing.Crossing.TheVariants as crossing
@@ -42,7 +43,7 @@ module _ (strange : Host → Bool) (hosts : List Host) where
         by : (o : Option Host) → stranger_in strange c ≡ o
             → text_of comes f (masked_as hosts o c log) ≡ text_of comes f c
         by None e = refl
-        by (Some g) e = turned comes _ g ∙ sym (aside comes c g e)
+        by (Some g) e = turned comes (is_up hosts g log) g ∙ sym (aside comes c g e)
 
       pub same_texts : (a b : ℕ) (log : List Crossing)
           → texts_of comes f a b (masked_log strange hosts log) ≡ texts_of comes f a b log

@@ -2,7 +2,7 @@
 use Rattle.std.proofs.Common.{◌≡◌, ℕ, ◌-◌, zero, suc, Bool, true, false, if◌then◌else◌, List, [], ◌∷◌, drop, length}
 use Rattle.std.proofs.Common.{Option, Some, None, refl, ap, sym, ◌∙◌}
 use Rattle.interface.specs.Host.{Host}
-use Rattle.interface.specs.Mailboxes.{same_flow}
+use Rattle.interface.specs.Mailboxes.{is_up, same_flow}
 use Rattle.interface.specs.declared.address.Flow.{Flow}
 use Rattle.interface.specs.declared.crossing.Crossing.{Crossing}
 use Rattle.interface.specs.declared.crossing.Crossing.TheVariants as crossing
@@ -73,7 +73,7 @@ module _ (strange : Host → Bool) (f : Flow) (source : strange f.source ≡ fal
         ≡ last_out f (c ∷ log)
     by None e rest = same_there c log (masked_log strange hosts log) (masked_length strange hosts log) rest
     by (Some g) e rest =
-        turned _ g (masked_log strange hosts log) ∙ rest ∙ sym (aside c g log e)
+        turned (is_up hosts g (masked_log strange hosts log)) g (masked_log strange hosts log) ∙ rest ∙ sym (aside c g log e)
 
 module _ (strange : Host → Bool) (hosts : List Host) (log : List Crossing) where
   pub same_request : (x : Life) → strange x.host ≡ false → strange x.peer ≡ false

@@ -1,19 +1,24 @@
 //! Networks with strangers. The functions here do nothing: each clause is a law.
 
-ghost use Rattle.std.specs.Prelude.{◌≡◌, true, false, [], ◌∷◌, length, replicate};
+ghost use Rattle.std.specs.Prelude.{◌≡◌, true, false, [], ◌∷◌, Some, length, replicate};
 ghost use Rattle.host_pairs.specs.declared.notice.Notice.TheVariants as notice;
 ghost use Rattle.promise.specs.Safe.{IsGranted};
-ghost use Rattle.sockets.specs.Worked.{second, third};
+ghost use Rattle.sockets.specs.Sending.{next_out};
+ghost use Rattle.sockets.specs.Worked.{STR, control, first, second, third};
+ghost use Rattle.sockets.specs.declared.request.Request.TheVariants as request;
+ghost use Rattle.interface.specs.declared.crossing.Crossing.TheVariants as crossing;
 ghost use Rattle.net_sim.specs.Book.{new_life};
+ghost use Rattle.net_sim.specs.Story.{Asked, Crossed, program};
 ghost use Rattle.net_sim.specs.Timeline.{crossings_of};
 ghost use Rattle.net_sim.specs.Told.{kept_in};
 ghost use Rattle.net_sim.specs.Worked.{eight};
+ghost use Rattle.net_sim.specs.WorkedResets.{rst};
 ghost use Rattle.masked_worlds.specs.Mixed.{AreMixed};
-ghost use Rattle.masked_worlds.specs.Worked.{is_third, three};
+ghost use Rattle.masked_worlds.specs.Worked.{is_third, listener_taken, three};
 ghost use Rattle.promise.specs.Formed.{IsFormed};
 ghost use Rattle.mixed_worlds.specs.Book.{beside_among, lives_among, mixed_kept};
 ghost use Rattle.mixed_worlds.specs.Laws.Among.{AmongFormed, AmongJoined, AmongLives, AmongPromise, AmongSafe};
-ghost use Rattle.mixed_worlds.specs.Laws.Among.{AmongSettled, AmongWhole};
+ghost use Rattle.mixed_worlds.specs.Laws.Among.{AmongSettled, AmongWhole, HaveSettled};
 ghost use Rattle.mixed_worlds.specs.Laws.Toward.{TowardAsked, TowardBounded, TowardEnds, TowardHanded, TowardLive};
 ghost use Rattle.mixed_worlds.specs.Laws.Toward.{TowardMessages, TowardOthers, TowardOwner, TowardReported};
 ghost use Rattle.mixed_worlds.specs.Laws.Toward.{TowardSender, TowardSockets, TowardTaken};
@@ -123,4 +128,15 @@ pub fn worked_toward()
     ensures arrived { ReportsData eight_taken (notice.Arrived 16 eight) }
     ensures others { ReportsData eight_taken (notice.Arrived 16 (replicate 7 true)) → ⊥ }
     ensures unsent { ReportsData eight_taken (notice.Sent 16 eight) → ⊥ }
+{}
+
+/// Where hosts with programs have nothing left to do: a stranger has taken a listening socket of the second host, which
+/// still has its STR to say to the stranger, and to no other.
+pub fn worked_settled()
+    ensures waits { next_out (program second listener_taken) ≡ Some (control second third (STR 33 16 8)) }
+    ensures settled { HaveSettled is_third three listener_taken }
+
+    // not while the first host has an RST to say to the second, nor until that is answered
+    ensures unsaid { HaveSettled is_third three (Asked first (request.Contact second) ∷ []) → ⊥ }
+    ensures unanswered { HaveSettled is_third three (Crossed (crossing.Out (rst first second)) ∷ Asked first (request.Contact second) ∷ []) → ⊥ }
 {}
