@@ -3,6 +3,7 @@ use Rattle.std.proofs.Common.{◌≡◌, ◌⊎◌, inl, inr, ℕ, suc, Bool, tr
 use Rattle.std.proofs.Common.{sym, subst, ◌∙◌, arith}
 use Rattle.std.specs.Prelude.{IsSome}
 use Rattle.std.specs.List.{Contains}
+use Rattle.std.proofs.lemmas.List.Elements.{Contains-append_left}
 use Rattle.interface.specs.Host.{Host}
 use Rattle.interface.specs.Messages.{SafeMessages}
 use Rattle.interface.specs.declared.crossing.Crossing.{Crossing}
@@ -26,12 +27,11 @@ at_front lives x = (0, omega arith, refl)
 
 one_of_two : (lives : List Life) (x y : Life) → AreTwo lives x y → Contains lives x
 one_of_two lives x y two = subst (λ (all : List Life). Contains all x) (sym two.3)
-    (after_all two.0 (x ∷ two.1 ++ y ∷ two.2) x (at_front (two.1 ++ y ∷ two.2) x))
+    (Contains-append_left (two.0 ++ x ∷ two.1) (y ∷ two.2) x (after_all two.0 (x ∷ two.1) x (at_front two.1 x)))
 
 other_of_two : (lives : List Life) (x y : Life) → AreTwo lives x y → Contains lives y
 other_of_two lives x y two = subst (λ (all : List Life). Contains all y) (sym two.3)
-    (after_all two.0 (x ∷ two.1 ++ y ∷ two.2) y
-    (after_all (x ∷ two.1) (y ∷ two.2) y (at_front two.2 y)))
+    (after_all (two.0 ++ x ∷ two.1) (y ∷ two.2) y (at_front two.2 y))
 
 pub beside_in : {A : Type 0} (x : Life) (a : A) (lives : List Life) (others : List A) → IsBeside x a lives others
     → Contains lives x
