@@ -1,11 +1,10 @@
 -- Both requests of a life of a host that runs the program crossed at its stamps, and what is reported of data has just
 -- crossed, whatever its peer sends.
-use Rattle.std.proofs.Common.{◌≡◌, ◌⊎◌, inl, inr, ℕ, ◌*◌, ◌<◌, ◌==◌, Bool, true, false, if◌then◌else◌, zero, suc, List}
-use Rattle.std.proofs.Common.{[], ◌∷◌, ◌++◌, map, take, drop, length, slice_index_or, find, Option, Some, None, is_some}
+use Rattle.std.proofs.Common.{◌≡◌, inl, inr, ℕ, ◌*◌, ◌<◌, Bool, true, false, if◌then◌else◌, zero, suc, List}
+use Rattle.std.proofs.Common.{[], ◌∷◌, ◌++◌, map, take, drop, length, slice_index_or, Some, None}
 use Rattle.std.proofs.Common.{refl, ap, sym, subst, ◌∙◌, arith}
 use Rattle.std.specs.List.{Contains}
 use Rattle.std.proofs.lemmas.Bool.{eqb-true}
-use Rattle.std.proofs.lemmas.List.{take-append-drop}
 use Rattle.std.proofs.Math.Seq.{drop-append_seam}
 use Rattle.interface.specs.Host.{Host, same_host}
 use Rattle.interface.specs.declared.address.Flow.{Flow}
@@ -15,14 +14,12 @@ use Rattle.interface.specs.declared.crossing.Crossing.TheVariants as crossing
 use Rattle.interface.specs.declared.crossing.Inbound.TheVariants as inbound
 use Rattle.interface.specs.declared.message.HostMessage.{HostMessage}
 use Rattle.interface.proofs.lemmas.{or_false, same_host-true}
-use Rattle.ncp_control.specs.DataHeader.{data_bits, header_bits, header_of}
+use Rattle.ncp_control.specs.DataHeader.{header_bits}
 use Rattle.ncp_control.specs.Numbers.{is_receive_socket, is_send_socket}
 use Rattle.ncp_control.specs.declared.command.Command.{Command}
 use Rattle.ncp_control.specs.declared.command.Command.TheVariants as command
-use Rattle.ncp_control.specs.declared.data_header.DataHeader.{DataHeader}
 use Rattle.host_pairs.specs.Control.{Legal, Order, orders_of}
-use Rattle.host_pairs.specs.Data.{data_of}
-use Rattle.host_pairs.specs.Entries.{has_cls, is_ending, is_open, receives_on}
+use Rattle.host_pairs.specs.Entries.{has_cls, is_ending}
 use Rattle.host_pairs.specs.Pair.{PairState}
 use Rattle.host_pairs.specs.Parcels as parcel
 use Rattle.host_pairs.specs.Parcels.{Parcel}
@@ -36,15 +33,13 @@ use Rattle.sockets.specs.Pairs.{NcpState, opening_state, pair_with}
 use Rattle.sockets.specs.Peers.{AreInOrder}
 use Rattle.sockets.specs.Requests.{served}
 use Rattle.sockets.specs.Sending.{message_for, next_in, offered}
-use Rattle.sockets.specs.declared.peer.Peer.{Peer}
-use Rattle.sockets.specs.declared.request.Request.{Request}
 use Rattle.sockets.proofs.lemmas.{answer_leaves, message_leaves, next_pair, offer_leaves}
 use Rattle.host_keeps_ranges.specs.Ranges.{IsReadBack}
 use Rattle.host_keeps_ranges.proofs.lemmas.{offer_read, pair_range}
 use Rattle.net_sim.specs.Story.{Asked, Crossed, Moment, places, program}
 use Rattle.net_sim.specs.Timeline.{crossings_of}
 use Rattle.net_sim.specs.Told.{host_in, notices_by}
-use Rattle.net_sim.proofs.lemmas.{places_same, program_own}
+use Rattle.net_sim.proofs.lemmas.{places_same}
 use Rattle.world_keeps_pairing.proofs.lemmas.{send_odd}
 use Rattle.world_keeps_lives.proofs.lemmas.{Begins, Done, Each, Ends, Goes, Hears, IsOther, MayTell, Quiet, Rules}
 use Rattle.world_keeps_lives.proofs.lemmas.{answer_keeps, each_weaker, message_keeps, offer_keeps, request_told}

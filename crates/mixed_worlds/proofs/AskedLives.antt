@@ -9,7 +9,7 @@ use Rattle.interface.specs.declared.crossing.Crossing.TheVariants as crossing
 use Rattle.host_pairs.specs.Control.{orders_of}
 use Rattle.host_pairs.specs.declared.notice.Notice.{Notice}
 use Rattle.host_pairs.specs.declared.notice.Notice.TheVariants as notice
-use Rattle.promise.specs.Formed.{HasCrossed, coming, going, own_named, partner_named, request}
+use Rattle.promise.specs.Formed.{own_named, partner_named}
 use Rattle.promise.specs.declared.life.Life.{Life}
 use Rattle.sockets.specs.declared.request.Request.{Request}
 use Rattle.sockets.specs.declared.request.Request.TheVariants as request

@@ -1,7 +1,7 @@
 -- What each life of a host that runs the program sent is a prefix of what was handed over in it, whatever its peer sends.
 use Rattle.std.proofs.Common.{◌≡◌, ◌⊎◌, inl, inr, ℕ, Bool, true, List, [], ◌∷◌, refl, ap, sym, subst, ◌∙◌}
 use Rattle.std.proofs.Common.{eq-eqb}
-use Rattle.interface.specs.Host.{Host, same_host}
+use Rattle.interface.specs.Host.{Host}
 use Rattle.interface.proofs.lemmas.{same_host-refl}
 use Rattle.promise.specs.Fates.{IsBeside}
 use Rattle.promise.specs.declared.life.Life.{Life}

@@ -8,15 +8,14 @@ use Rattle.interface.specs.Host.{Host}
 use Rattle.interface.specs.declared.crossing.Crossing.{Crossing}
 use Rattle.ncp_control.specs.Numbers.{is_receive_socket, is_send_socket}
 use Rattle.host_pairs.specs.declared.notice.Notice.{Notice}
-use Rattle.icp.specs.Sockets.{server_fault, user_fault}
 use Rattle.icp.specs.declared.fault.StartFault.{StartFault}
 use Rattle.icp.specs.declared.fault.StartFault.TheVariants as fault
 use Rattle.icp.specs.declared.outcome.Outcome.TheVariants as outcome
 use Rattle.host_services.specs.declared.report.Report.{Report}
 use Rattle.host_services.specs.declared.report.Report.TheVariants as report
 use Rattle.host_services.specs.declared.report.Reported.{Reported}
-use Rattle.promise.specs.Connections.{HasReported, IsConnected, IsEnd, JoinedBook}
-use Rattle.promise.specs.Safe.{Match, receives, sends}
+use Rattle.promise.specs.Connections.{HasReported, IsEnd, JoinedBook}
+use Rattle.promise.specs.Safe.{Match}
 use Rattle.promise.specs.declared.book.Told.{Told}
 use Rattle.promise.specs.declared.life.Life.{Life}
 use Rattle.net_sim.specs.Book.{Kept, all_told, book_told, crossed}
@@ -27,7 +26,6 @@ use Rattle.net_sim.specs.Told.{host_in, kept_by, kept_in, notices_by}
 use Rattle.world_keeps_connections.specs.Laws.Lives.{LivesMatches}
 use Rattle.world_keeps_connections.specs.Users.{AreOpposite}
 use Rattle.masked_worlds.specs.Mixed.{IsMixed, masked_moments}
-use Rattle.masked_worlds.specs.Strangers.{masked_log}
 use Rattle.masked_worlds.proofs.lemmas.{Orders, masked_crossings, masked_timeline, moments_run}
 use Rattle.mixed_worlds.specs.Book.{book_among, crossed_only, lives_among, mixed_kept}
 use Rattle.mixed_worlds.proofs.Books.{same_book}

@@ -9,12 +9,10 @@ use Rattle.promise.specs.Formed.{FormedBook, IsFormed}
 use Rattle.promise.specs.Safe.{SafeBook}
 use Rattle.promise.specs.declared.life.Fate.{Fate}
 use Rattle.promise.specs.declared.life.Life.{Life}
-use Rattle.net_sim.specs.Book.{Kept}
 use Rattle.net_sim.specs.Story.{Moment}
 use Rattle.net_sim.specs.Timeline.{crossings_of}
 use Rattle.net_sim.specs.Told.{kept_in}
 use Rattle.masked_worlds.specs.Mixed.{IsMixed, masked_moments}
-use Rattle.masked_worlds.specs.Strangers.{masked_log}
 use Rattle.masked_worlds.proofs.lemmas.{Orders, masked_crossings}
 use Rattle.mixed_worlds.specs.Book.{beside_among, lives_among, mixed_kept}
 use Rattle.mixed_worlds.proofs.Books.{SameBook, same_book}

@@ -1,5 +1,5 @@
 -- A book that is safe where its strangers are masked is safe over the real log, of lives between hosts with programs.
-use Rattle.std.proofs.Common.{◌≡◌, ◌⊎◌, inl, inr, ℕ, suc, Bool, true, false, List, [], ◌∷◌, ◌++◌, Option, Some, refl, ap}
+use Rattle.std.proofs.Common.{◌≡◌, inl, inr, suc, Bool, false, List, [], ◌∷◌, ◌++◌, refl}
 use Rattle.std.proofs.Common.{sym, subst, ◌∙◌, arith}
 use Rattle.std.specs.Prelude.{IsSome}
 use Rattle.std.specs.List.{Contains}
@@ -8,7 +8,7 @@ use Rattle.interface.specs.Host.{Host}
 use Rattle.interface.specs.Messages.{SafeMessages}
 use Rattle.interface.specs.declared.crossing.Crossing.{Crossing}
 use Rattle.promise.specs.Fates.{ClosesWhole, IsBeside}
-use Rattle.promise.specs.Safe.{AreTwo, Match, Name, SafeBook, Source, own_request, partner_request, receives}
+use Rattle.promise.specs.Safe.{AreTwo, Match, SafeBook, Source, partner_request}
 use Rattle.promise.specs.declared.life.Fate.{Fate}
 use Rattle.promise.specs.declared.life.Fate.TheVariants as fate
 use Rattle.promise.specs.declared.life.Life.{Life}

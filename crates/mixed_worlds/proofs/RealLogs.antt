@@ -7,7 +7,7 @@ use Rattle.interface.specs.declared.address.Flow.{Flow}
 use Rattle.interface.specs.declared.crossing.Crossing.{Crossing}
 use Rattle.interface.specs.declared.crossing.Crossing.TheVariants as crossing
 use Rattle.interface.proofs.lemmas.{same_flow-true}
-use Rattle.promise.specs.Safe.{Match, Name, before, control_flow, last_out, named, partner_request}
+use Rattle.promise.specs.Safe.{Match, before, control_flow, last_out, named, partner_request}
 use Rattle.promise.specs.declared.life.Life.{Life}
 use Rattle.masked_worlds.specs.Strangers.{masked_as, masked_log, strange_end, stranger_in, turn}
 

@@ -1,4 +1,4 @@
-use Rattle.std.proofs.Common.{◌≡◌, Bool, true, false, Some, None, refl, sym, subst, ◌∙◌}
+use Rattle.std.proofs.Common.{◌≡◌, Bool, true, false, None, refl, sym, subst, ◌∙◌}
 use Rattle.bit_messages.specs.Octets.{octets_of}
 use Rattle.interface.specs.Host.{Host, same_host}
 use Rattle.interface.specs.Mailboxes.{Empty, box_of, same_flow}
