@@ -329,7 +329,7 @@ module _ (orders : Orders) (strange : Host → Bool) (hosts : List Host) (a : Ho
 
 -- ---- all moments
 
-if_ends : (P : Entry → Type 0) (p : Host) (b : Bool) (t old : NcpState) → (b ≡ true → Ends P p t) → Ends P p old
+pub if_ends : (P : Entry → Type 0) (p : Host) (b : Bool) (t old : NcpState) → (b ≡ true → Ends P p t) → Ends P p old
     → Ends P p (if b then t else old)
 if_ends P p true t old now k = now refl
 if_ends P p false t old now k = k

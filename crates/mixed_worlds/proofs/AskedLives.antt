@@ -25,7 +25,7 @@ use Rattle.mixed_worlds.specs.Book.{crossed_only, mixed_kept}
 use Rattle.mixed_worlds.specs.Toward.{HasAsked, ReportsData}
 use Rattle.mixed_worlds.proofs.Asked.{Came, Tells, TellsOfOne, Went, came_still, told, went_still}
 
-in_each : {A : Type 0} (Q : A → Type 0) (all : List A) (x : A) → Contains all x → Each Q all → Q x
+pub in_each : {A : Type 0} (Q : A → Type 0) (all : List A) (x : A) → Contains all x → Each Q all → Q x
 in_each {A} Q all x there h = at all there.0 there.1 there.2 h where
   at : (xs : List A) (i : ℕ) → i < length xs → slice_index_or xs i x ≡ x → Each Q xs → Q x
   at [] i less is h = absurd (omega (arith, less))
@@ -86,11 +86,7 @@ module _ (strange : Host → Bool) where
         lives (λ y i. record { plain = i.plain; own = i.own; partner = i.partner }) all
     own_told h p x (notice.Returned socket messages bits) lives off tells all = own_where (lives_at h socket)
         (returned messages bits) lives (λ y i. record { plain = i.plain; own = i.own; partner = i.partner }) all
-    own_told h p x (notice.Ready peer) lives off tells all = all
-    own_told h p x (notice.ContactFailed peer) lives off tells all = all
-    own_told h p x (notice.Interrupt socket) lives off tells all = all
-    own_told h p x (notice.Echoed peer octet) lives off tells all = all
-    own_told h p x (notice.RemoteError peer code detail) lives off tells all = all
+    own_told h p x n lives off tells all = all
 
     own_all : (h p : Host) (x : Moment) (ns : List Notice) (κ : Kept) → strange h ≡ false → Each (Tells h p log x) ns
         → Each (IsOwn log) κ.book.lives → Each (IsOwn log) (all_told h ns κ).book.lives
@@ -101,24 +97,13 @@ module _ (strange : Host → Bool) where
     own_crossed : (c : Crossing) (lives : List Life) → Each (IsOwn log) lives → Each (IsOwn log) (lives_crossed c lives)
     own_crossed (crossing.Down h) lives all = own_where (lives_on h) life_ended lives
         (λ y i. record { plain = i.plain; own = i.own; partner = i.partner }) all
-    own_crossed (crossing.Out m) lives all = all
-    own_crossed (crossing.In m) lives all = all
-    own_crossed (crossing.Answer kind f) lives all = all
-    own_crossed (crossing.Up h) lives all = all
+    own_crossed c lives all = all
 
     own_asked : (h : Host) (r : Request) (lives : List Life) → Each (IsOwn log) lives
         → Each (IsOwn log) (lives_asked h r lives)
     own_asked h (request.Grant socket messages bits) lives all = own_where (lives_at h socket) (granted messages bits)
         lives (λ y i. record { plain = i.plain; own = i.own; partner = i.partner }) all
-    own_asked h (request.Contact peer) lives all = all
-    own_asked h (request.Listen socket size) lives all = all
-    own_asked h (request.OpenSend peer own foreign size) lives all = all
-    own_asked h (request.OpenReceive peer own foreign) lives all = all
-    own_asked h (request.Send socket bits) lives all = all
-    own_asked h (request.AskBack socket messages bits) lives all = all
-    own_asked h (request.Interrupt socket) lives all = all
-    own_asked h (request.Close socket) lives all = all
-    own_asked h (request.Echo peer octet) lives all = all
+    own_asked h r lives all = all
 
 -- what a life's requests name
 names_own : (x : Life) (log : List Crossing) → Went x.host x.peer log x.socket x.foreign x.own_stamp

@@ -15,3 +15,7 @@ pub mod Quiet
 pub mod Asked
 pub mod AskedLives
 pub mod Handed
+pub mod Bound
+pub mod Carried
+pub mod DataNotices
+pub mod CarriedLives

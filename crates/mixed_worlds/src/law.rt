@@ -19,8 +19,8 @@ ghost use Rattle.promise.specs.Formed.{IsFormed};
 ghost use Rattle.mixed_worlds.specs.Book.{beside_among, lives_among, mixed_kept};
 ghost use Rattle.mixed_worlds.specs.Laws.Among.{AmongFormed, AmongJoined, AmongLives, AmongPromise, AmongSafe};
 ghost use Rattle.mixed_worlds.specs.Laws.Among.{AmongSettled, AmongWhole, HaveSettled};
-ghost use Rattle.mixed_worlds.specs.Laws.Toward.{TowardAsked, TowardBounded, TowardEnds, TowardHanded, TowardLive};
-ghost use Rattle.mixed_worlds.specs.Laws.Toward.{TowardMessages, TowardOthers, TowardOwner, TowardReported};
+ghost use Rattle.mixed_worlds.specs.Laws.Toward.{TowardAsked, TowardBounded, TowardCarried, TowardEnds, TowardHanded};
+ghost use Rattle.mixed_worlds.specs.Laws.Toward.{TowardLive, TowardMessages, TowardOthers, TowardOwner, TowardReported};
 ghost use Rattle.mixed_worlds.specs.Laws.Toward.{TowardSender, TowardSockets, TowardTaken};
 ghost use Rattle.mixed_worlds.specs.Toward.{HasAsked, ReportsData};
 ghost use Rattle.mixed_worlds.specs.Worked.{eight_taken, granting_life, odd_life, odd_size, plain_life};
@@ -79,6 +79,9 @@ pub fn toward()
     // each life is of such a host, and both its requests crossed at its stamps
     ensures owner { TowardOwner }
     ensures asked { TowardAsked }
+
+    // and its bits are those of messages on one link, in their order
+    ensures carried { TowardCarried }
 
     // what a user hears of data has just crossed
     ensures reported { TowardReported }

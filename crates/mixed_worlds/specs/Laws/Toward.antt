@@ -20,7 +20,7 @@ use Rattle.masked_worlds.specs.Mixed.{IsMixed}
 use Rattle.world_keeps_lives.specs.Lives.{HasOpenEnd, IsBounded, IsFreeSocket, IsOwned}
 use Rattle.mixed_worlds.specs.Book.{mixed_kept}
 use Rattle.mixed_worlds.specs.Ends.{HasSome}
-use Rattle.mixed_worlds.specs.Toward.{HasAsked, ReportsData}
+use Rattle.mixed_worlds.specs.Toward.{HasAsked, IsCarried, ReportsData}
 
 -- one call: any message, in any order
 abbrev pub TowardEnds : Type 0
@@ -98,3 +98,9 @@ abbrev pub TowardMessages : Type 0
 TowardMessages =
     (strange : Host → Bool) (hosts : List Host) (moments : List Moment) → IsMixed strange hosts moments
     → SafeMessages (crossings_of moments)
+
+-- which messages the bits of a life are of
+abbrev pub TowardCarried : Type 0
+TowardCarried =
+    (strange : Host → Bool) (hosts : List Host) (moments : List Moment) → IsMixed strange hosts moments → (x : Life) →
+    Contains (mixed_kept strange moments).book.lives x → IsCarried (crossings_of moments) x

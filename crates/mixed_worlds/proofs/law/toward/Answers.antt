@@ -11,6 +11,7 @@ use Rattle.masked_worlds.proofs.lemmas.{Orders}
 use Rattle.world_keeps_lives.proofs.lemmas.{live_end, safe_life}
 use Rattle.mixed_worlds.specs.Book.{mixed_kept}
 use Rattle.mixed_worlds.proofs.AskedLives.{data_reported, has_asked, plain_owner}
+use Rattle.mixed_worlds.proofs.CarriedLives.{is_carried}
 use Rattle.mixed_worlds.proofs.Ends.{any_message}
 use Rattle.mixed_worlds.proofs.Handed.{safe_beside}
 use Rattle.mixed_worlds.proofs.RealBooks.{beside_in}
@@ -121,3 +122,13 @@ returns-clause-others c a h m moments apart = by (same_host a m.flow.destination
 
 pub returns-clause-messages : goal.returns-clause-messages
 returns-clause-messages c strange hosts moments mixed = safe_messages hosts (crossings_of moments) mixed.run
+
+pub returns-clause-carried : goal.returns-clause-carried
+returns-clause-carried c strange hosts moments mixed x there =
+    let orders : Orders = record {
+      request = c.orders.ensures.request;
+      message = c.orders.ensures.message;
+      answer = c.orders.ensures.answer;
+      offer = c.orders.ensures.offer;
+    } in
+    is_carried orders strange hosts moments mixed x there
