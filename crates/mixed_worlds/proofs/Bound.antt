@@ -1,10 +1,9 @@
 -- The end of a life keeps the link that it has, whatever its peer sends.
-use Rattle.std.proofs.Common.{◌≡◌, ℕ, ◌<◌, ◌==◌, Bool, true, false, if◌then◌else◌, List, ◌∷◌, take, Option, Some, None, refl, ap}
+use Rattle.std.proofs.Common.{◌≡◌, ℕ, ◌<◌, Bool, true, false, List, ◌∷◌, take, Option, Some, None, refl}
 use Rattle.std.proofs.Common.{sym, subst, ◌∙◌, arith}
 use Rattle.interface.specs.Host.{Host, same_host}
 use Rattle.interface.specs.declared.crossing.Crossing.TheVariants as crossing
 use Rattle.interface.specs.declared.crossing.Inbound.TheVariants as inbound
-use Rattle.interface.specs.declared.message.HostMessage.{HostMessage}
 use Rattle.interface.proofs.lemmas.{same_host-true}
 use Rattle.ncp_control.specs.declared.command.Command.{Command}
 use Rattle.host_pairs.specs.Control.{Order, orders_of}
@@ -21,7 +20,7 @@ use Rattle.sockets.specs.Sending.{offered}
 use Rattle.sockets.proofs.lemmas.{answer_leaves, message_leaves, offer_leaves}
 use Rattle.host_keeps_ranges.proofs.lemmas.{pair_range}
 use Rattle.net_sim.specs.Story.{Asked, Crossed, Moment, places, program}
-use Rattle.world_keeps_lives.proofs.lemmas.{Begins, Each, Ends, Goes, Hears, MayTell, Quiet, Rules, answer_keeps}
+use Rattle.world_keeps_lives.proofs.lemmas.{Each, Ends, Goes, Hears, MayTell, Quiet, Rules, answer_keeps}
 use Rattle.world_keeps_lives.proofs.lemmas.{message_keeps, offer_keeps}
 use Rattle.masked_worlds.specs.Mixed.{IsMixed}
 use Rattle.masked_worlds.proofs.lemmas.{Orders, Says, older, ordered}

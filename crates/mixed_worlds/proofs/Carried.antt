@@ -1,18 +1,15 @@
 -- The bits of each life are those of messages on one link, in their order, whatever its peer sends.
-use Rattle.std.proofs.Common.{◌≡◌, ◌⊎◌, inl, inr, ℕ, ◌+◌, ◌*◌, ◌<◌, ◌==◌, ◌&&◌, not, Bool, true, false, if◌then◌else◌}
-use Rattle.std.proofs.Common.{zero, suc, List, [], ◌∷◌, ◌++◌, filter, find, take, length, slice_index_or, Option, Some, None}
-use Rattle.std.proofs.Common.{refl, ap, sym, subst, ◌∙◌, arith, eq-eqb}
+use Rattle.std.proofs.Common.{◌≡◌, ◌⊎◌, inl, inr, ℕ, ◌<◌, ◌==◌, Bool, true, false, if◌then◌else◌}
+use Rattle.std.proofs.Common.{List, [], ◌∷◌, ◌++◌, filter, length, Option}
+use Rattle.std.proofs.Common.{refl, ap, sym, subst, ◌∙◌, arith}
 use Rattle.std.specs.List.{Contains}
 use Rattle.std.proofs.lemmas.Bool.{eqb-true}
 use Rattle.interface.specs.Host.{Host, same_host}
 use Rattle.interface.specs.declared.address.Flow.{Flow}
 use Rattle.interface.specs.declared.crossing.Crossing.{Crossing}
 use Rattle.interface.specs.declared.crossing.Crossing.TheVariants as crossing
-use Rattle.interface.specs.declared.message.HostMessage.{HostMessage}
 use Rattle.interface.proofs.lemmas.{same_host-true}
-use Rattle.ncp_control.specs.Numbers.{is_receive_socket}
-use Rattle.host_pairs.specs.Entries.{is_link, is_mine_on}
-use Rattle.host_pairs.specs.Pair.{PairState}
+use Rattle.host_pairs.specs.Entries.{is_mine_on}
 use Rattle.host_pairs.specs.Parcels.{link_of}
 use Rattle.host_pairs.specs.declared.entry.Entry.{Entry}
 use Rattle.host_pairs.specs.declared.notice.Notice.{Notice}
@@ -24,21 +21,13 @@ use Rattle.promise.specs.declared.life.Life.{Life}
 use Rattle.sockets.specs.Pairs.{NcpState, pair_with}
 use Rattle.sockets.specs.declared.request.Request.{Request}
 use Rattle.sockets.specs.declared.request.Request.TheVariants as request
-use Rattle.net_sim.specs.Book.{Kept, all_told, book_told, carried, changed_when, granted, life_ended, lives_asked, lives_at}
+use Rattle.net_sim.specs.Book.{Kept, all_told, book_told, changed_when, granted, life_ended, lives_asked, lives_at}
 use Rattle.net_sim.specs.Book.{lives_between, lives_crossed, lives_on, lives_told, lives_with, new_life, returned, where_it}
-use Rattle.net_sim.specs.Story.{Asked, Crossed, Moment, places, program}
-use Rattle.net_sim.specs.Timeline.{crossings_of}
-use Rattle.net_sim.specs.Told.{host_in, kept_by, notices_by}
-use Rattle.net_sim.proofs.lemmas.{places_same}
-use Rattle.world_keeps_lives.specs.Lives.{HasOpenEnd, mine_on}
-use Rattle.world_keeps_lives.proofs.lemmas.{Each, Ends, each_weaker, live_end}
-use Rattle.masked_worlds.specs.Mixed.{IsMixed}
-use Rattle.masked_worlds.proofs.lemmas.{Orders, older}
-use Rattle.mixed_worlds.specs.Book.{crossed_only, mixed_kept}
-use Rattle.mixed_worlds.specs.Toward.{AreOf, HasData, IsCarried}
-use Rattle.mixed_worlds.proofs.AskedLives.{IsOwn, all_own, in_each}
-use Rattle.mixed_worlds.proofs.Bound.{Bound, stays_bound}
-use Rattle.mixed_worlds.proofs.Sockets.{held}
+use Rattle.world_keeps_lives.specs.Lives.{HasOpenEnd}
+use Rattle.world_keeps_lives.proofs.lemmas.{Each}
+use Rattle.mixed_worlds.specs.Toward.{AreOf}
+use Rattle.mixed_worlds.proofs.AskedLives.{in_each}
+use Rattle.mixed_worlds.proofs.Bound.{Bound}
 
 -- ---- places
 

@@ -1,6 +1,6 @@
 -- The bits of each life of a network with strangers are those of messages on one link, in their order.
-use Rattle.std.proofs.Common.{◌≡◌, ◌⊎◌, inl, inr, ℕ, ◌+◌, ◌*◌, ◌<◌, ◌==◌, ◌&&◌, not, Bool, true, false, if◌then◌else◌}
-use Rattle.std.proofs.Common.{List, [], ◌∷◌, ◌++◌, drop, length, take, Option, Some, None, refl, ap, sym, subst, ◌∙◌, arith}
+use Rattle.std.proofs.Common.{◌≡◌, inl, inr, ℕ, ◌*◌, ◌<◌, ◌==◌, ◌&&◌, not, Bool, true, false, if◌then◌else◌}
+use Rattle.std.proofs.Common.{List, [], ◌∷◌, ◌++◌, drop, length, take, Option, Some, None, refl, ap, sym, subst, ◌∙◌}
 use Rattle.std.proofs.Common.{eq-eqb}
 use Rattle.std.specs.List.{Contains}
 use Rattle.std.proofs.lemmas.Bool.{eqb-true}
@@ -9,13 +9,11 @@ use Rattle.interface.specs.Host.{Host, same_host}
 use Rattle.interface.specs.declared.address.Flow.{Flow}
 use Rattle.interface.specs.declared.crossing.Crossing.{Crossing}
 use Rattle.interface.specs.declared.crossing.Crossing.TheVariants as crossing
-use Rattle.interface.specs.declared.crossing.Inbound.TheVariants as inbound
 use Rattle.interface.specs.declared.message.HostMessage.{HostMessage}
 use Rattle.interface.proofs.lemmas.{same_host-true}
 use Rattle.ncp_control.specs.DataHeader.{data_bits, header_bits}
 use Rattle.ncp_control.specs.Numbers.{is_receive_socket}
 use Rattle.host_pairs.specs.Allowed.{MayGo}
-use Rattle.host_pairs.specs.Control.{orders_of}
 use Rattle.host_pairs.specs.Data.{data_of}
 use Rattle.host_pairs.specs.Entries.{is_link, is_mine_on, is_open, is_receiving, receives_on}
 use Rattle.host_pairs.specs.Pair.{PairState}
@@ -31,18 +29,16 @@ use Rattle.host_keeps_streams.proofs.lemmas.{find_passes}
 use Rattle.promise.specs.Formed.{AreData, data_by, flow_of}
 use Rattle.promise.specs.Safe.{receives}
 use Rattle.promise.specs.declared.life.Life.{Life}
-use Rattle.sockets.specs.Accepting.{accepted}
-use Rattle.sockets.specs.Pairs.{NcpState, pair_with}
-use Rattle.sockets.specs.Sending.{message_for, next_in, offered}
-use Rattle.sockets.specs.declared.peer.Peer.{Peer}
+use Rattle.sockets.specs.Pairs.{pair_with}
+use Rattle.sockets.specs.Sending.{message_for, next_in}
 use Rattle.sockets.proofs.lemmas.{next_is, next_pair}
-use Rattle.net_sim.specs.Book.{Kept, all_told, carried, changed_when, lives_at, lives_crossed, where_it}
+use Rattle.net_sim.specs.Book.{all_told, carried, changed_when, lives_at, where_it}
 use Rattle.net_sim.specs.Story.{Asked, Crossed, Moment, places, program}
 use Rattle.net_sim.specs.Timeline.{crossings_of}
 use Rattle.net_sim.specs.Told.{host_in, kept_by, notices_by}
 use Rattle.net_sim.proofs.lemmas.{places_same}
 use Rattle.world_keeps_lives.specs.Lives.{HasOpenEnd}
-use Rattle.world_keeps_lives.proofs.lemmas.{Each, Ends, IsOther, MayTell, Rules, answer_keeps, each_of, each_weaker}
+use Rattle.world_keeps_lives.proofs.lemmas.{Each, IsOther, MayTell, Rules, answer_keeps, each_of, each_weaker}
 use Rattle.world_keeps_lives.proofs.lemmas.{found_in, live_end, message_keeps, offer_keeps, open_mine, request_told}
 use Rattle.masked_worlds.specs.Mixed.{IsMixed}
 use Rattle.masked_worlds.proofs.lemmas.{Orders, Says, older, ordered}
@@ -53,7 +49,7 @@ use Rattle.mixed_worlds.proofs.AskedLives.{IsOwn, all_own, in_each}
 use Rattle.mixed_worlds.proofs.Bound.{Bound, stays_bound}
 use Rattle.mixed_worlds.proofs.Carried.{Counted, IsCalm, IsNew, ItsEnd, Known, below_all, its_end, known_all}
 use Rattle.mixed_worlds.proofs.Carried.{known_asked, known_crossed, none_of, one_passes}
-use Rattle.mixed_worlds.proofs.DataNotices.{Takes, TakesIf, bytes_told, message_takes}
+use Rattle.mixed_worlds.proofs.DataNotices.{TakesIf, bytes_told, message_takes}
 use Rattle.mixed_worlds.proofs.Sockets.{fit, held}
 
 -- ---- moments that report no data
@@ -194,11 +190,25 @@ module _ (orders : Orders) (strange : Host → Bool) (hosts : List Host) where
     in_data m bits e to among opened takes link socket goes has =
         let i : ItsEnd x known.link m.flow.source e = end_of_life m.flow.source e among opened socket goes in
         subst
-        (λ (v : Bool). HasData v (if v then record { source = x.peer; destination = x.host; link = record { 0 =
-        link_of known.link } } else record { source = x.host; destination = x.peer; link = record { 0 = link_of
-        known.link } }) (crossing.In m) bits) (sym (ap is_receive_socket socket ∙ takes))
-        (flow_two m.flow x.peer x.host (link_of known.link) (sym i.peer) (sym to)
-        (ap link_of (sym link ∙ i.linked)), has)
+        (λ (v : Bool). HasData v (if v then record {
+          source = x.peer;
+          destination = x.host;
+          link = record {
+            0 =
+                link_of known.link;
+          };
+        } else record {
+          source = x.host;
+          destination = x.peer;
+          link = record {
+            0 = link_of
+                known.link;
+          };
+        }) (crossing.In m) bits) (sym (ap is_receive_socket socket ∙ takes)) (
+          flow_two m.flow x.peer x.host (link_of known.link) (sym i.peer) (sym to)
+              (ap link_of (sym link ∙ i.linked)),
+          has,
+        )
 
     out_data : (m : HostMessage) (bits : List Bool) (e : Entry) → m.flow.source ≡ x.host
         → Contains (pair_with m.flow.destination (program x.host moments).peers).entries e → is_open e ≡ true
@@ -207,11 +217,25 @@ module _ (orders : Orders) (strange : Host → Bool) (hosts : List Host) where
     out_data m bits e from among opened sends link socket goes has =
         let i : ItsEnd x known.link m.flow.destination e = end_of_life m.flow.destination e among opened socket goes in
         subst
-        (λ (v : Bool). HasData v (if v then record { source = x.peer; destination = x.host; link = record { 0 =
-        link_of known.link } } else record { source = x.host; destination = x.peer; link = record { 0 = link_of
-        known.link } }) (crossing.Out m) bits) (sym (ap is_receive_socket socket ∙ sends))
-        (flow_two m.flow x.host x.peer (link_of known.link) (sym from) (sym i.peer)
-        (sym link ∙ ap link_of i.linked), has)
+        (λ (v : Bool). HasData v (if v then record {
+          source = x.peer;
+          destination = x.host;
+          link = record {
+            0 =
+                link_of known.link;
+          };
+        } else record {
+          source = x.host;
+          destination = x.peer;
+          link = record {
+            0 = link_of
+                known.link;
+          };
+        }) (crossing.Out m) bits) (sym (ap is_receive_socket socket ∙ sends)) (
+          flow_two m.flow x.host x.peer (link_of known.link) (sym from) (sym i.peer)
+              (sym link ∙ ap link_of i.linked),
+          has,
+        )
 
   -- ---- all lives, after one moment more
 
@@ -324,8 +348,7 @@ module _ (orders : Orders) (strange : Host → Bool) (hosts : List Host) where
       by true here =
           calm_moment (Crossed (crossing.In m)) m.flow.destination (notices_by (Crossed (crossing.In m)) moments) mixed
           (message_keeps Any IsCalm m.flow.source (calm_rules m.flow.source) (program m.flow.destination moments) m
-          (places moments) refl
-          (
+          (places moments) refl (
             λ zero. record {
               begins = record { fresh = λ e i asked partner. tt; refused = λ o f s. tt };
               rts = λ o f l e there even odd is at i. tt;

@@ -1,7 +1,7 @@
 -- What is reported of data that come in, and that go out.
 use Rattle.std.proofs.Common.{◌≡◌, ◌⊎◌, inl, inr, ℕ, ◌*◌, ◌==◌, Bool, true, false, if◌then◌else◌, List, [], ◌∷◌, ◌++◌}
 use Rattle.std.proofs.Common.{find, take, Option, Some, None, refl, ap, sym, subst, ◌∙◌}
-use Rattle.interface.specs.Host.{Host, same_host}
+use Rattle.interface.specs.Host.{same_host}
 use Rattle.interface.specs.declared.crossing.Inbound.TheVariants as inbound
 use Rattle.interface.specs.declared.message.HostMessage.{HostMessage}
 use Rattle.ncp_control.specs.DataHeader.{data_bits, header_of}

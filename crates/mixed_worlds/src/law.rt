@@ -4,7 +4,7 @@ ghost use Rattle.std.specs.Prelude.{◌≡◌, true, false, [], ◌∷◌, Some,
 ghost use Rattle.host_pairs.specs.declared.notice.Notice.TheVariants as notice;
 ghost use Rattle.promise.specs.Safe.{IsGranted};
 ghost use Rattle.sockets.specs.Sending.{next_out};
-ghost use Rattle.sockets.specs.Worked.{STR, control, first, second, third};
+ghost use Rattle.sockets.specs.Worked.{STR, control, first, on_link, second, third};
 ghost use Rattle.sockets.specs.declared.request.Request.TheVariants as request;
 ghost use Rattle.interface.specs.declared.crossing.Crossing.TheVariants as crossing;
 ghost use Rattle.net_sim.specs.Book.{new_life};
@@ -22,8 +22,8 @@ ghost use Rattle.mixed_worlds.specs.Laws.Among.{AmongSettled, AmongWhole, HaveSe
 ghost use Rattle.mixed_worlds.specs.Laws.Toward.{TowardAsked, TowardBounded, TowardCarried, TowardEnds, TowardHanded};
 ghost use Rattle.mixed_worlds.specs.Laws.Toward.{TowardLive, TowardMessages, TowardOthers, TowardOwner, TowardReported};
 ghost use Rattle.mixed_worlds.specs.Laws.Toward.{TowardSender, TowardSockets, TowardTaken};
-ghost use Rattle.mixed_worlds.specs.Toward.{HasAsked, ReportsData};
-ghost use Rattle.mixed_worlds.specs.Worked.{eight_taken, granting_life, odd_life, odd_size, plain_life};
+ghost use Rattle.mixed_worlds.specs.Toward.{AreOf, HasAsked, IsCarried, ReportsData};
+ghost use Rattle.mixed_worlds.specs.Worked.{eight_bits, eight_taken, granting_life, odd_life, odd_size, plain_life};
 ghost use Rattle.mixed_worlds.specs.Worked.{stranger_contacted, stranger_granted, stranger_opened};
 
 use masked_worlds::law::{masked, masked_logs};
@@ -125,6 +125,12 @@ pub fn worked_toward()
     // its requests crossed at its stamps, and at no other two
     ensures asked { HasAsked (crossings_of odd_size) odd_life }
     ensures turned { HasAsked (crossings_of odd_size) (new_life second 16 third 33 7 8) → ⊥ }
+
+    // its bits are those of one message on link 2. What comes in there before its requests isn't counted, nor may a
+    // message be counted that didn't come
+    ensures carried { IsCarried (crossings_of odd_size) odd_life }
+    ensures early { AreOf true (on_link third second 2) 8 7 (crossing.In eight_bits ∷ []) 1 eight → ⊥ }
+    ensures uncounted { AreOf true (on_link third second 2) 0 0 [] 1 eight → ⊥ }
 
     // where the second message is taken its eight bits may be reported as arrived, not the seven of the first one, and
     // nothing as sent
