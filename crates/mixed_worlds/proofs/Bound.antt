@@ -1,16 +1,38 @@
 -- The end of a life keeps the link that it has, whatever its peer sends.
-use Rattle.mixed_worlds.proofs.Common.{◌≡◌, ℕ, ◌<◌, Bool, true, false, List, ◌∷◌, take, Option, Some, None, refl, sym, subst, ◌∙◌, arith, Host, same_host, same_host-true, Command, Order, orders_of, PairState, Parcel, Entry, Notice, Life, accepted, opening_state, pair_with, served, offered, answer_leaves, message_leaves, offer_leaves, pair_range, Asked, Crossed, Moment, places, program, Each, Ends, Goes, Hears, MayTell, Quiet, Rules, message_keeps, offer_keeps, IsMixed, Orders, Says, older, ordered}
+use Rattle.std.proofs.Common.{◌≡◌, ℕ, ◌<◌, Bool, true, false, List, ◌∷◌, take, Option, Some, None, refl}
+use Rattle.std.proofs.Common.{sym, subst, ◌∙◌, arith}
+use Rattle.interface.specs.Host.{Host, same_host}
 use Rattle.interface.specs.declared.crossing.Crossing.TheVariants as crossing
 use Rattle.interface.specs.declared.crossing.Inbound.TheVariants as inbound
+use Rattle.interface.proofs.lemmas.{same_host-true}
+use Rattle.ncp_control.specs.declared.command.Command.{Command}
+use Rattle.host_pairs.specs.Control.{Order, orders_of}
+use Rattle.host_pairs.specs.Pair.{PairState}
 use Rattle.host_pairs.specs.Parcels as parcel
-use Rattle.world_keeps_lives.proofs.lemmas.{answer_keeps}
+use Rattle.host_pairs.specs.Parcels.{Parcel}
+use Rattle.host_pairs.specs.declared.entry.Entry.{Entry}
+use Rattle.host_pairs.specs.declared.notice.Notice.{Notice}
+use Rattle.promise.specs.declared.life.Life.{Life}
+use Rattle.sockets.specs.Accepting.{accepted}
+use Rattle.sockets.specs.Pairs.{opening_state, pair_with}
+use Rattle.sockets.specs.Requests.{served}
+use Rattle.sockets.specs.Sending.{offered}
+use Rattle.sockets.proofs.lemmas.{answer_leaves, message_leaves, offer_leaves}
+use Rattle.host_keeps_ranges.proofs.lemmas.{pair_range}
+use Rattle.net_sim.specs.Story.{Asked, Crossed, Moment, places, program}
+use Rattle.world_keeps_lives.proofs.lemmas.{Each, Ends, Goes, Hears, MayTell, Quiet, Rules, answer_keeps}
+use Rattle.world_keeps_lives.proofs.lemmas.{message_keeps, offer_keeps}
+use Rattle.masked_worlds.specs.Mixed.{IsMixed}
+use Rattle.masked_worlds.proofs.lemmas.{Orders, Says, older, ordered}
 use Rattle.mixed_worlds.proofs.Asked.{if_ends, own_out}
 use Rattle.mixed_worlds.proofs.Quiet.{request_quiet}
 use Rattle.mixed_worlds.proofs.Sockets.{fit}
 
 -- whatever end has the socket and the stamps of a life has this link
 abbrev pub Bound : Life → Option ℕ → Entry → Type 0
-Bound x link e = e.mine ≡ true → e.own ≡ x.socket → e.asked ≡ Some x.own_stamp → e.partner ≡ Some x.partner_stamp → e.link ≡ link
+Bound x link e =
+    e.mine ≡ true → e.own ≡ x.socket → e.asked ≡ Some x.own_stamp → e.partner ≡ Some x.partner_stamp
+    → e.link ≡ link
 
 abbrev Free : Notice → Type 0
 Free n = Unit {0}
@@ -105,7 +127,8 @@ module _ (orders : Orders) (strange : Host → Bool) (hosts : List Host) (a : Ho
           out = own_out orders strange hosts a off m moments mixed (same_host-true a m.flow.source e)
 
           may : (z : Parcel)
-              → MayTell (Bound x link) Free p (rules x link p) (places moments) z (pair_with p (program a moments).peers)
+              → MayTell (Bound x link) Free p (rules x link p) (places moments) z
+              (pair_with p (program a moments).peers)
           may parcel.Reset = tt
           may parcel.Reply = tt
           may (parcel.Commands count) = goes x link (places moments) own partner
@@ -118,7 +141,8 @@ module _ (orders : Orders) (strange : Host → Bool) (hosts : List Host) (a : Ho
               (offer_keeps (Bound x link) Free p (rules x link p) (program a moments) (places moments) out.peer
               out.parcel (ordered orders strange hosts a moments off below) out.next
               (sym (same_host-true p out.peer.host g))
-              (pair_range p (program a moments).peers (fit orders strange hosts a off moments below).ranged.pairs).commands
+              (pair_range p (program a moments).peers
+              (fit orders strange hosts a off moments below).ranged.pairs).commands
               (may out.parcel) old).ends
           at false g =
               subst (λ (q : PairState). Each (Bound x link) q.entries)

@@ -1,4 +1,3 @@
-pub mod Common
 pub mod Promised
 pub mod Ends
 pub mod Sockets

@@ -1,6 +1,20 @@
 -- The real book among hosts with programs is safe, since that of the masked moments is.
-use Rattle.mixed_worlds.proofs.Common.{◌≡◌, Bool, false, List, sym, subst, Contains, Host, Crossing, safe_messages, ClosesWhole, IsFormed, SafeBook, Fate, Life, Moment, crossings_of, kept_in, IsMixed, masked_moments, Orders, masked_crossings, beside_among, lives_among, mixed_kept}
-use Rattle.promise.specs.Formed.{FormedBook}
+use Rattle.std.proofs.Common.{◌≡◌, Bool, false, List, sym, subst}
+use Rattle.std.specs.List.{Contains}
+use Rattle.interface.specs.Host.{Host}
+use Rattle.interface.specs.declared.crossing.Crossing.{Crossing}
+use Rattle.interface.proofs.lemmas.{safe_messages}
+use Rattle.promise.specs.Fates.{ClosesWhole}
+use Rattle.promise.specs.Formed.{FormedBook, IsFormed}
+use Rattle.promise.specs.Safe.{SafeBook}
+use Rattle.promise.specs.declared.life.Fate.{Fate}
+use Rattle.promise.specs.declared.life.Life.{Life}
+use Rattle.net_sim.specs.Story.{Moment}
+use Rattle.net_sim.specs.Timeline.{crossings_of}
+use Rattle.net_sim.specs.Told.{kept_in}
+use Rattle.masked_worlds.specs.Mixed.{IsMixed, masked_moments}
+use Rattle.masked_worlds.proofs.lemmas.{Orders, masked_crossings}
+use Rattle.mixed_worlds.specs.Book.{beside_among, lives_among, mixed_kept}
 use Rattle.mixed_worlds.proofs.Books.{SameBook, same_book}
 use Rattle.mixed_worlds.proofs.RealBooks.{real_safe, real_whole}
 use Rattle.mixed_worlds.proofs.RealFormed.{real_formed}
@@ -25,7 +39,8 @@ module _ (orders : Orders) (strange : Host → Bool) (hosts : List Host) (moment
       (formed x (subst (λ (lives : List Life). Contains lives x) same.lives there)))
 
   pub safe_among : SafeBook (crossings_of (masked_moments strange hosts moments))
-      (kept_in (masked_moments strange hosts moments)).book.lives (kept_in (masked_moments strange hosts moments)).handed
+      (kept_in (masked_moments strange hosts moments)).book.lives
+      (kept_in (masked_moments strange hosts moments)).handed
       →
       SafeBook (crossings_of moments) (lives_among strange (mixed_kept strange moments).book.lives)
       (beside_among strange (mixed_kept strange moments).book.lives (mixed_kept strange moments).handed)
@@ -46,14 +61,16 @@ module _ (orders : Orders) (strange : Host → Bool) (hosts : List Host) (moment
       (kept_in (masked_moments strange hosts moments)).book.lives handed) (sym same.handed) safe)))
 
   pub whole_among : ClosesWhole (crossings_of (masked_moments strange hosts moments))
-      (kept_in (masked_moments strange hosts moments)).book.lives (kept_in (masked_moments strange hosts moments)).handed
+      (kept_in (masked_moments strange hosts moments)).book.lives
+      (kept_in (masked_moments strange hosts moments)).handed
       (kept_in (masked_moments strange hosts moments)).fates
       →
       ClosesWhole (crossings_of moments) (lives_among strange (mixed_kept strange moments).book.lives)
       (beside_among strange (mixed_kept strange moments).book.lives (mixed_kept strange moments).handed)
       (beside_among strange (mixed_kept strange moments).book.lives (mixed_kept strange moments).fates)
   whole_among whole =
-      real_whole strange hosts (crossings_of moments) (lives_among strange (mixed_kept strange moments).book.lives) plain
+      real_whole strange hosts (crossings_of moments) (lives_among strange (mixed_kept strange moments).book.lives)
+      plain
       (beside_among strange (mixed_kept strange moments).book.lives (mixed_kept strange moments).handed)
       (beside_among strange (mixed_kept strange moments).book.lives (mixed_kept strange moments).fates)
       (subst

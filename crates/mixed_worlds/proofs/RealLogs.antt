@@ -1,9 +1,15 @@
 -- Requests and lives of hosts with programs match in a log as they do where its strangers are masked.
-use Rattle.mixed_worlds.proofs.Common.{◌≡◌, ℕ, zero, suc, Bool, true, false, if◌then◌else◌, List, [], ◌∷◌, drop, length, Option, Some, None, refl, ap, sym, ◌∙◌, Host, is_up, same_flow, Flow, Crossing, Match, control_flow, partner_request, Life, masked_as, masked_log, strange_end, stranger_in, turn}
-use Rattle.std.proofs.Common.{◌-◌}
+use Rattle.std.proofs.Common.{◌≡◌, ℕ, ◌-◌, zero, suc, Bool, true, false, if◌then◌else◌, List, [], ◌∷◌, drop, length}
+use Rattle.std.proofs.Common.{Option, Some, None, refl, ap, sym, ◌∙◌}
+use Rattle.interface.specs.Host.{Host}
+use Rattle.interface.specs.Mailboxes.{is_up, same_flow}
+use Rattle.interface.specs.declared.address.Flow.{Flow}
+use Rattle.interface.specs.declared.crossing.Crossing.{Crossing}
 use Rattle.interface.specs.declared.crossing.Crossing.TheVariants as crossing
 use Rattle.interface.proofs.lemmas.{same_flow-true}
-use Rattle.promise.specs.Safe.{before, last_out, named}
+use Rattle.promise.specs.Safe.{Match, before, control_flow, last_out, named, partner_request}
+use Rattle.promise.specs.declared.life.Life.{Life}
+use Rattle.masked_worlds.specs.Strangers.{masked_as, masked_log, strange_end, stranger_in, turn}
 
 pub masked_length : (strange : Host → Bool) (hosts : List Host) (log : List Crossing)
     → length (masked_log strange hosts log) ≡ length log
@@ -59,7 +65,8 @@ module _ (strange : Host → Bool) (f : Flow) (source : strange f.source ≡ fal
   same_there (crossing.Up h) log masked long same = same
 
   -- the last message of a flow between hosts with programs went out where it did
-  pub masked_last : (hosts : List Host) (log : List Crossing) → last_out f (masked_log strange hosts log) ≡ last_out f log
+  pub masked_last : (hosts : List Host) (log : List Crossing)
+      → last_out f (masked_log strange hosts log) ≡ last_out f log
   masked_last hosts [] = refl
   masked_last hosts (c ∷ log) = by (stranger_in strange c) refl (masked_last hosts log) where
     by : (o : Option Host) → stranger_in strange c ≡ o → last_out f (masked_log strange hosts log) ≡ last_out f log
@@ -67,7 +74,8 @@ module _ (strange : Host → Bool) (f : Flow) (source : strange f.source ≡ fal
         ≡ last_out f (c ∷ log)
     by None e rest = same_there c log (masked_log strange hosts log) (masked_length strange hosts log) rest
     by (Some g) e rest =
-        turned (is_up hosts g (masked_log strange hosts log)) g (masked_log strange hosts log) ∙ rest ∙ sym (aside c g log e)
+        turned (is_up hosts g (masked_log strange hosts log)) g (masked_log strange hosts log) ∙ rest
+        ∙ sym (aside c g log e)
 
 module _ (strange : Host → Bool) (hosts : List Host) (log : List Crossing) where
   pub same_request : (x : Life) → strange x.host ≡ false → strange x.peer ≡ false

@@ -22,8 +22,8 @@ HasData true f (crossing.In m) bits = (m.flow ≡ f) × AreData true m.text bits
 HasData false f (crossing.Out m) bits = (m.flow ≡ f) × AreData false m.text bits
 HasData comes f c bits = ⊥
 
--- these bits are the data of so many messages of a flow that crossed after two places, in their order. Others may have
--- crossed there between them
+-- these bits are the data of this many messages of a flow that crossed after two places, in their order. Others may
+-- have crossed there between them
 abbrev pub AreOf : Bool → Flow → ℕ → ℕ → List Crossing → ℕ → List Bool → Type 0
 AreOf comes f a b [] count bits = (count ≡ 0) × (bits ≡ [])
 AreOf comes f a b (c ∷ log) count bits =
@@ -31,8 +31,8 @@ AreOf comes f a b (c ∷ log) count bits =
     ((fewer : ℕ) × (front : List Bool) × (last : List Bool) × (count ≡ fewer + 1) × (bits ≡ front ++ last)
     × HasData comes f c last × (a < length log) × (b < length log) × AreOf comes f a b log fewer front)
 
--- the bits of a life are those of as many messages as it counts, on one link, after both its requests: they came in from
--- its peer, or went out to it
+-- the bits of a life are those of as many messages as it counts, on one link, after both its requests: they came in
+-- from its peer, or went out to it
 pub record IsCarried (log : List Crossing) (x : Life) : Type 0 where
   pub link : ℕ
   pub messages : AreOf (receives x) (flow_of x link) x.own_stamp x.partner_stamp log x.messages x.bits

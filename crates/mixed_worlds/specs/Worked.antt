@@ -21,6 +21,10 @@ abbrev pub stranger_contacted : List Moment
 stranger_contacted = Crossed (crossing.In (rst second third)) ∷ Crossed (crossing.Out (rst second third)) ∷ Asked
     second (request.Contact third) ∷ []
 
+-- the first host contacts the second
+abbrev pub contacts : List Moment
+contacts = Asked first (request.Contact second) ∷ []
+
 -- the stranger sends to a socket that listens at the second host, with bytes of eight bits, and the second grants two
 -- messages and 16 bits
 abbrev pub stranger_granted : List Moment

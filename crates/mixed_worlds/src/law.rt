@@ -5,10 +5,9 @@ ghost use Rattle.host_pairs.specs.declared.notice.Notice.TheVariants as notice;
 ghost use Rattle.promise.specs.Safe.{IsGranted};
 ghost use Rattle.sockets.specs.Sending.{next_out};
 ghost use Rattle.sockets.specs.Worked.{STR, control, first, on_link, second, third};
-ghost use Rattle.sockets.specs.declared.request.Request.TheVariants as request;
 ghost use Rattle.interface.specs.declared.crossing.Crossing.TheVariants as crossing;
 ghost use Rattle.net_sim.specs.Book.{new_life};
-ghost use Rattle.net_sim.specs.Story.{Asked, Crossed, program};
+ghost use Rattle.net_sim.specs.Story.{Crossed, program};
 ghost use Rattle.net_sim.specs.Timeline.{crossings_of};
 ghost use Rattle.net_sim.specs.Told.{kept_in};
 ghost use Rattle.net_sim.specs.Worked.{eight};
@@ -23,7 +22,8 @@ ghost use Rattle.mixed_worlds.specs.Laws.Toward.{TowardAsked, TowardBounded, Tow
 ghost use Rattle.mixed_worlds.specs.Laws.Toward.{TowardLive, TowardMessages, TowardOthers, TowardOwner, TowardReported};
 ghost use Rattle.mixed_worlds.specs.Laws.Toward.{TowardSender, TowardSockets, TowardTaken};
 ghost use Rattle.mixed_worlds.specs.Toward.{AreOf, HasAsked, IsCarried, ReportsData};
-ghost use Rattle.mixed_worlds.specs.Worked.{eight_bits, eight_taken, granting_life, odd_life, odd_size, plain_life};
+ghost use Rattle.mixed_worlds.specs.Worked.{contacts, eight_bits, eight_taken, granting_life, odd_life, odd_size};
+ghost use Rattle.mixed_worlds.specs.Worked.{plain_life};
 ghost use Rattle.mixed_worlds.specs.Worked.{stranger_contacted, stranger_granted, stranger_opened};
 
 use masked_worlds::law::{masked, masked_logs};
@@ -146,6 +146,6 @@ pub fn worked_settled()
     ensures settled { HaveSettled is_third three listener_taken }
 
     // not while the first host has an RST to say to the second, nor until that is answered
-    ensures unsaid { HaveSettled is_third three (Asked first (request.Contact second) ∷ []) → ⊥ }
-    ensures unanswered { HaveSettled is_third three (Crossed (crossing.Out (rst first second)) ∷ Asked first (request.Contact second) ∷ []) → ⊥ }
+    ensures unsaid { HaveSettled is_third three contacts → ⊥ }
+    ensures unanswered { HaveSettled is_third three (Crossed (crossing.Out (rst first second)) ∷ contacts) → ⊥ }
 {}

@@ -138,6 +138,6 @@ def check(runs: int) -> int:
     print(f"check worlds: {len(LEAKS)} programs that mix up their peers, each found, and one that does no harm")
     for kind, count in sorted(came_to.items()):
         print(f"check worlds: {kind}: {count}")
-    print(f"check worlds: {len(CLAUSES)} clauses toward strangers, kept by all; each of {len(STRONGER)} others is broken")
+    print(f"check worlds: {len(CLAUSES)} clauses toward strangers, all kept; {len(STRONGER)} others, each broken")
     print(f"check worlds: {runs} mixed runs, and hosts with programs keep the promise among each other")
     return 0

@@ -37,7 +37,7 @@ class Clause(NamedTuple):
 
 
 def both_crossed(log: Log, life: Life) -> bool:
-    """Whether both requests of a life crossed at its stamps, for its sockets, the one with a link and the other with a size."""
+    """Whether both requests of a life crossed at its stamps, for its sockets, one with a link and one with a size."""
     return bool(FIRSTS.links(log, life))
 
 
@@ -49,7 +49,7 @@ def are_once(world: MixedWorld) -> bool:
 
 
 def is_carried(log: Log, life: Life) -> bool:
-    """Whether the bits of a life are those of as many messages as it counts, in their order, on a link that its RTS names."""
+    """Whether a life's bits are those of as many messages as it counts, in order, on a link that its RTS names."""
     for link in FIRSTS.links(log, life):
         states = {(0, 0)}  # of the messages so far: how many may be the life's, and with how many bits
         for _, bits in FIRSTS.messages_on(log, life, on_link(life, link)):
@@ -61,7 +61,7 @@ def is_carried(log: Log, life: Life) -> bool:
 
 
 def is_allowed(log: Log, life: Life) -> bool:
-    """Whether what a sending life sent is within what its peer's ALLs name that came in on its link since its first request."""
+    """Whether what a sending life sent is within what the ALLs on its link name, since the first of its requests."""
     for link in FIRSTS.links(log, life):
         messages, bits = 0, 0
         for crossing in log[min(life.own, life.partner) + 1 :]:
@@ -122,7 +122,7 @@ def is_of(world: MixedWorld, host: HostName, socket: int, place: int, crossing: 
 
 
 def are_told(world: MixedWorld) -> bool:
-    """Whether each message of data that a program sends is reported once, each other report of data is of one taken, and all have its bits."""
+    """Whether each message of data that a program sends is reported, once, and each other report is of one taken."""
     log = world.carrier.log
     told = [(*it, it[1][0] == "arrived") for it in heard_of(world) if it[1][0] in ("sent", "arrived")]
     for host, words, place, crossing, comes in told:
@@ -143,10 +143,10 @@ def are_told(world: MixedWorld) -> bool:
 
 
 class Watching(MixedWorld):
-    """A mixed world that finds a taken message by which its host's program changes what it has with others than the sender."""
+    """A mixed world that finds a taken message which changes what its host's program has with others."""
 
     spread: str | None = None
-    taken: tuple[HostName, HostName, dict[HostName, object]] | None = None  # who takes of whom, and what its program had
+    taken: tuple[HostName, HostName, dict[HostName, object]] | None = None  # who takes, of whom, and what it had
 
     def carry(self, call: Callable[[], T]) -> T:
         given = super().carry(call)
