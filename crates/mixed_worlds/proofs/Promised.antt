@@ -15,7 +15,8 @@ use Rattle.world_keeps_streams.specs.Arrivals.{AllCome}
 use Rattle.world_keeps_streams.specs.Came.{AllCame}
 use Rattle.world_keeps_streams.specs.Closes.{EachHanded}
 use Rattle.world_keeps_streams.specs.Rests.{AllCalm}
-use Rattle.world_keeps_streams.specs.Laws.Lives.{LivesAgree, LivesAnswered, LivesArrives, LivesCloses, LivesFirsts, LivesFormed}
+use Rattle.world_keeps_streams.specs.Laws.Lives.{LivesAgree, LivesAnswered, LivesArrives, LivesCloses, LivesFirsts}
+use Rattle.world_keeps_streams.specs.Laws.Lives.{LivesFormed}
 use Rattle.world_keeps_streams.specs.Laws.Lives.{LivesRests, LivesSent, LivesSource, LivesWhole}
 use Rattle.mixed_worlds.specs.Promised.{Promises}
 
