@@ -40,7 +40,7 @@ export const ANSWERS = TABLE.answers;
 const PACKETS = /** @type {{[kind: string]: string}} */ (TABLE.packets);
 
 /** How much each copy of a message matters, by its kind and its place. */
-const FURTHEST = /** @type {{[name: string]: number}} */ (TABLE.furthest);
+const FURTHEST = /** @type {{[name: string]: number}} */ (Object.fromEntries(TABLE.furthest));
 
 /** How many messages an IMP reassembles at a time, and how many packets it stores. */
 const [SLOTS, PLACES] = [8, 32];

@@ -29,7 +29,7 @@ from dorydate.sentences.table import TABLE, filled, sentences
 
 RULES: list[list[str]] = TABLE["rules of waits"]  # of each thing that waits: facts, and what is said where they hold
 WHAT, AT, FOR, PACKETS, ANSWERS = (sentences(it) for it in ("waits", "waits at", "waits for", "packets", "answers"))
-FURTHEST: dict[str, float] = TABLE["furthest"]  # how much each copy of a message matters
+FURTHEST: dict[str, float] = dict(TABLE["furthest"])  # how much each copy of a message matters
 KINDS = {DATA: "data", RFNM: "rfnm", DEAD: "dead", ASK: "ask", NEVER: "never"}
 PLACES = {"queue": "whole", "slot": "slot", "store": "store", "channel": "channel", "frame": "frame"}
 LOOKED = 4  # rounds after which a network that printed nothing is said to be at rest

@@ -146,18 +146,18 @@ export const TABLE = {
 ["bits", "", "bits", "program", "grant", "bad", "grant {other} {foreign} 1 {bits}"],
 ["unseen", "", "unseen", "", "ends", "bad", "{ends}"]
 ],
-"furthest": {
-"rfnm": 4000,
-"dead": 4000,
-"never": 4000,
-"data": 3000,
-"ask": 2000,
-"whole": 100,
-"slot": 90,
-"frame": 0.2,
-"channel": 0.1,
-"store": 0
-},
+"furthest": [
+["rfnm", 4000],
+["dead", 4000],
+["never", 4000],
+["data", 3000],
+["ask", 2000],
+["whole", 100],
+["slot", 90],
+["frame", 0.2],
+["channel", 0.1],
+["store", 0]
+],
 "packets": {
 "data": "",
 "rfnm": "its RFNM: ",
@@ -361,6 +361,37 @@ export const TABLE = {
 "MESSAGES": ["the number of messages", 0, 65535],
 "ALLOWED": ["the number of bits", 0, 4294967295]
 },
+"rules of lines": [
+["", "\\r", "carriage return"],
+["", "[^ -~]", "not ASCII"],
+["raw", "^ |  | $", "spaces"],
+["programs", "^ |^(?!type(?: |$)).*(?:  | $)", "spaces"],
+["", "^%(?: |$)", "second marker"],
+["programs", "^out(?: |$)", "of raw"]
+],
+"rules of events": [
+["programs", "^(?<line>type [^ ]*)$", "empty line"],
+["", "^(?!type ).*? (?<comment>#.*)$", "comment"],
+["", "^(?:out|send) .*?\"(?<text>[^\"]*)\"", "text"],
+["", "^(?:out|send) .* 0[xX](?<digits>[^ ]*)$", "0x"]
+],
+"rules of words": [
+["S D H P", "^[^/]*/[^/]*$", "not a host"],
+["+|-", "^[+-]$", "not a direction"],
+["OCTET", "^(?!0x)", "hexadecimal"]
+],
+"rules of markers": [
+["^[ \\t]*%\\r$", "marker", "marker and return"],
+["^\\s*%\\s*$", "marker", "marker alone"],
+["^(?:{events})(?: |$)", "marker", "begins here"]
+],
+"swapped": "^([1-9]|[1-5][0-9]|6[0-3])/([0-3])$",
+"tables": [
+["imp", "id", 1, 63],
+["imp", "hosts", 0, 4],
+["line", "a", 1, 63],
+["line", "b", 1, 63]
+],
 "faults": {
 "carriage return": "It has a carriage return, as files from Windows have at each line's end. Save the file with line feeds only.",
 "not ASCII": "It has a character that is not printable ASCII, perhaps a tab. Only comments may have such characters.",
@@ -378,10 +409,11 @@ export const TABLE = {
 "not a direction": "`{word}` is not a direction. `+` is from a line's first IMP to its second, and `-` the other way.",
 "not a number": "`{word}` can't be read as {what}: numbers are decimal, without a sign and without leading zeros.",
 "range": "`{word}` is out of range: {what} is {least} to {most}.",
+"hexadecimal": "`{word}` is hexadecimal, and octets are decimal numbers here.",
 "no bits": "A text of no bits is written `0 -`.",
 "no octets": "`-` is for no octets, but {bits bit} are asked for.",
-"text": "A text is written in hexadecimal, with the number of its bits before it: {text} is `{spelled}`.",
-"0x": "The octets are hexadecimal digits without `0x`: `{digits}`.",
+"text": "A text is written in hexadecimal, with the number of its bits before it: \"{text}\" is `{spelled}`.",
+"0x": "The octets are hexadecimal digits without `0x`: `{upper}`.",
 "digits": "The octets are hexadecimal digits, 0 to 9 and A to F; lower-case letters are not accepted.",
 "length": "{bits bit} fill {octets octet}, which are {digits} hexadecimal digits. This line has {found}, for {for bit}.",
 "unused": "A text of {bits bit} has {unused bit} of its last octet unused: zero is needed there."
@@ -390,6 +422,11 @@ export const TABLE = {
 "octets": "The input is too long: at most {most} octets are read.",
 "marker": "No line is exactly `%`, which separates the topology from the script.",
 "marker alone": "Nothing else may be on that line, not even a space.",
+"marker and return": "It ends in a carriage return. Save the file with line feeds only.",
+"begins here": "Does the script begin here? Then put a line `%` before it.",
+"empty": "The input is empty.",
+"log": "This is a log and not an input. `./explain --audit < FILE` says whether the book in it is safe, and why not.",
+"lines": "Each line is a table `[[line]]`.",
 "key": "There is no key `{key}` in a topology. Its keys are carrier, raw, imp and line.",
 "carrier": "There are two carriers: write `carrier = \"plain\"` or `carrier = \"subnet\"`. Without this key it is \"subnet\".",
 "raw": "`raw` is `true` or `false`, without quotation marks.",

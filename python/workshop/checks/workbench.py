@@ -31,7 +31,8 @@ from dorydate.explain.inside import Inside
 from dorydate.explain.topology import of_model
 from dorydate.explore.named import SEARCHES
 from dorydate.explore.pattern import read
-from dorydate.explain import faults, waits
+from dorydate.explain import faults, topologies, waits
+from dorydate.given import Input
 from dorydate.network import Network
 from dorydate.model.subnet import Subnet
 from dorydate.model.trace_subnet import every_name, part
@@ -39,7 +40,7 @@ from dorydate.model.trace_world import program_of
 from dorydate.model.names import spell_host
 from dorydate.model.world import World
 from dorydate.sentences import DEEDS, silence
-from workshop.parts import ROOT, any_program, read_octets
+from workshop.parts import ROOT, any_program, read_octets, text_of
 
 MOST_ROUNDS = 400  # of calm in an example that the model follows
 # scripts in which things wait that wait in no example: without room at the next IMP, for a host that is down, with a message out, for a service
@@ -100,10 +101,11 @@ def waits_of(text: bytes) -> list[list[str]] | None:
     if is_long(network, lines) or any(it.name for it in network.imps):
         return None
     place = opened(of_model(network))
+    carrier = place.carrier if isinstance(place, World) else place
     found = []
     for line in lines:
         place.happen(*read_event(line, network.raw))
-        told = [[it.what, it.where, it.reason, str(it.is_bad).lower(), *it.cures] for it in waits.waiting(place, getattr(place, "carrier", place))]
+        told = [[it.what, it.where, it.reason, str(it.is_bad).lower(), *it.cures] for it in waits.waiting(place, carrier)]
         found.append(sorted(re.sub(r"(?:the )?message(?: \d+)? of flow", "message", "|".join(it)) for it in told))
     return found
 
@@ -144,8 +146,8 @@ def of_examples(look: Callable[[bytes], object]) -> dict[str, object]:
     return {name: it for name, it in found.items() if it is not None}
 
 
-def lines_by_chance(count: int) -> list[tuple[str, bool, bool]]:
-    """Lines of scripts, most of them changed at one place; whether the network is raw, and whether the line is bad."""
+def lines_by_chance(count: int) -> list[tuple[str, bool, str]]:
+    """Lines of scripts, most of them changed at one place; whether the network is raw, and what ./explain says is wrong with each."""
     chance = random.Random(59)
     known = []
     for name in sorted(os.listdir(f"{ROOT}/examples")):
@@ -160,7 +162,23 @@ def lines_by_chance(count: int) -> list[tuple[str, bool, bool]]:
         changes = [line, line[:at] + chance.choice("0123456789/+-ABf ") + line[at:], line[:at] + line[at + 1 :], line[:at], chance.choice(known)[0]]
         line = chance.choice(changes)
         if line and not line.startswith("#"):
-            found.append((line, raw, faults.wrong_with_line(line.encode(), raw) is not None))
+            found.append((line, raw, faults.wrong_with_line(line.encode(), raw) or ""))
+    return found
+
+
+def topologies_by_chance(count: int) -> list[tuple[str, str]]:
+    """Inputs with a topology of an example that was changed in a line or two, and what ./explain says is wrong with each."""
+    chance = random.Random(17)
+    known = [text.partition("\n%\n")[0].split("\n") for it in sorted(os.listdir(f"{ROOT}/examples")) if "." not in it and len(text := text_of(f"{ROOT}/examples/{it}")) < 5000]
+    written = ["raw = 1", 'carrier = "Plain"', "imps = 3", "[[imp]]", "[[line]]", "id = 1", "id = 64", "hosts = 5", "hosts = true", "a = 2", "b = 2", "b = 0", "c = 1", "take 0/1", "line = 3", "% ", "in 0/1 0/2 5 0 -"]
+    found = []
+    for _ in range(count):
+        lines = [it for it in chance.choice(known) if not it.startswith("#")]
+        for _ in range(chance.choice([1, 1, 2])):
+            at = chance.randrange(len(lines))
+            lines[at : at + chance.randrange(2)] = [chance.choice([*written, chance.choice(lines)])] * chance.randrange(2)
+        text = "\n".join([*lines, *["%"] * (chance.random() < 0.9), ""])
+        found.append((text, topologies.wrong_with_topology(Input(text.encode())) or ""))
     return found
 
 
@@ -205,7 +223,7 @@ def fastest(program: str) -> str:
 def check_modules(command: str, program: str) -> None:
     """The tests in Node, with the states of the independent model in a file."""
     with tempfile.NamedTemporaryFile("w", suffix=".json") as states:
-        json.dump({"states": of_examples(states_of), "waits": {**of_examples(waits_of), **{it: waits_of(it.encode()) for it in WAITING}}, "lines": lines_by_chance(4000), "deeds": told_of_deeds(), "patterns": patterns_by_chance(400)}, states)
+        json.dump({"states": of_examples(states_of), "waits": {**of_examples(waits_of), **{it: waits_of(it.encode()) for it in WAITING}}, "lines": lines_by_chance(4000), "topologies": topologies_by_chance(2000), "deeds": told_of_deeds(), "patterns": patterns_by_chance(400)}, states)
         states.flush()
         folder = f"{ROOT}/web/workbench/tests"
         tests = [f"{folder}/{it}" for it in sorted(os.listdir(folder)) if it.endswith(".test.js")]
