@@ -82,14 +82,14 @@ export function placed(network) {
 }
 
 /**
- * Whether sites are all on the map of the United States, and from coast to coast: on it a few of one coast would be a
- * heap.
+ * Whether it is known where all sites are, and those on the map of the United States are from coast to coast: on it a
+ * few of one coast would be a heap. Sites abroad are at its edge.
  *
  * @param {(import("./states.js").Place | null)[]} places
  */
 function areFarApart(places) {
     const known = places.flatMap((it) => (it && isInStates(it) ? [it.east] : []));
-    return known.length === places.length && Math.max(...known) - Math.min(...known) > COAST_TO_COAST;
+    return places.every((it) => it) && Math.max(...known) - Math.min(...known) > COAST_TO_COAST;
 }
 
 const COAST_TO_COAST = 30; // degrees

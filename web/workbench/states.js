@@ -31,12 +31,13 @@ export function isInStates({ north, east }) {
 }
 
 /**
- * Where a place is on a map of a width.
+ * Where a place is on a map of a width. One that isn't on this map is at the edge that is nearest to it.
  *
  * @param {Place} place
  * @param {number} width
  */
 export function placeOn({ north, east }, width) {
     const degree = width / ((EAST - WEST) * NARROW);
-    return { x: (east - WEST) * NARROW * degree, y: (NORTH - north) * degree };
+    const [x, y] = [Math.min(EAST, Math.max(WEST, east)), Math.min(NORTH, Math.max(SOUTH, north))];
+    return { x: (x - WEST) * NARROW * degree, y: (NORTH - y) * degree };
 }
