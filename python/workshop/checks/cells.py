@@ -10,6 +10,7 @@ import contextlib
 import io
 import json
 import sys
+from importlib import import_module
 from typing import Any
 
 SECONDS = 120  # for one cell
@@ -25,7 +26,8 @@ def shown_by_python(source: str, names: dict[str, object]) -> str:
         if isinstance(last, ast.Expr):
             value = eval(compile(ast.Expression(last.value), "cell", "eval"), names)
     picture: Any = getattr(value, "_repr_svg_", None)
-    return printed.getvalue() + ("" if value is None else picture() if picture else repr(value))
+    last_shown = "" if value is None else str(picture()) if picture else repr(value)
+    return printed.getvalue() + last_shown
 
 
 def shown_in(cell: Any) -> str:
@@ -40,9 +42,7 @@ def shown_in(cell: Any) -> str:
 
 def run_by_jupyter(cells: list[Any], path: str) -> list[str]:
     """What each cell shows where a kernel runs it."""
-    import nbclient
-    import nbformat
-
+    nbclient, nbformat = import_module("nbclient"), import_module("nbformat")
     book = nbformat.read(path, 4)
     nbclient.NotebookClient(book, timeout=SECONDS, kernel_name="python3").execute()
     return [shown_in(it) for it in book.cells if it.cell_type == "code"]
