@@ -24,7 +24,7 @@ from workshop.parts import ROOT
 
 BY_NODE = f"{ROOT}/web/run/arpasim.mjs"
 NOTHING = "[[imp]]\nid = 1\nhosts = 0\n%\n"
-COMMANDS = "bash cat cmp cp dirname find grep ln mkdir mktemp mv readlink realpath rm sed sha256sum sort stat tail xargs".split()
+COMMANDS = "bash cat cmp cp dirname find grep ln mkdir mktemp mv readlink realpath rm sed sha256sum sort stat tail xargs"
 INPUT = b"carrier = \"plain\"\nraw = true\n[[imp]]\nid = 1\nhosts = 2\n%\nout 0/1 1/1 0 8 41\n"
 
 
@@ -106,7 +106,7 @@ class Installed(unittest.TestCase):
 
 
 class Clones(unittest.TestCase):
-    """The program that tools/program takes, in a clone with one source and a release of it, on machines of several kinds."""
+    """The program that tools/program takes, in a clone with one source and a release of it, on several machines."""
 
     def setUp(self) -> None:
         room = tempfile.TemporaryDirectory()
@@ -123,7 +123,8 @@ class Clones(unittest.TestCase):
         self.put("released/dorydate.html", "a page\n")
         self.put("web/run/arpasim.mjs", "#!/bin/sh\nexec node\n")
         sources = self.run_tool("kept-program").stdout.split("/")[-2]
-        files = {it: {"sha256": hashlib.sha256((self.clone / "released" / it).read_bytes()).hexdigest()} for it in ("arpasim", "dorydate.html")}
+        found = {it: (self.clone / "released" / it).read_bytes() for it in ("arpasim", "dorydate.html")}
+        files = {name: {"sha256": hashlib.sha256(octets).hexdigest()} for name, octets in found.items()}
         self.put("released/note.json", json.dumps({"files": files, "sources": sources}, indent=4))
 
     def put(self, path: str, text: str) -> None:
@@ -132,12 +133,13 @@ class Clones(unittest.TestCase):
 
     def run_tool(self, name: str) -> subprocess.CompletedProcess[str]:
         env = {"PATH": str(self.commands)} if self.commands.is_dir() else None
-        return subprocess.run(["/bin/bash", self.clone / "tools" / name], env=env, capture_output=True, text=True, check=False)
+        words = ["/bin/bash", str(self.clone / "tools" / name)]
+        return subprocess.run(words, env=env, capture_output=True, text=True, check=False)
 
     def machine(self, kind: str, **more: str) -> None:
         """A path of commands on a machine of this kind, with these programs besides."""
         self.commands.mkdir()
-        for name in COMMANDS:
+        for name in COMMANDS.split():
             (self.commands / name).symlink_to(shutil.which(name) or "")
         for name, text in {"uname": f'[ "$1" = -s ] && echo Linux || echo {kind}', **more}.items():
             (self.commands / name).write_text(f"#!/bin/sh\n{text}\n", encoding="utf-8")
@@ -181,7 +183,8 @@ class Clones(unittest.TestCase):
         self.assertEqual(Path(ran.stdout.strip()).name, "arpasim.mjs")
         self.assertIn("released/arpasim is refused: its hash is ", ran.stderr.splitlines()[0])
         self.put("released/dorydate.html", "another page\n")
-        self.assertEqual([it.split(" is refused")[0].split("/")[-1] for it in self.refused()[:2]], ["arpasim", "dorydate.html"])
+        for line, name in zip(self.refused(), ("arpasim", "dorydate.html")):
+            self.assertIn(f"released/{name} is refused: its hash is ", line)
 
     def test_a_changed_source_has_no_released_program(self) -> None:
         self.machine("x86_64", node="echo ok")
@@ -218,10 +221,11 @@ class ByNodeTests(unittest.TestCase):
 
     def test_a_node_that_is_too_old_is_told_the_way(self) -> None:
         with tempfile.NamedTemporaryFile("w", suffix=".cjs") as file:
-            file.write('Object.defineProperty(process, "versions", { value: { ...process.versions, node: "16.20.0" } });\n')
+            file.write('const value = { ...process.versions, node: "16.20.0" };\n')
+            file.write('Object.defineProperty(process, "versions", { value });\n')
             file.flush()
             with mock.patch.dict(os.environ, NODE_OPTIONS=f"--require {file.name}"):
-                with self.assertRaisesRegex(NoProgram, "^Node 16.20.0 is too old: Node 18 or later runs .* a browser .*html$"):
+                with self.assertRaisesRegex(NoProgram, "^Node 16.20.0 is too old: Node 18 or later runs .*html$"):
                     ByNode(BY_NODE).run(INPUT)
                 ran = Program(BY_NODE).run(INPUT)
         self.assertEqual((ran.status, ran.output, len(ran.said.splitlines())), (1, "", 1))
@@ -233,7 +237,8 @@ class ByNodeTests(unittest.TestCase):
             shutil.copyfile(f"{ROOT}/released/note.json", f"{room}/note.json")
             page = Path(f"{ROOT}/released/dorydate.html").read_text(encoding="utf-8")
             at = page.index('id="program">') + 100_000
-            Path(f"{room}/dorydate.html").write_text(page[:at] + chr(ord(page[at]) ^ 1) + page[at + 1 :], encoding="utf-8")
+            other = page[:at] + chr(ord(page[at]) ^ 1) + page[at + 1 :]
+            Path(f"{room}/dorydate.html").write_text(other, encoding="utf-8")
             ran = Program(f"{room}/run/arpasim.mjs").run(INPUT)
             self.assertEqual((ran.status, ran.output, ran.said.count("\n")), (1, "", 1))
             self.assertTrue(ran.said.startswith("arpasim: dorydate.html was changed: "), ran.said)

@@ -197,16 +197,21 @@ def write_packages(folder: str, note: dict[str, object]) -> str:
     return packages.wheel(release, folder)
 
 
-def make(folder: str) -> None:
-    """Makes the release."""
-    kept = kept_program()
+def put_programs(kept: str, folder: str) -> dict[str, object]:
+    """Puts each form of a proved program, the page and the licences into a folder. What a note says of them."""
     page = printed("tools/keep-wasm")
-    empty(folder)
     static_program(kept, f"{folder}/arpasim")
     shutil.copy2(kept, f"{folder}/arpasim-dynamic")
     for name, path in {"arpasim.wasm": f"{kept}.wasm", "arpasim64.wasm": f"{kept}64.wasm", "dorydate.html": page, **{it: f"{ROOT}/{it}" for it in LICENCES}}.items():
         shutil.copyfile(path, f"{folder}/{name}")
-    note = facts(kept)
+    return facts(kept)
+
+
+def make(folder: str) -> None:
+    """Makes the release."""
+    kept = kept_program()
+    empty(folder)
+    note = put_programs(kept, folder)
     count = write_lessons(f"{folder}/lessons")
     site.made(f"{folder}/site", f"{folder}/dorydate.html", kept)
     wheel = write_packages(folder, note)

@@ -1,6 +1,7 @@
-"""Runs the cells of a notebook in their order, and compares what each shows with what is stored: python3 -I cells.py [--jupyter] NOTEBOOK
+"""Runs the cells of a notebook, and compares what each shows with what is stored: python3 -I cells.py [--jupyter] NOTEBOOK
 
-Where the package was installed, so it imports nothing of the repository. With --jupyter a kernel of Jupyter runs them (nbclient, ipykernel).
+Where the package was installed, so it imports nothing of the repository. With --jupyter a kernel of Jupyter runs them
+(nbclient, ipykernel).
 """
 
 from __future__ import annotations
@@ -60,7 +61,8 @@ def main() -> int:
     for cell, found in zip(cells, shown):
         # (Jupyter breaks long lines)
         if found.split() != shown_in(cell).split():
-            print(f"a cell shows\n{found[:500]}\nin place of\n{shown_in(cell)[:500]}\n{''.join(cell['source'])}", file=sys.stderr)
+            told = "".join(cell["source"]), "shows", found[:500], "in place of", shown_in(cell)[:500]
+            print(*told, sep="\n", file=sys.stderr)
             return 1
     print(len(cells))
     return 0

@@ -1,14 +1,14 @@
-"""What is released runs in a Debian without the toolchain, offline, and a clone also with it (ten minutes): ./check fresh [--write] [--tests] [--root FOLDER]
+"""What is released runs in a Debian without the toolchain (ten minutes): ./check fresh [--write] [--tests] [--root FOLDER]
 
-As root, on a machine with debootstrap: FOLDER (/var/tmp/dorydate-fresh) becomes a system of Debian's packages git, python3, python3-venv,
-python3-pip, nodejs and npm, if it is none yet, which needs the network. In it, without a network,
-- a clone runs README's commands, and the static program, the wheel, the package for npm and that for Debian are installed;
+As root, on a machine with debootstrap: FOLDER (/var/tmp/dorydate-fresh) becomes a system of Debian's packages git,
+python3, python3-venv, python3-pip, nodejs and npm, if it is none yet, which needs the network. In it, without a network,
+- a clone runs README's commands, and the static program, the wheel and the packages for npm and Debian are installed;
 - each runs every example as stored, and what its first and second call take is measured;
 - what can't run is refused in one line that names another way (workshop.checks.fresh_inside);
-- then a clone does the same with the toolchain on the path, and builds a program without proofs once a source was changed.
+- then a clone does the same with the toolchain on the path, and has a program built once a source was changed.
 
---write makes docs/measured/fresh.md of it. --tests runs tools/fresh in a copy of that system, which needs the network, in place of all this.
-It is no part of the gate.
+--write makes docs/measured/fresh.md of it. --tests runs tools/fresh in a copy of that system, which needs the network,
+in place of all this. It is no part of the gate.
 """
 
 from __future__ import annotations
@@ -23,7 +23,7 @@ import time
 from pathlib import Path
 from typing import Any
 
-from workshop.checks.installed import complete
+from workshop.checks.installed import complete, sources_in
 from workshop.checks.wrong import Wrong, call
 from workshop.parts import ROOT
 
@@ -37,7 +37,8 @@ root=$1 kit=$2
 shift 2
 mount -t proc proc "$root/proc"
 if [ -n "$kit" ]; then mkdir -p "$root$kit" && mount --bind -o ro "$kit" "$root$kit"; fi
-exec chroot "$root" env -i PATH="${kit:+$kit/bin:}/usr/local/sbin:/usr/local/bin:/usr/sbin:/usr/bin:/sbin:/bin" HOME=/root LANG=C.UTF-8 "$@"
+path=${kit:+$kit/bin:}/usr/local/sbin:/usr/local/bin:/usr/sbin:/usr/bin:/sbin:/bin
+exec chroot "$root" env -i PATH="$path" HOME=/root LANG=C.UTF-8 "$@"
 """
 HEAD = "| What | First call | Second call | Examples as stored |\n|---|---|---|---|\n"
 SEARCHES = "| Search | Native | By Node | Times |\n|---|---|---|---|\n"
@@ -109,11 +110,16 @@ def searches(rows: list[dict[str, Any]]) -> str:
 
 def page(without: dict[str, Any], with_it: dict[str, Any], load: float) -> str:
     """The page of what was measured."""
+    system, processors, with_kit = without["system"], os.cpu_count(), with_it["toolchain"]
     day = time.strftime("%d %B %Y").lstrip("0")
     refused = "".join(f"- {what}: `{line}`\n" for what, line in without["refused"].items())
     return f"""# What is released, on a system without the toolchain
 
-`./check fresh --write` has written this page on {day}, at a load of {load:.0f} on {os.cpu_count()} processors. The system is a folder with Debian's packages, {without['system']}. It has no network. Each form was installed there from its file, and ran every example. Calls are of `examples/first-message` where nothing else is said; times are by the clock, and between brackets of the processor.
+`./check fresh --write` has written this page on {day}, at a load of {load:.0f} on {processors} processors. \
+The system is a folder with Debian's packages, {system}. It has no network. \
+Each form was installed there from its file, and ran every example. \
+Calls are of `examples/first-message` where nothing else is said. \
+Times are by the clock, and between brackets of the processor.
 
 {table(without['rows'])}
 A search by the wheel, native and by one process of Node that stays, in seconds of the processor:
@@ -124,7 +130,8 @@ What can't run says so in one line:
 {refused}
 ## With the toolchain
 
-The same system, with the folder of the toolchain ({with_it['toolchain']}) mounted into it and `rt` on the path. A clone takes the released program, too, until a source is changed.
+The same system, with the folder of the toolchain ({with_kit}) mounted into it and `rt` on the path. \
+A clone takes the released program here, too, until a source is changed.
 
 {table(with_it['rows'])}"""
 
@@ -141,8 +148,7 @@ def run_tests(fresh: Fresh) -> None:
 def released() -> str:
     """The folder of a release of these sources: what ./release has made here, else what lies in the repository."""
     made = f"{ROOT}/out/release"
-    notes = [json.loads(Path(f"{it}/note.json").read_text(encoding="utf-8")) for it in (f"{ROOT}/released", made) if os.path.exists(f"{it}/note.json")]
-    return made if len(notes) == 2 and notes[0]["sources"] == notes[1]["sources"] else f"{ROOT}/released"
+    return made if sources_in(made) == sources_in(f"{ROOT}/released") else f"{ROOT}/released"
 
 
 def kit() -> str:

@@ -1,4 +1,4 @@
-"""What workshop.checks.fresh has done within a fresh system: python3 -m workshop.checks.fresh_inside FILE, where it writes what it found."""
+"""What is done within a fresh system: python3 -m workshop.checks.fresh_inside FILE, where it writes what it found."""
 
 from __future__ import annotations
 
@@ -156,7 +156,8 @@ def refusals(room: str) -> dict[str, str]:
     """What is said where nothing can run, in one line each."""
     other, clone = cloned(room), cloned(room)
     node = os.path.realpath(shutil.which("node") or "")
-    found = {"a machine of another kind, without Node": hidden(node, lambda: only_line([*OTHER_MACHINE, f"{other}/arpasim"], "Node 18 or later"))}
+    elsewhere = [*OTHER_MACHINE, f"{other}/arpasim"]
+    found = {"a machine of another kind, without Node": hidden(node, lambda: only_line(elsewhere, "Node 18 or later"))}
     with open(f"{clone}/{SOURCE}", "a", encoding="utf-8") as file:
         file.write("// changed\n")
     found["a changed source"] = only_line([f"{clone}/arpasim"], "nothing is released of these sources")
@@ -199,7 +200,8 @@ def form_rows(form: Form, file: str, room: str) -> list[Row]:
     if form.ending == ".whl":
         rows.append(called("the wheel: `dorydate explain`", [f"{room}/venv/bin/dorydate", "explain"]))
     if form.ending == ".tgz":
-        rows.append(called("the package for npm: `npx dorydate examples`", ["npx", "--offline", "dorydate", "examples"], b"", cwd=room))
+        words = ["npx", "--offline", "dorydate", "examples"]
+        rows.append(called("the package for npm: `npx dorydate examples`", words, b"", cwd=room))
     form.check(file, room)
     if form.ending == ".whl":  # (its native program is gone by now)
         rows.append(called("the wheel by Node: `arpasim`", [program]))

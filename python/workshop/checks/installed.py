@@ -13,7 +13,8 @@ from typing import Any
 from workshop.builds import packages
 from workshop.builds.packages import Release
 from workshop.checks.cases import cases_below
-from workshop.checks.installed_wheel import check_commands, check_notebook, check_twice, check_types, install_wheel, native_in
+from workshop.checks.installed_wheel import check_commands, check_notebook, check_twice, check_types, install_wheel
+from workshop.checks.installed_wheel import native_in
 from workshop.checks.wrong import Wrong, call
 from workshop.parts import ROOT, read_octets, text_of
 from workshop.wasm import pack
@@ -91,7 +92,7 @@ def install_c(file: str, room: str) -> str:
 
 @dataclass(frozen=True)
 class Form:
-    """What a form is called, how its file's name ends, the command that it needs, how it is installed, and what else is tried of it."""
+    """What a form is called, how its file's name ends, the command that it needs, how it is installed and tried."""
 
     what: str
     ending: str
@@ -117,6 +118,12 @@ def file_of(form: Form, folder: str) -> str | None:
 # ---- what is packed of the same program
 
 
+def sources_in(folder: str) -> str:
+    """The hash of the sources that a release in a folder is of; nothing where there is none."""
+    note = f"{folder}/note.json"
+    return str(json.loads(text_of(note))["sources"]) if os.path.exists(note) else ""
+
+
 def release_in(folder: str) -> Release:
     """What packages are made of, from the folder of a release."""
     note: dict[str, Any] = json.loads(text_of(f"{folder}/note.json"))
@@ -127,7 +134,7 @@ def release_in(folder: str) -> Release:
 
 
 def complete(folder: str, room: str) -> list[str]:
-    """Puts a release into a room: its files, and those forms that it lacks, packed of its program and its page. What could not be packed."""
+    """Puts a release into a room, and packs the forms that it lacks of its program and page. What could not be packed."""
     for name in os.listdir(folder):
         if os.path.isfile(f"{folder}/{name}"):
             shutil.copy2(f"{folder}/{name}", f"{room}/{name}")

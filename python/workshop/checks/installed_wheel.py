@@ -1,4 +1,4 @@
-"""The wheel in an environment of its own: its commands, what a user writes, the notebook, Node in place of the native program; and built again."""
+"""The wheel in an environment of its own: its commands, what a user writes, the notebook; and built again."""
 
 from __future__ import annotations
 
@@ -11,6 +11,7 @@ import subprocess
 import sys
 import tempfile
 import zipfile
+from pathlib import Path
 
 from workshop.checks.wrong import Wrong, call
 from workshop.documents.notebook import NOTEBOOK
@@ -52,8 +53,8 @@ def surroundings(room: str) -> dict[str, str]:
 
 def native_in(room: str) -> str:
     """Where the native program is."""
-    (native,) = [f"{place}/arpasim" for place, _, names in os.walk(f"{room}/venv/lib") for it in names if it == "arpasim"]
-    return native
+    (native,) = Path(f"{room}/venv/lib").rglob("release/arpasim")
+    return str(native)
 
 
 def check_commands(room: str) -> None:
@@ -73,7 +74,7 @@ def program_of_a_user() -> str:
 
 
 def check_types(room: str) -> None:
-    """The package as installed, and a user's program that imports it, are right to mypy; and one that calls it wrongly isn't."""
+    """The package as installed, and a user's program, are right to mypy; and one that calls it wrongly isn't."""
     if not shutil.which("mypy"):
         print("check release: the wheel: mypy is not installed, so no types were checked")
         return
@@ -86,13 +87,15 @@ def check_types(room: str) -> None:
     ran = subprocess.run([*mypy, "wrong.py"], cwd=room, capture_output=True, text=True, check=False)
     if ran.returncode == 0 or "incompatible type" not in ran.stdout:
         raise Wrong(f"mypy --strict finds nothing wrong with {WRONG_LINE}: {ran.stdout}")
-    print(f"check release: the wheel: mypy --strict finds nothing in dorydate, as installed, nor in a program that imports it, and refuses `{WRONG_LINE}`")
+    print("check release: the wheel: mypy --strict finds nothing in dorydate, as installed, nor in a program that")
+    print(f"  imports it, and refuses `{WRONG_LINE}`", flush=True)
 
 
 def with_jupyter() -> str | None:
     """A Python that has Jupyter's kernel and what runs notebooks."""
-    for python in (sys.executable, "/usr/bin/python3"):
-        if os.path.exists(python) and subprocess.run([python, "-c", "import nbclient, ipykernel"], capture_output=True, check=False).returncode == 0:
+    for python in filter(os.path.exists, (sys.executable, "/usr/bin/python3")):
+        ran = subprocess.run([python, "-c", "import nbclient, ipykernel"], capture_output=True, check=False)
+        if ran.returncode == 0:
             return python
     return None
 
@@ -126,7 +129,9 @@ def built(tree: str, folder: str, to: str, **env: str) -> bytes:
 def members(wheel: bytes) -> dict[str, bytes]:
     """What is in a wheel, but for the line that names what has packed it, and the hash of that."""
     with zipfile.ZipFile(io.BytesIO(wheel)) as read:
-        return {it: re.sub(rb"(?m)^(Generator:|.*/WHEEL,).*$", b"", read.read(it)) if "dist-info" in it else read.read(it) for it in read.namelist()}
+        found = {it: read.read(it) for it in read.namelist()}
+    packer = re.compile(rb"^(Generator:|.*/WHEEL,).*$", re.MULTILINE)
+    return {it: packer.sub(b"", octets) if "dist-info" in it else octets for it, octets in found.items()}
 
 
 def check_twice(folder: str) -> None:
@@ -156,6 +161,6 @@ def check_built_again(folder: str, wheel: str, commit: str) -> None:
     if again == there:
         print(f"check release: the wheel: commit {commit[:8]} gives it again, octet for octet")
     elif members(again) == members(there):
-        print(f"check release: the wheel: commit {commit[:8]} gives its files again, which other tools have packed here")
+        print(f"check release: the wheel: commit {commit[:8]} gives its files again, packed by other tools here")
     else:
         raise Wrong(f"the wheel is not the one of commit {commit[:8]}, which its note names")
