@@ -61,8 +61,8 @@ def main() -> int:
     for cell, found in zip(cells, shown):
         # (Jupyter breaks long lines)
         if found.split() != shown_in(cell).split():
-            told = "".join(cell["source"]), "shows", found[:500], "in place of", shown_in(cell)[:500]
-            print(*told, sep="\n", file=sys.stderr)
+            difference = "".join(cell["source"]), "shows", found[:500], "in place of", shown_in(cell)[:500]
+            print(*difference, sep="\n", file=sys.stderr)
             return 1
     print(len(cells))
     return 0

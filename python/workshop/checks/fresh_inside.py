@@ -204,7 +204,7 @@ def form_rows(form: Form, file: str, room: str) -> list[Row]:
         rows.append(called("the package for npm: `npx dorydate examples`", words, b"", cwd=room))
     form.check(file, room)
     if form.ending == ".whl":  # (its native program is gone by now)
-        rows.append(called("the wheel by Node: `arpasim`", [program]))
+        rows.append(with_examples(called("the wheel by Node: `arpasim`", [program]), program))
         rows.append(called("the wheel by Node: `dorydate explain`", [f"{room}/venv/bin/dorydate", "explain"]))
     return rows
 

@@ -129,8 +129,8 @@ def release_in(folder: str) -> Release:
     note: dict[str, Any] = json.loads(text_of(f"{folder}/note.json"))
     native, page = (read_octets(f"{folder}/{it}") for it in ("arpasim", "dorydate.html"))
     files = {it: note["files"][it] for it in ("arpasim", "dorydate.html")}
-    told = {key: it for key, it in note.items() if key != "files"}
-    return Release(note["version"], native, page, pack.module_in(page.decode()), packages.released_note(told, files))
+    others = {key: it for key, it in note.items() if key != "files"}
+    return Release(note["version"], native, page, pack.module_in(page.decode()), packages.released_note(others, files))
 
 
 def complete(folder: str, room: str) -> list[str]:

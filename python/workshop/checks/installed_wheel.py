@@ -27,12 +27,12 @@ import json, sys
 from workshop.builds import packages
 from workshop.wasm import pack
 folder, to = sys.argv[1:]
-native, page, note = (packages.read_octets(f"{folder}/{it}") for it in ("arpasim", "dorydate.html", "note.json"))
-told = json.loads(note)
-files = {it: told["files"][it] for it in ("arpasim", "dorydate.html")}
-del told["files"]
-noted = packages.released_note(told, files)
-print(packages.wheel(packages.Release(told["version"], native, page, pack.module_in(page.decode()), noted), to))
+native, page, text = (packages.read_octets(f"{folder}/{it}") for it in ("arpasim", "dorydate.html", "note.json"))
+note = json.loads(text)
+files = {it: note["files"][it] for it in ("arpasim", "dorydate.html")}
+del note["files"]
+noted = packages.released_note(note, files)
+print(packages.wheel(packages.Release(note["version"], native, page, pack.module_in(page.decode()), noted), to))
 """
 
 
