@@ -140,6 +140,7 @@ def complete(folder: str, room: str) -> list[str]:
             shutil.copy2(f"{folder}/{name}", f"{room}/{name}")
     release, left = release_in(folder), []
     makers: dict[str, Callable[[], object]] = {
+        ".whl": lambda: packages.wheel(release, room),
         ".tgz": lambda: write(f"{room}/dorydate-{release.version}.tgz", packages.npm_package(release)),
         ".deb": lambda: packages.debian_package(release, room),
         "-c.tar.gz": lambda: write(f"{room}/arpasim-{release.version}-c.tar.gz", packages.c_of_module(release)),

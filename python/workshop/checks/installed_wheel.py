@@ -13,6 +13,7 @@ import tempfile
 import zipfile
 from pathlib import Path
 
+from workshop.builds.packages import Refused, python_with_setuptools
 from workshop.checks.wrong import Wrong, call
 from workshop.documents.notebook import NOTEBOOK
 from workshop.parts import ROOT, read_octets, text_of
@@ -136,6 +137,11 @@ def members(wheel: bytes) -> dict[str, bytes]:
 
 def check_twice(folder: str) -> None:
     """Two builds have the same octets, though folders, times of files, modes and time zones differ."""
+    try:
+        python_with_setuptools()
+    except Refused as why:
+        print(f"check release: the wheel: it was not built again, since {why}")
+        return
     with tempfile.TemporaryDirectory() as room:
         for part in PARTS:
             os.makedirs(os.path.dirname(f"{room}/tree/{part}"), exist_ok=True)
@@ -149,7 +155,11 @@ def check_twice(folder: str) -> None:
 
 
 def check_built_again(folder: str, wheel: str, commit: str) -> None:
-    """The commit that a release names gives its wheel again."""
+    """The commit that a release names gives its wheel again, where setuptools is there to make one."""
+    try:
+        python_with_setuptools()
+    except Refused:
+        return
     with tempfile.TemporaryDirectory() as room:
         archive = subprocess.run(["git", "archive", commit, *PARTS], cwd=ROOT, capture_output=True, check=False)
         if archive.returncode:
