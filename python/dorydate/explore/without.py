@@ -11,7 +11,7 @@ from __future__ import annotations
 import random
 import sys
 import time
-from collections.abc import Sequence
+from collections.abc import Iterable, Sequence
 from dataclasses import dataclass
 from functools import partial
 from pathlib import Path
@@ -22,6 +22,7 @@ from dorydate.explore.oldest import Plan, climbed
 from dorydate.explore.shrink import Script as Events
 from dorydate.explore.shrink import Shrinker, cost
 from dorydate.model.imp_state import NUMBERS, Numbers
+from dorydate.model.runs import Place
 from dorydate.model.script import Event as ModelEvent
 from dorydate.model.topology import Topology
 from dorydate.model.without import HARMLESS, LACKING, broken, opened_without, read_line
@@ -108,14 +109,18 @@ class Lacking:
         self.read: dict[Event, ModelEvent] = {}
         self.as_model = Topology(network.carrier, network.raw, [(it.number, it.hosts) for it in network.imps], [(it.a, it.b) for it in network.lines])
 
-    def breaks(self, script: Sequence[Event]) -> str | None:
-        """The first part of the promise that breaks."""
+    def after(self, script: Iterable[Event]) -> Place:
+        """The network after a script."""
         place = opened_without(self.rule, self.as_model, self.sought.numbers)
         for event in script:
             if event not in self.read:
                 self.read[event] = self.of_model(event)
             place.happen(*self.read[event])
-        return broken(place)
+        return place
+
+    def breaks(self, script: Sequence[Event]) -> str | None:
+        """The first part of the promise that breaks."""
+        return broken(self.after(script))
 
     def of_model(self, event: Event) -> ModelEvent:
         """An event as the model has it."""

@@ -2,20 +2,23 @@
 
 A search with a fixed seed runs by 1, 2 and 4 processes, with a worker that is killed, and once killed itself and continued from its state.
 Where dask.distributed is installed it also runs over a cluster of this machine's processes, one of which is killed. So does a campaign, whose
-table of results has to be the same. Bad inputs have to be refused in one line each.
+table of results has to be the same. Bad inputs, and workers without the package or with another program, have to be refused in one line each, and
+the state of a search stays as it was.
 """
 
 from __future__ import annotations
 
 import importlib.util
 import os
+import shutil
 import signal
 import socket
 import subprocess
 import sys
 import tempfile
 import time
-from collections.abc import Sequence
+from collections.abc import Iterator, Sequence
+from contextlib import contextmanager
 from pathlib import Path
 
 from workshop.parts import ROOT, any_program
@@ -25,7 +28,9 @@ TABLE = "search,network,raw,pattern,seeds,runs,matches,audit\nresets-in-step,,,,
 WAITS = 60.0  # seconds for a cluster to begin
 BAD = {
     "another network": (["resets-in-step", "--state", "STATE"], "is of a search with another network"),
+    "another program": (["half-open", "--state", "STATE"], "is of another program"),
     "no state": (["half-open", "--state", "TABLE"], "is no state of a search"),
+    "half of a state": (["half-open", "--state", "HALF"], "is no state of a search"),
     "no cluster": (["half-open", "--cluster", "tcp://127.0.0.1:9"], "doesn't answer"),
     "a column that isn't there": (["--campaign", "COLUMN", "--out", "out.csv"], "is no column of a campaign"),
     "a seed that is none": (["--campaign", "SEED", "--out", "out.csv"], "is no seed"),
@@ -48,6 +53,12 @@ class Runs:
         running = self.begun(*words)
         output, said = running.communicate()
         return running.returncode, output, said
+
+    def in_one_line(self, *words: str) -> str:
+        """The one line that a search is refused with; where it isn't, its status and all that it says."""
+        status, _, said = self.run(*words, "--quiet")
+        lines = [it for it in said.splitlines() if it.startswith("explore: ")]
+        return lines[0] if status == 2 and len(lines) == 1 else f"status {status}, {said!r}"
 
     def with_a_kill(self, *words: str) -> tuple[str, bool]:
         """What a search prints, one of whose workers is killed, and whether it had to give out schedules again."""
@@ -120,56 +131,68 @@ def campaign(runs: Runs) -> list[str]:
     return [] if same else ["a campaign's tables differ"]
 
 
-def refused(runs: Runs) -> list[str]:
-    """What isn't refused in one line."""
+def refused(runs: Runs, other: Runs) -> list[str]:
+    """What isn't refused in one line, or leaves the state of a search as it was."""
     files = {
         "STATE": runs.folder / "state",
         "TABLE": runs.folder / "table.csv",
         "COLUMN": runs.folder / "column.csv",
         "SEED": runs.folder / "seed.csv",
+        "HALF": runs.folder / "half",
     }
     files["COLUMN"].write_text("search,speed\nhalf-open,9\n", encoding="utf-8")
     files["SEED"].write_text("search,seeds\nhalf-open,x\n", encoding="utf-8")
+    before = files["STATE"].read_bytes()
+    files["HALF"].write_bytes(before[: len(before) // 2])
     wrong = []
     for name, (words, says) in BAD.items():
         if name == "no cluster" and not importlib.util.find_spec("distributed"):
             says = "needs the package distributed"
-        status, _, said = runs.run(*(str(files.get(it, it)) for it in words), "--cores", "1", "--quiet")
-        lines = [it for it in said.splitlines() if it.startswith("explore: ")]
-        if status != 2 or len(lines) != 1 or says not in lines[0]:
-            wrong.append(f"{name}: status {status}, {said!r}")
-    print(f"check campaigns: {len(BAD)} bad inputs: {'; '.join(wrong) or 'each refused in one line'}", flush=True)
+        whose = other if name == "another program" else runs
+        said = whose.in_one_line(*(str(files.get(it, it)) for it in words), "--cores", "1")
+        wrong += [] if says in said else [f"{name}: {said}"]
+    wrong += [] if files["STATE"].read_bytes() == before else ["the state of a search is another one now"]
+    print(f"check campaigns: {len(BAD)} bad inputs: {'; '.join(wrong) or 'each refused in one line, and the state of a search is as it was'}", flush=True)
     return wrong
 
 
-def cluster(runs: Runs) -> list[str]:
+@contextmanager
+def cluster_of(runs: Runs, workers: Sequence[Runs]) -> Iterator[tuple[str, list[subprocess.Popen[bytes]]]]:
+    """A scheduler on this machine with these workers: its address, and their processes."""
+    with socket.socket() as free:
+        free.bind(("127.0.0.1", 0))
+        host, port = "127.0.0.1", str(free.getsockname()[1])
+    scheduler = began(runs, ["-m", "distributed.cli.dask_scheduler", "--host", host, "--port", port, "--no-dashboard", "--no-show"])
+    address = f"tcp://{host}:{port}"
+    begun = [began(it, ["-m", "distributed.cli.dask_worker", address, "--nthreads", "1", "--no-dashboard", "--no-nanny"]) for it in workers]
+    try:
+        wait_for(host, int(port))
+        yield address, begun
+    finally:
+        for it in [*begun, scheduler]:
+            it.kill()
+            it.wait()
+
+
+def cluster(runs: Runs, other: Runs) -> list[str]:
     """What is wrong with searches over a cluster."""
     if not importlib.util.find_spec("distributed"):
         print("check campaigns: distributed is not installed, so nothing ran over a cluster (apt-get install python3-distributed)")
         return []
-    with socket.socket() as free:
-        free.bind(("127.0.0.1", 0))
-        address = f"127.0.0.1:{free.getsockname()[1]}"
-    host, port = address.split(":")
-    begun = [
-        began(runs, ["-m", "distributed.cli.dask_scheduler", "--host", host, "--port", port, "--no-dashboard", "--no-show"]),
-        *(began(runs, ["-m", "distributed.cli.dask_worker", f"tcp://{address}", "--nthreads", "1", "--no-dashboard", "--no-nanny"]) for _ in range(3)),
-    ]
-    wrong = []
-    try:
-        wanted = runs.run(*SEARCH, "--cores", "1")[1]
-        wait_for(address)
-        first = runs.run(*SEARCH, "--cluster", f"tcp://{address}")[1]
-        wrong += [] if first == wanted else ["a cluster finds something else"]
-        running = runs.begun(*SEARCH, "--cluster", f"tcp://{address}")
+    wrong, wanted = [], runs.run(*SEARCH, "--cores", "1")[1]
+    with cluster_of(runs, [runs] * 3) as (address, workers):
+        wrong += [] if runs.run(*SEARCH, "--cluster", address)[1] == wanted else ["a cluster finds something else"]
+        running = runs.begun(*SEARCH, "--cluster", address)
         time.sleep(4)
-        begun[1].kill()
+        workers[0].kill()
         wrong += [] if running.communicate()[0] == wanted else ["a cluster with a worker that is killed finds something else"]
-    finally:
-        for it in begun:
-            it.kill()
-            it.wait()
-    print(f"check campaigns: a cluster of three workers, and with one that is killed: {'; '.join(wrong) or 'the same octets'}", flush=True)
+    bare = Runs(str(runs.folder), runs.env["DORYDATE_PROGRAM"])
+    del bare.env["PYTHONPATH"]
+    for what, worker, says in ("another program", other, "a worker has another program"), ("no package", bare, "a worker has no package dorydate"):
+        with cluster_of(runs, [worker]) as (address, _):
+            said = runs.in_one_line(*SEARCH[:-1], "--cluster", address)
+            wrong += [] if says in said else [f"a worker with {what}: {said}"]
+    print(f"check campaigns: a cluster of three workers, with one that is killed, with another program and without the package: {'; '.join(wrong) or 'the same octets, and one line each'}", flush=True)
     return wrong
 
 
@@ -178,13 +201,12 @@ def began(runs: Runs, words: Sequence[str]) -> subprocess.Popen[bytes]:
     return subprocess.Popen([sys.executable, *words], stdout=subprocess.DEVNULL, stderr=subprocess.DEVNULL, env=runs.env, cwd=runs.folder)
 
 
-def wait_for(address: str) -> None:
+def wait_for(host: str, port: int) -> None:
     """Waits until somebody listens."""
-    host, _, port = address.partition(":")
     until = time.monotonic() + WAITS
     while time.monotonic() < until:
         try:
-            socket.create_connection((host, int(port)), 1.0).close()
+            socket.create_connection((host, port), 1.0).close()
             return
         except OSError:
             time.sleep(0.2)
@@ -199,7 +221,10 @@ def main() -> int:
         print("check campaigns: the program without proofs is too slow for searches, so none is run: ./build makes the fast one")
         return 0
     with tempfile.TemporaryDirectory() as folder:
-        runs = Runs(folder, os.path.abspath(program))
-        wrong = [*local(runs), *campaign(runs), *refused(runs), *cluster(runs)]
+        runs, other = Runs(folder, os.path.abspath(program)), Runs(folder, f"{folder}/other")
+        shutil.copy(program, f"{folder}/other")
+        with open(f"{folder}/other", "ab") as file:
+            file.write(b"\0")  # it does the same, and has another hash
+        wrong = [*local(runs), *campaign(runs), *refused(runs, other), *cluster(runs, other)]
     print(f"check campaigns: {len(wrong)} faults")
     return 1 if wrong else 0
