@@ -93,7 +93,8 @@ class Executors(unittest.TestCase):
             next(Ordered(Bare(), squares).since(0))
 
     def test_a_worker_with_another_program_is_told(self) -> None:
-        with self.assertRaisesRegex(OtherProgram, "a worker has another program: the hash of .* begins with [0-9a-f]{12}, and not with 000000000000$"):
+        says = "a worker has another program: .* begins with .*, and not with 000000000000$"
+        with self.assertRaisesRegex(OtherProgram, says):
             made(JOB, 64 * "0", 0, 1)
 
 
@@ -118,7 +119,8 @@ class States(unittest.TestCase):
                     state.resumed("", job)
             with self.assertRaisesRegex(OtherState, "another program"):
                 State(f"{room}/state", "other")
-            for text in "no JSON", "[]", json.dumps({"format": 9}), json.dumps({"format": 1, "program": "hash", "searches": 5}):
+            wrong = {"format": 1, "program": "hash", "searches": 5}
+            for text in "no JSON", "[]", json.dumps({"format": 9}), json.dumps(wrong):
                 Path(f"{room}/wrong").write_text(text, encoding="utf-8")
                 with self.assertRaisesRegex(OtherState, "no state of a search"):
                     State(f"{room}/wrong", "hash")
@@ -126,12 +128,14 @@ class States(unittest.TestCase):
 
     def test_a_refused_state_stays_as_it_was(self) -> None:
         with tempfile.TemporaryDirectory() as room:
-            before = self.kept(room).path.read_text(encoding="utf-8")
+            path = self.kept(room).path
+            before = path.read_text(encoding="utf-8")
             for word in "job", "progress", "schedules":
-                Path(f"{room}/state").write_text(before.replace(f'"{word}"', '"other"'), encoding="utf-8")
+                wrong = before.replace(f'"{word}"', '"other"')
+                path.write_text(wrong, encoding="utf-8")
                 with self.assertRaisesRegex(OtherState, "no state of a search", msg=word):
-                    State(f"{room}/state", "hash").resumed("", JOB)
-                self.assertEqual(Path(f"{room}/state").read_text(encoding="utf-8"), before.replace(f'"{word}"', '"other"'))
+                    State(str(path), "hash").resumed("", JOB)
+                self.assertEqual(path.read_text(encoding="utf-8"), wrong)
 
 
 class Campaigns(unittest.TestCase):
@@ -232,7 +236,8 @@ class Without(unittest.TestCase):
         for script, is_followed in {
             ("calm 1", "out 0/1 0/2 0 0 -", "deliver 0 + 0"): True,
             ("calm 1", "out 0/1 0/2 0 0 -", "calm 2"): True,
-            ("calm 1", "out 0/1 0/2 0 0 -", "calm 4", "out 0/1 0/2 0 0 -"): False,  # nothing of the first message is alive
+            # nothing of the first message is alive
+            ("calm 1", "out 0/1 0/2 0 0 -", "calm 4", "out 0/1 0/2 0 0 -"): False,
             ("out 0/1 0/2 0 0 -", "take 0/1"): False,  # its answer is Dead
         }.items():
             self.assertEqual(plan.is_followed(place.after(map(read_event, script))), is_followed, script)

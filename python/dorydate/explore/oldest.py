@@ -1,9 +1,9 @@
 """The search for what breaks where numbers wrap around: it climbs by a plan of what crosses.
 
-A rule about numbers that wrap around matters only once a number comes again while something of its former message is left: a packet that
-is alive, or what the destination's IMP keeps. Random schedules clear such things away. So a plan names what crosses until something
-breaks, and the search continues only from networks in which that much crossed, in this order, and something of the first message is left.
-Among them it prefers those in which the most crossed for few events.
+A rule about numbers that wrap around matters only once a number comes again while something of its former message
+is left: a packet that is alive, or what the destination's IMP keeps. Random schedules clear such things away. So a plan
+names what crosses until something breaks, and the search continues only from networks in which no more crossed, in this
+order, and something of the first message is left. Among them it prefers those in which the most crossed for few events.
 """
 
 from __future__ import annotations
@@ -28,14 +28,14 @@ from dorydate.script import Event
 
 @dataclass(frozen=True)
 class Plan:
-    """What crosses, in order: `out`, `in`, and the words of answers. And whether what is left of the first message is what the destination's
-    IMP keeps, and not what is alive."""
+    """What crosses, in order: `out`, `in`, and the words of answers. And whether what is left of the first message is
+    what the destination's IMP keeps, and not what is alive."""
 
     crossings: tuple[str, ...]
     is_kept: bool = False
 
     def is_followed(self, subnet: Subnet) -> bool:
-        """Whether as much crossed so far, and something of the first message is left. Once its number is begun again that isn't asked."""
+        """Whether this crossed so far, and something of the first message is left until its number is begun again."""
         crossed = crossings_of(subnet)
         begun = crossed.count("out")
         is_left = begun > subnet.numbers.count or age(subnet, self.is_kept) >= begun - 1
@@ -44,7 +44,8 @@ class Plan:
 
 def crossings_of(subnet: Subnet) -> tuple[str, ...]:
     """What crossed, in the words of plans."""
-    return tuple(it.kind if isinstance(it, Passed) else it.answer for it in subnet.log if isinstance(it, Passed | Answered))
+    crossed = (it for it in subnet.log if isinstance(it, Passed | Answered))
+    return tuple(it.kind if isinstance(it, Passed) else it.answer for it in crossed)
 
 
 def age(subnet: Subnet, is_kept: bool) -> int:
@@ -57,7 +58,9 @@ def age(subnet: Subnet, is_kept: bool) -> int:
     return max(((begun[flow] - number) % subnet.numbers.count for flow, number in left if flow in begun), default=0)
 
 
-def climbed(place: Place, events: Sequence[tuple[Event, ModelEvent]], plan: Plan, seconds: float, most: int) -> tuple[Script | None, int]:
+def climbed(
+    place: Place, events: Sequence[tuple[Event, ModelEvent]], plan: Plan, seconds: float, most: int
+) -> tuple[Script | None, int]:
     """A script after which something breaks, None where time is up or `most` steps were made; and the steps."""
     assert isinstance(place, Subnet)
     begun, steps, tie = time.monotonic(), 0, count()

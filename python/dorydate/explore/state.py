@@ -52,7 +52,8 @@ class State:
         if not isinstance(read, dict) or read.get("format") != FORMAT or not isinstance(read.get("searches"), dict):
             raise OtherState(f"{self.path} is no state of a search")
         if read.get("program") != self.program:
-            raise OtherState(f"{self.path} is of another program, whose hash begins with {str(read.get('program'))[:12]}")
+            begins = str(read.get("program"))[:12]
+            raise OtherState(f"{self.path} is of another program, whose hash begins with {begins}")
         return read
 
     def resumed(self, name: str, job: Job) -> Progress | None:

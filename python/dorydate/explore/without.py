@@ -2,8 +2,8 @@
 
 The program has all its rules. So this runs in the model in Python, some hundred schedules a second. Of a raw network what crossed is checked
 against the table of the mailboxes, and of hosts with programs the book against the model's audit. Scripts come from random schedules;
-for rules about numbers that wrap around from a search that climbs by a plan (`oldest`), in a model with few numbers; and from the folder
-`without`, where it is there, whose script for the rule is shortened.
+for rules about numbers that wrap around from a search that climbs by a plan (`oldest`), in a model with few numbers;
+and from the folder `without`, where it is there, whose script for the rule is shortened.
 """
 
 from __future__ import annotations
@@ -39,6 +39,7 @@ STOPPING = ("out", "deliver", "impdown", "impup", "hostup")
 # of one flow, what the two rules about numbers that wrap around are about
 ONE_FLOW = ("calm 1", "out 0/1 0/2 0 0 -", "ask 0/1 0/2 0")
 FRAMES = tuple(f"deliver 0 {way} {place}" for way in "+-" for place in range(6))
+LOSSES = ("giveup 0/1 0/2 0", "drop 0 + 0", "enddown 1 0", "endup 1 0")
 COMES_ROUND = Plan(("out", "in", "rfnm", "out", "in", "rfnm", "out"))
 BEGUN_AGAIN = Plan(("out", "in", "rfnm", "out", "incomplete", "out", "incomplete", "out"), is_kept=True)
 
@@ -59,8 +60,8 @@ class Free(GiveUp):
 
 @dataclass(frozen=True)
 class Sought:
-    """Where a rule is sought: the network, the kinds of events that matter, all where none are named, the model's numbers, and where the
-    search climbs the lines of which lists are made, and its plan."""
+    """Where a rule is sought: the network, the kinds of events that matter, all where none are named, the model's
+    numbers, and where the search climbs the lines of which lists are made, and its plan."""
 
     network: Network = PROGRAMS
     kinds: tuple[str, ...] = ()
@@ -77,7 +78,7 @@ OF_NETWORK = {
     "given up": Sought(RAW, SENDING),
     "it is asked about": Sought(RAW, SENDING),
     "a question": Sought(RAW, SENDING),
-    "IMP keeps": Sought(RAW, SENDING, FEW, (*ONE_FLOW, "giveup 0/1 0/2 0", "drop 0 + 0", "enddown 1 0", "endup 1 0"), BEGUN_AGAIN),
+    "IMP keeps": Sought(RAW, SENDING, FEW, (*ONE_FLOW, *LOSSES), BEGUN_AGAIN),
 }
 LENGTH = 16  # events of a schedule: the model is slow
 MOST_STEPS = 200_000  # of a search that climbs

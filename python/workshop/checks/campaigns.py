@@ -1,9 +1,9 @@
 """Searches by several processes and a cluster, killed workers and killed searches: the same answer, octet for octet (two minutes): ./check campaigns
 
 A search with a fixed seed runs by 1, 2 and 4 processes, with a worker that is killed, and once killed itself and continued from its state.
-Where dask.distributed is installed it also runs over a cluster of this machine's processes, one of which is killed. So does a campaign, whose
-table of results has to be the same. Bad inputs, and workers without the package or with another program, have to be refused in one line each, and
-the state of a search stays as it was.
+Where dask.distributed is installed it also runs over a cluster of this machine's processes, one of which is killed. So
+does a campaign, whose table of results has to be the same. Bad inputs, and workers without the package or with another
+program, have to be refused in one line each, and the state of a search stays as it was.
 """
 
 from __future__ import annotations
@@ -25,6 +25,8 @@ from workshop.parts import ROOT, any_program
 
 SEARCH = ["half-open", "--seed", "3", "--matches", "2", "--quiet"]
 TABLE = "search,network,raw,pattern,seeds,runs,matches,audit\nresets-in-step,,,,1-2,2000,1,\n,A-B,yes,out A B N .. then not out A B N .. then in A B N .. then not out A B N .. then in A B N ..,1,400,,yes\n"
+SCHEDULER = ["-m", "distributed.cli.dask_scheduler", "--no-dashboard", "--no-show"]
+GONE = "doesn't answer any more"
 WAITS = 60.0  # seconds for a cluster to begin
 BAD = {
     "another network": (["resets-in-step", "--state", "STATE"], "is of a search with another network"),
@@ -152,24 +154,25 @@ def refused(runs: Runs, other: Runs) -> list[str]:
         said = whose.in_one_line(*(str(files.get(it, it)) for it in words), "--cores", "1")
         wrong += [] if says in said else [f"{name}: {said}"]
     wrong += [] if files["STATE"].read_bytes() == before else ["the state of a search is another one now"]
-    print(f"check campaigns: {len(BAD)} bad inputs: {'; '.join(wrong) or 'each refused in one line, and the state of a search is as it was'}", flush=True)
+    right = "each refused in one line, and the state of a search is as it was"
+    print(f"check campaigns: {len(BAD)} bad inputs: {'; '.join(wrong) or right}", flush=True)
     return wrong
 
 
 @contextmanager
 def cluster_of(runs: Runs, workers: Sequence[Runs]) -> Iterator[tuple[str, list[subprocess.Popen[bytes]]]]:
-    """A scheduler on this machine with these workers: its address, and their processes."""
+    """A scheduler on this machine with these workers: its address, its process, and theirs."""
     with socket.socket() as free:
         free.bind(("127.0.0.1", 0))
         host, port = "127.0.0.1", str(free.getsockname()[1])
-    scheduler = began(runs, ["-m", "distributed.cli.dask_scheduler", "--host", host, "--port", port, "--no-dashboard", "--no-show"])
     address = f"tcp://{host}:{port}"
-    begun = [began(it, ["-m", "distributed.cli.dask_worker", address, "--nthreads", "1", "--no-dashboard", "--no-nanny"]) for it in workers]
+    words = ["-m", "distributed.cli.dask_worker", address, "--nthreads", "1", "--no-dashboard", "--no-nanny"]
+    begun = [began(runs, [*SCHEDULER, "--host", host, "--port", port]), *(began(it, words) for it in workers)]
     try:
         wait_for(host, int(port))
         yield address, begun
     finally:
-        for it in [*begun, scheduler]:
+        for it in reversed(begun):
             it.kill()
             it.wait()
 
@@ -177,23 +180,40 @@ def cluster_of(runs: Runs, workers: Sequence[Runs]) -> Iterator[tuple[str, list[
 def cluster(runs: Runs, other: Runs) -> list[str]:
     """What is wrong with searches over a cluster."""
     if not importlib.util.find_spec("distributed"):
-        print("check campaigns: distributed is not installed, so nothing ran over a cluster (apt-get install python3-distributed)")
+        print("check campaigns: without Debian's python3-distributed nothing ran over a cluster")
         return []
     wrong, wanted = [], runs.run(*SEARCH, "--cores", "1")[1]
-    with cluster_of(runs, [runs] * 3) as (address, workers):
+    with cluster_of(runs, [runs] * 3) as (address, processes):
         wrong += [] if runs.run(*SEARCH, "--cluster", address)[1] == wanted else ["a cluster finds something else"]
         running = runs.begun(*SEARCH, "--cluster", address)
         time.sleep(4)
-        workers[0].kill()
-        wrong += [] if running.communicate()[0] == wanted else ["a cluster with a worker that is killed finds something else"]
+        processes[1].kill()
+        found = running.communicate()[0]
+        wrong += [] if found == wanted else ["a cluster with a worker that is killed finds something else"]
+    wrong += without_its_scheduler(runs, wanted)
     bare = Runs(str(runs.folder), runs.env["DORYDATE_PROGRAM"])
     del bare.env["PYTHONPATH"]
-    for what, worker, says in ("another program", other, "a worker has another program"), ("no package", bare, "a worker has no package dorydate"):
+    for worker, says in (other, "a worker has another program"), (bare, "a worker has no package dorydate"):
         with cluster_of(runs, [worker]) as (address, _):
             said = runs.in_one_line(*SEARCH[:-1], "--cluster", address)
-            wrong += [] if says in said else [f"a worker with {what}: {said}"]
-    print(f"check campaigns: a cluster of three workers, with one that is killed, with another program and without the package: {'; '.join(wrong) or 'the same octets, and one line each'}", flush=True)
+            wrong += [] if says in said else [f"not `{says}`: {said}"]
+    right = "the same octets, with one that is killed, too; no scheduler, no package, another program in one line each"
+    print(f"check campaigns: a cluster of three workers: {'; '.join(wrong) or right}", flush=True)
     return wrong
+
+
+def without_its_scheduler(runs: Runs, wanted: str) -> list[str]:
+    """What is wrong with a search whose scheduler is killed, and which continues from its state by itself."""
+    state, wrong = runs.folder / "cluster-state", []
+    with cluster_of(runs, [runs]) as (address, processes):
+        running = runs.begun(*SEARCH, "--cluster", address, "--state", str(state))
+        while running.poll() is None and not state.is_file():
+            time.sleep(0.05)
+        processes[0].kill()
+        said = running.communicate()[1]
+        wrong += [] if running.returncode == 2 and said.count("\n") == 1 and GONE in said else [f"not `{GONE}`: {said}"]
+    found = runs.run(*SEARCH, "--cores", "1", "--state", str(state))[1]
+    return wrong if found == wanted else [*wrong, "a search whose scheduler was killed finds something else when it continues"]
 
 
 def began(runs: Runs, words: Sequence[str]) -> subprocess.Popen[bytes]:

@@ -8,8 +8,8 @@ promise broken; in the model with all its rules, where nothing may break; and on
 nothing may break either: so no line could be left out, but for one that a file may name as being there for the reader. With a
 FILE it prints both outputs, without the rule and with it.
 
-`without/shortest` has the shortest script for each rule that `./explore --without RULE` has found, and no longer one than `without`. Those of
-the two rules about numbers that wrap around are found again by the search's plans.
+`without/shortest` has the shortest script for each rule that `./explore --without RULE` has found, and no longer one
+than `without`. Those of the two rules about numbers that wrap around are found again, by the search's plans.
 
 What comes of numbers that wrap around is the same whatever their number, as long as it is more than twice the window
 (docs/numbers.md). So a file may have a line `# numbers: N W`: there the model has N numbers and a window of W, and few messages
