@@ -87,7 +87,7 @@ def parsed(path: str, text: str) -> Source:
             current = None
             indents.append(depth + 2)
             continue
-        if depth > indents[-1]:
+        if depth > indents[-1] or line.lstrip()[0] in "])}":
             if current:
                 current.last = at
             (current.words if current else source.heads).update(TOKEN.findall(line))
@@ -197,7 +197,18 @@ def without(text: str, source: Source, names: list[str]) -> str:
     gone = {at for name in names for block in source.blocks[name] for at in range(block.first, block.last + 1)}
     kept = "\n".join(line for at, line in enumerate(lines) if at not in gone)
     kept = re.sub(r"\n *-- ----[^\n]*\n(?=\s*(?:-- ----|$))", "\n", kept)
-    return re.sub(r"\n{3,}", "\n\n", kept).rstrip("\n") + "\n"
+    return re.sub(r"\n{3,}", "\n\n", without_empty(kept)).rstrip("\n") + "\n"
+
+
+def without_empty(text: str) -> str:
+    """A file without the sections that declare nothing."""
+    lines = text.split("\n")
+    for at, line in enumerate(lines):
+        if SECTION.match(line) and line.endswith("where"):
+            after = next((it for it in lines[at + 1 :] if it.strip()), "")
+            if len(after) - len(after.lstrip()) <= len(line) - len(line.lstrip()):
+                return without_empty("\n".join(lines[:at] + lines[at + 1 :]))
+    return text
 
 
 def main() -> int:
