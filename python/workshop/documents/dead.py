@@ -211,16 +211,34 @@ def without_empty(text: str) -> str:
     return text
 
 
+def without_imports(text: str, gone: dict[str, list[str]]) -> str:
+    """A file that takes none of these names from their modules."""
+    lines = []
+    for line in text.split("\n"):
+        found = USE.match(line)
+        if found and found[3] is not None and found[2] in gone:
+            taken = [it.strip() for it in found[3].split(",")]
+            left = [it for it in taken if it.partition(" as ")[0] not in gone[found[2]]]
+            if left:
+                lines.append(line.replace(f"{{{found[3]}}}", f"{{{', '.join(left)}}}"))
+        else:
+            lines.append(line)
+    return "\n".join(lines)
+
+
 def main() -> int:
     words = sys.argv[1:]
     if words[:1] != ["--delete"]:
         print(*faults(), sep="\n")
         return 0
-    for module, names in dead().items():
-        if module.split(".")[1] in words[1:]:
-            source = sources()[module]
-            text = without(text_of(source.path), source, names)
+    gone = {module: names for module, names in dead().items() if module.split(".")[1] in words[1:]}
+    for module, source in sources().items():
+        names = gone.get(module, [])
+        before = text_of(source.path)
+        text = without_imports(without(before, source, names) if names else before, gone)
+        if text != before:
             with open(source.path, "w", encoding="utf-8") as file:
                 file.write(text)
+        if names:
             print(f"{os.path.relpath(source.path, ROOT)}: {', '.join(names)}")
     return 0

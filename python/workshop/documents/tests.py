@@ -252,6 +252,11 @@ class Dead(unittest.TestCase):
         found = dead.without(text, dead.parsed("one.antt", text), ["gone"])
         self.assertEqual(found, "one : A\none = refl\n\nmodule _ where\n  two : A\n  two = one\n")
 
+    def test_what_is_deleted_is_taken_by_no_file(self) -> None:
+        text = "use Rattle.a.proofs.B.{gone, kept}\nuse Rattle.a.proofs.B.{gone}\nuse Rattle.a.proofs.C.{gone}\n"
+        found = dead.without_imports(text, {"Rattle.a.proofs.B": ["gone"]})
+        self.assertEqual(found, "use Rattle.a.proofs.B.{kept}\nuse Rattle.a.proofs.C.{gone}\n")
+
 
 class Common(unittest.TestCase):
     STD = "use Rattle.std.proofs.Common.{refl, ap}\n"
