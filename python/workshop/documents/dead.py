@@ -87,7 +87,7 @@ def parsed(path: str, text: str) -> Source:
             current = None
             indents.append(depth + 2)
             continue
-        if depth > indents[-1] or line.lstrip()[0] in "])}":
+        if depth > indents[-1] or re.match(r" *([\])}]|unfolding )", line):
             if current:
                 current.last = at
             (current.words if current else source.heads).update(TOKEN.findall(line))

@@ -247,7 +247,7 @@ class Budget(unittest.TestCase):
 class Dead(unittest.TestCase):
     def test_what_is_deleted_leaves_no_part_of_it(self) -> None:
         text = "one : A\none = refl\n\nmodule _ (a : A) where\n"
-        text += "  -- said of it\n  gone : A\n  gone = elim a [\n    | b ↦ b\n  ]\n\n"
+        text += "  -- said of it\n  gone : A\n  unfolding one\n  gone = elim a [\n    | b ↦ b\n  ]\n\n"
         text += "module _ where\n  two : A\n  two = one\n"
         found = dead.without(text, dead.parsed("one.antt", text), ["gone"])
         self.assertEqual(found, "one : A\none = refl\n\nmodule _ where\n  two : A\n  two = one\n")
