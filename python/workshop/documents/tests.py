@@ -9,7 +9,7 @@ import tempfile
 import unittest
 from unittest import mock
 
-from workshop.documents import anchors, believed, believed_words, budget, common, crates_page, dialect, figures, named_crates, paragraphs, rules, tags
+from workshop.documents import anchors, believed, believed_words, budget, common, crates_page, dead, dialect, figures, named_crates, paragraphs, rules, tags
 from workshop.drawings import facts, formats, hosts, network, pictures, repository
 from workshop.drawings.svg import Drawing
 from workshop.parts import ROOT
@@ -281,6 +281,20 @@ class Budget(unittest.TestCase):
 
     def test_what_is_not_used_is_taken_off(self) -> None:
         self.assertEqual(budget.lowered({"a": 9, "b": 4, "c": 3}, {"a": [(10, "what it had"), (2, "a law")], "b": [(4, "what it had")]}), {"a": [(7, "what it had"), (2, "a law")], "b": [(4, "what it had")], "c": [(3, "what the crate had when it got a budget")]})
+
+
+class Dead(unittest.TestCase):
+    def test_what_is_deleted_leaves_no_part_of_it(self) -> None:
+        text = "one : A\none = refl\n\nmodule _ (a : A) where\n"
+        text += "  -- said of it\n  gone : A\n  unfolding one\n  gone = elim a [\n    | b ↦ b\n  ]\n\n"
+        text += "module _ where\n  two : A\n  two = one\n"
+        found = dead.without(text, dead.parsed("one.antt", text), ["gone"])
+        self.assertEqual(found, "one : A\none = refl\n\nmodule _ where\n  two : A\n  two = one\n")
+
+    def test_what_is_deleted_is_taken_by_no_file(self) -> None:
+        text = "use Rattle.a.proofs.B.{gone, kept}\nuse Rattle.a.proofs.B.{gone}\nuse Rattle.a.proofs.C.{gone}\n"
+        found = dead.without_imports(text, {"Rattle.a.proofs.B": ["gone"]})
+        self.assertEqual(found, "use Rattle.a.proofs.B.{kept}\nuse Rattle.a.proofs.C.{gone}\n")
 
 
 class Common(unittest.TestCase):
