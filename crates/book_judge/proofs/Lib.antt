@@ -15,4 +15,7 @@ pub mod Lost
 pub mod Taken
 pub mod Streamed
 pub mod Worked
+pub mod Reached
+pub mod Suited
+pub mod Contacts
 pub mod lemmas

@@ -96,7 +96,7 @@ named_here own foreign octets whole named read is some there names = by is.most 
       let one : is.most ≡ 1 + n = omega (arith, m) in
       first named (named_in own foreign (orders_within n (drop read octets))) there ∙ sym (names n) ∙ ap (λ (k : ℕ). named_in own foreign (orders_within k octets)) (sym one) ∙ is.same
 
-none_within : (most : ℕ) → orders_within most [] ≡ []
+pub none_within : (most : ℕ) → orders_within most [] ≡ []
 none_within zero = refl
 none_within (suc most) = refl
 

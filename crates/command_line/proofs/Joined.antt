@@ -73,6 +73,32 @@ closes_logged log lives handed fates w = record {
   took_handed = λ x y text beside there m. w.took_handed x y text (beside_logged x lives fates beside) there m;
 }
 
+-- a fate that is logged suits where it does
+suits_logged : (s : Stage) (f : Fate) → suits s f ≡ true → suits s (logged_fate f) ≡ true
+suits_logged s fate.Open e = e
+suits_logged (Asking own partner) fate.Closing e = refl
+suits_logged (Going own partner) fate.Closing e = refl
+suits_logged (Over Dropped place) fate.Closing e = e
+suits_logged (Over Stopped place) fate.Closing e = e
+suits_logged (Over (Closed first) place) fate.Closing e = e
+suits_logged s fate.Closed e = e
+suits_logged s fate.Ended e = e
+suits_logged s fate.Reset e = e
+suits_logged s fate.Stopped e = e
+
+logged_beside : (x : Life) (f : Fate) (lives : List Life) (fates : List Fate) → IsBeside x f lives (map logged_fate fates) → (g : Fate) × IsBeside x g lives fates × (f ≡ logged_fate g)
+logged_beside x f [] fates h = absurd h
+logged_beside x f (y ∷ lives) [] h = absurd h
+logged_beside x f (y ∷ lives) (g ∷ fates) h = elim h [
+  | inl e ↦ (g, inl (e.0, refl), e.1)
+  | inr r ↦ (let b = logged_beside x f lives fates r in (b.0, inr b.1.0, b.1.1))
+]
+
+suited_logged : (log : List Crossing) (lives : List Life) (fates : List Fate) → AreSuited log lives fates → AreSuited log lives (map logged_fate fates)
+suited_logged log lives fates all x f h =
+    let b = logged_beside x f lives fates h in
+    subst (λ (g : Fate). suits (stage [] x log) g ≡ true) (sym b.1.1) (suits_logged (stage [] x log) b.0 (all x b.0 b.1.0))
+
 -- the lives and fates of the log of a world are those of its book
 says_logged : (k : Kept) → AreFated k.book.lives k.fates → Judged kept (reverse k.book.crossings) k.book.lives k.handed (map logged_fate k.fates) → SaysOf kept (world_book k)
 says_logged k are j =
@@ -85,7 +111,7 @@ kept_from calls opening (Raw events) octets h = record {
   log = record { spelled = h.written; valid = h.valid };
   says =
       kept_from_safe (reverse (calls.seen h.last).log) [] [] [] (run_twice (calls.seen h.last).hosts (calls.seen h.last).log h.run) (λ x there. absurd (none_there x there))
-      (turned audit.Kept (calls.seen h.last).log [] [] (kept_alone (calls.seen h.last).log h.messages)) (none_closes (reverse (reverse (calls.seen h.last).log)));
+      (turned audit.Kept (calls.seen h.last).log [] [] (kept_alone (calls.seen h.last).log h.messages)) (none_closes (reverse (reverse (calls.seen h.last).log))) (λ x f beside. absurd beside);
 }
 kept_from calls opening (World events) octets h = record {
   book = world_book h.last.kept;
@@ -96,7 +122,9 @@ kept_from calls opening (World events) octets h = record {
       (run_twice (calls.seen h.last.carrier).hosts h.last.kept.book.crossings (world_run calls.seen h.last h.promise.lawful)) (made_twice h.last.kept.book.crossings h.last.kept.book.lives h.promise.formed)
       (turned audit.Kept h.last.kept.book.crossings h.last.kept.book.lives h.last.kept.handed (kept_promise (calls.seen h.last.carrier).hosts h.last.kept.book h.last.kept.handed (parted calls.seen h.last h.promise).0))
       (closes_logged (reverse (reverse h.last.kept.book.crossings)) h.last.kept.book.lives h.last.kept.handed h.last.kept.fates
-      (subst (λ (cs : List Crossing). ClosesWhole cs h.last.kept.book.lives h.last.kept.handed h.last.kept.fates) (sym (reverse-reverse h.last.kept.book.crossings)) h.whole)));
+      (subst (λ (cs : List Crossing). ClosesWhole cs h.last.kept.book.lives h.last.kept.handed h.last.kept.fates) (sym (reverse-reverse h.last.kept.book.crossings)) h.whole))
+      (suited_logged (reverse (reverse h.last.kept.book.crossings)) h.last.kept.book.lives h.last.kept.fates
+      (subst (λ (cs : List Crossing). AreSuited cs h.last.kept.book.lives h.last.kept.fates) (sym (reverse-reverse h.last.kept.book.crossings)) h.suited)));
 }
 
 kept_over : (carrier : CarrierKind) (t : TopologyFields) (events : Asked) (octets : List ℕ) → LogsOver carrier t events (Some []) (Some octets) → IsKeptLog octets

@@ -5,10 +5,11 @@ use Rattle.std.specs.Prelude.{◌↔◌}
 use Rattle.std.proofs.lemmas.List.{append_assoc, take-append-drop}
 use Rattle.std.proofs.lemmas.List.Elements.{Contains-append_left}
 use Rattle.book_judge.specs.Broken.{IfFormed, first_closed}
+use Rattle.book_judge.specs.Fates.{AreSuited, UnsuitedAt}
 use Rattle.book_judge.specs.Lives.{UnmadeAt}
 use Rattle.promise.specs.Formed.{FormedBook}
 use Rattle.book_judge.specs.Runs.{IsSomeRun, StraysAt}
-use Rattle.book_judge.proofs.lemmas.{closed_front, made_front, run_front}
+use Rattle.book_judge.proofs.lemmas.{closed_front, made_front, run_front, suited_front}
 use Rattle.interface.proofs.lemmas.{safe_messages}
 use Rattle.interface.specs.Messages.{SafeMessages}
 use Rattle.interface.specs.declared.crossing.Answer.TheVariants as answer
@@ -161,11 +162,15 @@ closes_named v log lives handed fates j e =
     unnamed v.closes (λ found. ShowsLife (first_closed (reverse log) lives handed fates) found (reverse log) lives) (λ found w h. shown_closes found (reverse log) lives handed fates w h)
     (looked_at v.malformed v.closes (ClosesWhole (reverse log) lives handed fates) (λ found. ShowsLife (first_closed (reverse log) lives handed fates) found (reverse log) lives) e j.closes)
 
+pub fates_named : (v : Verdict) (log : List Crossing) (lives : List Life) (handed : List (List Bool)) (fates : List Fate) → Judged v log lives handed fates → (v.unsuited ≡ None) ↔ AreSuited (reverse log) lives fates
+fates_named v log lives handed fates j =
+    unnamed v.unsuited (λ place. UnsuitedAt (reverse log) lives fates place) (λ place suited at. at.1 (suited_front (reverse log) lives fates (place + 1) suited)) j.suited
+
 -- ---- nothing is named exactly of a safe book
 
 pub kept_from_safe : (log : List Crossing) (lives : List Life) (handed : List (List Bool)) (fates : List Fate) → IsSomeRun (reverse log) → FormedBook (reverse log) lives → Says audit.Kept (reverse log) lives handed
-    → ClosesWhole (reverse log) lives handed fates → Judged kept log lives handed fates
-kept_from_safe log lives handed fates run made safe closes = record {
+    → ClosesWhole (reverse log) lives handed fates → AreSuited (reverse log) lives fates → Judged kept log lives handed fates
+kept_from_safe log lives handed fates run made safe closes suited = record {
   run = run;
   made = made;
   formed = safe.0;
@@ -174,6 +179,7 @@ kept_from_safe log lives handed fates run made safe closes = record {
   streams = record { source = safe.1.streams.source; sent = safe.1.streams.sent };
   grants = safe.1.grants;
   closes = closes;
+  suited = suited;
 }
 
 some_one : (a b : Name) → Some a ≡ Some b → a ≡ b
@@ -204,4 +210,5 @@ only_kept v log lives handed fates k j =
     let streams : v.streams ≡ None = (streams_named v log lives handed fates j malformed).1 k.streams in
     let grants : v.grants ≡ None = (grants_named v log lives handed fates j malformed).1 k.grants in
     let closes : v.closes ≡ None = (closes_named v log lives handed fates j malformed).1 k.closes in
-    (λ i. record { stray = stray i; unmade = unmade i; malformed = malformed i; messages = messages i; partners = partners i; streams = streams i; grants = grants i; closes = closes i })
+    let unsuited : v.unsuited ≡ None = (fates_named v log lives handed fates j).1 k.suited in
+    (λ i. record { stray = stray i; unmade = unmade i; malformed = malformed i; messages = messages i; partners = partners i; streams = streams i; grants = grants i; closes = closes i; unsuited = unsuited i })

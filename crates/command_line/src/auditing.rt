@@ -106,7 +106,7 @@ pub fn audit_status(found: Verdict) -> u8
 }
 
 /// Reads a log, and writes `kept` where its book is safe, what crossed is a run of the mailboxes, its lives are made of the messages that
-/// crossed, and those that their partners ended lost nothing. Else it writes all that isn't so, a line each, in this order:
+/// crossed, those that their partners ended lost nothing, and each has a fate that what crossed leaves it. Else it writes all that isn't so, a line each, in this order:
 ///
 /// - `broken run line N`, the line of the first crossing that finds no box as it needs it;
 /// - `broken lives line N`, the line of the first life whose messages aren't the first on its link;
@@ -114,7 +114,8 @@ pub fn audit_status(found: Verdict) -> u8
 /// - `broken PART line N` or `broken PART lines M N` for each part of a safe book that fails, with the lines of the crossing or of the one or
 ///   two lives that show it: messages, and of a book that isn't malformed partners, streams and grants;
 /// - `broken closes lines N M`, of such a book, with the lines of the first life that its partner ended and that lost anything, and of the one that
-///   it matches.
+///   it matches;
+/// - `broken fates line N`, the line of the first life whose fate isn't one that what crossed leaves it.
 ///
 /// It answers what it found.
 ///

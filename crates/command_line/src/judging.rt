@@ -7,7 +7,7 @@ ghost use Rattle.interface.specs.Messages.{SafeMessages};
 ghost use Rattle.net_sim.specs.Findings.{ShowsCrossing};
 
 use crate::verdict::Verdict;
-use book_judge::{Broken, broken_at, broken_message, stray_at, unmade_at};
+use book_judge::{Broken, broken_at, broken_message, stray_at, unmade_at, unsuited_at};
 use interface::Crossing;
 use net_sim::{BitLog, Finding, Life};
 use promise::Fate;
@@ -55,6 +55,7 @@ pub(crate) fn judge(
         grants,
         closes,
     } = broken_at(alloc, log, lives, handed, fates)?;
+    let unsuited = unsuited_at(alloc, log, lives, fates)?;
     Ok(Verdict {
         stray,
         unmade,
@@ -64,5 +65,6 @@ pub(crate) fn judge(
         streams,
         grants,
         closes,
+        unsuited,
     })
 }
