@@ -1,5 +1,5 @@
 -- What `--log` writes, `--audit` reads and calls kept.
-use Rattle.std.proofs.Common.{◌≡◌, ℕ, Bool, List, [], ◌∷◌, reverse, Option, Some, None, IfSome, Result, Ok, Err, MatchResult, inl, inr, map, refl, sym, subst}
+use Rattle.std.proofs.Common.{◌≡◌, ℕ, Bool, true, List, [], ◌∷◌, reverse, Option, Some, None, IfSome, Result, Ok, Err, MatchResult, inl, inr, map, refl, sym, subst}
 use Rattle.std.proofs.lemmas.List.{reverse-reverse}
 use Rattle.book_log.specs.Log.{Book, fates_of, lives_of, logged_fate}
 use Rattle.book_log.proofs.lemmas.{book_once, fates_back, lives_back}
@@ -12,6 +12,7 @@ use Rattle.net_sim.specs.Audit.{Says}
 use Rattle.net_sim.specs.declared.auditing.said.Audit.{Audit}
 use Rattle.net_sim.specs.declared.auditing.said.Audit.TheVariants as audit
 use Rattle.net_sim.specs.Book.{Kept}
+use Rattle.promise.specs.Ends.{Asking, Closed, Dropped, Going, Over, Stage, Stopped, stage}
 use Rattle.promise.specs.Fates.{AreFated, ClosesWhole, IsBeside}
 use Rattle.promise.specs.declared.life.Fate.{Fate}
 use Rattle.promise.specs.declared.life.Fate.TheVariants as fate
@@ -20,6 +21,7 @@ use Rattle.interface.specs.Calls.{Calls}
 use Rattle.topology.specs.Topology.{TopologyFields}
 use Rattle.topology.specs.declared.network.CarrierKind.{CarrierKind}
 use Rattle.topology.specs.declared.network.CarrierKind.TheVariants as kind
+use Rattle.book_judge.specs.Fates.{AreSuited, suits}
 use Rattle.book_judge.specs.Runs.{IsSomeRun}
 use Rattle.book_judge.proofs.lemmas.{made_twice}
 use Rattle.command_line.specs.Audits.{AuditsLog, IsAuditFault, IsKeptLog, IsSomeLog, Judged, SaysKept, SaysOf, kept}

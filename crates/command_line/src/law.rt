@@ -3,6 +3,7 @@
 
 ghost use Rattle.std.specs.Prelude.{◌≡◌, ◌==◌, ◌↔◌, ◌++◌, ◌+◌, ℕ, Bool, true, false, List, [], ◌∷◌, reverse};
 ghost use Rattle.std.specs.Prelude.{Ok, Err, Option, Some, None, codes};
+ghost use Rattle.book_judge.specs.Fates.{AreSuited};
 ghost use Rattle.book_judge.specs.Runs.{IsSomeRun};
 ghost use Rattle.book_log.specs.Log as log;
 ghost use Rattle.host_services.specs.declared.report.Reported.{Reported};
