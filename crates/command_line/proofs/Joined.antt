@@ -93,13 +93,13 @@ logged_beside x f [] fates h = absurd h
 logged_beside x f (y ∷ lives) [] h = absurd h
 logged_beside x f (y ∷ lives) (g ∷ fates) h = elim h [
   | inl e ↦ (g, inl (e.0, refl), e.1)
-  | inr r ↦ (let b = logged_beside x f lives fates r in (b.0, inr b.1.0, b.1.1))
+  | inr r ↦ (let b = logged_beside x f lives fates r in (b.0, inr b.1, b.2))
 ]
 
 suited_logged : (log : List Crossing) (lives : List Life) (fates : List Fate) → AreSuited log lives fates → AreSuited log lives (map logged_fate fates)
 suited_logged log lives fates all x f h =
     let b = logged_beside x f lives fates h in
-    subst (λ (g : Fate). suits (stage [] x log) g ≡ true) (sym b.1.1) (suits_logged (stage [] x log) b.0 (all x b.0 b.1.0))
+    subst (λ (g : Fate). suits (stage [] x log) g ≡ true) (sym b.2) (suits_logged (stage [] x log) b.0 (all x b.0 b.1))
 
 -- the lives and fates of the log of a world are those of its book
 says_logged : (k : Kept) → AreFated k.book.lives k.fates → Judged kept (reverse k.book.crossings) k.book.lives k.handed (map logged_fate k.fates) → SaysOf kept (world_book k)

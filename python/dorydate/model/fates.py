@@ -13,10 +13,10 @@ from dorydate.model.book import Life
 from dorydate.model.commands import CLS, RRP, RST, RTS, STR, read_numbers
 from dorydate.model.crossings import Answered, Crossing, Passed
 from dorydate.model.firsts import RIGHT
-from dorydate.model.names import Flow
+from dorydate.model.names import Flow, HostName
 
 WAYS = ("out", "in")  # a life's own commands go out, and those of its partner come in
-LEAVES = {  # by what a life is over, None where it continues: the fates that this leaves. A contact doesn't cross, so any life may have been reset by one
+LEAVES: dict[str | None, set[str]] = {  # by what a life is over, None where it continues: the fates that this leaves. A contact doesn't cross, so any life may have been reset by one
     None: {"open", "closing", "reset"},
     "reset": {"reset"},
     "stopped": {"stopped", "reset"},
@@ -32,10 +32,11 @@ class Deed(NamedTuple):
 
 
 class Over(NamedTuple):
-    """By what a life is over, and the place at which it was so; None where it continues."""
+    """By what a life is over, None where it continues; what crossed then, and where; and whose CLS had crossed."""
 
     by: str | None
-    place: int | None
+    last: Deed | None
+    closed: frozenset[str]
 
 
 class Fates:
@@ -46,30 +47,30 @@ class Fates:
     def over(self, log: Sequence[Crossing], life: Life) -> Over | None:
         """By what a life is over by what crossed; None where it hasn't begun."""
         asked: set[str] = set()
-        closed: set[str] = set()
+        closed: frozenset[str] = frozenset()
         owes = False
-        for what, place in self.deeds(log, life):
-            word, way = what.split()
+        for deed in self.deeds(log, life):
+            word, way = deed.what.split()
             cut = self.cut(word, way, owes)
             owes = self.owes(word, way, owes)
             if len(asked) < len(WAYS):
                 asked |= {way} if word == "asks" else set()
             elif cut:
-                return Over(cut, place)
+                return Over(cut, deed, closed)
             elif word == "closes":
-                closed.add(way)
+                closed |= {way}
                 if self.are_closed(closed):
-                    return Over("closed", place)
-        return Over(None, None) if len(asked) == len(WAYS) else None
+                    return Over("closed", deed, closed)
+        return Over(None, None, closed) if len(asked) == len(WAYS) else None
 
     def suits(self, log: Sequence[Crossing], life: Life) -> bool:
         """Whether what crossed leaves a life its fate. Of one that hasn't begun nothing is said."""
         over = self.over(log, life)
         return over is None or life.fate in self.leaves[over.by]
 
-    def are_closed(self, closed: set[str]) -> bool:
+    def are_closed(self, closed: frozenset[str]) -> bool:
         """Whether the CLS that crossed are enough."""
-        return closed == set(WAYS)
+        return closed == frozenset(WAYS)
 
     def cut(self, word: str, way: str, owes: bool) -> str | None:
         """How a life that continues ends by this, if it does: its pair is reset, or its host stops."""
@@ -92,7 +93,7 @@ class Fates:
             elif self.is_turned(crossing.host, life):
                 yield Deed(f"{crossing.kind} out", place)
 
-    def is_turned(self, host: object, life: Life) -> bool:
+    def is_turned(self, host: HostName, life: Life) -> bool:
         """Whether a host that stops or starts is a life's."""
         return host == life.host
 
@@ -118,5 +119,4 @@ class Fates:
         return "closes" if code == CLS and read_numbers(command, 4, 4) == [own, foreign] else None
 
 
-RIGHT_FATES = Fates()
-over = RIGHT_FATES.over
+over = Fates().over

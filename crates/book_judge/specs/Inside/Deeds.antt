@@ -1,23 +1,23 @@
 -- What of a log may change how far a life is, and how far it is by that. No public clause cites this file.
-use Rattle.std.specs.Prelude.{◌≡◌, ℕ, ◌==◌, ◌&&◌, ◌||◌, Bool, true, false, not, if◌then◌else◌, List, [], ◌∷◌, ◌++◌, length, Option, Some, None}
+use Rattle.std.specs.Prelude.{◌≡◌, ℕ, ◌+◌, ◌==◌, ◌&&◌, ◌||◌, nat_lt, min, Bool, true, false, not, if◌then◌else◌, List, [], ◌∷◌, ◌++◌, length, drop, take, slice_get, Option, Some, None}
 use Rattle.interface.specs.Host.{Host, same_host}
 use Rattle.interface.specs.declared.crossing.Crossing.{Crossing}
 use Rattle.interface.specs.declared.crossing.Crossing.TheVariants as crossing
 use Rattle.interface.specs.declared.message.HostMessage.{HostMessage}
 use Rattle.ncp_control.specs.declared.command.Command.{Command}
 use Rattle.ncp_control.specs.declared.command.Command.TheVariants as command
-use Rattle.host_pairs.specs.Control.{Legal, Order, Wrong, orders_of}
+use Rattle.host_pairs.specs.Control.{Legal, Order, Wrong, orders_of, orders_within}
 use Rattle.promise.specs.Ends.{Asking, Closed, Course, Dropped, Going, Over, Stage, Stopped, asks_for, closes, fails}
 use Rattle.promise.specs.declared.life.Fate.{Fate}
 use Rattle.promise.specs.declared.life.Fate.TheVariants as fate
 use Rattle.promise.specs.declared.life.Life.{Life}
 use Rattle.book_judge.specs.Fates.{suits_cause, suits_going}
-use Rattle.book_judge.specs.declared.deeds.Act.{Act}
-use Rattle.book_judge.specs.declared.deeds.Act.TheVariants as act
-use Rattle.book_judge.specs.declared.deeds.Deed.{Deed}
-use Rattle.book_judge.specs.declared.stages.Reached.{Reached}
-use Rattle.book_judge.specs.declared.stages.Reached.TheVariants as reached
-use Rattle.book_judge.specs.declared.stages.Standing.{Standing}
+use Rattle.book_judge.specs.declared.fates.Act.{Act}
+use Rattle.book_judge.specs.declared.fates.Act.TheVariants as act
+use Rattle.book_judge.specs.declared.fates.Deed.{Deed}
+use Rattle.book_judge.specs.declared.fates.Reached.{Reached}
+use Rattle.book_judge.specs.declared.fates.Reached.TheVariants as reached
+use Rattle.book_judge.specs.declared.fates.Standing.{Standing}
 
 -- ---- deeds
 
@@ -42,6 +42,12 @@ abbrev pub deeds_by : Bool → ℕ → Host → Host → List Order → List Dee
 deeds_by comes place host peer [] = []
 deeds_by comes place host peer (Legal c ∷ orders) = with_act place host peer (act_of comes c) (deeds_by comes place host peer orders)
 deeds_by comes place host peer (Wrong code octets ∷ orders) = deeds_by comes place host peer orders
+
+-- with the command that octets begin with the deeds are those of before, and this many octets are read by it
+abbrev pub LeavesDeeds : Bool → ℕ → Host → Host → List ℕ → List Deed → List Deed → ℕ → Type 0
+LeavesDeeds comes place host peer octets old new read =
+    (more : ℕ) → old ++ deeds_by comes place host peer (orders_within (1 + more) octets)
+    ≡ new ++ deeds_by comes place host peer (orders_within more (drop read octets))
 
 -- a message that comes in, or that goes out: on link 0 it has commands
 abbrev pub deeds_of : Bool → ℕ → HostMessage → List Deed
@@ -132,7 +138,7 @@ acts x place act.Fails k = record { reached = if k.owes then k.reached else drop
 acts x place act.Stops k = record { reached = stopped k.reached; owes = false }
 acts x place act.Starts k = record { reached = k.reached; owes = false }
 
--- whether this is about the peer of its host alone
+-- whether this is about one peer of its host
 abbrev pub has_peer : Act → Bool
 has_peer act.Stops = false
 has_peer act.Starts = false
@@ -151,6 +157,29 @@ after x (d ∷ deeds) k = after x deeds (step x d k)
 
 abbrev pub opening : Standing
 opening = record { reached = reached.Asking false false; owes = false }
+
+-- ---- the deeds before a life is asked for
+
+-- whether an RRP is owed after it
+abbrev pub has_owed : Act → Bool
+has_owed (act.Resets comes) = comes
+has_owed a = false
+
+-- a deed before a place, and not one after which an RRP is owed
+abbrev pub is_quiet : ℕ → Deed → Bool
+is_quiet place d = nat_lt d.place place && not (has_owed d.act)
+
+abbrev pub AreQuiet : ℕ → List Deed → Type 0
+AreQuiet place [] = Unit {0}
+AreQuiet place (d ∷ deeds) = (is_quiet place d ≡ true) × AreQuiet place deeds
+
+-- of each place, how many of the first deeds are so
+abbrev pub AreStarts : List ℕ → List Deed → Type 0
+AreStarts starts deeds = (place n : ℕ) → slice_get starts place ≡ Some n → AreQuiet place (take n deeds)
+
+-- where the first request of a life crossed
+abbrev pub asked_at : Life → ℕ
+asked_at x = min x.own_stamp x.partner_stamp
 
 -- ---- fates
 

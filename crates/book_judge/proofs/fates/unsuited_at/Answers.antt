@@ -1,6 +1,6 @@
 use Rattle.std.proofs.Common.{◌≡◌, arith, false, reverse, rules, true}
 use Rattle.book_judge.specs.Inside.Deeds.{deeds_in, suits_after}
-use Rattle.book_judge.proofs.Suited.{all_suited, suited_more, unsuited_here}
+use Rattle.book_judge.proofs.Ends.Suited.{all_suited, suited_more, unsuited_here}
 use Rattle.book_judge.proofs.fates.unsuited_at.Goals as goal
 
 pub returns-then-not-suits_after : goal.returns-then-not-suits_after

@@ -1,6 +1,6 @@
 use Rattle.std.proofs.Common.{inl}
-use Rattle.book_judge.proofs.Contacts.{suited_with}
-use Rattle.book_judge.proofs.Suited.{suited_alone}
+use Rattle.book_judge.proofs.Ends.Contacts.{suited_with}
+use Rattle.book_judge.proofs.Ends.Suited.{suited_alone}
 use Rattle.book_judge.proofs.law.worked_fates.Goals as goal
 
 pub returns-clause-nothing : goal.returns-clause-nothing

@@ -1,8 +1,8 @@
 use Rattle.std.proofs.Common.{◌++◌, ◌<◌, length, rules}
 use Rattle.host_pairs.specs.Control.{orders_of}
 use Rattle.book_judge.specs.Inside.Deeds.{deeds_by}
-use Rattle.book_judge.proofs.Suited.{added_next}
-use Rattle.book_judge.proofs.deeds.add_orders.Goals as goal
+use Rattle.book_judge.proofs.Ends.Suited.{added_next}
+use Rattle.book_judge.proofs.fates.add_orders.Goals as goal
 
 pub orders-preserved : goal.orders-preserved
 orders-preserved c =

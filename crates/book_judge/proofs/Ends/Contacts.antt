@@ -12,13 +12,13 @@ use Rattle.promise.specs.declared.life.Fate.TheVariants as fate
 use Rattle.promise.specs.declared.life.Life.{Life}
 use Rattle.book_judge.specs.Fates.{AreSuited, suits}
 use Rattle.book_judge.specs.Inside.Deeds.{acts, after, asked, closed, deeds_at, deeds_in, dropped, is_over, opening, reached_of, standing_of, step, stopped, suits_reached}
-use Rattle.book_judge.specs.declared.deeds.Act.{Act}
-use Rattle.book_judge.specs.declared.deeds.Act.TheVariants as act
-use Rattle.book_judge.specs.declared.deeds.Deed.{Deed}
-use Rattle.book_judge.specs.declared.stages.Reached.{Reached}
-use Rattle.book_judge.specs.declared.stages.Reached.TheVariants as reached
-use Rattle.book_judge.specs.declared.stages.Standing.{Standing}
-use Rattle.book_judge.proofs.Reached.{all_crossings, dropped_same, one_crossing, over_acts, standing, suits_same}
+use Rattle.book_judge.specs.declared.fates.Act.{Act}
+use Rattle.book_judge.specs.declared.fates.Act.TheVariants as act
+use Rattle.book_judge.specs.declared.fates.Deed.{Deed}
+use Rattle.book_judge.specs.declared.fates.Reached.{Reached}
+use Rattle.book_judge.specs.declared.fates.Reached.TheVariants as reached
+use Rattle.book_judge.specs.declared.fates.Standing.{Standing}
+use Rattle.book_judge.proofs.Ends.Reached.{all_crossings, dropped_same, one_crossing, over_acts, standing, suits_same}
 
 -- ---- with contacts, and without
 

@@ -1,8 +1,11 @@
 use Rattle.std.proofs.Common.{◌+◌, ◌∙◌, ap, drop, sym}
 use Rattle.book_judge.specs.Inside.Deeds.{after, opening}
-use Rattle.book_judge.specs.declared.stages.Standing.{Standing}
-use Rattle.book_judge.proofs.Reached.{all_there, one_deed, over_there}
-use Rattle.book_judge.proofs.stages.reached_after.Goals as goal
+use Rattle.book_judge.specs.declared.fates.Standing.{Standing}
+use Rattle.book_judge.proofs.Ends.Reached.{all_there, from_start, one_deed, over_there}
+use Rattle.book_judge.proofs.fates.reached_after.Goals as goal
+
+pub loop-place-init : goal.loop-place-init
+loop-place-init c = from_start c.args.life.now c.args.deeds.now c.args.from c.requires
 
 pub loop-place-preserved : goal.loop-place-preserved
 loop-place-preserved c =

@@ -11,12 +11,12 @@ use Rattle.promise.specs.Fates.{IsBeside}
 use Rattle.promise.specs.declared.life.Fate.{Fate}
 use Rattle.promise.specs.declared.life.Life.{Life}
 use Rattle.book_judge.specs.Fates.{AreSuited, UnsuitedAt, suits}
-use Rattle.book_judge.specs.Inside.Deeds.{deeds_at, deeds_by, deeds_in, suits_after, with_act}
-use Rattle.book_judge.specs.declared.deeds.Act.{Act}
-use Rattle.book_judge.specs.declared.deeds.Deed.{Deed}
+use Rattle.book_judge.specs.Inside.Deeds.{AreQuiet, AreStarts, deeds_at, deeds_by, deeds_in, suits_after, with_act}
+use Rattle.book_judge.specs.declared.fates.Act.{Act}
+use Rattle.book_judge.specs.declared.fates.Deed.{Deed}
 use Rattle.book_judge.proofs.Asked.{one_back}
-use Rattle.book_judge.proofs.Named.{none_within}
-use Rattle.book_judge.proofs.Reached.{suits_by}
+use Rattle.book_judge.proofs.Named.{get_cases, none_within}
+use Rattle.book_judge.proofs.Ends.Reached.{suits_by}
 
 -- ---- deeds of a text
 
@@ -63,6 +63,21 @@ deeds_more log place c deeds next h at more are =
 
 pub all_deeds : (log : List Crossing) (place : ℕ) (deeds : List Deed) → length log ≤ place → deeds ≡ deeds_in (reverse (take place log)) → deeds ≡ deeds_in (reverse log)
 all_deeds log place deeds past are = are ∙ ap (λ (cs : List Crossing). deeds_in (reverse cs)) (take_all place log past)
+
+-- ---- where deeds begin
+
+none_get : {X : Type 0} (n : ℕ) (v : X) → slice_get [] n ≡ Some v → ⊥
+none_get zero v e = absurd (cc)
+none_get (suc n) v e = absurd (cc)
+
+pub no_starts : (deeds : List Deed) → AreStarts [] deeds
+no_starts deeds place n e = absurd (none_get place n e)
+
+pub starts_more : (starts : List ℕ) (deeds : List Deed) (place count : ℕ) → length starts ≡ place → AreStarts starts deeds → AreQuiet place (take count deeds) → AreStarts (starts ++ count ∷ []) deeds
+starts_more starts deeds place count same are q at n e = elim (get_cases starts count n at e) [
+  | inl s ↦ subst (λ (m : ℕ). AreQuiet at (take m deeds)) (sym s.0) (subst (λ (p : ℕ). AreQuiet p (take count deeds)) (sym (s.1 ∙ same)) q)
+  | inr r ↦ are at n r
+]
 
 -- ---- the search
 

@@ -1,7 +1,7 @@
 -- How far a life is by what crossed: by deeds it is as far as `Ends` of `promise` says.
-use Rattle.std.proofs.Common.{◌≡◌, ℕ, ◌+◌, ◌<◌, ◌≤◌, ◌==◌, ◌&&◌, Bool, true, false, not, if◌then◌else◌, List, [], ◌∷◌, ◌++◌, length, drop, get_or, Option, Some, None, refl, ap, sym, ◌∙◌}
-use Rattle.std.proofs.lemmas.Bool.{false≢true}
-use Rattle.std.proofs.lemmas.List.{drop_all, drop_more}
+use Rattle.std.proofs.Common.{◌≡◌, ℕ, ◌+◌, ◌<◌, ◌≤◌, ◌==◌, ◌&&◌, nat_lt, min, Bool, true, false, not, if◌then◌else◌, List, [], ◌∷◌, ◌++◌, length, drop, get_or, take, Option, Some, None, refl, ap, ap₂, arith, subst, sym, ◌∙◌}
+use Rattle.std.proofs.lemmas.Bool.{false≢true, lt-ltb, ltb-true, ne_eqb}
+use Rattle.std.proofs.lemmas.List.{drop_all, drop_more, take-append-drop, take_more}
 use Rattle.interface.specs.Host.{Host, same_host}
 use Rattle.interface.specs.declared.crossing.Answer.{Answer}
 use Rattle.interface.specs.declared.crossing.Answer.TheVariants as answer
@@ -16,13 +16,16 @@ use Rattle.promise.specs.declared.life.Fate.{Fate}
 use Rattle.promise.specs.declared.life.Fate.TheVariants as fate
 use Rattle.promise.specs.declared.life.Life.{Life}
 use Rattle.book_judge.specs.Fates.{suits}
-use Rattle.book_judge.specs.Inside.Deeds.{act_of, acts, after, asked, closed, deed, deeds_at, deeds_by, deeds_in, dropped, is_over, opening, own_asked, own_closed, partner_asked, partner_closed, reached_of, standing_of, step, stopped, suits_reached, with_act}
-use Rattle.book_judge.specs.declared.deeds.Act.{Act}
-use Rattle.book_judge.specs.declared.deeds.Act.TheVariants as act
-use Rattle.book_judge.specs.declared.deeds.Deed.{Deed}
-use Rattle.book_judge.specs.declared.stages.Reached.{Reached}
-use Rattle.book_judge.specs.declared.stages.Reached.TheVariants as reached
-use Rattle.book_judge.specs.declared.stages.Standing.{Standing}
+use Rattle.book_judge.specs.Inside.Deeds.{AreQuiet, act_of, acts, after, asked, asked_at, closed, concerns, deed, deeds_at, deeds_by, deeds_in, dropped, has_owed, is_of, is_over, is_quiet, opening, own_asked, own_closed, partner_asked, partner_closed, reached_of, stamp, standing_of, step, stopped, suits_reached, with_act}
+use Rattle.book_judge.specs.declared.fates.Act.{Act}
+use Rattle.book_judge.specs.declared.fates.Act.TheVariants as act
+use Rattle.book_judge.specs.declared.fates.Deed.{Deed}
+use Rattle.book_judge.specs.declared.fates.Reached.{Reached}
+use Rattle.book_judge.specs.declared.fates.Reached.TheVariants as reached
+use Rattle.book_judge.specs.declared.fates.Standing.{Standing}
+
+abbrev pub standing : Bool → Reached → Standing
+standing owes s = record { reached = s; owes = owes }
 
 -- ---- what is over stays so
 
@@ -106,6 +109,79 @@ over_there x deeds place k whole e over = sym (ap (λ (s : Standing). s.reached)
 pub all_there : (x : Life) (deeds : List Deed) (place : ℕ) (k whole : Standing) → whole ≡ after x (drop place deeds) k → length deeds ≤ place → k.reached ≡ whole.reached
 all_there x deeds place k whole e past = sym (ap (λ (s : Standing). s.reached) (e ∙ ap (λ (ds : List Deed). after x ds k) (drop_all place deeds past)))
 
+-- ---- deeds before a life is asked for
+
+and_false : (b c : Bool) → c ≡ false → b && c ≡ false
+and_false true c e = e
+and_false false c e = refl
+
+if_false : (b : Bool) (s t : Reached) → b ≡ false → (if b then s else t) ≡ t
+if_false b s t e = ap (λ (c : Bool). if c then s else t) e
+
+quiet_closed : (comes b : Bool) → (if b then closed comes opening.reached else opening.reached) ≡ opening.reached
+quiet_closed true true = refl
+quiet_closed false true = refl
+quiet_closed comes false = refl
+
+-- at an earlier place a request isn't a life's
+early_request : (x : Life) (comes b : Bool) (at place : ℕ) → at < place → place ≤ asked_at x → b && at == stamp x comes ≡ false
+early_request x true b at place h k = and_false b (at == x.partner_stamp) (ne_eqb at x.partner_stamp (λ e. omega (arith, e, h, k)))
+early_request x false b at place h k = and_false b (at == x.own_stamp) (ne_eqb at x.own_stamp (λ e. omega (arith, e, h, k)))
+
+quiet_acts : (x : Life) (at place : ℕ) (a : Act) → at < place → has_owed a ≡ false → place ≤ asked_at x → acts x at a opening ≡ opening
+quiet_acts x at place (act.Asks comes own foreign) h o k = ap (λ (s : Reached). standing false s) (if_false _ (asked comes opening.reached) opening.reached (early_request x comes (is_of x comes own foreign) at place h k))
+quiet_acts x at place (act.Closes comes own foreign) h o k = ap (λ (s : Reached). standing false s) (quiet_closed comes (is_of x comes own foreign))
+quiet_acts x at place (act.Resets true) h o k = absurd (false≢true (sym o))
+quiet_acts x at place (act.Resets false) h o k = refl
+quiet_acts x at place act.Replies h o k = refl
+quiet_acts x at place act.Fails h o k = refl
+quiet_acts x at place act.Stops h o k = refl
+quiet_acts x at place act.Starts h o k = refl
+
+quiet_step : (b : Bool) (p : Standing) → p ≡ opening → (if b then p else opening) ≡ opening
+quiet_step true p e = e
+quiet_step false p e = refl
+
+quiet_parts : (place : ℕ) (d : Deed) → is_quiet place d ≡ true → (d.place < place) × (has_owed d.act ≡ false)
+quiet_parts place d e = by (nat_lt d.place place) (has_owed d.act) refl refl e where
+  by : (b c : Bool) → nat_lt d.place place ≡ b → has_owed d.act ≡ c → b && not c ≡ true → (d.place < place) × (has_owed d.act ≡ false)
+  by true false s t q = (ltb-true d.place place s, t)
+  by true true s t q = absurd (false≢true q)
+  by false c s t q = absurd (false≢true q)
+
+quiet_deeds : (x : Life) (place : ℕ) (deeds : List Deed) → AreQuiet place deeds → place ≤ asked_at x → after x deeds opening ≡ opening
+quiet_deeds x place [] q k = refl
+quiet_deeds x place (d ∷ deeds) q k =
+    let parts : (d.place < place) × (has_owed d.act ≡ false) = quiet_parts place d q.0 in
+    ap (after x deeds) (quiet_step (concerns x d) (acts x d.place d.act opening) (quiet_acts x d.place place d.act parts.0 parts.1 k)) ∙ quiet_deeds x place deeds q.1 k
+
+-- so the first of them may be passed over
+pub from_start : (x : Life) (deeds : List Deed) (from : ℕ) → AreQuiet (asked_at x) (take from deeds) → after x deeds opening ≡ after x (drop from deeds) opening
+from_start x deeds from q =
+    ap (λ (ds : List Deed). after x ds opening) (sym (take-append-drop from deeds)) ∙ after_append x (take from deeds) (drop from deeds) opening
+    ∙ ap (after x (drop from deeds)) (quiet_deeds x (asked_at x) (take from deeds) q (omega arith))
+
+-- ---- the search for them
+
+quiet_more : (place : ℕ) (deeds : List Deed) (d : Deed) → AreQuiet place deeds → is_quiet place d ≡ true → AreQuiet place (deeds ++ d ∷ [])
+quiet_more place [] d q e = (e, tt)
+quiet_more place (c ∷ deeds) d q e = (q.0, quiet_more place deeds d q.1 e)
+
+pub one_quiet : (deeds : List Deed) (place n : ℕ) (d : Deed) → n < length deeds → d ≡ get_or deeds n d → is_quiet place d ≡ true → AreQuiet place (take n deeds) → AreQuiet place (take (n + 1) deeds)
+one_quiet deeds place n d h at e q =
+    subst (λ (ds : List Deed). AreQuiet place ds) (sym (take_more deeds n d h ∙ ap (λ (z : Deed). take n deeds ++ z ∷ []) (sym at))) (quiet_more place (take n deeds) d q e)
+
+later_quiet : (place : ℕ) (d : Deed) → is_quiet place d ≡ true → is_quiet (place + 1) d ≡ true
+later_quiet place d e =
+    let parts : (d.place < place) × (has_owed d.act ≡ false) = quiet_parts place d e in
+    let before : d.place < place + 1 = (let lt = parts.0 in omega (arith, lt)) in
+    ap₂ (λ (b c : Bool). b && not c) (lt-ltb d.place (place + 1) before) parts.1
+
+-- at a later place they are so, too
+pub quiet_later : (place : ℕ) (deeds : List Deed) → AreQuiet place deeds → AreQuiet (place + 1) deeds
+quiet_later place [] q = tt
+quiet_later place (d ∷ deeds) q = (later_quiet place d q.0, quiet_later place deeds q.1)
+
 -- ---- stages
 
 own_asked_same : (s : Stage) → reached_of (ends.own_asked s) ≡ own_asked (reached_of s)
@@ -155,9 +231,6 @@ stopped_same at (Over Stopped place) = refl
 stopped_same at (Over (Closed first) place) = refl
 
 -- ---- commands
-
-abbrev pub standing : Bool → Reached → Standing
-standing owes s = record { reached = s; owes = owes }
 
 -- what a host makes of a command that it takes, or sends
 abbrev done : Bool → Life → ℕ → Command → Course → Course
