@@ -1,4 +1,5 @@
--- Which fates what crossed leaves the lives of a log. How far a life is by that, and how it is over, `Ends` of `promise` says.
+-- Which fates what crossed leaves the lives of a log. How far a life is by that, and how it is over, `Ends` of
+-- `promise` says.
 use Rattle.std.specs.Prelude.{◌≡◌, ℕ, Bool, true, false, List, [], take}
 use Rattle.interface.specs.declared.crossing.Crossing.{Crossing}
 use Rattle.net_sim.specs.Findings.{EndsAt}
@@ -8,7 +9,8 @@ use Rattle.promise.specs.declared.life.Fate.{Fate}
 use Rattle.promise.specs.declared.life.Fate.TheVariants as fate
 use Rattle.promise.specs.declared.life.Life.{Life}
 
--- the fates of a life that continues, by what crossed. A contact of its host doesn't cross, so it may have been reset by one
+-- the fates of a life that continues, by what crossed. A contact of its host doesn't cross, so it may have been reset
+-- by one
 abbrev pub suits_going : Fate → Bool
 suits_going fate.Open = true
 suits_going fate.Closing = true

@@ -21,21 +21,11 @@ use std::alloc::{AllocError, Global};
 #[derive(Clone, Copy, Drop)]
 enum Act {
     /// The request of two sockets, its sender's own and the foreign one.
-    Asks {
-        comes: bool,
-        own: u32,
-        foreign: u32,
-    },
+    Asks { comes: bool, own: u32, foreign: u32 },
     /// The CLS of them.
-    Closes {
-        comes: bool,
-        own: u32,
-        foreign: u32,
-    },
+    Closes { comes: bool, own: u32, foreign: u32 },
     /// RST.
-    Resets {
-        comes: bool,
-    },
+    Resets { comes: bool },
     /// The host sends RRP.
     Replies,
     /// A message to its peer fails.
@@ -262,11 +252,7 @@ fn quiet_until(deeds: &[Deed], from: usize, place: usize) -> usize
 /// taken. They change nothing of a life that is asked for there.
 ///
 /// Errors: `AllocError`.
-fn starts_of(
-    alloc: Global,
-    deeds: &[Deed],
-    places: usize,
-) -> Result<Vec<usize>, AllocError>
+fn starts_of(alloc: Global, deeds: &[Deed], places: usize) -> Result<Vec<usize>, AllocError>
     ensures { IfOk result (λ starts. AreStarts starts.items deeds.now) }
 {
     let mut starts = Vec::new(alloc);
@@ -282,15 +268,9 @@ fn starts_of(
 #[derive(Clone, Copy, Drop)]
 enum Reached {
     /// It hasn't begun: which of its two requests have crossed.
-    Asking {
-        own: bool,
-        partner: bool,
-    },
+    Asking { own: bool, partner: bool },
     /// It continues: which of its two CLS have crossed.
-    Going {
-        own: bool,
-        partner: bool,
-    },
+    Going { own: bool, partner: bool },
     /// It is over: all connections with its peer were dropped.
     Dropped,
     /// It is over: its host stopped.
@@ -457,7 +437,11 @@ fn acts(life: &Life, place: usize, act: Act, standing: Standing) -> Standing
         } => {
             let meant = is_of(life, comes, own, foreign) && place == stamp(life, comes);
             Standing {
-                reached: if meant { asked(comes, reached) } else { reached },
+                reached: if meant {
+                    asked(comes, reached)
+                } else {
+                    reached
+                },
                 owes,
             }
         }
@@ -468,7 +452,11 @@ fn acts(life: &Life, place: usize, act: Act, standing: Standing) -> Standing
         } => {
             let meant = is_of(life, comes, own, foreign);
             Standing {
-                reached: if meant { closed(comes, reached) } else { reached },
+                reached: if meant {
+                    closed(comes, reached)
+                } else {
+                    reached
+                },
                 owes,
             }
         }
@@ -578,12 +566,7 @@ fn start_of(starts: &[usize], life: &Life) -> usize
 }
 
 /// Returns whether deeds leave a life its fate, if it has one.
-fn suits_after(
-    deeds: &[Deed],
-    starts: &[usize],
-    life: &Life,
-    fate: Option<Fate>,
-) -> bool
+fn suits_after(deeds: &[Deed], starts: &[usize], life: &Life, fate: Option<Fate>) -> bool
     requires { AreStarts starts.now deeds.now }
     ensures { result ≡ tests.suits_after deeds.now life.now fate }
 {

@@ -1,5 +1,6 @@
 -- What of a log may change how far a life is, and how far it is by that. No public clause cites this file.
-use Rattle.std.specs.Prelude.{◌≡◌, ℕ, ◌+◌, ◌==◌, ◌&&◌, ◌||◌, nat_lt, min, Bool, true, false, not, if◌then◌else◌, List, [], ◌∷◌, ◌++◌, length, drop, take, slice_get, Option, Some, None}
+use Rattle.std.specs.Prelude.{◌≡◌, ℕ, ◌+◌, ◌==◌, ◌&&◌, ◌||◌, nat_lt, min, Bool, true, false, not, if◌then◌else◌, List}
+use Rattle.std.specs.Prelude.{[], ◌∷◌, ◌++◌, length, drop, take, slice_get, Option, Some, None}
 use Rattle.interface.specs.Host.{Host, same_host}
 use Rattle.interface.specs.declared.crossing.Crossing.{Crossing}
 use Rattle.interface.specs.declared.crossing.Crossing.TheVariants as crossing
@@ -7,9 +8,8 @@ use Rattle.interface.specs.declared.message.HostMessage.{HostMessage}
 use Rattle.ncp_control.specs.declared.command.Command.{Command}
 use Rattle.ncp_control.specs.declared.command.Command.TheVariants as command
 use Rattle.host_pairs.specs.Control.{Legal, Order, Wrong, orders_of, orders_within}
-use Rattle.promise.specs.Ends.{Asking, Closed, Course, Dropped, Going, Over, Stage, Stopped, asks_for, closes, fails}
+use Rattle.promise.specs.Ends.{Asking, Closed, Course, Dropped, Going, Over, Stage, Stopped, fails}
 use Rattle.promise.specs.declared.life.Fate.{Fate}
-use Rattle.promise.specs.declared.life.Fate.TheVariants as fate
 use Rattle.promise.specs.declared.life.Life.{Life}
 use Rattle.book_judge.specs.Fates.{suits_cause, suits_going}
 use Rattle.book_judge.specs.declared.fates.Act.{Act}
@@ -40,7 +40,8 @@ with_act place host peer (Some a) deeds = deed place host peer a ∷ deeds
 -- the commands of a text
 abbrev pub deeds_by : Bool → ℕ → Host → Host → List Order → List Deed
 deeds_by comes place host peer [] = []
-deeds_by comes place host peer (Legal c ∷ orders) = with_act place host peer (act_of comes c) (deeds_by comes place host peer orders)
+deeds_by comes place host peer (Legal c ∷ orders) =
+    with_act place host peer (act_of comes c) (deeds_by comes place host peer orders)
 deeds_by comes place host peer (Wrong code octets ∷ orders) = deeds_by comes place host peer orders
 
 -- with the command that octets begin with the deeds are those of before, and this many octets are read by it
@@ -51,8 +52,10 @@ LeavesDeeds comes place host peer octets old new read =
 
 -- a message that comes in, or that goes out: on link 0 it has commands
 abbrev pub deeds_of : Bool → ℕ → HostMessage → List Deed
-deeds_of true place m = if 0 == m.flow.link.0 then deeds_by true place m.flow.destination m.flow.source (orders_of m.text) else []
-deeds_of false place m = if 0 == m.flow.link.0 then deeds_by false place m.flow.source m.flow.destination (orders_of m.text) else []
+deeds_of true place m =
+    if 0 == m.flow.link.0 then deeds_by true place m.flow.destination m.flow.source (orders_of m.text) else []
+deeds_of false place m =
+    if 0 == m.flow.link.0 then deeds_by false place m.flow.source m.flow.destination (orders_of m.text) else []
 
 -- what crosses at a place
 abbrev pub deeds_at : ℕ → Crossing → List Deed
@@ -130,8 +133,10 @@ stamp x false = x.own_stamp
 
 abbrev pub acts : Life → ℕ → Act → Standing → Standing
 acts x place (act.Asks comes own foreign) k =
-    record { reached = if is_of x comes own foreign && place == stamp x comes then asked comes k.reached else k.reached; owes = k.owes }
-acts x place (act.Closes comes own foreign) k = record { reached = if is_of x comes own foreign then closed comes k.reached else k.reached; owes = k.owes }
+    record
+    { reached = if is_of x comes own foreign && place == stamp x comes then asked comes k.reached else k.reached; owes = k.owes }
+acts x place (act.Closes comes own foreign) k =
+    record { reached = if is_of x comes own foreign then closed comes k.reached else k.reached; owes = k.owes }
 acts x place (act.Resets comes) k = record { reached = dropped k.reached; owes = comes || k.owes }
 acts x place act.Replies k = record { reached = if k.owes then k.reached else dropped k.reached; owes = false }
 acts x place act.Fails k = record { reached = if k.owes then k.reached else dropped k.reached; owes = k.owes }

@@ -5,7 +5,9 @@ use Rattle.book_judge.proofs.Ends.Suited.{AreAdded}
 use Rattle.book_judge.proofs.fates.add_orders.Given as goal
 
 abbrev pub invariant-orders : goal.invariant-orders
-invariant-orders l = AreAdded l.comes l.place l.host l.peer l.rest l.deeds.items (l.fn.deeds.items ++ deeds_by l.comes l.place l.host l.peer (orders_of l.text))
+invariant-orders l =
+    AreAdded l.comes l.place l.host l.peer l.rest l.deeds.items
+    (l.fn.deeds.items ++ deeds_by l.comes l.place l.host l.peer (orders_of l.text))
 
 abbrev pub decreases-orders : goal.decreases-orders
 decreases-orders l = length l.rest

@@ -9,11 +9,19 @@ loop-place-init c = from_start c.args.life.now c.args.deeds.now c.args.from c.re
 
 pub loop-place-preserved : goal.loop-place-preserved
 loop-place-preserved c =
-    c.loop-place.invariant ∙ one_deed c.args.life.now c.args.deeds.now c.loop-place.place c.index-deeds-place.result c.loop-place.standing c.loop-place-test.true c.index-deeds-place.is
-    ∙ ap (λ (k : Standing). after c.args.life.now (drop (c.loop-place.place + 1) c.args.deeds.now) k) (sym c.step-standing.ensures)
+    c.loop-place.invariant
+    ∙ one_deed c.args.life.now c.args.deeds.now c.loop-place.place c.index-deeds-place.result c.loop-place.standing
+    c.loop-place-test.true c.index-deeds-place.is
+    ∙ ap (λ (k : Standing). after c.args.life.now (drop (c.loop-place.place + 1) c.args.deeds.now) k)
+    (sym c.step-standing.ensures)
 
 pub returns-then-is_over : goal.returns-then-is_over
-returns-then-is_over c = over_there c.args.life.now c.args.deeds.now c.loop-place.place c.loop-place.standing (after c.args.life.now c.args.deeds.now opening) c.loop-place.invariant (sym c.is_over.ensures ∙ c.if-is_over.true)
+returns-then-is_over c =
+    over_there c.args.life.now c.args.deeds.now c.loop-place.place c.loop-place.standing
+    (after c.args.life.now c.args.deeds.now opening) c.loop-place.invariant
+    (sym c.is_over.ensures ∙ c.if-is_over.true)
 
 pub returns : goal.returns
-returns c = all_there c.args.life.now c.args.deeds.now c.loop-place.place c.loop-place.standing (after c.args.life.now c.args.deeds.now opening) c.loop-place.invariant c.loop-place-test.false
+returns c =
+    all_there c.args.life.now c.args.deeds.now c.loop-place.place c.loop-place.standing
+    (after c.args.life.now c.args.deeds.now opening) c.loop-place.invariant c.loop-place-test.false

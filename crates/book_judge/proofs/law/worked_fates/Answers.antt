@@ -7,4 +7,5 @@ pub returns-clause-nothing : goal.returns-clause-nothing
 returns-clause-nothing c = suited_alone
 
 pub returns-clause-contacts : goal.returns-clause-contacts
-returns-clause-contacts c = λ contacts log lives fates left. suited_with contacts log lives fates (λ x f beside. inl (left x f beside).fate)
+returns-clause-contacts c =
+    λ contacts log lives fates left. suited_with contacts log lives fates (λ x f beside. inl (left x f beside).fate)
