@@ -13,8 +13,8 @@ use net_sim::{BitLog, Finding, Life};
 use promise::Fate;
 use std::alloc::{AllocError, Global};
 
-/// Returns the first crossing with which messages are broken; `None` where they are kept. A run of the mailboxes keeps them, so
-/// they are looked at where what crossed strays from one.
+/// Returns the first crossing with which messages are broken; `None` where they are kept. A run of the mailboxes
+/// keeps them, so they are looked at where what crossed strays from one.
 ///
 /// Errors: `AllocError`.
 fn unkept(
@@ -31,9 +31,11 @@ fn unkept(
     }
 }
 
-/// Returns what is wrong with a log, its lives with their fates, and what was handed over in them. The log is the oldest first.
+/// Returns what is wrong with a log, its lives with their fates, and what was handed over in them. The log is the
+/// oldest first.
 ///
-/// Partners, streams, grants and closes are about the requests that stamps name, so nothing is said of them in a malformed book.
+/// Partners, streams, grants and closes are about the requests that stamps name, so nothing is said of them in a
+/// malformed book.
 ///
 /// Errors: `AllocError`.
 pub(crate) fn judge(

@@ -13,7 +13,8 @@ use std::fmt;
 /// What is said of a log: what is wrong, and where it shows. What isn't named holds.
 #[derive(Clone, Copy, Debug, PartialEq, Eq)]
 pub struct Verdict {
-    /// The place of the first crossing with which what crossed is no run of the mailboxes, counted from 0; `None` where it is one.
+    /// The place of the first crossing with which what crossed is no run of the mailboxes, counted from 0; `None`
+    /// where it is one.
     pub stray: Option<usize>,
     /// The place of the first life that isn't made of the messages that crossed, counted from 0; `None` where all are.
     pub unmade: Option<usize>,
@@ -29,7 +30,8 @@ pub struct Verdict {
     pub grants: Option<Finding>,
     /// Where it shows that closes are broken; `None` where they are kept, or the book is malformed.
     pub closes: Option<Finding>,
-    /// The place of the first life whose fate isn't one that what crossed leaves it, counted from 0; `None` where each has such a fate.
+    /// The place of the first life whose fate isn't one that what crossed leaves it, counted from 0; `None` where
+    /// each has such a fate.
     pub unsuited: Option<usize>,
 }
 

@@ -380,7 +380,8 @@ def why_fates(book: Book, numbers: list[int]) -> str:
     over = fates.over(book.log, life)
     if over is None:
         return "No cause was found."
-    left = {"reset": "`reset`.", "stopped": "`stopped`, or `reset` if its user contacted the peer before that.", "closed": "`closed`, `ended`, or `reset` if its user contacted the peer before that."}
+    sooner = ", or `reset` if its user contacted the peer before that."
+    left = {"reset": "`reset`.", "stopped": f"`stopped`{sooner}", "closed": f"`closed`, `ended`{sooner}"}
     may_be = left[over.by] if over.by else "`open`, or `reset` if its user has contacted the peer."
     return f"It says `{life.fate}`, but {why_over(life, over)} It would be {may_be}"
 
@@ -389,20 +390,23 @@ def why_over(life: Life, over: Over) -> str:
     """By what a life is over, with the line; or what its own fate would need, where it continues."""
     host, peer = spell_host(life.host), spell_host(life.peer)
     if over.last is None:
-        return f"its host, {host}, hasn't stopped since it began." if life.fate == "stopped" else f"it hasn't ended: {lacking_cls(life, over)}."
+        is_stop = life.fate == "stopped"
+        return f"its host, {host}, hasn't stopped since it began." if is_stop else f"it hasn't ended: {lacking_cls(life, over)}."
     line = f"line {over.last.place + 1}"
     if over.by == "stopped":
         return f"its host, {host}, stopped in {line}."
     if over.by == "closed":
         return f"both CLS of sockets {life.socket} and {life.foreign} have crossed, the second in {line}."
     word, way = over.last.what.split()
-    what = {"fails": "a message of its host failed", "rst": f"RST {'was taken' if way == 'in' else 'went out'}", "rrp": "an RRP went out that wasn't owed"}
+    rst = f"RST {'was taken' if way == 'in' else 'went out'}"
+    what = {"fails": "a message of its host failed", "rst": rst, "rrp": "an RRP went out that wasn't owed"}
     return f"{host} dropped its connections with {peer} in {line}, where {what[word]}."
 
 
 def lacking_cls(life: Life, over: Over) -> str:
     """Which CLS of a life that continues hasn't crossed, in words."""
-    own, partner = f"CLS of socket {life.socket} with socket {life.foreign} went out", f"CLS of socket {life.foreign} with socket {life.socket} came in"
+    own = f"CLS of socket {life.socket} with socket {life.foreign} went out"
+    partner = f"CLS of socket {life.foreign} with socket {life.socket} came in"
     return " and ".join(f"no {what}" for what, way in ((own, "out"), (partner, "in")) if way not in over.closed)
 
 

@@ -16,7 +16,8 @@ from dorydate.model.firsts import RIGHT
 from dorydate.model.names import Flow, HostName
 
 WAYS = ("out", "in")  # a life's own commands go out, and those of its partner come in
-LEAVES: dict[str | None, set[str]] = {  # by what a life is over, None where it continues: the fates that this leaves. A contact doesn't cross, so any life may have been reset by one
+# by what a life is over, None where it continues: the fates that this leaves. A contact doesn't cross, so any may be reset
+LEAVES: dict[str | None, set[str]] = {
     None: {"open", "closing", "reset"},
     "reset": {"reset"},
     "stopped": {"stopped", "reset"},
@@ -76,7 +77,8 @@ class Fates:
         """How a life that continues ends by this, if it does: its pair is reset, or its host stops."""
         if word == "down":
             return "stopped"
-        return "reset" if word == "rst" or (word, way, owes) == ("rrp", "out", False) or (word, owes) == ("fails", False) else None
+        resets = word == "rst" or (word, way, owes) == ("rrp", "out", False) or (word, owes) == ("fails", False)
+        return "reset" if resets else None
 
     def owes(self, word: str, way: str, owes: bool) -> bool:
         """Whether the host owes its peer an RRP after this."""
@@ -88,7 +90,7 @@ class Fates:
             if isinstance(crossing, Passed):
                 yield from self.commands(crossing, place, life)
             elif isinstance(crossing, Answered):
-                if crossing.answer != "rfnm" and (crossing.flow.source, crossing.flow.destination) == (life.host, life.peer):
+                if crossing.answer != "rfnm" and crossing.flow[:2] == (life.host, life.peer):
                     yield Deed("fails out", place)
             elif self.is_turned(crossing.host, life):
                 yield Deed(f"{crossing.kind} out", place)
@@ -110,7 +112,7 @@ class Fates:
                         yield Deed(f"{word} {way}", place)
 
     def word(self, command: bytes, own: int, foreign: int, is_stamp: bool) -> str | None:
-        """What a command does to a life with these sockets, of its sender and of the other; None where it does nothing."""
+        """What a command does to a life with these sockets, of its sender and of the other; None for nothing."""
         code = command[0]
         if code in (RST, RRP):
             return "rst" if code == RST else "rrp"

@@ -688,8 +688,8 @@ JUDGES: list[type[Judge]] = [
     SenderOfStream, SenderOfGrant, SenderEnded, AllWhole, WholeWhereClosed, WholeWhereReset, WholeWhereStopped, BitsOnly, MessagesOnly, SentOnly, NothingExcuses,
     LostOfTheFirst, LostWithoutPartner, NoRun, RunAlone, FirstPartOnly, FormAlone, TwoSenders, RunBefore, BoxesStay, BoxesToItGo, BoxesGoAtOnce, NobodyIsDown, AnyAnswer,
     NoLives, CountsAreTrusted, LinkOfTheLastRequest, LastRequestInAMessage, AnyRequestInAMessage, NoSize, AllOnTheLink, LastMessages, RequestsAnywhere,
-    NoFates, OpenIsBelieved, ResetsCross, AlwaysClosed, StopsEndNothing, PeersStopEnds, RstTakenResetsNothing, RstSentResetsNothing, RrpTakenResets, OwedRrpResets,
-    RrpResetsNothing, OwedAfterStop, FailuresResetNothing, FailsWhileOwed, OneClsEnds, AnyClsCounts,
+    NoFates, OpenIsBelieved, ResetsCross, AlwaysClosed, StopsEndNothing, PeersStopEnds, RstTakenResetsNothing,
+    RstSentResetsNothing, RrpTakenResets, OwedRrpResets, RrpResetsNothing, OwedAfterStop, FailuresResetNothing, FailsWhileOwed, OneClsEnds, AnyClsCounts,
 ]  # fmt: skip
 
 

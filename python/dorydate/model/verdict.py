@@ -45,8 +45,9 @@ class Judge:
             return f"bad log line {line}"
 
     def verdict(self, book: Book) -> str:
-        """What is to be said of a book, with the lines that show it: all that is wrong with the run of the mailboxes, with lives, with the promise and with fates."""
-        return "\n".join(filter(None, [self.of_run(book.log), self.of_lives(book), *self.of_book(book), self.of_fates(book)])) or "kept"
+        """What is to be said of a book, with the lines that show it: all that is wrong with the run, lives, the promise and fates."""
+        found = [self.of_run(book.log), self.of_lives(book), *self.of_book(book), self.of_fates(book)]
+        return "\n".join(filter(None, found)) or "kept"
 
     def of_run(self, log: Log) -> str | None:
         """What is wrong with what crossed, None where it is a run of the mailboxes between the hosts that it names."""
