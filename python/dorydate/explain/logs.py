@@ -391,7 +391,8 @@ def why_over(life: Life, over: Over) -> str:
     host, peer = spell_host(life.host), spell_host(life.peer)
     if over.last is None:
         is_stop = life.fate == "stopped"
-        return f"its host, {host}, hasn't stopped since it began." if is_stop else f"it hasn't ended: {lacking_cls(life, over)}."
+        stop = f"its host, {host}, hasn't stopped since it began."
+        return stop if is_stop else f"it hasn't ended: {lacking_cls(life, over)}."
     line = f"line {over.last.place + 1}"
     if over.by == "stopped":
         return f"its host, {host}, stopped in {line}."

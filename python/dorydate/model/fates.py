@@ -16,7 +16,7 @@ from dorydate.model.firsts import RIGHT
 from dorydate.model.names import Flow, HostName
 
 WAYS = ("out", "in")  # a life's own commands go out, and those of its partner come in
-# by what a life is over, None where it continues: the fates that this leaves. A contact doesn't cross, so any may be reset
+# by what a life is over, None where it continues: the fates that this leaves. A contact doesn't cross
 LEAVES: dict[str | None, set[str]] = {
     None: {"open", "closing", "reset"},
     "reset": {"reset"},

@@ -689,7 +689,8 @@ JUDGES: list[type[Judge]] = [
     LostOfTheFirst, LostWithoutPartner, NoRun, RunAlone, FirstPartOnly, FormAlone, TwoSenders, RunBefore, BoxesStay, BoxesToItGo, BoxesGoAtOnce, NobodyIsDown, AnyAnswer,
     NoLives, CountsAreTrusted, LinkOfTheLastRequest, LastRequestInAMessage, AnyRequestInAMessage, NoSize, AllOnTheLink, LastMessages, RequestsAnywhere,
     NoFates, OpenIsBelieved, ResetsCross, AlwaysClosed, StopsEndNothing, PeersStopEnds, RstTakenResetsNothing,
-    RstSentResetsNothing, RrpTakenResets, OwedRrpResets, RrpResetsNothing, OwedAfterStop, FailuresResetNothing, FailsWhileOwed, OneClsEnds, AnyClsCounts,
+    RstSentResetsNothing, RrpTakenResets, OwedRrpResets, RrpResetsNothing, OwedAfterStop, FailuresResetNothing,
+    FailsWhileOwed, OneClsEnds, AnyClsCounts,
 ]  # fmt: skip
 
 

@@ -45,7 +45,7 @@ class Judge:
             return f"bad log line {line}"
 
     def verdict(self, book: Book) -> str:
-        """What is to be said of a book, with the lines that show it: all that is wrong with the run, lives, the promise and fates."""
+        """What is to be said of a book, with the lines that show it: all that is wrong with it."""
         found = [self.of_run(book.log), self.of_lives(book), *self.of_book(book), self.of_fates(book)]
         return "\n".join(filter(None, found)) or "kept"
 

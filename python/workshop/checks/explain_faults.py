@@ -140,9 +140,10 @@ BAD_LOG_LINES = [
 # ends of that log, in place of its own, and words of the cause
 BAD_LOG_ENDS = [(b"", "Its last line has to be `end`"), (b"end", "It isn't ended by a line feed"), (b"end\nend\n", "It follows `end`")]
 FATES_10, FATES_11 = "broken fates line 10", "broken fates line 11"
+RST = b"out 0/1 0/2 0 48 00080001000C"
 DROPPED = [  # crossings that drop connections, and words of the cause
     (9, b"rfnm", b"incomplete", "0/2 dropped its connections with 0/1 in line 9, where a message of its host failed."),
-    (9, b"0/1 5", b"0/1 5\nout 0/1 0/2 0 48 00080001000C", "0/1 dropped its connections with 0/2 in line 10, where RST went out."),
+    (9, b"1 5", b"1 5\n" + RST, "0/1 dropped its connections with 0/2 in line 10, where RST went out."),
 ]
 # what is changed in a line of that log, the verdict, and words of what is said of the two lines
 BROKEN_LOGS = [
@@ -170,9 +171,9 @@ BROKEN_LOGS = [
     (7, b"out", b"down 0/2\nout", "broken run line 8\nbroken fates line 12", "Host 0/2 is down."),
     # fates
     *((line, old, new, FATES_11, f"It says `open`, but {why} It would be `reset`.") for line, old, new, why in DROPPED),
-    (10, b"open", b"closed", FATES_10, "no CLS of socket 16 with socket 33 went out and no CLS of socket 33 with socket 16 came in."),
-    (11, b"open", b"stopped", FATES_11, "It says `stopped`, but its host, 0/2, hasn't stopped since it began. It would be `open`, or"),
-    (9, b"answer", b"down 0/2\nanswer", "broken run line 10\nbroken fates line 12", "its host, 0/2, stopped in line 9. It would be `stopped`, or"),
+    (10, b"open", b"closed", FATES_10, "no CLS of socket 16 with socket 33 went out and no CLS of socket 33 with"),
+    (11, b"open", b"stopped", FATES_11, "It says `stopped`, but its host, 0/2, hasn't stopped since it began."),
+    (9, b"answer", b"down 0/2\nanswer", "broken run line 10\nbroken fates line 12", "0/2, stopped in line 9. It would"),
     (11, b"3 1 send", b"3 1 send", "kept", "The book is safe: 9 crossings, a run of the mailboxes, and 2 lives made of them."),
     # lives of the messages that crossed
     (11, b"send 1", b"send 2", "broken lives line 11\nbroken grants lines 10 11", "It isn't made of the messages that crossed: it counts 2 messages, and after its requests 1 went out on 0/2 0/1 5."),

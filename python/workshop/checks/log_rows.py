@@ -20,6 +20,7 @@ RECEIVER, SENDER = SHORT.splitlines()[9:11]
 LIST, LISTS, LISTS_TURNED = "handed 0 -\n", "handed 0 -\nhanded 24 484950\n", "handed 24 484950\nhanded 0 -\n"
 BOTH = f"{RECEIVER}\n{SENDER}\n{LISTS}"
 ENDED, NONE_TAKEN, NONE_SENT = RECEIVER.replace("open", "ended"), RECEIVER.replace("1 16 1", "0 0 1").replace("4849", "-"), SENDER.replace("1 16 0", "0 0 0").replace("4849", "-")
+NONE_ENDED = NONE_TAKEN.replace("open", "ended")
 ALL_TAKEN = "handed 0 -\nhanded 16 4849\n"  # the lists where no more was handed over than was taken
 ASKS, OFFERS, DATA = ("".join(f"{line}\n" for line in SHORT.splitlines()[at : at + 3]) for at in (0, 3, 6))
 MORE = DATA.replace("56 00080002004849", "48 000800010051")
@@ -64,7 +65,7 @@ def control(source: str, destination: str, commands: str) -> str:
 def fated(
     crossed: str, receiver: str, sender: str, named: int, before: str = "", offers: str = OFFERS
 ) -> tuple[str, str]:
-    """The short log with what crosses before and after it, its two lives with these fates, and which of them is named."""
+    """The short log, what crosses before and after it, its lives with these fates, and which of them is named."""
     first = before.count(LINE_FEED)
     crossings = f"{before}{ASKS}{offers}{DATA}{crossed}"
     lives = [
@@ -80,8 +81,8 @@ RST, RST_BACK, RRP = control("0/1", "0/2", "0C"), control("0/2", "0/1", "0C"), c
 BOTH_CLS = control("0/2", "0/1", CLS_BACK) + control("0/1", "0/2", CLS)
 FAILS, OTHER_FAILS = "out 0/2 0/1 5 0 -\nanswer dead 0/2 0/1 5\n", "out 0/1 0/3 5 0 -\nanswer dead 0/1 0/3 5\n"
 OWN_FAILS = "out 0/1 0/2 7 0 -\nanswer incomplete 0/1 0/2 7\n"
-# what crosses after the data, the fates of receiver and sender, which of the two is named (0 for none), what crosses first, and
-# in the place of the second request
+# what crosses after the data, the fates of receiver and sender, which of them is named (0 for none), what crosses first,
+# and in the place of the second request
 FATES = [
     fated("", "open", "open", 0),
     fated("", "open", "closed", 2),
@@ -143,6 +144,8 @@ FATES = [
 NOTHING, ONE = ("0 0 1 100 0 0 open -", "0 0 0 0 0 0 open -"), ("1 8 1 100 0 0 open 51", "1 8 0 0 0 0 open 51")
 ON_6 = MORE.replace("0/1 5", "0/1 6")
 FATES_10, FATES_11 = "broken fates line 10", "broken fates line 11"
+RFNM = "answer rfnm 0/2 0/1 5\n"
+CLOSES = "broken closes lines 10 11\n" + FATES_10
 VERDICTS = [
     ("", "", "kept"),
     # what isn't promised
@@ -158,7 +161,7 @@ VERDICTS = [
     ("answer rfnm 0/2 0/1 5", "out 0/2 0/1 5 0 -", "broken run line 9"),
     ("answer rfnm 0/2 0/1 5", "down 0/2", FATES_11),
     ("answer rfnm 0/2 0/1 5\n", "down 0/2\nanswer rfnm 0/2 0/1 5\n", "broken run line 10\nbroken fates line 12"),
-    ("answer rfnm 0/2 0/1 5\n", "down 0/2\nup 0/2\nanswer rfnm 0/2 0/1 5\n", "broken run line 11\nbroken fates line 13"),
+    ("answer rfnm 0/2 0/1 5\n", f"down 0/2\nup 0/2\n{RFNM}", "broken run line 11\nbroken fates line 13"),
     # lives of the messages that crossed: none crossed, others did, not all of one, and none but the second counts
     (DATA, "", "broken lives line 7"),
     (DATA, DATA.replace("4849", "4142"), "broken lives line 10"),
@@ -214,23 +217,23 @@ VERDICTS = [
     ("receive 1 16 1 100", "receive 2 16 1 100", "broken lives line 10\nbroken grants lines 10 11"),
     ("send 1 16", "send 2 16", "broken lives line 11\nbroken grants lines 10 11"),
     # closes: a receiving life that its partner ended took all that was sent, and all that was handed over there
-    (BOTH, f"{ENDED}\n{SENDER}\n{LISTS}", "broken closes lines 10 11\n" + FATES_10),
+    (BOTH, f"{ENDED}\n{SENDER}\n{LISTS}", CLOSES),
     (BOTH, f"{ENDED}\n{SENDER}\n{ALL_TAKEN}", FATES_10),
     (BOTH, f"{ENDED}\n{SENDER.replace('open', 'ended')}\n{ALL_TAKEN}", FATES_10),
     *((BOTH, f"{RECEIVER.replace('open', word)}\n{SENDER.replace('open', 'ended')}\n{LISTS}", f"broken fates line {line}") for word, line in (("closed", 10), ("reset", 11), ("stopped", 10))),
     *((BOTH, f"{NONE_TAKEN.replace('open', word)}\n{SENDER}\n{LISTS}", wanted) for word, wanted in (("open", "kept"), ("closed", FATES_10), ("reset", "kept"), ("stopped", FATES_10))),
-    (BOTH, f"{NONE_TAKEN.replace('open', 'ended')}\n{SENDER}\n{LISTS}", "broken closes lines 10 11\n" + FATES_10),
-    (DATA + BOTH, f"{NONE_TAKEN.replace('open', 'ended')}\n{NONE_SENT}\n{LISTS}", "broken closes lines 7 8\nbroken fates line 7"),
-    (DATA + BOTH, f"{NONE_TAKEN.replace('open', 'ended')}\n{NONE_SENT}\n{LIST}{LIST}", "broken fates line 7"),
+    (BOTH, f"{NONE_ENDED}\n{SENDER}\n{LISTS}", CLOSES),
+    (DATA + BOTH, f"{NONE_ENDED}\n{NONE_SENT}\n{LISTS}", "broken closes lines 7 8\nbroken fates line 7"),
+    (DATA + BOTH, f"{NONE_ENDED}\n{NONE_SENT}\n{LIST}{LIST}", "broken fates line 7"),
     (BOTH, f"{SENDER}\n{ENDED}\n{LISTS_TURNED}", "broken closes lines 11 10\n" + FATES_11),
     (BOTH, f"{ENDED}\n{LIST}", "broken streams line 10\n" + FATES_10),
-    (BOTH, f"{NONE_TAKEN.replace('open', 'ended')}\n{LIST}", FATES_10),
-    (BOTH, f"{ENDED.replace('receive 1', 'receive 0')}\n{SENDER}\n{ALL_TAKEN}", "broken lives line 10\nbroken closes lines 10 11\n" + FATES_10),
-    (BOTH, f"{ENDED}\n{SENDER.replace('4849', '4848')}\n{ALL_TAKEN.replace('4849', '4848')}", "broken lives line 11\nbroken streams lines 10 11\nbroken closes lines 10 11\n" + FATES_10),
+    (BOTH, f"{NONE_ENDED}\n{LIST}", FATES_10),
+    (BOTH, f"{ENDED.replace('receive 1', 'receive 0')}\n{SENDER}\n{ALL_TAKEN}", "broken lives line 10\n" + CLOSES),
+    (BOTH, f"{ENDED}\n{SENDER.replace('4849', '4848')}\n{ALL_TAKEN.replace('4849', '4848')}", "broken lives line 11\nbroken streams lines 10 11\n" + CLOSES),
     (BOTH, f"{ENDED}\n{SENDER.replace('33 0/1 16', '33 0/1 18')}\n{LISTS}", "broken lives line 11\nbroken streams line 10\n" + FATES_10),
-    (BOTH, f"{ENDED}\n{SENDER}\n{SENDER}\n{LIST}handed 16 4849\nhanded 24 484950\n", "broken partners lines 11 12\nbroken closes lines 10 11\n" + FATES_10),
+    (BOTH, f"{ENDED}\n{SENDER}\n{SENDER}\n{LIST}handed 16 4849\nhanded 24 484950\n", "broken partners lines 11 12\n" + CLOSES),
     (BOTH, f"{ENDED}\n{ENDED}\n{SENDER}\n{LIST}{LISTS}", "broken partners lines 10 11\nbroken closes lines 10 12\n" + FATES_10),
-    (BOTH, f"{ENDED}\n{ENDED.replace('1 16 1', '0 0 1').replace('4849', '-')}\n{SENDER}\n{LIST}{ALL_TAKEN}", "broken partners lines 10 11\nbroken closes lines 11 12\n" + FATES_10),
+    (BOTH, f"{ENDED}\n{NONE_ENDED}\n{SENDER}\n{LIST}{ALL_TAKEN}", "broken partners lines 10 11\nbroken closes lines 11 12\n" + FATES_10),
     # the life that fails is the receiving one, wherever it is
     (BOTH, f"{SENDER}\n{RECEIVER[:-1]}8\n{LISTS_TURNED}", "broken lives line 11\nbroken streams lines 11 10"),
     (BOTH, f"{SENDER}\n{RECEIVER.replace('1 100', '1 15')}\n{LISTS_TURNED}", "broken grants lines 11 10"),
