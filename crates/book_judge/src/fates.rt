@@ -1,12 +1,12 @@
 //! Whether lives have fates that what crossed leaves them.
 
 ghost use Rattle.std.specs.Prelude.{◌≡◌, [], ◌∷◌, ◌++◌, ◌<◌, ◌≤◌, IfOk, List, MatchOption, OnOk};
-ghost use Rattle.std.specs.Prelude.{length, reverse, slice_get, take};
+ghost use Rattle.std.specs.Prelude.{drop, length, reverse, slice_get, take};
 ghost use Rattle.host_pairs.specs.Control.{orders_of};
 ghost use Rattle.book_judge.specs.Fates as left;
 ghost use Rattle.book_judge.specs.Fates.{AreSuited, UnsuitedAt};
 ghost use Rattle.book_judge.specs.Inside.Deeds as tests;
-ghost use Rattle.book_judge.specs.Inside.Deeds.{AreQuiet, AreStarts, LeavesDeeds};
+ghost use Rattle.book_judge.specs.Inside.Deeds.{AreQuiet, AreRequests, AreStarts, LeavesDeeds};
 ghost use Rattle.book_judge.specs.declared.fates.Deed as done;
 
 use crate::requests::control_octets;
@@ -227,6 +227,24 @@ fn deeds_of(alloc: Global, log: &[Crossing]) -> Result<Vec<Deed>, AllocError>
         add(&mut deeds, place, crossing)?;
     }
     Ok(deeds)
+}
+
+/// Returns whether a deed is a request.
+fn is_request(deed: &Deed) -> bool
+    ensures { result ≡ tests.is_request deed.now.act }
+{
+    matches!(deed.act, Act::Asks { .. })
+}
+
+/// Returns a deed from which on all are requests.
+fn tail_of(deeds: &[Deed]) -> usize
+    ensures { AreRequests (drop result deeds.now) }
+{
+    let mut tail = deeds.len();
+    'deeds: while tail > 0 && is_request(&deeds[tail - 1]) {
+        tail -= 1;
+    }
+    tail
 }
 
 /// Returns whether a deed crossed before a place, and isn't an RST that was taken.
@@ -511,10 +529,18 @@ fn step(life: &Life, deed: &Deed, standing: Standing) -> Standing
     }
 }
 
-/// Returns how far a life is after deeds, the oldest first. Those up to this one change nothing, and once it is over
-/// it stays so.
-fn reached_after(deeds: &[Deed], from: usize, life: &Life) -> Reached
-    requires { AreQuiet (tests.asked_at life.now) (take from deeds.now) }
+/// Returns whether a life continues.
+fn is_going(reached: Reached) -> bool
+    ensures { result ≡ tests.is_going reached }
+{
+    matches!(reached, Reached::Going { .. })
+}
+
+/// Returns how far a life is after deeds, the oldest first. The first of them change nothing, up to this one. Once it is
+/// over it stays so, and so does one that continues where only requests follow: they begin at this deed.
+fn reached_after(deeds: &[Deed], from: usize, tail: usize, life: &Life) -> Reached
+    requires quiet { AreQuiet (tests.asked_at life.now) (take from deeds.now) }
+    requires requests { AreRequests (drop tail deeds.now) }
     ensures { result ≡ (tests.after life.now deeds.now tests.opening).reached }
 {
     let mut standing = Standing {
@@ -526,6 +552,9 @@ fn reached_after(deeds: &[Deed], from: usize, life: &Life) -> Reached
     };
     for place in from..deeds.len() {
         if is_over(standing.reached) {
+            return standing.reached;
+        }
+        if tail <= place && is_going(standing.reached) {
             return standing.reached;
         }
         standing = step(life, &deeds[place], standing);
@@ -566,12 +595,22 @@ fn start_of(starts: &[usize], life: &Life) -> usize
 }
 
 /// Returns whether deeds leave a life its fate, if it has one.
-fn suits_after(deeds: &[Deed], starts: &[usize], life: &Life, fate: Option<Fate>) -> bool
-    requires { AreStarts starts.now deeds.now }
+fn suits_after(
+    deeds: &[Deed],
+    starts: &[usize],
+    tail: usize,
+    life: &Life,
+    fate: Option<Fate>,
+) -> bool
+    requires starts { AreStarts starts.now deeds.now }
+    requires requests { AreRequests (drop tail deeds.now) }
     ensures { result ≡ tests.suits_after deeds.now life.now fate }
 {
     match fate {
-        Some(fate) => suits(reached_after(deeds, start_of(starts, life), life), fate),
+        Some(fate) => {
+            let start = start_of(starts, life);
+            suits(reached_after(deeds, start, tail, life), fate)
+        }
         None => true,
     }
 }
@@ -605,8 +644,9 @@ pub fn unsuited_at(
 {
     let deeds = deeds_of(alloc, log)?;
     let starts = starts_of(alloc, &deeds, log.len())?;
+    let tail = tail_of(&deeds);
     for (place, life) in lives.iter().enumerate() {
-        if !suits_after(&deeds, &starts, life, fate_at(fates, place)) {
+        if !suits_after(&deeds, &starts, tail, life, fate_at(fates, place)) {
             return Ok(Some(place));
         }
     }

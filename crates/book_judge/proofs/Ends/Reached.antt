@@ -1,4 +1,5 @@
 -- How far a life is by what crossed: by deeds it is as far as `Ends` of `promise` says.
+use Rattle.std.proofs.Common.{zero, suc}
 use Rattle.std.proofs.Common.{◌≡◌, ℕ, ◌+◌, ◌<◌, ◌≤◌, ◌==◌, ◌&&◌, nat_lt, Bool, true, false, not, if◌then◌else◌}
 use Rattle.std.proofs.Common.{List, [], ◌∷◌, ◌++◌, length, drop, get_or, take, refl, ap, ap₂}
 use Rattle.std.proofs.Common.{arith, subst, sym, ◌∙◌}
@@ -17,6 +18,7 @@ use Rattle.promise.specs.declared.life.Fate.{Fate}
 use Rattle.promise.specs.declared.life.Fate.TheVariants as fate
 use Rattle.promise.specs.declared.life.Life.{Life}
 use Rattle.book_judge.specs.Fates.{suits}
+use Rattle.book_judge.specs.Inside.Deeds.{AreRequests, is_going, is_request}
 use Rattle.book_judge.specs.Inside.Deeds.{AreQuiet, act_of, acts, after, asked, asked_at, closed, concerns}
 use Rattle.book_judge.specs.Inside.Deeds.{deeds_at, deeds_by, deeds_in, dropped, has_owed, is_of, is_over, is_quiet}
 use Rattle.book_judge.specs.Inside.Deeds.{opening, own_asked, own_closed, partner_asked, partner_closed, reached_of}
@@ -122,6 +124,60 @@ pub all_there : (x : Life) (deeds : List Deed) (place : ℕ) (k whole : Standing
     → length deeds ≤ place → k.reached ≡ whole.reached
 all_there x deeds place k whole e past =
     sym (ap (λ (s : Standing). s.reached) (e ∙ ap (λ (ds : List Deed). after x ds k) (drop_all place deeds past)))
+
+-- ---- deeds that are requests
+
+going_asked : (comes : Bool) (s : Reached) → is_going s ≡ true → asked comes s ≡ s
+going_asked true (reached.Going own partner) e = refl
+going_asked false (reached.Going own partner) e = refl
+going_asked comes (reached.Asking own partner) e = absurd (false≢true e)
+going_asked comes reached.Dropped e = absurd (false≢true e)
+going_asked comes reached.Stopped e = absurd (false≢true e)
+going_asked comes reached.Closed e = absurd (false≢true e)
+
+going_acts : (x : Life) (place : ℕ) (a : Act) (k : Standing) → is_request a ≡ true → is_going k.reached ≡ true
+    → (acts x place a k).reached ≡ k.reached
+going_acts x place (act.Asks comes own foreign) k r e = if_same _ (asked comes k.reached) k.reached (going_asked comes k.reached e)
+going_acts x place (act.Closes comes own foreign) k r e = absurd (false≢true r)
+going_acts x place (act.Resets comes) k r e = absurd (false≢true r)
+going_acts x place act.Replies k r e = absurd (false≢true r)
+going_acts x place act.Fails k r e = absurd (false≢true r)
+going_acts x place act.Stops k r e = absurd (false≢true r)
+going_acts x place act.Starts k r e = absurd (false≢true r)
+
+-- a life that continues does so where only requests follow
+goes_on : (x : Life) (deeds : List Deed) (k : Standing) → AreRequests deeds → is_going k.reached ≡ true
+    → (after x deeds k).reached ≡ k.reached
+goes_on x [] k r e = refl
+goes_on x (d ∷ deeds) k r e =
+    let one : (step x d k).reached ≡ k.reached =
+    over_if (concerns x d) (acts x d.place d.act k) k (going_acts x d.place d.act k r.0 e) in
+    goes_on x deeds (step x d k) r.1 (ap is_going one ∙ e) ∙ one
+
+requests_drop : (n : ℕ) (deeds : List Deed) → AreRequests deeds → AreRequests (drop n deeds)
+requests_drop zero deeds r = r
+requests_drop (suc n) [] r = tt
+requests_drop (suc n) (d ∷ deeds) r = requests_drop n deeds r.1
+
+requests_later : (tail place : ℕ) (deeds : List Deed) → tail ≤ place → AreRequests (drop tail deeds) → AreRequests (drop place deeds)
+requests_later zero place deeds h r = requests_drop place deeds r
+requests_later (suc tail) zero deeds h r = absurd (omega (arith, h))
+requests_later (suc tail) (suc place) [] h r = tt
+requests_later (suc tail) (suc place) (d ∷ deeds) h r = requests_later tail place deeds (omega (arith, h)) r
+
+pub goes_there : (x : Life) (deeds : List Deed) (tail place : ℕ) (k whole : Standing) → whole ≡ after x (drop place deeds) k
+    → tail ≤ place → AreRequests (drop tail deeds) → is_going k.reached ≡ true → k.reached ≡ whole.reached
+goes_there x deeds tail place k whole e h r going =
+    sym (ap (λ (s : Standing). s.reached) e ∙ goes_on x (drop place deeds) k (requests_later tail place deeds h r) going)
+
+pub one_request : (deeds : List Deed) (n : ℕ) (d : Deed) → n < length deeds → d ≡ get_or deeds n d → is_request d.act ≡ true
+    → AreRequests (drop (n + 1) deeds) → AreRequests (drop n deeds)
+one_request deeds n d h at e r =
+    subst (λ (ds : List Deed). AreRequests ds)
+    (sym (drop_more deeds n d h ∙ ap (λ (z : Deed). z ∷ drop (n + 1) deeds) (sym at))) (e, r)
+
+pub none_left : (deeds : List Deed) → AreRequests (drop (length deeds) deeds)
+none_left deeds = subst (λ (ds : List Deed). AreRequests ds) (sym (drop_all (length deeds) deeds (omega arith))) tt
 
 -- ---- deeds before a life is asked for
 

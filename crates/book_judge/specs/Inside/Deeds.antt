@@ -186,6 +186,20 @@ AreStarts starts deeds = (place n : ℕ) → slice_get starts place ≡ Some n �
 abbrev pub asked_at : Life → ℕ
 asked_at x = min x.own_stamp x.partner_stamp
 
+-- ---- the deeds after which only requests come
+
+abbrev pub is_request : Act → Bool
+is_request (act.Asks comes own foreign) = true
+is_request a = false
+
+abbrev pub AreRequests : List Deed → Type 0
+AreRequests [] = Unit {0}
+AreRequests (d ∷ deeds) = (is_request d.act ≡ true) × AreRequests deeds
+
+abbrev pub is_going : Reached → Bool
+is_going (reached.Going own partner) = true
+is_going s = false
+
 -- ---- fates
 
 abbrev pub suits_reached : Reached → Fate → Bool
