@@ -10,8 +10,7 @@ use Rattle.mixed_worlds.proofs.law.among.Goals as goal
 pub returns-clause-promise : goal.returns-clause-promise
 returns-clause-promise c strange hosts moments mixed =
     promised (record {
-      partners = c.lives.ensures.partners;
-      one = c.lives.ensures.one;
+      pairing = c.lives.ensures;
       formed = c.lives-2.ensures.formed;
       told = c.programs.ensures.told;
       taken = c.programs.ensures.taken;
