@@ -122,7 +122,7 @@ const PLANTED = /** @type {Planted[]} */ ([
         to: `:root[data-low] body { display: block !important; height: auto !important }${STYLE}`,
         by: "reached",
         size: [740, 360],
-        words: "out of reach",
+        words: "high at 360",
     },
     {
         what: "an address that is cut off is opened as none",
