@@ -293,6 +293,21 @@ export async function bundles({ $, all, pause, press, load, key, want }) {
 }
 
 /**
+ * In a script of hundreds of rows the present one is seen, wherever the slider goes.
+ *
+ * @param {Page} page
+ */
+export async function followed({ $, one, load, pause, slide, want }) {
+    await load("arpanet-of-september-1973");
+    for (const part of [0.6, 0.3, 0.9]) {
+        slide(Math.floor(part * Number($("slider").max)));
+        await pause(400);
+        const [box, frame] = [".row.current", ".sheet-scroll"].map((it) => one(it).getBoundingClientRect());
+        want(box.top >= frame.top && box.bottom <= frame.bottom + 1, `the present row is not seen at ${part}`);
+    }
+}
+
+/**
  * Sentences name the hosts that send and take.
  *
  * @param {Page} page
