@@ -108,8 +108,8 @@ def waits_of(text: bytes) -> list[list[str]] | None:
     for line in lines:
         place.happen(*read_event(line, network.raw))
         all_waits = waits.waiting(place, carrier)
-        told = ["|".join([it.what, it.where, it.reason, str(it.is_bad).lower(), *it.cures]) for it in all_waits]
-        found.append(sorted(re.sub(r"(?:the )?message(?: \d+)? of flow", "message", it) for it in told))
+        spelled = ["|".join([it.what, it.where, it.reason, str(it.is_bad).lower(), *it.cures]) for it in all_waits]
+        found.append(sorted(re.sub(r"(?:the )?message(?: \d+)? of flow", "message", it) for it in spelled))
     return found
 
 
@@ -173,7 +173,7 @@ def lines_by_chance(count: int) -> list[tuple[str, bool, str]]:
     return found
 
 
-# lines that are put into topologies by chance
+# lines that are put into topologies at random
 WRITTEN = (
     "raw = 1|carrier = \"Plain\"|imps = 3|[[imp]]|[[line]]|id = 1|id = 64|hosts = 5|hosts = true|a = 2|b = 2|b = 0|c = 1"
     "|take 0/1|line = 3|% |in 0/1 0/2 5 0 -"
@@ -238,7 +238,7 @@ def fastest(program: str) -> str:
 def check_modules(command: str, program: str) -> None:
     """The tests in Node, with the states of the independent model in a file."""
     with tempfile.NamedTemporaryFile("w", suffix=".json") as states:
-        told = {
+        given = {
             "states": of_examples(states_of),
             "waits": {**of_examples(waits_of), **{it: waits_of(it.encode()) for it in WAITING}},
             "lines": lines_by_chance(4000),
@@ -246,7 +246,7 @@ def check_modules(command: str, program: str) -> None:
             "deeds": told_of_deeds(),
             "patterns": patterns_by_chance(400),
         }
-        json.dump(told, states)
+        json.dump(given, states)
         states.flush()
         folder = f"{ROOT}/web/workbench/tests"
         tests = [f"{folder}/{it}" for it in sorted(os.listdir(folder)) if it.endswith(".test.js")]
