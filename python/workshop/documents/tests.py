@@ -3,12 +3,13 @@
 from __future__ import annotations
 
 import os
+import pathlib
 import subprocess
 import tempfile
 import unittest
 from unittest import mock
 
-from workshop.documents import anchors, believed, believed_words, budget, crates_page, dialect, figures, named_crates, paragraphs, rules, tags
+from workshop.documents import anchors, believed, believed_words, budget, common, crates_page, dialect, figures, named_crates, paragraphs, rules, tags
 from workshop.drawings import facts, formats, hosts, network, pictures, repository
 from workshop.drawings.svg import Drawing
 from workshop.parts import ROOT
@@ -241,6 +242,55 @@ class Budget(unittest.TestCase):
 
     def test_what_is_not_used_is_taken_off(self) -> None:
         self.assertEqual(budget.lowered({"a": 9, "b": 4, "c": 3}, {"a": [(10, "what it had"), (2, "a law")], "b": [(4, "what it had")]}), {"a": [(7, "what it had"), (2, "a law")], "b": [(4, "what it had")], "c": [(3, "what the crate had when it got a budget")]})
+
+
+class Common(unittest.TestCase):
+    STD = "use Rattle.std.proofs.Common.{refl, ap}\n"
+    ONE = STD + "use Rattle.interface.specs.Host.{Host}\n\nuse Rattle.c.proofs.Other.{x}\none : Host\n"
+    OTHER = "use Rattle.std.proofs.Common.{refl, sym}\nuse Rattle.interface.specs.Host.{Host}\nother : Host\n"
+
+    def setUp(self) -> None:
+        folder = tempfile.TemporaryDirectory()
+        self.addCleanup(folder.cleanup)
+        self.folder = pathlib.Path(folder.name, "crates/c/proofs")
+        self.folder.mkdir(parents=True)
+        self.proofs = common.Proofs("c", folder.name)
+        self.given(Lib="-- all\npub mod One\npub mod Other\n", One=self.ONE, Other=self.OTHER)
+
+    def given(self, **texts: str) -> None:
+        for name, text in texts.items():
+            (self.folder / f"{name}.antt").write_text(text, encoding="utf-8")
+
+    def written(self) -> dict[str, list[str]]:
+        """What the files have after the module was written."""
+        for path, text in common.written(self.proofs).items():
+            pathlib.Path(path).write_text(text, encoding="utf-8")
+        return {it.stem: it.read_text(encoding="utf-8").split("\n") for it in self.folder.iterdir()}
+
+    def test_what_two_files_take_comes_through_one_module(self) -> None:
+        self.given(Third=self.OTHER.replace("sym", "ap"))
+        found = self.written()
+        line = "use Rattle.c.proofs.Common.{refl, ap, Host}"
+        self.assertEqual(found["Third"], [line, "other : Host", ""])
+        self.assertEqual(found["One"], [line, "", "use Rattle.c.proofs.Other.{x}", "one : Host", ""])
+        self.assertEqual(found["Common"][1], "pub use Rattle.interface.specs.Host.{Host}")
+        self.assertEqual(found["Common"][2], "pub use Rattle.std.proofs.Common.{ap, refl}")
+        self.assertIn("pub mod Common", found["Lib"])
+        self.assertEqual(self.written(), found)  # and a second time changes nothing
+
+    def test_a_file_that_saves_one_line_keeps_its_own(self) -> None:
+        self.assertEqual(self.written()["Other"], self.OTHER.split("\n"))
+
+    def test_what_a_file_declares_or_unfolds_isnt_taken_through_it(self) -> None:
+        self.given(One=self.ONE + "  unfolding refl ap\n", Other=self.OTHER + "pub Host : Type 0\n")
+        self.assertEqual(self.written()["One"], self.ONE.split("\n")[:-1] + ["  unfolding refl ap", ""])
+
+    def test_a_name_that_fewer_than_two_files_take_is_a_fault(self) -> None:
+        self.given(Third=self.OTHER.replace("sym", "ap"))
+        self.written()
+        self.assertEqual(self.proofs.faults(), [])
+        self.given(Third="")
+        self.assertEqual(len(self.proofs.faults()), 3)
 
 
 class Tags(unittest.TestCase):
