@@ -129,7 +129,8 @@ class Local:
         self.pool = self.made()
 
     def close(self) -> None:
-        self.pool.shutdown(wait=False, cancel_futures=True)
+        # (Python waits for what is under way at its own end, too, and races with the pool where that goes on by then)
+        self.pool.shutdown(wait=True, cancel_futures=True)
 
 
 class Cluster:
