@@ -1,11 +1,8 @@
 -- What streams and grants promise of the first lives, with one more.
-use Rattle.std.proofs.Common.{◌≡◌, ℕ, zero, suc, ◌-◌, ◌+◌, ◌<◌, ◌≤◌, Bool, true, false, not, List, [], ◌∷◌, ◌++◌, length, take, drop, get_or, Option, Some, None, MatchBool, refl, ap, sym, subst, ◌∙◌, arith}
+use Rattle.book_judge.proofs.Common.{◌≡◌, ℕ, suc, ◌-◌, ◌+◌, ◌<◌, ◌≤◌, Bool, true, false, not, List, [], ◌∷◌, ◌++◌, length, take, drop, get_or, Option, Some, None, MatchBool, refl, ap, sym, subst, ◌∙◌, arith, take-append-drop, take_all, take_more, get_or_from_slice_get, slice_get_read, slice_get_within, IsPrefix, Name, receives, Life, ExceedsAt, FedAt, GrantedAt, HasGranted, IsHanded, SourceAt, is_granted}
+use Rattle.std.proofs.Common.{zero}
 use Rattle.std.specs.List.{slice_get}
-use Rattle.std.proofs.lemmas.List.{take-append-drop, take_all, take_more}
-use Rattle.std.proofs.lemmas.Option.{get_or_from_slice_get, slice_get_read, slice_get_within}
-use Rattle.promise.specs.Safe.{IsPrefix, Name, receives}
-use Rattle.promise.specs.declared.life.Life.{Life}
-use Rattle.book_judge.specs.Inside.Chains.{ExceedsAt, FedAt, GrantedAt, HasGranted, IsHanded, IsSourced, SourceAt, is_granted}
+use Rattle.book_judge.specs.Inside.Chains.{IsSourced}
 use Rattle.book_judge.specs.Inside.Made.{same_found}
 use Rattle.book_judge.proofs.Elements.{read_at}
 use Rattle.book_judge.proofs.SameText.{same_bit-true}

@@ -1,14 +1,9 @@
 -- Which lives may be in one book, by what is noted of their requests.
-use Rattle.std.proofs.Common.{◌≡◌, ◌⊎◌, ℕ, ◌+◌, ◌<◌, Bool, true, false, not, ◌&&◌, ◌==◌, List, Option, Some, None, refl, ap, sym, subst, ◌∙◌, inl, inr, arith, eq-eqb}
+use Rattle.book_judge.proofs.Common.{◌≡◌, ◌⊎◌, ℕ, ◌+◌, ◌<◌, Bool, true, false, not, ◌&&◌, ◌==◌, List, Option, Some, None, refl, ap, sym, subst, ◌∙◌, inl, inr, arith, nat_cmp, eqb-true, cases_lt, and_true, Name, own_request, Life, key, same_name, AllApart, ApartFrom, HasPlace, apart_at}
+use Rattle.std.proofs.Common.{eq-eqb}
 use Rattle.std.specs.List.{slice_get}
 use Rattle.std.specs.FinMap as map
-use Rattle.std.specs.Ordering.{nat_cmp}
-use Rattle.std.proofs.lemmas.Bool.{eqb-true, cases_lt}
-use Rattle.interface.proofs.lemmas.{and_true}
-use Rattle.promise.specs.Safe.{Name, own_request}
-use Rattle.promise.specs.declared.life.Life.{Life}
-use Rattle.book_judge.specs.Inside.Asked.{key, same_name}
-use Rattle.book_judge.specs.Inside.Partners.{AllApart, ApartFrom, AreKnown, HasPlace, alike, apart_at, apart_of, are_apart, is_mate, is_new, is_none_at, mate_of}
+use Rattle.book_judge.specs.Inside.Partners.{AreKnown, alike, apart_of, are_apart, is_mate, is_new, is_none_at, mate_of}
 use Rattle.book_judge.proofs.Asked.{below_cases}
 use Rattle.book_judge.proofs.Elements.{both_is, not_is, not_true}
 use Rattle.book_judge.proofs.Placed.{has_more}

@@ -1,23 +1,13 @@
 -- What closes promise of the first lives, with one more.
-use Rattle.std.proofs.Common.{◌≡◌, ◌⊎◌, ℕ, zero, suc, ◌+◌, ◌<◌, ◌≤◌, ◌==◌, Bool, true, false, not, List, [], ◌∷◌, ◌++◌, length, take, get_or, Option, Some, None, MatchBool, refl, ap, sym, subst, ◌∙◌, inl, inr, arith, append-nil}
-use Rattle.std.specs.List.{Contains, slice_get}
-use Rattle.std.specs.Prelude.{IfSome, nat_lt}
-use Rattle.std.proofs.lemmas.Bool.{eq-eqb, eqb-true, ltb-false, ltb-true}
-use Rattle.std.proofs.lemmas.List.{length-append, nil_from_length}
-use Rattle.std.proofs.lemmas.Option.{slice_get_read, slice_get_within}
-use Rattle.interface.specs.declared.crossing.Crossing.{Crossing}
-use Rattle.net_sim.specs.Findings.{ShowsLife, WithMatch}
-use Rattle.net_sim.specs.declared.auditing.findings.Finding.{Finding}
-use Rattle.ncp_control.specs.Numbers.{is_receive_socket}
-use Rattle.promise.specs.Fates.{ClosesWhole, IsBeside}
-use Rattle.promise.specs.Safe.{IsPrefix, Match, Name, receives}
-use Rattle.promise.specs.declared.life.Fate.{Fate}
+use Rattle.book_judge.proofs.Common.{◌≡◌, ◌⊎◌, ℕ, zero, suc, ◌+◌, ◌<◌, ◌≤◌, ◌==◌, Bool, true, false, not, List, [], ◌∷◌, ◌++◌, length, take, get_or, Option, Some, None, MatchBool, refl, ap, sym, subst, ◌∙◌, inl, inr, arith, append-nil, Contains, IfSome, eqb-true, ltb-false, ltb-true, length-append, slice_get_read, slice_get_within, Crossing, ShowsLife, WithMatch, Finding, is_receive_socket, IsBeside, IsPrefix, Match, Name, receives, Fate, Life, same_text, AreNamed, AgainAt, ClosedAt, FoundFirst, HasTaken, repeats}
+use Rattle.std.specs.List.{slice_get}
+use Rattle.std.specs.Prelude.{nat_lt}
+use Rattle.std.proofs.lemmas.Bool.{eq-eqb}
+use Rattle.std.proofs.lemmas.List.{nil_from_length}
+use Rattle.promise.specs.Fates.{ClosesWhole}
 use Rattle.promise.specs.declared.life.Fate.TheVariants as fate
-use Rattle.promise.specs.declared.life.Life.{Life}
 use Rattle.book_judge.specs.Broken.{first_closed}
-use Rattle.book_judge.specs.Inside.{same_text}
-use Rattle.book_judge.specs.Inside.Asked.{AreNamed}
-use Rattle.book_judge.specs.Inside.Chains.{AgainAt, ClosedAt, FoundFirst, HasTaken, LosesAt, LosesOf, TookAll, repeats}
+use Rattle.book_judge.specs.Inside.Chains.{LosesAt, LosesOf, TookAll}
 use Rattle.book_judge.proofs.Elements.{contains_place, false_not, get_take, get_took, place_contains, read_at}
 use Rattle.book_judge.proofs.Peace.{asked_of, fits_match, match_fits, one_some}
 use Rattle.book_judge.proofs.SameText.{same_text-is, same_text-true}

@@ -1,32 +1,16 @@
 -- The mailboxes that are kept are those of the log, and a crossing finds in them what it needs exactly where it does in the log.
-use Rattle.std.proofs.Common.{◌≡◌, ℕ, ◌+◌, ◌<◌, ◌≤◌, suc, Bool, true, false, not, nat_le, ◌&&◌, ◌||◌, List, [], ◌∷◌, ◌++◌, length, take, drop, get_or, reverse, slice_get, Option, Some, None, refl, ap, sym, subst, ◌∙◌, inl, inr, ◌⊎◌, if◌then◌else◌, cond, arith}
+use Rattle.book_judge.proofs.Common.{◌≡◌, ℕ, ◌+◌, ◌<◌, ◌≤◌, suc, Bool, true, false, not, ◌&&◌, ◌||◌, List, [], ◌∷◌, ◌++◌, length, take, drop, get_or, reverse, Option, Some, None, refl, ap, sym, subst, ◌∙◌, inl, inr, ◌⊎◌, if◌then◌else◌, cond, arith, le-leb, append_assoc, length-append, length-reverse, length-take-le, reverse-append, reverse-reverse, take-append-drop, take_all, take_more, slice_get_read, eq_by_cmp_equiv, get-empty, get-insert, eq_by_cmp, is_eq, Ordering, Less, Equal, Greater, flow_cmp, same_flow, Host, is_host, same_host, Empty, Fits, Flow, Answer, Crossing, HostMessage, both_ways, same_flow-refl, same_flow-true, same_host-refl, same_host-true, same_text, IsSomeRun, StraysAt, Held, Mail}
+use Rattle.std.proofs.Common.{nat_le, slice_get}
 use Rattle.std.proofs.Math.Seq.{get_or-append_seam}
-use Rattle.std.proofs.lemmas.Bool.{le-leb}
 use Rattle.std.proofs.lemmas.Bool.Decides.{leb_tells}
-use Rattle.std.proofs.lemmas.List.{append_assoc, length-append, length-reverse, length-take-le, reverse-append, reverse-reverse, take-append-drop, take_all, take_more}
-use Rattle.std.proofs.lemmas.Option.{slice_get_read}
-use Rattle.std.specs.Cmp.{eq_by_cmp_equiv}
 use Rattle.std.specs.FinMap as fin
-use Rattle.std.specs.FinMap.{get-empty, get-insert}
-use Rattle.std.specs.Ordering.{eq_by_cmp, is_eq}
-use Rattle.std.specs.declared.cmp.Ordering.{Ordering}
-use Rattle.std.specs.declared.cmp.Ordering.TheVariants.{Less, Equal, Greater}
-use Rattle.interface.specs.Flow.{flow_cmp, same_flow}
-use Rattle.interface.specs.Host.{Host, is_host, same_host}
-use Rattle.interface.specs.Mailboxes.{Box, Empty, Waiting, Taken, WaitsWith, Fits, fetched, box_of, is_up, up_after_crossing, IsRun}
-use Rattle.interface.specs.declared.address.Flow.{Flow}
-use Rattle.interface.specs.declared.crossing.Answer.{Answer}
+use Rattle.interface.specs.Mailboxes.{Box, Waiting, Taken, WaitsWith, fetched, box_of, is_up, up_after_crossing, IsRun}
 use Rattle.interface.specs.declared.crossing.Answer.TheVariants as answer
-use Rattle.interface.specs.declared.crossing.Crossing.{Crossing}
 use Rattle.interface.specs.declared.crossing.Crossing.TheVariants as crossing
-use Rattle.interface.specs.declared.message.HostMessage.{HostMessage}
-use Rattle.interface.proofs.lemmas.{both_ways, exact_flows, flows_total, run_below, same_flow-refl, same_flow-true, same_host-refl, same_host-true}
+use Rattle.interface.proofs.lemmas.{exact_flows, flows_total, run_below}
 use Rattle.book_judge.specs.Inside as tests
-use Rattle.book_judge.specs.Inside.{to_itself, mark_in, held_in, fresh, same_text}
-use Rattle.book_judge.specs.Runs.{IsSomeRun, StraysAt}
-use Rattle.book_judge.specs.declared.mail.Held.{Held}
+use Rattle.book_judge.specs.Inside.{to_itself, mark_in, held_in, fresh}
 use Rattle.book_judge.specs.declared.mail.Held.TheVariants as held
-use Rattle.book_judge.specs.declared.mail.Mail.{Mail}
 use Rattle.book_judge.specs.declared.mail.Mark.{Mark}
 use Rattle.book_judge.proofs.SameText.{same_text-is, same_text-true}
 

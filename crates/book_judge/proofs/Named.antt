@@ -1,22 +1,10 @@
 -- What requests name, and the messages in which they crossed.
-use Rattle.std.proofs.Common.{◌≡◌, ◌⊎◌, inl, inr, ℕ, zero, suc, ◌+◌, ◌-◌, ◌*◌, ◌<◌, ◌≤◌, ◌==◌, Bool, true, false, if◌then◌else◌, List, [], ◌∷◌, ◌++◌, length, drop, reverse, Option, Some, None, is_some, refl, ap, sym, subst, ◌∙◌, arith, eq-eqb}
-use Rattle.std.specs.List.{Contains, slice_get, slice_index_or}
+use Rattle.book_judge.proofs.Common.{◌≡◌, ◌⊎◌, inl, inr, ℕ, zero, suc, ◌+◌, ◌-◌, ◌<◌, ◌≤◌, ◌==◌, Bool, true, false, if◌then◌else◌, List, [], ◌∷◌, ◌++◌, length, drop, reverse, Option, Some, None, is_some, refl, ap, sym, subst, ◌∙◌, arith, Contains, eqb-true, drop_all, length-drop, length-reverse, reverse-append, reverse-reverse, octets_of, orders_within, same_flow, Flow, Crossing, same_flow-refl, header_of, DataHeader, CrossedAt, named_at, named_in, named_of, text_of, control_flow, Host}
+use Rattle.std.proofs.Common.{◌*◌, eq-eqb}
+use Rattle.std.specs.List.{slice_get, slice_index_or}
 use Rattle.std.specs.Option.{option_or}
-use Rattle.std.proofs.lemmas.Bool.{eqb-true}
-use Rattle.std.proofs.lemmas.List.{drop_all, length-drop, length-reverse, reverse-append, reverse-reverse}
-use Rattle.bit_messages.specs.Octets.{octets_of}
-use Rattle.host_pairs.specs.Control.{orders_within}
 use Rattle.host_pairs.proofs.lemmas.{header_covers}
-use Rattle.interface.specs.Flow.{same_flow}
-use Rattle.interface.specs.declared.address.Flow.{Flow}
-use Rattle.interface.specs.declared.crossing.Crossing.{Crossing}
-use Rattle.interface.proofs.lemmas.{same_flow-refl}
-use Rattle.ncp_control.specs.DataHeader.{header_of}
-use Rattle.ncp_control.specs.declared.data_header.DataHeader.{DataHeader}
 use Rattle.ncp_control.proofs.lemmas.{octets_enough}
-use Rattle.promise.specs.Formed.{CrossedAt, named_at, named_in, named_of, text_of}
-use Rattle.promise.specs.Safe.{control_flow}
-use Rattle.interface.specs.Host.{Host}
 
 -- ---- elements
 
@@ -101,11 +89,6 @@ none_within (suc most) = refl
 pub orders_of_none : (more : ℕ) (octets : List ℕ) → orders_within more (drop (length octets) octets) ≡ []
 orders_of_none more octets =
     ap (λ (os : List ℕ). orders_within more os) (drop_all (length octets) octets (omega arith)) ∙ none_within more
-
-pub all_named : (own foreign : ℕ) (octets : List ℕ) (whole : Option ℕ) → IsNamed own foreign octets whole
-    → length octets ≡ 0 → None ≡ whole
-all_named own foreign [] whole is e = ap (named_in own foreign) (sym (none_within is.most)) ∙ is.same
-all_named own foreign (o ∷ octets) whole is e = absurd (omega (arith, e))
 
 -- ---- what crossed at a place
 

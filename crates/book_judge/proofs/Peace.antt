@@ -1,31 +1,17 @@
 -- What is said of partners, of two lives that match, of streams and of grants is so.
-use Rattle.std.proofs.Common.{◌≡◌, ℕ, zero, suc, ◌+◌, ◌-◌, ◌<◌, ◌≤◌, Bool, true, false, not, ◌&&◌, if◌then◌else◌, List, [], ◌∷◌, length, take, drop, Option, Some, None, refl, ap, sym, subst, ◌∙◌, inl, inr, arith}
+use Rattle.book_judge.proofs.Common.{◌≡◌, ℕ, zero, suc, ◌+◌, ◌-◌, ◌<◌, ◌≤◌, Bool, true, false, not, ◌&&◌, if◌then◌else◌, List, [], ◌∷◌, length, take, drop, Option, Some, None, refl, ap, sym, subst, ◌∙◌, inl, inr, arith, Err, IsSome, Ok, Result, cases_lt, le-leb, length-take-le, take_all, slice_get_within, same_flow, Host, same_host, Flow, Crossing, HostMessage, and_true, same_flow-true, same_host-refl, same_host-true, IsStamped, AreStamped, EndsAt, ShowsLife, WithMatch, Finding, CrossedAt, AreTwo, Match, Name, before, control_flow, last_out, named, own_request, partner_request, receives, sends, Fate, Life, AreNamed, same_name, AllApart, ApartFrom, FoundOdds, apart_at, FedAt, FoundFirst, GrantedAt, IsHanded, SourceAt, fits, fits_at, is_granted}
 use Rattle.std.specs.List.{slice_get}
-use Rattle.std.specs.Prelude.{Err, IfOk, IsSome, Ok, Result, nat_le}
+use Rattle.std.specs.Prelude.{IfOk, nat_le}
 use Rattle.std.specs.declared.alloc.AllocError.{AllocError}
-use Rattle.std.proofs.lemmas.Bool.{cases_lt, le-leb, leb-true}
-use Rattle.std.proofs.lemmas.List.{length-take-le, take_all}
-use Rattle.std.proofs.lemmas.Option.{slice_get_within}
-use Rattle.interface.specs.Flow.{same_flow}
-use Rattle.interface.specs.Host.{Host, same_host}
-use Rattle.interface.specs.declared.address.Flow.{Flow}
-use Rattle.interface.specs.declared.crossing.Crossing.{Crossing}
+use Rattle.std.proofs.lemmas.Bool.{leb-true}
 use Rattle.interface.specs.declared.crossing.Crossing.TheVariants as crossing
-use Rattle.interface.specs.declared.message.HostMessage.{HostMessage}
-use Rattle.interface.proofs.lemmas.{and_true, same_flow-true, same_host-refl, same_host-true}
-use Rattle.net_sim.specs.Audit.{IsStamped, IsWellFormed}
-use Rattle.net_sim.specs.Findings.{AreAtPeace, AreFed, AreStamped, AreUnmatched, EndsAt, HaveGranted, ShowsLife, ShowsTwo, WithMatch, first_fed, first_granted}
-use Rattle.net_sim.specs.declared.auditing.findings.Finding.{Finding}
+use Rattle.net_sim.specs.Audit.{IsWellFormed}
+use Rattle.net_sim.specs.Findings.{AreAtPeace, AreFed, AreUnmatched, HaveGranted, ShowsTwo, first_fed, first_granted}
 use Rattle.net_sim.specs.declared.auditing.findings.Finding.TheVariants as finding
-use Rattle.promise.specs.Formed.{CrossedAt}
-use Rattle.promise.specs.Safe.{AreHanded, AreTwo, IsGranted, Match, Name, SafeGrants, SafePartners, Source, before, control_flow, last_out, named, own_request, partner_request, receives, sends}
-use Rattle.promise.specs.declared.life.Fate.{Fate}
-use Rattle.promise.specs.declared.life.Life.{Life}
+use Rattle.promise.specs.Safe.{AreHanded, IsGranted, SafeGrants, SafePartners, Source}
 use Rattle.book_judge.specs.Broken.{IsBroken}
 use Rattle.book_judge.specs.declared.broken.Broken.{Broken}
-use Rattle.book_judge.specs.Inside.Asked.{AreNamed, same_name}
-use Rattle.book_judge.specs.Inside.Partners.{AllApart, ApartFrom, FoundOdds, apart_at}
-use Rattle.book_judge.specs.Inside.Chains.{FedAt, FoundFirst, GrantedAt, IsHanded, SourceAt, fits, fits_at, fits_of, is_granted}
+use Rattle.book_judge.specs.Inside.Chains.{fits_of}
 use Rattle.book_judge.proofs.Elements.{AreAt, both_is, contains_place, false_not, get_take, get_took, is_false, place_contains, places_two, read_at, two_places}
 use Rattle.book_judge.proofs.Known.{Apart, apart_is, apart_there, apart_true, same_is, same_true}
 

@@ -1,16 +1,13 @@
 -- When two texts are the same.
-use Rattle.std.proofs.Common.{◌≡◌, ℕ, Bool, true, false, ◌==◌, List, [], ◌∷◌, ◌++◌, length, take, refl, ap, sym, subst, ◌∙◌}
+use Rattle.book_judge.proofs.Common.{◌≡◌, ℕ, Bool, true, false, ◌==◌, List, [], ◌∷◌, ◌++◌, length, take, refl, ap, sym, subst, ◌∙◌, eqb-true, take_at, octets_of, and_true, both_ways, same_text}
 use Rattle.std.proofs.Math.Dec.{eqb}
-use Rattle.std.proofs.lemmas.Bool.{eqb-true}
 use Rattle.std.proofs.lemmas.Bool.Decides.{Decides-eqb}
-use Rattle.std.proofs.lemmas.List.{take_at}
 use Rattle.std.proofs.lemmas.Slice.Eq.{slice_eq-Decides}
 use Rattle.std.specs.Cmp.Lexicographic.{pointwise}
 use Rattle.std.specs.Prelude.{replicate}
-use Rattle.bit_messages.specs.Octets.{bits_of, octets_of, spare_bits}
+use Rattle.bit_messages.specs.Octets.{bits_of, spare_bits}
 use Rattle.bit_messages.proofs.lemmas.{bits_again}
-use Rattle.interface.proofs.lemmas.{and_true, both_ways}
-use Rattle.book_judge.specs.Inside.{same_bit, same_text}
+use Rattle.book_judge.specs.Inside.{same_bit}
 
 pub same_bit-true : (x y : Bool) → same_bit x y ≡ true → x ≡ y
 same_bit-true true true h = refl

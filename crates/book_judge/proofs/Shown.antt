@@ -1,19 +1,10 @@
 -- What an earlier life with the same requests shows of one: where that granted as much, nothing was sent past the grant of this.
-use Rattle.std.proofs.Common.{◌≡◌, ℕ, ◌+◌, ◌<◌, ◌==◌, Bool, true, ◌&&◌, List, length, get_or, Option, Some, None, refl, ap, sym, subst, ◌∙◌}
+use Rattle.book_judge.proofs.Common.{◌≡◌, ℕ, ◌+◌, ◌<◌, ◌==◌, Bool, true, ◌&&◌, List, length, get_or, Option, Some, None, refl, ap, sym, subst, ◌∙◌, nat_cmp, IfSome, eqb-true, slice_get_read, Host, same_host, and_true, same_host-true, is_receive_socket, Name, own_request, receives, sends, Life, found_at, key, same_name, AreChained, ExceedsAt, GrantedAt, HasGranted, IsLast, fits, is_granted, repeats}
 use Rattle.std.specs.FinMap as map
 use Rattle.std.specs.List.{slice_get}
-use Rattle.std.specs.Ordering.{nat_cmp}
-use Rattle.std.specs.Prelude.{IfSome, nat_le}
-use Rattle.std.proofs.lemmas.Bool.{eqb-true}
-use Rattle.std.proofs.lemmas.Option.{slice_get_read}
-use Rattle.interface.specs.Host.{Host, same_host}
-use Rattle.interface.proofs.lemmas.{and_true, same_host-true}
-use Rattle.ncp_control.specs.Numbers.{is_receive_socket}
-use Rattle.promise.specs.Safe.{Name, own_request, receives, sends}
+use Rattle.std.specs.Prelude.{nat_le}
 use Rattle.promise.specs.declared.life.Amount.{Amount}
-use Rattle.promise.specs.declared.life.Life.{Life}
-use Rattle.book_judge.specs.Inside.Asked.{found_at, key, same_name}
-use Rattle.book_judge.specs.Inside.Chains.{AreChained, ExceedsAt, GrantedAt, HasGranted, IsLast, fits, is_granted, is_shown, repeats, same_amount, shown_of}
+use Rattle.book_judge.specs.Inside.Chains.{is_shown, same_amount, shown_of}
 use Rattle.book_judge.proofs.Known.{same_true}
 
 same_amounts : (a b : Amount) → same_amount a b ≡ true → a ≡ b

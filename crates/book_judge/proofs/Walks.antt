@@ -1,17 +1,8 @@
 -- The lives of one own request, from the last to the first: whoever goes through them misses none.
-use Rattle.std.proofs.Common.{◌≡◌, ℕ, ◌+◌, ◌<◌, ◌≤◌, true, ◌&&◌, List, [], ◌∷◌, ◌++◌, length, get_or, Option, Some, None, refl, ap, sym, subst, ◌∙◌, inl, inr, arith}
+use Rattle.book_judge.proofs.Common.{◌≡◌, ℕ, ◌+◌, ◌<◌, ◌≤◌, true, ◌&&◌, List, [], ◌∷◌, ◌++◌, length, get_or, Option, Some, None, refl, ap, sym, subst, ◌∙◌, inl, inr, arith, nat_cmp, cases_lt, slice_get_read, slice_get_within, get-empty, same_host, and_true, Name, own_request, receives, sends, Life, found_at, key, same_name, AreChained, IsLast, SoughtAt, fits}
 use Rattle.std.specs.List.{slice_get}
 use Rattle.std.specs.FinMap as map
-use Rattle.std.specs.Ordering.{nat_cmp}
-use Rattle.std.proofs.lemmas.Bool.{cases_lt}
-use Rattle.std.proofs.lemmas.Option.{slice_get_read, slice_get_within}
-use Rattle.std.specs.FinMap.{get-empty}
-use Rattle.interface.specs.Host.{same_host}
-use Rattle.interface.proofs.lemmas.{and_true}
-use Rattle.promise.specs.Safe.{Name, own_request, receives, sends}
-use Rattle.promise.specs.declared.life.Life.{Life}
-use Rattle.book_judge.specs.Inside.Asked.{found_at, key, same_name}
-use Rattle.book_judge.specs.Inside.Chains.{AreChained, IsLast, NoneWith, SoughtAt, fits}
+use Rattle.book_judge.specs.Inside.Chains.{NoneWith}
 use Rattle.book_judge.specs.declared.sought.Sought.{Sought}
 use Rattle.book_judge.proofs.Asked.{below_cases, grown_get, grown_last, grown_length}
 use Rattle.book_judge.proofs.Elements.{read_at}

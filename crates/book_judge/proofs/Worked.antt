@@ -1,15 +1,7 @@
 -- The rows.
-use Rattle.std.proofs.Common.{◌≡◌, true, false, List, [], ◌∷◌, refl, sym, ◌∙◌}
-use Rattle.interface.specs.Host.{Host, is_host}
-use Rattle.interface.specs.Mailboxes.{Empty, Fits}
-use Rattle.interface.specs.declared.address.Flow.{Flow}
-use Rattle.interface.specs.declared.crossing.Answer.{Answer}
+use Rattle.book_judge.proofs.Common.{◌≡◌, true, false, List, [], ◌∷◌, refl, sym, ◌∙◌, Host, is_host, Empty, Fits, Flow, Answer, Crossing, HostMessage, same_flow-refl, same_host-refl, IsSomeRun, StraysAt}
 use Rattle.interface.specs.declared.crossing.Answer.TheVariants as answer
-use Rattle.interface.specs.declared.crossing.Crossing.{Crossing}
 use Rattle.interface.specs.declared.crossing.Crossing.TheVariants as crossing
-use Rattle.interface.specs.declared.message.HostMessage.{HostMessage}
-use Rattle.interface.proofs.lemmas.{same_flow-refl, same_host-refl}
-use Rattle.book_judge.specs.Runs.{IsSomeRun, StraysAt}
 
 is_there : (h : Host) → is_host (h ∷ []) h ≡ true
 is_there h = rw (same_host-refl h) refl

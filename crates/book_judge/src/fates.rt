@@ -440,11 +440,10 @@ fn stamp(life: &Life, comes: bool) -> usize
     }
 }
 
-/// Returns how far a life is once its host does this, and whether an RRP is owed. An RST drops all connections with
-/// the peer, and one that is taken has an RRP owed. So does an RRP that isn't owed, and a message that fails where
-/// none is owed. A host that stops or starts owes none (NIC 8246, RST and RRP).
-fn acts(life: &Life, place: usize, act: Act, standing: Standing) -> Standing
-    ensures { result ≡ tests.acts life.now place act standing }
+/// Returns how far a life is once its host does this. An RST drops all connections with the peer, and so does an RRP
+/// that isn't owed, and a message that fails where none is owed (NIC 8246, RST and RRP).
+fn reached_by(life: &Life, place: usize, act: Act, standing: Standing) -> Reached
+    ensures { result ≡ tests.reached_by life.now place act standing }
 {
     let Standing { reached, owes } = standing;
     match act {
@@ -452,52 +451,40 @@ fn acts(life: &Life, place: usize, act: Act, standing: Standing) -> Standing
             comes,
             own,
             foreign,
-        } => {
-            let meant = is_of(life, comes, own, foreign) && place == stamp(life, comes);
-            Standing {
-                reached: if meant {
-                    asked(comes, reached)
-                } else {
-                    reached
-                },
-                owes,
-            }
+        } if is_of(life, comes, own, foreign) && place == stamp(life, comes) => {
+            asked(comes, reached)
         }
         Act::Closes {
             comes,
             own,
             foreign,
-        } => {
-            let meant = is_of(life, comes, own, foreign);
-            Standing {
-                reached: if meant {
-                    closed(comes, reached)
-                } else {
-                    reached
-                },
-                owes,
-            }
-        }
-        Act::Resets { comes } => Standing {
-            reached: dropped(reached),
-            owes: comes || owes,
-        },
-        Act::Replies => Standing {
-            reached: if owes { reached } else { dropped(reached) },
-            owes: false,
-        },
-        Act::Fails => Standing {
-            reached: if owes { reached } else { dropped(reached) },
-            owes,
-        },
-        Act::Stops => Standing {
-            reached: stopped(reached),
-            owes: false,
-        },
-        Act::Starts => Standing {
-            reached,
-            owes: false,
-        },
+        } if is_of(life, comes, own, foreign) => closed(comes, reached),
+        Act::Resets { .. } => dropped(reached),
+        Act::Replies | Act::Fails if !owes => dropped(reached),
+        Act::Stops => stopped(reached),
+        _ => reached,
+    }
+}
+
+/// Returns whether an RRP is owed once a host does this: after an RST that it took, until the RRP goes out. A host that
+/// stops or starts owes none.
+fn owes_by(act: Act, owes: bool) -> bool
+    ensures { result ≡ tests.owes_by act owes }
+{
+    match act {
+        Act::Resets { comes } => comes || owes,
+        Act::Replies | Act::Stops | Act::Starts => false,
+        Act::Asks { .. } | Act::Closes { .. } | Act::Fails => owes,
+    }
+}
+
+/// Returns how far a life is once its host does this, and whether an RRP is owed.
+fn acts(life: &Life, place: usize, act: Act, standing: Standing) -> Standing
+    ensures { result ≡ tests.acts life.now place act standing }
+{
+    Standing {
+        reached: reached_by(life, place, act, standing),
+        owes: owes_by(act, standing.owes),
     }
 }
 

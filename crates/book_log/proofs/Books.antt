@@ -1,20 +1,9 @@
 -- The lines of a book, in their order, and the first bad one.
-use Rattle.std.proofs.Common.{◌≡◌, ℕ, ◌<◌, ◌≤◌, ◌==◌, ◌&&◌, Bool, true, false, suc, List, [], ◌∷◌, ◌++◌, Some, None, codes, length, map, refl, sym, ap, ap₂, ◌∙◌, arith, subst, append_assoc, append-nil, if◌then◌else◌}
-use Rattle.std.proofs.lemmas.Bool.{eqb-true, false≢true}
-use Rattle.std.proofs.lemmas.List.{map-append}
-use Rattle.std.proofs.lemmas.List.Elements.{All-append, All-cons, All-head, All-map, All-nil, All-tail, All-weaker}
-use Rattle.std.proofs.lemmas.Grind.{flat_map-append}
-use Rattle.std.specs.List.{All, zip}
-use Rattle.interface.specs.declared.crossing.Crossing.{Crossing}
+use Rattle.book_log.proofs.Common.{◌≡◌, ℕ, ◌<◌, ◌≤◌, ◌==◌, ◌&&◌, Bool, true, false, suc, List, [], ◌∷◌, ◌++◌, Some, None, codes, length, map, refl, sym, ap, ap₂, ◌∙◌, arith, subst, append_assoc, append-nil, if◌then◌else◌, eqb-true, false≢true, map-append, All-append, All-cons, All-head, All-nil, All-tail, All-weaker, flat_map-append, All, zip, Crossing, Fate, Life, ended_line, Lacks, SameCut, same_cut, Book, IsBadLine, IsBook, IsCrossing, IsHanded, IsLived, IsLog, log_lines, text_of_lines, IsLine, added, is_bare, line_text, Line}
+use Rattle.std.proofs.lemmas.List.Elements.{All-map}
 use Rattle.interface.specs.declared.crossing.Crossing.TheVariants as crossing
-use Rattle.promise.specs.declared.life.Fate.{Fate}
-use Rattle.promise.specs.declared.life.Life.{Life}
-use Rattle.script.specs.Input.{ended_line}
-use Rattle.script.specs.Steps.{Lacks}
-use Rattle.script.proofs.lemmas.{SameCut, same_cut, uncut}
-use Rattle.book_log.specs.Log.{Begins, Book, IsBadLine, IsBook, IsCrossing, IsHanded, IsLived, IsLog, log_lines, text_of_lines}
-use Rattle.book_log.specs.Steps.{IsLine, added, is_bare, line_text}
-use Rattle.book_log.specs.declared.lines.Line.{Line}
+use Rattle.script.proofs.lemmas.{uncut}
+use Rattle.book_log.specs.Log.{Begins}
 use Rattle.book_log.specs.declared.lines.Line.TheVariants as line
 use Rattle.book_log.proofs.Keywords.{line_ends}
 use Rattle.book_log.proofs.Cuts.{first_same, rest_same}

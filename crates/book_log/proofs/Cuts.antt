@@ -1,18 +1,13 @@
 -- Words of a line: where it is cut, and what no word of a log has in it.
-use Rattle.std.proofs.Common.{count_by, ◌+◌, ◌≡◌, ℕ, ◌<◌, ◌/◌, ◌%◌, ◌==◌, zero, suc, Bool, true, false, List, [], ◌∷◌, ◌++◌, Option, Some, None, codes, length, slice_index, refl, sym, ap, ◌∙◌, arith, lit<}
-use Rattle.std.proofs.lemmas.List.Elements.{All-append, All-cons, All-head, All-nil, All-tail}
+use Rattle.book_log.proofs.Common.{◌+◌, ◌≡◌, ℕ, ◌<◌, ◌/◌, ◌%◌, ◌==◌, zero, suc, Bool, true, false, List, [], ◌∷◌, ◌++◌, Option, Some, None, codes, length, slice_index, refl, sym, ap, ◌∙◌, arith, lit<, All-append, All-cons, All-head, All-nil, All-tail, All, join_with_byte, encode_upper, upper_digits, Host, host_text, IsHost, ReadsAs, octets_text, Lacks, unmarked_where, TakesAs, words_in}
+use Rattle.std.proofs.Common.{count_by}
 use Rattle.std.proofs.lemmas.List.Splits.{join_with_byte-slice_split, length-slice_split, slice_split_at, slice_split_none}
-use Rattle.std.specs.List.{All, join_with_byte}
 use Rattle.bit_messages.specs.Octets.{octets_of}
 use Rattle.bit_messages.proofs.lemmas.{octets_below}
-use Rattle.hex.specs.Hex.{encode_upper, encode_with, upper_digits}
-use Rattle.interface.specs.Host.{Host}
-use Rattle.interface.specs.Printed.{host_text}
-use Rattle.script.specs.Spelling.{IsHost, ReadsAs, octets_text}
-use Rattle.script.specs.Steps.{Lacks}
-use Rattle.script.proofs.lemmas.{host_unmarked, unmarked_where}
+use Rattle.hex.specs.Hex.{encode_with}
+use Rattle.script.proofs.lemmas.{host_unmarked}
 use Rattle.std.specs.Borrow.{Bor}
-use Rattle.book_log.specs.Steps.{TakesAs, is_over, words_behind, words_in}
+use Rattle.book_log.specs.Steps.{is_over, words_behind}
 
 -- ---- what no word has in it: a space, and a line feed
 
@@ -99,19 +94,6 @@ front e d = first_same (sym e ∙ d)
 
 pub after : {words left more : List (List ℕ)} {w v : List ℕ} → words ≡ w ∷ left → words ≡ v ∷ more → left ≡ more
 after e d = rest_same (sym e ∙ d)
-
--- what is read of the next word
-pub took : {X : Type 0} (spelled : X → List ℕ) (IsMeant : X → Type 0) (old new : List (List ℕ)) (word : List ℕ) (r : Option X)
-    → old ≡ word ∷ new → ReadsAs spelled IsMeant word r → TakesAs spelled IsMeant old r new
-took spelled IsMeant old new word (Some x) e h = (e ∙ ap (λ w. w ∷ new) h.0, h.1)
-took spelled IsMeant old new word None e h = λ x rest meant is. h x meant (front e is)
-
--- where no word is left
-pub took_none : {X : Type 0} (spelled : X → List ℕ) (IsMeant : X → Type 0) (old new : List (List ℕ)) → old ≡ [] → TakesAs spelled IsMeant old None new
-took_none spelled IsMeant old new e = λ x rest meant is. absurd (none (sym e ∙ is))
-  where
-    none : {w : List ℕ} {ws : List (List ℕ)} → [] ≡ w ∷ ws → ⊥
-    none e = cc
 
 -- ---- the words that are left
 

@@ -1,15 +1,7 @@
 -- Going through the lines of a log.
-use Rattle.std.proofs.Common.{◌≡◌, ◌≢◌, ℕ, ◌<◌, ◌≤◌, ◌+◌, ◌==◌, ◌&&◌, Bool, true, false, List, [], ◌∷◌, ◌++◌, Some, None, codes, length, map, refl, sym, ap, ap₂, ◌∙◌, arith, subst, append-nil, if◌then◌else◌}
-use Rattle.std.proofs.lemmas.Bool.{eqb-true, false≢true}
-use Rattle.std.proofs.lemmas.List.{length-append, map-append}
-use Rattle.std.proofs.lemmas.List.Elements.{All-cons, All-head, All-nil, All-tail}
-use Rattle.std.specs.List.{All}
-use Rattle.promise.specs.declared.life.Fate.{Fate}
-use Rattle.promise.specs.declared.life.Life.{Life}
-use Rattle.script.specs.Steps.{Lacks}
-use Rattle.book_log.specs.Log.{Book, IsBadLine, IsBook, IsCrossing, IsHanded, IsLived, IsLog, text_of_lines}
-use Rattle.book_log.specs.Steps.{IsLine, added, is_bare, line_text, opening_book}
-use Rattle.book_log.specs.declared.lines.Line.{Line}
+use Rattle.book_log.proofs.Common.{◌≡◌, ◌≢◌, ℕ, ◌<◌, ◌≤◌, ◌+◌, ◌==◌, ◌&&◌, Bool, true, false, List, [], ◌∷◌, ◌++◌, Some, None, codes, length, map, refl, sym, ap, ap₂, ◌∙◌, arith, subst, append-nil, if◌then◌else◌, eqb-true, false≢true, map-append, All-cons, All-head, All-nil, All-tail, All, Fate, Life, Lacks, Book, IsBadLine, IsBook, IsCrossing, IsHanded, IsLived, IsLog, text_of_lines, IsLine, added, is_bare, line_text, Line}
+use Rattle.std.proofs.lemmas.List.{length-append}
+use Rattle.book_log.specs.Steps.{opening_book}
 use Rattle.book_log.specs.declared.lines.Line.TheVariants as line
 use Rattle.book_log.proofs.Books.{Added, Follows, Next, bad_line, begins_all, begins_told, last_line, lived, middle_of, next, no_end, not_whole, rank, rank_is, text_of_lines_more, text_rank, texts, this_line, told, was_added}
 
@@ -18,12 +10,6 @@ pub record Reached (text left : List ℕ) (b : Book) (passed : ℕ) : Type 0 whe
   pub parted : text ≡ text_of_lines (texts (told b)) ++ left
   pub valid : IsBook b
   pub counted : passed ≡ length (texts (told b))
-
-no_book : IsBook opening_book
-no_book = record { crossings = All-nil IsCrossing; lives = All-nil IsLived; handed = All-nil IsHanded }
-
-pub start : (text : List ℕ) (b : Book) → b ≡ opening_book → Reached text text b 0
-start text b e = subst (λ (c : Book). Reached text text c 0) (sym e) (record { parted = refl; valid = no_book; counted = refl })
 
 -- the next line is none of a log
 pub bad_here : (text left this more : List ℕ) (b : Book) (passed : ℕ) → Reached text left b passed → left ≡ this ++ 10 ∷ more → Lacks 10 this → ((l : Line) → IsLine l → this ≢ line_text l) → IsBadLine text (passed + 1)

@@ -1,3 +1,4 @@
+pub mod Common
 mod Books
 mod Cuts
 mod Going

@@ -1,20 +1,15 @@
 -- Numbers of up to 128 bits as words.
-use Rattle.std.proofs.Common.{length-append, ◌≡◌, ◌≢◌, ℕ, ◌<◌, ◌≤◌, ◌+◌, ◌*◌, ◌/◌, ◌%◌, ◌^◌, ◌==◌, true, false, List, [], ◌∷◌, ◌++◌, get_or, Result, Ok, Err, refl, sym, ap, ◌∙◌, subst, arith, zero, suc, lit<, length, append-nil, append_assoc}
-use Rattle.std.proofs.lemmas.Bool.{false≢true}
+use Rattle.book_log.proofs.Common.{◌≡◌, ◌≢◌, ℕ, ◌<◌, ◌≤◌, ◌+◌, ◌*◌, ◌/◌, ◌%◌, ◌^◌, ◌==◌, true, false, List, [], ◌∷◌, ◌++◌, get_or, Result, Ok, Err, refl, sym, ap, ◌∙◌, subst, arith, zero, suc, lit<, length, append-nil, append_assoc, false≢true, All-nil, All-cons, decimal, All, ParsesUnsigned, ReadsAs, begins_wrong}
+use Rattle.std.proofs.Common.{length-append}
 use Rattle.std.proofs.lemmas.Bool.Decides.{nat_tests}
 use Rattle.std.proofs.lemmas.Fmt.{IsAscii-decimal_wide, decimal_digit, decimal_is_IsNumeral_wide, decimal_by_steps_wide, decimal_step_wide, parse-decimal_wide}
 use Rattle.std.proofs.lemmas.List.{get_or_append_left}
-use Rattle.std.proofs.lemmas.List.Elements.{All-nil, All-cons}
 use Rattle.std.proofs.lemmas.Str.{IsUtf8-from_ascii, digit_value_digit}
 use Rattle.std.proofs.lemmas.Str.Parse.{IsNumeralModel, numerals_by_value, tells_digits, parse_plain, digit_from_value}
-use Rattle.std.specs.Fmt.{decimal}
-use Rattle.std.specs.List.{All}
 use Rattle.std.specs.Result.{OkIff, result_ok}
 use Rattle.std.specs.Str.{IsUtf8}
-use Rattle.std.specs.Str.Parse.{AllDigits, digits_value, digits_value_after, ParsesUnsigned}
+use Rattle.std.specs.Str.Parse.{AllDigits, digits_value, digits_value_after}
 use Rattle.std.specs.Char.{digit_value}
-use Rattle.script.specs.Spelling.{ReadsAs}
-use Rattle.book_log.specs.Steps.{begins_wrong}
 use Rattle.book_log.proofs.Cuts.{IsWord}
 
 wide : (n : ℕ) → n < 2 ^ 128 → n < 10 ^ 64
@@ -114,12 +109,6 @@ number_word n small =
     record { spaces = unmarked 32 (decimal n) (lit< tt) digits; ends = unmarked 10 (decimal n) (lit< tt) digits }
 
 -- ---- a number of fewer bits
-
--- a number that doesn't fit is none of those that do
-pub past_is_none : (bs : List ℕ) (limit n : ℕ) → n < 2 ^ 128 → limit ≤ 2 ^ 128 → limit ≤ n → bs ≡ decimal n → (x : ℕ) → x < limit → bs ≢ decimal x
-past_is_none bs limit n small wide past is x low e =
-    let same : n ≡ x = decimal_once n x small (omega arith) (sym is ∙ e) in
-    absurd (omega arith)
 
 -- a number of 128 bits as one of 64
 pub fewer : {E : Type 0} (bs : List ℕ) (n : ℕ) (r : Result ℕ E) → bs ≡ decimal n → n < 2 ^ 128 → OkIff r (n < 2 ^ 64) n → ReadsAs decimal (λ x. x < 2 ^ 64) bs (result_ok r)

@@ -1,27 +1,11 @@
 -- Octets are read in one way: no two books are spelled alike, and no two lines are the first bad one.
-use Rattle.std.proofs.Common.{◌≡◌, ◌≢◌, ℕ, ◌<◌, ◌≤◌, ◌^◌, Bool, true, false, List, [], ◌∷◌, ◌++◌, codes, length, map, refl, sym, ap, ap₂, ◌∙◌, arith, subst, append_assoc, append-nil}
-use Rattle.std.proofs.lemmas.Bool.{false≢true}
-use Rattle.std.proofs.lemmas.List.Elements.{All-append, All-head, All-tail, All-weaker}
-use Rattle.std.specs.Fmt.{decimal}
-use Rattle.std.specs.List.{All}
-use Rattle.std.specs.Str.{bytes_eq}
-use Rattle.interface.specs.declared.address.Flow.{Flow}
-use Rattle.interface.specs.declared.crossing.Answer.{Answer}
+use Rattle.book_log.proofs.Common.{◌≡◌, ◌≢◌, ℕ, ◌<◌, ◌≤◌, ◌^◌, Bool, true, false, List, [], ◌∷◌, ◌++◌, codes, length, map, refl, sym, ap, ap₂, ◌∙◌, arith, subst, append_assoc, append-nil, false≢true, All-append, All-head, All-tail, All-weaker, decimal, All, bytes_eq, Flow, Answer, Crossing, HostMessage, Fate, Life, ended_line, IsFlow, IsMessage, octets_text, Lacks, SameCut, same_cut, Book, IsBadLine, IsLived, IsLog, answer_name, fate_name, log_lines, logged_fate, text_of_lines, IsLine, flow_words, life_words, line_text, message_words, words_in, Line}
 use Rattle.interface.specs.declared.crossing.Answer.TheVariants as answer
-use Rattle.interface.specs.declared.crossing.Crossing.{Crossing}
-use Rattle.interface.specs.declared.message.HostMessage.{HostMessage}
 use Rattle.promise.specs.declared.life.Amount.{Amount}
 use Rattle.promise.specs.Fates.{is_over}
-use Rattle.promise.specs.declared.life.Fate.{Fate}
 use Rattle.promise.specs.declared.life.Fate.TheVariants as fate
-use Rattle.promise.specs.declared.life.Life.{Life}
-use Rattle.script.specs.Input.{ended_line}
-use Rattle.script.specs.Spelling.{IsFlow, IsMessage, octets_text}
-use Rattle.script.specs.Steps.{Lacks}
-use Rattle.script.proofs.lemmas.{SameCut, host_once, same_cut, text_once}
-use Rattle.book_log.specs.Log.{Book, IsAmount, IsBadLine, IsLived, IsLog, answer_name, fate_name, log_lines, logged_fate, text_of_lines}
-use Rattle.book_log.specs.Steps.{IsLine, flow_words, life_words, line_text, message_words, words_in}
-use Rattle.book_log.specs.declared.lines.Line.{Line}
+use Rattle.script.proofs.lemmas.{host_once, text_once}
+use Rattle.book_log.specs.Log.{IsAmount}
 use Rattle.book_log.specs.declared.lines.Line.TheVariants as line
 use Rattle.book_log.proofs.Books.{Longer, all_of, all_told, all_told_are, begins_ends, ended_more, lines_are, lived, log_ends, longer, nil_not, not_ended, rank, texts, told}
 use Rattle.book_log.proofs.Cuts.{first_same, rest_same}

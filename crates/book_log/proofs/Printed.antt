@@ -1,25 +1,16 @@
 -- What is written of a book is its log.
-use Rattle.std.proofs.Common.{◌≡◌, ℕ, zero, suc, ◌+◌, ◌*◌, ◌/◌, ◌%◌, ◌<◌, ◌≤◌, Bool, false, List, [], ◌∷◌, ◌++◌, Option, Some, None, codes, drop, get_or, length, map, slice_index, slice_index_or, take, refl, sym, ap, ap₂, ◌∙◌, arith, subst, append_assoc, append-nil}
+use Rattle.book_log.proofs.Common.{◌≡◌, ℕ, zero, suc, ◌+◌, ◌*◌, ◌/◌, ◌%◌, ◌<◌, ◌≤◌, Bool, false, List, [], ◌∷◌, ◌++◌, Option, Some, None, codes, drop, get_or, length, map, slice_index, take, refl, sym, ap, ap₂, ◌∙◌, arith, subst, append_assoc, append-nil, All-cons, All-head, All-more, All-nil, All-tail, firsts-zip, seconds-zip, flat_map-append, All, zip, Appends, encode_upper, upper_digits, AreFated, Fate, Life, text_of, text_more, ended_line, octets_text, worded_life, Book, IsLife, IsLived, fate_name, handed_line, life_line, logged_fate, logged_line, text_of_lines}
+use Rattle.std.proofs.Common.{slice_index_or}
 use Rattle.std.proofs.lemmas.List.{drop-drop, drop_all, get_or-drop, length-drop, take_all}
-use Rattle.std.proofs.lemmas.List.Elements.{All-cons, All-head, All-more, All-nil, All-tail}
 use Rattle.std.proofs.lemmas.Option.{get_or_from_slice_get, slice_get_within}
-use Rattle.std.proofs.lemmas.Slice.Zip.{firsts-zip, get_or-zip, length-zip, seconds-zip}
-use Rattle.std.proofs.lemmas.Grind.{flat_map-append}
-use Rattle.std.specs.List.{All, slice_get, zip}
-use Rattle.std.specs.Io.KnownBytes.{Appends}
+use Rattle.std.proofs.lemmas.Slice.Zip.{get_or-zip, length-zip}
+use Rattle.std.specs.List.{slice_get}
 use Rattle.std.proofs.KnownBytes.{Appends-nil, Appends-trans}
 use Rattle.bit_messages.specs.Octets.{octet, octets_of}
-use Rattle.hex.specs.Hex.{encode_upper, encode_with, upper_digits}
-use Rattle.promise.specs.Fates.{AreFated, is_over}
-use Rattle.promise.specs.declared.life.Fate.{Fate}
+use Rattle.hex.specs.Hex.{encode_with}
+use Rattle.promise.specs.Fates.{is_over}
 use Rattle.promise.specs.declared.life.Fate.TheVariants as fate
-use Rattle.promise.specs.declared.life.Life.{Life}
-use Rattle.replay.specs.InTurn.{text_of}
-use Rattle.replay.proofs.lemmas.{text_more}
-use Rattle.script.specs.Input.{ended_line}
-use Rattle.script.specs.Spelling.{octets_text}
-use Rattle.world_replay.specs.Printed.{worded_life}
-use Rattle.book_log.specs.Log.{Book, IsLife, IsLived, fate_name, handed_line, life_line, log_text, logged_fate, logged_line, text_of_lines}
+use Rattle.book_log.specs.Log.{log_text}
 use Rattle.book_log.specs.Steps.{octet_at}
 
 -- ---- octets of bits
@@ -52,9 +43,6 @@ pub record Written (bits : List Bool) (i : ℕ) (a b : Option (List ℕ)) : Type
   pub whole : front ++ encode_upper (octets_of (drop (8 * i) bits)) ≡ encode_upper (octets_of bits)
   pub written : Appends a b front
 
-pub none_written : (bits : List Bool) (a : Option (List ℕ)) → Written bits 0 a a
-none_written bits a = record { front = []; whole = refl; written = Appends-nil a }
-
 two_digits : (o : ℕ) (octets : List ℕ) → encode_upper (o ∷ octets) ≡ (slice_index upper_digits (o / 16) ∷ slice_index upper_digits (o % 16) ∷ []) ++ encode_upper octets
 unfolding encode_with
 two_digits o octets = refl
@@ -81,14 +69,6 @@ none_left bits i le = ap (λ xs. encode_upper (octets_of xs)) (drop_all (8 * i) 
 pub all_written : (bits : List Bool) (i : ℕ) (a b : Option (List ℕ)) → length bits ≤ 8 * i → Written bits i a b → Appends a b (encode_upper (octets_of bits))
 all_written bits i a b le h =
     subst (Appends a b) (sym (append-nil h.front) ∙ ap (λ xs. h.front ++ xs) (sym (none_left bits i le)) ∙ h.whole) h.written
-
-pub no_bits : (bits : List Bool) (a b : Option (List ℕ)) → length bits ≡ 0 → Appends a b (codes "-") → Appends a b (octets_text bits)
-no_bits [] a b none h = h
-no_bits (x ∷ bits) a b none h = absurd (omega (arith, none))
-
-pub some_bits : (bits : List Bool) (a b : Option (List ℕ)) → 0 < length bits → Appends a b (encode_upper (octets_of bits)) → Appends a b (octets_text bits)
-some_bits [] a b some h = absurd (omega (arith, some))
-some_bits (x ∷ bits) a b some h = h
 
 -- ---- lines
 

@@ -1,15 +1,8 @@
 -- Words read one after the other.
-use Rattle.std.proofs.Common.{◌≡◌, ◌≢◌, ℕ, ◌<◌, ◌≤◌, ◌^◌, Bool, true, false, List, [], ◌∷◌, ◌++◌, Option, Some, None, Result, Ok, Err, IfOk, drop, length, refl, sym, ap, ◌∙◌, arith, subst}
+use Rattle.book_log.proofs.Common.{◌≡◌, ◌≢◌, ℕ, ◌<◌, ◌≤◌, ◌^◌, Bool, true, false, List, [], ◌∷◌, ◌++◌, Option, Some, None, Result, Ok, Err, drop, length, refl, sym, ap, ◌∙◌, arith, subst, decimal, Flow, HostMessage, Fate, Life, IsMessage, octets_text, kind_text, IsHanded, IsLived, TakesAs, counts_words, ends_words, flow_words, handed_words, life_words, message_words}
+use Rattle.std.proofs.Common.{IfOk}
 use Rattle.std.specs.Prelude.{IsTrue, ◌↔◌}
-use Rattle.std.specs.Fmt.{decimal}
-use Rattle.interface.specs.declared.address.Flow.{Flow}
-use Rattle.interface.specs.declared.message.HostMessage.{HostMessage}
-use Rattle.promise.specs.declared.life.Fate.{Fate}
-use Rattle.promise.specs.declared.life.Life.{Life}
-use Rattle.script.specs.Spelling.{IsMessage, octets_text}
-use Rattle.world_replay.specs.Printed.{kind_text}
-use Rattle.book_log.specs.Log.{IsHanded, IsLived}
-use Rattle.book_log.specs.Steps.{AreCounts, AreEnds, TakesAs, TakesWords, counts_words, ends_words, flow_words, handed_words, is_over, life_words, message_words}
+use Rattle.book_log.specs.Steps.{AreCounts, AreEnds, TakesWords, is_over}
 use Rattle.book_log.specs.declared.lines.Counts.{Counts}
 use Rattle.book_log.specs.declared.lines.Ends.{Ends}
 use Rattle.book_log.proofs.Cuts.{after, first_same, front, rest_same}
@@ -22,21 +15,6 @@ no_word none e = by (sym none ∙ e)
     by : {v : List ℕ} {ws : List (List ℕ)} → [] ≡ v ∷ ws → ⊥
     by is = cc
 
--- and where some are left there is not none
-pub some_word : (words : List (List ℕ)) → is_over words ≡ false → words ≡ [] → ⊥
-some_word [] more none = absurd (true_not more)
-  where
-    true_not : true ≡ false → ⊥
-    true_not e = cc
-some_word (w ∷ words) more none = absurd (no_word refl (sym none))
-
-pub over : (words : List (List ℕ)) → is_over words ≡ true → words ≡ []
-over [] none = refl
-over (w ∷ words) none = absurd (false_not none)
-  where
-    false_not : false ≡ true → ⊥
-    false_not e = cc
-
 -- what follows two words
 pub after_two : {words left more : List (List ℕ)} {w x v y : List ℕ} → words ≡ w ∷ x ∷ left → words ≡ v ∷ y ∷ more → left ≡ more
 after_two e d = rest_same (after e d)
@@ -44,10 +22,6 @@ after_two e d = rest_same (after e d)
 -- and after three
 pub after_three : {words left more : List (List ℕ)} {w x u v y z : List ℕ} → words ≡ w ∷ x ∷ u ∷ left → words ≡ v ∷ y ∷ z ∷ more → left ≡ more
 after_three e d = rest_same (after_two e d)
-
--- one word, and those after it
-pub link : {words left more : List (List ℕ)} {w : List ℕ} → words ≡ w ∷ left → left ≡ more → words ≡ w ∷ more
-link {words} {left} {more} {w} e d = e ∙ ap (λ ws. w ∷ ws) d
 
 -- the kind of another socket
 pub other_kind : (socket other : ℕ) (word : List ℕ) (t : Bool) → socket < 2 ^ 32 → other < 2 ^ 32 → decimal socket ≡ decimal other → word ≡ kind_text other → IsTrue t ↔ (word ≡ kind_text socket) → t ≡ false → ⊥

@@ -1,17 +1,13 @@
 -- Why octets are no input.
-use Rattle.std.proofs.Common.{◌≡◌, ◌<◌, ◌↔◌, Bool, true, false, List, ℕ, length, IsUtf8, Option, Some, None, IfSome, Result, Ok, Err, IfErr, MatchResult, ap, inl, inr, refl, subst, sym, ◌∙◌}
-use Rattle.std.proofs.lemmas.Bool.{false≢true}
+use Rattle.command_line.proofs.Common.{◌≡◌, ◌<◌, Bool, true, false, List, ℕ, Option, Some, None, IfSome, Result, Ok, Err, IfErr, MatchResult, ap, inl, inr, refl, subst, sym, ◌∙◌, false≢true, TopologyFields, Describes, IsInput, IsInputFault, IsSomeInput, IsReplayFault, ScriptFault}
+use Rattle.std.proofs.Common.{◌↔◌, length, IsUtf8}
 use Rattle.script.specs.Input.{IsParted}
-use Rattle.topology.specs.Topology.{TopologyFields}
-use Rattle.command_line.specs.Described.{Describes}
 use Rattle.command_line.specs.Events.{Asked}
-use Rattle.command_line.specs.Input.{IsInput, IsInputFault, IsSomeInput}
-use Rattle.command_line.specs.Steps.{IsNetworkFault, IsReadFault, IsReplayFault}
+use Rattle.command_line.specs.Steps.{IsNetworkFault, IsReadFault}
 use Rattle.replay.specs.Failing.{TellsCannotWrite}
 use Rattle.replay.specs.declared.events.ReplayFault.{ReplayFault}
 use Rattle.replay.specs.declared.events.ReplayFault.TheVariants as replay
 use Rattle.command_line.specs.Faults.{told_as}
-use Rattle.command_line.specs.declared.fault.ScriptFault.{ScriptFault}
 use Rattle.command_line.specs.declared.fault.ScriptFault.TheVariants as fault
 
 pub network_fault : (octets document script : List ℕ) (f : ScriptFault) → IsParted octets document script → IsNetworkFault f → (f ≡ fault.BadTopology → IsUtf8 document → (t : TopologyFields) → ¬ (Describes document t)) → IsInputFault octets f

@@ -1,15 +1,9 @@
 -- What is written where memory runs out before anything is replayed.
-use Rattle.std.proofs.Common.{◌≡◌, ◌⊎◌, inl, inr, ℕ, List, Option, Some, None, Result, Err, IfSome, MatchResult, refl, sym, subst}
-use Rattle.std.specs.Io.KnownBytes.{Keeps}
-use Rattle.command_line.specs.Input.{IsInputFault, IsSomeInput}
+use Rattle.command_line.proofs.Common.{◌≡◌, ◌⊎◌, inl, inr, ℕ, List, Option, Some, None, Result, Err, IfSome, MatchResult, refl, sym, subst, Keeps, IsInputFault, IsSomeInput, EndsTask, Sides, StopsInput, ScriptFault, Options}
 use Rattle.command_line.specs.Options.{detail_of}
-use Rattle.command_line.specs.Program.{EndsTask, Sides}
 use Rattle.command_line.specs.Reading.{ReadsFirst}
-use Rattle.command_line.specs.Replayed.{StopsInput}
 use Rattle.command_line.proofs.Reading.{reads_none}
-use Rattle.command_line.specs.declared.fault.ScriptFault.{ScriptFault}
 use Rattle.command_line.specs.declared.fault.ScriptFault.TheVariants as script
-use Rattle.command_line.specs.declared.options.Options.{Options}
 use Rattle.command_line.specs.declared.program.ProgramFault.TheVariants as fault
 
 pub keeps_same : (a b : Option (List ℕ)) → b ≡ a → Keeps a b

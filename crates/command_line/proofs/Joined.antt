@@ -1,38 +1,19 @@
 -- What `--log` writes, `--audit` reads and calls kept.
-use Rattle.std.proofs.Common.{◌≡◌, ℕ, Bool, true, List, [], ◌∷◌, reverse, Option, Some, None, IfSome, Result, Ok, Err}
-use Rattle.std.proofs.Common.{MatchResult, inl, inr, map, refl, sym, subst}
-use Rattle.std.proofs.lemmas.List.{reverse-reverse}
-use Rattle.book_log.specs.Log.{Book, fates_of, lives_of, logged_fate}
-use Rattle.book_log.proofs.lemmas.{book_once, fates_back, lives_back}
-use Rattle.headline.proofs.lemmas.{kept_promise, parted, world_run}
-use Rattle.interface.specs.Host.{Host}
-use Rattle.interface.specs.Mailboxes.{IsRun}
-use Rattle.interface.specs.Messages.{SafeMessages}
-use Rattle.interface.specs.declared.crossing.Crossing.{Crossing}
-use Rattle.net_sim.specs.Audit.{Says}
+use Rattle.command_line.proofs.Common.{◌≡◌, ℕ, Bool, true, List, [], ◌∷◌, reverse, Option, Some, None, IfSome, Result, Ok, Err, MatchResult, inl, inr, map, refl, sym, subst, reverse-reverse, fates_of, lives_of, lives_back, world_run, Host, IsRun, SafeMessages, Crossing, Says, AreFated, ClosesWhole, Fate, Life, Calls, TopologyFields, CarrierKind, AreSuited, IsSomeRun, AuditsLog, IsAuditFault, IsSomeLog, Judged, SaysOf, kept, Verdict, plain_calls, subnet_calls, plain_of, subnet_of, Raw, World, Logged, LogsFrom, LogsOver, raw_book, world_book, AuditFault}
+use Rattle.book_log.specs.Log.{Book, logged_fate}
+use Rattle.book_log.proofs.lemmas.{book_once, fates_back}
+use Rattle.headline.proofs.lemmas.{kept_promise, parted}
 use Rattle.net_sim.specs.declared.auditing.said.Audit.{Audit}
 use Rattle.net_sim.specs.declared.auditing.said.Audit.TheVariants as audit
 use Rattle.net_sim.specs.Book.{Kept}
 use Rattle.promise.specs.Ends.{Asking, Closed, Dropped, Going, Over, Stage, Stopped, stage}
-use Rattle.promise.specs.Fates.{AreFated, ClosesWhole, IsBeside}
-use Rattle.promise.specs.declared.life.Fate.{Fate}
+use Rattle.promise.specs.Fates.{IsBeside}
 use Rattle.promise.specs.declared.life.Fate.TheVariants as fate
-use Rattle.promise.specs.declared.life.Life.{Life}
-use Rattle.interface.specs.Calls.{Calls}
-use Rattle.topology.specs.Topology.{TopologyFields}
-use Rattle.topology.specs.declared.network.CarrierKind.{CarrierKind}
 use Rattle.topology.specs.declared.network.CarrierKind.TheVariants as kind
-use Rattle.book_judge.specs.Fates.{AreSuited, suits}
-use Rattle.book_judge.specs.Runs.{IsSomeRun}
+use Rattle.book_judge.specs.Fates.{suits}
 use Rattle.book_judge.proofs.lemmas.{made_twice}
-use Rattle.command_line.specs.Audits.{AuditsLog, IsAuditFault, IsKeptLog, IsSomeLog, Judged, SaysKept, SaysOf, kept}
-use Rattle.command_line.specs.declared.verdict.Verdict.{Verdict}
-use Rattle.leader1822.specs.Boxes.{plain_calls}
-use Rattle.subnet.specs.Working.{subnet_calls}
-use Rattle.command_line.specs.Carriers.{plain_of, subnet_of}
-use Rattle.command_line.specs.Events.{Asked, Raw, World}
-use Rattle.command_line.specs.Logs.{Logged, LogsFrom, LogsOver, raw_book, world_book}
-use Rattle.command_line.specs.declared.auditing.AuditFault.{AuditFault}
+use Rattle.command_line.specs.Audits.{IsKeptLog, SaysKept}
+use Rattle.command_line.specs.Events.{Asked}
 use Rattle.command_line.specs.declared.auditing.AuditFault.TheVariants as fault
 use Rattle.command_line.proofs.Named.{kept_from_safe, only_kept}
 use Rattle.command_line.proofs.Printed.{none_there, safe_alone}

@@ -1,29 +1,11 @@
 -- An input has one log, and its outputs are of one replay.
-use Rattle.std.proofs.Common.{◌≡◌, Bool, List, [], ◌++◌, Some, codes, reverse, sym, ap, ap₂, subst, ◌∙◌, ℕ}
-use Rattle.std.proofs.lemmas.List.{reverse-reverse}
-use Rattle.book_log.specs.Log.{lives_of, log_text}
-use Rattle.book_log.proofs.lemmas.{lives_back}
-use Rattle.interface.specs.declared.crossing.Crossing.{Crossing}
-use Rattle.net_sim.specs.Carriers.{shown}
-use Rattle.net_sim.specs.World.{WorldState, opening_world}
-use Rattle.promise.specs.declared.life.Life.{Life}
-use Rattle.replay.specs.Output.{Shown, crossings_of, output}
-use Rattle.interface.specs.Calls.{Calls}
-use Rattle.replay.specs.Settled.{AreSettled}
-use Rattle.replay.specs.declared.print.Detail.{Detail}
-use Rattle.replay.proofs.lemmas.{OneReplay, replays_once}
-use Rattle.topology.specs.Topology.{TopologyFields}
-use Rattle.topology.specs.declared.network.CarrierKind.{CarrierKind}
+use Rattle.command_line.proofs.Common.{◌≡◌, Bool, List, [], ◌++◌, Some, codes, reverse, sym, ap, ap₂, subst, ◌∙◌, ℕ, reverse-reverse, lives_of, log_text, lives_back, Crossing, shown, WorldState, opening_world, Life, crossings_of, output, Calls, AreSettled, Detail, OneReplay, replays_once, TopologyFields, CarrierKind, plain_calls, subnet_calls, plain_of, subnet_of, Raw, World, LogsFrom, LogsInput, LogsOn, LogsOver, raw_book, world_book, ReplaysFrom, ReplaysInput, ReplaysOn, ReplaysOver, book_text}
+use Rattle.replay.specs.Output.{Shown}
 use Rattle.topology.specs.declared.network.CarrierKind.TheVariants as kind
 use Rattle.world_replay.specs.Output as lines
 use Rattle.world_replay.proofs.lemmas.Replays as worlds
-use Rattle.leader1822.specs.Boxes.{plain_calls}
-use Rattle.subnet.specs.Working.{subnet_calls}
-use Rattle.command_line.specs.Carriers.{plain_of, subnet_of}
-use Rattle.command_line.specs.Events.{Asked, Raw, World}
+use Rattle.command_line.specs.Events.{Asked}
 use Rattle.command_line.specs.Joins.{PrintTheSame, TellTheSame}
-use Rattle.command_line.specs.Logs.{LogsFrom, LogsInput, LogsOn, LogsOver, raw_book, world_book}
-use Rattle.command_line.specs.Replayed.{ReplaysFrom, ReplaysInput, ReplaysOn, ReplaysOver, book_text}
 use Rattle.command_line.proofs.Once.{raw_once, world_once}
 use Rattle.command_line.proofs.OneInput.{OneInput, input_once}
 use Rattle.command_line.proofs.Printed.{as_world, no_lives, same_crossings, same_output}

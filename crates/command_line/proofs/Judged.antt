@@ -1,17 +1,8 @@
 -- What is written of a log is what its audit says.
-use Rattle.std.proofs.Common.{◌≡◌, ℕ, Bool, true, false, List, ◌++◌, Option, Some, None, IfSome, Result, Ok, Err, MatchResult, OnOk, ap, codes, refl, sym, ◌∙◌, subst}
-use Rattle.std.proofs.lemmas.Bool.{false≢true}
-use Rattle.std.proofs.lemmas.List.{append_assoc}
-use Rattle.std.specs.Io.KnownBytes.{Appends, Keeps}
-use Rattle.book_log.specs.Log.{Book, IsLog, fates_of, lives_of}
-use Rattle.interface.specs.declared.crossing.Crossing.{Crossing}
-use Rattle.promise.specs.declared.life.Fate.{Fate}
-use Rattle.promise.specs.declared.life.Life.{Life}
-use Rattle.command_line.specs.Audits.{Audited, AuditsLog, IsAuditFault, IsBookFault, IsLogReadFault, IsSomeLog, Judged, SaysOf, closes_text, lines_of, lines_text, verdict_text}
+use Rattle.command_line.proofs.Common.{◌≡◌, ℕ, Bool, true, false, List, ◌++◌, Option, Some, None, IfSome, Result, Ok, Err, MatchResult, OnOk, ap, codes, refl, sym, ◌∙◌, subst, false≢true, append_assoc, Appends, Keeps, IsLog, fates_of, lives_of, Crossing, Fate, Life, AuditsLog, IsAuditFault, IsBookFault, IsSomeLog, Judged, SaysOf, verdict_text, Finding, Verdict, AuditFault}
+use Rattle.book_log.specs.Log.{Book}
+use Rattle.command_line.specs.Audits.{Audited, IsLogReadFault, closes_text, lines_of, lines_text}
 use Rattle.command_line.specs.declared.verdict.Lines.{Lines}
-use Rattle.net_sim.specs.declared.auditing.findings.Finding.{Finding}
-use Rattle.command_line.specs.declared.verdict.Verdict.{Verdict}
-use Rattle.command_line.specs.declared.auditing.AuditFault.{AuditFault}
 use Rattle.command_line.specs.declared.auditing.AuditFault.TheVariants as fault
 
 pub audits : (octets : List ℕ) (b : Book) (said : Verdict) (before after : Option (List ℕ)) → IsLog octets b → SaysOf said b → Appends before after (verdict_text b said) → AuditsLog octets said before after

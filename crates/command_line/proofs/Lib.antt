@@ -1,3 +1,4 @@
+pub mod Common
 mod CommandLine
 mod Faults
 mod Hyphens

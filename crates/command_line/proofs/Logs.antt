@@ -1,31 +1,11 @@
 -- What `--log` writes is the log of the book that a replay leaves.
-use Rattle.std.proofs.Common.{◌≡◌, ℕ, Bool, List, [], Option, Some, None, IfSome, Result, Ok, Err, OnOk, refl}
-use Rattle.std.proofs.Common.{reverse, subst, sym}
-use Rattle.std.specs.Io.KnownBytes.{Appends}
-use Rattle.book_judge.specs.Fates.{AreSuited}
-use Rattle.book_log.specs.Log.{Book, IsBook, log_text, logged_book}
-use Rattle.promise.specs.Fates.{AreFated, ClosesWhole}
-use Rattle.promise.specs.declared.life.Fate.{Fate}
-use Rattle.headline.specs.Promise.{KeepsPromise}
-use Rattle.interface.specs.Mailboxes.{IsRun}
-use Rattle.interface.specs.Messages.{SafeMessages}
-use Rattle.interface.specs.declared.crossing.Crossing.{Crossing}
-use Rattle.net_sim.specs.Carriers.{shown}
-use Rattle.net_sim.specs.World.{WorldState, opening_world}
-use Rattle.promise.specs.declared.life.Life.{Life}
-use Rattle.replay.specs.Output.{Writes}
+use Rattle.command_line.proofs.Common.{◌≡◌, ℕ, Bool, List, [], Option, Some, None, IfSome, Result, Ok, Err, OnOk, refl, reverse, subst, sym, Appends, AreSuited, log_text, AreFated, ClosesWhole, Fate, KeepsPromise, IsRun, SafeMessages, Crossing, shown, WorldState, opening_world, Life, Writes, Calls, Detail, RawEvent, TopologyFields, WorldEvent, IsInput, Logged, LogsInput, LogsOn, ScriptFault}
+use Rattle.book_log.specs.Log.{Book, IsBook, logged_book}
 use Rattle.replay.specs.Replay.{Replays}
-use Rattle.interface.specs.Calls.{Calls}
-use Rattle.replay.specs.declared.print.Detail.{Detail}
-use Rattle.script.specs.declared.event.RawEvent.{RawEvent}
-use Rattle.topology.specs.Topology.{TopologyFields}
 use Rattle.world_replay.specs.Output as lines
 use Rattle.world_replay.specs.Replay as worlds
-use Rattle.world_script.specs.declared.event.WorldEvent.{WorldEvent}
 use Rattle.command_line.specs.Events.{Asked}
-use Rattle.command_line.specs.Input.{IsInput}
-use Rattle.command_line.specs.Logs.{Logged, LogsInput, LogsOn, LogsRaw, LogsWorld}
-use Rattle.command_line.specs.declared.fault.ScriptFault.{ScriptFault}
+use Rattle.command_line.specs.Logs.{LogsRaw, LogsWorld}
 
 pub logs_raw : {C : Type 0} (calls : Calls C) (opening last : C) (events : List RawEvent) (detail : Detail) (log : List Crossing) (x y before after : Option (List ℕ))
     → Writes detail (Replays calls opening events last) x y

@@ -1,32 +1,23 @@
 -- What an audit names is broken: a part that holds of all holds of the first of them.
-use Rattle.std.proofs.Common.{◌≡◌, ℕ, zero, suc, ◌+◌, ◌-◌, Bool, List, [], ◌∷◌, ◌++◌, length, reverse, take, drop}
-use Rattle.std.proofs.Common.{Option, Some, None, MatchOption, arith, inl, inr, refl, ap, sym, subst, ◌∙◌}
-use Rattle.std.specs.List.{Contains}
+use Rattle.command_line.proofs.Common.{◌≡◌, ℕ, ◌+◌, Bool, List, [], ◌∷◌, ◌++◌, reverse, take, Option, Some, None, arith, inl, inr, refl, ap, sym, subst, ◌∙◌, Contains, append_assoc, AreSuited, FormedBook, IsSomeRun, SafeMessages, Crossing, Says, Finding, AreTwo, ClosesWhole, Fate, Life, Judged, kept, Verdict}
+use Rattle.std.proofs.Common.{zero, suc, ◌-◌, length, drop}
+use Rattle.std.proofs.Common.{MatchOption}
 use Rattle.std.specs.Prelude.{◌↔◌}
-use Rattle.std.proofs.lemmas.List.{append_assoc, take-append-drop}
+use Rattle.std.proofs.lemmas.List.{take-append-drop}
 use Rattle.std.proofs.lemmas.List.Elements.{Contains-append_left}
 use Rattle.book_judge.specs.Broken.{IfFormed, first_closed}
-use Rattle.book_judge.specs.Fates.{AreSuited, UnsuitedAt}
+use Rattle.book_judge.specs.Fates.{UnsuitedAt}
 use Rattle.book_judge.specs.Lives.{UnmadeAt}
-use Rattle.promise.specs.Formed.{FormedBook}
-use Rattle.book_judge.specs.Runs.{IsSomeRun, StraysAt}
+use Rattle.book_judge.specs.Runs.{StraysAt}
 use Rattle.book_judge.proofs.lemmas.{closed_front, made_front, run_front, suited_front}
 use Rattle.interface.proofs.lemmas.{safe_messages}
-use Rattle.interface.specs.Messages.{SafeMessages}
 use Rattle.interface.specs.declared.crossing.Answer.TheVariants as answer
-use Rattle.interface.specs.declared.crossing.Crossing.{Crossing}
 use Rattle.interface.specs.declared.crossing.Crossing.TheVariants as crossing
-use Rattle.net_sim.specs.Audit.{IsWellFormed, Says}
+use Rattle.net_sim.specs.Audit.{IsWellFormed}
 use Rattle.net_sim.specs.Findings.{AreFed, ShowsCrossing, ShowsLife, ShowsMalformed, ShowsTwo, first_fed, first_granted}
-use Rattle.net_sim.specs.declared.auditing.findings.Finding.{Finding}
 use Rattle.net_sim.specs.declared.auditing.findings.Finding.TheVariants as finding
 use Rattle.net_sim.specs.declared.auditing.said.Audit.TheVariants as audit
-use Rattle.promise.specs.Safe.{AreHanded, AreTwo, Name, SafeGrants, SafePartners, SafeStreams, own_request}
-use Rattle.promise.specs.Fates.{ClosesWhole}
-use Rattle.promise.specs.declared.life.Fate.{Fate}
-use Rattle.promise.specs.declared.life.Life.{Life}
-use Rattle.command_line.specs.Audits.{Judged, kept}
-use Rattle.command_line.specs.declared.verdict.Verdict.{Verdict}
+use Rattle.promise.specs.Safe.{AreHanded, Name, SafeGrants, SafePartners, SafeStreams, own_request}
 
 contains_front : {X : Type 0} (n : ℕ) (xs : List X) (x : X) → Contains (take n xs) x → Contains xs x
 contains_front {X} n xs x c =

@@ -1,29 +1,15 @@
 -- An input leaves a replay no choice.
-use Rattle.std.proofs.Common.{◌≡◌, Bool, List, ◌++◌, Some, codes, sym, ap, subst, ◌∙◌, ℕ}
-use Rattle.std.proofs.lemmas.List.{append_assoc}
-use Rattle.net_sim.specs.Carriers.{shown}
-use Rattle.net_sim.specs.World.{WorldState, opening_world}
-use Rattle.promise.specs.declared.life.Life.{Life}
-use Rattle.replay.specs.Output.{Shown, output}
-use Rattle.interface.specs.Calls.{Calls}
-use Rattle.replay.specs.Settled.{AreSettled}
-use Rattle.replay.specs.declared.print.Detail.{Detail}
-use Rattle.topology.specs.Topology.{TopologyFields}
-use Rattle.topology.specs.declared.network.CarrierKind.{CarrierKind}
+use Rattle.command_line.proofs.Common.{◌≡◌, Bool, List, ◌++◌, Some, codes, sym, ap, subst, ◌∙◌, ℕ, append_assoc, shown, WorldState, opening_world, Life, output, Calls, AreSettled, Detail, TopologyFields, CarrierKind, WorldEvent, plain_calls, subnet_calls, plain_of, subnet_of, Raw, World, ReplaysFrom, ReplaysInput, ReplaysOn, ReplaysOver, ShowsFrom, StopsFrom, StopsInput, WorldShowsFrom, WorldStopsFrom, book_text, RawEvent, OneReplay, replays_once}
+use Rattle.replay.specs.Output.{Shown}
 use Rattle.topology.specs.declared.network.CarrierKind.TheVariants as kind
 use Rattle.world_replay.specs.Output as lines
 use Rattle.world_replay.proofs.lemmas.News as lines_of
 use Rattle.world_replay.proofs.lemmas.Replays as worlds
-use Rattle.world_script.specs.declared.event.WorldEvent.{WorldEvent}
-use Rattle.leader1822.specs.Boxes.{plain_calls}
-use Rattle.subnet.specs.Working.{subnet_calls}
-use Rattle.command_line.specs.Carriers.{plain_of, subnet_of}
-use Rattle.command_line.specs.Events.{Asked, Raw, World}
-use Rattle.command_line.specs.Replayed.{EndsFrom, EndsOn, EndsOver, ReplaysFrom, ReplaysInput, ReplaysOn, ReplaysOver, ShowsFrom, StopsFrom, StopsInput, WorldShowsFrom, WorldStopsFrom, book_text}
-use Rattle.script.specs.declared.event.RawEvent.{RawEvent}
+use Rattle.command_line.specs.Events.{Asked}
+use Rattle.command_line.specs.Replayed.{EndsFrom, EndsOn, EndsOver}
 use Rattle.command_line.proofs.OneInput.{OneInput, input_once}
 use Rattle.command_line.proofs.Settled.{plain_settled, subnet_settled}
-use Rattle.replay.proofs.lemmas.{OneReplay, StartsWith, output-append, replays_once}
+use Rattle.replay.proofs.lemmas.{StartsWith, output-append}
 use Rattle.replay.proofs.lemmas.Settled as replay
 
 -- ---- a whole replay

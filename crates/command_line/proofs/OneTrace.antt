@@ -1,37 +1,17 @@
 -- An input leaves its trace no choice.
-use Rattle.std.proofs.Common.{◌≡◌, inl, inr, ℕ, List, [], ◌∷◌, ◌++◌, Some, refl, sym, ap, ap₂, subst, zip, ◌∙◌}
-use Rattle.std.proofs.lemmas.List.{append_assoc, append-nil}
-use Rattle.replay.specs.InTurn.{HappensOnce, ShowsFront, text_of}
+use Rattle.command_line.proofs.Common.{◌≡◌, inl, inr, ℕ, List, [], ◌∷◌, ◌++◌, Some, refl, sym, ap, ap₂, subst, zip, ◌∙◌, append_assoc, HappensOnce, ShowsFront, text_of, Calls, AreSettled, OneReplay, ends_front, in_turn_once, replays_once, parted_once, RawEvent, TopologyFields, CarrierKind, shown, WorldState, opening_world, Event, SameGains, gains_once, happens_once, shown_settled, EndsRound, WorldEvent, opening_text, world_line, StopsOne, TellsIn, TellsInCalm, TellsOne, TellsRound, change_of, first_rounds, state_of, elements_in, object, opening_line, Spot, Inside, TellsElement, TellsEvent, asking_from, change_text, numbered_from, plain_inside, plain_calls, subnet_calls, subnet_inside, plain_of, subnet_of, Raw, World, EndsAll, IsScripted, TraceStops, TracesAll, TracesFrom, TracesInput, TracesOn, TracesOver, WorldEndsFrom, WorldTracesFrom}
+use Rattle.std.proofs.lemmas.List.{append-nil}
 use Rattle.replay.specs.Output.{Shown}
-use Rattle.interface.specs.Calls.{Calls}
-use Rattle.replay.specs.Settled.{AreSettled}
-use Rattle.replay.proofs.lemmas.{OneReplay, ends_front, in_turn_once, replays_once, text_of-append}
-use Rattle.script.proofs.lemmas.{parted_once}
-use Rattle.script.specs.declared.event.RawEvent.{RawEvent}
-use Rattle.topology.specs.Topology.{TopologyFields}
-use Rattle.topology.specs.declared.network.CarrierKind.{CarrierKind}
+use Rattle.replay.proofs.lemmas.{text_of-append}
 use Rattle.topology.specs.declared.network.CarrierKind.TheVariants as kind
-use Rattle.net_sim.specs.Carriers.{shown}
-use Rattle.net_sim.specs.World.{WorldState, opening_world}
-use Rattle.net_sim.specs.declared.event.Event.{Event}
-use Rattle.world_replay.proofs.lemmas.Replays.{SameGains, gains_once, happens_once, shown_settled}
 use Rattle.world_replay.specs.Gains.{Gains}
 use Rattle.world_replay.specs.Output.{Shown as Printed}
-use Rattle.world_replay.specs.Rounds.{EndsRound}
-use Rattle.world_script.specs.declared.event.WorldEvent.{WorldEvent}
 use Rattle.world_script.specs.declared.event.WorldEvent.TheVariants as worlds
-use Rattle.world_trace.specs.Texts.{opening_text, world_line}
-use Rattle.world_trace.specs.Traces.{EndsIn, IsHeard, IsSilent, IsUnchanged, StopsOne, TellsIn, TellsInCalm, TellsOne, TellsRound, TellsStep, change_of, first_rounds, state_of}
-use Rattle.trace.specs.Elements.{elements_in}
-use Rattle.trace.specs.Texts.{object, opening_line, trace_line}
-use Rattle.trace.specs.declared.element.Spot.{Spot}
-use Rattle.trace.specs.Traces.{EndsEvent, Inside, StopsElement, TellsElement, TellsEvent, asking_from, change_text, numbered_from, plain_inside}
-use Rattle.leader1822.specs.Boxes.{plain_calls}
-use Rattle.subnet.specs.Working.{subnet_calls}
-use Rattle.subnet_trace.specs.Traced.{subnet_inside}
-use Rattle.command_line.specs.Carriers.{plain_of, subnet_of}
-use Rattle.command_line.specs.Events.{Asked, Raw, World}
-use Rattle.command_line.specs.Traced.{EndsAll, EndsFrom, EndsOn, EndsOver, IsScripted, TraceStops, TracesAll, TracesFrom, TracesInput, TracesOn, TracesOver, WorldEndsFrom, WorldTracesFrom}
+use Rattle.world_trace.specs.Traces.{EndsIn, IsHeard, IsSilent, IsUnchanged, TellsStep}
+use Rattle.trace.specs.Texts.{trace_line}
+use Rattle.trace.specs.Traces.{EndsEvent, StopsElement}
+use Rattle.command_line.specs.Events.{Asked}
+use Rattle.command_line.specs.Traced.{EndsFrom, EndsOn, EndsOver}
 use Rattle.command_line.proofs.InCalm.{in_calm_once, round_front, round_once}
 use Rattle.command_line.proofs.OneInput.{OneInput, input_once}
 use Rattle.command_line.proofs.Settled.{plain_settled, subnet_settled}

@@ -1,43 +1,21 @@
 -- What a replay prints is a formed and safe book.
-use Rattle.std.proofs.Common.{arith, ◌≡◌, ◌+◌, ℕ, Bool, true, false, List, [], ◌∷◌, ◌++◌, Option, length, reverse, codes, refl, ap, sym, subst, ◌∙◌}
-use Rattle.std.proofs.lemmas.List.{length-append}
-use Rattle.std.specs.Io.KnownBytes.{Appends}
-use Rattle.std.specs.List.{Contains}
-use Rattle.headline.proofs.lemmas.{world_run}
-use Rattle.headline.specs.Promise.{KeepsPromise}
-use Rattle.leader1822.specs.Boxes.{Boxes, plain_calls}
-use Rattle.interface.specs.Calls.{Calls, Seen}
-use Rattle.interface.specs.Host.{Host}
-use Rattle.interface.specs.Mailboxes.{IsRun}
-use Rattle.interface.specs.Messages.{SafeMessages}
-use Rattle.interface.specs.declared.crossing.Crossing.{Crossing}
+use Rattle.command_line.proofs.Common.{arith, ◌≡◌, ◌+◌, ℕ, Bool, true, false, List, [], ◌∷◌, ◌++◌, Option, reverse, codes, refl, ap, sym, subst, ◌∙◌, length-append, Appends, Contains, world_run, KeepsPromise, Boxes, plain_calls, Calls, Host, IsRun, SafeMessages, Crossing, Told, FormedBook, AreTwo, WorldState, Life, Reported, crossings_of, output, Detail, ended_line, TopologyFields, CarrierKind, WorldEvent, subnet_calls, plain_of, subnet_of, Raw, World, AreLived, lives_in, AreOneBook, PrintsBook, PrintsPart, Ran, RanInPart, ReplaysFrom, ReplaysOver, ShowsBook, WorldShowsFrom, book_text}
+use Rattle.std.proofs.Common.{length}
+use Rattle.interface.specs.Calls.{Seen}
 use Rattle.promise.specs.Book.{Book}
-use Rattle.promise.specs.declared.book.Told.{Told}
-use Rattle.promise.specs.Formed.{FormedBook}
 use Rattle.promise.specs.Notices.{FormedNotices}
-use Rattle.promise.specs.Safe.{AreTwo, Match, SafeBook}
-use Rattle.net_sim.specs.World.{WorldState}
+use Rattle.promise.specs.Safe.{Match, SafeBook}
 use Rattle.net_sim.specs.declared.event.WorldFault.TheVariants.{Carrier}
-use Rattle.promise.specs.declared.life.Life.{Life}
-use Rattle.host_services.specs.declared.report.Reported.{Reported}
 use Rattle.icp.specs.declared.outcome.Outcome.TheVariants as outcome
 use Rattle.host_services.specs.declared.report.Report.TheVariants as report
-use Rattle.replay.specs.Output.{Shown, crossings_of, output}
+use Rattle.replay.specs.Output.{Shown}
 use Rattle.replay.specs.Output as raw
-use Rattle.replay.specs.declared.print.Detail.{Detail}
-use Rattle.script.specs.Input.{ended_line}
-use Rattle.topology.specs.Topology.{TopologyFields}
-use Rattle.topology.specs.declared.network.CarrierKind.{CarrierKind}
 use Rattle.topology.specs.declared.network.CarrierKind.TheVariants as kind
 use Rattle.promise.specs.Connections.{HasReported, IsEnd, JoinedBook}
 use Rattle.world_replay.specs.Output as lines
-use Rattle.world_script.specs.declared.event.WorldEvent.{WorldEvent}
-use Rattle.subnet.specs.Working.{subnet_calls}
-use Rattle.command_line.specs.Carriers.{plain_of, subnet_of}
-use Rattle.command_line.specs.Events.{Asked, Raw, World, is_raw}
-use Rattle.command_line.specs.Lived.{AreLived, lives_in}
-use Rattle.command_line.specs.Printed.{AreOneBook, PrintsBook, PrintsPart, log_of, shown_book}
-use Rattle.command_line.specs.Replayed.{EndsFrom, EndsOver, Ran, RanInPart, ReplaysFrom, ReplaysOver, ShowsBook, WorldShowsFrom, book_text}
+use Rattle.command_line.specs.Events.{Asked, is_raw}
+use Rattle.command_line.specs.Printed.{log_of, shown_book}
+use Rattle.command_line.specs.Replayed.{EndsFrom, EndsOver}
 use Rattle.command_line.proofs.Lived.{lived, none_lived}
 use Rattle.command_line.proofs.Once.{world_once}
 use Rattle.command_line.proofs.Settled.{plain_settled}

@@ -1,52 +1,29 @@
 -- What a replay prints is what its trace has as printed.
-use Rattle.std.proofs.Common.{◌≡◌, inl, inr, ℕ, suc, zero, ◌+◌, Bool, true, false, List, [], ◌∷◌, ◌++◌, Some, codes, length, map, zip, arith, refl, sym, ap, ap₂, subst, ◌∙◌}
+use Rattle.command_line.proofs.Common.{◌≡◌, inl, inr, ℕ, ◌+◌, Bool, true, false, List, [], ◌∷◌, ◌++◌, Some, codes, map, zip, arith, refl, sym, ap, ap₂, subst, ◌∙◌, length-append, map-append, Calls, Crossing, plain_calls, shown, WorldState, opening_world, Life, OneReplay, in_turn_once, replays_once, text_of, AreSettled, Sizes, ended_line, RawEvent, subnet_calls, subnet_inside, TopologyFields, CarrierKind, object, opening_line, elements_in, Inside, TellsElement, TellsEvent, change_text, numbered_from, plain_inside, Spot, happens_once, shown_settled, Happens, HappensInCalm, WorldEvent, opening_text, world_line, TellsIn, TellsInCalm, TellsOne, TellsRound, change_of, first_rounds, state_of, ends_of, plain_of, subnet_of, Raw, World, ReplaysFrom, ReplaysInput, ReplaysOn, ReplaysOver, book_text, TracesAll, TracesFrom, TracesInput, TracesOver, WorldTracesFrom, asked_count}
+use Rattle.std.proofs.Common.{suc, zero, length}
 use Rattle.std.proofs.lemmas.Grind.{flat_map-append}
-use Rattle.std.proofs.lemmas.List.{append-nil, length-append, map-append}
+use Rattle.std.proofs.lemmas.List.{append-nil}
 use Rattle.std.proofs.lemmas.List.Folds.{flat_map-map}
 use Rattle.std.specs.List.{flat_map}
-use Rattle.interface.specs.Calls.{Calls}
-use Rattle.interface.specs.declared.crossing.Crossing.{Crossing}
-use Rattle.leader1822.specs.Boxes.{plain_calls}
-use Rattle.net_sim.specs.Carriers.{shown}
-use Rattle.net_sim.specs.World.{WorldState, opening_world}
-use Rattle.promise.specs.declared.life.Life.{Life}
-use Rattle.replay.proofs.lemmas.{OneReplay, in_turn_once, replays_once}
-use Rattle.replay.specs.InTurn.{InTurn, text_of}
+use Rattle.replay.specs.InTurn.{InTurn}
 use Rattle.replay.specs.Output as raw
 use Rattle.replay.specs.Replay as of_network
-use Rattle.replay.specs.Settled.{AreSettled}
-use Rattle.replay.specs.declared.print.Detail.TheVariants.{Sizes}
-use Rattle.script.specs.Input.{ended_line}
-use Rattle.script.specs.declared.event.RawEvent.{RawEvent}
 use Rattle.subnet.specs.Calls.{Kept}
-use Rattle.subnet.specs.Working.{subnet_calls}
 use Rattle.subnet_trace.proofs.lemmas as subnet
 use Rattle.subnet_trace.specs.Told.{IsPlaced}
-use Rattle.subnet_trace.specs.Traced.{subnet_inside}
-use Rattle.topology.specs.Topology.{TopologyFields, hosts_of, sites_of}
-use Rattle.topology.specs.declared.network.CarrierKind.{CarrierKind}
+use Rattle.topology.specs.Topology.{hosts_of, sites_of}
 use Rattle.topology.specs.declared.network.CarrierKind.TheVariants as kind
 use Rattle.trace.proofs.lemmas as plain
-use Rattle.trace.specs.Texts.{object, opening_line}
-use Rattle.trace.specs.Elements.{elements_in, events_of}
-use Rattle.trace.specs.Traces.{Inside, TellsElement, TellsEvent, change_text, numbered_from, plain_inside}
+use Rattle.trace.specs.Elements.{events_of}
 use Rattle.trace.specs.declared.element.Element.{Element}
-use Rattle.trace.specs.declared.element.Spot.{Spot}
 use Rattle.world_replay.proofs.lemmas.Accounts.{AreParts, ShowsAs, round_as}
 use Rattle.world_replay.proofs.lemmas.CalmRounds.{calm_rounds}
 use Rattle.world_replay.proofs.lemmas.{round_calm}
-use Rattle.world_replay.proofs.lemmas.Replays.{happens_once, shown_settled}
 use Rattle.world_replay.specs.Output.{Shown, shown_text}
-use Rattle.world_replay.specs.Replay.{Happens, HappensInCalm, Replays, rounds_of}
-use Rattle.world_script.specs.declared.event.WorldEvent.{WorldEvent}
+use Rattle.world_replay.specs.Replay.{Replays, rounds_of}
 use Rattle.world_script.specs.declared.event.WorldEvent.TheVariants as worlds
-use Rattle.world_trace.specs.Texts.{opening_text, world_line}
-use Rattle.world_trace.specs.Traces.{TellsIn, TellsInCalm, TellsOne, TellsRound, change_of, first_rounds, state_of}
-use Rattle.command_line.specs.Carriers.{ends_of, plain_of, subnet_of}
-use Rattle.command_line.specs.Events.{Asked, Raw, World}
+use Rattle.command_line.specs.Events.{Asked}
 use Rattle.command_line.specs.Recorded.{OfElement, OfWorld, PrintsTrace, Recorded, printed_lines, recorded_text, told_from, told_lines, told_over}
-use Rattle.command_line.specs.Replayed.{ReplaysFrom, ReplaysInput, ReplaysOn, ReplaysOver, book_text}
-use Rattle.command_line.specs.Traced.{TracesAll, TracesFrom, TracesInput, TracesOver, WorldTracesFrom, asked_count}
 use Rattle.command_line.specs.WorkedSides.{starts}
 use Rattle.command_line.proofs.Printed.{no_lives}
 use Rattle.command_line.proofs.OneInput.{OneInput, input_once}

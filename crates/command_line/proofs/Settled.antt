@@ -1,20 +1,18 @@
 -- The calls of both carriers leave a replay no choice.
-use Rattle.std.proofs.Common.{◌≡◌, ◌||◌, Bool, true, false, [], ◌∷◌, Option, Some, None, Result, Ok, Err, refl, sym, ap, subst, ◌∙◌}
-use Rattle.std.proofs.lemmas.Bool.{false≢true}
-use Rattle.leader1822.specs.Boxes.{Boxes, BoxesDecided, BoxesRound, BoxesTake, host_refusal, next_for, offer_refusal, offered, step_grows, step_refusal, stepped, take_grows, inbound_taken, plain_calls}
+use Rattle.command_line.proofs.Common.{◌≡◌, ◌||◌, Bool, true, false, [], ◌∷◌, Option, Some, None, Result, Ok, Err, refl, sym, ap, subst, ◌∙◌, false≢true, Boxes, plain_calls, Host, AreSettled, subnet_calls}
+use Rattle.leader1822.specs.Boxes.{BoxesDecided, BoxesRound, BoxesTake, host_refusal, next_for, offer_refusal, offered, step_grows, step_refusal, stepped, take_grows, inbound_taken}
 use Rattle.interface.specs.Calls.{is_halt, is_memory}
-use Rattle.interface.specs.Host.{Host}
 use Rattle.interface.specs.declared.carrier.CarrierFault.{CarrierFault}
 use Rattle.interface.specs.declared.carrier.CarrierFault.TheVariants as fault
 use Rattle.interface.specs.declared.crossing.Crossing.TheVariants as crossing
 use Rattle.interface.specs.declared.crossing.Inbound.{Inbound}
 use Rattle.interface.specs.declared.crossing.Inbound.TheVariants as inbound
 use Rattle.replay.specs.Replay.{GoesOn, outcome_of}
-use Rattle.replay.specs.Settled.{AreSettled, Grows, SameEnd}
+use Rattle.replay.specs.Settled.{Grows, SameEnd}
 use Rattle.subnet.specs.Calls.{Decided, Fails, Kept, refusal_of, running}
 use Rattle.subnet.specs.Calls as subnet
 use Rattle.subnet.specs.Events as events
-use Rattle.subnet.specs.Working.{SubnetRound, SubnetTake, subnet_calls}
+use Rattle.subnet.specs.Working.{SubnetRound, SubnetTake}
 use Rattle.subnet.proofs.lemmas.{round_log, take_log}
 
 -- ---- one call

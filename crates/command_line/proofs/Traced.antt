@@ -1,27 +1,15 @@
 -- What `--trace` writes is the trace of the input's script.
-use Rattle.std.proofs.Common.{◌≡◌, ◌≢◌, ◌⊎◌, ◌∙◌, inl, inr, ℕ, suc, ◌+◌, Bool, true, false, List, [], ◌∷◌, Option, Some, None, IfSome, Result, Ok, Err, IfErr, OnOk, ap, filter, length, refl, subst, sym}
-use Rattle.std.proofs.lemmas.List.{length-map}
-use Rattle.std.specs.Io.KnownBytes.{Keeps}
-use Rattle.replay.specs.InTurn.{text_of}
-use Rattle.interface.specs.Calls.{Calls}
+use Rattle.command_line.proofs.Common.{◌≡◌, ◌≢◌, ◌⊎◌, ◌∙◌, inl, inr, ℕ, ◌+◌, Bool, true, false, List, [], ◌∷◌, Option, Some, None, IfSome, Result, Ok, Err, IfErr, OnOk, ap, refl, subst, sym, length-map, Keeps, text_of, Calls, parted_once, RawEvent, TopologyFields, CarrierKind, Inside, asking_from, WorldState, opening_world, StopsOne, WorldEvent, AsksFor, Raw, World, IsInput, IsReplayFault, IsScriptOf, IsScripted, TraceStops, TracesFrom, TracesInput, TracesOn, TracesOver, WorldEndsFrom, WorldTracesFrom, asked_count, ScriptFault}
+use Rattle.std.proofs.Common.{suc, filter, length}
 use Rattle.script.specs.Script.{AskForAs, asks, lines_of}
 use Rattle.script.specs.Spelling.{IsEvent, spelling}
-use Rattle.script.proofs.lemmas.{parted_once}
-use Rattle.script.specs.declared.event.RawEvent.{RawEvent}
-use Rattle.topology.specs.Topology.{TopologyFields}
-use Rattle.topology.specs.declared.network.CarrierKind.{CarrierKind}
-use Rattle.trace.specs.Traces.{AfterOpening, Inside, Traces, WritesTrace, asking_from, event_lines}
-use Rattle.net_sim.specs.World.{WorldState, opening_world}
+use Rattle.trace.specs.Traces.{AfterOpening, Traces, WritesTrace, event_lines}
 use Rattle.world_trace.specs.Traces as worlds
-use Rattle.world_trace.specs.Traces.{StopsOne, TracesWorld, WorldTraceEnds}
-use Rattle.world_script.specs.declared.event.WorldEvent.{WorldEvent}
+use Rattle.world_trace.specs.Traces.{TracesWorld, WorldTraceEnds}
 use Rattle.world_script.specs.WorldSpelling.{IsWorldEvent, world_spelling}
-use Rattle.command_line.specs.Events.{Asked, AsksFor, Raw, World}
-use Rattle.command_line.specs.Input.{IsInput}
-use Rattle.command_line.specs.Steps.{IsReplayFault}
-use Rattle.command_line.specs.Traced.{EndsOn, EndsOver, IsScriptOf, IsScripted, TraceStops, Traced, TracedInPart, TracesFrom, TracesInput, TracesOn, TracesOver, WorldEndsFrom, WorldTracesFrom, asked_count}
+use Rattle.command_line.specs.Events.{Asked}
+use Rattle.command_line.specs.Traced.{EndsOn, EndsOver, Traced, TracedInPart}
 use Rattle.command_line.proofs.Judged.{stays}
-use Rattle.command_line.specs.declared.fault.ScriptFault.{ScriptFault}
 use Rattle.command_line.specs.declared.fault.ScriptFault.TheVariants as fault
 
 -- ---- over a carrier

@@ -1,18 +1,12 @@
 -- Lines that no book has.
-use Rattle.std.proofs.Common.{◌≡◌, ◌==◌, ◌∙◌, ℕ, Bool, true, false, List, [], ◌∷◌, Option, ap, map, not, refl, subst, sym}
-use Rattle.std.proofs.lemmas.Bool.{false≢true}
-use Rattle.interface.specs.Host.{Host}
+use Rattle.command_line.proofs.Common.{◌≡◌, ◌==◌, ◌∙◌, ℕ, Bool, false, List, [], ◌∷◌, Option, ap, map, not, refl, subst, sym, false≢true, Host, Reported, Life, Detail, AreLived, ungranted, AreOneBook, PrintsBook, PrintsPart}
+use Rattle.std.proofs.Common.{true}
 use Rattle.interface.specs.declared.crossing.Crossing.TheVariants as crossing
 use Rattle.interface.specs.declared.message.HostMessage.{HostMessage}
 use Rattle.host_pairs.specs.declared.notice.Notice.TheVariants as notice
-use Rattle.host_services.specs.declared.report.Reported.{Reported}
 use Rattle.net_sim.specs.Book.{new_life}
 use Rattle.promise.specs.declared.life.Amount.{Amount}
-use Rattle.promise.specs.declared.life.Life.{Life}
-use Rattle.replay.specs.declared.print.Detail.{Detail}
 use Rattle.world_replay.specs.Output.{Crossed, Noticed, Said, Shown}
-use Rattle.command_line.specs.Lived.{AreLived, ungranted}
-use Rattle.command_line.specs.Printed.{AreOneBook, PrintsBook, PrintsPart}
 use Rattle.command_line.specs.Worked.{here, life_one, there, told_one, took_one}
 
 pub never_out : (raw : Bool) (m : HostMessage) (lives : List Life) →

@@ -1,27 +1,15 @@
 -- Ends that the program does not have.
-use Rattle.std.proofs.Common.{◌≡◌, inl, inr, ℕ, true, false, List, [], ◌∷◌, ◌++◌, Option, Some, None, Result, Ok, Err, codes, map, refl, sym, ap, ◌∙◌}
-use Rattle.std.proofs.lemmas.Bool.{false≢true}
-use Rattle.std.specs.Io.KnownBytes.{Appends, Keeps}
-use Rattle.book_log.specs.Log.{Book, handed_line, life_line, log_lines, log_text, logged_line, text_of_lines}
-use Rattle.replay.specs.InTurn.{text_of}
-use Rattle.topology.specs.Topology.{TopologyFields}
-use Rattle.topology.specs.declared.network.CarrierKind.{CarrierKind}
+use Rattle.command_line.proofs.Common.{◌≡◌, inl, inr, ℕ, true, false, List, [], ◌∷◌, ◌++◌, Option, Some, None, Result, Ok, Err, codes, map, refl, sym, ap, ◌∙◌, false≢true, Appends, Keeps, log_text, text_of, TopologyFields, CarrierKind, Raw, World, plain_calls, subnet_calls, LogsOver, raw_book, world_book, EndsTask, Sides, TracesOver, AuditFault, ScriptFault, Verdict}
+use Rattle.book_log.specs.Log.{Book, handed_line, life_line, log_lines, logged_line, text_of_lines}
 use Rattle.topology.specs.declared.network.CarrierKind.TheVariants as kind
-use Rattle.command_line.specs.Events.{Asked, Raw, World}
-use Rattle.leader1822.specs.Boxes.{plain_calls}
-use Rattle.subnet.specs.Working.{subnet_calls}
-use Rattle.command_line.specs.Logs.{LogsOver, raw_book, world_book}
-use Rattle.command_line.specs.Program.{Closes, EndsReplay, EndsTask, Sides, audited_as, finished_as}
-use Rattle.command_line.specs.Traced.{TracesOver}
+use Rattle.command_line.specs.Events.{Asked}
+use Rattle.command_line.specs.Program.{Closes, EndsReplay, audited_as, finished_as}
 use Rattle.command_line.specs.WorkedSides.{Never, only_check, out_of_memory, unread, wrote}
-use Rattle.command_line.specs.declared.auditing.AuditFault.{AuditFault}
 use Rattle.command_line.specs.declared.auditing.AuditFault.TheVariants as log
-use Rattle.command_line.specs.declared.fault.ScriptFault.{ScriptFault}
 use Rattle.command_line.specs.declared.fault.ScriptFault.TheVariants as script
 use Rattle.command_line.specs.declared.options.Task.TheVariants as task
 use Rattle.command_line.specs.declared.program.Done.TheVariants as did
 use Rattle.command_line.specs.declared.program.ProgramFault.TheVariants as fault
-use Rattle.command_line.specs.declared.verdict.Verdict.{Verdict}
 
 -- ---- which end it was
 

@@ -1,31 +1,14 @@
 -- A replay over the carrier of a topology continues, and ends.
-use Rattle.std.proofs.Common.{◌≡◌, ◌⊎◌, inl, inr, ℕ, Bool, List, [], ◌++◌, Option, Some, None, Result, IfSome, OnOk, reverse, codes, ap, sym, subst, ◌∙◌}
+use Rattle.command_line.proofs.Common.{◌≡◌, ◌⊎◌, inl, inr, ℕ, Bool, List, [], ◌++◌, Option, Some, None, Result, IfSome, OnOk, reverse, codes, ap, sym, subst, ◌∙◌, Appends, Keeps, KeepsPromise, IsRun, SafeMessages, shown, WorldState, opening_world, Life, Writes, crossings_of, output, Calls, Detail, on_ok, RawEvent, TopologyFields, CarrierKind, WorldEvent, IsInput, LogsOn, LogsOver, Ran, RanInPart, ReplaysInput, ReplaysOn, ReplaysOver, ShowsBook, ShowsFrom, StopsFrom, StopsInput, WorldShowsFrom, WorldStopsFrom, book_text, ScriptFault}
 use Rattle.std.proofs.lemmas.List.{append-nil}
-use Rattle.std.specs.Io.KnownBytes.{Appends, Keeps}
-use Rattle.headline.specs.Promise.{KeepsPromise}
-use Rattle.interface.specs.Mailboxes.{IsRun}
-use Rattle.interface.specs.Messages.{SafeMessages}
 use Rattle.net_sim.specs.Book.{opening_kept}
-use Rattle.net_sim.specs.Carriers.{shown}
-use Rattle.net_sim.specs.World.{WorldState, opening_world}
-use Rattle.promise.specs.declared.life.Life.{Life}
-use Rattle.replay.specs.Output.{Writes, crossings_of, output}
 use Rattle.replay.specs.Replay.{EndsIn, Replays, StopsIn}
-use Rattle.interface.specs.Calls.{Calls}
-use Rattle.replay.specs.declared.print.Detail.{Detail}
-use Rattle.replay.proofs.lemmas.{appends_more, on_ok, replays_show, stops_show}
-use Rattle.script.specs.declared.event.RawEvent.{RawEvent}
-use Rattle.topology.specs.Topology.{TopologyFields}
-use Rattle.topology.specs.declared.network.CarrierKind.{CarrierKind}
+use Rattle.replay.proofs.lemmas.{appends_more, replays_show, stops_show}
 use Rattle.world_replay.specs.Output as lines
 use Rattle.world_replay.specs.Replay as worlds
 use Rattle.world_replay.proofs.lemmas.Replays as world
-use Rattle.world_script.specs.declared.event.WorldEvent.{WorldEvent}
 use Rattle.command_line.specs.Events.{Asked}
-use Rattle.command_line.specs.Input.{IsInput}
-use Rattle.command_line.specs.Logs.{LogsOn, LogsOver}
-use Rattle.command_line.specs.Replayed.{EndsOn, EndsOver, Ran, RanInPart, ReplaysInput, ReplaysOn, ReplaysOver, ShowsBook, ShowsFrom, StopsFrom, StopsInput, WorldShowsFrom, WorldStopsFrom, WritesAll, WritesWorld, book_text}
-use Rattle.command_line.specs.declared.fault.ScriptFault.{ScriptFault}
+use Rattle.command_line.specs.Replayed.{EndsOn, EndsOver, WritesAll, WritesWorld}
 
 -- ---- without host programs
 

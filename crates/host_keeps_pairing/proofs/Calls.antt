@@ -1,32 +1,13 @@
 -- Each call of a host's program, at one pair of its sockets with one peer.
-use Rattle.std.proofs.Common.{◌≡◌, ℕ, ◌≤◌, Bool, true, false, ◌==◌, if◌then◌else◌, cond, List, [], ◌∷◌, Some, refl, ap, sym, subst, ◌∙◌}
-use Rattle.interface.specs.Host.{Host, same_host}
-use Rattle.interface.specs.declared.address.Flow.{Flow}
-use Rattle.interface.specs.declared.crossing.Answer.{Answer}
+use Rattle.host_keeps_pairing.proofs.Common.{◌≡◌, ℕ, ◌≤◌, Bool, true, false, ◌==◌, if◌then◌else◌, cond, List, [], ◌∷◌, Some, refl, ap, sym, subst, ◌∙◌, Host, same_host, Flow, Answer, HostMessage, same_host-refl, End, nothing, TurnState, answered_turn, if_ready, message_taken, orders_taken, accepted_answer, turn_of, Legal, Order, orders_of, data_taken, is_busy, commands_of, PairState, NcpState, pair_with, with_pair, desk_of, AreInOrder, is_ready, Parcel, pair_after, parcel_gone, next_in, Peer, next_pair, pair_changed, AllFit, MayAllGo, all_gone, marks, marks_in, HasEnd, kept_in, AreFree, AreJoint}
 use Rattle.interface.specs.declared.crossing.Inbound.TheVariants as inbound
-use Rattle.interface.specs.declared.message.HostMessage.{HostMessage}
-use Rattle.interface.proofs.lemmas.{same_host-refl}
 use Rattle.ncp_control.specs.declared.command.Command.TheVariants as command
-use Rattle.pairing_law.specs.Ends.{End, nothing}
-use Rattle.host_pairs.specs.Turn.{TurnState, answered_turn, if_ready, message_taken, orders_taken}
-use Rattle.sockets.specs.Accepting.{accepted, accepted_answer, accepted_message, turn_of}
-use Rattle.host_pairs.specs.Control.{Legal, Order, orders_of}
-use Rattle.host_pairs.specs.Data.{data_taken}
-use Rattle.host_pairs.specs.Entries.{is_busy}
-use Rattle.host_pairs.specs.Allowed.{commands_of}
-use Rattle.host_pairs.specs.Pair.{PairState}
-use Rattle.sockets.specs.Pairs.{NcpState, opening_state, pair_with, with_pair}
-use Rattle.host_pairs.specs.Desk.{desk_of}
-use Rattle.sockets.specs.Peers.{AreInOrder}
-use Rattle.ncp_control.specs.Phases.{is_ready}
-use Rattle.host_pairs.specs.Parcels.{Parcel, pair_after, parcel_gone}
-use Rattle.sockets.specs.Sending.{next_in, offered}
-use Rattle.sockets.specs.declared.peer.Peer.{Peer}
-use Rattle.sockets.proofs.lemmas.{next_is, next_pair, pair_changed}
+use Rattle.sockets.specs.Accepting.{accepted, accepted_message}
+use Rattle.sockets.specs.Pairs.{opening_state}
+use Rattle.sockets.specs.Sending.{offered}
+use Rattle.sockets.proofs.lemmas.{next_is}
 use Rattle.host_pairs.proofs.lemmas.{what_goes}
-use Rattle.host_keeps_pairing.specs.Words.{AllFit, MayAllGo, all_gone, all_taken, marks, marks_in}
-use Rattle.host_keeps_pairing.specs.Ends.{HasEnd, kept_in}
-use Rattle.host_keeps_pairing.specs.Hearing.{AreFree, AreJoint}
+use Rattle.host_keeps_pairing.specs.Words.{all_taken}
 use Rattle.host_keeps_pairing.proofs.Passes.{parcel_goes, parcel_may}
 use Rattle.host_keeps_pairing.proofs.Turns.{after_answer, after_data, after_reply, after_reset, orders_idle, orders_ready, same_kept}
 

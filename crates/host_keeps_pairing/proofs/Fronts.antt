@@ -1,14 +1,13 @@
 -- What was heard of two sockets is what was said first.
-use Rattle.std.proofs.Common.{◌≡◌, ℕ, zero, suc, Bool, List, [], ◌∷◌, ◌++◌, refl, ap, sym, ◌∙◌}
-use Rattle.std.proofs.lemmas.List.{append_assoc}
-use Rattle.interface.specs.Host.{Host}
-use Rattle.pairing_law.specs.Marks.{Mark, IsOlder}
+use Rattle.host_keeps_pairing.proofs.Common.{◌≡◌, ℕ, Bool, List, [], ◌∷◌, ◌++◌, refl, ap, sym, ◌∙◌, append_assoc, Host, Mark, listened, spoken}
+use Rattle.std.proofs.Common.{zero, suc}
+use Rattle.pairing_law.specs.Marks.{IsOlder}
 use Rattle.pairing_law.specs.Places.{placed, tagged}
 use Rattle.pairing_law.proofs.lemmas.{placed_front}
 use Rattle.reset_law.specs.Events.{Event}
 use Rattle.reset_law.specs.Runs.{IsRun}
 use Rattle.reset_law.specs.Stays as stays
-use Rattle.host_keeps_pairing.specs.Spoken.{listened, marks_of_text, one_more, spoken, spoken_upon, untagged, upon}
+use Rattle.host_keeps_pairing.specs.Spoken.{marks_of_text, one_more, spoken_upon, untagged, upon}
 
 pub untagged_is : (place : ℕ) (text : List Bool) → untagged (tagged place text) ≡ (place, text)
 untagged_is zero text = refl

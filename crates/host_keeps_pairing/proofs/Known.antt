@@ -1,32 +1,13 @@
 -- What is known of an end stays so while commands are taken and go out.
-use Rattle.std.proofs.Common.{◌≡◌, ℕ, Bool, true, false, not, ◌&&◌, ◌==◌, if◌then◌else◌, nat_le, List, [], ◌∷◌, ◌++◌, map, filter, Option, Some, None, is_some, refl, ap, sym, subst, ◌∙◌}
-use Rattle.std.proofs.lemmas.List.{append_assoc}
-use Rattle.std.specs.List.{flat_map, list_any}
-use Rattle.interface.specs.Host.{Host, same_host}
-use Rattle.interface.proofs.lemmas.{same_host-refl}
-use Rattle.ncp_control.specs.DataHeader.{data_bits, header_of}
-use Rattle.ncp_control.specs.declared.command.Command.{Command}
+use Rattle.host_keeps_pairing.proofs.Common.{◌≡◌, ℕ, Bool, true, false, not, ◌&&◌, ◌==◌, if◌then◌else◌, nat_le, List, [], ◌∷◌, ◌++◌, map, filter, Option, Some, None, is_some, refl, ap, sym, subst, ◌∙◌, append_assoc, flat_map, list_any, Host, same_host, same_host-refl, header_of, Command, DataHeader, End, nothing, gone, mark_taken, fits, Mark, Ask, Close, Life, at_end, closed_once, cls_taken_by, Unconnected, Ending, Open, gvb_taken, interrupted, matched_once, ret_taken, rts_heard, rts_taken, rts_taken_by, sender_on, receiver_on, str_heard, str_linked, str_taken_by, asked_on_link, asked_with_size, ERRONEOUS, arrived_if, data_found, data_taken, is_acceptable, changed_at, closed_by_partner, closed_when, ending, entry_at, free_link, is_at, is_ending, is_over, must_close, opening_notices, opening_by, sends_on, DeskState, listener_on, settled, swept, cls_sent, command_gone, commands_gone, request_gone, Entry, Listener, Notice, AllFit, all_gone, mark_of, marks, IsSound, Standing, standing, at, came_from, is_past, Stand, Knows, all_known, known_after}
+use Rattle.ncp_control.specs.DataHeader.{data_bits}
 use Rattle.ncp_control.specs.declared.command.Command.TheVariants as command
-use Rattle.ncp_control.specs.declared.data_header.DataHeader.{DataHeader}
-use Rattle.pairing_law.specs.Ends.{End, nothing, gone, mark_taken, fits}
-use Rattle.pairing_law.specs.Marks.{Mark, Ask, Close}
-use Rattle.pairing_law.specs.Sides.{Life}
 use Rattle.host_pairs.specs.Commands as commands
-use Rattle.host_pairs.specs.Commands.{all_taken, at_end, closed_once, cls_taken_by, Unconnected, Ending, Open, gvb_taken, interrupted, matched_once, ret_taken, rts_heard, rts_taken, rts_taken_by, sender_on, receiver_on, str_heard, str_linked, str_taken_by, asked_on_link, asked_with_size}
-use Rattle.host_pairs.specs.Control.{ERRONEOUS}
-use Rattle.host_pairs.specs.Data.{arrived, arrived_if, data_found, data_of, data_taken, is_acceptable, text_faulted}
-use Rattle.host_pairs.specs.Entries.{changed_at, closed_by_partner, closed_when, ending, entry_at, free_link, is_at, is_ending, is_over, must_close, opening_notices, opening_by, sends_on}
-use Rattle.host_pairs.specs.Desk.{DeskState, listener_on, settled, swept}
-use Rattle.host_pairs.specs.Parcels.{cls_sent, command_gone, commands_gone, request_gone}
-use Rattle.host_pairs.specs.declared.entry.Entry.{Entry}
-use Rattle.host_pairs.specs.declared.listener.Listener.{Listener}
-use Rattle.host_pairs.specs.declared.notice.Notice.{Notice}
+use Rattle.host_pairs.specs.Commands.{all_taken}
+use Rattle.host_pairs.specs.Data.{arrived, data_of, text_faulted}
 use Rattle.host_pairs.specs.declared.notice.Notice.TheVariants as notice
 use Rattle.host_pairs.proofs.lemmas.{both}
-use Rattle.host_keeps_pairing.specs.Words.{AllFit, all_gone, mark_of, marks}
 use Rattle.host_keeps_pairing.specs.Words as words
-use Rattle.host_keeps_pairing.specs.Ends.{IsSound, Standing, standing, at, came_from, is_past, Stand}
-use Rattle.host_keeps_pairing.specs.Known.{Knows, all_known, known_after}
 use Rattle.host_keeps_pairing.proofs.Lists.{Found, Is, are, at_changed, first}
 use Rattle.host_keeps_pairing.proofs.Desks.{On, closed_ends, found_here, none_here}
 use Rattle.host_keeps_pairing.proofs.Stands.{asked_by, closed_by, closes_now, live_end, may_ask, plain}

@@ -1,15 +1,9 @@
 -- The ends of two sockets, and what waits to be said of them, where a host's ends and its queue change.
-use Rattle.std.proofs.Common.{◌≡◌, ℕ, Bool, true, false, ◌&&◌, ◌==◌, if◌then◌else◌, List, [], ◌∷◌, ◌++◌, map, filter, Option, Some, None, refl, ap, sym, ◌∙◌, eq-eqb}
-use Rattle.std.proofs.lemmas.Bool.{eqb-true}
-use Rattle.std.proofs.lemmas.List.{append-nil, map-append}
+use Rattle.host_keeps_pairing.proofs.Common.{◌≡◌, ℕ, Bool, true, ◌&&◌, ◌==◌, if◌then◌else◌, List, [], ◌∷◌, ◌++◌, map, filter, Option, Some, None, refl, ap, sym, ◌∙◌, eqb-true, append-nil, Command, Mark, changed_first, changed_at, entry_at, is_at, Entry, mark_of, marks, Standing, standing, at}
+use Rattle.std.proofs.Common.{false, eq-eqb}
+use Rattle.std.proofs.lemmas.List.{map-append}
 use Rattle.std.proofs.lemmas.List.Elements.{filter-append}
-use Rattle.ncp_control.specs.declared.command.Command.{Command}
-use Rattle.pairing_law.specs.Marks.{Mark}
-use Rattle.host_pairs.specs.Entries.{changed_first, changed_at, entry_at, is_at}
-use Rattle.host_pairs.specs.declared.entry.Entry.{Entry}
 use Rattle.host_pairs.proofs.lemmas.{both}
-use Rattle.host_keeps_pairing.specs.Words.{mark_of, marks}
-use Rattle.host_keeps_pairing.specs.Ends.{Standing, standing, at}
 
 -- ---- what waits
 

@@ -1,29 +1,12 @@
 -- The openings that are reported of two sockets are lives of the law.
-use Rattle.std.proofs.Common.{◌≡◌, inl, inr, ℕ, Bool, true, false, ◌&&◌, ◌==◌, if◌then◌else◌, nat_le, List, [], ◌∷◌, ◌++◌, filter, Option, Some, None, is_some, refl, ap, sym, subst, ◌∙◌}
-use Rattle.std.proofs.lemmas.List.{append_assoc}
-use Rattle.std.specs.List.{flat_map, list_any}
-use Rattle.interface.specs.Host.{Host}
-use Rattle.ncp_control.specs.DataHeader.{header_of}
-use Rattle.ncp_control.specs.declared.command.Command.{Command}
+use Rattle.host_keeps_pairing.proofs.Common.{◌≡◌, inl, inr, ℕ, Bool, false, ◌&&◌, ◌==◌, if◌then◌else◌, nat_le, List, [], ◌∷◌, ◌++◌, filter, Option, Some, None, is_some, refl, ap, sym, subst, ◌∙◌, append_assoc, flat_map, list_any, Host, header_of, Command, DataHeader, End, gone, mark_taken, Mark, Ask, Close, Life, lives_taken, at_end, closed_once, cls_taken_by, Unconnected, Ending, Open, gvb_taken, interrupted, matched_once, ret_taken, rts_heard, rts_taken, rts_taken_by, sender_on, receiver_on, str_heard, str_linked, str_taken_by, asked_on_link, asked_with_size, ERRONEOUS, arrived_if, data_found, data_taken, is_acceptable, closed_by_partner, ending, entry_at, free_link, is_at, is_ending, is_over, opening_notices, opening_by, sends_on, DeskState, listener_on, settled, swept, cls_sent, command_gone, commands_gone, request_gone, Entry, Listener, Notice, AllFit, all_gone, mark_of, marks, Standing, standing, at, came_from, Stand, AreAmong, all_lives_gone, all_lives_taken, with_openings}
+use Rattle.std.proofs.Common.{true}
 use Rattle.ncp_control.specs.declared.command.Command.TheVariants as command
-use Rattle.ncp_control.specs.declared.data_header.DataHeader.{DataHeader}
-use Rattle.pairing_law.specs.Ends.{End, gone, mark_taken}
-use Rattle.pairing_law.specs.Marks.{Mark, Ask, Close}
-use Rattle.pairing_law.specs.Sides.{Life, lives_gone, lives_taken, lives_opened}
+use Rattle.pairing_law.specs.Sides.{lives_gone, lives_opened}
 use Rattle.host_pairs.specs.Commands as commands
-use Rattle.host_pairs.specs.Commands.{all_taken, at_end, closed_once, cls_taken_by, Unconnected, Ending, Open, gvb_taken, interrupted, matched_once, ret_taken, rts_heard, rts_taken, rts_taken_by, sender_on, receiver_on, str_heard, str_linked, str_taken_by, asked_on_link, asked_with_size}
-use Rattle.host_pairs.specs.Control.{ERRONEOUS}
-use Rattle.host_pairs.specs.Data.{arrived_if, data_found, data_taken, is_acceptable}
-use Rattle.host_pairs.specs.Entries.{closed_by_partner, ending, entry_at, free_link, is_at, is_ending, is_over, opening_notices, opening_by, sends_on}
-use Rattle.host_pairs.specs.Desk.{DeskState, listener_on, settled, swept}
-use Rattle.host_pairs.specs.Parcels.{cls_sent, command_gone, commands_gone, request_gone}
-use Rattle.host_pairs.specs.declared.entry.Entry.{Entry}
-use Rattle.host_pairs.specs.declared.listener.Listener.{Listener}
-use Rattle.host_pairs.specs.declared.notice.Notice.{Notice}
+use Rattle.host_pairs.specs.Commands.{all_taken}
 use Rattle.host_pairs.specs.declared.notice.Notice.TheVariants as notice
-use Rattle.host_keeps_pairing.specs.Words.{AllFit, all_gone, mark_of, marks}
-use Rattle.host_keeps_pairing.specs.Ends.{Standing, standing, at, came_from, Stand}
-use Rattle.host_keeps_pairing.specs.Openings.{AreAmong, all_lives_gone, all_lives_taken, with_opening, with_openings}
+use Rattle.host_keeps_pairing.specs.Openings.{with_opening}
 use Rattle.host_keeps_pairing.proofs.Lists.{Found, Is, are}
 use Rattle.host_keeps_pairing.proofs.Desks.{On, found_here, they_are}
 use Rattle.host_keeps_pairing.proofs.Stands.{asked_by, live_end, plain}

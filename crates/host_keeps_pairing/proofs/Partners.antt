@@ -1,10 +1,9 @@
 -- Ends that two users know of, in a run of the law of pairing.
-use Rattle.std.proofs.Common.{inl, inr, List, [], ◌∷◌, sym, subst}
-use Rattle.pairing_law.specs.Ends.{End}
+use Rattle.host_keeps_pairing.proofs.Common.{inl, inr, List, [], ◌∷◌, sym, subst, End, Life, Knows}
 use Rattle.pairing_law.specs.Partners.{IsIn, IsOpen}
-use Rattle.pairing_law.specs.Sides.{Event, IsRun, Life, both}
+use Rattle.pairing_law.specs.Sides.{Event, IsRun, both}
 use Rattle.pairing_law.proofs.lemmas.{joined_run, open_match}
-use Rattle.host_keeps_pairing.specs.Known.{ArePartners, Knows}
+use Rattle.host_keeps_pairing.specs.Known.{ArePartners}
 
 known_open : (x : Life) (known : List Life) (e : End) → IsIn x known → Knows known e → IsOpen x.own x.partner e
 known_open x [] e i h = absurd i

@@ -1,24 +1,13 @@
 -- What goes out, at one pair of sockets.
-use Rattle.std.proofs.Common.{◌≡◌, ℕ, ◌≤◌, ◌*◌, Bool, true, false, if◌then◌else◌, List, [], ◌∷◌, ◌++◌, take, drop, refl, ap, sym, subst, ◌∙◌}
-use Rattle.std.proofs.lemmas.List.{append_assoc, take-append-drop}
-use Rattle.interface.specs.Host.{Host}
-use Rattle.ncp_control.specs.declared.command.Command.{Command}
+use Rattle.host_keeps_pairing.proofs.Common.{◌≡◌, ℕ, ◌≤◌, Bool, true, false, if◌then◌else◌, List, [], ◌∷◌, ◌++◌, take, drop, refl, ap, sym, subst, ◌∙◌, append_assoc, Host, Command, End, gone, Mark, Ask, Close, changed_first, changed_at, PairState, commands_of, DeskState, desk_of, is_ready, Parcel, cls_sent, command_gone, commands_gone, link_of, pair_after, parcel_gone, request_gone, Entry, Listener, MayAllGo, all_gone, mark_of, marks, Standing, at, HasEnd, Stand}
+use Rattle.std.proofs.Common.{◌*◌}
+use Rattle.std.proofs.lemmas.List.{take-append-drop}
 use Rattle.ncp_control.specs.declared.command.Command.TheVariants as command
-use Rattle.pairing_law.specs.Ends.{End, gone}
-use Rattle.pairing_law.specs.Marks.{Mark, Ask, Close}
-use Rattle.host_pairs.specs.Entries.{changed_first, changed_at}
-use Rattle.host_pairs.specs.Pair.{PairState}
-use Rattle.host_pairs.specs.Allowed.{MayGo, commands_of}
-use Rattle.host_pairs.specs.Desk.{DeskState, desk_of}
-use Rattle.ncp_control.specs.Phases.{is_ready}
+use Rattle.host_pairs.specs.Allowed.{MayGo}
 use Rattle.ncp_control.specs.declared.phase.Phase.TheVariants as phase
 use Rattle.host_pairs.specs.Parcels as parcel
-use Rattle.host_pairs.specs.Parcels.{Parcel, asked_at, bits_gone, cls_sent, command_gone, commands_gone, link_of, may_send_on, pair_after, parcel_gone, request_gone}
-use Rattle.host_pairs.specs.declared.entry.Entry.{Entry}
-use Rattle.host_pairs.specs.declared.listener.Listener.{Listener}
+use Rattle.host_pairs.specs.Parcels.{asked_at, bits_gone, may_send_on}
 use Rattle.host_pairs.proofs.lemmas.{all_gone_queue}
-use Rattle.host_keeps_pairing.specs.Words.{MayAllGo, all_gone, mark_of, marks}
-use Rattle.host_keeps_pairing.specs.Ends.{Standing, at, HasEnd, Stand}
 use Rattle.host_keeps_pairing.proofs.Lists.{are, marks_append, at_quiet}
 use Rattle.host_keeps_pairing.proofs.Desks.{change_away, change_here, ends_swept, loose, stand_same}
 use Rattle.host_keeps_pairing.proofs.Stands.{asks_at, closes_now, may_all, stand_asks, stand_closes}

@@ -1,31 +1,17 @@
 -- What a user asks for, at one pair of sockets.
-use Rattle.std.proofs.Common.{◌≡◌, ◌⊎◌, inl, inr, ℕ, Bool, true, false, not, ◌&&◌, if◌then◌else◌, cond, List, [], ◌∷◌, Option, Some, None, is_some, refl, sym, subst}
-use Rattle.interface.specs.Host.{Host, same_host}
-use Rattle.interface.proofs.lemmas.{or_false, same_host-true}
+use Rattle.host_keeps_pairing.proofs.Common.{◌≡◌, ◌⊎◌, inl, inr, ℕ, Bool, true, false, not, ◌&&◌, if◌then◌else◌, cond, List, [], ◌∷◌, Option, Some, None, is_some, refl, sym, subst, Host, same_host, same_host-true, Command, End, nothing, Mark, changed_first, close_due, entry_at, free_link, has_cls, is_at, receiving_end, sending_end, PairState, NcpState, pair_with, with_pair, desk_of, is_ready, link_of, Closing, Entry, Peer, Request, pair_changed, mark_of, marks, Standing, at, HasEnd, Stand, after_request}
+use Rattle.interface.proofs.lemmas.{or_false}
 use Rattle.ncp_control.specs.Numbers.{is_receive_socket, is_send_socket}
-use Rattle.ncp_control.specs.declared.command.Command.{Command}
 use Rattle.ncp_control.specs.declared.command.Command.TheVariants as command
-use Rattle.pairing_law.specs.Ends.{End, nothing}
-use Rattle.pairing_law.specs.Marks.{Mark}
 use Rattle.host_pairs.specs.Commands.{granted}
-use Rattle.host_pairs.specs.Entries.{called_off, changed_first, close_due, entry_at, free_link, has_cls, is_at, is_mine_on, is_receiving, receiving_end, sending_end}
-use Rattle.host_pairs.specs.Pair.{PairState}
-use Rattle.sockets.specs.Pairs.{NcpState, owner_of, pair_with, with_pair}
-use Rattle.host_pairs.specs.Desk.{desk_of, listens_on}
-use Rattle.ncp_control.specs.Phases.{is_ready}
+use Rattle.host_pairs.specs.Entries.{called_off, is_mine_on, is_receiving}
+use Rattle.sockets.specs.Pairs.{owner_of}
+use Rattle.host_pairs.specs.Desk.{listens_on}
 use Rattle.sockets.specs.Requests.{at_owner, closed_socket, is_taken, is_used, open_receive_refusal, open_send_refusal, refusal, served}
 use Rattle.host_pairs.specs.Asked.{closed_end, commanded, contacted, interrupt_of, receiver_requested, requested, with_end, with_more_bits}
-use Rattle.host_pairs.specs.Parcels.{link_of}
-use Rattle.host_pairs.specs.declared.entry.Closing.{Closing}
 use Rattle.host_pairs.specs.declared.entry.Closing.TheVariants as closing
-use Rattle.host_pairs.specs.declared.entry.Entry.{Entry}
-use Rattle.sockets.specs.declared.peer.Peer.{Peer}
-use Rattle.sockets.specs.declared.request.Request.{Request}
 use Rattle.sockets.specs.declared.request.Request.TheVariants as request
-use Rattle.sockets.proofs.lemmas.{not_first, others_stay, pair_changed}
-use Rattle.host_keeps_pairing.specs.Words.{mark_of, marks}
-use Rattle.host_keeps_pairing.specs.Ends.{Standing, at, HasEnd, Stand}
-use Rattle.host_keeps_pairing.specs.Hearing.{after_request}
+use Rattle.sockets.proofs.lemmas.{not_first, others_stay}
 use Rattle.host_keeps_pairing.proofs.Lists.{IsQuiet, at_quiet}
 use Rattle.host_keeps_pairing.proofs.Desks.{on_joined, on_queued, on_settled, stand_same}
 
@@ -53,10 +39,6 @@ none_is (Some x) e = absurd (cc)
 
 called : Standing → Standing
 called s = record s { closing = close_due s.closing }
-
-due_cls : (c : Closing) → has_cls c ≡ true → has_cls (close_due c) ≡ true
-due_cls closing.No e = absurd (cc)
-due_cls c e = e
 
 module _ (origin : ℕ → ℕ) (own foreign place : ℕ) where
   stand_called : (m : Bool) (a p : Option ℕ) (c : Closing) (b : Bool) (words : List Mark) (x : End)

@@ -1,25 +1,16 @@
 -- Ends of programs in a dialogue, computed.
-use Rattle.std.proofs.Common.{◌≡◌, ℕ, ◌==◌, if◌then◌else◌, true, false, List, [], ◌∷◌, ◌++◌, map, filter, Some, refl, ap, sym, subst, ◌∙◌, inl, inr, arith}
+use Rattle.host_keeps_pairing.proofs.Common.{◌≡◌, ℕ, ◌==◌, if◌then◌else◌, true, false, List, [], ◌∷◌, ◌++◌, map, filter, Some, refl, ap, sym, subst, ◌∙◌, inl, inr, nothing, Life, PairState, pair_with, is_ready, same_host, all_known, AreAmong, with_openings, marks, HasEnd, IsSound, Stand, Standing, at, due, end_of}
+use Rattle.std.proofs.Common.{arith}
 use Rattle.bit_messages.specs.Octets.{octets_of}
 use Rattle.ncp_control.specs.Packing.{packed_count}
 use Rattle.ncp_control.specs.Reading.{command_of, read_of}
-use Rattle.pairing_law.specs.Ends.{nothing}
-use Rattle.pairing_law.specs.Sides.{Life}
 use Rattle.sockets.specs.Accepting.{accepted}
 use Rattle.host_pairs.specs.Control.{orders_of}
 use Rattle.sockets.specs.Dialogue.{state_of}
-use Rattle.host_pairs.specs.Pair.{PairState}
-use Rattle.sockets.specs.Pairs.{pair_with}
-use Rattle.ncp_control.specs.Phases.{is_ready}
 use Rattle.sockets.specs.Requests.{refusal, served, served_notices}
 use Rattle.sockets.specs.Sending.{next_out, offered}
 use Rattle.sockets.specs.Worked.{first, second, talk, reset, opening_connection, closing}
 use Rattle.host_pairs.specs.declared.entry.Closing.TheVariants as closing
-use Rattle.interface.specs.Host.{same_host}
-use Rattle.host_keeps_pairing.specs.Known.{all_known}
-use Rattle.host_keeps_pairing.specs.Openings.{AreAmong, with_openings}
-use Rattle.host_keeps_pairing.specs.Words.{marks}
-use Rattle.host_keeps_pairing.specs.Ends.{HasEnd, IsSound, Stand, Standing, at, due, end_of}
 
 -- one end, of which nothing waits to be said
 one : (origin : ℕ → ℕ) (own foreign : ℕ) (q : PairState) (s : Standing) → at own foreign q.entries ≡ s ∷ [] → ((place : ℕ) → marks place own foreign q.queue ≡ due place s) → IsSound true s → is_ready q.phase ≡ true → HasEnd origin own foreign q (end_of origin s)

@@ -1,15 +1,11 @@
 -- What a mark that goes out, or is heard, does to the one end of two sockets.
-use Rattle.std.proofs.Common.{◌≡◌, ℕ, ◌≤◌, Bool, true, false, not, ◌||◌, if◌then◌else◌, List, [], ◌∷◌, ◌++◌, Option, Some, None, is_some, refl, ap, sym, subst, ◌∙◌, ◌⊎◌, inl, inr}
-use Rattle.std.proofs.lemmas.List.{append-nil}
-use Rattle.pairing_law.specs.Ends.{End, nothing, is_begun, MayGo, gone, fits, mark_taken}
-use Rattle.pairing_law.specs.Marks.{Mark, Ask, Close}
+use Rattle.host_keeps_pairing.proofs.Common.{◌≡◌, ℕ, ◌≤◌, Bool, true, false, not, ◌||◌, if◌then◌else◌, List, [], ◌∷◌, ◌++◌, Option, Some, None, is_some, refl, ap, sym, subst, ◌∙◌, ◌⊎◌, inl, inr, append-nil, End, nothing, gone, fits, mark_taken, Mark, Ask, Close, close_due, has_cls, is_due, Closing, MayAllGo, Standing, is_past, came_from, end_of, Stand}
+use Rattle.pairing_law.specs.Ends.{is_begun, MayGo}
 use Rattle.pairing_law.specs.Sides.{above}
-use Rattle.host_pairs.specs.Entries.{close_due, has_cls, is_due, is_sent}
-use Rattle.host_pairs.specs.declared.entry.Closing.{Closing}
+use Rattle.host_pairs.specs.Entries.{is_sent}
 use Rattle.host_pairs.specs.declared.entry.Closing.TheVariants as closing
 use Rattle.host_pairs.proofs.lemmas.{both, not_is}
-use Rattle.host_keeps_pairing.specs.Words.{MayAllGo}
-use Rattle.host_keeps_pairing.specs.Ends.{Standing, is_past, came_from, end_of, request_due, close_waits, Stand}
+use Rattle.host_keeps_pairing.specs.Ends.{request_due, close_waits}
 
 -- ---- the end of what is there
 

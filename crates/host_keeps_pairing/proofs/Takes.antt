@@ -1,27 +1,14 @@
 -- What a command or a message of the peer does at one pair of sockets, where it is in order.
-use Rattle.std.proofs.Common.{◌≡◌, ℕ, Bool, true, false, ◌&&◌, ◌==◌, if◌then◌else◌, nat_le, List, [], ◌∷◌, Option, Some, None, is_some, refl, ap, sym, subst, ◌∙◌}
-use Rattle.std.specs.List.{list_any}
-use Rattle.interface.specs.Host.{Host}
+use Rattle.host_keeps_pairing.proofs.Common.{◌≡◌, ℕ, Bool, true, false, ◌&&◌, ◌==◌, if◌then◌else◌, nat_le, List, [], ◌∷◌, Option, Some, None, is_some, refl, ap, sym, subst, ◌∙◌, list_any, Host, header_of, Command, DataHeader, End, nothing, fits, mark_taken, Mark, Ask, Close, asked_on_link, asked_with_size, at_end, changed, closed_once, cls_taken_by, Unconnected, Ending, Open, gvb_taken, interrupted, entry_joined, matched_once, ret_taken, rts_heard, rts_taken, rts_taken_by, sender_on, receiver_on, str_heard, str_linked, str_taken_by, error, ERRONEOUS, arrived_if, data_found, data_taken, is_acceptable, closed_by_partner, cls_of, entry_at, free_link, is_at, receiving_end, sending_end, sends_on, DeskState, listener_on, command_queued, settled, swept, Entry, Listener, AllFit, mark_of, marks, Standing, standing, at, due, end_of, IsSound, Stand}
 use Rattle.ncp_control.specs.Command.{spelling}
-use Rattle.ncp_control.specs.DataHeader.{header_of}
-use Rattle.ncp_control.specs.declared.command.Command.{Command}
 use Rattle.ncp_control.specs.declared.command.Command.TheVariants as command
-use Rattle.ncp_control.specs.declared.data_header.DataHeader.{DataHeader}
 use Rattle.bit_messages.specs.Octets.{octets_of}
-use Rattle.pairing_law.specs.Ends.{End, nothing, fits, mark_taken}
-use Rattle.pairing_law.specs.Marks.{Mark, Ask, Close}
 use Rattle.host_pairs.specs.Commands as commands
-use Rattle.host_pairs.specs.Commands.{all_taken, answered_on, asked_on_link, asked_with_size, at_end, changed, closed_once, cls_taken_by, Unconnected, Ending, Open, gvb_taken, interrupted, entry_joined, matched_once, ret_taken, rts_heard, rts_taken, rts_taken_by, sender_on, receiver_on, str_heard, str_linked, str_taken_by}
-use Rattle.host_pairs.specs.Control.{error, ERRONEOUS, NO_SOCKET, NOT_CONNECTED}
-use Rattle.host_pairs.specs.Data.{arrived_if, data_found, data_taken, is_acceptable}
-use Rattle.host_pairs.specs.Entries.{closed_by_partner, cls_of, entry_at, free_link, is_at, receiving_end, receives_on, refused_end, sending_end, sends_on}
-use Rattle.host_pairs.specs.Desk.{DeskState, listener_on, command_queued, settled, swept}
-use Rattle.host_pairs.specs.declared.entry.Entry.{Entry}
-use Rattle.host_pairs.specs.declared.listener.Listener.{Listener}
-use Rattle.host_keeps_pairing.specs.Words.{AllFit, mark_of, marks}
+use Rattle.host_pairs.specs.Commands.{all_taken, answered_on}
+use Rattle.host_pairs.specs.Control.{NO_SOCKET, NOT_CONNECTED}
+use Rattle.host_pairs.specs.Entries.{receives_on, refused_end}
 use Rattle.host_keeps_pairing.specs.Words as words
 use Rattle.host_keeps_pairing.specs.Hearing.{NamesFreeLink}
-use Rattle.host_keeps_pairing.specs.Ends.{Standing, standing, at, due, end_of, IsSound, Stand}
 use Rattle.host_keeps_pairing.proofs.Lists.{Found, are, eqb-sym}
 use Rattle.host_keeps_pairing.proofs.Lists as lists
 use Rattle.host_keeps_pairing.proofs.Desks.{On, change_away, change_here, ends_swept, found_here, loose, none_here, on_if, on_joined, on_queued, on_quiet, on_settled}

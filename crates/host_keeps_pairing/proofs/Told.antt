@@ -1,44 +1,17 @@
 -- What each call reports of openings.
-use Rattle.std.proofs.Common.{◌≡◌, ℕ, Bool, true, false, not, ◌||◌, ◌==◌, if◌then◌else◌, List, [], ◌∷◌, ◌++◌, take, drop, Some, refl, ap, sym, subst, ◌∙◌}
-use Rattle.interface.specs.Host.{Host, same_host}
-use Rattle.interface.specs.declared.address.Flow.{Flow}
-use Rattle.interface.specs.declared.crossing.Answer.{Answer}
+use Rattle.host_keeps_pairing.proofs.Common.{◌≡◌, ℕ, Bool, true, false, not, ◌||◌, ◌==◌, if◌then◌else◌, List, [], ◌∷◌, ◌++◌, take, drop, Some, refl, ap, sym, subst, ◌∙◌, Host, same_host, Flow, Answer, HostMessage, End, Mark, Life, lives_taken, TurnState, answered_turn, failed, failed_by, freed, if_ready, is_gone, message_taken, order_taken, orders_taken, reply_notices, reset_notices, settled_turn, with_desk, accepted_answer, turn_of, Legal, Order, Wrong, orders_of, data_taken, is_busy, commands_of, PairState, DeskState, desk_of, NcpState, pair_with, AreInOrder, is_ready, Parcel, parcel_gone, next_in, Listener, Notice, Peer, Phase, Request, next_pair, AllFit, mark_in, marks, marks_in, HasEnd, Stand, at, AreFree, AreJoint, AreAmong, all_lives_gone, all_lives_taken, with_openings}
 use Rattle.interface.specs.declared.crossing.Answer.TheVariants as answer
 use Rattle.interface.specs.declared.crossing.Inbound.TheVariants as inbound
-use Rattle.interface.specs.declared.message.HostMessage.{HostMessage}
 use Rattle.ncp_control.specs.declared.command.Command.TheVariants as command
-use Rattle.pairing_law.specs.Ends.{End}
-use Rattle.pairing_law.specs.Marks.{Mark}
-use Rattle.pairing_law.specs.Sides.{Life, lives_taken}
 use Rattle.pairing_law.specs.Ends as law
-use Rattle.host_pairs.specs.Turn.{TurnState, answered_turn, failed, failed_by, freed, if_ready, is_gone, message_taken, order_taken, orders_taken, reply_notices, reset_notices, settled_turn, with_desk}
-use Rattle.sockets.specs.Accepting.{accepted, accepted_answer, turn_of}
-use Rattle.host_pairs.specs.Control.{Legal, Order, Wrong, orders_of}
-use Rattle.host_pairs.specs.Data.{data_taken}
-use Rattle.host_pairs.specs.Entries.{is_busy}
-use Rattle.host_pairs.specs.Allowed.{commands_of}
-use Rattle.host_pairs.specs.Pair.{PairState}
-use Rattle.host_pairs.specs.Desk.{DeskState, desk_of}
-use Rattle.sockets.specs.Pairs.{NcpState, pair_with}
-use Rattle.sockets.specs.Peers.{AreInOrder}
-use Rattle.ncp_control.specs.Phases.{is_ready}
+use Rattle.sockets.specs.Accepting.{accepted}
 use Rattle.sockets.specs.Requests.{served_notices}
 use Rattle.host_pairs.specs.Parcels as parcel
-use Rattle.host_pairs.specs.Parcels.{Parcel, parcel_gone}
-use Rattle.sockets.specs.Sending.{next_in, offered}
-use Rattle.host_pairs.specs.declared.listener.Listener.{Listener}
-use Rattle.host_pairs.specs.declared.notice.Notice.{Notice}
+use Rattle.sockets.specs.Sending.{offered}
 use Rattle.host_pairs.specs.declared.notice.Notice.TheVariants as notice
-use Rattle.sockets.specs.declared.peer.Peer.{Peer}
-use Rattle.ncp_control.specs.declared.phase.Phase.{Phase}
 use Rattle.ncp_control.specs.declared.phase.Phase.TheVariants as phase
-use Rattle.sockets.specs.declared.request.Request.{Request}
 use Rattle.sockets.specs.declared.request.Request.TheVariants as request
-use Rattle.sockets.proofs.lemmas.{next_pair}
-use Rattle.host_keeps_pairing.specs.Words.{AllFit, all_taken, mark_in, marks, marks_in}
-use Rattle.host_keeps_pairing.specs.Ends.{HasEnd, Stand, at}
-use Rattle.host_keeps_pairing.specs.Hearing.{AreFree, AreJoint}
-use Rattle.host_keeps_pairing.specs.Openings.{AreAmong, all_lives_gone, all_lives_taken, with_openings}
+use Rattle.host_keeps_pairing.specs.Words.{all_taken}
 use Rattle.host_keeps_pairing.proofs.Openings.{AreOther, Tells, all_gone_tells, data_tells, openings_append, taken_tells}
 use Rattle.host_keeps_pairing.proofs.Passes.{parted}
 use Rattle.host_keeps_pairing.proofs.Turns.{fit_first, one_order, orders_idle, ready_when, work_of}

@@ -1,25 +1,15 @@
 -- What comes in, at one pair of sockets: the orders of a message, an RST, an RRP, data, and answers.
-use Rattle.std.proofs.Common.{◌≡◌, ℕ, Bool, true, false, not, ◌||◌, ◌==◌, if◌then◌else◌, List, [], ◌∷◌, ◌++◌, refl, ap, sym, subst, ◌∙◌}
-use Rattle.interface.specs.Host.{Host}
-use Rattle.interface.specs.declared.crossing.Answer.{Answer}
+use Rattle.host_keeps_pairing.proofs.Common.{◌≡◌, ℕ, Bool, true, false, not, ◌||◌, ◌==◌, if◌then◌else◌, List, [], ◌∷◌, ◌++◌, refl, ap, sym, subst, ◌∙◌, Host, Answer, Command, End, nothing, mark_taken, Mark, TurnState, if_ready, with_desk, order_taken, orders_taken, freed, settled_turn, failed_by, failed, is_gone, answered_turn, Order, Legal, Wrong, error, data_taken, PairState, DeskState, desk_of, command_queued, is_ready, Phase, AllFit, mark_in, mark_of, marks_in, HasEnd, kept_in, AreFree, AreJoint}
 use Rattle.interface.specs.declared.crossing.Answer.TheVariants as answer
 use Rattle.ncp_control.specs.Command.{is_alone}
-use Rattle.ncp_control.specs.declared.command.Command.{Command}
 use Rattle.ncp_control.specs.declared.command.Command.TheVariants as command
-use Rattle.pairing_law.specs.Ends.{End, nothing, mark_taken}
-use Rattle.pairing_law.specs.Marks.{Mark}
-use Rattle.host_pairs.specs.Turn.{TurnState, if_ready, with_desk, reset_taken, reply_taken, command_taken, order_taken, orders_taken, freed, settled_turn, failed_by, failed, is_gone, answered_turn}
+use Rattle.host_pairs.specs.Turn.{reset_taken, reply_taken, command_taken}
 use Rattle.host_pairs.specs.Commands as commands
-use Rattle.host_pairs.specs.Control.{Order, Legal, Wrong, error}
-use Rattle.host_pairs.specs.Data.{data_taken}
-use Rattle.host_pairs.specs.Pair.{PairState}
-use Rattle.host_pairs.specs.Desk.{DeskState, desk_of, command_queued}
-use Rattle.ncp_control.specs.Phases.{is_ready, reply_phase, taken_phase}
-use Rattle.ncp_control.specs.declared.phase.Phase.{Phase}
+use Rattle.ncp_control.specs.Phases.{reply_phase, taken_phase}
 use Rattle.ncp_control.specs.declared.phase.Phase.TheVariants as phase
-use Rattle.host_keeps_pairing.specs.Words.{AllFit, all_taken, mark_in, mark_of, marks_in}
-use Rattle.host_keeps_pairing.specs.Ends.{AreEnd, HasEnd, kept_in}
-use Rattle.host_keeps_pairing.specs.Hearing.{AreFree, AreJoint, IsFreeIn, IsJoint}
+use Rattle.host_keeps_pairing.specs.Words.{all_taken}
+use Rattle.host_keeps_pairing.specs.Ends.{AreEnd}
+use Rattle.host_keeps_pairing.specs.Hearing.{IsFreeIn, IsJoint}
 use Rattle.host_keeps_pairing.proofs.Desks.{on_queued, on_settled}
 use Rattle.host_keeps_pairing.proofs.Takes.{on_data, on_taken}
 
@@ -101,10 +91,6 @@ module _ (origin : ℕ → ℕ) (own foreign : ℕ) where
       (orders_ready peer stamp os (order_taken peer stamp o t) (all_taken (mark_in (origin stamp) foreign own o) x) joint.1 free.1 parts.1 still one)
 
   -- ---- RST, RRP and data
-
-  -- there is nothing left
-  pub emptied : (q : PairState) → HasEnd origin own foreign (record q { entries = []; queue = [] }) nothing
-  emptied q = record { ends = λ place. (refl, refl); idle = λ e. refl }
 
   pub after_reset : (peer : Host) (t : TurnState) → HasEnd origin own foreign (reset_taken peer t).pair nothing
   after_reset peer t = record { ends = λ place. (refl, refl); idle = λ e. refl }

@@ -1,17 +1,8 @@
 -- What a user asks of an open end.
-use Rattle.std.proofs.Common.{◌≡◌, ℕ, ◌+◌, ◌≤◌, Bool, true, false, nat_lt, List, [], ◌∷◌, filter, find, Some, refl, ap, sym, subst, ◌∙◌, inl, inr}
+use Rattle.host_keeps_streams.proofs.Common.{◌≡◌, ℕ, ◌+◌, ◌≤◌, Bool, true, false, nat_lt, List, [], ◌∷◌, filter, find, Some, refl, ap, sym, subst, ◌∙◌, inl, inr, or_false, Allocation, Receiver, Sender, passes, with_more_bits, granted, changed_first, is_mine_on, is_open, receives_on, sends_on, Entry, IsReceiver, AreReceiver, HasReceiver, AreSender, HasSender}
 use Rattle.std.proofs.lemmas.Bool.{ltb-false}
-use Rattle.interface.proofs.lemmas.{or_false}
 use Rattle.ncp_control.specs.Allocation as counters
-use Rattle.ncp_control.specs.declared.allocation.Allocation.{Allocation}
 use Rattle.stream_law.specs.Receivers as receivers
-use Rattle.stream_law.specs.Receivers.{Receiver}
-use Rattle.stream_law.specs.Senders.{Sender}
-use Rattle.host_pairs.specs.Asked.{passes, with_more_bits}
-use Rattle.host_pairs.specs.Commands.{granted}
-use Rattle.host_pairs.specs.Entries.{changed_first, is_mine_on, is_open, receives_on, sends_on}
-use Rattle.host_pairs.specs.declared.entry.Entry.{Entry}
-use Rattle.host_keeps_streams.specs.Ends.{IsReceiver, AreReceiver, HasReceiver, AreSender, HasSender}
 use Rattle.host_keeps_streams.proofs.Lists.{away}
 use Rattle.host_keeps_streams.proofs.Receivers.{open_same, own_receiver}
 use Rattle.host_keeps_streams.proofs.Senders.{own_sender}

@@ -1,27 +1,10 @@
 -- What data, answers and a user's requests are on a link.
-use Rattle.std.proofs.Common.{◌≡◌, ℕ, ◌*◌, Bool, true, false, not, ◌==◌, List, [], ◌∷◌, ◌++◌, take, Option, Some, None, is_some, refl, ap, sym, subst, ◌∙◌}
-use Rattle.std.proofs.lemmas.Bool.{eqb-true}
-use Rattle.interface.specs.Host.{Host}
+use Rattle.host_keeps_streams.proofs.Common.{◌≡◌, ℕ, ◌*◌, Bool, not, ◌==◌, List, [], ◌∷◌, ◌++◌, take, Option, Some, None, is_some, refl, ap, sym, subst, ◌∙◌, eqb-true, Host, header_of, data_bits, DataHeader, Sender, Receiver, Found, Unconnected, Ending, Open, receiver_on, arrived_if, data_of, data_found, data_taken, is_acceptable, spent, DeskState, desk_of, changed_first, is_link, is_open, is_receiving, receives_on, sends_on, PairState, Bytes, bits_gone, link_of, may_send, may_send_on, next_of, parcel_gone, Entry, Listener, both, AreReceiver, HasReceiver, AreSender, HasSender, IsFormed, AreSound, bytes_sent, closes, data_received, told_on, named, AreApart, AreKnown}
+use Rattle.std.proofs.Common.{true, false}
 use Rattle.ncp_control.specs.Allocation as counters
-use Rattle.ncp_control.specs.DataHeader.{header_of, data_bits}
-use Rattle.ncp_control.specs.declared.data_header.DataHeader.{DataHeader}
 use Rattle.stream_law.specs.Senders as senders
-use Rattle.stream_law.specs.Senders.{Sender}
 use Rattle.stream_law.specs.Receivers as receivers
-use Rattle.stream_law.specs.Receivers.{Receiver}
-use Rattle.host_pairs.specs.Commands.{Found, Unconnected, Ending, Open, receiver_on}
-use Rattle.host_pairs.specs.Data.{arrived_if, data_of, data_found, data_taken, is_acceptable, spent}
-use Rattle.host_pairs.specs.Desk.{DeskState, desk_of, settled}
-use Rattle.host_pairs.specs.Entries.{changed_first, is_link, is_open, is_receiving, receives_on, sends_on}
-use Rattle.host_pairs.specs.Pair.{PairState}
-use Rattle.host_pairs.specs.Parcels.{Bytes, bits_gone, link_of, may_send, may_send_on, next_of, parcel_gone}
-use Rattle.host_pairs.specs.declared.entry.Entry.{Entry}
-use Rattle.host_pairs.specs.declared.listener.Listener.{Listener}
-use Rattle.host_pairs.proofs.lemmas.{both}
-use Rattle.host_keeps_streams.specs.Ends.{AreReceiver, HasReceiver, AreSender, HasSender}
-use Rattle.host_keeps_streams.specs.Formed.{IsFormed, AreSound}
-use Rattle.host_keeps_streams.specs.Moves.{bytes_sent, closes, data_received, told_on}
-use Rattle.host_keeps_streams.specs.Names.{named, AreApart, AreKnown}
+use Rattle.host_pairs.specs.Desk.{settled}
 use Rattle.host_keeps_streams.proofs.Ending as ending
 use Rattle.host_keeps_streams.proofs.Ending.{shut_one}
 use Rattle.host_keeps_streams.proofs.Formed.{counted_formed, formed_settled, link_there}

@@ -1,17 +1,8 @@
 -- One message at a time goes out on a link, and none is outstanding where an end closes.
-use Rattle.std.proofs.Common.{◌≡◌, ℕ, Bool, true, false, not, ◌&&◌, ◌==◌, List, [], ◌∷◌, ◌++◌, length, filter, Option, Some, None, refl, ap, sym, subst, ◌∙◌, inl, inr, eq-eqb}
-use Rattle.std.proofs.lemmas.Bool.{eqb-true, ne_eqb, or_parts}
+use Rattle.host_keeps_streams.proofs.Common.{◌≡◌, ℕ, Bool, true, false, not, ◌&&◌, ◌==◌, List, [], ◌∷◌, ◌++◌, length, filter, Option, Some, None, refl, ap, sym, subst, ◌∙◌, inl, inr, eqb-true, ne_eqb, or_parts, Sender, has_cls, is_answered, is_busy, is_drained, is_due, is_link, is_receiving, must_close, sends_on, Entry, both, not_is, all_sent, AreSender, HasSender, NoneOpen, KeepBox, closes, named, numbers, is_among, AreApart, AreKnown}
+use Rattle.std.proofs.Common.{eq-eqb}
 use Rattle.stream_law.specs.Senders as senders
-use Rattle.stream_law.specs.Senders.{Sender}
 use Rattle.stream_law.proofs.lemmas.{some_is}
-use Rattle.host_pairs.specs.Entries.{has_cls, is_answered, is_busy, is_drained, is_due, is_link, is_receiving, must_close, sends_on}
-use Rattle.host_pairs.specs.declared.entry.Entry.{Entry}
-use Rattle.host_pairs.proofs.lemmas.{both, not_is}
-use Rattle.host_keeps_streams.specs.Closings.{all_sent}
-use Rattle.host_keeps_streams.specs.Ends.{AreSender, HasSender, NoneOpen}
-use Rattle.host_keeps_streams.specs.Histories.{KeepBox}
-use Rattle.host_keeps_streams.specs.Moves.{closes}
-use Rattle.host_keeps_streams.specs.Names.{named, numbers, is_among, AreApart, AreKnown}
 use Rattle.host_keeps_streams.proofs.Known.{goes_some}
 use Rattle.host_keeps_streams.proofs.Leaving.{due_open}
 use Rattle.host_keeps_streams.proofs.Lists.{unlike}

@@ -1,27 +1,8 @@
 -- By each call one message at a time goes out on a link, and none is outstanding where an end closes.
-use Rattle.std.proofs.Common.{◌≡◌, ℕ, ◌*◌, Bool, true, false, not, ◌&&◌, ◌==◌, if◌then◌else◌, List, [], ◌∷◌, ◌++◌, take, Option, Some, None, is_some, refl, subst}
-use Rattle.std.specs.List.{list_any}
-use Rattle.interface.specs.Host.{Host}
-use Rattle.ncp_control.specs.declared.command.Command.{Command}
+use Rattle.host_keeps_streams.proofs.Common.{◌≡◌, ℕ, ◌*◌, Bool, true, false, not, ◌&&◌, ◌==◌, if◌then◌else◌, List, [], ◌∷◌, ◌++◌, take, Option, Some, None, is_some, refl, subst, list_any, Host, Command, Sender, MaySend, desk_of, listener_on, entry_at, is_answered, is_busy, is_link, is_receiving, sends_on, PairState, Bytes, next_of, freed, Entry, Listener, both, not_is, what_goes, all_sent, sent_open, HasSender, AreSound, Call, Hears, Says, Sends, Answered, OpensSender, Closes, IsAllowed, KeepBox, is_out, sent_at, asked_sent, closes, hears_rts, of_end, rts_sent, sent_out, named, AreKnown}
 use Rattle.ncp_control.specs.declared.command.Command.TheVariants as command
 use Rattle.stream_law.specs.Words as words
 use Rattle.stream_law.specs.Senders as senders
-use Rattle.stream_law.specs.Senders.{Sender}
-use Rattle.host_pairs.specs.Allowed.{MaySend}
-use Rattle.host_pairs.specs.Desk.{desk_of, listener_on}
-use Rattle.host_pairs.specs.Entries.{entry_at, is_answered, is_busy, is_link, is_receiving, sends_on}
-use Rattle.host_pairs.specs.Pair.{PairState}
-use Rattle.host_pairs.specs.Parcels.{Bytes, next_of}
-use Rattle.host_pairs.specs.Turn.{freed}
-use Rattle.host_pairs.specs.declared.entry.Entry.{Entry}
-use Rattle.host_pairs.specs.declared.listener.Listener.{Listener}
-use Rattle.host_pairs.proofs.lemmas.{both, not_is, what_goes}
-use Rattle.host_keeps_streams.specs.Closings.{all_sent, sent_open}
-use Rattle.host_keeps_streams.specs.Ends.{HasSender}
-use Rattle.host_keeps_streams.specs.Formed.{AreSound}
-use Rattle.host_keeps_streams.specs.Histories.{Call, Hears, Says, Sends, Answered, OpensSender, Closes, IsAllowed, KeepBox, is_out, sent_at}
-use Rattle.host_keeps_streams.specs.Moves.{asked_sent, closes, hears_rts, of_end, rts_sent, sent_out}
-use Rattle.host_keeps_streams.specs.Names.{named, AreKnown}
 use Rattle.host_keeps_streams.proofs.Asks.{link_is}
 use Rattle.host_keeps_streams.proofs.Boxes.{keep_both, settled_box}
 use Rattle.host_keeps_streams.proofs.EachCall.{AllNewSent}

@@ -1,20 +1,10 @@
 -- All that a host's program does in a stay is, on each link, a run of the law's receiver and of its sender.
-use Rattle.std.proofs.Common.{◌≡◌, ℕ, zero, suc, ◌+◌, ◌*◌, ◌≤◌, Bool, true, false, ◌==◌, List, [], ◌∷◌, None, is_some, refl, ap, sym, subst, ◌∙◌, inl, inr, eq-eqb, arith}
-use Rattle.std.proofs.lemmas.Bool.{eqb-true, or_cases}
-use Rattle.interface.specs.Host.{Host}
-use Rattle.stream_law.specs.Receivers.{Receiver}
+use Rattle.host_keeps_streams.proofs.Common.{◌≡◌, ℕ, ◌+◌, ◌*◌, ◌≤◌, Bool, false, ◌==◌, List, [], ◌∷◌, None, is_some, refl, ap, sym, subst, ◌∙◌, inl, inr, arith, eqb-true, Host, Receiver, Sender, entry_at, is_at, PairState, Entry, Listener, all_received, all_sent, HasReceiver, AreSound, Call, Moment, ends_by, received_at, sent_at, IsAllowed, receiver_now, KeepBox, is_out, named, numbers, is_among, IsSending}
+use Rattle.std.proofs.Common.{zero, suc, true, eq-eqb}
+use Rattle.std.proofs.lemmas.Bool.{or_cases}
 use Rattle.stream_law.specs.Senders as senders
-use Rattle.stream_law.specs.Senders.{Sender}
 use Rattle.stream_law.specs.Receivers as receivers
-use Rattle.host_pairs.specs.Entries.{entry_at, is_at}
-use Rattle.host_pairs.specs.Pair.{PairState}
-use Rattle.host_pairs.specs.declared.entry.Entry.{Entry}
-use Rattle.host_pairs.specs.declared.listener.Listener.{Listener}
-use Rattle.host_keeps_streams.specs.Closings.{all_received, all_sent}
-use Rattle.host_keeps_streams.specs.Ends.{HasReceiver}
-use Rattle.host_keeps_streams.specs.Formed.{AreSound}
-use Rattle.host_keeps_streams.specs.Histories.{Call, Moment, ends_by, received_at, sent_at, IsAllowed, ends_now, IsHistory, gone_by, gone_now, IsTelling, receiver_now, sender_now, AreAllowed, MayReceiveAll, MaySendAll, KeepBox, KeepBoxAll, is_out, paired, numbered}
-use Rattle.host_keeps_streams.specs.Names.{named, numbers, is_among, IsSending}
+use Rattle.host_keeps_streams.specs.Histories.{ends_now, IsHistory, gone_by, gone_now, IsTelling, sender_now, AreAllowed, MayReceiveAll, MaySendAll, KeepBoxAll, paired, numbered}
 use Rattle.host_keeps_streams.proofs.EachCall.{AllNewReceived, AllNewSent, call_received, call_sent, call_sound}
 use Rattle.host_keeps_streams.proofs.CallBoxes.{call_box}
 use Rattle.host_keeps_streams.proofs.Concerns.{IsUnknown, IsUnsaid, still_unknown, still_unsaid}

@@ -1,16 +1,11 @@
 -- Of which connections moves change what the law knows.
-use Rattle.std.proofs.Common.{◌≡◌, ℕ, Bool, true, false, ◌&&◌, ◌==◌, List, [], ◌∷◌, ◌++◌, length, Option, Some, None, refl, sym, subst}
-use Rattle.std.proofs.lemmas.Bool.{ne_eqb}
+use Rattle.host_keeps_streams.proofs.Common.{◌≡◌, ℕ, Bool, true, false, ◌&&◌, ◌==◌, List, [], ◌∷◌, ◌++◌, length, Option, Some, None, refl, sym, subst, ne_eqb, Allocation, covers, holds, Receiver, Sender, all_received, all_sent}
 use Rattle.ncp_control.specs.Allocation as counters
-use Rattle.ncp_control.specs.declared.allocation.Allocation.{Allocation}
 use Rattle.stream_law.specs.Words as words
-use Rattle.stream_law.specs.Words.{covers, holds, is_size}
+use Rattle.stream_law.specs.Words.{is_size}
 use Rattle.stream_law.specs.Receivers as receivers
-use Rattle.stream_law.specs.Receivers.{Receiver}
 use Rattle.stream_law.specs.Senders as senders
-use Rattle.stream_law.specs.Senders.{Sender}
 use Rattle.stream_law.proofs.lemmas.{some_is}
-use Rattle.host_keeps_streams.specs.Closings.{all_received, all_sent}
 use Rattle.host_keeps_streams.proofs.Known.{goes_some}
 
 -- ---- receivers

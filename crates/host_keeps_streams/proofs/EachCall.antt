@@ -1,20 +1,7 @@
 -- Each call of a host's program is, on a link, moves of the law, if new ends have new numbers.
-use Rattle.std.proofs.Common.{◌≡◌, ℕ, false, List, None}
-use Rattle.interface.specs.Host.{Host}
-use Rattle.ncp_control.specs.declared.command.Command.{Command}
+use Rattle.host_keeps_streams.proofs.Common.{◌≡◌, ℕ, false, List, None, Host, Command, Receiver, Sender, desk_of, entry_at, free_link, PairState, freed, Entry, Listener, HasReceiver, HasSender, AreSound, Call, Hears, Takes, Says, Sends, Answered, OpensReceiver, OpensSender, Grants, AsksBack, Closes, ends_by, IsAllowed, received_at, sent_at, numbers, is_among, AreKnown, IsNewReceived, IsNewSent, NewNumber, NewReceived, NewSent}
 use Rattle.ncp_control.specs.declared.command.Command.TheVariants as command
-use Rattle.stream_law.specs.Receivers.{Receiver}
-use Rattle.stream_law.specs.Senders.{Sender}
-use Rattle.host_pairs.specs.Desk.{desk_of}
-use Rattle.host_pairs.specs.Entries.{entry_at, free_link}
-use Rattle.host_pairs.specs.Pair.{PairState}
-use Rattle.host_pairs.specs.Turn.{freed}
-use Rattle.host_pairs.specs.declared.entry.Entry.{Entry}
-use Rattle.host_pairs.specs.declared.listener.Listener.{Listener}
-use Rattle.host_keeps_streams.specs.Ends.{HasReceiver, HasSender}
-use Rattle.host_keeps_streams.specs.Formed.{AreSound}
-use Rattle.host_keeps_streams.specs.Histories.{Call, Hears, Takes, Says, Sends, Answered, OpensReceiver, OpensSender, Grants, AsksBack, Gives, Closes, ends_by, IsAllowed, received_at, sent_at}
-use Rattle.host_keeps_streams.specs.Names.{numbers, is_among, AreKnown, IsNewReceived, IsNewSent, NewNumber, NewReceived, NewSent}
+use Rattle.host_keeps_streams.specs.Histories.{Gives}
 use Rattle.host_keeps_streams.proofs.Asks as asks
 use Rattle.host_keeps_streams.proofs.GoesOut as goes
 use Rattle.host_keeps_streams.proofs.Known.{Sent}

@@ -1,23 +1,10 @@
 -- Receiving ends that close.
-use Rattle.std.proofs.Common.{◌≡◌, ℕ, Bool, true, false, not, List, [], ◌∷◌, map, filter, find, Option, Some, None, refl, ap, sym, subst, ◌∙◌}
-use Rattle.interface.specs.Host.{Host}
-use Rattle.interface.proofs.lemmas.{or_false}
+use Rattle.host_keeps_streams.proofs.Common.{◌≡◌, ℕ, Bool, true, false, not, List, [], ◌∷◌, map, filter, find, Option, Some, None, refl, ap, sym, subst, ◌∙◌, Host, or_false, Receiver, for_here, closed_end, cls_taken_by, desk_taken, DeskState, called_off, changed_first, closed_by_partner, closed_when, entry_at, has_cls, is_at, is_called_off, is_drained, is_due, is_mine_on, is_over, is_receiving, must_close, receives_on, was_closed, PairState, command_gone, Closing, Entry, all_received, MayAllReceive, received_close, received_gone, IsReceiver, AreReceiver, HasReceiver}
 use Rattle.ncp_control.specs.declared.command.Command.TheVariants as command
 use Rattle.stream_law.specs.Words as words
 use Rattle.stream_law.specs.Receivers as receivers
-use Rattle.stream_law.specs.Receivers.{Receiver}
-use Rattle.stream_law.proofs.lemmas.{for_here}
-use Rattle.host_pairs.specs.Asked.{closed_end}
-use Rattle.host_pairs.specs.Commands.{cls_taken_by, desk_taken}
-use Rattle.host_pairs.specs.Desk.{DeskState}
-use Rattle.host_pairs.specs.Entries.{called_off, changed_first, closed_by_partner, closed_when, entry_at, has_cls, is_at, is_called_off, is_drained, is_due, is_mine_on, is_over, is_receiving, must_close, receives_on, was_closed}
-use Rattle.host_pairs.specs.Pair.{PairState}
-use Rattle.host_pairs.specs.Parcels.{cls_sent, command_gone}
-use Rattle.host_pairs.specs.declared.entry.Closing.{Closing}
+use Rattle.host_pairs.specs.Parcels.{cls_sent}
 use Rattle.host_pairs.specs.declared.entry.Closing.TheVariants as closing
-use Rattle.host_pairs.specs.declared.entry.Entry.{Entry}
-use Rattle.host_keeps_streams.specs.Closings.{all_received, MayAllReceive, received_close, received_gone}
-use Rattle.host_keeps_streams.specs.Ends.{IsReceiver, AreReceiver, HasReceiver}
 use Rattle.host_keeps_streams.proofs.Lists.{away, filter_both, filter_map, received_is}
 use Rattle.host_keeps_streams.proofs.Receivers.{own_receiver}
 

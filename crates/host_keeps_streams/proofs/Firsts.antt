@@ -1,25 +1,11 @@
 -- A receiving end says its CLS of itself only after it heard its partner's. Before, only a user closes it.
-use Rattle.std.proofs.Common.{◌≡◌, ◌⊎◌, ℕ, Bool, true, false, ◌==◌, ◌&&◌, not, List, [], ◌∷◌, length, Option, Some, None, is_some, if◌then◌else◌, refl, ap, sym, ◌∙◌, inl, inr}
-use Rattle.interface.specs.Host.{Host}
-use Rattle.ncp_control.specs.declared.command.Command.{Command}
+use Rattle.host_keeps_streams.proofs.Common.{◌≡◌, ◌⊎◌, ℕ, Bool, true, false, ◌==◌, ◌&&◌, not, List, ◌∷◌, length, Option, Some, None, is_some, if◌then◌else◌, refl, ap, sym, ◌∙◌, inl, inr, Host, Command, header_of, DataHeader, for, covers, holds, Receiver, at, for_here, DeskState, desk_of, listener_on, entry_at, free_link, is_receiving, receives_on, PairState, Closing, Entry, Listener, all_received, received_close, received_gone, received_open, Call, Hears, Takes, Says, OpensReceiver, Grants, AsksBack, Closes, Moment, received_at, receiver_now, answers_str, asked_received, asks_for, closed_received, cls_received, closes_on, data_received, on_link, received_by, received_out, str_received, named}
+use Rattle.std.proofs.Common.{[]}
 use Rattle.ncp_control.specs.declared.command.Command.TheVariants as command
-use Rattle.ncp_control.specs.DataHeader.{header_of}
-use Rattle.ncp_control.specs.declared.data_header.DataHeader.{DataHeader}
-use Rattle.stream_law.specs.Words.{Word, Str, Ret, Cls, for, covers, holds, is_size}
+use Rattle.stream_law.specs.Words.{Word, Str, Ret, Cls, is_size}
 use Rattle.stream_law.specs.Receivers as receivers
-use Rattle.stream_law.specs.Receivers.{Receiver}
-use Rattle.stream_law.proofs.lemmas.{at, for_here}
-use Rattle.host_pairs.specs.Desk.{DeskState, desk_of, listener_on}
-use Rattle.host_pairs.specs.Entries.{entry_at, free_link, is_receiving, receives_on}
-use Rattle.host_pairs.specs.Pair.{PairState}
-use Rattle.host_pairs.specs.declared.entry.Closing.{Closing}
 use Rattle.host_pairs.specs.declared.entry.Closing.TheVariants as closing
-use Rattle.host_pairs.specs.declared.entry.Entry.{Entry}
-use Rattle.host_pairs.specs.declared.listener.Listener.{Listener}
-use Rattle.host_keeps_streams.specs.Closings.{all_received, received_close, received_gone, received_open}
-use Rattle.host_keeps_streams.specs.Histories.{Call, Hears, Takes, Says, OpensReceiver, Grants, AsksBack, Closes, Moment, HasClosed, IsClosing, name_now, received_at, receiver_now}
-use Rattle.host_keeps_streams.specs.Moves.{answers_str, asked_received, asks_for, closed_received, cls_received, closes_on, data_received, on_link, received_by, received_out, str_received}
-use Rattle.host_keeps_streams.specs.Names.{named}
+use Rattle.host_keeps_streams.specs.Histories.{HasClosed, IsClosing, name_now}
 
 -- ---- moves other than a CLS leave who was first
 

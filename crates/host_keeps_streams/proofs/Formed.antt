@@ -1,18 +1,12 @@
 -- How far ends have come once they are changed.
-use Rattle.std.proofs.Common.{◌≡◌, ℕ, Bool, true, false, not, List, [], ◌∷◌, ◌++◌, map, filter, find, Option, Some, None, is_some, refl, ap, sym, subst, ◌∙◌}
+use Rattle.host_keeps_streams.proofs.Common.{◌≡◌, ℕ, Bool, not, List, [], ◌∷◌, ◌++◌, map, filter, find, Option, Some, None, is_some, refl, ap, sym, subst, ◌∙◌, is_receive_socket, Allocation, asked_on_link, asked_with_size, changed_first, closed_by_partner, has_cls, is_link, is_over, is_receiving, must_close, receiving_end, refused_end, sending_end, Closing, Entry, not_is, IsFormed, AreFormed}
+use Rattle.std.proofs.Common.{true, false}
 use Rattle.ncp_control.specs.Allocation as counters
-use Rattle.ncp_control.specs.Numbers.{is_receive_socket}
-use Rattle.ncp_control.specs.declared.allocation.Allocation.{Allocation}
-use Rattle.host_pairs.specs.Commands.{asked_on_link, asked_with_size}
-use Rattle.host_pairs.specs.Entries.{changed_first, closed_by_partner, has_cls, is_link, is_over, is_receiving, must_close, receiving_end, refused_end, sending_end}
-use Rattle.host_pairs.specs.declared.entry.Closing.{Closing}
 use Rattle.host_pairs.specs.declared.entry.Closing.TheVariants as closing
 use Rattle.host_keeps_streams.proofs.Ending.{shut_one, stays}
 use Rattle.host_keeps_streams.proofs.Lists.{unlike}
 use Rattle.host_keeps_streams.proofs.Sweeping.{over_stays}
-use Rattle.host_pairs.specs.declared.entry.Entry.{Entry}
-use Rattle.host_pairs.proofs.lemmas.{not_is, some_is}
-use Rattle.host_keeps_streams.specs.Formed.{IsFormed, AreFormed}
+use Rattle.host_pairs.proofs.lemmas.{some_is}
 
 formed_step : (test : Entry → Bool) (e y : Entry) (ys : List Entry) → (find test ys ≡ Some e → IsFormed e) → IsFormed y → (b : Bool) → test y ≡ b → find test (y ∷ ys) ≡ Some e → IsFormed e
 formed_step test e y ys rest k true t f = let r : Some y ≡ Some e = rw t at f in subst IsFormed (some_is y e r) k

@@ -1,23 +1,12 @@
 -- What goes out of a host's program.
-use Rattle.std.proofs.Common.{◌≡◌, ℕ, Bool, true, false, not, ◌&&◌, ◌==◌, List, [], ◌∷◌, filter, Option, Some, None, is_some, refl, ap, sym, subst, ◌∙◌, inl, inr, eq-eqb}
-use Rattle.std.proofs.lemmas.Bool.{eqb-true}
-use Rattle.interface.specs.Host.{Host}
-use Rattle.ncp_control.specs.declared.command.Command.{Command}
+use Rattle.host_keeps_streams.proofs.Common.{◌≡◌, ℕ, Bool, true, false, not, ◌&&◌, ◌==◌, List, [], ◌∷◌, filter, Option, Some, None, is_some, refl, ap, sym, subst, ◌∙◌, inl, inr, eqb-true, Host, Command, Sender, Receiver, DeskState, changed_first, entry_at, has_cls, is_at, is_link, is_over, is_receiving, receives_on, receiving_end, sends_on, asked_at, command_gone, Entry, not_is, all_sent, MayAllSend, sent_open, IsSender, NoneOpen, IsLeaving, AreReceiver, HasReceiver, AreSender, HasSender, IsFormed, AreFormed, AreSound, asked_received, asked_sent, closed_received, of_end, received_out, sent_out, named, IsKnown, AreKnown}
+use Rattle.std.proofs.Common.{eq-eqb}
 use Rattle.ncp_control.specs.declared.command.Command.TheVariants as command
 use Rattle.stream_law.specs.Senders as senders
-use Rattle.stream_law.specs.Senders.{Sender}
-use Rattle.stream_law.specs.Receivers.{Receiver}
 use Rattle.stream_law.proofs.lemmas.{some_is}
-use Rattle.host_pairs.specs.Desk.{DeskState}
-use Rattle.host_pairs.specs.Entries.{changed_first, entry_at, has_cls, is_at, is_link, is_over, is_receiving, receives_on, receiving_end, sends_on}
-use Rattle.host_pairs.specs.Parcels.{asked_at, cls_sent, command_gone, request_gone}
-use Rattle.host_pairs.specs.declared.entry.Entry.{Entry}
-use Rattle.host_pairs.proofs.lemmas.{both, not_is}
-use Rattle.host_keeps_streams.specs.Closings.{all_sent, MayAllSend, sent_open}
-use Rattle.host_keeps_streams.specs.Ends.{IsSender, NoneOpen, IsLeaving, AreReceiver, HasReceiver, AreSender, HasSender}
-use Rattle.host_keeps_streams.specs.Formed.{IsFormed, AreFormed, AreSound, HasSaid}
-use Rattle.host_keeps_streams.specs.Moves.{asked_received, asked_sent, closed_received, of_end, received_out, sent_out}
-use Rattle.host_keeps_streams.specs.Names.{named, IsKnown, AreKnown}
+use Rattle.host_pairs.specs.Parcels.{cls_sent, request_gone}
+use Rattle.host_pairs.proofs.lemmas.{both}
+use Rattle.host_keeps_streams.specs.Formed.{HasSaid}
 use Rattle.host_keeps_streams.proofs.Ending as ending
 use Rattle.host_keeps_streams.proofs.Ending.{stays}
 use Rattle.host_keeps_streams.proofs.Formed.{formed_found, link_there}

@@ -1,15 +1,8 @@
 -- What a link's law knows of all sending ends.
-use Rattle.std.proofs.Common.{◌≡◌, ℕ, Bool, true, false, ◌&&◌, ◌==◌, List, [], ◌∷◌, ◌++◌, filter, find, Option, Some, None, refl, ap, sym, subst, ◌∙◌, inl, inr}
-use Rattle.std.proofs.lemmas.Bool.{ne_eqb, or_parts}
+use Rattle.host_keeps_streams.proofs.Common.{◌≡◌, ℕ, Bool, false, ◌&&◌, ◌==◌, List, [], ◌∷◌, ◌++◌, filter, find, Option, Some, None, refl, ap, sym, subst, ◌∙◌, inl, inr, ne_eqb, or_parts, Sender, at, changed_first, has_cls, is_receiving, Entry, all_sent, MayAllSend, NoneOpen, AreSender, HasSender, named, numbers, is_among, AreApart, IsKnown, AreKnown}
+use Rattle.std.proofs.Common.{true}
 use Rattle.stream_law.specs.Senders as senders
-use Rattle.stream_law.specs.Senders.{Sender}
-use Rattle.stream_law.proofs.lemmas.{at}
-use Rattle.host_pairs.specs.Entries.{changed_first, has_cls, is_receiving}
-use Rattle.host_pairs.specs.declared.entry.Entry.{Entry}
 use Rattle.host_pairs.proofs.lemmas.ParcelLemmas as parcels
-use Rattle.host_keeps_streams.specs.Closings.{all_sent, MayAllSend}
-use Rattle.host_keeps_streams.specs.Ends.{NoneOpen, AreSender, HasSender}
-use Rattle.host_keeps_streams.specs.Names.{named, numbers, is_among, AreApart, IsKnown, AreKnown}
 use Rattle.host_keeps_streams.proofs.Lists.{unlike}
 use Rattle.host_keeps_streams.proofs.Names.{found_among}
 

@@ -1,25 +1,13 @@
 -- Sending ends that close.
-use Rattle.std.proofs.Common.{◌≡◌, ℕ, Bool, true, false, ◌==◌, if◌then◌else◌, List, [], ◌∷◌, map, filter, find, Option, Some, None, refl, ap, sym, subst, ◌∙◌, inl, inr, eq-eqb}
-use Rattle.interface.specs.Host.{Host}
-use Rattle.interface.proofs.lemmas.{or_false}
+use Rattle.host_keeps_streams.proofs.Common.{◌≡◌, ℕ, Bool, true, false, ◌==◌, if◌then◌else◌, List, [], ◌∷◌, map, filter, find, Option, Some, None, refl, ap, sym, subst, ◌∙◌, inl, inr, Host, or_false, for, Sender, for_here, closed_end, cls_taken_by, desk_taken, DeskState, called_off, changed_first, closed_by_partner, closed_when, entry_at, has_cls, is_answered, is_at, is_called_off, is_drained, is_due, is_mine_on, is_over, is_receiving, must_close, sends_on, was_closed, PairState, command_gone, Closing, Entry, both, all_sent, MayAllSend, IsSender, NoneOpen, AreSender, HasSender}
+use Rattle.std.proofs.Common.{eq-eqb}
 use Rattle.ncp_control.specs.declared.command.Command.TheVariants as command
 use Rattle.stream_law.specs.Words as words
-use Rattle.stream_law.specs.Words.{for}
 use Rattle.stream_law.specs.Senders as senders
-use Rattle.stream_law.specs.Senders.{Sender}
-use Rattle.stream_law.proofs.lemmas.{for_here, some_is}
-use Rattle.host_pairs.specs.Asked.{closed_end}
-use Rattle.host_pairs.specs.Commands.{cls_taken_by, desk_taken}
-use Rattle.host_pairs.specs.Desk.{DeskState}
-use Rattle.host_pairs.specs.Entries.{called_off, changed_first, closed_by_partner, closed_when, entry_at, has_cls, is_answered, is_at, is_called_off, is_drained, is_due, is_mine_on, is_over, is_receiving, must_close, sends_on, was_closed}
-use Rattle.host_pairs.specs.Pair.{PairState}
-use Rattle.host_pairs.specs.Parcels.{cls_sent, command_gone}
-use Rattle.host_pairs.specs.declared.entry.Closing.{Closing}
+use Rattle.stream_law.proofs.lemmas.{some_is}
+use Rattle.host_pairs.specs.Parcels.{cls_sent}
 use Rattle.host_pairs.specs.declared.entry.Closing.TheVariants as closing
-use Rattle.host_pairs.specs.declared.entry.Entry.{Entry}
-use Rattle.host_pairs.proofs.lemmas.{both}
-use Rattle.host_keeps_streams.specs.Closings.{all_sent, MayAllSend, sent_close, sent_heard}
-use Rattle.host_keeps_streams.specs.Ends.{IsSender, NoneOpen, AreSender, HasSender}
+use Rattle.host_keeps_streams.specs.Closings.{sent_close, sent_heard}
 use Rattle.host_keeps_streams.proofs.Lists.{away, filter_both, filter_map, sent_is, unlike}
 use Rattle.host_keeps_streams.proofs.Senders.{own_sender}
 use Rattle.host_keeps_streams.proofs.Ending.{shut_one, stays, close_now, not_called}

@@ -1,11 +1,7 @@
 -- A list of ends of which one is changed, as far as those on a link go.
-use Rattle.std.proofs.Common.{◌≡◌, ℕ, Bool, true, false, not, ◌&&◌, ◌==◌, List, [], ◌∷◌, ◌++◌, map, filter, find, Option, Some, None, refl, ap, sym, ◌∙◌, append-nil}
-use Rattle.std.proofs.lemmas.List.Elements.{filter-append}
-use Rattle.std.proofs.lemmas.Bool.{eqb-true}
-use Rattle.std.specs.List.{list_any}
-use Rattle.host_pairs.specs.Entries.{changed_first, is_link, is_receiving, receives_on, sends_on}
-use Rattle.host_pairs.specs.declared.entry.Entry.{Entry}
-use Rattle.host_pairs.proofs.lemmas.{both, not_is, some_is}
+use Rattle.host_keeps_streams.proofs.Common.{◌≡◌, ℕ, Bool, not, ◌&&◌, ◌==◌, List, [], ◌∷◌, ◌++◌, map, filter, find, Option, Some, None, refl, ap, sym, ◌∙◌, append-nil, filter-append, eqb-true, list_any, changed_first, is_link, is_receiving, receives_on, sends_on, Entry, both, not_is}
+use Rattle.std.proofs.Common.{true, false}
+use Rattle.host_pairs.proofs.lemmas.{some_is}
 
 pub unlike : (b : Bool) → b ≡ true → b ≡ false → ⊥
 unlike b e f = let same : true ≡ false = sym e ∙ f in absurd (cc)

@@ -1,30 +1,12 @@
 -- Each call concerns only connections that have an end before it, or after it.
-use Rattle.std.proofs.Common.{◌≡◌, ◌⊎◌, ℕ, ◌*◌, take, Bool, true, false, not, ◌&&◌, ◌||◌, ◌==◌, if◌then◌else◌, List, [], ◌∷◌, ◌++◌, Option, Some, None, is_some, refl, subst, inl, inr, eq-eqb}
-use Rattle.std.specs.List.{list_any}
-use Rattle.interface.specs.Host.{Host}
-use Rattle.ncp_control.specs.DataHeader.{header_of, data_bits}
-use Rattle.ncp_control.specs.declared.command.Command.{Command}
+use Rattle.host_keeps_streams.proofs.Common.{◌≡◌, ◌⊎◌, ℕ, ◌*◌, take, Bool, true, false, not, ◌&&◌, ◌||◌, ◌==◌, if◌then◌else◌, List, ◌∷◌, ◌++◌, Option, Some, None, is_some, refl, subst, inl, inr, list_any, Host, header_of, data_bits, Command, DataHeader, Sender, receiver_requested, asked_on_link, asked_with_size, rts_heard, rts_taken, rts_taken_by, str_heard, str_linked, str_taken_by, data_of, DeskState, desk_of, listener_on, called_off, changed_first, closed_by_partner, entry_at, free_link, is_at, is_mine_on, is_receiving, must_close, receiving_end, receives_on, refused_end, sending_end, sends_on, PairState, freed, Closing, Entry, Listener, received_close, received_gone, received_open, sent_open, Call, Hears, Takes, Says, Sends, Answered, OpensReceiver, OpensSender, Grants, AsksBack, Closes, ends_by, received_at, sent_at, answers_str, asked_received, asked_sent, asks_for, closed_received, closes, closes_on, cls_received, data_received, hears_rts, of_end, received_out, rts_sent, sent_out, str_received, told_on, named, numbers, is_among}
+use Rattle.std.proofs.Common.{[], eq-eqb}
 use Rattle.ncp_control.specs.declared.command.Command.TheVariants as command
-use Rattle.ncp_control.specs.declared.data_header.DataHeader.{DataHeader}
 use Rattle.stream_law.specs.Words as words
 use Rattle.stream_law.specs.Receivers as receivers
 use Rattle.stream_law.specs.Senders as senders
-use Rattle.stream_law.specs.Senders.{Sender}
-use Rattle.host_pairs.specs.Asked.{receiver_requested}
-use Rattle.host_pairs.specs.Commands.{asked_on_link, asked_with_size, rts_heard, rts_taken, rts_taken_by, str_heard, str_linked, str_taken_by}
-use Rattle.host_pairs.specs.Data.{data_of}
-use Rattle.host_pairs.specs.Desk.{DeskState, desk_of, listener_on}
-use Rattle.host_pairs.specs.Entries.{called_off, changed_first, closed_by_partner, entry_at, free_link, is_at, is_mine_on, is_receiving, must_close, receiving_end, receives_on, refused_end, sending_end, sends_on}
-use Rattle.host_pairs.specs.Pair.{PairState}
-use Rattle.host_pairs.specs.Turn.{freed}
-use Rattle.host_pairs.specs.declared.entry.Closing.{Closing}
 use Rattle.host_pairs.specs.declared.entry.Closing.TheVariants as closing
-use Rattle.host_pairs.specs.declared.entry.Entry.{Entry}
-use Rattle.host_pairs.specs.declared.listener.Listener.{Listener}
-use Rattle.host_keeps_streams.specs.Closings.{received_close, received_gone, received_open, sent_open}
-use Rattle.host_keeps_streams.specs.Histories.{Call, Hears, Takes, Says, Sends, Answered, OpensReceiver, OpensSender, Grants, AsksBack, Closes, ends_by, received_at, sent_at}
-use Rattle.host_keeps_streams.specs.Moves.{answers_str, asked_received, asked_sent, asks_for, closed_received, closes, closes_on, cls_received, cls_sent, data_received, hears_rts, of_end, received_out, rts_sent, sent_out, str_received, told_on}
-use Rattle.host_keeps_streams.specs.Names.{named, numbers, is_among}
+use Rattle.host_keeps_streams.specs.Moves.{cls_sent}
 use Rattle.host_keeps_streams.proofs.Concerns.{AllConcern, AllConcernSent, concern_both}
 use Rattle.host_keeps_streams.proofs.Names.{found_among, numbers_changed}
 use Rattle.host_keeps_streams.proofs.ReceiverHears.{own_name}

@@ -1,14 +1,7 @@
 -- Lists of ends whose numbers are all different.
-use Rattle.std.proofs.Common.{◌≡◌, ℕ, Bool, true, false, ◌||◌, ◌==◌, List, [], ◌∷◌, ◌++◌, map, filter, find, Some, refl, ap, sym, subst, ◌∙◌, inl, inr}
-use Rattle.std.proofs.lemmas.Bool.{eq-eqb, or_parts, ne_eqb}
-use Rattle.host_pairs.specs.Entries.{changed_first, receives_on, sends_on}
-use Rattle.host_pairs.specs.declared.entry.Entry.{Entry}
+use Rattle.host_keeps_streams.proofs.Common.{◌≡◌, ℕ, Bool, true, false, ◌||◌, ◌==◌, List, [], ◌∷◌, ◌++◌, map, filter, find, Some, refl, ap, sym, subst, ◌∙◌, inl, inr, or_parts, ne_eqb, changed_first, receives_on, sends_on, Entry, Receiver, Sender, IsReceiver, IsSender, AreReceiver, AreSender, HasReceiver, AreSound, named, numbers, is_among, AreApart, IsKnown, AreKnown, IsSending}
+use Rattle.std.proofs.lemmas.Bool.{eq-eqb}
 use Rattle.host_pairs.proofs.lemmas.{some_is}
-use Rattle.stream_law.specs.Receivers.{Receiver}
-use Rattle.stream_law.specs.Senders.{Sender}
-use Rattle.host_keeps_streams.specs.Ends.{IsReceiver, IsSender, AreReceiver, AreSender, HasReceiver}
-use Rattle.host_keeps_streams.specs.Formed.{AreSound}
-use Rattle.host_keeps_streams.specs.Names.{named, numbers, is_among, AreApart, IsKnown, AreKnown, IsSending}
 use Rattle.host_keeps_streams.proofs.Lists.{unlike}
 
 pub or_right : (a b : Bool) → b ≡ true → (a || b) ≡ true

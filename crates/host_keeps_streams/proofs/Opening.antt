@@ -1,28 +1,12 @@
 -- Ends that open.
-use Rattle.std.proofs.Common.{◌≡◌, ℕ, Bool, true, false, ◌&&◌, ◌==◌, List, [], ◌∷◌, filter, Option, Some, None, is_some, refl, ap, sym, subst, ◌∙◌, inl, inr, eq-eqb, append-nil, not, ◌++◌, find}
-use Rattle.std.specs.List.{list_any}
-use Rattle.std.proofs.lemmas.List.Elements.{filter-append}
-use Rattle.ncp_control.specs.Numbers.{is_receive_socket}
-use Rattle.host_pairs.specs.Asked.{requested}
-use Rattle.host_pairs.specs.Pair.{PairState}
-use Rattle.interface.specs.Host.{Host}
+use Rattle.host_keeps_streams.proofs.Common.{◌≡◌, ℕ, Bool, false, ◌&&◌, ◌==◌, List, [], ◌∷◌, filter, Option, Some, None, is_some, refl, ap, sym, subst, ◌∙◌, inl, inr, append-nil, not, ◌++◌, find, list_any, filter-append, is_receive_socket, requested, PairState, Host, for, Receiver, Sender, at, for_here, asked_on_link, asked_with_size, rts_taken_by, str_taken_by, desk_taken, DeskState, sending_end, connection_links, free_link, receiving_end, changed_first, entry_at, has_cls, is_at, is_over, is_receiving, receives_on, sends_on, asked_at, command_gone, Entry, not_is, all_received, MayAllReceive, received_open, all_sent, MayAllSend, sent_open, IsReceiver, AreReceiver, HasReceiver, IsSender, AreSender, HasSender}
+use Rattle.std.proofs.Common.{true, eq-eqb}
 use Rattle.ncp_control.specs.Allocation as counters
 use Rattle.ncp_control.specs.declared.command.Command.TheVariants as command
 use Rattle.stream_law.specs.Words as words
-use Rattle.stream_law.specs.Words.{for}
 use Rattle.stream_law.specs.Receivers as receivers
-use Rattle.stream_law.specs.Receivers.{Receiver}
 use Rattle.stream_law.specs.Senders as senders
-use Rattle.stream_law.specs.Senders.{Sender}
-use Rattle.stream_law.proofs.lemmas.{at, for_here, some_is}
-use Rattle.host_pairs.specs.Commands.{asked_on_link, asked_with_size, rts_taken_by, str_taken_by, desk_taken}
-use Rattle.host_pairs.specs.Desk.{DeskState}
-use Rattle.host_pairs.specs.Entries.{sending_end, connection_links, free_link, receiving_end, changed_first, entry_at, has_cls, is_at, is_over, is_receiving, receives_on, sends_on}
-use Rattle.host_pairs.specs.Parcels.{asked_at, command_gone}
-use Rattle.host_pairs.specs.declared.entry.Entry.{Entry}
-use Rattle.host_pairs.proofs.lemmas.{not_is}
-use Rattle.host_keeps_streams.specs.Closings.{all_received, MayAllReceive, received_open, all_sent, MayAllSend, sent_open}
-use Rattle.host_keeps_streams.specs.Ends.{IsReceiver, AreReceiver, HasReceiver, IsSender, AreSender, HasSender}
+use Rattle.stream_law.proofs.lemmas.{some_is}
 use Rattle.host_keeps_streams.proofs.Lists.{joins, none_any}
 use Rattle.host_keeps_streams.proofs.Receivers.{own_receiver}
 

@@ -1,16 +1,6 @@
 -- What leaves the ends on a link as they are.
-use Rattle.std.proofs.Common.{◌≡◌, ℕ, Bool, true, false, ◌&&◌, ◌==◌, nat_le, List, filter, Option, Some, None, refl}
-use Rattle.interface.specs.Host.{Host}
-use Rattle.ncp_control.specs.DataHeader.{header_of, data_bits}
-use Rattle.ncp_control.specs.declared.command.Command.{Command}
+use Rattle.host_keeps_streams.proofs.Common.{◌≡◌, ℕ, Bool, true, false, ◌&&◌, ◌==◌, nat_le, List, filter, Option, Some, None, refl, Host, header_of, data_bits, Command, DataHeader, Found, Unconnected, Ending, Open, at_end, all_taken, granted, gvb_taken, given_back, interrupted, ret_taken, returned, receiver_on, sender_on, desk_taken, arrived_if, data_found, data_taken, is_acceptable, spent, DeskState, receives_on, sends_on, Entry, LeavesReceiver, LeavesSender}
 use Rattle.ncp_control.specs.declared.command.Command.TheVariants as command
-use Rattle.ncp_control.specs.declared.data_header.DataHeader.{DataHeader}
-use Rattle.host_pairs.specs.Commands.{Found, Unconnected, Ending, Open, at_end, all_taken, granted, gvb_taken, given_back, interrupted, ret_taken, returned, receiver_on, sender_on, desk_taken}
-use Rattle.host_pairs.specs.Data.{arrived_if, data_found, data_taken, is_acceptable, spent}
-use Rattle.host_pairs.specs.Desk.{DeskState}
-use Rattle.host_pairs.specs.Entries.{receives_on, sends_on}
-use Rattle.host_pairs.specs.declared.entry.Entry.{Entry}
-use Rattle.host_keeps_streams.specs.Said.{LeavesReceiver, LeavesSender}
 use Rattle.host_keeps_streams.proofs.Lists.{apart, not_received, not_sent, other_receives, other_sends, received_is, sent_is}
 
 -- whatever has the end that is looked for isn't on the link, and stays off it

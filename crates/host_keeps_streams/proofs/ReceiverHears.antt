@@ -1,29 +1,12 @@
 -- What the receiver of a link does by a command of its peer.
-use Rattle.std.proofs.Common.{◌≡◌, ℕ, ◌%◌, Bool, true, false, not, if◌then◌else◌, ◌&&◌, ◌==◌, List, [], ◌∷◌, ◌++◌, filter, Option, Some, None, is_some, refl, ap, sym, subst, ◌∙◌, eq-eqb}
-use Rattle.std.proofs.lemmas.Bool.{eqb-true, ne_eqb, or_parts}
-use Rattle.std.specs.List.{list_any}
-use Rattle.interface.specs.Host.{Host}
-use Rattle.ncp_control.specs.Command.{IsCommand}
-use Rattle.ncp_control.specs.Numbers.{is_receive_socket, is_send_socket}
-use Rattle.ncp_control.specs.declared.command.Command.{Command}
+use Rattle.host_keeps_streams.proofs.Common.{◌≡◌, ℕ, Bool, true, false, not, if◌then◌else◌, ◌&&◌, ◌==◌, List, [], ◌∷◌, ◌++◌, filter, Option, Some, None, is_some, refl, ap, sym, subst, ◌∙◌, eqb-true, ne_eqb, or_parts, list_any, Host, IsCommand, is_receive_socket, Command, for, Receiver, for_here, asked_with_size, asked_on_link, cls_taken_by, rts_taken_by, rts_taken, str_heard, str_linked, str_taken, str_taken_by, rts_heard, desk_taken, DeskState, listener_on, changed_first, connection_links, entry_at, free_link, is_at, is_link, is_receiving, receiving_end, receives_on, refused_end, sending_end, sends_on, Entry, Listener, all_received, MayAllReceive, received_close, received_open, AreReceiver, HasReceiver, answers_str, closes_on, cls_received, received_by, str_received, named, numbers, is_among, AreApart, IsNewReceived, NewReceived, both, not_is, LeavesReceiver}
+use Rattle.std.proofs.Common.{◌%◌, eq-eqb}
+use Rattle.ncp_control.specs.Numbers.{is_send_socket}
 use Rattle.ncp_control.specs.declared.command.Command.TheVariants as command
 use Rattle.stream_law.specs.Words as words
-use Rattle.stream_law.specs.Words.{for}
 use Rattle.stream_law.specs.Receivers as receivers
-use Rattle.stream_law.specs.Receivers.{Receiver}
-use Rattle.stream_law.proofs.lemmas.{for_here}
-use Rattle.host_pairs.specs.Commands.{asked_with_size, asked_on_link, cls_taken_by, rts_taken_by, rts_taken, str_heard, str_linked, str_taken, str_taken_by, rts_heard, desk_taken}
-use Rattle.host_pairs.specs.Desk.{DeskState, listener_on}
-use Rattle.host_pairs.specs.Entries.{changed_first, connection_links, entry_at, free_link, is_at, is_link, is_receiving, receiving_end, receives_on, refused_end, sending_end, sends_on}
-use Rattle.host_pairs.specs.declared.entry.Entry.{Entry}
-use Rattle.host_pairs.specs.declared.listener.Listener.{Listener}
-use Rattle.host_keeps_streams.specs.Closings.{all_received, MayAllReceive, received_close, received_open}
-use Rattle.host_keeps_streams.specs.Ends.{AreReceiver, HasReceiver}
-use Rattle.host_keeps_streams.specs.Moves.{answers_str, closes_on, cls_received, received_by, str_received}
-use Rattle.host_keeps_streams.specs.Names.{named, numbers, is_among, AreApart, IsNewReceived, NewReceived}
 use Rattle.host_keeps_streams.proofs.Lists.{append_off, append_on, away, find_passes, none_any, not_received}
-use Rattle.host_pairs.proofs.lemmas.{both, not_is, some_is}
-use Rattle.host_keeps_streams.specs.Said.{LeavesReceiver}
+use Rattle.host_pairs.proofs.lemmas.{some_is}
 use Rattle.host_keeps_streams.proofs.Quiet.{receiver_leaves}
 use Rattle.host_keeps_streams.proofs.Receivers.{ret_receives}
 use Rattle.host_keeps_streams.proofs.Opening.{and_no, number_passes}

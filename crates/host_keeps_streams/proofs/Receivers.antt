@@ -1,28 +1,20 @@
 -- What a receiving end does.
-use Rattle.std.proofs.Common.{◌≡◌, ℕ, ◌+◌, ◌-◌, ◌≤◌, Bool, true, false, not, ◌&&◌, ◌||◌, nat_le, if◌then◌else◌, List, [], ◌∷◌, ◌++◌, length, take, drop, filter, find, Option, Some, None, refl, ap, sym, subst, ◌∙◌, append-nil, arith}
-use Rattle.std.proofs.lemmas.List.{length-take-le, length-drop}
-use Rattle.interface.specs.Host.{Host}
+use Rattle.host_keeps_streams.proofs.Common.{◌≡◌, ℕ, ◌+◌, ◌≤◌, Bool, true, false, not, ◌&&◌, ◌||◌, nat_le, if◌then◌else◌, List, [], ◌∷◌, ◌++◌, length, take, filter, find, Option, Some, None, refl, ap, sym, subst, ◌∙◌, append-nil, arith, length-take-le, Host, Allocation, header_of, data_bits, DataHeader, for, holds, Receiver, Found, Unconnected, Ending, Open, found_in, at_end, ret_taken, returned, desk_taken, data_of, data_found, data_taken, arrived_if, is_acceptable, spent, DeskState, changed_first, has_cls, is_open, receives_on, Entry, for_here, has_opened, IsReceiver, AreReceiver, HasReceiver}
+use Rattle.std.proofs.Common.{◌-◌, drop}
+use Rattle.std.proofs.lemmas.List.{length-drop}
 use Rattle.ncp_control.specs.Allocation as counters
-use Rattle.ncp_control.specs.declared.allocation.Allocation.{Allocation}
-use Rattle.ncp_control.specs.DataHeader.{header_of, data_bits}
 use Rattle.ncp_control.specs.declared.command.Command.TheVariants as command
-use Rattle.ncp_control.specs.declared.data_header.DataHeader.{DataHeader}
 use Rattle.stream_law.specs.Words as words
-use Rattle.stream_law.specs.Words.{for, covers, holds}
+use Rattle.stream_law.specs.Words.{covers}
 use Rattle.stream_law.specs.Receivers as receivers
-use Rattle.stream_law.specs.Receivers.{Receiver}
-use Rattle.host_pairs.specs.Commands.{Found, Unconnected, Ending, Open, found_in, at_end, ret_taken, returned, desk_taken}
 use Rattle.host_pairs.specs.Control.{ERRONEOUS}
-use Rattle.host_pairs.specs.Data.{data_of, data_found, data_taken, arrived_if, arrived, is_acceptable, is_covered, spent, text_faulted}
-use Rattle.host_pairs.specs.Desk.{DeskState}
-use Rattle.host_pairs.specs.Entries.{changed_first, has_cls, is_ending, is_open, is_size, receives_on}
-use Rattle.host_pairs.specs.declared.entry.Entry.{Entry}
+use Rattle.host_pairs.specs.Data.{arrived, is_covered, text_faulted}
+use Rattle.host_pairs.specs.Entries.{is_ending, is_size}
 use Rattle.host_pairs.proofs.lemmas.{header_covers}
 use Rattle.host_pairs.specs.declared.notice.Notice.{Notice}
 use Rattle.host_pairs.specs.declared.notice.Notice.TheVariants as notice
-use Rattle.stream_law.proofs.lemmas.{for_here, some_is}
+use Rattle.stream_law.proofs.lemmas.{some_is}
 use Rattle.host_keeps_streams.specs.Said.{arrivals}
-use Rattle.host_keeps_streams.specs.Ends.{has_opened, IsReceiver, AreReceiver, HasReceiver}
 use Rattle.host_keeps_streams.proofs.Lists.{find_passes, none_is, first_is, missed, Here, here}
 
 open_bool : (a x y : Bool) → (a && not x && not y) ≡ (a && not (x || y))

@@ -1,27 +1,9 @@
 -- What a user's requests are on a link.
-use Rattle.std.proofs.Common.{◌≡◌, ℕ, Bool, true, false, not, ◌&&◌, ◌==◌, List, [], ◌∷◌, filter, find, Option, Some, None, refl, ap, sym, subst, ◌∙◌, inl, inr}
-use Rattle.std.proofs.lemmas.Bool.{eqb-true}
-use Rattle.ncp_control.specs.Numbers.{is_receive_socket}
+use Rattle.host_keeps_streams.proofs.Common.{◌≡◌, ℕ, Bool, true, false, not, ◌&&◌, ◌==◌, List, [], ◌∷◌, filter, find, Option, Some, None, refl, ap, sym, subst, ◌∙◌, inl, inr, eqb-true, is_receive_socket, Sender, Receiver, for_here, closed_end, passes, receiver_requested, requested, with_end, with_more_bits, granted, desk_of, called_off, is_busy, changed_first, close_due, free_link, is_mine_on, is_open, is_over, is_receiving, is_sent, receiving_end, receives_on, sending_end, sends_on, was_closed, PairState, Closing, Entry, both, AreReceiver, HasReceiver, AreSender, HasSender, IsFormed, AreSound, KeepBox, asks_for, closes, on_link, named, numbers, is_among, IsKnown, AreKnown, IsNewReceived, IsNewSent}
 use Rattle.ncp_control.specs.declared.command.Command.TheVariants as command
 use Rattle.stream_law.specs.Senders as senders
-use Rattle.stream_law.specs.Senders.{Sender}
 use Rattle.stream_law.specs.Receivers as receivers
-use Rattle.stream_law.specs.Receivers.{Receiver}
-use Rattle.stream_law.proofs.lemmas.{for_here}
-use Rattle.host_pairs.specs.Asked.{closed_end, passes, receiver_requested, requested, with_end, with_more_bits}
-use Rattle.host_pairs.specs.Commands.{granted}
-use Rattle.host_pairs.specs.Desk.{desk_of}
-use Rattle.host_pairs.specs.Entries.{called_off, is_busy, changed_first, close_due, free_link, is_mine_on, is_open, is_over, is_receiving, is_sent, receiving_end, receives_on, sending_end, sends_on, was_closed}
-use Rattle.host_pairs.specs.Pair.{PairState}
-use Rattle.host_pairs.specs.declared.entry.Closing.{Closing}
 use Rattle.host_pairs.specs.declared.entry.Closing.TheVariants as closing
-use Rattle.host_pairs.specs.declared.entry.Entry.{Entry}
-use Rattle.host_pairs.proofs.lemmas.{both}
-use Rattle.host_keeps_streams.specs.Ends.{AreReceiver, HasReceiver, AreSender, HasSender}
-use Rattle.host_keeps_streams.specs.Formed.{IsFormed, AreSound}
-use Rattle.host_keeps_streams.specs.Histories.{KeepBox}
-use Rattle.host_keeps_streams.specs.Moves.{asks_for, closes, on_link}
-use Rattle.host_keeps_streams.specs.Names.{named, numbers, is_among, IsKnown, AreKnown, IsNewReceived, IsNewSent}
 use Rattle.host_keeps_streams.proofs.Asking as asking
 use Rattle.host_keeps_streams.proofs.Asks.{settled_sound}
 use Rattle.host_keeps_streams.proofs.Boxes.{settled_box}

@@ -1,24 +1,8 @@
 -- What the sender of a link does by a command of its peer.
-use Rattle.std.proofs.Common.{◌≡◌, ℕ, Bool, true, false, not, ◌&&◌, ◌==◌, List, [], ◌∷◌, ◌++◌, filter, Option, Some, None, is_some, refl, ap, sym, subst, ◌∙◌, inl, inr}
-use Rattle.std.proofs.lemmas.Bool.{eqb-true}
-use Rattle.std.specs.List.{list_any}
-use Rattle.interface.specs.Host.{Host}
-use Rattle.ncp_control.specs.Numbers.{is_receive_socket}
+use Rattle.host_keeps_streams.proofs.Common.{◌≡◌, ℕ, Bool, true, false, not, ◌&&◌, ◌==◌, List, [], ◌∷◌, ◌++◌, filter, Option, Some, None, is_some, refl, ap, sym, subst, ◌∙◌, inl, inr, eqb-true, list_any, Host, is_receive_socket, for, Sender, for_here, asked_on_link, rts_heard, rts_taken, rts_taken_by, DeskState, listener_on, changed_first, entry_at, has_cls, is_at, is_link, is_receiving, refused_end, sending_end, sends_on, Entry, Listener, all_sent, MayAllSend, sent_open, NoneOpen, AreSender, HasSender, IsFormed, AreFormed, hears_rts, rts_sent, named, numbers, is_among, AreApart, IsKnown, AreKnown, IsNewSent}
 use Rattle.stream_law.specs.Words as words
-use Rattle.stream_law.specs.Words.{for}
 use Rattle.stream_law.specs.Senders as senders
-use Rattle.stream_law.specs.Senders.{Sender}
-use Rattle.stream_law.proofs.lemmas.{for_here, some_is}
-use Rattle.host_pairs.specs.Commands.{asked_on_link, rts_heard, rts_taken, rts_taken_by}
-use Rattle.host_pairs.specs.Desk.{DeskState, listener_on}
-use Rattle.host_pairs.specs.Entries.{changed_first, entry_at, has_cls, is_at, is_link, is_receiving, refused_end, sending_end, sends_on}
-use Rattle.host_pairs.specs.declared.entry.Entry.{Entry}
-use Rattle.host_pairs.specs.declared.listener.Listener.{Listener}
-use Rattle.host_keeps_streams.specs.Closings.{all_sent, MayAllSend, sent_open}
-use Rattle.host_keeps_streams.specs.Ends.{NoneOpen, AreSender, HasSender}
-use Rattle.host_keeps_streams.specs.Formed.{IsFormed, AreFormed}
-use Rattle.host_keeps_streams.specs.Moves.{hears_rts, rts_sent}
-use Rattle.host_keeps_streams.specs.Names.{named, numbers, is_among, AreApart, IsKnown, AreKnown, IsNewSent}
+use Rattle.stream_law.proofs.lemmas.{some_is}
 use Rattle.host_keeps_streams.proofs.Formed.{formed_found}
 use Rattle.host_keeps_streams.proofs.Known.{Elsewhere, Sent, close_apart, closed_elsewhere, known_append, known_changed, known_found, known_other, known_same, then_sent}
 use Rattle.host_keeps_streams.proofs.Lists.{append_off, append_on, away, joins, none_any}

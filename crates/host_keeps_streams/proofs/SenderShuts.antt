@@ -1,22 +1,11 @@
 -- What the sender of a link does by a CLS of its peer.
-use Rattle.std.proofs.Common.{◌≡◌, ℕ, Bool, true, false, ◌==◌, if◌then◌else◌, List, [], ◌∷◌, ◌++◌, map, filter, Option, Some, None, refl, ap, sym, subst, ◌∙◌, inl, inr, eq-eqb}
-use Rattle.std.proofs.lemmas.Bool.{eqb-true, or_parts}
-use Rattle.interface.specs.Host.{Host}
+use Rattle.host_keeps_streams.proofs.Common.{◌≡◌, ℕ, Bool, true, false, ◌==◌, if◌then◌else◌, List, [], ◌∷◌, ◌++◌, map, filter, Option, Some, None, refl, ap, sym, subst, ◌∙◌, inl, inr, eqb-true, or_parts, Host, for, Sender, cls_taken_by, DeskState, changed_first, close_due, closed_by_partner, entry_at, has_cls, is_busy, is_at, is_over, is_receiving, sends_on, Closing, Entry, all_sent, MayAllSend, IsSender, NoneOpen, AreSender, HasSender, KeepBox, closes, of_end, named, numbers, is_among, AreApart, IsKnown, AreKnown}
+use Rattle.std.proofs.Common.{eq-eqb}
 use Rattle.stream_law.specs.Words as words
-use Rattle.stream_law.specs.Words.{for}
 use Rattle.stream_law.specs.Senders as senders
-use Rattle.stream_law.specs.Senders.{Sender}
-use Rattle.host_pairs.specs.Commands.{cls_taken_by}
-use Rattle.host_pairs.specs.Desk.{DeskState}
-use Rattle.host_pairs.specs.Entries.{changed_at, changed_first, close_due, closed_by_partner, entry_at, has_cls, is_busy, is_at, is_over, is_receiving, sends_on}
-use Rattle.host_pairs.specs.declared.entry.Closing.{Closing}
+use Rattle.host_pairs.specs.Entries.{changed_at}
 use Rattle.host_pairs.specs.declared.entry.Closing.TheVariants as closing
-use Rattle.host_pairs.specs.declared.entry.Entry.{Entry}
-use Rattle.host_keeps_streams.specs.Closings.{all_sent, MayAllSend}
-use Rattle.host_keeps_streams.specs.Ends.{IsSender, NoneOpen, AreSender, HasSender}
-use Rattle.host_keeps_streams.specs.Histories.{KeepBox}
-use Rattle.host_keeps_streams.specs.Moves.{closes, cls_sent, of_end}
-use Rattle.host_keeps_streams.specs.Names.{named, numbers, is_among, AreApart, IsKnown, AreKnown}
+use Rattle.host_keeps_streams.specs.Moves.{cls_sent}
 use Rattle.host_keeps_streams.proofs.Boxes.{keep_both, settled_box}
 use Rattle.host_keeps_streams.proofs.Ending.{shut_one, stays}
 use Rattle.host_keeps_streams.proofs.Known.{Sent, known_changed, known_filter, known_found, then_sent}

@@ -1,27 +1,10 @@
 -- What the sender of a link does by each command of its peer.
-use Rattle.std.proofs.Common.{◌≡◌, ℕ, Bool, true, false, ◌&&◌, ◌==◌, nat_le, if◌then◌else◌, List, [], ◌∷◌, ◌++◌, Option, Some, None, is_some, refl, sym, subst, ◌∙◌}
-use Rattle.std.proofs.lemmas.Bool.{eqb-true}
-use Rattle.std.specs.List.{list_any}
-use Rattle.interface.specs.Host.{Host}
+use Rattle.host_keeps_streams.proofs.Common.{◌≡◌, ℕ, Bool, true, false, ◌&&◌, ◌==◌, nat_le, if◌then◌else◌, List, [], ◌∷◌, ◌++◌, Option, Some, None, is_some, refl, sym, subst, ◌∙◌, eqb-true, list_any, Host, IsCommand, is_receive_socket, Allocation, Command, Sender, Found, Unconnected, Ending, Open, all_taken, asked_with_size, at_end, given_back, granted, gvb_taken, interrupted, ret_taken, returned, receiver_on, rts_taken, sender_on, str_heard, str_linked, str_taken, str_taken_by, desk_taken, DeskState, listener_on, entry_at, free_link, is_at, is_receiving, receiving_end, receives_on, refused_end, sends_on, Entry, Listener, AreSender, HasSender, AreFormed, rts_sent, sent_by, numbers, AreApart, AreKnown, NewSent, LeavesSender}
 use Rattle.ncp_control.specs.Allocation as counters
-use Rattle.ncp_control.specs.Command.{IsCommand}
-use Rattle.ncp_control.specs.Numbers.{is_receive_socket}
-use Rattle.ncp_control.specs.declared.allocation.Allocation.{Allocation}
-use Rattle.ncp_control.specs.declared.command.Command.{Command}
 use Rattle.ncp_control.specs.declared.command.Command.TheVariants as command
 use Rattle.stream_law.specs.Words as words
 use Rattle.stream_law.specs.Senders as senders
-use Rattle.stream_law.specs.Senders.{Sender}
-use Rattle.host_pairs.specs.Commands.{Found, Unconnected, Ending, Open, all_taken, asked_with_size, at_end, given_back, granted, gvb_taken, interrupted, ret_taken, returned, receiver_on, rts_taken, sender_on, str_heard, str_linked, str_taken, str_taken_by, desk_taken}
-use Rattle.host_pairs.specs.Desk.{DeskState, listener_on}
-use Rattle.host_pairs.specs.Entries.{entry_at, free_link, is_at, is_receiving, receiving_end, receives_on, refused_end, sends_on}
-use Rattle.host_pairs.specs.declared.entry.Entry.{Entry}
-use Rattle.host_pairs.specs.declared.listener.Listener.{Listener}
-use Rattle.host_keeps_streams.specs.Ends.{AreSender, HasSender}
-use Rattle.host_keeps_streams.specs.Formed.{AreFormed, FindsFree}
-use Rattle.host_keeps_streams.specs.Moves.{rts_sent, sent_by}
-use Rattle.host_keeps_streams.specs.Names.{numbers, AreApart, AreKnown, NewSent}
-use Rattle.host_keeps_streams.specs.Said.{LeavesSender}
+use Rattle.host_keeps_streams.specs.Formed.{FindsFree}
 use Rattle.host_keeps_streams.proofs.Known.{Sent, known_append, known_changed, known_idle, known_same}
 use Rattle.host_keeps_streams.proofs.Lists.{append_off, away, not_sent, unlike}
 use Rattle.host_keeps_streams.proofs.Quiet.{sender_leaves}

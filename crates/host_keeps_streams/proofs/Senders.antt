@@ -1,30 +1,16 @@
 -- What a sending end does.
-use Rattle.std.proofs.Common.{◌≡◌, ℕ, ◌*◌, Bool, true, false, not, ◌&&◌, ◌||◌, ◌==◌, nat_lt, nat_le, if◌then◌else◌, List, [], ◌∷◌, ◌++◌, length, take, filter, find, Option, Some, None, is_some, refl, ap, sym, subst, ◌∙◌, inl, inr, eq-eqb, append-nil}
-use Rattle.std.proofs.lemmas.Bool.{eqb-true, le-leb, lt-ltb}
-use Rattle.std.proofs.lemmas.List.{length-take-le}
-use Rattle.interface.specs.Host.{Host}
+use Rattle.host_keeps_streams.proofs.Common.{◌≡◌, ℕ, ◌*◌, Bool, not, ◌&&◌, ◌||◌, ◌==◌, nat_lt, nat_le, if◌then◌else◌, List, [], ◌∷◌, ◌++◌, length, take, filter, find, Option, Some, None, is_some, refl, ap, sym, subst, ◌∙◌, inl, inr, append-nil, eqb-true, length-take-le, Host, Allocation, Command, covers, Sender, MaySend, Found, Unconnected, Ending, Open, found_in, at_end, all_taken, granted, gvb_taken, given_back, desk_taken, DeskState, desk_of, changed_first, has_cls, is_busy, is_link, is_open, is_receiving, sends_on, PairState, Bytes, bits_gone, link_of, may_send, may_send_on, next_of, parcel_gone, Entry, Listener, both, what_goes, has_opened, IsSender, NoneOpen, IsLeaving, AreSender, HasSender}
+use Rattle.std.proofs.Common.{true, false, eq-eqb}
+use Rattle.std.proofs.lemmas.Bool.{le-leb, lt-ltb}
 use Rattle.ncp_control.specs.Allocation as counters
 use Rattle.ncp_control.specs.Packing.{packed_count}
-use Rattle.ncp_control.specs.declared.allocation.Allocation.{Allocation}
-use Rattle.ncp_control.specs.declared.command.Command.{Command}
 use Rattle.ncp_control.specs.declared.command.Command.TheVariants as command
-use Rattle.stream_law.specs.Words.{covers}
 use Rattle.stream_law.specs.Senders as senders
-use Rattle.stream_law.specs.Senders.{Sender}
-use Rattle.host_pairs.specs.Allowed.{MaySend}
-use Rattle.host_pairs.specs.Commands.{Found, Unconnected, Ending, Open, found_in, at_end, all_taken, granted, gvb_taken, given_back, desk_taken}
 use Rattle.host_pairs.specs.Control.{error, NOT_CONNECTED}
-use Rattle.host_pairs.specs.Desk.{DeskState, desk_of}
-use Rattle.host_pairs.specs.Entries.{changed_first, has_cls, is_busy, is_link, is_open, is_receiving, sends_on}
-use Rattle.host_pairs.specs.Pair.{PairState}
 use Rattle.ncp_control.specs.Phases.{is_want, is_ready}
-use Rattle.host_pairs.specs.Parcels.{Parcel, Reset, Reply, Commands, Bytes, bits_gone, bytes_by, bytes_of, bytes_on, if_silent, link_of, lowest_link, may_send, may_send_on, next_bytes, next_of, next_of_ready, parcel_gone}
-use Rattle.host_pairs.specs.declared.entry.Entry.{Entry}
-use Rattle.host_pairs.specs.declared.listener.Listener.{Listener}
-use Rattle.host_pairs.proofs.lemmas.{both, what_goes}
+use Rattle.host_pairs.specs.Parcels.{Parcel, Reset, Reply, Commands, bytes_by, bytes_of, bytes_on, if_silent, lowest_link, next_bytes, next_of_ready}
 use Rattle.ncp_control.specs.Command.{spelling}
 use Rattle.host_keeps_streams.specs.Said.{returned_on, returned_in}
-use Rattle.host_keeps_streams.specs.Ends.{has_opened, IsSender, NoneOpen, IsLeaving, AreSender, HasSender}
 use Rattle.host_keeps_streams.proofs.Lists.{find_passes, none_is, first_is, missed, unlike, Here, here}
 use Rattle.host_keeps_streams.proofs.Receivers.{closed_found, open_found}
 

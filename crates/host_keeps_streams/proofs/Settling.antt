@@ -1,17 +1,7 @@
 -- All sending ends that have to close do so, on whatever link they are.
-use Rattle.std.proofs.Common.{◌≡◌, ℕ, Bool, true, false, not, ◌&&◌, ◌==◌, List, [], ◌∷◌, ◌++◌, map, filter, refl, ap, sym, subst, ◌∙◌, inl, inr}
-use Rattle.std.proofs.lemmas.Bool.{or_parts}
+use Rattle.host_keeps_streams.proofs.Common.{◌≡◌, ℕ, Bool, true, false, not, ◌&&◌, ◌==◌, List, [], ◌∷◌, ◌++◌, map, filter, refl, ap, sym, subst, ◌∙◌, inl, inr, or_parts, Sender, for_here, closed_when, is_due, is_drained, is_receiving, must_close, sends_on, Entry, both, not_is, all_sent, MayAllSend, AreSender, HasSender, closes, named, numbers, is_among, AreApart, IsKnown, AreKnown}
 use Rattle.stream_law.specs.Senders as senders
-use Rattle.stream_law.specs.Senders.{Sender}
-use Rattle.stream_law.proofs.lemmas.{for_here}
-use Rattle.host_pairs.specs.Entries.{closed_when, is_due, is_drained, is_receiving, must_close, sends_on}
 use Rattle.host_pairs.specs.declared.entry.Closing.TheVariants as closing
-use Rattle.host_pairs.specs.declared.entry.Entry.{Entry}
-use Rattle.host_pairs.proofs.lemmas.{both, not_is}
-use Rattle.host_keeps_streams.specs.Closings.{all_sent, MayAllSend}
-use Rattle.host_keeps_streams.specs.Ends.{AreSender, HasSender}
-use Rattle.host_keeps_streams.specs.Moves.{closes}
-use Rattle.host_keeps_streams.specs.Names.{named, numbers, is_among, AreApart, IsKnown, AreKnown}
 use Rattle.host_keeps_streams.proofs.Lists.{filter_map, sent_is, unlike}
 use Rattle.host_keeps_streams.proofs.Names.{among_filter, turned}
 use Rattle.host_keeps_streams.proofs.Known.{Sent, close_apart, closed_elsewhere, known_other}

@@ -1,20 +1,7 @@
 -- Each command of a peer leaves ends that are sound.
-use Rattle.std.proofs.Common.{◌≡◌, ℕ, Bool, true, false, not, ◌&&◌, nat_le, List, [], ◌∷◌, ◌++◌, map, filter, find, Option, Some, None, is_some, refl, sym, subst, ◌∙◌}
-use Rattle.std.specs.List.{list_any}
-use Rattle.interface.specs.Host.{Host}
+use Rattle.host_keeps_streams.proofs.Common.{◌≡◌, ℕ, Bool, true, false, not, ◌&&◌, nat_le, List, [], ◌∷◌, ◌++◌, map, filter, find, Option, Some, None, is_some, refl, sym, subst, ◌∙◌, list_any, Host, IsCommand, is_receive_socket, Command, Found, Unconnected, Ending, Open, all_taken, asked_on_link, asked_with_size, at_end, cls_taken_by, given_back, granted, gvb_taken, interrupted, ret_taken, returned, receiver_on, rts_heard, rts_taken, rts_taken_by, sender_on, str_heard, str_linked, str_taken_by, desk_taken, DeskState, listener_on, changed_first, closed_by_partner, entry_at, free_link, is_at, is_link, is_receiving, receiving_end, receives_on, refused_end, sending_end, sends_on, Entry, Listener, both, IsFormed, AreSound, named, numbers, is_among, AreApart, NewNumber}
 use Rattle.ncp_control.specs.Allocation as counters
-use Rattle.ncp_control.specs.Command.{IsCommand}
-use Rattle.ncp_control.specs.Numbers.{is_receive_socket}
-use Rattle.ncp_control.specs.declared.command.Command.{Command}
 use Rattle.ncp_control.specs.declared.command.Command.TheVariants as command
-use Rattle.host_pairs.specs.Commands.{Found, Unconnected, Ending, Open, all_taken, asked_on_link, asked_with_size, at_end, cls_taken_by, given_back, granted, gvb_taken, interrupted, ret_taken, returned, receiver_on, rts_heard, rts_taken, rts_taken_by, sender_on, str_heard, str_linked, str_taken_by, desk_taken}
-use Rattle.host_pairs.specs.Desk.{DeskState, listener_on}
-use Rattle.host_pairs.specs.Entries.{changed_first, closed_by_partner, entry_at, free_link, is_at, is_link, is_receiving, receiving_end, receives_on, refused_end, sending_end, sends_on}
-use Rattle.host_pairs.specs.declared.entry.Entry.{Entry}
-use Rattle.host_pairs.specs.declared.listener.Listener.{Listener}
-use Rattle.host_pairs.proofs.lemmas.{both}
-use Rattle.host_keeps_streams.specs.Formed.{IsFormed, AreSound}
-use Rattle.host_keeps_streams.specs.Names.{named, numbers, is_among, AreApart, NewNumber}
 use Rattle.host_keeps_streams.proofs.Ending.{shut_one, stays}
 use Rattle.host_keeps_streams.proofs.Formed.{answering_formed, counted_formed, formed_append, formed_changed, formed_found, formed_shut, formed_some, link_there, linked_formed, on_link_formed, refused_formed, with_size_formed}
 use Rattle.host_keeps_streams.proofs.Names.{apart_append, apart_changed, apart_filter, numbers_mapped}

@@ -1,13 +1,8 @@
 -- Ends go where both CLS have passed, whether they settle before or after.
-use Rattle.std.proofs.Common.{◌≡◌, ℕ, Bool, true, false, not, ◌&&◌, if◌then◌else◌, List, [], ◌∷◌, map, filter, refl, ap, ◌∙◌}
+use Rattle.host_keeps_streams.proofs.Common.{◌≡◌, ℕ, Bool, not, ◌&&◌, if◌then◌else◌, List, [], ◌∷◌, map, filter, refl, ap, ◌∙◌, is_drained, is_due, is_receiving, is_sent, must_close, Closing, Entry, both, closes, named}
+use Rattle.std.proofs.Common.{true, false}
 use Rattle.stream_law.specs.Senders as senders
-use Rattle.host_pairs.specs.Entries.{is_drained, is_due, is_receiving, is_sent, must_close}
-use Rattle.host_pairs.specs.declared.entry.Closing.{Closing}
 use Rattle.host_pairs.specs.declared.entry.Closing.TheVariants as closing
-use Rattle.host_pairs.specs.declared.entry.Entry.{Entry}
-use Rattle.host_pairs.proofs.lemmas.{both}
-use Rattle.host_keeps_streams.specs.Moves.{closes}
-use Rattle.host_keeps_streams.specs.Names.{named}
 use Rattle.host_keeps_streams.proofs.Ending.{shut_one, stays}
 
 pub over_stays : (busy : List ℕ) (e : Entry) → stays (shut_one busy e) ≡ stays e

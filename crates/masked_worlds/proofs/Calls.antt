@@ -1,27 +1,15 @@
 -- What comes in to a host and goes out of it, without the strangers among its peers.
-use Rattle.std.proofs.Common.{◌≡◌, ℕ, ◌||◌, not, Bool, true, false, List, [], Option, Some, refl, ap, sym, ◌∙◌}
-use Rattle.std.proofs.Common.{if◌then◌else◌}
-use Rattle.interface.specs.Host.{Host, same_host}
-use Rattle.interface.specs.declared.address.Flow.{Flow}
-use Rattle.interface.specs.declared.crossing.Answer.{Answer}
+use Rattle.masked_worlds.proofs.Common.{◌≡◌, ℕ, ◌||◌, not, Bool, true, false, List, [], Option, Some, refl, ap, sym, ◌∙◌, if◌then◌else◌, Host, same_host, Flow, Answer, HostMessage, desk_of, PairState, Parcel, TurnState, message_taken, Listener, after_turn, turn_of, NcpState, pair_with, AreInOrder, next_in, Peer, without_strangers}
 use Rattle.interface.specs.declared.crossing.Answer.TheVariants as answer
 use Rattle.interface.specs.declared.crossing.Inbound.TheVariants as inbound
-use Rattle.interface.specs.declared.message.HostMessage.{HostMessage}
 use Rattle.ncp_control.specs.declared.phase.Phase.{Phase}
 use Rattle.ncp_control.specs.declared.phase.Phase.TheVariants as phase
-use Rattle.host_pairs.specs.Desk.{desk_of}
 use Rattle.host_pairs.specs.Entries.{is_busy}
-use Rattle.host_pairs.specs.Pair.{PairState}
-use Rattle.host_pairs.specs.Parcels.{Parcel, pair_after, parcel_gone}
-use Rattle.host_pairs.specs.Turn.{TurnState, answered_turn, failed_by, freed, is_gone, message_taken, settled_turn}
-use Rattle.host_pairs.specs.declared.listener.Listener.{Listener}
+use Rattle.host_pairs.specs.Parcels.{pair_after, parcel_gone}
+use Rattle.host_pairs.specs.Turn.{answered_turn, failed_by, freed, is_gone, settled_turn}
 use Rattle.host_pairs.specs.declared.notice.Notice.{Notice}
-use Rattle.sockets.specs.Accepting.{accepted, after_turn, turn_of, with_turn}
-use Rattle.sockets.specs.Pairs.{NcpState, pair_with}
-use Rattle.sockets.specs.Peers.{AreInOrder}
-use Rattle.sockets.specs.Sending.{next_in, offered, offered_by}
-use Rattle.sockets.specs.declared.peer.Peer.{Peer}
-use Rattle.masked_worlds.specs.Among.{without_strangers}
+use Rattle.sockets.specs.Accepting.{accepted, with_turn}
+use Rattle.sockets.specs.Sending.{offered, offered_by}
 use Rattle.masked_worlds.proofs.Peers.{next_among, pair_among, put_among, put_aside}
 
 -- ---- an answer leaves what listens

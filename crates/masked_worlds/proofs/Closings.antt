@@ -1,21 +1,12 @@
 -- Sockets that a stranger's message made stop listening, closed one after the other by their user.
-use Rattle.std.proofs.Common.{◌≡◌, ℕ, ◌==◌, ◌&&◌, ◌||◌, not, Bool, true, false, List, [], ◌∷◌, filter, None, refl, ap}
-use Rattle.std.proofs.Common.{sym, subst, ◌∙◌, eq-eqb, if◌then◌else◌}
+use Rattle.masked_worlds.proofs.Common.{◌≡◌, ℕ, ◌==◌, ◌&&◌, ◌||◌, not, Bool, true, false, List, [], ◌∷◌, filter, None, refl, ap, sym, subst, ◌∙◌, if◌then◌else◌, Host, same_host, Crossing, or_false, same_host-refl, listens_on, without_listener, Listener, NcpState, Moment, IsTimeline, crossings_of, OnlyStop, closed, stopped}
+use Rattle.std.proofs.Common.{eq-eqb}
 use Rattle.std.proofs.lemmas.Bool.{eqb-true}
 use Rattle.std.proofs.lemmas.Map.Views.{any-filter_same}
-use Rattle.interface.specs.Host.{Host, same_host}
 use Rattle.interface.specs.Mailboxes as mail
-use Rattle.interface.specs.declared.crossing.Crossing.{Crossing}
-use Rattle.interface.proofs.lemmas.{or_false, same_host-refl}
-use Rattle.host_pairs.specs.Desk.{listens_on, without_listener}
-use Rattle.host_pairs.specs.declared.listener.Listener.{Listener}
-use Rattle.sockets.specs.Pairs.{NcpState}
 use Rattle.sockets.specs.Requests.{refusal, served}
 use Rattle.sockets.specs.declared.request.Request.TheVariants as request
-use Rattle.net_sim.specs.Story.{Moment, program}
-use Rattle.net_sim.specs.Timeline.{IsTimeline, crossings_of}
-use Rattle.masked_worlds.specs.Among.{OnlyStop}
-use Rattle.masked_worlds.specs.Mixed.{closed, stopped}
+use Rattle.net_sim.specs.Story.{program}
 use Rattle.masked_worlds.proofs.Listening.{filter_all, filter_twice}
 
 -- ---- tests of sockets

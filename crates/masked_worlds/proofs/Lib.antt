@@ -1,3 +1,4 @@
+pub mod Common
 pub mod Logs
 pub mod Peers
 pub mod Calls

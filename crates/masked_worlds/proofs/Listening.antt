@@ -1,12 +1,9 @@
 -- By whatever a message says, sockets of the host that takes it only stop listening.
-use Rattle.std.proofs.Common.{◌≡◌, ℕ, ◌==◌, ◌&&◌, not, nat_le, Bool, true, false, List, [], ◌∷◌, filter, Option, Some}
-use Rattle.std.proofs.Common.{None, is_some, refl, ap, sym, ◌∙◌, if◌then◌else◌}
+use Rattle.masked_worlds.proofs.Common.{◌≡◌, ℕ, ◌==◌, ◌&&◌, not, Bool, true, false, List, [], ◌∷◌, filter, Option, Some, None, is_some, refl, ap, sym, ◌∙◌, if◌then◌else◌, Host, same_host, HostMessage, is_ready, desk_of, entry_at, free_link, TurnState, message_taken, Entry, Listener, after_turn, turn_of, NcpState, OnlyStop}
+use Rattle.std.proofs.Common.{nat_le}
 use Rattle.std.specs.List.{list_any}
-use Rattle.interface.specs.Host.{Host, same_host}
 use Rattle.interface.specs.declared.crossing.Inbound.TheVariants as inbound
-use Rattle.interface.specs.declared.message.HostMessage.{HostMessage}
 use Rattle.ncp_control.specs.DataHeader.{data_bits, header_of}
-use Rattle.ncp_control.specs.Phases.{is_ready}
 use Rattle.ncp_control.specs.declared.command.Command.{Command}
 use Rattle.ncp_control.specs.declared.command.Command.TheVariants as command
 use Rattle.ncp_control.specs.declared.data_header.DataHeader.{DataHeader}
@@ -16,16 +13,12 @@ use Rattle.host_pairs.specs.Commands.{matched, matched_once, receiver_on, ret_ta
 use Rattle.host_pairs.specs.Commands.{rts_taken_by, sender_on, str_heard, str_linked, str_taken_by}
 use Rattle.host_pairs.specs.Control.{ERRONEOUS, Legal, Order, Wrong, error, orders_of}
 use Rattle.host_pairs.specs.Data.{arrived, arrived_if, data_found, data_taken, is_acceptable, text_faulted}
-use Rattle.host_pairs.specs.Desk.{DeskState, command_queued, desk_of, desk_told, listener_on, settled, swept}
-use Rattle.host_pairs.specs.Entries.{closed_by_partner, entry_at, free_link, is_at, receives_on, sends_on}
-use Rattle.host_pairs.specs.Turn.{TurnState, command_taken, if_ready, message_taken, order_taken, orders_taken}
+use Rattle.host_pairs.specs.Desk.{DeskState, command_queued, desk_told, listener_on, settled, swept}
+use Rattle.host_pairs.specs.Entries.{closed_by_partner, is_at, receives_on, sends_on}
+use Rattle.host_pairs.specs.Turn.{command_taken, if_ready, order_taken, orders_taken}
 use Rattle.host_pairs.specs.Turn.{with_desk}
-use Rattle.host_pairs.specs.declared.entry.Entry.{Entry}
-use Rattle.host_pairs.specs.declared.listener.Listener.{Listener}
 use Rattle.host_pairs.specs.declared.notice.Notice.TheVariants as notice
-use Rattle.sockets.specs.Accepting.{accepted, after_turn, turn_of}
-use Rattle.sockets.specs.Pairs.{NcpState}
-use Rattle.masked_worlds.specs.Among.{OnlyStop}
+use Rattle.sockets.specs.Accepting.{accepted}
 
 -- ---- what is left of a list
 

@@ -1,14 +1,10 @@
 -- A log whose strangers are masked is a run of the mailboxes, and the other hosts have of it what they had.
-use Rattle.std.proofs.Common.{◌≡◌, ℕ, suc, Bool, true, false, if◌then◌else◌, List, [], ◌∷◌, length, Option, Some}
-use Rattle.std.proofs.Common.{None, refl, ap, sym, subst, ◌∙◌}
-use Rattle.interface.specs.Host.{Host, same_host, is_host}
-use Rattle.interface.specs.Mailboxes.{Box, Fits, IsRun, Needs, WaitsWith, box_of, is_up, same_flow, touched}
+use Rattle.masked_worlds.proofs.Common.{◌≡◌, ℕ, Bool, if◌then◌else◌, List, [], ◌∷◌, length, Option, Some, None, refl, ap, sym, subst, ◌∙◌, Host, same_host, is_host, same_flow, Flow, Crossing, same_flow-true, same_host-true, masked_as, masked_log, strange_end, stranger_in, turn}
+use Rattle.std.proofs.Common.{suc, true, false}
+use Rattle.interface.specs.Mailboxes.{Box, Fits, IsRun, Needs, WaitsWith, box_of, is_up, touched}
 use Rattle.interface.specs.Mailboxes.{up_after_crossing}
-use Rattle.interface.specs.declared.address.Flow.{Flow}
-use Rattle.interface.specs.declared.crossing.Crossing.{Crossing}
 use Rattle.interface.specs.declared.crossing.Crossing.TheVariants as crossing
-use Rattle.interface.proofs.lemmas.{same_flow-true, same_host-true}
-use Rattle.masked_worlds.specs.Strangers.{if_stranger, masked_as, masked_log, strange_end, stranger_in, turn}
+use Rattle.masked_worlds.specs.Strangers.{if_stranger}
 
 pub masked_length : (strange : Host → Bool) (hosts : List Host) (log : List Crossing)
     → length (masked_log strange hosts log) ≡ length log

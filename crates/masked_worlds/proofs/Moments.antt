@@ -1,33 +1,19 @@
 -- Mixed moments without the strangers are a timeline of hosts all of which have programs.
-use Rattle.std.proofs.Common.{◌≡◌, ◌⊎◌, inl, inr, ℕ, ◌||◌, Bool, true, false, List, [], ◌∷◌, length, Option, Some}
-use Rattle.std.proofs.Common.{None, refl, ap, sym, subst, ◌∙◌, if◌then◌else◌}
-use Rattle.interface.specs.Host.{Host, IsAddress, is_host, same_host}
+use Rattle.masked_worlds.proofs.Common.{◌≡◌, ℕ, ◌||◌, Bool, true, false, List, [], ◌∷◌, length, Option, Some, None, refl, ap, sym, subst, ◌∙◌, if◌then◌else◌, Host, is_host, same_host, same_flow, Flow, Answer, Crossing, HostMessage, same_flow-true, same_host-refl, same_host-true, Parcel, peer_of, NcpState, AreInOrder, next_in, Peer, Request, Asked, Crossed, Moment, program, IsTimeline, crossings_of, host_in, is_of_stranger, without_strangers, closed, masked_crossing, masked_moments, stopped, masked_as, masked_log, strange_end, stranger_in, turn}
+use Rattle.std.proofs.Common.{◌⊎◌, inl, inr}
+use Rattle.interface.specs.Host.{IsAddress}
 use Rattle.interface.specs.Mailboxes as mail
-use Rattle.interface.specs.Mailboxes.{same_flow}
-use Rattle.interface.specs.declared.address.Flow.{Flow}
-use Rattle.interface.specs.declared.crossing.Answer.{Answer}
-use Rattle.interface.specs.declared.crossing.Crossing.{Crossing}
 use Rattle.interface.specs.declared.crossing.Crossing.TheVariants as crossing
 use Rattle.interface.specs.declared.crossing.Inbound.TheVariants as inbound
-use Rattle.interface.specs.declared.message.HostMessage.{HostMessage}
-use Rattle.interface.proofs.lemmas.{same_flow-true, same_host-refl, same_host-true}
-use Rattle.host_pairs.specs.Parcels.{Parcel}
 use Rattle.host_services.specs.Named.{IsAddressed}
 use Rattle.sockets.specs.Accepting.{accepted}
-use Rattle.sockets.specs.Others.{peer_of}
-use Rattle.sockets.specs.Pairs.{NcpState, opening_state}
-use Rattle.sockets.specs.Peers.{AreInOrder}
+use Rattle.sockets.specs.Pairs.{opening_state}
 use Rattle.sockets.specs.Requests.{refusal, served}
-use Rattle.sockets.specs.Sending.{message_for, message_of, next_in, next_out, offered}
-use Rattle.sockets.specs.declared.peer.Peer.{Peer}
-use Rattle.sockets.specs.declared.request.Request.{Request}
-use Rattle.net_sim.specs.Story.{Asked, Crossed, Moment, places, program, program_after}
-use Rattle.net_sim.specs.Timeline.{Happens, IsTimeline, crossings_of}
-use Rattle.net_sim.specs.Told.{host_in}
+use Rattle.sockets.specs.Sending.{message_for, message_of, next_out, offered}
+use Rattle.net_sim.specs.Story.{places, program_after}
+use Rattle.net_sim.specs.Timeline.{Happens}
 use Rattle.net_sim.proofs.lemmas.{places_same, up_host}
-use Rattle.masked_worlds.specs.Among.{is_of_stranger, without_strangers}
-use Rattle.masked_worlds.specs.Mixed.{IsMixed, closed, closed_by, masked_crossing, masked_moments, stopped}
-use Rattle.masked_worlds.specs.Strangers.{masked_as, masked_log, strange_end, stranger_in, turn}
+use Rattle.masked_worlds.specs.Mixed.{IsMixed, closed_by}
 use Rattle.masked_worlds.proofs.Calls.{answer_among, answer_aside, message_among, message_aside, offer_among}
 use Rattle.masked_worlds.proofs.Calls.{offer_aside}
 use Rattle.masked_worlds.proofs.Closings.{closed_crossings, closed_elsewhere, closes, closes_in_time}

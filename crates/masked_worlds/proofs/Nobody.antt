@@ -1,12 +1,6 @@
 -- Moments without strangers.
-use Rattle.std.proofs.Common.{◌≡◌, ◌||◌, Bool, false, List, [], ◌∷◌, Option, Some, None, refl, ap, ◌∙◌, if◌then◌else◌}
-use Rattle.interface.specs.Host.{Host}
-use Rattle.sockets.specs.Others.{peer_of}
-use Rattle.net_sim.specs.Story.{Asked, Crossed, Moment, program}
-use Rattle.net_sim.specs.Timeline.{IsTimeline}
-use Rattle.net_sim.specs.Told.{host_in}
-use Rattle.masked_worlds.specs.Among.{is_of_stranger}
-use Rattle.masked_worlds.specs.Mixed.{AreMixed, masked_crossing, masked_moments}
+use Rattle.masked_worlds.proofs.Common.{◌≡◌, ◌||◌, Bool, false, List, [], ◌∷◌, Option, Some, None, refl, ap, ◌∙◌, if◌then◌else◌, Host, peer_of, Asked, Crossed, Moment, program, IsTimeline, host_in, is_of_stranger, masked_crossing, masked_moments}
+use Rattle.masked_worlds.specs.Mixed.{AreMixed}
 use Rattle.masked_worlds.proofs.Logs.{no_stranger}
 
 -- a timeline is mixed

@@ -1,20 +1,16 @@
 -- The peers of a host without the strangers among them.
-use Rattle.std.proofs.Common.{◌≡◌, ℕ, ◌<◌, ◌≤◌, nat_lt, not, Bool, true, false, List, [], ◌∷◌, filter, find, Option}
-use Rattle.std.proofs.Common.{Some, None, refl, ap, sym, subst, ◌∙◌, if◌then◌else◌, arith}
+use Rattle.masked_worlds.proofs.Common.{◌≡◌, ℕ, not, Bool, false, List, [], ◌∷◌, filter, Option, Some, None, refl, ap, sym, subst, ◌∙◌, if◌then◌else◌, Host, same_host, same_host-true, PairState, Parcel, Entry, owner_host, owner_of, pair_with, with_pair, AreInOrder, next_in, Peer, among, is_of_stranger}
+use Rattle.std.proofs.Common.{◌<◌, ◌≤◌, nat_lt, true, find}
+use Rattle.std.proofs.Common.{arith}
 use Rattle.std.proofs.lemmas.Bool.{ltb-false, ltb-true}
-use Rattle.interface.specs.Host.{Host, address_octet, same_host}
-use Rattle.interface.proofs.lemmas.{same_host-true}
+use Rattle.interface.specs.Host.{address_octet}
 use Rattle.host_pairs.specs.Entries.{is_mine_on}
-use Rattle.host_pairs.specs.Pair.{PairState, is_opening}
-use Rattle.host_pairs.specs.Parcels.{Parcel, next_of}
-use Rattle.host_pairs.specs.declared.entry.Entry.{Entry}
-use Rattle.sockets.specs.Others.{owner_host}
-use Rattle.sockets.specs.Pairs.{owner_first, owner_of, pair_in, pair_with, placed, with_pair, without_peer}
-use Rattle.sockets.specs.Peers.{AreInOrder, StandAbove}
-use Rattle.sockets.specs.Sending.{next_in, parcel_for}
-use Rattle.sockets.specs.declared.peer.Peer.{Peer}
+use Rattle.host_pairs.specs.Pair.{is_opening}
+use Rattle.host_pairs.specs.Parcels.{next_of}
+use Rattle.sockets.specs.Pairs.{owner_first, pair_in, placed, without_peer}
+use Rattle.sockets.specs.Peers.{StandAbove}
+use Rattle.sockets.specs.Sending.{parcel_for}
 use Rattle.sockets.proofs.lemmas.{same_octet}
-use Rattle.masked_worlds.specs.Among.{among, is_of_stranger}
 use Rattle.masked_worlds.proofs.Logs.{other_host}
 
 -- ---- filters

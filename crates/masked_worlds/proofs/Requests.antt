@@ -1,30 +1,17 @@
 -- What a user asks for, without the strangers among the host's peers.
-use Rattle.std.proofs.Common.{◌≡◌, ℕ, ◌&&◌, not, Bool, true, false, List, length, Option, Some, None, is_some, refl}
-use Rattle.std.proofs.Common.{ap, sym, ◌∙◌, if◌then◌else◌}
-use Rattle.interface.specs.Host.{Host}
-use Rattle.interface.proofs.lemmas.{or_false}
+use Rattle.masked_worlds.proofs.Common.{◌≡◌, ℕ, ◌&&◌, not, Bool, true, false, List, length, Option, Some, None, is_some, refl, ap, sym, ◌∙◌, if◌then◌else◌, Host, or_false, is_ready, listens_on, without_listener, entry_at, free_link, PairState, Entry, owner_host, peer_of, NcpState, owner_of, pair_with, with_pair, AreInOrder, Peer, Request, among, is_of_stranger, without_strangers}
 use Rattle.ncp_control.specs.Numbers.{is_byte_size, is_receive_socket, is_send_socket}
-use Rattle.ncp_control.specs.Phases.{is_ready}
 use Rattle.ncp_control.specs.declared.command.Command.TheVariants as command
 use Rattle.host_pairs.specs.Asked.{closed_end, commanded, contact_notices, contacted, interrupt_of}
 use Rattle.host_pairs.specs.Asked.{receiver_requested, requested, with_end, with_more_bits}
 use Rattle.host_pairs.specs.Commands.{granted}
-use Rattle.host_pairs.specs.Desk.{listens_on, without_listener}
-use Rattle.host_pairs.specs.Entries.{entry_at, free_link, sending_end}
-use Rattle.host_pairs.specs.Pair.{PairState}
+use Rattle.host_pairs.specs.Entries.{sending_end}
 use Rattle.host_pairs.specs.Parcels.{link_of}
-use Rattle.host_pairs.specs.declared.entry.Entry.{Entry}
-use Rattle.sockets.specs.Others.{owner_host, peer_of}
-use Rattle.sockets.specs.Pairs.{NcpState, owner_of, pair_with, with_pair}
-use Rattle.sockets.specs.Peers.{AreInOrder}
 use Rattle.sockets.specs.Requests.{at_owner, close_fault, closing_fault, first_if, grant_fault, is_taken, is_used}
 use Rattle.sockets.specs.Requests.{on_open, refusal, send_fault, served, served_notices, with_peer}
 use Rattle.sockets.specs.declared.fault.NcpFault.{NcpFault}
 use Rattle.sockets.specs.declared.fault.NcpFault.TheVariants as fault
-use Rattle.sockets.specs.declared.peer.Peer.{Peer}
-use Rattle.sockets.specs.declared.request.Request.{Request}
 use Rattle.sockets.specs.declared.request.Request.TheVariants as request
-use Rattle.masked_worlds.specs.Among.{among, is_of_stranger, without_strangers}
 use Rattle.masked_worlds.proofs.Peers.{owner_among, pair_among, put_among, put_aside}
 
 none_is : (o : Option (Host × Entry)) → is_some o ≡ false → o ≡ None

@@ -1,12 +1,5 @@
 -- The lives among hosts with programs, and what is beside them, through all that is done to a list of lives.
-use Rattle.std.proofs.Common.{◌≡◌, suc, ◌&&◌, not, Bool, true, false, List, [], ◌∷◌, ◌++◌, length, refl, ap, sym, ◌∙◌}
-use Rattle.std.proofs.Common.{if◌then◌else◌}
-use Rattle.interface.specs.Host.{Host}
-use Rattle.promise.specs.declared.life.Fate.{Fate}
-use Rattle.promise.specs.declared.life.Life.{Life}
-use Rattle.net_sim.specs.Book.{changed_when, fates_where, handed_to, where_it}
-use Rattle.world_keeps_lives.proofs.lemmas.{Each}
-use Rattle.mixed_worlds.specs.Book.{beside_among, is_among, lives_among}
+use Rattle.mixed_worlds.proofs.Common.{◌≡◌, suc, ◌&&◌, not, Bool, true, false, List, [], ◌∷◌, ◌++◌, length, refl, ap, sym, ◌∙◌, if◌then◌else◌, Host, Fate, Life, changed_when, fates_where, handed_to, where_it, Each, beside_among, is_among, lives_among}
 
 -- a change that leaves whose life it is
 abbrev pub Leaves : (Life → Life) → Type 0

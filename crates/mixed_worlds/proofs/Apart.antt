@@ -1,31 +1,13 @@
 -- What a call about one peer reports of a socket on which that peer has no end: no data, and nothing that is returned.
-use Rattle.std.proofs.Common.{◌≡◌, ℕ, ◌==◌, ◌&&◌, ◌||◌, Bool, true, false, List, [], ◌∷◌, take, Option, Some, is_some}
-use Rattle.std.proofs.Common.{refl, ap, sym, subst, ◌∙◌, if◌then◌else◌}
-use Rattle.interface.specs.Host.{Host}
-use Rattle.interface.specs.declared.address.Flow.{Flow}
-use Rattle.interface.specs.declared.crossing.Answer.{Answer}
+use Rattle.mixed_worlds.proofs.Common.{◌≡◌, ℕ, ◌==◌, ◌&&◌, ◌||◌, Bool, true, false, List, [], ◌∷◌, take, Option, Some, is_some, refl, ap, sym, subst, ◌∙◌, if◌then◌else◌, Host, Flow, Answer, HostMessage, Command, Order, is_mine_on, is_open, Parcel, next_of, Entry, Notice, what_goes, accepted, NcpState, pair_with, AreInOrder, next_in, offered, Peer, next_is, next_pair, mine_on, Begins, Each, Goes, Hears, IsOther, MayTell, Quiet, Rules, found_in, message_keeps, offer_keeps, open_mine}
 use Rattle.interface.specs.declared.crossing.Inbound.TheVariants as inbound
-use Rattle.interface.specs.declared.message.HostMessage.{HostMessage}
-use Rattle.ncp_control.specs.declared.command.Command.{Command}
-use Rattle.host_pairs.specs.Control.{Order}
-use Rattle.host_pairs.specs.Entries.{is_mine_on, is_open}
 use Rattle.host_pairs.specs.Parcels as parcel
-use Rattle.host_pairs.specs.Parcels.{Parcel, next_of}
-use Rattle.host_pairs.specs.declared.entry.Entry.{Entry}
-use Rattle.host_pairs.specs.declared.notice.Notice.{Notice}
 use Rattle.host_pairs.specs.declared.notice.Notice.TheVariants as notice
-use Rattle.host_pairs.proofs.lemmas.{what_goes}
-use Rattle.sockets.specs.Accepting.{accepted}
-use Rattle.sockets.specs.Pairs.{NcpState, pair_with}
-use Rattle.sockets.specs.Peers.{AreInOrder}
-use Rattle.sockets.specs.Sending.{next_in, offered}
-use Rattle.sockets.specs.declared.peer.Peer.{Peer}
-use Rattle.sockets.proofs.lemmas.{next_is, next_pair}
 use Rattle.host_keeps_ranges.specs.Ranges.{AreCommands}
 use Rattle.host_keeps_streams.proofs.lemmas.Senders as senders
-use Rattle.world_keeps_lives.specs.Lives.{AreRefusing, IsSteady, mine_on}
-use Rattle.world_keeps_lives.proofs.lemmas.{Begins, Each, Goes, Hears, IsOther, IsRefusing, MayTell, Quiet, Rules}
-use Rattle.world_keeps_lives.proofs.lemmas.{answer_keeps, found_in, message_keeps, offer_keeps, open_mine, open_parts}
+use Rattle.world_keeps_lives.specs.Lives.{AreRefusing, IsSteady}
+use Rattle.world_keeps_lives.proofs.lemmas.{IsRefusing}
+use Rattle.world_keeps_lives.proofs.lemmas.{answer_keeps, open_parts}
 
 module _ (k : ℕ) where
   -- a notice that changes no life on this socket

@@ -1,51 +1,19 @@
 -- Both requests of a life of a host that runs the program crossed at its stamps, and what is reported of data has just
 -- crossed, whatever its peer sends.
-use Rattle.std.proofs.Common.{◌≡◌, inl, inr, ℕ, ◌*◌, ◌<◌, Bool, true, false, if◌then◌else◌, zero, suc, List}
-use Rattle.std.proofs.Common.{[], ◌∷◌, ◌++◌, map, take, drop, length, slice_index_or, Some, None}
-use Rattle.std.proofs.Common.{refl, ap, sym, subst, ◌∙◌, arith}
-use Rattle.std.specs.List.{Contains}
+use Rattle.mixed_worlds.proofs.Common.{◌≡◌, inl, inr, ℕ, ◌*◌, ◌<◌, Bool, true, false, if◌then◌else◌, zero, suc, List, [], ◌∷◌, ◌++◌, map, take, drop, length, slice_index_or, Some, None, refl, ap, sym, subst, ◌∙◌, arith, Contains, drop-append_seam, Host, same_host, Flow, Answer, Crossing, HostMessage, same_host-true, header_bits, is_receive_socket, is_send_socket, Command, Legal, Order, orders_of, has_cls, is_ending, PairState, Parcel, Entry, Notice, CrossedAt, data_by, control_flow, accepted, NcpState, opening_state, pair_with, AreInOrder, served, message_for, next_in, offered, answer_leaves, message_leaves, next_pair, offer_leaves, pair_range, Asked, Crossed, Moment, places, program, crossings_of, host_in, notices_by, places_same, Begins, Each, Ends, Goes, Hears, IsOther, MayTell, Quiet, Rules, each_weaker, message_keeps, offer_keeps, request_told, IsMixed, Orders, Says, older, ordered, says, ReportsData}
 use Rattle.std.proofs.lemmas.Bool.{eqb-true}
-use Rattle.std.proofs.Math.Seq.{drop-append_seam}
-use Rattle.interface.specs.Host.{Host, same_host}
-use Rattle.interface.specs.declared.address.Flow.{Flow}
-use Rattle.interface.specs.declared.crossing.Answer.{Answer}
-use Rattle.interface.specs.declared.crossing.Crossing.{Crossing}
 use Rattle.interface.specs.declared.crossing.Crossing.TheVariants as crossing
 use Rattle.interface.specs.declared.crossing.Inbound.TheVariants as inbound
-use Rattle.interface.specs.declared.message.HostMessage.{HostMessage}
-use Rattle.interface.proofs.lemmas.{or_false, same_host-true}
-use Rattle.ncp_control.specs.DataHeader.{header_bits}
-use Rattle.ncp_control.specs.Numbers.{is_receive_socket, is_send_socket}
-use Rattle.ncp_control.specs.declared.command.Command.{Command}
+use Rattle.interface.proofs.lemmas.{or_false}
 use Rattle.ncp_control.specs.declared.command.Command.TheVariants as command
-use Rattle.host_pairs.specs.Control.{Legal, Order, orders_of}
-use Rattle.host_pairs.specs.Entries.{has_cls, is_ending}
-use Rattle.host_pairs.specs.Pair.{PairState}
 use Rattle.host_pairs.specs.Parcels as parcel
-use Rattle.host_pairs.specs.Parcels.{Parcel}
-use Rattle.host_pairs.specs.declared.entry.Entry.{Entry}
-use Rattle.host_pairs.specs.declared.notice.Notice.{Notice}
 use Rattle.host_pairs.specs.declared.notice.Notice.TheVariants as notice
-use Rattle.promise.specs.Formed.{CrossedAt, HasCrossed, coming, data_by, going, request}
-use Rattle.promise.specs.Safe.{control_flow}
-use Rattle.sockets.specs.Accepting.{accepted}
-use Rattle.sockets.specs.Pairs.{NcpState, opening_state, pair_with}
-use Rattle.sockets.specs.Peers.{AreInOrder}
-use Rattle.sockets.specs.Requests.{served}
-use Rattle.sockets.specs.Sending.{message_for, next_in, offered}
-use Rattle.sockets.proofs.lemmas.{answer_leaves, message_leaves, next_pair, offer_leaves}
+use Rattle.promise.specs.Formed.{HasCrossed, coming, going, request}
 use Rattle.host_keeps_ranges.specs.Ranges.{IsReadBack}
-use Rattle.host_keeps_ranges.proofs.lemmas.{offer_read, pair_range}
-use Rattle.net_sim.specs.Story.{Asked, Crossed, Moment, places, program}
-use Rattle.net_sim.specs.Timeline.{crossings_of}
-use Rattle.net_sim.specs.Told.{host_in, notices_by}
-use Rattle.net_sim.proofs.lemmas.{places_same}
+use Rattle.host_keeps_ranges.proofs.lemmas.{offer_read}
 use Rattle.world_keeps_pairing.proofs.lemmas.{send_odd}
-use Rattle.world_keeps_lives.proofs.lemmas.{Begins, Done, Each, Ends, Goes, Hears, IsOther, MayTell, Quiet, Rules}
-use Rattle.world_keeps_lives.proofs.lemmas.{answer_keeps, each_weaker, message_keeps, offer_keeps, request_told}
-use Rattle.masked_worlds.specs.Mixed.{IsMixed}
-use Rattle.masked_worlds.proofs.lemmas.{Orders, Says, older, ordered, says}
-use Rattle.mixed_worlds.specs.Toward.{ReportsData}
+use Rattle.world_keeps_lives.proofs.lemmas.{Done}
+use Rattle.world_keeps_lives.proofs.lemmas.{answer_keeps}
 use Rattle.mixed_worlds.proofs.Quiet.{request_quiet}
 use Rattle.mixed_worlds.proofs.Sockets.{fit}
 

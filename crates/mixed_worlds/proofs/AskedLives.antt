@@ -1,29 +1,11 @@
 -- Each life of a network with strangers is of a host that runs the program, and both its requests crossed.
-use Rattle.std.proofs.Common.{◌≡◌, ℕ, ◌<◌, zero, suc, Bool, true, false, if◌then◌else◌, List, [], ◌∷◌, ◌++◌, length}
-use Rattle.std.proofs.Common.{slice_index_or, is_some, refl, ap, sym, subst, ◌∙◌, arith}
-use Rattle.std.specs.Prelude.{IsSome}
-use Rattle.std.specs.List.{Contains}
-use Rattle.interface.specs.Host.{Host}
-use Rattle.interface.specs.declared.crossing.Crossing.{Crossing}
+use Rattle.mixed_worlds.proofs.Common.{◌≡◌, ℕ, ◌<◌, zero, suc, Bool, true, false, if◌then◌else◌, List, [], ◌∷◌, ◌++◌, length, slice_index_or, is_some, refl, ap, sym, subst, ◌∙◌, arith, IsSome, Contains, Host, Crossing, orders_of, Notice, own_named, partner_named, Life, Request, Kept, all_told, book_told, carried, changed_when, life_ended, lives_asked, lives_at, lives_between, lives_crossed, lives_on, lives_told, lives_with, new_life, returned, where_it, Asked, Crossed, Moment, crossings_of, host_in, kept_by, notices_by, Each, IsMixed, Orders, older, crossed_only, mixed_kept, ReportsData}
 use Rattle.interface.specs.declared.crossing.Crossing.TheVariants as crossing
-use Rattle.host_pairs.specs.Control.{orders_of}
-use Rattle.host_pairs.specs.declared.notice.Notice.{Notice}
 use Rattle.host_pairs.specs.declared.notice.Notice.TheVariants as notice
-use Rattle.promise.specs.Formed.{own_named, partner_named}
-use Rattle.promise.specs.declared.life.Life.{Life}
-use Rattle.sockets.specs.declared.request.Request.{Request}
 use Rattle.sockets.specs.declared.request.Request.TheVariants as request
-use Rattle.net_sim.specs.Book.{Kept, all_told, book_told, carried, changed_when, granted, life_ended, lives_asked}
-use Rattle.net_sim.specs.Book.{lives_at, lives_between, lives_crossed, lives_on, lives_told, lives_with, new_life}
-use Rattle.net_sim.specs.Book.{returned, where_it}
-use Rattle.net_sim.specs.Story.{Asked, Crossed, Moment}
-use Rattle.net_sim.specs.Timeline.{crossings_of}
-use Rattle.net_sim.specs.Told.{host_in, kept_by, notices_by}
-use Rattle.world_keeps_lives.proofs.lemmas.{Each, Names, named_there, names_of}
-use Rattle.masked_worlds.specs.Mixed.{IsMixed}
-use Rattle.masked_worlds.proofs.lemmas.{Orders, older}
-use Rattle.mixed_worlds.specs.Book.{crossed_only, mixed_kept}
-use Rattle.mixed_worlds.specs.Toward.{HasAsked, ReportsData}
+use Rattle.net_sim.specs.Book.{granted}
+use Rattle.world_keeps_lives.proofs.lemmas.{Names, named_there, names_of}
+use Rattle.mixed_worlds.specs.Toward.{HasAsked}
 use Rattle.mixed_worlds.proofs.Asked.{Came, Tells, TellsOfOne, Went, came_still, told, went_still}
 
 pub in_each : {A : Type 0} (Q : A → Type 0) (all : List A) (x : A) → Contains all x → Each Q all → Q x

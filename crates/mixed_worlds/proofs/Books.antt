@@ -1,48 +1,21 @@
 -- The lives among hosts with programs are, in the book of a network with strangers, those of the masked moments.
-use Rattle.std.proofs.Common.{◌≡◌, ◌⊎◌, inl, inr, ℕ, ◌==◌, ◌||◌, Bool, true, false, List, [], ◌∷◌, filter, find}
-use Rattle.std.proofs.Common.{Option, Some, None, refl, ap, sym, subst, ◌∙◌, eq-eqb, if◌then◌else◌}
-use Rattle.std.specs.List.{list_any}
-use Rattle.interface.specs.Host.{Host, same_host}
+use Rattle.mixed_worlds.proofs.Common.{◌≡◌, ◌⊎◌, inl, inr, ℕ, ◌==◌, ◌||◌, Bool, true, false, List, [], ◌∷◌, filter, find, Option, Some, None, refl, ap, sym, subst, ◌∙◌, eq-eqb, if◌then◌else◌, list_any, Host, same_host, Flow, Crossing, HostMessage, is_ready, AreAbout, IsAbout, listens_on, is_mine_on, Entry, Notice, Life, accepted, NcpState, owner_of, pair_with, AreInOrder, offered, Request, message_about, Kept, all_told, asked, crossed, lives_at, Asked, Crossed, Moment, places, program, crossings_of, host_in, kept_in, notices_by, same_host-sym, pair_range, IsMixed, masked_moments, strange_end, stranger_in, turn, Orders, Says, if_is, masked_program, older, ordered, other_host, says, IsFreeSocket, IsLifeOf, IsOwned, mine_on, Each, Holds, is_among, lives_among, mixed_kept}
 use Rattle.interface.specs.Mailboxes as mail
-use Rattle.interface.specs.declared.address.Flow.{Flow}
-use Rattle.interface.specs.declared.crossing.Crossing.{Crossing}
 use Rattle.interface.specs.declared.crossing.Crossing.TheVariants as crossing
 use Rattle.interface.specs.declared.crossing.Inbound.TheVariants as inbound
-use Rattle.interface.specs.declared.message.HostMessage.{HostMessage}
-use Rattle.ncp_control.specs.Phases.{is_ready}
-use Rattle.host_pairs.specs.About.{AreAbout, IsAbout}
-use Rattle.host_pairs.specs.Desk.{listens_on}
-use Rattle.host_pairs.specs.Entries.{is_mine_on}
-use Rattle.host_pairs.specs.declared.entry.Entry.{Entry}
 use Rattle.host_pairs.specs.declared.listener.Listener.{Listener}
-use Rattle.host_pairs.specs.declared.notice.Notice.{Notice}
 use Rattle.host_pairs.specs.declared.notice.Notice.TheVariants as notice
-use Rattle.promise.specs.declared.life.Life.{Life}
-use Rattle.sockets.specs.Accepting.{accepted}
 use Rattle.sockets.specs.Others.{owner_host, peer_of}
-use Rattle.sockets.specs.Pairs.{NcpState, owner_of, pair_with}
-use Rattle.sockets.specs.Peers.{AreInOrder}
 use Rattle.sockets.specs.Requests.{served_notices}
-use Rattle.sockets.specs.Sending.{offered}
-use Rattle.sockets.specs.declared.request.Request.{Request}
 use Rattle.sockets.specs.declared.request.Request.TheVariants as request
-use Rattle.sockets.proofs.lemmas.{answer_about, message_about, offer_about}
-use Rattle.net_sim.specs.Book.{Kept, all_told, asked, crossed, lives_at}
-use Rattle.net_sim.specs.Story.{Asked, Crossed, Moment, places, program}
-use Rattle.net_sim.specs.Timeline.{crossings_of}
-use Rattle.net_sim.specs.Told.{host_in, kept_in, notices_by}
-use Rattle.net_sim.proofs.lemmas.{same_host-sym}
-use Rattle.host_keeps_ranges.proofs.lemmas.{pair_range}
+use Rattle.sockets.proofs.lemmas.{answer_about, offer_about}
 use Rattle.masked_worlds.specs.Among.{is_of_stranger}
-use Rattle.masked_worlds.specs.Mixed.{IsMixed, closed, closed_by, masked_crossing, masked_moments, stopped}
-use Rattle.masked_worlds.specs.Strangers.{strange_end, stranger_in, turn}
-use Rattle.masked_worlds.proofs.lemmas.{Orders, Says, answer_among, end_none, from_stranger, if_is, if_none}
-use Rattle.masked_worlds.proofs.lemmas.{masked_places, masked_program, message_among, notices_among, offer_among}
-use Rattle.masked_worlds.proofs.lemmas.{older, ordered, other_host, says, stranger_is}
-use Rattle.world_keeps_lives.specs.Lives.{IsFreeSocket, IsLifeOf, IsOwned, mine_on}
+use Rattle.masked_worlds.specs.Mixed.{closed, closed_by, masked_crossing, stopped}
+use Rattle.masked_worlds.proofs.lemmas.{answer_among, end_none, from_stranger, if_none}
+use Rattle.masked_worlds.proofs.lemmas.{masked_places, message_among, notices_among, offer_among}
+use Rattle.masked_worlds.proofs.lemmas.{stranger_is}
 use Rattle.world_keeps_lives.specs.Lives as lives
-use Rattle.world_keeps_lives.proofs.lemmas.{Each, Holds, owner_found}
-use Rattle.mixed_worlds.specs.Book.{is_among, lives_among, mixed_kept}
+use Rattle.world_keeps_lives.proofs.lemmas.{owner_found}
 use Rattle.mixed_worlds.proofs.Among.{NoneOf}
 use Rattle.mixed_worlds.proofs.Apart.{IsApart, answer_apart, message_apart, offer_apart}
 pub use Rattle.mixed_worlds.proofs.SameBooks.{SameBook}

@@ -1,29 +1,9 @@
 -- The end of a life keeps the link that it has, whatever its peer sends.
-use Rattle.std.proofs.Common.{◌≡◌, ℕ, ◌<◌, Bool, true, false, List, ◌∷◌, take, Option, Some, None, refl}
-use Rattle.std.proofs.Common.{sym, subst, ◌∙◌, arith}
-use Rattle.interface.specs.Host.{Host, same_host}
+use Rattle.mixed_worlds.proofs.Common.{◌≡◌, ℕ, ◌<◌, Bool, true, false, List, ◌∷◌, take, Option, Some, None, refl, sym, subst, ◌∙◌, arith, Host, same_host, same_host-true, Command, Order, orders_of, PairState, Parcel, Entry, Notice, Life, accepted, opening_state, pair_with, served, offered, answer_leaves, message_leaves, offer_leaves, pair_range, Asked, Crossed, Moment, places, program, Each, Ends, Goes, Hears, MayTell, Quiet, Rules, message_keeps, offer_keeps, IsMixed, Orders, Says, older, ordered}
 use Rattle.interface.specs.declared.crossing.Crossing.TheVariants as crossing
 use Rattle.interface.specs.declared.crossing.Inbound.TheVariants as inbound
-use Rattle.interface.proofs.lemmas.{same_host-true}
-use Rattle.ncp_control.specs.declared.command.Command.{Command}
-use Rattle.host_pairs.specs.Control.{Order, orders_of}
-use Rattle.host_pairs.specs.Pair.{PairState}
 use Rattle.host_pairs.specs.Parcels as parcel
-use Rattle.host_pairs.specs.Parcels.{Parcel}
-use Rattle.host_pairs.specs.declared.entry.Entry.{Entry}
-use Rattle.host_pairs.specs.declared.notice.Notice.{Notice}
-use Rattle.promise.specs.declared.life.Life.{Life}
-use Rattle.sockets.specs.Accepting.{accepted}
-use Rattle.sockets.specs.Pairs.{opening_state, pair_with}
-use Rattle.sockets.specs.Requests.{served}
-use Rattle.sockets.specs.Sending.{offered}
-use Rattle.sockets.proofs.lemmas.{answer_leaves, message_leaves, offer_leaves}
-use Rattle.host_keeps_ranges.proofs.lemmas.{pair_range}
-use Rattle.net_sim.specs.Story.{Asked, Crossed, Moment, places, program}
-use Rattle.world_keeps_lives.proofs.lemmas.{Each, Ends, Goes, Hears, MayTell, Quiet, Rules, answer_keeps}
-use Rattle.world_keeps_lives.proofs.lemmas.{message_keeps, offer_keeps}
-use Rattle.masked_worlds.specs.Mixed.{IsMixed}
-use Rattle.masked_worlds.proofs.lemmas.{Orders, Says, older, ordered}
+use Rattle.world_keeps_lives.proofs.lemmas.{answer_keeps}
 use Rattle.mixed_worlds.proofs.Asked.{if_ends, own_out}
 use Rattle.mixed_worlds.proofs.Quiet.{request_quiet}
 use Rattle.mixed_worlds.proofs.Sockets.{fit}

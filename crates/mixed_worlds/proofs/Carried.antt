@@ -1,32 +1,11 @@
 -- The bits of each life are those of messages on one link, in their order, whatever its peer sends.
-use Rattle.std.proofs.Common.{◌≡◌, ◌⊎◌, inl, inr, ℕ, ◌<◌, ◌==◌, Bool, true, false, if◌then◌else◌}
-use Rattle.std.proofs.Common.{List, [], ◌∷◌, ◌++◌, filter, length, Option}
-use Rattle.std.proofs.Common.{refl, ap, sym, subst, ◌∙◌, arith}
-use Rattle.std.specs.List.{Contains}
+use Rattle.mixed_worlds.proofs.Common.{◌≡◌, ◌⊎◌, inl, inr, ℕ, ◌<◌, ◌==◌, Bool, true, false, if◌then◌else◌, List, [], ◌∷◌, ◌++◌, filter, length, Option, refl, ap, sym, subst, ◌∙◌, arith, Contains, Host, same_host, Flow, Crossing, same_host-true, is_mine_on, Entry, Notice, both, CrossedAt, flow_of, receives, Life, NcpState, pair_with, Request, Kept, all_told, book_told, changed_when, life_ended, lives_asked, lives_at, lives_between, lives_crossed, lives_on, lives_told, lives_with, new_life, returned, where_it, HasOpenEnd, Each, AreOf}
 use Rattle.std.proofs.lemmas.Bool.{eqb-true}
-use Rattle.interface.specs.Host.{Host, same_host}
-use Rattle.interface.specs.declared.address.Flow.{Flow}
-use Rattle.interface.specs.declared.crossing.Crossing.{Crossing}
 use Rattle.interface.specs.declared.crossing.Crossing.TheVariants as crossing
-use Rattle.interface.proofs.lemmas.{same_host-true}
-use Rattle.host_pairs.specs.Entries.{is_mine_on}
 use Rattle.host_pairs.specs.Parcels.{link_of}
-use Rattle.host_pairs.specs.declared.entry.Entry.{Entry}
-use Rattle.host_pairs.specs.declared.notice.Notice.{Notice}
 use Rattle.host_pairs.specs.declared.notice.Notice.TheVariants as notice
-use Rattle.host_pairs.proofs.lemmas.{both}
-use Rattle.promise.specs.Formed.{CrossedAt, flow_of}
-use Rattle.promise.specs.Safe.{receives}
-use Rattle.promise.specs.declared.life.Life.{Life}
-use Rattle.sockets.specs.Pairs.{NcpState, pair_with}
-use Rattle.sockets.specs.declared.request.Request.{Request}
 use Rattle.sockets.specs.declared.request.Request.TheVariants as request
-use Rattle.net_sim.specs.Book.{Kept, all_told, book_told, changed_when, granted, life_ended, lives_asked, lives_at}
-use Rattle.net_sim.specs.Book.{lives_between, lives_crossed, lives_on, lives_told, lives_with, new_life, returned}
-use Rattle.net_sim.specs.Book.{where_it}
-use Rattle.world_keeps_lives.specs.Lives.{HasOpenEnd}
-use Rattle.world_keeps_lives.proofs.lemmas.{Each}
-use Rattle.mixed_worlds.specs.Toward.{AreOf}
+use Rattle.net_sim.specs.Book.{granted}
 use Rattle.mixed_worlds.proofs.AskedLives.{in_each}
 use Rattle.mixed_worlds.proofs.Bound.{Bound}
 

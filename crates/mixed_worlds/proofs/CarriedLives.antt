@@ -1,49 +1,18 @@
 -- The bits of each life of a network with strangers are those of messages on one link, in their order.
-use Rattle.std.proofs.Common.{◌≡◌, inl, inr, ℕ, ◌*◌, ◌<◌, ◌==◌, ◌&&◌, not, Bool, true, false, if◌then◌else◌}
-use Rattle.std.proofs.Common.{List, [], ◌∷◌, ◌++◌, drop, length, take, Option, Some, None, refl, ap, sym, subst, ◌∙◌}
-use Rattle.std.proofs.Common.{eq-eqb}
-use Rattle.std.specs.List.{Contains}
+use Rattle.mixed_worlds.proofs.Common.{◌≡◌, inl, inr, ℕ, ◌*◌, ◌<◌, ◌==◌, ◌&&◌, not, Bool, true, false, if◌then◌else◌, List, [], ◌∷◌, ◌++◌, drop, length, take, Option, Some, None, refl, ap, sym, subst, ◌∙◌, eq-eqb, Contains, drop-append_seam, Host, same_host, Flow, Crossing, HostMessage, same_host-true, data_bits, header_bits, is_receive_socket, data_of, is_mine_on, is_open, receives_on, PairState, Parcel, next_of, Entry, Notice, both, what_goes, pair_range, data_by, flow_of, receives, Life, pair_with, message_for, next_in, next_is, next_pair, all_told, carried, changed_when, lives_at, where_it, Asked, Crossed, Moment, places, program, crossings_of, host_in, kept_by, notices_by, places_same, HasOpenEnd, Each, IsOther, MayTell, Rules, each_weaker, found_in, message_keeps, offer_keeps, open_mine, request_told, IsMixed, Orders, Says, older, ordered, crossed_only, mixed_kept, AreOf}
 use Rattle.std.proofs.lemmas.Bool.{eqb-true}
-use Rattle.std.proofs.Math.Seq.{drop-append_seam}
-use Rattle.interface.specs.Host.{Host, same_host}
-use Rattle.interface.specs.declared.address.Flow.{Flow}
-use Rattle.interface.specs.declared.crossing.Crossing.{Crossing}
 use Rattle.interface.specs.declared.crossing.Crossing.TheVariants as crossing
-use Rattle.interface.specs.declared.message.HostMessage.{HostMessage}
-use Rattle.interface.proofs.lemmas.{same_host-true}
-use Rattle.ncp_control.specs.DataHeader.{data_bits, header_bits}
-use Rattle.ncp_control.specs.Numbers.{is_receive_socket}
 use Rattle.host_pairs.specs.Allowed.{MayGo}
-use Rattle.host_pairs.specs.Data.{data_of}
-use Rattle.host_pairs.specs.Entries.{is_link, is_mine_on, is_open, is_receiving, receives_on}
-use Rattle.host_pairs.specs.Pair.{PairState}
+use Rattle.host_pairs.specs.Entries.{is_link, is_receiving}
 use Rattle.host_pairs.specs.Parcels as parcel
-use Rattle.host_pairs.specs.Parcels.{Parcel, link_of, may_send_on, next_of}
-use Rattle.host_pairs.specs.declared.entry.Entry.{Entry}
-use Rattle.host_pairs.specs.declared.notice.Notice.{Notice}
+use Rattle.host_pairs.specs.Parcels.{link_of, may_send_on}
 use Rattle.host_pairs.specs.declared.notice.Notice.TheVariants as notice
-use Rattle.host_pairs.proofs.lemmas.{both, what_goes}
-use Rattle.host_keeps_ranges.proofs.lemmas.{pair_range}
 use Rattle.host_keeps_streams.proofs.lemmas.Senders as senders
 use Rattle.host_keeps_streams.proofs.lemmas.{find_passes}
-use Rattle.promise.specs.Formed.{AreData, data_by, flow_of}
-use Rattle.promise.specs.Safe.{receives}
-use Rattle.promise.specs.declared.life.Life.{Life}
-use Rattle.sockets.specs.Pairs.{pair_with}
-use Rattle.sockets.specs.Sending.{message_for, next_in}
-use Rattle.sockets.proofs.lemmas.{next_is, next_pair}
-use Rattle.net_sim.specs.Book.{all_told, carried, changed_when, lives_at, where_it}
-use Rattle.net_sim.specs.Story.{Asked, Crossed, Moment, places, program}
-use Rattle.net_sim.specs.Timeline.{crossings_of}
-use Rattle.net_sim.specs.Told.{host_in, kept_by, notices_by}
-use Rattle.net_sim.proofs.lemmas.{places_same}
-use Rattle.world_keeps_lives.specs.Lives.{HasOpenEnd}
-use Rattle.world_keeps_lives.proofs.lemmas.{Each, IsOther, MayTell, Rules, answer_keeps, each_of, each_weaker}
-use Rattle.world_keeps_lives.proofs.lemmas.{found_in, live_end, message_keeps, offer_keeps, open_mine, request_told}
-use Rattle.masked_worlds.specs.Mixed.{IsMixed}
-use Rattle.masked_worlds.proofs.lemmas.{Orders, Says, older, ordered}
-use Rattle.mixed_worlds.specs.Book.{crossed_only, mixed_kept}
-use Rattle.mixed_worlds.specs.Toward.{AreOf, HasData, IsCarried}
+use Rattle.promise.specs.Formed.{AreData}
+use Rattle.world_keeps_lives.proofs.lemmas.{answer_keeps, each_of}
+use Rattle.world_keeps_lives.proofs.lemmas.{live_end}
+use Rattle.mixed_worlds.specs.Toward.{HasData, IsCarried}
 use Rattle.mixed_worlds.proofs.Asked.{Placed, own_out, placed}
 use Rattle.mixed_worlds.proofs.AskedLives.{IsOwn, all_own, in_each}
 use Rattle.mixed_worlds.proofs.Bound.{Bound, stays_bound}

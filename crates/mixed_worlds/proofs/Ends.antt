@@ -1,37 +1,24 @@
 -- Whatever a peer says, of two sockets there is at most one end with it, and what waits of it is what it still has to
 -- say.
-use Rattle.std.proofs.Common.{◌≡◌, ℕ, ◌==◌, ◌&&◌, Bool, true, false, if◌then◌else◌, List, [], ◌∷◌, ◌++◌, Option, Some}
-use Rattle.std.proofs.Common.{None, is_some, refl, ap, sym, subst, ◌∙◌}
-use Rattle.std.specs.List.{list_any}
-use Rattle.interface.specs.Host.{Host, same_host}
+use Rattle.mixed_worlds.proofs.Common.{◌≡◌, ℕ, ◌==◌, ◌&&◌, Bool, true, false, if◌then◌else◌, List, [], ◌∷◌, ◌++◌, Option, Some, None, is_some, refl, ap, sym, subst, ◌∙◌, list_any, Host, same_host, HostMessage, is_ready, Command, ERRONEOUS, Legal, Order, orders_of, data_taken, DeskState, desk_of, close_due, has_cls, PairState, TurnState, if_ready, message_taken, with_desk, Closing, Entry, after_turn, turn_of, NcpState, pair_with, HasSome}
 use Rattle.interface.specs.declared.crossing.Inbound.TheVariants as inbound
-use Rattle.interface.specs.declared.message.HostMessage.{HostMessage}
 use Rattle.ncp_control.specs.Command.{spelling}
-use Rattle.ncp_control.specs.Phases.{is_ready}
-use Rattle.ncp_control.specs.declared.command.Command.{Command}
 use Rattle.ncp_control.specs.declared.command.Command.TheVariants as command
 use Rattle.pairing_law.specs.Ends.{End, fits, mark_taken, nothing}
 use Rattle.pairing_law.specs.Marks.{Ask, Close, Mark}
 use Rattle.host_pairs.specs.Commands.{asked_on_link, asked_with_size, changed, cls_taken_by, desk_taken, faulted}
 use Rattle.host_pairs.specs.Commands.{matched, matched_once, rts_taken_by, str_taken_by}
-use Rattle.host_pairs.specs.Control.{ERRONEOUS, Legal, NO_SOCKET, Order, Wrong, error, orders_of}
-use Rattle.host_pairs.specs.Data.{data_taken}
-use Rattle.host_pairs.specs.Desk.{DeskState, command_queued, desk_of, settled, swept}
-use Rattle.host_pairs.specs.Entries.{close_due, closed_by_partner, entry_at, has_cls, is_at, is_sent, sends_on}
-use Rattle.host_pairs.specs.Pair.{PairState}
-use Rattle.host_pairs.specs.Turn.{TurnState, command_taken, if_ready, message_taken, order_taken, orders_taken}
-use Rattle.host_pairs.specs.Turn.{with_desk}
-use Rattle.host_pairs.specs.declared.entry.Closing.{Closing}
+use Rattle.host_pairs.specs.Control.{NO_SOCKET, Wrong, error}
+use Rattle.host_pairs.specs.Desk.{command_queued, settled, swept}
+use Rattle.host_pairs.specs.Entries.{closed_by_partner, entry_at, is_at, is_sent, sends_on}
+use Rattle.host_pairs.specs.Turn.{command_taken, order_taken, orders_taken}
 use Rattle.host_pairs.specs.declared.entry.Closing.TheVariants as closing
-use Rattle.host_pairs.specs.declared.entry.Entry.{Entry}
-use Rattle.sockets.specs.Accepting.{accepted, after_turn, turn_of}
-use Rattle.sockets.specs.Pairs.{NcpState, pair_with}
+use Rattle.sockets.specs.Accepting.{accepted}
 use Rattle.host_keeps_pairing.specs.Ends.{Stand, Standing, at, close_waits, end_of, is_past, request_due, standing}
 use Rattle.host_keeps_pairing.specs.Words.{AllFit, all_taken, mark_of, marks}
 use Rattle.host_keeps_pairing.proofs.lemmas.{Found, Is, On, after_data, after_reply, after_reset, are, asked_by}
 use Rattle.host_keeps_pairing.proofs.lemmas.{change_away, change_here, closed_by, ends_swept, found_here, live_end}
 use Rattle.host_keeps_pairing.proofs.lemmas.{loose, none_here, on_queued, on_settled, on_taken, plain, put}
-use Rattle.mixed_worlds.specs.Ends.{HasSome}
 
 -- ---- the end of two sockets is asked for, or closed, in whatever order
 

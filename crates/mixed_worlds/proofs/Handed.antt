@@ -1,15 +1,8 @@
 -- What each life of a host that runs the program sent is a prefix of what was handed over in it, whatever its peer
 -- sends.
-use Rattle.std.proofs.Common.{◌≡◌, ◌⊎◌, inl, inr, ℕ, Bool, true, List, [], ◌∷◌, refl, ap, sym, subst, ◌∙◌}
-use Rattle.std.proofs.Common.{eq-eqb}
-use Rattle.interface.specs.Host.{Host}
+use Rattle.mixed_worlds.proofs.Common.{◌≡◌, ◌⊎◌, inl, inr, ℕ, Bool, true, List, [], ◌∷◌, refl, ap, sym, subst, ◌∙◌, eq-eqb, Host, IsBeside, Life, NcpState, Kept, EachOn, IsFreeSocket, IsLifeOf, IsOwned, at_socket, Holds}
 use Rattle.interface.proofs.lemmas.{same_host-refl}
-use Rattle.promise.specs.Fates.{IsBeside}
-use Rattle.promise.specs.declared.life.Life.{Life}
-use Rattle.sockets.specs.Pairs.{NcpState}
-use Rattle.net_sim.specs.Book.{Kept}
-use Rattle.world_keeps_lives.specs.Lives.{EachOn, IsFreeSocket, IsLifeOf, IsOwned, IsSafe, NoneOf, at_socket}
-use Rattle.world_keeps_lives.proofs.lemmas.{Holds}
+use Rattle.world_keeps_lives.specs.Lives.{IsSafe, NoneOf}
 
 -- a life of a socket, and what is beside it
 beside_safe : (a : Host) (k : ℕ) (P : Life → List Bool → Type 0) (lives : List Life) (handed : List (List Bool))

@@ -1,13 +1,8 @@
 -- A finished initial connection among hosts with programs pairs the right four sockets.
-use Rattle.std.proofs.Common.{◌≡◌, ℕ, ◌+◌, ◌&&◌, Bool, true, false, if◌then◌else◌, nat_le, ◌%◌, List, [], ◌∷◌, take}
-use Rattle.std.proofs.Common.{Option, Some, None, refl, ap, sym, subst, ◌∙◌, eq-eqb, eqb-true, arith}
+use Rattle.mixed_worlds.proofs.Common.{◌≡◌, ℕ, ◌&&◌, Bool, true, false, if◌then◌else◌, List, [], ◌∷◌, take, Option, Some, None, refl, ap, sym, subst, ◌∙◌, eq-eqb, arith, Contains, All-contains, Host, Crossing, is_receive_socket, is_send_socket, Notice, Match, Life, Kept, all_told, book_told, crossed, Asked, Crossed, Moment, crossings_of, host_in, kept_by, kept_in, notices_by, IsMixed, masked_moments, Orders, masked_crossings, crossed_only, lives_among, mixed_kept}
+use Rattle.std.proofs.Common.{◌+◌, nat_le, ◌%◌}
+use Rattle.std.proofs.Common.{eqb-true}
 use Rattle.std.specs.Prelude.{All}
-use Rattle.std.specs.List.{Contains}
-use Rattle.std.proofs.lemmas.List.Elements.{All-contains}
-use Rattle.interface.specs.Host.{Host}
-use Rattle.interface.specs.declared.crossing.Crossing.{Crossing}
-use Rattle.ncp_control.specs.Numbers.{is_receive_socket, is_send_socket}
-use Rattle.host_pairs.specs.declared.notice.Notice.{Notice}
 use Rattle.icp.specs.declared.fault.StartFault.{StartFault}
 use Rattle.icp.specs.declared.fault.StartFault.TheVariants as fault
 use Rattle.icp.specs.declared.outcome.Outcome.TheVariants as outcome
@@ -15,19 +10,12 @@ use Rattle.host_services.specs.declared.report.Report.{Report}
 use Rattle.host_services.specs.declared.report.Report.TheVariants as report
 use Rattle.host_services.specs.declared.report.Reported.{Reported}
 use Rattle.promise.specs.Connections.{HasReported, IsEnd, JoinedBook}
-use Rattle.promise.specs.Safe.{Match}
 use Rattle.promise.specs.declared.book.Told.{Told}
-use Rattle.promise.specs.declared.life.Life.{Life}
-use Rattle.net_sim.specs.Book.{Kept, all_told, book_told, crossed}
 use Rattle.net_sim.specs.Reports.{IsBacked, IsSo, ServerIsDone, UserIsDone, told_to}
-use Rattle.net_sim.specs.Story.{Asked, Crossed, Moment}
-use Rattle.net_sim.specs.Timeline.{crossings_of}
-use Rattle.net_sim.specs.Told.{host_in, kept_by, kept_in, notices_by}
 use Rattle.world_keeps_connections.specs.Laws.{Lives}
 use Rattle.world_keeps_connections.specs.Users.{AreOpposite}
-use Rattle.masked_worlds.specs.Mixed.{IsMixed, masked_moments}
-use Rattle.masked_worlds.proofs.lemmas.{Orders, masked_crossings, masked_timeline, moments_run}
-use Rattle.mixed_worlds.specs.Book.{book_among, crossed_only, lives_among, mixed_kept}
+use Rattle.masked_worlds.proofs.lemmas.{masked_timeline, moments_run}
+use Rattle.mixed_worlds.specs.Book.{book_among}
 use Rattle.mixed_worlds.proofs.Books.{same_book}
 use Rattle.mixed_worlds.proofs.RealLogs.{real_match}
 use Rattle.mixed_worlds.proofs.Settled.{plain_life}

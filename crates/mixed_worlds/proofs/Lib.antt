@@ -1,3 +1,4 @@
+pub mod Common
 pub mod Promised
 pub mod Ends
 pub mod Sockets

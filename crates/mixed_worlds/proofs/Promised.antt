@@ -1,20 +1,16 @@
 -- A timeline of hosts all of which run the program keeps the promise: what the laws of each part say, together.
-use Rattle.std.proofs.Common.{◌≡◌, List, [], ◌∷◌, ◌++◌, subst}
-use Rattle.interface.specs.Host.{Host}
+use Rattle.mixed_worlds.proofs.Common.{◌≡◌, List, [], ◌∷◌, ◌++◌, subst, Host, safe_messages, Asked, Crossed, Moment, crossings_of, AllCalm}
 use Rattle.interface.specs.Mailboxes.{IsRun}
 use Rattle.interface.specs.declared.crossing.Answer.TheVariants as answer
 use Rattle.interface.specs.declared.crossing.Crossing.TheVariants as crossing
-use Rattle.interface.proofs.lemmas.{safe_messages}
 use Rattle.net_sim.specs.Clean.{HaveAddresses}
-use Rattle.net_sim.specs.Story.{Asked, Crossed, Moment}
-use Rattle.net_sim.specs.Timeline.{IsTimeline, crossings_of}
+use Rattle.net_sim.specs.Timeline.{IsTimeline}
 use Rattle.world_keeps_pairing.specs.Laws.Worlds.{Lives}
 use Rattle.world_keeps_lives.specs.Laws.Programs.{ProgramsDrained, ProgramsHanded, ProgramsTaken}
 use Rattle.world_keeps_lives.specs.Laws.Programs.{ProgramsTold}
 use Rattle.world_keeps_streams.specs.Arrivals.{AllCome}
 use Rattle.world_keeps_streams.specs.Came.{AllCame}
 use Rattle.world_keeps_streams.specs.Closes.{EachHanded}
-use Rattle.world_keeps_streams.specs.Rests.{AllCalm}
 use Rattle.world_keeps_streams.specs.Laws.Lives.{LivesAgree, LivesAnswered, LivesArrives, LivesCloses, LivesFirsts}
 use Rattle.world_keeps_streams.specs.Laws.Lives.{LivesFormed}
 use Rattle.world_keeps_streams.specs.Laws.Lives.{LivesRests, LivesSent, LivesSource, LivesWhole}

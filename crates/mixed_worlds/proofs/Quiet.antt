@@ -1,28 +1,18 @@
 -- What holds of each end of a host with a peer, through what its user asks for.
-use Rattle.std.proofs.Common.{◌≡◌, ℕ, Bool, true, false, if◌then◌else◌, List, [], ◌∷◌, ◌++◌, map, Option, Some, None}
-use Rattle.std.proofs.Common.{refl, sym, subst}
-use Rattle.interface.specs.Host.{Host, same_host}
-use Rattle.interface.proofs.lemmas.{same_host-true}
+use Rattle.mixed_worlds.proofs.Common.{◌≡◌, ℕ, Bool, true, false, if◌then◌else◌, List, [], ◌∷◌, ◌++◌, map, Option, Some, None, refl, sym, subst, Host, same_host, same_host-true, listens_on, close_due, has_cls, is_mine_on, PairState, Closing, Entry, NcpState, owner_of, pair_with, Peer, Request, Each, Quiet}
 use Rattle.ncp_control.specs.declared.command.Command.TheVariants as command
 use Rattle.host_pairs.specs.Asked.{closed_end, commanded, contacted, interrupt_of, receiver_requested, requested}
 use Rattle.host_pairs.specs.Asked.{with_end, with_more_bits}
 use Rattle.host_pairs.specs.Commands.{granted}
-use Rattle.host_pairs.specs.Desk.{listens_on}
-use Rattle.host_pairs.specs.Entries.{called_off, changed_first, close_due, closed_when, free_link, has_cls, is_mine_on}
+use Rattle.host_pairs.specs.Entries.{called_off, changed_first, closed_when, free_link}
 use Rattle.host_pairs.specs.Entries.{must_close, receiving_end, sending_end}
-use Rattle.host_pairs.specs.Pair.{PairState}
 use Rattle.host_pairs.specs.Parcels.{link_of}
-use Rattle.host_pairs.specs.declared.entry.Closing.{Closing}
 use Rattle.host_pairs.specs.declared.entry.Closing.TheVariants as closing
-use Rattle.host_pairs.specs.declared.entry.Entry.{Entry}
-use Rattle.sockets.specs.Pairs.{NcpState, owner_of, pair_with, with_pair}
+use Rattle.sockets.specs.Pairs.{with_pair}
 use Rattle.sockets.specs.Requests.{at_owner, closed_socket, served}
-use Rattle.sockets.specs.declared.peer.Peer.{Peer}
-use Rattle.sockets.specs.declared.request.Request.{Request}
 use Rattle.sockets.specs.declared.request.Request.TheVariants as request
 use Rattle.sockets.proofs.lemmas.{others_stay}
 use Rattle.host_keeps_pairing.proofs.lemmas.{peer_here}
-use Rattle.world_keeps_lives.proofs.lemmas.{Each, Quiet}
 
 module _ (P : Entry → Type 0) (quiet : (e f : Entry) → Quiet e f → P e → P f)
     (fresh : (e : Entry) → e.mine ≡ true → e.asked ≡ None → e.partner ≡ None → P e) (p : Host) where

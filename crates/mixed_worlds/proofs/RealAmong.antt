@@ -1,20 +1,6 @@
 -- The real book among hosts with programs is safe, since that of the masked moments is.
-use Rattle.std.proofs.Common.{◌≡◌, Bool, false, List, sym, subst}
-use Rattle.std.specs.List.{Contains}
-use Rattle.interface.specs.Host.{Host}
-use Rattle.interface.specs.declared.crossing.Crossing.{Crossing}
-use Rattle.interface.proofs.lemmas.{safe_messages}
-use Rattle.promise.specs.Fates.{ClosesWhole}
-use Rattle.promise.specs.Formed.{FormedBook, IsFormed}
-use Rattle.promise.specs.Safe.{SafeBook}
-use Rattle.promise.specs.declared.life.Fate.{Fate}
-use Rattle.promise.specs.declared.life.Life.{Life}
-use Rattle.net_sim.specs.Story.{Moment}
-use Rattle.net_sim.specs.Timeline.{crossings_of}
-use Rattle.net_sim.specs.Told.{kept_in}
-use Rattle.masked_worlds.specs.Mixed.{IsMixed, masked_moments}
-use Rattle.masked_worlds.proofs.lemmas.{Orders, masked_crossings}
-use Rattle.mixed_worlds.specs.Book.{beside_among, lives_among, mixed_kept}
+use Rattle.mixed_worlds.proofs.Common.{◌≡◌, Bool, false, List, sym, subst, Contains, Host, Crossing, safe_messages, ClosesWhole, IsFormed, SafeBook, Fate, Life, Moment, crossings_of, kept_in, IsMixed, masked_moments, Orders, masked_crossings, beside_among, lives_among, mixed_kept}
+use Rattle.promise.specs.Formed.{FormedBook}
 use Rattle.mixed_worlds.proofs.Books.{SameBook, same_book}
 use Rattle.mixed_worlds.proofs.RealBooks.{real_safe, real_whole}
 use Rattle.mixed_worlds.proofs.RealFormed.{real_formed}

@@ -1,18 +1,9 @@
 -- A book that is safe where its strangers are masked is safe over the real log, of lives between hosts with programs.
-use Rattle.std.proofs.Common.{◌≡◌, inl, inr, suc, Bool, false, List, [], ◌∷◌, ◌++◌, refl}
-use Rattle.std.proofs.Common.{sym, subst, ◌∙◌, arith}
-use Rattle.std.specs.Prelude.{IsSome}
-use Rattle.std.specs.List.{Contains}
+use Rattle.mixed_worlds.proofs.Common.{◌≡◌, inl, inr, suc, Bool, false, List, [], ◌∷◌, ◌++◌, refl, sym, subst, ◌∙◌, arith, IsSome, Contains, Host, Crossing, ClosesWhole, IsBeside, Match, SafeBook, partner_request, Fate, Life, masked_log}
 use Rattle.std.proofs.lemmas.List.Elements.{Contains-append_left}
-use Rattle.interface.specs.Host.{Host}
 use Rattle.interface.specs.Messages.{SafeMessages}
-use Rattle.interface.specs.declared.crossing.Crossing.{Crossing}
-use Rattle.promise.specs.Fates.{ClosesWhole, IsBeside}
-use Rattle.promise.specs.Safe.{AreTwo, Match, SafeBook, Source, partner_request}
-use Rattle.promise.specs.declared.life.Fate.{Fate}
+use Rattle.promise.specs.Safe.{AreTwo, Source}
 use Rattle.promise.specs.declared.life.Fate.TheVariants as fate
-use Rattle.promise.specs.declared.life.Life.{Life}
-use Rattle.masked_worlds.specs.Strangers.{masked_log}
 use Rattle.mixed_worlds.proofs.RealLogs.{real_match, same_request}
 
 -- ---- lives of a list

@@ -1,17 +1,9 @@
 -- A life between hosts with programs is formed over the real log where it is over that whose strangers are masked.
-use Rattle.std.proofs.Common.{◌≡◌, ℕ, ◌==◌, ◌&&◌, nat_lt, Bool, true, false, if◌then◌else◌, List, [], ◌∷◌, ◌++◌}
-use Rattle.std.proofs.Common.{length, Option, Some, None, refl, ap, sym, subst, ◌∙◌}
-use Rattle.std.specs.Prelude.{IsSome}
-use Rattle.interface.specs.Host.{Host}
-use Rattle.interface.specs.Mailboxes.{is_up}
-use Rattle.interface.specs.declared.address.Flow.{Flow}
-use Rattle.interface.specs.declared.crossing.Crossing.{Crossing}
+use Rattle.mixed_worlds.proofs.Common.{◌≡◌, ℕ, ◌==◌, ◌&&◌, Bool, true, false, if◌then◌else◌, List, [], ◌∷◌, ◌++◌, length, Option, Some, None, refl, ap, sym, subst, ◌∙◌, IsSome, Host, is_up, Flow, Crossing, IsFormed, flow_of, own_named, partner_named, control_flow, receives, Life, masked_as, masked_log, stranger_in, turn}
+use Rattle.std.proofs.Common.{nat_lt}
 use Rattle.interface.specs.declared.crossing.Crossing.TheVariants as crossing
-use Rattle.promise.specs.Formed.{IsFormed, first_data, flow_of, link_of, named_at, named_of, own_named, partner_named}
+use Rattle.promise.specs.Formed.{first_data, link_of, named_at, named_of}
 use Rattle.promise.specs.Formed.{text_of, texts_of, texts_on}
-use Rattle.promise.specs.Safe.{control_flow, receives}
-use Rattle.promise.specs.declared.life.Life.{Life}
-use Rattle.masked_worlds.specs.Strangers.{masked_as, masked_log, stranger_in, turn}
 use Rattle.mixed_worlds.proofs.RealLogs.{flow_off, masked_length}
 
 module _ (strange : Host → Bool) (hosts : List Host) where

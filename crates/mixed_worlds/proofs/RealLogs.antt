@@ -1,15 +1,9 @@
 -- Requests and lives of hosts with programs match in a log as they do where its strangers are masked.
-use Rattle.std.proofs.Common.{◌≡◌, ℕ, ◌-◌, zero, suc, Bool, true, false, if◌then◌else◌, List, [], ◌∷◌, drop, length}
-use Rattle.std.proofs.Common.{Option, Some, None, refl, ap, sym, ◌∙◌}
-use Rattle.interface.specs.Host.{Host}
-use Rattle.interface.specs.Mailboxes.{is_up, same_flow}
-use Rattle.interface.specs.declared.address.Flow.{Flow}
-use Rattle.interface.specs.declared.crossing.Crossing.{Crossing}
+use Rattle.mixed_worlds.proofs.Common.{◌≡◌, ℕ, zero, suc, Bool, true, false, if◌then◌else◌, List, [], ◌∷◌, drop, length, Option, Some, None, refl, ap, sym, ◌∙◌, Host, is_up, same_flow, Flow, Crossing, Match, control_flow, partner_request, Life, masked_as, masked_log, strange_end, stranger_in, turn}
+use Rattle.std.proofs.Common.{◌-◌}
 use Rattle.interface.specs.declared.crossing.Crossing.TheVariants as crossing
 use Rattle.interface.proofs.lemmas.{same_flow-true}
-use Rattle.promise.specs.Safe.{Match, before, control_flow, last_out, named, partner_request}
-use Rattle.promise.specs.declared.life.Life.{Life}
-use Rattle.masked_worlds.specs.Strangers.{masked_as, masked_log, strange_end, stranger_in, turn}
+use Rattle.promise.specs.Safe.{before, last_out, named}
 
 pub masked_length : (strange : Host → Bool) (hosts : List Host) (log : List Crossing)
     → length (masked_log strange hosts log) ≡ length log

@@ -1,23 +1,11 @@
 -- Where nothing is left to be done among hosts with programs, all their lives agree.
-use Rattle.std.proofs.Common.{◌≡◌, Bool, true, false, List, [], ◌∷◌, None, refl, ap, sym, subst, ◌∙◌}
-use Rattle.std.specs.List.{Contains}
-use Rattle.std.proofs.lemmas.List.Elements.{All-contains, filter_passes}
-use Rattle.interface.specs.Host.{Host}
+use Rattle.mixed_worlds.proofs.Common.{◌≡◌, Bool, true, false, List, [], ◌∷◌, None, refl, ap, sym, subst, ◌∙◌, Contains, All-contains, Host, Life, NcpState, opening_state, pair_with, Moment, program, crossings_of, kept_in, without_strangers, IsMixed, masked_moments, Orders, masked_crossings, masked_program, HasOpenEnd, mine_on, AllCalm, is_among, lives_among, mixed_kept}
+use Rattle.std.proofs.lemmas.List.Elements.{filter_passes}
 use Rattle.interface.specs.Mailboxes as mail
-use Rattle.promise.specs.declared.life.Life.{Life}
-use Rattle.sockets.specs.Pairs.{NcpState, opening_state, pair_with}
 use Rattle.sockets.specs.Sending.{next_out}
-use Rattle.net_sim.specs.Story.{Moment, program}
-use Rattle.net_sim.specs.Timeline.{crossings_of}
-use Rattle.net_sim.specs.Told.{kept_in}
-use Rattle.masked_worlds.specs.Among.{without_strangers}
 use Rattle.masked_worlds.specs.Laws.MaskedLogs.{MaskedLogsBoxes}
-use Rattle.masked_worlds.specs.Mixed.{IsMixed, masked_moments}
-use Rattle.masked_worlds.proofs.lemmas.{Orders, masked_crossings, masked_program}
-use Rattle.world_keeps_lives.specs.Lives.{HasOpenEnd, mine_on}
-use Rattle.world_keeps_streams.specs.Rests.{AllCalm, NoneOut}
+use Rattle.world_keeps_streams.specs.Rests.{NoneOut}
 use Rattle.world_keeps_streams.specs.Settled.{EachAgrees}
-use Rattle.mixed_worlds.specs.Book.{is_among, lives_among, mixed_kept}
 use Rattle.mixed_worlds.specs.Laws.Among.{HaveSettled}
 use Rattle.mixed_worlds.proofs.Books.{same_book}
 use Rattle.mixed_worlds.proofs.SameBooks.{among_parts}

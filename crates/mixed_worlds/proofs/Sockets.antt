@@ -1,41 +1,22 @@
 -- One socket of a host that runs the program, whatever strangers do.
-use Rattle.std.proofs.Common.{◌≡◌, ℕ, Bool, true, false, if◌then◌else◌, List, [], ◌∷◌, Option, Some, None, refl, sym}
-use Rattle.std.proofs.Common.{subst, ◌∙◌}
-use Rattle.interface.specs.Host.{Host, same_host}
+use Rattle.mixed_worlds.proofs.Common.{◌≡◌, ℕ, Bool, true, false, if◌then◌else◌, List, [], ◌∷◌, Option, Some, None, refl, sym, subst, ◌∙◌, Host, same_host, Flow, Answer, HostMessage, same_host-true, PairState, Parcel, accepted, NcpState, opening_state, pair_with, AreInOrder, served, next_in, offered_by, Peer, Request, answer_leaves, message_leaves, offer_leaves, pair_range, Kept, all_told, asked, crossed, lives_on, Asked, Crossed, Moment, places, program, crossings_of, host_in, kept_by, notices_by, same_host-sym, IsMixed, Orders, older, ordered, other_host, Holds, crossed_only, mixed_kept, HasSome}
 use Rattle.interface.specs.Mailboxes as mail
-use Rattle.interface.specs.declared.address.Flow.{Flow}
-use Rattle.interface.specs.declared.crossing.Answer.{Answer}
 use Rattle.interface.specs.declared.crossing.Crossing.TheVariants as crossing
 use Rattle.interface.specs.declared.crossing.Inbound.TheVariants as inbound
-use Rattle.interface.specs.declared.message.HostMessage.{HostMessage}
-use Rattle.interface.proofs.lemmas.{same_host-true}
-use Rattle.host_pairs.specs.Pair.{PairState}
-use Rattle.host_pairs.specs.Parcels.{Parcel}
-use Rattle.sockets.specs.Accepting.{accepted}
-use Rattle.sockets.specs.Pairs.{NcpState, opening_state, pair_with}
-use Rattle.sockets.specs.Peers.{AreInOrder}
-use Rattle.sockets.specs.Requests.{refusal, served, served_notices}
-use Rattle.sockets.specs.Sending.{next_in, offered, offered_by}
-use Rattle.sockets.specs.declared.peer.Peer.{Peer}
-use Rattle.sockets.specs.declared.request.Request.{Request}
-use Rattle.sockets.proofs.lemmas.{answer_leaves, message_leaves, offer_leaves}
+use Rattle.sockets.specs.Requests.{refusal, served_notices}
+use Rattle.sockets.specs.Sending.{offered}
 use Rattle.host_services.specs.Named.{IsAsked}
 use Rattle.host_keeps_ranges.specs.Ranges.{IsRanged}
-use Rattle.host_keeps_ranges.proofs.lemmas.{answer_ranged, message_ranged, offer_ranged, pair_range, request_ranged}
+use Rattle.host_keeps_ranges.proofs.lemmas.{answer_ranged, message_ranged, offer_ranged, request_ranged}
 use Rattle.host_keeps_pairing.specs.Hearing.{after_request}
 use Rattle.host_keeps_pairing.proofs.lemmas.{answer_keeps, offer_says, opening_has, request_keeps}
-use Rattle.net_sim.specs.Book.{Kept, all_told, asked, crossed, lives_on, opening_kept}
-use Rattle.net_sim.specs.Story.{Asked, Crossed, Moment, places, program, program_after}
-use Rattle.net_sim.specs.Timeline.{Happens, crossings_of}
-use Rattle.net_sim.specs.Told.{host_in, kept_by, notices_by}
-use Rattle.net_sim.proofs.lemmas.{same_host-sym}
-use Rattle.masked_worlds.specs.Mixed.{IsMixed}
-use Rattle.masked_worlds.proofs.lemmas.{Orders, away, older, ordered, other_host}
-use Rattle.world_keeps_lives.proofs.lemmas.{HasEnds, Holds, acts, answer_holds, asked_away, crossed_holds}
+use Rattle.net_sim.specs.Book.{opening_kept}
+use Rattle.net_sim.specs.Story.{program_after}
+use Rattle.net_sim.specs.Timeline.{Happens}
+use Rattle.masked_worlds.proofs.lemmas.{away}
+use Rattle.world_keeps_lives.proofs.lemmas.{HasEnds, acts, answer_holds, asked_away, crossed_holds}
 use Rattle.world_keeps_lives.proofs.lemmas.{each_ending, ended_holds, idle_if, message_holds, offer_holds}
 use Rattle.world_keeps_lives.proofs.lemmas.{opening_holds, request_holds, up_at}
-use Rattle.mixed_worlds.specs.Book.{crossed_only, mixed_kept}
-use Rattle.mixed_worlds.specs.Ends.{HasSome}
 use Rattle.mixed_worlds.proofs.Ends.{any_message}
 
 -- ---- some end of each two sockets, with each peer

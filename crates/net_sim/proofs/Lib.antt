@@ -1,3 +1,4 @@
+pub mod Common
 pub mod Books
 pub mod Resets
 pub mod Hosts

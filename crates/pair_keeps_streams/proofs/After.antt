@@ -1,21 +1,9 @@
 -- What a call of a host that stays keeps of the two hosts, whatever the call.
-use Rattle.std.proofs.Common.{◌≡◌, ℕ, ◌<◌, Bool, true, List, ◌++◌, map, refl, ap, sym, subst, ◌∙◌}
+use Rattle.pair_keeps_streams.proofs.Common.{◌≡◌, ℕ, ◌<◌, Bool, true, List, ◌++◌, map, refl, ap, sym, subst, ◌∙◌, Host, Command, Word, Receiver, Sender, Stream, Box, PairState, Entry, Listener, all_received, all_sent, Call, IsTelling, IsAllowed, KeepBox, is_out, ends_by, gone_by, received_at, sent_at, Holds, name_of, plain, received_words, sent_words, closings_in, said_of, heard_from, receiver_words, sender_words}
 use Rattle.std.proofs.lemmas.List.{map-append}
-use Rattle.interface.specs.Host.{Host}
-use Rattle.ncp_control.specs.declared.command.Command.{Command}
-use Rattle.stream_law.specs.Words.{Word}
 use Rattle.stream_law.specs.Receivers as receivers
-use Rattle.stream_law.specs.Receivers.{Receiver}
 use Rattle.stream_law.specs.Senders as senders
-use Rattle.stream_law.specs.Senders.{Sender}
-use Rattle.stream_law.specs.Streams.{Stream, Box}
-use Rattle.host_pairs.specs.Pair.{PairState}
-use Rattle.host_pairs.specs.declared.entry.Entry.{Entry}
-use Rattle.host_pairs.specs.declared.listener.Listener.{Listener}
-use Rattle.host_keeps_streams.specs.Closings.{all_received, all_sent}
-use Rattle.host_keeps_streams.specs.Histories.{Call, IsTelling, IsAllowed, KeepBox, is_out, ends_by, gone_by, received_at, sent_at}
-use Rattle.host_keeps_streams.proofs.lemmas.{Holds, name_of, step_box, step_holds, step_received, step_sent}
-use Rattle.pair_keeps_streams.specs.Words.{plain, received_words, sent_words, closings_in, said_of, heard_from, receiver_words, sender_words}
+use Rattle.host_keeps_streams.proofs.lemmas.{step_box, step_holds, step_received, step_sent}
 use Rattle.pair_keeps_streams.proofs.Granted.{AreKept, exact_receives, exact_sends}
 use Rattle.pair_keeps_streams.proofs.Joint.{queue_by, AreLinked, Speaks, Party, Post, Half, Line, IsBox, Joint, receives, sends, heard_by, said_by}
 use Rattle.pair_keeps_streams.proofs.Spoken.{AskedSame, closings_append, closings_same, receiver_append, receiver_same, sender_append, sender_same}

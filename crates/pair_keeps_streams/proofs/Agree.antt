@@ -1,20 +1,12 @@
 -- Two programs that have nothing more to say to one another agree on what each connection may still carry.
-use Rattle.std.proofs.Common.{◌≡◌, ◌⊎◌, inl, inr, ℕ, ◌&&◌, ◌||◌, not, Bool, true, false, List, [], ◌∷◌, find, map, Option, Some, None, is_some, refl, ap, sym, subst, ◌∙◌, arith}
-use Rattle.ncp_control.specs.declared.command.Command.{Command}
+use Rattle.pair_keeps_streams.proofs.Common.{◌≡◌, ◌⊎◌, inl, inr, ℕ, ◌&&◌, not, Bool, true, false, List, [], ◌∷◌, find, map, Option, Some, None, is_some, refl, ap, sym, subst, ◌∙◌, arith, Command, Receiver, Stream, Waiting, Word, entry_at, has_cls, is_at, is_link, is_open, is_receiving, receives_on, sends_on, Entry, has_opened, IsSender, IsTelling, named, leaving_shut, name_of, own_name, own_receiver, unlike, closings_in, counted, has_heard, has_said, plain, receiver_words, sender_words}
+use Rattle.std.proofs.Common.{◌||◌}
 use Rattle.stream_law.specs.Agreed.{AreAgreed, IsAtRest}
-use Rattle.stream_law.specs.Receivers.{Receiver}
-use Rattle.stream_law.specs.Streams.{Stream, Waiting}
 use Rattle.stream_law.specs.Within.{waiting_in}
-use Rattle.stream_law.specs.Words.{Word}
 use Rattle.stream_law.proofs.lemmas.{agreed_of}
-use Rattle.host_pairs.specs.Entries.{entry_at, has_cls, is_at, is_link, is_open, is_receiving, receives_on, sends_on}
-use Rattle.host_pairs.specs.declared.entry.Entry.{Entry}
-use Rattle.host_keeps_streams.specs.Ends.{has_opened, IsLeaving, IsReceiver, IsSender}
-use Rattle.host_keeps_streams.specs.Histories.{IsTelling}
-use Rattle.host_keeps_streams.specs.Names.{named}
-use Rattle.host_keeps_streams.proofs.lemmas.{leaving_shut, name_of, open_same, open_same_senders, own_name, own_receiver, unlike}
+use Rattle.host_keeps_streams.specs.Ends.{IsLeaving, IsReceiver}
+use Rattle.host_keeps_streams.proofs.lemmas.{open_same, open_same_senders}
 use Rattle.host_keeps_streams.proofs.lemmas.Senders as own_senders
-use Rattle.pair_keeps_streams.specs.Words.{closings_in, counted, has_heard, has_said, plain, receiver_words, sender_words}
 use Rattle.pair_keeps_streams.proofs.Joint.{AreLinked, Half, Joint, Party, heard_by}
 
 -- an end that a test finds was asked for on its link
@@ -65,10 +57,6 @@ pub record OfOne (number other : ℕ → ℕ → ℕ → ℕ) (a b : Party) (tak
 
 module _ (number other : ℕ → ℕ → ℕ → ℕ) (tells : IsTelling number) (others : IsTelling other) (link : ℕ) (x y : Stream) (a b : Party) (j : Joint number other tells others link x y a b) (here : a.stays ≡ true) (there : b.stays ≡ true)
     (taker giver : Entry) (o : OfOne number other a b taker giver) (sends : sends_on link giver ≡ true) where
-  -- the connection
-  abbrev c : ℕ
-  c = named (name_of number a.gone) taker
-
   taker_name : named (name_of number a.gone) taker ≡ name_of number a.gone o.own o.foreign
   taker_name = own_name (name_of number a.gone) link o.own o.foreign taker a.entries o.taker_found
 

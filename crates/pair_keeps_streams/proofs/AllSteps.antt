@@ -1,24 +1,8 @@
 -- All steps of two programs on a link, as one.
-use Rattle.std.proofs.Common.{◌≡◌, ℕ, ◌*◌, ◌==◌, Bool, true, false, List, [], ◌∷◌, ◌++◌, take, Some}
-use Rattle.interface.specs.Host.{Host}
-use Rattle.ncp_control.specs.Command.{IsCommand}
-use Rattle.ncp_control.specs.DataHeader.{IsHeader}
-use Rattle.ncp_control.specs.declared.command.Command.{Command}
+use Rattle.pair_keeps_streams.proofs.Common.{◌≡◌, ℕ, ◌*◌, ◌==◌, Bool, true, false, List, [], ◌∷◌, ◌++◌, take, Some, Host, IsCommand, IsHeader, Command, Receiver, Sender, Stream, data_text, is_busy, sends_on, PairState, Bytes, next_of, Entry, Listener, all_received, all_sent, HasSaid, Call, Hears, Takes, Says, Answered, IsTelling, IsAllowed, is_out, ends_by, gone_by, received_at, sent_at, name_of}
 use Rattle.ncp_control.specs.declared.command.Command.TheVariants as command
 use Rattle.stream_law.specs.Receivers as receivers
-use Rattle.stream_law.specs.Receivers.{Receiver}
-use Rattle.stream_law.specs.Senders.{Sender}
-use Rattle.stream_law.specs.Streams.{Stream}
-use Rattle.host_pairs.specs.Data.{data_text}
-use Rattle.host_pairs.specs.Entries.{is_busy, sends_on}
-use Rattle.host_pairs.specs.Pair.{PairState}
-use Rattle.host_pairs.specs.Parcels.{Bytes, next_of}
-use Rattle.host_pairs.specs.declared.entry.Entry.{Entry}
-use Rattle.host_pairs.specs.declared.listener.Listener.{Listener}
-use Rattle.host_keeps_streams.specs.Closings.{all_received, all_sent}
-use Rattle.host_keeps_streams.specs.Formed.{HasSaid}
-use Rattle.host_keeps_streams.specs.Histories.{Call, Hears, Takes, Says, Sends, Answered, IsTelling, IsAllowed, is_out, ends_by, gone_by, received_at, sent_at}
-use Rattle.host_keeps_streams.proofs.lemmas.{name_of}
+use Rattle.host_keeps_streams.specs.Histories.{Sends}
 use Rattle.pair_keeps_streams.proofs.Joint.{IsPaired, IsPairedCall, IsFirst, Party, Post, Free, Lies, Fetched, Joint}
 use Rattle.pair_keeps_streams.proofs.After.{Stepped, x_after, y_after}
 use Rattle.pair_keeps_streams.proofs.Granted.{IsRequest, NotTaken}

@@ -1,24 +1,9 @@
 -- What a host has asked for on a link, by each call.
-use Rattle.std.proofs.Common.{◌≡◌, ◌⊎◌, ℕ, Bool, true, false, not, ◌&&◌, ◌==◌, if◌then◌else◌, List, [], ◌∷◌, length, Option, Some, None, is_some, refl, ◌∙◌, inl, inr}
-use Rattle.std.proofs.lemmas.Bool.{eqb-true}
-use Rattle.ncp_control.specs.DataHeader.{data_bits}
-use Rattle.ncp_control.specs.declared.command.Command.{Command}
+use Rattle.pair_keeps_streams.proofs.Common.{◌≡◌, ◌⊎◌, ℕ, Bool, true, false, not, ◌&&◌, ◌==◌, if◌then◌else◌, List, [], ◌∷◌, length, Option, Some, None, is_some, refl, ◌∙◌, inl, inr, eqb-true, data_bits, Command, DataHeader, covers, for, holds, is_size, Receiver, data_of, entry_at, is_receiving, receives_on, PairState, Closing, Entry, Listener, all_received, received_close, received_gone, received_open, answers_str, asked_received, asks_for, closed_received, closes_on, cls_received, data_received, received_out, str_received, named}
 use Rattle.ncp_control.specs.declared.command.Command.TheVariants as command
-use Rattle.ncp_control.specs.declared.data_header.DataHeader.{DataHeader}
 use Rattle.stream_law.specs.Words as words
-use Rattle.stream_law.specs.Words.{covers, for, holds, is_size}
 use Rattle.stream_law.specs.Receivers as receivers
-use Rattle.stream_law.specs.Receivers.{Receiver}
-use Rattle.host_pairs.specs.Data.{data_of}
-use Rattle.host_pairs.specs.Entries.{entry_at, is_receiving, receives_on}
-use Rattle.host_pairs.specs.Pair.{PairState}
-use Rattle.host_pairs.specs.declared.entry.Closing.{Closing}
 use Rattle.host_pairs.specs.declared.entry.Closing.TheVariants as closing
-use Rattle.host_pairs.specs.declared.entry.Entry.{Entry}
-use Rattle.host_pairs.specs.declared.listener.Listener.{Listener}
-use Rattle.host_keeps_streams.specs.Closings.{all_received, received_close, received_gone, received_open}
-use Rattle.host_keeps_streams.specs.Moves.{answers_str, asked_received, asks_for, closed_received, closes_on, cls_received, data_received, received_out, str_received}
-use Rattle.host_keeps_streams.specs.Names.{named}
 
 -- ---- moves that ask for nothing
 
@@ -113,44 +98,3 @@ module _ (name : ℕ → ℕ → ℕ) (link : ℕ) where
   pub asked_if : (v : Bool) (c : ℕ) (r : Receiver) (k : ℕ) → (all_received (if v then receivers.Ask c ∷ [] else []) r).asked k ≡ (if v then for c true r.asked k else r.asked k)
   asked_if true c r k = refl
   asked_if false c r k = refl
-
-  one_asked : (v : Bool) (c : ℕ) (r : Receiver) (k : ℕ) → ((if v then for c true r.asked k else r.asked k) ≡ r.asked k) ⊎ (k ≡ c)
-  one_asked true c r k = by (k == c) refl where
-    by : (v : Bool) → (k == c) ≡ v → (for c true r.asked k ≡ r.asked k) ⊎ (k ≡ c)
-    by true t = inr (eqb-true k c t)
-    by false t = inl (rw t refl)
-  one_asked false c r k = inl refl
-
--- a number that is asked for newly: of sockets that have no end
-pub record IsNewlyAsked (name : ℕ → ℕ → ℕ) (es : List Entry) (k : ℕ) : Type 0 where
-  pub own : ℕ
-  pub foreign : ℕ
-  pub is : k ≡ name own foreign
-  pub none : entry_at own foreign es ≡ None
-
-module _ (name : ℕ → ℕ → ℕ) (link : ℕ) (q : PairState) (listening : List Listener) (r : Receiver) where
-  abbrev AsksNew : List receivers.Move → Type 0
-  AsksNew ms = (k : ℕ) → ((all_received ms r).asked k ≡ r.asked k) ⊎ IsNewlyAsked name q.entries k
-
-  none_new : (ms : List receivers.Move) → AllAskNone ms → AsksNew ms
-  none_new ms a k = inl (same_asked ms r a k)
-
-  if_new : (own foreign : ℕ) → entry_at own foreign q.entries ≡ None → (v : Bool) (t : Receiver) → ((k : ℕ) → t.asked k ≡ r.asked k)
-      → (k : ℕ) → ((all_received (if v then receivers.Ask (name own foreign) ∷ [] else []) t).asked k ≡ r.asked k) ⊎ IsNewlyAsked name q.entries k
-  if_new own foreign none v t same k = elim (one_asked name link v (name own foreign) t k) [
-    | inl e ↦ inl (asked_if name link v (name own foreign) t k ∙ e ∙ same k)
-    | inr e ↦ inr (record { own = own; foreign = foreign; is = e; none = none })
-  ]
-
-  answer_new : (own foreign z : ℕ) → entry_at own foreign q.entries ≡ None → (l : Option Listener) (o : Option ℕ) → AsksNew (receivers.Hear (words.Str (name own foreign) z) ∷ answers_str link (name own foreign) l o)
-  answer_new own foreign z none None o k = inl refl
-  answer_new own foreign z none (Some l) None k = inl refl
-  answer_new own foreign z none (Some l) (Some other) k = if_new own foreign none (other == link) (receivers.hears (words.Str (name own foreign) z) r) (λ j. refl) k
-
-  str_new : (own foreign z : ℕ) (l : Option Listener) (free : Option ℕ) (o : Option Entry) → entry_at own foreign q.entries ≡ o → AsksNew (str_received link (name own foreign) z l free o)
-  str_new own foreign z l free None found = answer_new own foreign z found l free
-  str_new own foreign z l free (Some e) found = none_new (str_received link (name own foreign) z l free (Some e)) (str_none name link (name own foreign) z l free e)
-
-  opens_new : (own foreign : ℕ) → entry_at own foreign q.entries ≡ None → (o : Option ℕ) → AsksNew (asks_for link (name own foreign) o)
-  opens_new own foreign none None k = inl refl
-  opens_new own foreign none (Some other) k = if_new own foreign none (other == link) r (λ j. refl) k

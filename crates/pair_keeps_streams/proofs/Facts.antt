@@ -1,19 +1,7 @@
 -- What is known of each call of a host that stays, whatever the other does, and what follows where the other hears and says nothing.
-use Rattle.std.proofs.Common.{◌≡◌, ℕ, ◌==◌, true, false, List, ◌++◌, refl, sym, ◌∙◌}
-use Rattle.interface.specs.Host.{Host}
-use Rattle.ncp_control.specs.declared.command.Command.{Command}
-use Rattle.stream_law.specs.Words.{Word}
+use Rattle.pair_keeps_streams.proofs.Common.{◌≡◌, ℕ, ◌==◌, true, false, List, ◌++◌, refl, sym, ◌∙◌, Host, Command, Word, Receiver, Sender, Stream, Box, Empty, Waiting, Taken, PairState, Listener, all_received, Call, Hears, IsTelling, IsAllowed, ends_by, gone_by, received_at, sent_at, Holds, name_of, received_words, sent_words, with_closing, closings_in, heard_of, heard_from}
 use Rattle.stream_law.specs.Receivers as receivers
-use Rattle.stream_law.specs.Receivers.{Receiver}
 use Rattle.stream_law.specs.Senders as senders
-use Rattle.stream_law.specs.Senders.{Sender}
-use Rattle.stream_law.specs.Streams.{Stream, Box, Empty, Waiting, Taken}
-use Rattle.host_pairs.specs.Pair.{PairState}
-use Rattle.host_pairs.specs.declared.listener.Listener.{Listener}
-use Rattle.host_keeps_streams.specs.Closings.{all_received}
-use Rattle.host_keeps_streams.specs.Histories.{Call, Hears, IsTelling, IsAllowed, ends_by, gone_by, received_at, sent_at}
-use Rattle.host_keeps_streams.proofs.lemmas.{Holds, name_of}
-use Rattle.pair_keeps_streams.specs.Words.{received_words, sent_words, with_closing, closings_in, heard_of, heard_from}
 use Rattle.pair_keeps_streams.proofs.Joint.{IsPairedCall, AreLinked, Speaks, IsFirst, Party, Post, Free, Lies, Fetched, Line, IsPosted, IsBox, Joint, receives, sends, heard_by, said_by}
 use Rattle.pair_keeps_streams.proofs.After.{staying, core}
 use Rattle.pair_keeps_streams.proofs.Granted.{AreKept}

@@ -1,13 +1,6 @@
 -- A request that is heard finds the law's link free.
-use Rattle.std.proofs.Common.{◌≡◌, ℕ, ◌==◌, true, List, [], ◌∷◌, map, refl, ap, ◌∙◌, eq-eqb}
-use Rattle.ncp_control.specs.declared.command.Command.{Command}
+use Rattle.pair_keeps_streams.proofs.Common.{◌≡◌, ℕ, ◌==◌, true, List, [], ◌∷◌, map, refl, ap, ◌∙◌, eq-eqb, Command, Word, Rts, Stream, link_free, FindsFree, IsTelling, plain, receiver_words, with_closing}
 use Rattle.ncp_control.specs.declared.command.Command.TheVariants as command
-use Rattle.stream_law.specs.Words.{Word, Rts}
-use Rattle.stream_law.specs.Streams.{Stream}
-use Rattle.stream_law.proofs.lemmas.{link_free}
-use Rattle.host_keeps_streams.specs.Formed.{FindsFree}
-use Rattle.host_keeps_streams.specs.Histories.{IsTelling}
-use Rattle.pair_keeps_streams.specs.Words.{plain, receiver_words, with_closing}
 use Rattle.pair_keeps_streams.proofs.Joint.{Joint, Party, heard_by}
 
 -- a word that is an RTS, but for what is left out of it, is that RTS

@@ -1,20 +1,9 @@
 -- The first of the words that are under way, and what a host makes of the command that says it.
-use Rattle.std.proofs.Common.{◌≡◌, ℕ, ◌==◌, ◌&&◌, not, Bool, true, false, if◌then◌else◌, List, [], ◌∷◌, ◌++◌, map, Option, Some, None, is_some, refl, ap, sym, subst, ◌∙◌, eq-eqb}
-use Rattle.std.proofs.lemmas.Bool.{ne_eqb}
-use Rattle.stream_law.specs.Words.{Word, Rts, Str, All, Gvb, Ret, Cls}
+use Rattle.pair_keeps_streams.proofs.Common.{◌≡◌, ℕ, ◌==◌, ◌&&◌, not, Bool, true, false, if◌then◌else◌, List, [], ◌∷◌, ◌++◌, map, Option, Some, None, is_some, refl, ap, sym, subst, ◌∙◌, eq-eqb, ne_eqb, Word, Rts, Str, All, Gvb, Ret, Cls, Sender, some_is, changed_at, closed_by_partner, is_receiving, receives_on, Closing, Entry, Listener, received_close, received_open, sent_open, answers_str, closes, closes_on, cls_received, hears_rts, of_end, rts_sent, str_received, named, plain, counted, has_heard}
 use Rattle.stream_law.specs.Receivers as receivers
 use Rattle.stream_law.specs.Senders as senders
-use Rattle.stream_law.specs.Senders.{Sender}
-use Rattle.stream_law.proofs.lemmas.{some_is}
-use Rattle.host_pairs.specs.Entries.{changed_at, closed_by_partner, is_receiving, receives_on}
-use Rattle.host_pairs.specs.declared.entry.Closing.{Closing}
 use Rattle.host_pairs.specs.declared.entry.Closing.TheVariants as closing
-use Rattle.host_pairs.specs.declared.entry.Entry.{Entry}
-use Rattle.host_pairs.specs.declared.listener.Listener.{Listener}
-use Rattle.host_keeps_streams.specs.Closings.{received_close, received_open, sent_open}
-use Rattle.host_keeps_streams.specs.Moves.{answers_str, closes, closes_on, cls_received, cls_sent, hears_rts, of_end, rts_sent, str_received}
-use Rattle.host_keeps_streams.specs.Names.{named}
-use Rattle.pair_keeps_streams.specs.Words.{plain, counted, has_heard}
+use Rattle.host_keeps_streams.specs.Moves.{cls_sent}
 use Rattle.pair_keeps_streams.proofs.Streams.{AreQuiet, AreQuietSent, HearOne, HearOneSent}
 use Rattle.pair_keeps_streams.proofs.StepAsks.{if_quiet, open_quiet, open_quiet_sent}
 

@@ -1,29 +1,13 @@
 -- Nothing that was granted is lost while both hosts stay: an end that opens by its own request does so before the other's is open.
-use Rattle.std.proofs.Common.{◌≡◌, inl, inr, ℕ, suc, ◌==◌, ◌&&◌, not, Bool, true, false, if◌then◌else◌, List, [], ◌∷◌, ◌++◌, filter, Option, Some, None, is_some, refl, ap, sym, subst, ◌∙◌, eq-eqb}
-use Rattle.interface.specs.Host.{Host}
-use Rattle.ncp_control.specs.Numbers.{is_receive_socket}
-use Rattle.ncp_control.specs.declared.command.Command.{Command}
+use Rattle.pair_keeps_streams.proofs.Common.{◌≡◌, inl, inr, ℕ, suc, ◌==◌, ◌&&◌, not, Bool, true, false, if◌then◌else◌, List, [], ◌∷◌, ◌++◌, filter, Option, Some, None, is_some, refl, ap, sym, subst, ◌∙◌, eq-eqb, Host, is_receive_socket, Command, Word, Rts, All, Cls, Receiver, Sender, Stream, Receives, happens, Exact, Inv, kept, some_is, changed_at, changed_first, closed_by_partner, entry_at, is_at, is_link, is_receiving, must_close, receives_on, sends_on, PairState, asked_at, Entry, Listener, both, MayAllReceive, MayAllSend, sent_open, AreReceiver, has_opened, Says, IsTelling, ends_by, gone_by, asked_sent, closes, hears_rts, of_end, rts_sent, sent_out, AreApart, named, numbers, Holds, apart_changed, find_passes, first_is, name_of, own_name, own_parity, stays, unlike}
 use Rattle.ncp_control.specs.declared.command.Command.TheVariants as command
-use Rattle.stream_law.specs.Words.{Word, Rts, All, Cls}
 use Rattle.stream_law.specs.Receivers as receivers
-use Rattle.stream_law.specs.Receivers.{Receiver}
 use Rattle.stream_law.specs.Senders as senders
-use Rattle.stream_law.specs.Senders.{Sender}
-use Rattle.stream_law.specs.Streams.{Stream, Receives, Sends, happens}
-use Rattle.stream_law.proofs.lemmas.{Claims, Exact, Inv, IsKept, claims_ungranted, exact_kept, kept, some_is}
-use Rattle.host_pairs.specs.Entries.{changed_at, changed_first, closed_by_partner, entry_at, is_at, is_link, is_receiving, must_close, receives_on, sends_on}
-use Rattle.host_pairs.specs.Pair.{PairState}
-use Rattle.host_pairs.specs.Parcels.{asked_at, cls_sent}
-use Rattle.host_pairs.specs.declared.entry.Entry.{Entry}
-use Rattle.host_pairs.specs.declared.listener.Listener.{Listener}
-use Rattle.host_pairs.proofs.lemmas.{both}
-use Rattle.host_keeps_streams.specs.Closings.{MayAllReceive, MayAllSend, sent_open}
-use Rattle.host_keeps_streams.specs.Ends.{AreReceiver, has_opened}
-use Rattle.host_keeps_streams.specs.Histories.{Says, IsTelling, ends_by, gone_by}
+use Rattle.stream_law.specs.Streams.{Sends}
+use Rattle.stream_law.proofs.lemmas.{Claims, IsKept, claims_ungranted, exact_kept}
+use Rattle.host_pairs.specs.Parcels.{cls_sent}
 use Rattle.host_keeps_streams.specs.Moves as moves
-use Rattle.host_keeps_streams.specs.Moves.{asked_sent, closes, hears_rts, of_end, rts_sent, sent_out}
-use Rattle.host_keeps_streams.specs.Names.{AreApart, named, numbers}
-use Rattle.host_keeps_streams.proofs.lemmas.{Holds, apart_changed, find_passes, first_is, known_found, name_of, own_name, own_parity, stays, unlike}
+use Rattle.host_keeps_streams.proofs.lemmas.{known_found}
 use Rattle.host_keeps_streams.proofs.lemmas.Senders as own_senders
 use Rattle.pair_keeps_streams.proofs.Joint.{receives, sends}
 use Rattle.pair_keeps_streams.proofs.Queues.{AreSeparate, Stays, at_changed, kept_if, none_at, separate, sweep_found}

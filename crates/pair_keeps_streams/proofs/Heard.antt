@@ -1,27 +1,8 @@
 -- How many CLS were heard of two sockets, by each call.
-use Rattle.std.proofs.Common.{◌≡◌, ℕ, ◌*◌, nat_le, ◌&&◌, Bool, true, false, List, map, Option, Some, None, is_some, refl, sym, subst, ◌∙◌}
-use Rattle.std.specs.List.{list_any}
-use Rattle.interface.specs.Host.{Host}
-use Rattle.ncp_control.specs.DataHeader.{header_of, data_bits}
-use Rattle.ncp_control.specs.declared.command.Command.{Command}
+use Rattle.pair_keeps_streams.proofs.Common.{◌≡◌, ℕ, ◌*◌, nat_le, ◌&&◌, Bool, true, false, List, map, Option, Some, None, is_some, refl, sym, subst, ◌∙◌, list_any, Host, header_of, data_bits, Command, DataHeader, Receiver, Sender, receiver_requested, with_more_bits, Found, Unconnected, Ending, Open, all_taken, asked_on_link, asked_with_size, at_end, cls_taken_by, given_back, granted, gvb_taken, interrupted, ret_taken, returned, receiver_on, rts_heard, rts_taken, rts_taken_by, sender_on, str_heard, str_linked, str_taken_by, desk_taken, arrived_if, data_found, is_acceptable, spent, DeskState, desk_of, listener_on, called_off, changed_first, entry_at, free_link, is_at, is_mine_on, receiving_end, receives_on, refused_end, sending_end, sends_on, PairState, asked_at, bits_gone, command_gone, link_of, may_send_on, freed, Entry, Listener, Call, Hears, Takes, Says, Answered, OpensReceiver, OpensSender, Grants, AsksBack, Gives, Closes, IsTelling, ends_by, gone_by, numbers, AreApart, Holds, apart_changed, name_of, shut_one, heard_from, with_closing}
 use Rattle.ncp_control.specs.declared.command.Command.TheVariants as command
-use Rattle.ncp_control.specs.declared.data_header.DataHeader.{DataHeader}
-use Rattle.stream_law.specs.Receivers.{Receiver}
-use Rattle.stream_law.specs.Senders.{Sender}
-use Rattle.host_pairs.specs.Asked.{receiver_requested, with_more_bits}
-use Rattle.host_pairs.specs.Commands.{Found, Unconnected, Ending, Open, all_taken, asked_on_link, asked_with_size, at_end, cls_taken_by, given_back, granted, gvb_taken, interrupted, ret_taken, returned, receiver_on, rts_heard, rts_taken, rts_taken_by, sender_on, str_heard, str_linked, str_taken_by, desk_taken}
-use Rattle.host_pairs.specs.Data.{arrived_if, data_found, is_acceptable, spent}
-use Rattle.host_pairs.specs.Desk.{DeskState, desk_of, listener_on}
-use Rattle.host_pairs.specs.Entries.{called_off, changed_first, entry_at, free_link, is_at, is_mine_on, receiving_end, receives_on, refused_end, sending_end, sends_on}
-use Rattle.host_pairs.specs.Pair.{PairState}
-use Rattle.host_pairs.specs.Parcels.{asked_at, bits_gone, cls_sent, command_gone, link_of, may_send_on}
-use Rattle.host_pairs.specs.Turn.{freed}
-use Rattle.host_pairs.specs.declared.entry.Entry.{Entry}
-use Rattle.host_pairs.specs.declared.listener.Listener.{Listener}
-use Rattle.host_keeps_streams.specs.Histories.{Call, Hears, Takes, Says, Sends, Answered, OpensReceiver, OpensSender, Grants, AsksBack, Gives, Closes, IsTelling, ends_by, gone_by}
-use Rattle.host_keeps_streams.specs.Names.{numbers, AreApart}
-use Rattle.host_keeps_streams.proofs.lemmas.{Holds, apart_changed, name_of, shut_one}
-use Rattle.pair_keeps_streams.specs.Words.{heard_from, with_closing}
+use Rattle.host_pairs.specs.Parcels.{cls_sent}
+use Rattle.host_keeps_streams.specs.Histories.{Sends}
 use Rattle.pair_keeps_streams.proofs.Joint.{IsFirst}
 use Rattle.pair_keeps_streams.proofs.Queues.{Stays, separate}
 use Rattle.pair_keeps_streams.proofs.Hearing.{IsUnheard, IsAlike, unheard_counts, alike_unheard, same_unheard, changed_alike, changed_unheard, settled_alike, alike_both, append_unheard, swept_heard, cls_heard}

@@ -1,17 +1,8 @@
 -- How many CLS were heard of two sockets, where ends change, come and go.
-use Rattle.std.proofs.Common.{◌≡◌, ℕ, suc, ◌==◌, ◌&&◌, not, Bool, true, false, if◌then◌else◌, List, [], ◌∷◌, ◌++◌, map, filter, Option, Some, None, is_some, refl, ap, sym, subst, ◌∙◌}
-use Rattle.std.proofs.lemmas.Bool.{eqb-true}
-use Rattle.interface.specs.Host.{Host}
+use Rattle.pair_keeps_streams.proofs.Common.{◌≡◌, ℕ, suc, ◌==◌, ◌&&◌, not, Bool, if◌then◌else◌, List, [], ◌∷◌, ◌++◌, map, filter, Option, Some, None, is_some, refl, ap, sym, subst, ◌∙◌, eqb-true, Host, cls_taken_by, DeskState, changed_first, closed_by_partner, entry_at, is_at, Entry, both, gone_by, numbers, AreApart, apart_changed, numbers_mapped, shut_one, stays, counted, has_heard, heard_of, heard_from, with_closing}
+use Rattle.std.proofs.Common.{true, false}
 use Rattle.ncp_control.specs.declared.command.Command.TheVariants as command
-use Rattle.host_pairs.specs.Commands.{cls_taken_by}
-use Rattle.host_pairs.specs.Desk.{DeskState}
-use Rattle.host_pairs.specs.Entries.{changed_first, closed_by_partner, entry_at, is_at, is_over, is_sent}
-use Rattle.host_pairs.specs.declared.entry.Entry.{Entry}
-use Rattle.host_pairs.proofs.lemmas.{both}
-use Rattle.host_keeps_streams.specs.Histories.{gone_by}
-use Rattle.host_keeps_streams.specs.Names.{numbers, AreApart}
-use Rattle.host_keeps_streams.proofs.lemmas.{apart_changed, numbers_mapped, shut_one, stays}
-use Rattle.pair_keeps_streams.specs.Words.{counted, has_heard, heard_of, heard_from, with_closing}
+use Rattle.host_pairs.specs.Entries.{is_over, is_sent}
 use Rattle.pair_keeps_streams.proofs.Queues.{AreSeparate, Stays, kept_if, separate, sweep_found, at_changed}
 
 -- ---- before and after

@@ -1,32 +1,11 @@
 -- The two programs of a pair of hosts on one link, each way, beside two runs of the law of streams.
-use Rattle.std.proofs.Common.{◌≡◌, ℕ, Bool, true, false, List, [], ◌∷◌, ◌++◌, drop, map, None, Some}
-use Rattle.interface.specs.Host.{Host}
-use Rattle.ncp_control.specs.DataHeader.{header_of, data_bits}
-use Rattle.ncp_control.specs.Numbers.{is_receive_socket, is_send_socket}
-use Rattle.ncp_control.specs.declared.command.Command.{Command}
+use Rattle.pair_keeps_streams.proofs.Common.{◌≡◌, ℕ, Bool, true, false, List, [], ◌∷◌, ◌++◌, drop, map, None, Some, Host, header_of, data_bits, is_receive_socket, Command, DataHeader, Word, Receiver, Sender, Stream, Box, Empty, Waiting, Taken, Receives, happens, Exact, Inv, receiver_requested, requested, desk_taken, data_of, data_taken, desk_of, settled, entry_at, free_link, is_link, is_receiving, sending_end, PairState, link_of, freed, Entry, Listener, Call, Hears, Takes, Answered, OpensReceiver, OpensSender, Grants, AsksBack, Closes, IsTelling, ends_by, gone_by, named, Holds, name_of, plain, closings_in, said_of, heard_from, receiver_words, sender_words}
+use Rattle.ncp_control.specs.Numbers.{is_send_socket}
 use Rattle.ncp_control.specs.declared.command.Command.TheVariants as command
-use Rattle.ncp_control.specs.declared.data_header.DataHeader.{DataHeader}
-use Rattle.stream_law.specs.Words.{Word}
 use Rattle.stream_law.specs.Receivers as receivers
-use Rattle.stream_law.specs.Receivers.{Receiver}
 use Rattle.stream_law.specs.Senders as senders
-use Rattle.stream_law.specs.Senders.{Sender}
-use Rattle.stream_law.specs.Streams.{Stream, Box, Empty, Waiting, Taken, Receives, Sends, happens}
-use Rattle.stream_law.proofs.lemmas.{Exact, Inv}
-use Rattle.host_pairs.specs.Asked.{closed_end, receiver_requested, requested}
-use Rattle.host_pairs.specs.Commands.{desk_taken}
-use Rattle.host_pairs.specs.Data.{data_of, data_taken}
-use Rattle.host_pairs.specs.Desk.{desk_of, settled}
-use Rattle.host_pairs.specs.Entries.{entry_at, free_link, is_link, is_receiving, sending_end}
-use Rattle.host_pairs.specs.Pair.{PairState}
-use Rattle.host_pairs.specs.Parcels.{link_of}
-use Rattle.host_pairs.specs.Turn.{freed}
-use Rattle.host_pairs.specs.declared.entry.Entry.{Entry}
-use Rattle.host_pairs.specs.declared.listener.Listener.{Listener}
-use Rattle.host_keeps_streams.specs.Histories.{Call, Hears, Takes, Answered, OpensReceiver, OpensSender, Grants, AsksBack, Closes, IsTelling, ends_by, gone_by}
-use Rattle.host_keeps_streams.specs.Names.{named}
-use Rattle.host_keeps_streams.proofs.lemmas.{Holds, name_of}
-use Rattle.pair_keeps_streams.specs.Words.{plain, closings_in, said_of, heard_from, receiver_words, sender_words}
+use Rattle.stream_law.specs.Streams.{Sends}
+use Rattle.host_pairs.specs.Asked.{closed_end}
 
 -- ---- what a call queues
 

@@ -1,3 +1,4 @@
+pub mod Common
 pub mod Joint
 pub mod Queues
 pub mod QueuesShut

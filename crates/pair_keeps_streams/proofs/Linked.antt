@@ -1,35 +1,13 @@
 -- A connection was asked for on the link where its receiving end has it, after each call.
-use Rattle.std.proofs.Common.{◌≡◌, ℕ, ◌*◌, nat_le, Bool, true, false, ◌&&◌, ◌==◌, if◌then◌else◌, List, [], ◌∷◌, ◌++◌, map, Option, Some, None, is_some, refl, ap, ◌∙◌, arith, eq-eqb}
-use Rattle.std.proofs.lemmas.Bool.{eqb-true, ne_eqb}
-use Rattle.std.specs.List.{list_any}
-use Rattle.interface.specs.Host.{Host}
-use Rattle.ncp_control.specs.Command.{IsCommand}
-use Rattle.ncp_control.specs.DataHeader.{header_of, data_bits}
-use Rattle.ncp_control.specs.Numbers.{is_receive_socket}
-use Rattle.ncp_control.specs.declared.command.Command.{Command}
+use Rattle.pair_keeps_streams.proofs.Common.{◌≡◌, ℕ, ◌*◌, nat_le, Bool, false, ◌&&◌, ◌==◌, if◌then◌else◌, List, [], ◌∷◌, ◌++◌, map, Option, Some, None, is_some, refl, ap, ◌∙◌, arith, eq-eqb, eqb-true, ne_eqb, list_any, Host, IsCommand, header_of, data_bits, is_receive_socket, Command, DataHeader, for, Receiver, Sender, receiver_requested, with_more_bits, Found, Unconnected, Ending, Open, all_taken, asked_on_link, asked_with_size, at_end, cls_taken_by, given_back, granted, gvb_taken, interrupted, ret_taken, returned, receiver_on, rts_heard, rts_taken, rts_taken_by, sender_on, str_heard, str_linked, str_taken_by, desk_taken, arrived_if, data_found, is_acceptable, spent, DeskState, desk_of, listener_on, called_off, changed_first, closed_by_partner, entry_at, free_link, is_at, is_mine_on, is_receiving, receiving_end, receives_on, refused_end, sending_end, sends_on, PairState, asked_at, bits_gone, command_gone, link_of, may_send_on, freed, Entry, Listener, both, all_received, Call, Hears, Takes, Says, Answered, OpensReceiver, OpensSender, Grants, AsksBack, Gives, Closes, IsAllowed, IsTelling, ends_by, gone_by, received_at, answers_str, asks_for, cls_received, data_received, received_out, str_received, named, numbers, is_among, Holds, IsAhead, is_there, name_of, odd_is, shut_one, stays, unlike}
+use Rattle.std.proofs.Common.{true}
 use Rattle.ncp_control.specs.declared.command.Command.TheVariants as command
-use Rattle.ncp_control.specs.declared.data_header.DataHeader.{DataHeader}
 use Rattle.stream_law.specs.Words as words
-use Rattle.stream_law.specs.Words.{for}
 use Rattle.stream_law.specs.Receivers as receivers
-use Rattle.stream_law.specs.Receivers.{Receiver}
-use Rattle.stream_law.specs.Senders.{Sender}
-use Rattle.host_pairs.specs.Asked.{receiver_requested, with_more_bits}
-use Rattle.host_pairs.specs.Commands.{Found, Unconnected, Ending, Open, all_taken, asked_on_link, asked_with_size, at_end, cls_taken_by, given_back, granted, gvb_taken, interrupted, ret_taken, returned, receiver_on, rts_heard, rts_taken, rts_taken_by, sender_on, str_heard, str_linked, str_taken_by, desk_taken}
-use Rattle.host_pairs.specs.Data.{arrived_if, data_found, is_acceptable, spent}
-use Rattle.host_pairs.specs.Desk.{DeskState, desk_of, listener_on}
-use Rattle.host_pairs.specs.Entries.{called_off, changed_first, closed_by_partner, entry_at, free_link, is_at, is_mine_on, is_receiving, receiving_end, receives_on, refused_end, sending_end, sends_on}
-use Rattle.host_pairs.specs.Pair.{PairState}
-use Rattle.host_pairs.specs.Parcels.{asked_at, bits_gone, cls_sent, command_gone, link_of, may_send_on}
-use Rattle.host_pairs.specs.Turn.{freed}
-use Rattle.host_pairs.specs.declared.entry.Entry.{Entry}
-use Rattle.host_pairs.specs.declared.listener.Listener.{Listener}
-use Rattle.host_pairs.proofs.lemmas.{both}
-use Rattle.host_keeps_streams.specs.Closings.{all_received}
-use Rattle.host_keeps_streams.specs.Histories.{Call, Hears, Takes, Says, Sends, Answered, OpensReceiver, OpensSender, Grants, AsksBack, Gives, Closes, IsAllowed, IsTelling, ends_by, gone_by, received_at}
-use Rattle.host_keeps_streams.specs.Moves.{answers_str, asks_for, cls_received, data_received, received_by, received_out, str_received}
-use Rattle.host_keeps_streams.specs.Names.{named, numbers, is_among}
-use Rattle.host_keeps_streams.proofs.lemmas.{Holds, IsAhead, is_there, name_of, odd_is, same_numbers, shut_one, stays, unlike}
+use Rattle.host_pairs.specs.Parcels.{cls_sent}
+use Rattle.host_keeps_streams.specs.Histories.{Sends}
+use Rattle.host_keeps_streams.specs.Moves.{received_by}
+use Rattle.host_keeps_streams.proofs.lemmas.{same_numbers}
 use Rattle.pair_keeps_streams.proofs.Asked.{AllAskNone, asked_if, cls_none, data_none, if_none, out_none, same_asked, str_none}
 use Rattle.pair_keeps_streams.proofs.Joint.{AreLinked}
 use Rattle.pair_keeps_streams.proofs.Queues.{Stays}

@@ -1,14 +1,7 @@
 -- A connection was asked for on the link where its receiving end has it, where ends change, come and go.
-use Rattle.std.proofs.Common.{◌≡◌, ℕ, Bool, true, false, ◌==◌, if◌then◌else◌, List, [], ◌∷◌, ◌++◌, map, filter, Option, refl, ap, sym, subst, ◌∙◌, eq-eqb}
-use Rattle.std.proofs.lemmas.Bool.{ne_eqb}
-use Rattle.ncp_control.specs.Numbers.{is_receive_socket}
-use Rattle.stream_law.specs.Words.{for}
-use Rattle.stream_law.specs.Receivers.{Receiver}
+use Rattle.pair_keeps_streams.proofs.Common.{◌≡◌, ℕ, Bool, true, false, ◌==◌, if◌then◌else◌, List, [], ◌∷◌, ◌++◌, map, filter, Option, refl, ap, sym, subst, ◌∙◌, eq-eqb, ne_eqb, is_receive_socket, for, Receiver, changed_first, is_link, is_receiving, Entry, named, numbers, is_among, shut_one, unlike}
 use Rattle.stream_law.proofs.lemmas.{for_here}
-use Rattle.host_pairs.specs.Entries.{changed_first, is_link, is_receiving}
-use Rattle.host_pairs.specs.declared.entry.Entry.{Entry}
-use Rattle.host_keeps_streams.specs.Names.{named, numbers, is_among}
-use Rattle.host_keeps_streams.proofs.lemmas.{or_right, shut_one, unlike}
+use Rattle.host_keeps_streams.proofs.lemmas.{or_right}
 use Rattle.pair_keeps_streams.proofs.Joint.{AreLinked}
 use Rattle.pair_keeps_streams.proofs.Queues.{Stays}
 

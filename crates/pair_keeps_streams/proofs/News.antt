@@ -1,29 +1,9 @@
 -- A call asks only for connections of which no CLS was said.
-use Rattle.std.proofs.Common.{◌≡◌, ℕ, ◌<◌, ◌==◌, ◌&&◌, Bool, true, false, if◌then◌else◌, List, [], ◌∷◌, length, Option, Some, None, is_some, not, refl, sym, subst, ◌∙◌, arith}
-use Rattle.std.proofs.lemmas.Bool.{ne_eqb}
-use Rattle.ncp_control.specs.DataHeader.{header_of, data_bits}
-use Rattle.ncp_control.specs.declared.command.Command.{Command}
+use Rattle.pair_keeps_streams.proofs.Common.{◌≡◌, ℕ, ◌<◌, ◌==◌, ◌&&◌, Bool, true, false, if◌then◌else◌, List, [], ◌∷◌, length, Option, Some, None, is_some, not, refl, sym, subst, ◌∙◌, arith, ne_eqb, header_of, data_bits, Command, DataHeader, for, covers, holds, is_size, Receiver, Sender, data_of, listener_on, entry_at, free_link, is_receiving, receives_on, PairState, Closing, Entry, Listener, all_received, received_close, received_gone, received_open, Call, Hears, Takes, Says, OpensReceiver, Grants, AsksBack, Closes, IsTelling, IsAllowed, received_at, answers_str, asked_received, asks_for, closed_received, cls_received, data_received, str_received, named, name_of, counted, has_said, said_of}
 use Rattle.ncp_control.specs.declared.command.Command.TheVariants as command
-use Rattle.ncp_control.specs.declared.data_header.DataHeader.{DataHeader}
 use Rattle.stream_law.specs.Words as words
-use Rattle.stream_law.specs.Words.{for, covers, holds, is_size}
 use Rattle.stream_law.specs.Receivers as receivers
-use Rattle.stream_law.specs.Receivers.{Receiver}
-use Rattle.stream_law.specs.Senders.{Sender}
-use Rattle.host_pairs.specs.Data.{data_of}
-use Rattle.host_pairs.specs.Desk.{listener_on}
-use Rattle.host_pairs.specs.Entries.{entry_at, free_link, is_receiving, receives_on}
-use Rattle.host_pairs.specs.Pair.{PairState}
-use Rattle.host_pairs.specs.declared.entry.Closing.{Closing}
 use Rattle.host_pairs.specs.declared.entry.Closing.TheVariants as closing
-use Rattle.host_pairs.specs.declared.entry.Entry.{Entry}
-use Rattle.host_pairs.specs.declared.listener.Listener.{Listener}
-use Rattle.host_keeps_streams.specs.Closings.{all_received, received_close, received_gone, received_open}
-use Rattle.host_keeps_streams.specs.Histories.{Call, Hears, Takes, Says, OpensReceiver, Grants, AsksBack, Closes, IsTelling, IsAllowed, received_at}
-use Rattle.host_keeps_streams.specs.Moves.{answers_str, asked_received, asks_for, closed_received, cls_received, data_received, str_received}
-use Rattle.host_keeps_streams.specs.Names.{named}
-use Rattle.host_keeps_streams.proofs.lemmas.{name_of}
-use Rattle.pair_keeps_streams.specs.Words.{counted, has_said, said_of}
 use Rattle.pair_keeps_streams.proofs.Spoken.{AskedSame}
 
 -- moves that ask for such connections only

@@ -1,17 +1,10 @@
 -- Where two hosts meet and part: what is kept as one leaves, and what it may do afterwards.
-use Rattle.std.proofs.Common.{◌≡◌, ℕ, Bool, true, false, List, [], ◌∷◌, ◌++◌, refl, ap, sym, subst, ◌∙◌, append-nil}
-use Rattle.ncp_control.specs.declared.command.Command.{Command}
+use Rattle.pair_keeps_streams.proofs.Common.{◌≡◌, ℕ, Bool, true, false, List, [], ◌∷◌, ◌++◌, refl, ap, sym, subst, ◌∙◌, append-nil, Command, Word, Receiver, Stream, Box, Empty, Waiting, Taken, Entry, IsTelling, Holds, name_of, closings_in, heard_from, said_of, with_closing, receiver_word, receiver_words, sender_word, sender_words}
 use Rattle.ncp_control.specs.declared.command.Command.TheVariants as command
-use Rattle.stream_law.specs.Words.{Word}
 use Rattle.stream_law.specs.Receivers as receivers
-use Rattle.stream_law.specs.Receivers.{Receiver}
 use Rattle.stream_law.specs.Senders as senders
-use Rattle.stream_law.specs.Streams.{Stream, Box, Empty, Waiting, Taken, opening_stream}
+use Rattle.stream_law.specs.Streams.{opening_stream}
 use Rattle.stream_law.proofs.lemmas.{exact_opening, inv_opening}
-use Rattle.host_pairs.specs.declared.entry.Entry.{Entry}
-use Rattle.host_keeps_streams.specs.Histories.{IsTelling}
-use Rattle.host_keeps_streams.proofs.lemmas.{Holds, name_of}
-use Rattle.pair_keeps_streams.specs.Words.{closings_in, heard_from, said_of, with_closing, receiver_word, receiver_words, sender_word, sender_words}
 use Rattle.pair_keeps_streams.proofs.Joint.{AreLinked, Party, Post, Free, Lies, Fetched, Half, Line, IsPosted, IsBox, Joint, receives, heard_by, said_by}
 use Rattle.pair_keeps_streams.proofs.News.{take_asked}
 use Rattle.pair_keeps_streams.proofs.Spoken.{closings_append, receiver_append, receiver_same, sender_append}

@@ -1,29 +1,11 @@
 -- What each call of a program queues is what the moves by it say.
-use Rattle.std.proofs.Common.{◌≡◌, ℕ, ◌==◌, ◌&&◌, Bool, true, false, if◌then◌else◌, List, [], ◌∷◌, ◌++◌, map, Option, Some, None, is_some, refl, ap, sym, subst, ◌∙◌, arith}
-use Rattle.std.specs.List.{list_any}
-use Rattle.interface.specs.Host.{Host}
-use Rattle.ncp_control.specs.Command.{IsCommand}
-use Rattle.ncp_control.specs.Numbers.{is_receive_socket}
-use Rattle.ncp_control.specs.declared.command.Command.{Command}
+use Rattle.pair_keeps_streams.proofs.Common.{◌≡◌, ℕ, ◌==◌, ◌&&◌, Bool, true, false, if◌then◌else◌, List, [], ◌∷◌, ◌++◌, map, Option, Some, None, is_some, refl, ap, sym, subst, ◌∙◌, arith, list_any, Host, IsCommand, is_receive_socket, Command, Word, Receiver, Sender, receiver_on, sender_on, asked_on_link, asked_with_size, rts_heard, rts_taken, rts_taken_by, str_heard, str_linked, str_taken_by, DeskState, desk_of, listener_on, changed_first, entry_at, free_link, has_cls, is_at, receives_on, receiving_end, sending_end, sends_on, PairState, freed, Entry, Listener, all_received, received_open, sent_open, Call, Hears, Takes, Says, Answered, OpensReceiver, OpensSender, Grants, AsksBack, Gives, Closes, IsAllowed, IsTelling, ends_by, received_at, sent_at, answers_str, hears_rts, rts_sent, str_received, Holds, IsAhead, is_there, name_of, odd_is, unlike, plain, received_words, sent_words}
 use Rattle.ncp_control.specs.declared.command.Command.TheVariants as command
 use Rattle.stream_law.specs.Words as words
-use Rattle.stream_law.specs.Words.{Word}
 use Rattle.stream_law.specs.Receivers as receivers
-use Rattle.stream_law.specs.Receivers.{Receiver}
 use Rattle.stream_law.specs.Senders as senders
-use Rattle.stream_law.specs.Senders.{Sender}
-use Rattle.host_pairs.specs.Commands.{receiver_on, sender_on, asked_on_link, asked_with_size, matched_once, rts_heard, rts_taken, rts_taken_by, str_heard, str_linked, str_taken, str_taken_by}
-use Rattle.host_pairs.specs.Desk.{DeskState, desk_of, listener_on}
-use Rattle.host_pairs.specs.Entries.{changed_first, entry_at, free_link, has_cls, is_at, receives_on, receiving_end, sending_end, sends_on}
-use Rattle.host_pairs.specs.Pair.{PairState}
-use Rattle.host_pairs.specs.Turn.{freed}
-use Rattle.host_pairs.specs.declared.entry.Entry.{Entry}
-use Rattle.host_pairs.specs.declared.listener.Listener.{Listener}
-use Rattle.host_keeps_streams.specs.Closings.{all_received, received_open, sent_open}
-use Rattle.host_keeps_streams.specs.Histories.{Call, Hears, Takes, Says, Sends, Answered, OpensReceiver, OpensSender, Grants, AsksBack, Gives, Closes, IsAllowed, IsTelling, ends_by, received_at, sent_at}
-use Rattle.host_keeps_streams.specs.Moves.{answers_str, hears_rts, rts_sent, str_received}
-use Rattle.host_keeps_streams.proofs.lemmas.{Holds, IsAhead, is_there, name_of, odd_is, unlike}
-use Rattle.pair_keeps_streams.specs.Words.{plain, received_words, sent_words}
+use Rattle.host_pairs.specs.Commands.{matched_once, str_taken}
+use Rattle.host_keeps_streams.specs.Histories.{Sends}
 use Rattle.pair_keeps_streams.proofs.Joint.{AreLinked, IsPairedCall, Speaks, queue_by}
 use Rattle.pair_keeps_streams.proofs.Queues.{Told, append_kept, changed_kept, one_told, silent}
 use Rattle.pair_keeps_streams.proofs.QueuesAsked.{asks_back_told, bytes_told, data_told, gives_told, grants_told, if_received, if_sent, opened_received, opened_sent, opens_receiver, opens_sender, rts_word, says_told, str_word, wrong_told}

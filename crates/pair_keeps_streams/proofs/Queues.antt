@@ -1,17 +1,8 @@
 -- How many CLS were said of two sockets, where ends change, come and go.
-use Rattle.std.proofs.Common.{◌≡◌, ℕ, suc, ◌==◌, ◌&&◌, not, Bool, true, false, if◌then◌else◌, List, [], ◌∷◌, ◌++◌, map, filter, find, Option, Some, None, is_some, refl, ap, sym, subst, ◌∙◌, eq-eqb, append-nil}
-use Rattle.std.proofs.lemmas.Bool.{eqb-true, ne_eqb}
-use Rattle.ncp_control.specs.declared.command.Command.{Command}
-use Rattle.stream_law.specs.Words.{Word}
-use Rattle.host_pairs.specs.Entries.{changed_first, cls_of, entry_at, has_cls, is_at}
-use Rattle.host_pairs.specs.declared.entry.Closing.{Closing}
+use Rattle.pair_keeps_streams.proofs.Common.{◌≡◌, ℕ, suc, ◌==◌, ◌&&◌, not, Bool, if◌then◌else◌, List, [], ◌∷◌, ◌++◌, map, filter, find, Option, Some, None, is_some, refl, ap, sym, subst, ◌∙◌, eq-eqb, append-nil, eqb-true, ne_eqb, Command, Word, changed_first, cls_of, entry_at, has_cls, is_at, Closing, Entry, both, gone_by, named, numbers, is_among, AreApart, own_name, stays, unlike, plain, counted, has_said, said_of, closings_in, with_closing, receiver_word, receiver_words, sender_word, sender_words}
+use Rattle.std.proofs.Common.{true, false}
 use Rattle.host_pairs.specs.declared.entry.Closing.TheVariants as closing
-use Rattle.host_pairs.specs.declared.entry.Entry.{Entry}
-use Rattle.host_pairs.proofs.lemmas.{both}
-use Rattle.host_keeps_streams.specs.Histories.{gone_by}
-use Rattle.host_keeps_streams.specs.Names.{named, numbers, is_among, AreApart}
-use Rattle.host_keeps_streams.proofs.lemmas.{found_among, own_name, stays, unlike}
-use Rattle.pair_keeps_streams.specs.Words.{plain, counted, has_said, said_of, closings_in, with_closing, receiver_word, receiver_words, sender_word, sender_words}
+use Rattle.host_keeps_streams.proofs.lemmas.{found_among}
 
 -- ---- before and after
 

@@ -1,35 +1,13 @@
 -- What goes out, what comes as data, and what a user asks for: what is queued by it is what the moves say.
-use Rattle.std.proofs.Common.{◌≡◌, ℕ, ◌*◌, ◌==◌, ◌&&◌, Bool, true, false, if◌then◌else◌, List, [], ◌∷◌, ◌++◌, map, filter, find, Option, Some, None, is_some, refl, ap, sym, ◌∙◌}
-use Rattle.std.proofs.lemmas.Bool.{eqb-true}
-use Rattle.interface.specs.Host.{Host}
-use Rattle.ncp_control.specs.DataHeader.{header_of, data_bits}
-use Rattle.ncp_control.specs.Numbers.{is_receive_socket}
-use Rattle.ncp_control.specs.declared.command.Command.{Command}
+use Rattle.pair_keeps_streams.proofs.Common.{◌≡◌, ℕ, ◌*◌, ◌==◌, ◌&&◌, Bool, true, false, if◌then◌else◌, List, [], ◌∷◌, ◌++◌, map, filter, find, Option, Some, None, is_some, refl, ap, sym, ◌∙◌, eqb-true, Host, header_of, data_bits, is_receive_socket, Command, DataHeader, Word, Receiver, Sender, receiver_requested, requested, with_end, with_more_bits, Found, Unconnected, Ending, Open, granted, receiver_on, arrived_if, data_found, data_taken, is_acceptable, spent, DeskState, desk_of, changed_first, entry_at, is_at, is_link, is_mine_on, is_receiving, receives_on, receiving_end, sending_end, sends_on, PairState, Bytes, asked_at, bits_gone, command_gone, link_of, may_send_on, Entry, Listener, both, received_gone, received_open, sent_open, HasSaid, asked_received, asked_sent, asks_for, closed_received, data_received, of_end, on_link, received_out, sent_out, named, numbers, AreApart, apart_changed, find_passes, name_of, stays, plain, counted, has_said, said_of, received_words, sent_words, receiver_word, sender_word}
 use Rattle.ncp_control.specs.declared.command.Command.TheVariants as command
-use Rattle.ncp_control.specs.declared.data_header.DataHeader.{DataHeader}
 use Rattle.stream_law.specs.Words as words
-use Rattle.stream_law.specs.Words.{Word}
 use Rattle.stream_law.specs.Receivers as receivers
-use Rattle.stream_law.specs.Receivers.{Receiver}
 use Rattle.stream_law.specs.Senders as senders
-use Rattle.stream_law.specs.Senders.{Sender}
-use Rattle.host_pairs.specs.Asked.{receiver_requested, requested, with_end, with_more_bits}
-use Rattle.host_pairs.specs.Commands.{Found, Unconnected, Ending, Open, granted, receiver_on}
-use Rattle.host_pairs.specs.Data.{arrived, arrived_if, data_found, data_taken, is_acceptable, spent, text_faulted}
+use Rattle.host_pairs.specs.Data.{arrived, text_faulted}
 use Rattle.host_pairs.specs.Control.{ERRONEOUS}
-use Rattle.host_pairs.specs.Desk.{DeskState, desk_of}
-use Rattle.host_pairs.specs.Entries.{changed_first, entry_at, is_at, is_link, is_mine_on, is_receiving, receives_on, receiving_end, sending_end, sends_on}
-use Rattle.host_pairs.specs.Pair.{PairState}
-use Rattle.host_pairs.specs.Parcels.{Bytes, asked_at, bits_gone, cls_sent, command_gone, link_of, may_send_on, parcel_gone}
-use Rattle.host_pairs.specs.declared.entry.Entry.{Entry}
-use Rattle.host_pairs.specs.declared.listener.Listener.{Listener}
-use Rattle.host_pairs.proofs.lemmas.{both}
-use Rattle.host_keeps_streams.specs.Closings.{received_gone, received_open, sent_open}
-use Rattle.host_keeps_streams.specs.Formed.{HasSaid}
-use Rattle.host_keeps_streams.specs.Moves.{asked_received, asked_sent, asks_for, bytes_sent, closed_received, data_received, of_end, on_link, received_out, sent_out}
-use Rattle.host_keeps_streams.specs.Names.{named, numbers, AreApart}
-use Rattle.host_keeps_streams.proofs.lemmas.{apart_changed, find_passes, name_of, stays}
-use Rattle.pair_keeps_streams.specs.Words.{plain, counted, has_said, said_of, received_words, sent_words, receiver_word, sender_word}
+use Rattle.host_pairs.specs.Parcels.{cls_sent, parcel_gone}
+use Rattle.host_keeps_streams.specs.Moves.{bytes_sent}
 use Rattle.pair_keeps_streams.proofs.Queues.{IsKept, Told, append_kept, changed_alike, changed_kept, kept_same, one_told, separate, silent, swept_said, turned_number}
 
 -- ---- moves that say nothing

@@ -1,27 +1,16 @@
 -- Where ends close: by an answer, by a user, or by a CLS of the peer.
-use Rattle.std.proofs.Common.{◌≡◌, ℕ, ◌==◌, ◌&&◌, not, Bool, true, false, if◌then◌else◌, List, [], ◌∷◌, ◌++◌, map, filter, find, Option, Some, None, refl, ap, sym, subst, ◌∙◌}
-use Rattle.interface.specs.Host.{Host}
+use Rattle.pair_keeps_streams.proofs.Common.{◌≡◌, ℕ, ◌==◌, ◌&&◌, not, Bool, true, false, if◌then◌else◌, List, [], ◌∷◌, ◌++◌, map, filter, find, Option, Some, None, refl, ap, sym, subst, ◌∙◌, Host, Command, Word, Receiver, Sender, cls_taken_by, DeskState, settled, called_off, changed_first, closed_by_partner, cls_of, entry_at, is_at, is_due, is_mine_on, is_receiving, must_close, receives_on, Closing, Entry, Listener, all_received, received_close, AreReceiver, closes, closes_on, cls_received, of_end, on_link, named, numbers, AreApart, apart_changed, name_of, own_name, own_receiver, shut_one, stays, plain, received_words, sent_words}
 use Rattle.interface.proofs.lemmas.{or_false}
-use Rattle.ncp_control.specs.declared.command.Command.{Command}
 use Rattle.stream_law.specs.Words as words
-use Rattle.stream_law.specs.Words.{Word}
 use Rattle.stream_law.specs.Receivers as receivers
-use Rattle.stream_law.specs.Receivers.{Receiver}
 use Rattle.stream_law.specs.Senders as senders
-use Rattle.stream_law.specs.Senders.{Sender}
-use Rattle.host_pairs.specs.Commands.{cls_taken, cls_taken_by}
-use Rattle.host_pairs.specs.Desk.{DeskState, settled, swept}
-use Rattle.host_pairs.specs.Entries.{called_off, changed_first, close_due, closed_by_partner, cls_of, entry_at, is_at, is_due, is_mine_on, is_receiving, must_close, receives_on, was_closed}
-use Rattle.host_pairs.specs.declared.entry.Closing.{Closing}
+use Rattle.host_pairs.specs.Commands.{cls_taken}
+use Rattle.host_pairs.specs.Desk.{swept}
+use Rattle.host_pairs.specs.Entries.{close_due, was_closed}
 use Rattle.host_pairs.specs.declared.entry.Closing.TheVariants as closing
-use Rattle.host_pairs.specs.declared.entry.Entry.{Entry}
-use Rattle.host_pairs.specs.declared.listener.Listener.{Listener}
-use Rattle.host_keeps_streams.specs.Closings.{all_received, received_close}
-use Rattle.host_keeps_streams.specs.Ends.{AreReceiver, HasReceiver}
-use Rattle.host_keeps_streams.specs.Moves.{closes, closes_on, cls_received, cls_sent, of_end, on_link, told_on}
-use Rattle.host_keeps_streams.specs.Names.{named, numbers, AreApart}
-use Rattle.host_keeps_streams.proofs.lemmas.{apart_changed, away, due_cls, name_of, not_called, not_received, own_name, own_receiver, received_is, shut_one, stays}
-use Rattle.pair_keeps_streams.specs.Words.{plain, received_words, sent_words}
+use Rattle.host_keeps_streams.specs.Ends.{HasReceiver}
+use Rattle.host_keeps_streams.specs.Moves.{cls_sent, told_on}
+use Rattle.host_keeps_streams.proofs.lemmas.{away, due_cls, not_called, not_received, received_is}
 use Rattle.pair_keeps_streams.proofs.Joint.{AreLinked}
 use Rattle.pair_keeps_streams.proofs.Queues.{Told, changed_alike, kept_same, silent}
 use Rattle.pair_keeps_streams.proofs.QueuesAsked.{wrong_told}

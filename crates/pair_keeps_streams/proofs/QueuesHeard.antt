@@ -1,24 +1,15 @@
 -- What a command of the peer makes a program queue is what the moves by it say.
-use Rattle.std.proofs.Common.{◌≡◌, ℕ, suc, ◌==◌, ◌&&◌, nat_le, Bool, true, false, if◌then◌else◌, List, [], ◌∷◌, ◌++◌, map, filter, find, Option, Some, None, refl, ap, sym, subst, ◌∙◌, inl, inr, append-nil}
-use Rattle.std.proofs.lemmas.Bool.{eqb-true}
+use Rattle.pair_keeps_streams.proofs.Common.{◌≡◌, ℕ, suc, ◌==◌, ◌&&◌, nat_le, Bool, true, false, if◌then◌else◌, List, [], ◌∷◌, ◌++◌, map, filter, find, Option, Some, None, refl, ap, sym, subst, ◌∙◌, inl, inr, append-nil, eqb-true, is_receive_socket, Command, Word, Sender, Found, Unconnected, Ending, Open, all_taken, at_end, given_back, granted, gvb_taken, interrupted, receiver_on, ret_taken, returned, sender_on, DeskState, changed_first, entry_at, is_at, is_open, receives_on, refused_end, sends_on, Entry, IsSender, first_is, leaving_shut, plain, one, counted, has_said, said_of, with_closing, sent_words, receiver_word, sender_word}
 use Rattle.std.proofs.lemmas.List.Folds.{find-append}
 use Rattle.std.specs.Option.{option_or}
 use Rattle.ncp_control.specs.Allocation as counters
 use Rattle.ncp_control.specs.declared.allocation.Allocation.{Allocation}
-use Rattle.ncp_control.specs.Numbers.{is_receive_socket}
-use Rattle.ncp_control.specs.declared.command.Command.{Command}
 use Rattle.ncp_control.specs.declared.command.Command.TheVariants as command
 use Rattle.stream_law.specs.Words as words
-use Rattle.stream_law.specs.Words.{Word}
 use Rattle.stream_law.specs.Senders as senders
-use Rattle.stream_law.specs.Senders.{Sender}
-use Rattle.host_pairs.specs.Commands.{Found, Unconnected, Ending, Open, all_taken, at_end, found_in, given_back, granted, gvb_taken, interrupted, receiver_on, ret_taken, returned, sender_on}
-use Rattle.host_pairs.specs.Desk.{DeskState}
-use Rattle.host_pairs.specs.Entries.{changed_first, entry_at, is_at, is_open, receives_on, refused_end, sends_on}
-use Rattle.host_pairs.specs.declared.entry.Entry.{Entry}
-use Rattle.host_keeps_streams.specs.Ends.{AreSender, HasSender, IsSender, NoneOpen}
-use Rattle.host_keeps_streams.proofs.lemmas.{closed_found, first_is, leaving_shut, none_is, open_found, open_same_senders as open_same, unopened}
-use Rattle.pair_keeps_streams.specs.Words.{plain, one, counted, has_said, said_of, with_closing, sent_words, receiver_word, sender_word}
+use Rattle.host_pairs.specs.Commands.{found_in}
+use Rattle.host_keeps_streams.specs.Ends.{AreSender, HasSender, NoneOpen}
+use Rattle.host_keeps_streams.proofs.lemmas.{closed_found, none_is, open_found, open_same_senders as open_same, unopened}
 use Rattle.pair_keeps_streams.proofs.Queues.{Told, changed_kept, closing_elsewhere, closing_there, is_said, kept_same, none_at, one_told, said_after, silent}
 use Rattle.pair_keeps_streams.proofs.QueuesAsked.{unsaid, wrong_told}
 

@@ -1,17 +1,8 @@
 -- The CLS of all ends that close at once are what the moves say.
-use Rattle.std.proofs.Common.{◌≡◌, ℕ, suc, ◌==◌, ◌&&◌, Bool, true, false, if◌then◌else◌, List, [], ◌∷◌, ◌++◌, map, filter, Option, Some, None, is_some, refl, ap, sym, subst, ◌∙◌, eq-eqb}
-use Rattle.ncp_control.specs.declared.command.Command.{Command}
-use Rattle.stream_law.specs.Words.{Word, Cls}
-use Rattle.stream_law.specs.Receivers.{Receiver}
+use Rattle.pair_keeps_streams.proofs.Common.{◌≡◌, ℕ, suc, ◌==◌, ◌&&◌, Bool, true, false, if◌then◌else◌, List, [], ◌∷◌, ◌++◌, map, filter, Option, Some, None, is_some, refl, ap, sym, subst, ◌∙◌, eq-eqb, Command, Word, Cls, Receiver, Sender, changed_first, cls_of, entry_at, has_cls, is_at, is_due, is_link, is_receiving, must_close, receives_on, Entry, both, closes, named, numbers, AreApart, name_of, numbers_mapped, shut_one, stays, plain, counted, has_said, said_of, sent_words, closings_in, with_closing, receiver_word, receiver_words, sender_words}
 use Rattle.stream_law.specs.Senders as senders
-use Rattle.stream_law.specs.Senders.{Sender}
-use Rattle.host_pairs.specs.Entries.{changed_first, closed_when, cls_of, entry_at, has_cls, is_at, is_drained, is_due, is_link, is_receiving, must_close, receives_on}
-use Rattle.host_pairs.specs.declared.entry.Entry.{Entry}
-use Rattle.host_pairs.proofs.lemmas.{both}
-use Rattle.host_keeps_streams.specs.Moves.{closes}
-use Rattle.host_keeps_streams.specs.Names.{named, numbers, AreApart}
-use Rattle.host_keeps_streams.proofs.lemmas.{due_open, name_of, numbers_mapped, shut_one, stays}
-use Rattle.pair_keeps_streams.specs.Words.{plain, counted, has_said, said_of, sent_words, closings_in, with_closing, receiver_word, receiver_words, sender_words}
+use Rattle.host_pairs.specs.Entries.{closed_when, is_drained}
+use Rattle.host_keeps_streams.proofs.lemmas.{due_open}
 use Rattle.pair_keeps_streams.proofs.Joint.{AreLinked}
 use Rattle.pair_keeps_streams.proofs.Queues.{AreSeparate, IsAlike, Told, closing_elsewhere, is_said, many_closings, none_at, passes_at, said_after, separate, swept_said}
 

@@ -1,11 +1,7 @@
 -- The words of one list of commands after another, and how many CLS they are.
-use Rattle.std.proofs.Common.{◌≡◌, ℕ, suc, eq-eqb, ◌<◌, ◌≤◌, Bool, true, false, ◌&&◌, ◌==◌, if◌then◌else◌, List, [], ◌∷◌, ◌++◌, refl, ap, sym, ◌∙◌, arith}
-use Rattle.std.proofs.lemmas.List.{append_assoc}
-use Rattle.ncp_control.specs.Numbers.{is_receive_socket}
-use Rattle.ncp_control.specs.declared.command.Command.{Command}
+use Rattle.pair_keeps_streams.proofs.Common.{◌≡◌, ℕ, suc, eq-eqb, ◌<◌, Bool, true, false, ◌&&◌, ◌==◌, if◌then◌else◌, List, [], ◌∷◌, ◌++◌, refl, ap, sym, ◌∙◌, arith, append_assoc, is_receive_socket, Command, Word, Rts, Str, Cls, with_closing, closings_in, receiver_word, receiver_words, sender_word, sender_words}
+use Rattle.std.proofs.Common.{◌≤◌}
 use Rattle.ncp_control.specs.declared.command.Command.TheVariants as command
-use Rattle.stream_law.specs.Words.{Word, Rts, Str, Cls}
-use Rattle.pair_keeps_streams.specs.Words.{with_closing, closings_in, receiver_word, receiver_words, sender_word, sender_words}
 
 -- ---- counts
 

@@ -1,26 +1,8 @@
 -- Calls by which the other host hears nothing and takes nothing.
-use Rattle.std.proofs.Common.{◌≡◌, ℕ, ◌==◌, ◌&&◌, not, Bool, true, false, if◌then◌else◌, List, [], ◌∷◌, ◌++◌, Option, Some, None, is_some, refl, ap, sym, subst, ◌∙◌, append-nil}
-use Rattle.interface.specs.Host.{Host}
-use Rattle.ncp_control.specs.DataHeader.{header_of}
-use Rattle.ncp_control.specs.declared.command.Command.{Command}
+use Rattle.pair_keeps_streams.proofs.Common.{◌≡◌, ℕ, ◌==◌, ◌&&◌, not, Bool, true, false, if◌then◌else◌, List, [], ◌∷◌, ◌++◌, Option, Some, None, is_some, refl, ap, sym, subst, ◌∙◌, append-nil, Host, header_of, Command, DataHeader, Sender, Stream, Box, Empty, Waiting, Taken, with_end, called_off, entry_at, free_link, must_close, is_receiving, receives_on, sends_on, PairState, freed, Entry, Listener, received_gone, received_open, sent_open, HasSaid, Call, Takes, Says, Answered, OpensReceiver, OpensSender, Grants, AsksBack, Gives, Closes, IsTelling, IsAllowed, KeepBox, is_out, ends_by, gone_by, received_at, sent_at, asked_received, asked_sent, asks_for, closed_received, closes, data_received, of_end, received_out, sent_out, named, name_of}
 use Rattle.ncp_control.specs.declared.command.Command.TheVariants as command
-use Rattle.ncp_control.specs.declared.data_header.DataHeader.{DataHeader}
 use Rattle.stream_law.specs.Receivers as receivers
 use Rattle.stream_law.specs.Senders as senders
-use Rattle.stream_law.specs.Senders.{Sender}
-use Rattle.stream_law.specs.Streams.{Stream, Box, Empty, Waiting, Taken}
-use Rattle.host_pairs.specs.Asked.{with_end}
-use Rattle.host_pairs.specs.Entries.{called_off, entry_at, free_link, must_close, is_receiving, receives_on, sends_on}
-use Rattle.host_pairs.specs.Pair.{PairState}
-use Rattle.host_pairs.specs.Turn.{freed}
-use Rattle.host_pairs.specs.declared.entry.Entry.{Entry}
-use Rattle.host_pairs.specs.declared.listener.Listener.{Listener}
-use Rattle.host_keeps_streams.specs.Closings.{received_gone, received_open, sent_open}
-use Rattle.host_keeps_streams.specs.Formed.{HasSaid}
-use Rattle.host_keeps_streams.specs.Histories.{Call, Takes, Says, Answered, OpensReceiver, OpensSender, Grants, AsksBack, Gives, Closes, IsTelling, IsAllowed, KeepBox, is_out, ends_by, gone_by, received_at, sent_at}
-use Rattle.host_keeps_streams.specs.Moves.{asked_received, asked_sent, asks_for, closed_received, closes, data_received, of_end, received_out, sent_out}
-use Rattle.host_keeps_streams.specs.Names.{named}
-use Rattle.host_keeps_streams.proofs.lemmas.{name_of}
 use Rattle.pair_keeps_streams.proofs.Joint.{queue_by, IsPairedCall, Party, Post, Free, Lies, Fetched, IsPosted, IsBox, Joint, receives, sends}
 use Rattle.pair_keeps_streams.proofs.After.{Stepped, staying, keep_box}
 use Rattle.pair_keeps_streams.proofs.Facts.{IsNoHearing, Facts, free_empty, said, later, alone}
@@ -44,10 +26,6 @@ pub if_quiet : (v : Bool) (ms : List receivers.Move) → AreQuiet ms → AreQuie
 if_quiet true ms a = a
 if_quiet false ms a = tt
 
-if_quiet_sent : (v : Bool) (ms : List senders.Move) → AreQuietSent ms → AreQuietSent (if v then ms else [])
-if_quiet_sent true ms a = a
-if_quiet_sent false ms a = tt
-
 pub open_quiet : (v : Bool) (c : ℕ) → AreQuiet (received_open v c)
 open_quiet true c = (tt, tt)
 open_quiet false c = tt
@@ -59,10 +37,6 @@ gone_quiet false c = tt
 pub open_quiet_sent : (v : Bool) (c : ℕ) → AreQuietSent (sent_open v c)
 open_quiet_sent true c = (tt, tt)
 open_quiet_sent false c = tt
-
-pub end_quiet : (c : ℕ) (o : Option ℕ) (ms : List senders.Move) → AreQuietSent ms → AreQuietSent (of_end c o ms)
-end_quiet c None ms a = tt
-end_quiet c (Some own) ms a = if_quiet_sent (own == c) ms a
 
 pub closes_quiet : (name : ℕ → ℕ → ℕ) (busy : List ℕ) (es : List Entry) → AreQuietSent (closes name busy es)
 closes_quiet name busy [] = tt

@@ -1,21 +1,8 @@
 -- Each command of the other host is heard, and is gone from what is under way.
-use Rattle.std.proofs.Common.{◌≡◌, ℕ, ◌==◌, true, false, List, [], ◌∷◌, map, refl, ap, sym, subst, ◌∙◌}
-use Rattle.interface.specs.Host.{Host}
-use Rattle.ncp_control.specs.Command.{IsCommand}
-use Rattle.ncp_control.specs.declared.command.Command.{Command}
+use Rattle.pair_keeps_streams.proofs.Common.{◌≡◌, ℕ, ◌==◌, true, false, List, [], ◌∷◌, map, refl, ap, sym, subst, ◌∙◌, Host, IsCommand, Command, Sender, Stream, All, Gvb, entry_at, is_busy, PairState, Listener, FindsFree, Hears, IsTelling, KeepBox, received_at, sent_at, name_of, plain, with_closing, closings_in, heard_from, receiver_words, sender_words}
 use Rattle.ncp_control.specs.declared.command.Command.TheVariants as command
 use Rattle.stream_law.specs.Receivers as receivers
 use Rattle.stream_law.specs.Senders as senders
-use Rattle.stream_law.specs.Senders.{Sender}
-use Rattle.stream_law.specs.Streams.{Stream}
-use Rattle.stream_law.specs.Words.{All, Gvb}
-use Rattle.host_pairs.specs.Entries.{entry_at, is_busy}
-use Rattle.host_pairs.specs.Pair.{PairState}
-use Rattle.host_pairs.specs.declared.listener.Listener.{Listener}
-use Rattle.host_keeps_streams.specs.Formed.{FindsFree}
-use Rattle.host_keeps_streams.specs.Histories.{Hears, IsTelling, KeepBox, received_at, sent_at}
-use Rattle.host_keeps_streams.proofs.lemmas.{name_of}
-use Rattle.pair_keeps_streams.specs.Words.{plain, with_closing, closings_in, heard_from, receiver_words, sender_words}
 use Rattle.pair_keeps_streams.proofs.Joint.{IsPaired, IsFirst, Party, Post, Free, Line, Joint, heard_by, said_by}
 use Rattle.pair_keeps_streams.proofs.After.{Stepped, staying, keep_box}
 use Rattle.pair_keeps_streams.proofs.Facts.{Facts, later, any}

@@ -1,26 +1,10 @@
 -- A command of the other host is heard.
-use Rattle.std.proofs.Common.{◌≡◌, ℕ, ◌==◌, ◌&&◌, not, Bool, true, false, if◌then◌else◌, List, [], ◌∷◌, ◌++◌, map, Option, Some, None, refl, ap, sym, subst, ◌∙◌, eq-eqb}
-use Rattle.std.specs.List.{list_any}
-use Rattle.interface.specs.Host.{Host}
-use Rattle.ncp_control.specs.Numbers.{is_receive_socket}
-use Rattle.ncp_control.specs.declared.command.Command.{Command}
+use Rattle.pair_keeps_streams.proofs.Common.{◌≡◌, ℕ, ◌==◌, ◌&&◌, not, Bool, true, false, if◌then◌else◌, List, [], ◌∷◌, ◌++◌, map, Option, Some, None, refl, ap, sym, subst, ◌∙◌, eq-eqb, list_any, Host, is_receive_socket, Command, Word, Rts, Str, All, Gvb, Ret, Cls, Sender, Stream, Empty, Exact, link_free, changed_at, is_busy, closed_by_partner, entry_at, free_link, is_receiving, sends_on, listener_on, PairState, Entry, Listener, Hears, IsTelling, KeepBox, received_at, sent_at, closes, cls_received, rts_sent, named, name_of, own_name, own_parity, unlike, plain, with_closing, has_heard, heard_from, receiver_words, sender_words}
 use Rattle.ncp_control.specs.declared.command.Command.TheVariants as command
-use Rattle.stream_law.specs.Words.{Word, Rts, Str, All, Gvb, Ret, Cls}
 use Rattle.stream_law.specs.Receivers as receivers
 use Rattle.stream_law.specs.Senders as senders
-use Rattle.stream_law.specs.Senders.{Sender}
-use Rattle.stream_law.specs.Streams.{Stream, Empty}
-use Rattle.stream_law.proofs.lemmas.{Down, Exact, claims_asked, link_free, unless_some}
-use Rattle.host_pairs.specs.Entries.{changed_at, is_busy, closed_by_partner, entry_at, free_link, is_receiving, sends_on}
-use Rattle.host_pairs.specs.Desk.{listener_on}
-use Rattle.host_pairs.specs.Pair.{PairState}
-use Rattle.host_pairs.specs.declared.entry.Entry.{Entry}
-use Rattle.host_pairs.specs.declared.listener.Listener.{Listener}
-use Rattle.host_keeps_streams.specs.Histories.{Hears, IsTelling, KeepBox, received_at, sent_at}
-use Rattle.host_keeps_streams.specs.Moves.{closes, cls_received, cls_sent, rts_sent}
-use Rattle.host_keeps_streams.specs.Names.{named}
-use Rattle.host_keeps_streams.proofs.lemmas.{name_of, own_name, own_parity, unlike}
-use Rattle.pair_keeps_streams.specs.Words.{plain, with_closing, has_heard, heard_from, receiver_words, sender_words}
+use Rattle.stream_law.proofs.lemmas.{Down, claims_asked, unless_some}
+use Rattle.host_keeps_streams.specs.Moves.{cls_sent}
 use Rattle.pair_keeps_streams.proofs.Joint.{IsFirst, Party, Post, Free, Line, Joint}
 use Rattle.pair_keeps_streams.proofs.After.{staying}
 use Rattle.pair_keeps_streams.proofs.Facts.{Facts, free_empty}

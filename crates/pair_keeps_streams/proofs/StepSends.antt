@@ -1,27 +1,15 @@
 -- Messages of data on a link: one goes out, and one is taken.
-use Rattle.std.proofs.Common.{◌≡◌, ℕ, ◌+◌, ◌*◌, ◌==◌, Bool, true, false, if◌then◌else◌, List, [], ◌∷◌, ◌++◌, length, take, drop, Option, Some, refl, ap, sym, subst, ◌∙◌, arith}
+use Rattle.pair_keeps_streams.proofs.Common.{◌≡◌, ℕ, ◌*◌, ◌==◌, Bool, true, false, if◌then◌else◌, List, [], ◌∷◌, ◌++◌, length, take, drop, Option, Some, refl, ap, sym, subst, ◌∙◌, arith, Host, header_of, data_bits, IsHeader, Command, DataHeader, Stream, Box, Empty, Waiting, Taken, data_of, data_text, sends_on, PairState, Bytes, next_of, Entry, Listener, Takes, IsTelling, KeepBox, is_out, ends_by, gone_by, received_at, sent_at, data_received, named, name_of}
+use Rattle.std.proofs.Common.{◌+◌}
 use Rattle.std.proofs.Math.Seq.{take-length, drop-append_seam}
 use Rattle.std.proofs.lemmas.List.{length-append, length-take-le}
-use Rattle.interface.specs.Host.{Host}
-use Rattle.ncp_control.specs.DataHeader.{header_of, data_bits, header_bits, IsHeader}
-use Rattle.ncp_control.specs.declared.command.Command.{Command}
-use Rattle.ncp_control.specs.declared.data_header.DataHeader.{DataHeader}
+use Rattle.ncp_control.specs.DataHeader.{header_bits}
 use Rattle.ncp_control.proofs.lemmas.{header_again}
 use Rattle.stream_law.specs.Receivers as receivers
 use Rattle.stream_law.specs.Senders as senders
-use Rattle.stream_law.specs.Streams.{Stream, Box, Empty, Waiting, Taken}
 use Rattle.host_pairs.specs.Allowed.{MaySend}
-use Rattle.host_pairs.specs.Data.{data_of, data_text}
-use Rattle.host_pairs.specs.Entries.{sends_on}
-use Rattle.host_pairs.specs.Pair.{PairState}
-use Rattle.host_pairs.specs.Parcels.{Bytes, next_of}
-use Rattle.host_pairs.specs.declared.entry.Entry.{Entry}
-use Rattle.host_pairs.specs.declared.listener.Listener.{Listener}
 use Rattle.host_pairs.proofs.lemmas.{what_goes}
-use Rattle.host_keeps_streams.specs.Histories.{Takes, Sends, IsTelling, KeepBox, is_out, ends_by, gone_by, received_at, sent_at}
-use Rattle.host_keeps_streams.specs.Moves.{data_received}
-use Rattle.host_keeps_streams.specs.Names.{named}
-use Rattle.host_keeps_streams.proofs.lemmas.{name_of}
+use Rattle.host_keeps_streams.specs.Histories.{Sends}
 use Rattle.pair_keeps_streams.proofs.Joint.{Party, Post, Free, Lies, Fetched, IsPosted, Joint, receives, sends}
 use Rattle.pair_keeps_streams.proofs.After.{Stepped, staying, keep_box}
 use Rattle.pair_keeps_streams.proofs.Facts.{Facts, alone}

@@ -1,14 +1,8 @@
 -- Moves upon a stream, one after another: what they change, and what they leave.
-use Rattle.std.proofs.Common.{◌≡◌, ℕ, Bool, false, List, [], ◌∷◌, ◌++◌, Option, Some, None, refl, ap, sym, ◌∙◌, append-nil}
-use Rattle.std.proofs.lemmas.List.{append_assoc}
-use Rattle.stream_law.specs.Words.{Word}
+use Rattle.pair_keeps_streams.proofs.Common.{◌≡◌, ℕ, Bool, false, List, [], ◌∷◌, ◌++◌, Option, Some, None, refl, ap, sym, ◌∙◌, append-nil, append_assoc, Word, Stream, Box, Empty, Waiting, Taken, Receives, happens, Inv, kept, all_received, MayAllReceive, all_sent, MayAllSend, KeepBox, one, received_words, sent_words}
 use Rattle.stream_law.specs.Receivers as receivers
 use Rattle.stream_law.specs.Senders as senders
-use Rattle.stream_law.specs.Streams.{Stream, Box, Empty, Waiting, Taken, Receives, Sends, happens, word_queued, behind, MayReceive, MaySend}
-use Rattle.stream_law.proofs.lemmas.{Inv, kept}
-use Rattle.host_keeps_streams.specs.Closings.{all_received, MayAllReceive, all_sent, MayAllSend}
-use Rattle.host_keeps_streams.specs.Histories.{KeepBox}
-use Rattle.pair_keeps_streams.specs.Words.{one, received_words, sent_words}
+use Rattle.stream_law.specs.Streams.{Sends, word_queued, behind, MayReceive, MaySend}
 use Rattle.pair_keeps_streams.proofs.Joint.{receives, sends}
 
 -- ---- the two hosts

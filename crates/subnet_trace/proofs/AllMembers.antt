@@ -1,11 +1,8 @@
 -- All parts of a subnet are listed, one after the other.
-use Rattle.std.proofs.Common.{◌≡◌, ℕ, suc, ◌<◌, ◌≤◌, ◌+◌, ◌-◌, List, [], ◌∷◌, ◌++◌, filter, length, map, sym, ap, ◌∙◌, arith}
+use Rattle.subnet_trace.proofs.Common.{◌≡◌, ℕ, suc, ◌<◌, ◌≤◌, ◌+◌, ◌-◌, List, [], ◌∷◌, ◌++◌, filter, length, map, sym, ap, ◌∙◌, arith, range_with_len, is_imp, Net, Imp, Line, all_parts, parts_members, named}
 use Rattle.std.proofs.lemmas.List.{append_assoc, append-nil}
-use Rattle.std.specs.List.{range_with_len}
-use Rattle.subnet.specs.Events.{is_imp}
-use Rattle.subnet.specs.Net.{Net}
-use Rattle.subnet_trace.specs.Parts.{Part, Imp, Line, all_parts, parts_members}
-use Rattle.subnet_trace.specs.Printing.{imp_members, named}
+use Rattle.subnet_trace.specs.Parts.{Part}
+use Rattle.subnet_trace.specs.Printing.{imp_members}
 use Rattle.subnet_trace.proofs.PrintedParts.{one_imp}
 
 -- those that are left from an IMP on, and from a line on

@@ -1,50 +1,33 @@
 -- What an IMP keeps of flows and channels can be printed, after each of its calls.
-use Rattle.std.proofs.Common.{◌≡◌, ℕ, zero, suc, ◌+◌, ◌<◌, Bool, true, false, List, [], ◌∷◌, ◌++◌, if◌then◌else◌, length, map, replicate, Option, Some, None, Result, Ok, Err, refl, sym, ap, subst, arith}
-use Rattle.std.proofs.lemmas.List.{length-set}
+use Rattle.subnet_trace.proofs.Common.{◌≡◌, ℕ, zero, suc, ◌+◌, ◌<◌, Bool, true, false, List, [], ◌∷◌, ◌++◌, if◌then◌else◌, length, map, Option, Some, None, Result, Ok, Err, refl, sym, ap, subst, arith, length-set, All-append, All-cons, All-head, All-nil, All-set, All-tail, All, HostMessage, Flow, Sources, handed, Fate, PacketFields, flow_of, PacketKind, carried_by, End, answer_to, is_free, submitted_on, Channel, ChannelFault, Content, Frame, Received, Table, next_of, vector_of, arrival, arrival_has_room, arrived, frame_taken, from_line, ignored, taken_frame, ask, end_down, end_up, resend, resent_from, route, told_from, from_host, Pumped, packet_sent, pump, pumped, sent_on, target, HostState, ImpTurn, State, down_port, host_at, port_at, abandon, forget, give_up, host_down, host_up, taken_by, to_host, Outgoing, Port, Message, Told, IsAnswerTold, IsFlowNamed, IsHostTold, IsKeptTold, IsMessageTold, IsPacketTold, IsSourceTold}
+use Rattle.std.proofs.Common.{replicate}
 use Rattle.std.proofs.lemmas.List.Quantifiers.{position-Some}
-use Rattle.std.proofs.lemmas.List.Elements.{All-append, All-cons, All-head, All-map, All-nil, All-push, All-replicate, All-set, All-tail}
+use Rattle.std.proofs.lemmas.List.Elements.{All-map, All-push, All-replicate}
 use Rattle.std.specs.FinMap as fin
-use Rattle.std.specs.List.{All}
 use Rattle.std.specs.Prelude.{position, slice_index_or}
-use Rattle.interface.specs.declared.HostMessage.{HostMessage}
-use Rattle.interface.specs.declared.address.Flow.{Flow}
 use Rattle.interface.specs.declared.crossing.Answer.{Answer}
 use Rattle.interface.specs.declared.crossing.Answer.TheVariants as answer
-use Rattle.link_table.specs.Flows.{Sources, handed, release_in}
-use Rattle.link_table.specs.declared.destination.Fate.{Fate}
+use Rattle.link_table.specs.Flows.{release_in}
 use Rattle.link_table.specs.declared.destination.Fate.TheVariants as fate
 use Rattle.link_table.specs.declared.source.Release.{Release}
 use Rattle.link_table.specs.declared.source.Release.TheVariants as release
-use Rattle.packetiser.specs.PacketFields.{PacketFields, flow_of}
-use Rattle.packetiser.specs.declared.packet.PacketKind.{PacketKind}
 use Rattle.packetiser.specs.declared.packet.PacketKind.TheVariants as kind
-use Rattle.imp_channel.specs.Holding.{carried_by}
-use Rattle.imp_channel.specs.Line.{End, all_acknowledged, answer_to, channel_at, expected_after, frames_from, frames_of, holding, is_foreign, is_free, resent, routes_frame, state_after, submitted, submitted_on}
-use Rattle.imp_channel.specs.declared.channel.Channel.{Channel}
-use Rattle.imp_channel.specs.declared.fault.ChannelFault.{ChannelFault}
-use Rattle.imp_channel.specs.declared.frame.Content.{Content}
+use Rattle.imp_channel.specs.Line.{all_acknowledged, channel_at, expected_after, frames_from, frames_of, holding, is_foreign, resent, routes_frame, state_after, submitted}
 use Rattle.imp_channel.specs.declared.frame.Content.TheVariants as content
-use Rattle.imp_channel.specs.declared.frame.Frame.{Frame}
-use Rattle.imp_channel.specs.declared.line.Received.{Received}
 use Rattle.imp_channel.specs.declared.line.Received.TheVariants as received
 use Rattle.imp_channel.proofs.lemmas.{fresh_carried}
-use Rattle.routing.specs.RouteTable.{Table, next_of, vector_of}
-use Rattle.imp_node.specs.Arrival.{Answering, Arrival, NoSlot, Old, Passing, Piece, Replying, Undeliverable, Unmarked, arrival, arrival_has_room, arrived, frame_taken, from_line, ignored, taken_frame}
+use Rattle.imp_node.specs.Arrival.{Answering, Arrival, NoSlot, Old, Passing, Piece, Replying, Undeliverable, Unmarked}
 use Rattle.imp_node.specs.Arrival as arrivals
-use Rattle.imp_node.specs.Asking.{ask, asked_by}
+use Rattle.imp_node.specs.Asking.{asked_by}
 use Rattle.imp_node.specs.Flows.{answer_packet, answer_queued, answered_by, fated, freed, given, message_queued, next_number, noted, with_begun}
-use Rattle.imp_node.specs.Lines.{end_down, end_up, on_port, resend, resent_by, resent_from, route, told_by, told_from}
-use Rattle.imp_node.specs.Offering.{Away, Here, Nowhere, Way, from_host, offered, way_of}
-use Rattle.imp_node.specs.Pump.{Pumped, packet_sent, pump, pumped, sent_on, stored, target}
+use Rattle.imp_node.specs.Lines.{on_port, resent_by, told_by}
+use Rattle.imp_node.specs.Offering.{Away, Here, Nowhere, Way, offered, way_of}
+use Rattle.imp_node.specs.Pump.{stored}
 use Rattle.imp_node.specs.Queries.{outstanding}
-use Rattle.imp_node.specs.State.{HostState, ImpTurn, State, down_port, host_at, is_up, no_host, opening_node, port_at, up_host, up_port, with_host}
-use Rattle.imp_node.specs.Stopping.{abandon, all_handed, all_returned, forget, give_up, host_down, host_up, message_returned, stopped}
-use Rattle.imp_node.specs.Taking.{is_from_here, replied, reply_has_room, taken_by, to_host}
-use Rattle.imp_node.specs.declared.outgoing.Outgoing.{Outgoing}
-use Rattle.imp_node.specs.declared.port.Port.{Port}
-use Rattle.imp_node.specs.declared.waiting.Message.{Message}
-use Rattle.imp_node.specs.declared.waiting.Told.{Told}
-use Rattle.subnet_trace.specs.Told.{IsAnswerTold, IsFlowNamed, IsHostTold, IsKeptTold, IsMessageTold, IsPacketTold, IsShort, IsSourceTold}
+use Rattle.imp_node.specs.State.{is_up, no_host, opening_node, up_host, up_port, with_host}
+use Rattle.imp_node.specs.Stopping.{all_handed, all_returned, message_returned, stopped}
+use Rattle.imp_node.specs.Taking.{is_from_here, replied, reply_has_room}
+use Rattle.subnet_trace.specs.Told.{IsShort}
 use Rattle.subnet_trace.proofs.Tables.{TableHas, answered_has, begun_has, dropped_has, ended_has, given_up_has, handed_has, none_has, noted_has, number_short}
 
 -- ---- what is known

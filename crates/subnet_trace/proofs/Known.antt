@@ -1,45 +1,21 @@
 -- All that is in a subnet can be printed after each event, if it could be before.
-use Rattle.std.proofs.Common.{◌≡◌, ℕ, zero, suc, ◌+◌, List, [], ◌∷◌, length, map, count_by, Option, Some, None, IfSome, slice_get, refl, ap, ◌∙◌, arith}
-use Rattle.std.proofs.lemmas.List.{length-set}
-use Rattle.std.proofs.lemmas.List.Elements.{All-cons, All-head, All-nil, All-set, All-tail, All-weaker}
-use Rattle.std.specs.List.{All}
-use Rattle.interface.specs.Host.{Host}
-use Rattle.interface.specs.declared.HostMessage.{HostMessage}
-use Rattle.interface.specs.declared.NetEvent.{NetEvent}
+use Rattle.subnet_trace.proofs.Common.{◌≡◌, ℕ, zero, suc, ◌+◌, List, [], ◌∷◌, length, map, Option, Some, None, IfSome, slice_get, refl, ap, ◌∙◌, arith, length-set, All-cons, All-head, All-nil, All-set, All-tail, All-weaker, All, Host, HostMessage, NetEvent, Crossing, Direction, PacketFields, SlotState, carried_by, Channel, Content, Frame, from_line, ask, end_down, end_up, resend, route, ImpTurn, State, abandon, forget, give_up, host_down, host_up, from_host, to_host, Port, IsNetEvent, at_imp, crossings_of, deliver, delivered, drop_frame, imp_started, imp_stopped, logging, offer_out, quiet_round, site_at, stepped, step_refusal, take_in, taken_by_host, Net, Wire, ends_at, far_end, frames_on, imp_at, port_of, wire_at, with_turn, opened_from, opened_imp, opening_subnet, IsSound, Ends, IsChannelTold, IsContentTold, IsFlowNamed, IsFrameTold, IsHeardTold, IsKeptTold, IsLineTold, IsOneNetwork, IsPacketTold, IsPieceTold, IsPlaced, IsPortTold, IsSlotTold, IsSourceTold, IsTold, IsToldAt, flow_named}
+use Rattle.std.proofs.Common.{count_by}
 use Rattle.interface.specs.declared.NetEvent.TheVariants as net
-use Rattle.interface.specs.declared.crossing.Crossing.{Crossing}
 use Rattle.interface.specs.declared.crossing.Crossing.TheVariants as crossing
-use Rattle.interface.specs.declared.event.Direction.{Direction}
-use Rattle.packetiser.specs.PacketFields.{IsPacket, PacketFields}
-use Rattle.packetiser.specs.Slots.{IsPieceFor, IsSlot, SlotState}
-use Rattle.imp_channel.specs.Holding.{carried_by}
-use Rattle.imp_channel.specs.declared.channel.Channel.{Channel}
-use Rattle.imp_channel.specs.declared.frame.Content.{Content}
+use Rattle.packetiser.specs.PacketFields.{IsPacket}
+use Rattle.packetiser.specs.Slots.{IsPieceFor, IsSlot}
 use Rattle.imp_channel.specs.declared.frame.Content.TheVariants as content
-use Rattle.imp_channel.specs.declared.frame.Frame.{Frame}
 use Rattle.imp_channel.proofs.lemmas.{ContentHas}
-use Rattle.imp_node.specs.Arrival.{from_line}
-use Rattle.imp_node.specs.Asking.{ask}
-use Rattle.imp_node.specs.Lines.{end_down, end_up, resend, route}
-use Rattle.imp_node.specs.State.{ImpTurn, State}
-use Rattle.imp_node.specs.Stopping.{abandon, forget, give_up, host_down, host_up}
-use Rattle.imp_node.specs.Offering.{from_host}
-use Rattle.imp_node.specs.Taking.{to_host}
-use Rattle.imp_node.specs.declared.port.Port.{Port}
-use Rattle.script.specs.Spelling.{IsNetEvent}
-use Rattle.subnet.specs.Events.{at_imp, crossings_of, deliver, delivered, drop_frame, hosts_at, imp_started, imp_stopped, logging, offer_out, quiet_round, site_at, started_imp, stepped, step_refusal, take_in, taken_by_host}
-use Rattle.subnet.specs.Net.{Net, Wire, ends_at, far_end, frames_on, imp_at, port_of, wire_at, with_turn}
-use Rattle.subnet.specs.Opening.{empty_wire, opened_from, opened_imp, opening_subnet}
+use Rattle.subnet.specs.Events.{hosts_at, started_imp}
+use Rattle.subnet.specs.Opening.{empty_wire}
 use Rattle.subnet.specs.Routed.{FrameTells, HeardVector, ImpHeard, TellsVector, WireTells}
-use Rattle.subnet.specs.Sound.{IsAt, IsSound}
+use Rattle.subnet.specs.Sound.{IsAt}
 use Rattle.subnet.specs.Working.{IsWhole}
-use Rattle.subnet.specs.declared.Ends.{Ends}
 use Rattle.subnet.proofs.lemmas.{FrameHas, GotHas, ImpHas, Keeps, NetHas, WireHas, WireHolds, deliver_sound, drop_sound, dropped_holds, got_has, imp_has, packets_net, put_all_holds, resend_sound, round_keeps, route_sound, way_holds, wire_holds}
-use Rattle.subnet_trace.specs.Told.{IsChannelTold, IsContentTold, IsFlowNamed, IsFrameTold, IsHeardTold, IsKeptTold, IsLineTold, IsOneNetwork, IsPacketTold, IsPieceTold, IsPlaced, IsPortTold, IsSlotTold, IsSourceTold, IsTold, IsToldAt}
 use Rattle.subnet_trace.proofs.Knowing.{ContentFits, FrameFits, Knows, TurnKnows, abandon_knows, ask_knows, end_down_knows, end_up_knows, forget_knows, from_host_knows, from_line_knows, give_up_knows, host_down_knows, host_up_knows, opening_knows, resend_knows, route_knows, started_knows, to_host_knows}
 use Rattle.subnet_trace.proofs.Rest.{at_keeps, drop_keeps, opening, step_keeps}
 use Rattle.subnet_trace.proofs.Tables.{table_all}
-use Rattle.trace.proofs.lemmas.{flow_named}
 
 -- ---- what valid values are
 

@@ -1,10 +1,6 @@
 -- The members of an object are printed one after the other.
-use Rattle.std.proofs.Common.{◌≡◌, ℕ, List, [], ◌∷◌, ◌++◌, codes, Option, subst}
+use Rattle.subnet_trace.proofs.Common.{◌≡◌, ℕ, List, [], ◌∷◌, ◌++◌, codes, Option, subst, Appends, Appends-trans, member, object, quoted, five, three}
 use Rattle.std.proofs.lemmas.List.{append_assoc}
-use Rattle.std.specs.Io.KnownBytes.{Appends}
-use Rattle.std.proofs.KnownBytes.{Appends-trans}
-use Rattle.trace.specs.Texts.{member, object, quoted}
-use Rattle.trace.proofs.lemmas.{five, three}
 
 -- ---- packets and messages
 

@@ -1,35 +1,17 @@
 -- A calm of a subnet continues.
-use Rattle.std.proofs.Common.{◌≡◌, ℕ, suc, ◌+◌, ◌-◌, ◌<◌, ◌&&◌, nat_lt, not, is_none, is_some, Bool, true, false, List, [], if◌then◌else◌, length, Option, Some, None, Result, Ok, Err, slice_get, slice_set, refl, sym, ap, ◌∙◌, subst, arith}
-use Rattle.std.proofs.lemmas.Bool.{ltb-false}
-use Rattle.std.proofs.lemmas.List.{get_or_past, nil_from_length, set-get_or}
-use Rattle.interface.specs.Calls.{is_halt, is_memory}
-use Rattle.interface.specs.Host.{Host}
-use Rattle.interface.specs.declared.CarrierFault.{CarrierFault}
+use Rattle.subnet_trace.proofs.Common.{◌≡◌, ℕ, suc, ◌+◌, ◌-◌, ◌<◌, ◌&&◌, nat_lt, not, is_none, is_some, Bool, List, [], if◌then◌else◌, length, Option, Some, None, Result, Ok, Err, slice_get, slice_set, refl, sym, ap, ◌∙◌, subst, arith, ltb-false, get_or_past, nil_from_length, set-get_or, is_halt, is_memory, Host, CarrierFault, Inbound, NetEvent, Direction, Frame, State, Shown, GoesOn, Happens, IsOneCall, outcome_of, RawEvent, Kept, refusal_of, step_grows, take_grows, SubnetStep, SubnetTake, subnet_calls, accepted, at_up, deliver, delivered, drop_frame, frame_refusal, gives, imp_refusal, is_imp, step_refusal, stepped, take_in, take_refusal, taken_by_host, imp_is_up, Net, Wire, frames_on, imp_at, no_wire, wire_at, Course, no_course, rounds_from, then_course, GoesOnWith, or_first, calm_left, is_working, round_left, round_of, IsNext, Stage}
+use Rattle.std.proofs.Common.{true, false}
 use Rattle.interface.specs.declared.CarrierFault.TheVariants as fault
-use Rattle.interface.specs.declared.Inbound.{Inbound}
-use Rattle.interface.specs.declared.NetEvent.{NetEvent}
 use Rattle.interface.specs.declared.NetEvent.TheVariants as net
-use Rattle.interface.specs.declared.event.Direction.{Direction}
 use Rattle.interface.specs.declared.event.Direction.TheVariants as way
-use Rattle.imp_channel.specs.declared.frame.Frame.{Frame}
-use Rattle.imp_node.specs.State.{State}
-use Rattle.replay.specs.Output.{Shown}
-use Rattle.replay.specs.Replay.{GoesOn, Happens, IsOneCall, outcome_of}
-use Rattle.script.specs.declared.event.RawEvent.{RawEvent}
 use Rattle.script.specs.declared.event.RawEvent.TheVariants as event
-use Rattle.subnet.specs.Calls.{Kept, refusal_of, step_grows, take_grows}
-use Rattle.subnet.specs.Working.{SubnetStep, SubnetTake, subnet_calls}
-use Rattle.subnet.specs.Events.{accepted, at_up, deliver, delivered, drop_frame, first_of, frame_refusal, gives, imp_refusal, is_imp, step_refusal, stepped, take_in, take_refusal, taken_by_host}
-use Rattle.subnet.specs.Flows.{imp_is_up}
-use Rattle.subnet.specs.Net.{Net, Wire, dropping, frames_on, imp_at, no_wire, wire_at, without_at}
-use Rattle.trace.specs.Elements.{Course, no_course, rest_of_calm, rounds_from, then_course}
-use Rattle.trace.specs.Traces.{GoesOnWith}
+use Rattle.subnet.specs.Events.{first_of}
+use Rattle.subnet.specs.Net.{dropping, without_at}
+use Rattle.trace.specs.Elements.{rest_of_calm}
 use Rattle.trace.specs.declared.element.Element.{Element}
-use Rattle.trace.proofs.lemmas.{idle_rounds, or_first}
-use Rattle.subnet_trace.specs.Elements.{calm_left, is_working, round_left, round_of}
-use Rattle.subnet_trace.specs.Steps.{IsNext, MayCall, MayCome, after}
+use Rattle.trace.proofs.lemmas.{idle_rounds}
+use Rattle.subnet_trace.specs.Steps.{MayCall, MayCome, after}
 use Rattle.subnet_trace.specs.declared.place.Place.{Place}
-use Rattle.subnet_trace.specs.declared.place.Stage.{Stage}
 use Rattle.subnet_trace.specs.declared.place.Stage.TheVariants as stage
 use Rattle.subnet_trace.proofs.Calms.{refusal_is, refused}
 use Rattle.subnet_trace.proofs.Rest.{not_some}

@@ -1,14 +1,7 @@
 -- All parts of a subnet are printed: the IMPs, and after them the lines.
-use Rattle.std.proofs.Common.{◌≡◌, ℕ, suc, Bool, true, false, ◌<◌, ◌≤◌, ◌+◌, ◌-◌, List, [], ◌∷◌, ◌++◌, codes, filter, if◌then◌else◌, length, map, Option, refl, ap, subst, ◌∙◌, arith}
-use Rattle.std.specs.Io.KnownBytes.{Appends}
-use Rattle.std.specs.List.{range_with_len}
-use Rattle.subnet.specs.Events.{is_imp}
-use Rattle.subnet.specs.Net.{Net}
-use Rattle.subnet_trace.specs.Parts.{Part, Imp, Line, all_parts, parts_text}
-use Rattle.subnet_trace.specs.Printing.{named}
-use Rattle.trace.specs.Joined.{mark, part_behind, place_behind}
-use Rattle.trace.specs.Texts.{object}
-use Rattle.trace.proofs.lemmas.{Remains, end_printed, left, maybe_printed}
+use Rattle.subnet_trace.proofs.Common.{◌≡◌, ℕ, suc, Bool, true, false, ◌<◌, ◌≤◌, ◌+◌, ◌-◌, List, [], ◌∷◌, ◌++◌, codes, filter, if◌then◌else◌, length, map, Option, refl, ap, subst, ◌∙◌, arith, Appends, range_with_len, is_imp, Net, Imp, Line, all_parts, parts_text, named, mark, place_behind, object, Remains, end_printed, left, maybe_printed}
+use Rattle.subnet_trace.specs.Parts.{Part}
+use Rattle.trace.specs.Joined.{part_behind}
 
 -- ---- all parts
 

@@ -1,25 +1,13 @@
 -- Parts of a subnet are printed item by item.
-use Rattle.std.proofs.Common.{◌≡◌, ℕ, suc, Bool, true, false, ◌<◌, ◌≤◌, ◌+◌, ◌-◌, ◌/◌, ◌%◌, List, [], ◌∷◌, ◌++◌, codes, drop, length, length-append, map, nat_lt, take, Option, None, Some, sym, ap, ap₂, subst, ◌∙◌, arith}
+use Rattle.subnet_trace.proofs.Common.{◌≡◌, ℕ, suc, Bool, true, false, ◌<◌, ◌≤◌, ◌+◌, ◌-◌, List, [], ◌∷◌, ◌++◌, codes, drop, length, map, nat_lt, take, Option, None, Some, sym, ap, ap₂, subst, ◌∙◌, arith, Appends, decimal, range_with_len, Appends-trans, most_imps, Flow, Carriage, Content, Table, next_of, infinite, next_behind, place_after, bit_text, bits_text, content_members, distances_text, finite_from, flow_object, next_from, next_members, next_text, packet_text, mark, place_behind, array, member, object, quoted, Remains, end_printed, left, maybe_printed, three}
+use Rattle.std.proofs.Common.{◌/◌, ◌%◌, length-append}
 use Rattle.std.proofs.Math.Seq.{take-append_seam}
 use Rattle.std.proofs.lemmas.Fmt.{decimal_digit, decimal_step}
 use Rattle.std.proofs.lemmas.List.{append_assoc, at_drop_all, at_drop_more, drop_all, drop_more}
-use Rattle.std.specs.Io.KnownBytes.{Appends}
 use Rattle.std.specs.Prelude.{slice_index_or}
-use Rattle.std.specs.Fmt.{decimal}
-use Rattle.std.specs.List.{range_with_len}
-use Rattle.std.proofs.KnownBytes.{Appends-trans}
-use Rattle.interface.specs.Host.{most_imps}
-use Rattle.interface.specs.declared.address.Flow.{Flow}
-use Rattle.imp_channel.specs.Carriage.{Carriage}
-use Rattle.imp_channel.specs.declared.frame.Content.{Content}
 use Rattle.imp_channel.specs.declared.frame.Content.TheVariants as contents
-use Rattle.routing.specs.RouteTable.{Table, next_of}
-use Rattle.routing.specs.Vector.{infinite}
-use Rattle.subnet_trace.specs.Printing.{distance_behind, known_rest, known_text, next_behind, number_behind, place_after}
-use Rattle.subnet_trace.specs.Texts.{bit_text, bits_text, content_members, distances_text, finite_from, flow_object, next_from, next_members, next_text, packet_text}
-use Rattle.trace.specs.Joined.{mark, place_behind}
-use Rattle.trace.specs.Texts.{array, further, member, object, quoted}
-use Rattle.trace.proofs.lemmas.{Remains, end_printed, left, maybe_printed, three}
+use Rattle.subnet_trace.specs.Printing.{distance_behind, known_rest, known_text, number_behind}
+use Rattle.trace.specs.Texts.{further}
 
 -- ---- distances
 

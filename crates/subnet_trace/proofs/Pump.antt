@@ -1,18 +1,8 @@
 -- The pump moves in one pass all that it can move: a second pass finds nothing.
-use Rattle.std.proofs.Common.{◌≡◌, ℕ, List, [], ◌∷◌, ◌++◌, Option, Some, None, refl, sym, ap, ◌∙◌, subst}
-use Rattle.std.proofs.lemmas.List.{get_or-set_other}
+use Rattle.subnet_trace.proofs.Common.{◌≡◌, ℕ, List, [], ◌∷◌, ◌++◌, Option, Some, None, refl, sym, ap, ◌∙◌, subst, get_or-set_other, PacketFields, End, is_free, submitted_on, Frame, Table, next_of, Pumped, packet_sent, pump, pumped, sent_on, target, State, down_port, port_at, Outgoing, Port}
 use Rattle.std.specs.List.{position}
-use Rattle.packetiser.specs.PacketFields.{PacketFields}
-use Rattle.imp_channel.specs.Line.{End, is_free, submitted, submitted_on}
-use Rattle.imp_channel.specs.declared.frame.Frame.{Frame}
-use Rattle.routing.specs.RouteTable.{Table, next_of}
-use Rattle.imp_node.specs.Pump.{Pumped, and_then, packet_sent, pump, pumped, sent_on, target}
-use Rattle.imp_node.specs.State.{State, down_port, port_at}
-use Rattle.imp_node.specs.declared.outgoing.Outgoing.{Outgoing}
-use Rattle.imp_node.specs.declared.port.Port.{Port}
-
-some_is : {X : Type 0} {x y : X} → Some x ≡ Some y → x ≡ y
-some_is e = cc
+use Rattle.imp_channel.specs.Line.{submitted}
+use Rattle.imp_node.specs.Pump.{and_then}
 
 -- no channel of this end is free, so that a packet waits for one
 abbrev IsFull : End → Type 0

@@ -1,40 +1,16 @@
 -- What an event's parts do not name is as before.
-use Rattle.std.proofs.Common.{◌≡◌, ◌≢◌, ℕ, zero, suc, ◌+◌, ◌-◌, ◌<◌, ◌≤◌, ◌==◌, ◌&&◌, ◌||◌, ◌⊎◌, inl, inr, nat_lt, not, Bool, true, false, List, [], ◌∷◌, if◌then◌else◌, filter, length, map, Option, Some, None, Result, Ok, Err, is_some, slice_get, slice_set, slice_index_or, refl, sym, ap, ◌∙◌, subst, arith}
-use Rattle.std.proofs.lemmas.Bool.{eqb-true, false≢true}
-use Rattle.std.proofs.lemmas.Bool.Decides.{nat_tests}
-use Rattle.std.proofs.lemmas.List.{get_or-set_other, length-set}
+use Rattle.subnet_trace.proofs.Common.{◌≡◌, ◌≢◌, ℕ, zero, suc, ◌+◌, ◌-◌, ◌<◌, ◌≤◌, ◌==◌, ◌&&◌, ◌||◌, ◌⊎◌, inl, inr, nat_lt, not, Bool, false, List, [], ◌∷◌, if◌then◌else◌, filter, length, map, Option, Some, None, Result, Ok, Err, is_some, slice_get, slice_set, refl, sym, ap, ◌∙◌, subst, arith, false≢true, nat_tests, get_or-set_other, length-set, range_with_len, is_halt, is_memory, Host, CarrierFault, HostMessage, Inbound, NetEvent, Crossing, Direction, or_false, Frame, ImpTurn, State, from_host, host_down, host_up, to_host, Outgoing, Shown, GoesOn, Happens, IsOneCall, outcome_of, RawEvent, Fails, Kept, running, accepted, at_imp, at_up, deliver, delivered, drop_frame, frame_refusal, imp_refusal, imp_started, imp_stopped, is_imp, offer_out, site_at, step_refusal, stepped, take_in, Ends, Net, Wire, ends_at, far_end, followed_by, frames_on, imp_at, line_from, no_wire, put_all, put_on, put_one, wire_at, with_frame, with_turn, opened_from, opened_imp, opening_subnet, subnet_calls, Imp, Line, is_part, IsOneNetwork, IsPlaced, ends_of}
+use Rattle.std.proofs.Common.{true, slice_index_or}
+use Rattle.std.proofs.lemmas.Bool.{eqb-true}
 use Rattle.std.proofs.Math.Seq.{map-set_same}
-use Rattle.std.specs.List.{range_with_len}
-use Rattle.interface.specs.Calls.{is_halt, is_memory}
-use Rattle.interface.specs.Host.{Host}
-use Rattle.interface.specs.declared.CarrierFault.{CarrierFault}
 use Rattle.interface.specs.declared.CarrierFault.TheVariants as fault
-use Rattle.interface.specs.declared.HostMessage.{HostMessage}
-use Rattle.interface.specs.declared.Inbound.{Inbound}
-use Rattle.interface.specs.declared.NetEvent.{NetEvent}
 use Rattle.interface.specs.declared.NetEvent.TheVariants as net
-use Rattle.interface.specs.declared.crossing.Crossing.{Crossing}
-use Rattle.interface.specs.declared.event.Direction.{Direction}
 use Rattle.interface.specs.declared.event.Direction.TheVariants as way
-use Rattle.interface.proofs.lemmas.{or_false}
-use Rattle.imp_channel.specs.declared.frame.Frame.{Frame}
-use Rattle.imp_node.specs.State.{ImpTurn, State}
-use Rattle.imp_node.specs.Offering.{from_host}
-use Rattle.imp_node.specs.Stopping.{host_down, host_up}
-use Rattle.imp_node.specs.Taking.{to_host}
-use Rattle.imp_node.specs.declared.outgoing.Outgoing.{Outgoing}
-use Rattle.replay.specs.Output.{Shown}
-use Rattle.replay.specs.Replay.{GoesOn, Happens, IsOneCall, outcome_of}
-use Rattle.script.specs.declared.event.RawEvent.{RawEvent}
 use Rattle.script.specs.declared.event.RawEvent.TheVariants as event
-use Rattle.subnet.specs.Calls.{Decided, Fails, Kept, running}
-use Rattle.subnet.specs.Events.{accepted, at_imp, at_up, deliver, delivered, drop_frame, first_of, frame_refusal, imp_refusal, imp_started, imp_stopped, is_imp, offer_out, site_at, starting_refusal, step_refusal, stepped, take_in}
-use Rattle.subnet.specs.declared.Ends.{Ends}
-use Rattle.subnet.specs.Net.{Net, Wire, dropping, ends_at, far_end, followed_by, frames_on, imp_at, line_from, no_wire, put_all, put_on, put_one, wire_at, with_frame, with_turn}
-use Rattle.subnet.specs.Opening.{opened_from, opened_imp, opening_subnet}
-use Rattle.subnet.specs.Working.{subnet_calls}
-use Rattle.subnet_trace.specs.Parts.{Part, Imp, Line, SamePart, imp_alone, imp_and_lines, is_named, is_part, line_alone, lines_at, parts_of}
-use Rattle.subnet_trace.specs.Told.{IsOneNetwork, IsPlaced, ends_of}
+use Rattle.subnet.specs.Calls.{Decided}
+use Rattle.subnet.specs.Events.{first_of, starting_refusal}
+use Rattle.subnet.specs.Net.{dropping}
+use Rattle.subnet_trace.specs.Parts.{Part, SamePart, imp_alone, imp_and_lines, is_named, line_alone, lines_at, parts_of}
 
 -- ---- frames that an IMP puts on lines
 

@@ -1,41 +1,16 @@
 -- What is outside of an event's scope stays, and the parts that are in it are put in their places.
-use Rattle.std.proofs.Common.{◌≡◌, ◌≢◌, inl, inr, ℕ, zero, suc, ◌<◌, ◌≤◌, ◌+◌, ◌==◌, ◌||◌, Bool, true, false, List, [], ◌∷◌, ◌++◌, codes, if◌then◌else◌, is_ok, length, map, nat_lt, Option, Some, None, Result, Ok, Err, slice_get, refl, sym, ap, ap₂, subst, ◌∙◌, arith}
-use Rattle.std.proofs.lemmas.Bool.{false≢true}
-use Rattle.std.proofs.lemmas.Bool.Decides.{nat_tests}
-use Rattle.std.proofs.lemmas.List.{get_or-set_other, length-map}
-use Rattle.interface.specs.Host.{Host}
-use Rattle.interface.specs.declared.CarrierFault.{CarrierFault}
-use Rattle.interface.specs.declared.Inbound.{Inbound}
-use Rattle.interface.specs.declared.NetEvent.{NetEvent}
+use Rattle.subnet_trace.proofs.Common.{◌≡◌, ◌≢◌, inl, inr, ℕ, zero, suc, ◌<◌, ◌≤◌, ◌+◌, ◌==◌, ◌||◌, Bool, true, false, List, [], ◌∷◌, ◌++◌, codes, if◌then◌else◌, length, map, nat_lt, Option, Some, None, Result, Ok, Err, slice_get, refl, sym, ap, ap₂, subst, ◌∙◌, arith, false≢true, nat_tests, get_or-set_other, length-map, Host, CarrierFault, Inbound, NetEvent, Crossing, Direction, Frame, ImpTurn, State, from_host, host_down, host_up, to_host, Shown, shown_crossings, GoesOn, Happens, IsOneCall, outcome_of, RawEvent, Kept, refusal_of, running, step_grows, take_grows, at_imp, deliver, delivered, drop_frame, frame_refusal, imp_started, imp_stopped, is_imp, offer_out, offer_refusal, step_refusal, stepped, take_in, take_refusal, taken_by_host, Net, Wire, far_end, frames_on, imp_at, no_wire, wire_at, with_turn, subnet_calls, Imp, Line, all_parts, part_name, parts_members, named, OnlyIn, has_imp, has_line, scope_of, imp_text, line_text, IsOneNetwork, ends_of, Scope, put_at, put_text, member, object, HasHappened, subnet_inside, PutSoFar}
+use Rattle.std.proofs.Common.{is_ok}
 use Rattle.interface.specs.declared.NetEvent.TheVariants as net
-use Rattle.interface.specs.declared.crossing.Crossing.{Crossing}
-use Rattle.interface.specs.declared.event.Direction.{Direction}
 use Rattle.interface.specs.declared.event.Direction.TheVariants as way
-use Rattle.imp_channel.specs.declared.frame.Frame.{Frame}
-use Rattle.imp_node.specs.State.{ImpTurn, State}
-use Rattle.imp_node.specs.Offering.{from_host}
-use Rattle.imp_node.specs.Stopping.{host_down, host_up}
-use Rattle.imp_node.specs.Taking.{to_host}
-use Rattle.replay.specs.Output.{Shown, shown_crossings, shown_refusal}
-use Rattle.replay.specs.Replay.{EventGives, GoesOn, Happens, IsOneCall, outcome_of}
-use Rattle.script.specs.declared.event.RawEvent.{RawEvent}
+use Rattle.replay.specs.Output.{shown_refusal}
+use Rattle.replay.specs.Replay.{EventGives}
 use Rattle.script.specs.declared.event.RawEvent.TheVariants as event
-use Rattle.subnet.specs.Calls.{Kept, refusal_of, running, step_grows, take_grows}
-use Rattle.subnet.specs.Events.{at_imp, deliver, delivered, drop_frame, frame_refusal, imp_started, imp_stopped, is_imp, offer_out, offer_refusal, step_refusal, stepped, take_in, take_refusal, taken_by_host}
-use Rattle.subnet.specs.Net.{Net, Wire, dropping, far_end, frames_on, imp_at, no_wire, wire_at, with_turn}
-use Rattle.subnet.specs.Working.{subnet_calls}
-use Rattle.subnet_trace.specs.Parts.{Imp, Line, all_parts, part_name, parts_members}
-use Rattle.subnet_trace.specs.Printing.{named}
-use Rattle.subnet_trace.specs.Scopes.{OnlyIn, has_imp, has_line, scope_of, scope_of_delivery}
-use Rattle.subnet_trace.specs.Texts.{imp_text, line_text}
-use Rattle.subnet_trace.specs.Told.{IsOneNetwork, ends_of}
-use Rattle.subnet_trace.specs.declared.parts.Scope.{Scope}
+use Rattle.subnet.specs.Net.{dropping}
+use Rattle.subnet_trace.specs.Scopes.{scope_of_delivery}
 use Rattle.subnet_trace.specs.declared.parts.Scope.TheVariants as scope
-use Rattle.trace.specs.Changes.{put_at, put_text}
-use Rattle.trace.specs.Texts.{member, object}
-use Rattle.trace.specs.Traces.{HasHappened, change_text}
-use Rattle.subnet_trace.specs.Traced.{subnet_inside}
-use Rattle.trace.proofs.lemmas.{PutSoFar, happens, is_within, none_changed, none_put, put_more}
+use Rattle.trace.specs.Traces.{change_text}
+use Rattle.trace.proofs.lemmas.{happens, is_within, none_changed, none_put, put_more}
 use Rattle.subnet_trace.proofs.AllMembers.{imps_left, imps_next, imps_over, lines_left, lines_next, none_listed}
 use Rattle.subnet_trace.proofs.Rest.{Left, all_other, apart_from, frame_there, keeps, left_of, went}
 
@@ -210,9 +185,6 @@ refused_parts old new e shown one h refused = by h.outcome h.gives h.goes_on ref
   by (Err f) gives goes r_err = ap (λ (k : Kept). change_text subnet_inside old k) (refused_same old new e f one gives goes) ∙ ap object (none_changed (members_of old))
 
 -- ---- the parts one after the other
-
-abbrev Put : List (List ℕ) → Net → Net → ℕ → List (List ℕ) → List ℕ → (Net → List (List ℕ)) → Type 0
-Put before old new place known text left = PutSoFar before (parts_members new (all_parts new)) place known text (left old) (left new)
 
 pub none_are : (texts : List (List ℕ)) (s : Scope) (new : Net) (r : OnlyIn texts s new) (text : List ℕ) → text ≡ [] → PutSoFar texts (parts_members new (all_parts new)) 0 texts text (imps_left r.old 0) (imps_left new 0)
 none_are texts s new r text empty =

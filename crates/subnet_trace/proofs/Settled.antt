@@ -1,24 +1,9 @@
 -- After a quiet round the pump would move nothing more in any IMP, whatever waited before.
-use Rattle.std.proofs.Common.{◌≡◌, ◌≤◌, ◌<◌, ◌==◌, ◌⊎◌, inl, inr, ℕ, zero, suc, ◌+◌, nat_lt, Bool, true, false, List, [], ◌∷◌, if◌then◌else◌, length, Option, Some, None, Result, Ok, Err, slice_get, slice_set, slice_index_or, refl, sym, ap, ◌∙◌, subst, arith}
-use Rattle.std.proofs.lemmas.Bool.Decides.{nat_tests}
-use Rattle.std.proofs.lemmas.List.{get_or_past}
-use Rattle.std.specs.List.{range_with_len}
-use Rattle.interface.specs.Host.{Host}
-use Rattle.interface.specs.declared.event.Direction.{Direction}
+use Rattle.subnet_trace.proofs.Common.{◌≡◌, ◌≤◌, ◌<◌, ◌==◌, ◌⊎◌, inl, inr, ℕ, zero, suc, ◌+◌, nat_lt, Bool, false, List, [], ◌∷◌, if◌then◌else◌, length, Option, Some, None, Result, Ok, Err, slice_get, slice_set, refl, sym, ap, ◌∙◌, subst, arith, nat_tests, get_or_past, range_with_len, Host, Direction, PacketFields, vector_of, answer_to, ChannelFault, Frame, Received, arrival, arrival_has_room, arrived, frame_taken, from_line, ignored, taken_frame, resend, resent_from, route, told_from, pump, ImpTurn, State, port_at, all_refreshed, all_turns, at_imp, carried, deliver, delivered, drop_frame, quiet_round, refreshed, take_in, turn_of, Net, far_end, frames_on, imp_at, port_of, wire_at}
+use Rattle.std.proofs.Common.{true, slice_index_or}
 use Rattle.interface.specs.declared.event.Direction.TheVariants as way
-use Rattle.packetiser.specs.PacketFields.{PacketFields}
-use Rattle.routing.specs.RouteTable.{vector_of}
-use Rattle.imp_channel.specs.Line.{answer_to}
-use Rattle.imp_channel.specs.declared.fault.ChannelFault.{ChannelFault}
-use Rattle.imp_channel.specs.declared.frame.Frame.{Frame}
-use Rattle.imp_channel.specs.declared.line.Received.{Received}
 use Rattle.imp_channel.specs.declared.line.Received.TheVariants as received
-use Rattle.imp_node.specs.Arrival.{acknowledged, arrival, arrival_has_room, arrived, frame_taken, from_line, ignored, taken_frame, vector_heard}
-use Rattle.imp_node.specs.Lines.{resend, resent_from, route, told_from}
-use Rattle.imp_node.specs.Pump.{pump}
-use Rattle.imp_node.specs.State.{ImpTurn, State, port_at}
-use Rattle.subnet.specs.Events.{all_refreshed, all_turns, at_imp, carried, deliver, delivered, drop_frame, quiet_round, refreshed, take_in, turn_of}
-use Rattle.subnet.specs.Net.{Net, far_end, frames_on, imp_at, port_of, wire_at}
+use Rattle.imp_node.specs.Arrival.{acknowledged, vector_heard}
 use Rattle.subnet_trace.proofs.Pump.{IsStill, pump_still}
 use Rattle.subnet_trace.proofs.Rest.{not_some, some_is}
 

@@ -1,17 +1,6 @@
 -- Offers and takings that change no part.
-use Rattle.std.proofs.Common.{◌≡◌, ◌∙◌, Bool, true, false, IfSome, length, Option, None, Ok, Err, ap, sym, subst}
-use Rattle.interface.specs.Calls.{is_memory}
-use Rattle.interface.specs.Host.{Host}
-use Rattle.interface.specs.declared.CarrierFault.{CarrierFault}
-use Rattle.interface.specs.declared.HostMessage.{HostMessage}
-use Rattle.imp_node.specs.State.{State}
+use Rattle.subnet_trace.proofs.Common.{◌≡◌, ◌∙◌, Bool, true, false, IfSome, length, Option, None, Ok, Err, ap, sym, subst, is_memory, Host, CarrierFault, HostMessage, State, Fails, Kept, refusal_of, take_grows, offer_refusal, take_refusal, Net, imp_at, subnet_calls, all_parts, parts_members, subnet_inside}
 use Rattle.imp_node.proofs.lemmas.{pump_rests}
-use Rattle.subnet.specs.Calls.{Fails, Kept, refusal_of, take_grows}
-use Rattle.subnet.specs.Events.{offer_refusal, take_refusal}
-use Rattle.subnet.specs.Net.{Net, imp_at}
-use Rattle.subnet.specs.Working.{subnet_calls}
-use Rattle.subnet_trace.specs.Parts.{all_parts, parts_members}
-use Rattle.subnet_trace.specs.Traced.{subnet_inside}
 use Rattle.subnet_trace.proofs.Nothing.{none_taken_at}
 use Rattle.subnet_trace.proofs.Settled.{IsSettledAt}
 

@@ -1,29 +1,16 @@
 -- Words, bits, packets, messages, channels and what is known of flows have texts of their own.
-use Rattle.std.proofs.Common.{◌≡◌, ℕ, ◌==◌, Bool, true, false, List, [], ◌∷◌, ◌++◌, codes, if◌then◌else◌, Option, Some, None, IfSome, refl, sym, ap, ap₂, ◌∙◌}
-use Rattle.std.proofs.lemmas.List.Elements.{All-append, All-nil}
-use Rattle.std.specs.Fmt.{decimal}
+use Rattle.subnet_trace.proofs.Common.{◌≡◌, ℕ, ◌==◌, Bool, true, false, List, [], ◌∷◌, ◌++◌, codes, if◌then◌else◌, Option, Some, None, IfSome, refl, sym, ap, ap₂, ◌∙◌, All-append, All-nil, decimal, Flow, PacketFields, flow_of, PacketKind, Channel, last_of, Fate, Noted, Standing, State, Message, Told, bool_text, member, quoted, AreClosed, IsClosed, Spelled, also_closed, decimal_closed, first_same, member_once, none_closed, object_closed, object_once, rest_same, short_once, bit_text, bits_text, channel_text, flow_object, held_members, kept_text, kind_word, packet_text, source_text, told_text, whole_text, IsAnswerTold, IsChannelTold, IsFlowNamed, IsKeptTold, IsMessageTold, IsPacketTold, IsSourceTold}
 use Rattle.std.specs.Str.{bytes_eq}
-use Rattle.interface.specs.declared.address.Flow.{Flow}
-use Rattle.packetiser.specs.PacketFields.{PacketFields, flow_of}
-use Rattle.packetiser.specs.declared.packet.PacketKind.{PacketKind}
 use Rattle.packetiser.specs.declared.packet.PacketKind.TheVariants as kind
-use Rattle.imp_channel.specs.declared.channel.Channel.{Channel}
-use Rattle.link_table.specs.Flows.{last_of}
-use Rattle.link_table.specs.declared.destination.Fate.{Fate}
 use Rattle.link_table.specs.declared.destination.Fate.TheVariants as fate
-use Rattle.link_table.specs.declared.destination.Noted.{Noted}
-use Rattle.link_table.specs.declared.source.Standing.{Standing}
 use Rattle.link_table.specs.declared.source.Standing.TheVariants as standing
-use Rattle.imp_node.specs.State.{State}
-use Rattle.imp_node.specs.declared.waiting.Message.{Message}
-use Rattle.imp_node.specs.declared.waiting.Told.{Told}
 use Rattle.script.specs.Steps.{Lacks}
 use Rattle.script.proofs.lemmas.{unmarked_where}
-use Rattle.trace.specs.Texts.{bits_members, bool_text, flow_members, member, quoted}
+use Rattle.trace.specs.Texts.{bits_members, flow_members}
 pub use Rattle.trace.proofs.lemmas.{Any, bool_spelled, word_closed}
-use Rattle.trace.proofs.lemmas.{AreClosed, IsClosed, Spelled, Words, also_closed, answer_spelled, bits_closed, bits_same, decimal_closed, first_same, flow_closed, flow_same, member_once, none_closed, object_closed, object_once, other_first, quoted_once, rest_same, short_once, string_closed, strings_spelled}
-use Rattle.subnet_trace.specs.Texts.{awaits_host, bit_text, bits_text, channel_text, fate_word, flow_object, held_members, kept_text, kind_word, packet_text, piece_members, source_text, standing_word, told_text, whole_text}
-use Rattle.subnet_trace.specs.Told.{IsAnswerTold, IsChannelTold, IsFlowNamed, IsKeptTold, IsMessageTold, IsPacketTold, IsShort, IsSourceTold}
+use Rattle.trace.proofs.lemmas.{Words, answer_spelled, bits_closed, bits_same, flow_closed, flow_same, other_first, quoted_once, string_closed, strings_spelled}
+use Rattle.subnet_trace.specs.Texts.{awaits_host, fate_word, piece_members, standing_word}
+use Rattle.subnet_trace.specs.Told.{IsShort}
 
 -- ---- bits
 

@@ -1,26 +1,16 @@
 -- Stages of a round: what is left at one, and at the next.
-use Rattle.std.proofs.Common.{◌≡◌, ℕ, zero, suc, ◌+◌, ◌-◌, ◌<◌, ◌≤◌, nat_lt, ◌⊎◌, inl, inr, Bool, true, false, List, [], ◌∷◌, ◌++◌, drop, if◌then◌else◌, length, get_or, Option, Some, None, slice_get, refl, sym, ap, ◌∙◌, subst, arith}
-use Rattle.std.proofs.lemmas.Bool.{false≢true, lt-ltb, ltb-false, ltb-true}
+use Rattle.subnet_trace.proofs.Common.{◌≡◌, ℕ, zero, suc, ◌+◌, ◌-◌, ◌<◌, ◌≤◌, nat_lt, ◌⊎◌, inl, inr, Bool, true, false, List, [], ◌∷◌, ◌++◌, drop, if◌then◌else◌, length, get_or, Option, Some, None, slice_get, refl, sym, ap, ◌∙◌, subst, arith, false≢true, lt-ltb, ltb-false, length-set, range_with_len, Host, Direction, Frame, ImpTurn, State, Outgoing, RawEvent, at_imp, gives, delivered, drop_frame, stepped, take_in, Net, Wire, far_end, frames_on, imp_at, line_from, put_all, put_on, put_one, wire_at, with_frame, Course, no_course, takings_from, then_course, then_twice, all_refreshing, all_turning, calling, can_resend, carrying, delivering, from_subnet, imp_left, is_heard, is_working, live_frames, numbers_from, refreshing, round_from_line, round_left, round_of_hosts, sending, telling, turning, IsNext, call_of, turn_begun, Stage}
+use Rattle.std.proofs.lemmas.Bool.{ltb-true}
 use Rattle.std.proofs.Math.ListN.{drop_of_length-le}
-use Rattle.std.proofs.lemmas.List.{length-set}
-use Rattle.std.specs.List.{range_with_len}
-use Rattle.interface.specs.Host.{Host}
 use Rattle.interface.specs.declared.NetEvent.TheVariants as net
-use Rattle.interface.specs.declared.event.Direction.{Direction}
 use Rattle.interface.specs.declared.event.Direction.TheVariants as way
-use Rattle.imp_channel.specs.declared.frame.Frame.{Frame}
-use Rattle.imp_node.specs.State.{ImpTurn, State}
-use Rattle.imp_node.specs.declared.outgoing.Outgoing.{Outgoing}
-use Rattle.script.specs.declared.event.RawEvent.{RawEvent}
 use Rattle.script.specs.declared.event.RawEvent.TheVariants as event
-use Rattle.subnet.specs.Events.{at_imp, gives, delivered, drop_frame, stepped, take_in}
-use Rattle.subnet.specs.Net.{Net, Wire, dropping, far_end, frames_on, imp_at, line_from, put_all, put_on, put_one, wire_at, with_frame}
-use Rattle.trace.specs.Elements.{Course, no_course, one_event, taking, takings_from, then_course}
-use Rattle.trace.proofs.lemmas.{passes, takes_here, takings_all, then_twice}
-use Rattle.subnet_trace.specs.Elements.{after_turn, all_refreshing, all_turning, calling, can_resend, carrying, delivering, from_subnet, imp_left, is_heard, is_working, live_frames, numbers_from, refreshing, round_from_imp, round_from_line, round_left, round_of_hosts, sending, telling, turn_left, turning}
+use Rattle.subnet.specs.Net.{dropping}
+use Rattle.trace.specs.Elements.{one_event, taking}
+use Rattle.trace.proofs.lemmas.{passes, takes_here, takings_all}
+use Rattle.subnet_trace.specs.Elements.{after_turn, round_from_imp, turn_left}
 use Rattle.subnet_trace.specs.Elements as elements
-use Rattle.subnet_trace.specs.Steps.{IsNext, call_of, frame_moved, other_turn_begun, turn_begun}
-use Rattle.subnet_trace.specs.declared.place.Stage.{Stage}
+use Rattle.subnet_trace.specs.Steps.{frame_moved, other_turn_begun}
 use Rattle.subnet_trace.specs.declared.place.Stage.TheVariants as stage
 use Rattle.subnet_trace.proofs.Rest.{not_some, some_is}
 
@@ -251,9 +241,6 @@ frame_next n l d frames some live = by (is_heard n l d) refl where
     λ round. first round ∙ ap (λ (b : Bool). then_course (if b then calling round (net.Deliver l d 0) n else no_course n) (round_left round (stage.Carrying l d rest true))) unheard
         ∙ frame_dropped round l d rest n,
   )
-
-pub drop_next : (n : Net) (l : ℕ) (d : Direction) (frames : ℕ) → IsNext n (λ round. round_left round (stage.Carrying l d frames true) n) (Some (event.Net (net.Drop l d 0), stage.Carrying l d frames false))
-drop_next n l d frames = (refl, λ round. frame_dropped round l d frames n)
 
 pub turn_left_over : (n : Net) (l : ℕ) (d : Direction) (frames : ℕ) (r : Option (RawEvent × Stage)) → (frames ≡ 0) ⊎ (live_frames n l d ≡ 0) → IsNext n (λ round. after_turn round l d n) r
     → IsNext n (λ round. round_left round (stage.Carrying l d frames false) n) r

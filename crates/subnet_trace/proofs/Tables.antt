@@ -1,26 +1,21 @@
 -- What holds of each flow in a table, after each change of the table.
-use Rattle.std.proofs.Common.{◌≡◌, ℕ, ◌<◌, ◌==◌, ◌&&◌, Bool, true, false, List, [], ◌∷◌, if◌then◌else◌, cond, Option, Some, None, IfSome, T, refl, sym, ap, ◌∙◌, subst, arith}
-use Rattle.std.proofs.lemmas.List.Elements.{All-cons, All-nil}
+use Rattle.subnet_trace.proofs.Common.{◌≡◌, ℕ, ◌<◌, ◌==◌, ◌&&◌, Bool, true, false, List, [], ◌∷◌, if◌then◌else◌, Option, Some, None, IfSome, refl, sym, ap, ◌∙◌, subst, arith, All-cons, All-nil, empty, get, get-empty, All, Flow, Sources, begun, handed, last_of, number_in, flow_cmp, Fate, Noted, Standing, get_begun, get_put, IsFlowNamed, IsKeptTold, IsSourceTold}
+use Rattle.std.proofs.Common.{cond, T}
 use Rattle.std.specs.Cmp.{eq_by_cmp_equiv}
-use Rattle.std.specs.FinMap.{FinMap, empty, entries, entries_sorted, get, get-empty, get-entries}
+use Rattle.std.specs.FinMap.{FinMap, entries, entries_sorted, get-entries}
 use Rattle.std.specs.FinMap.Entries.{below_all, find, is_sorted}
-use Rattle.std.specs.List.{All}
 use Rattle.std.specs.Option.{option_map}
 use Rattle.std.specs.Ordering.{eq_by_cmp, is_eq, is_lt, ordering_reverse}
 use Rattle.std.specs.declared.cmp.Ordering.{Ordering}
 use Rattle.std.specs.declared.cmp.Ordering.TheVariants.{Less, Equal, Greater}
 use Rattle.interface.specs.Flow.{same_flow}
-use Rattle.interface.specs.declared.address.Flow.{Flow}
 use Rattle.interface.proofs.lemmas.{flows_total, same_flow-true}
-use Rattle.link_table.specs.Flows.{Destinations, Sources, answered_in, begun, ended, ended_in, flow_answered, given_up, given_up_in, handed, handed_in, last_of, noted, number_in}
-use Rattle.link_table.specs.Keys.{drop_from, flow_cmp, is_from}
+use Rattle.link_table.specs.Flows.{Destinations, answered_in, ended, ended_in, flow_answered, given_up, given_up_in, handed_in, noted}
+use Rattle.link_table.specs.Keys.{drop_from, is_from}
 use Rattle.link_table.specs.Numbers.{modulus}
-use Rattle.link_table.specs.declared.destination.Fate.{Fate}
-use Rattle.link_table.specs.declared.destination.Noted.{Noted}
-use Rattle.link_table.specs.declared.source.Standing.{Standing}
 use Rattle.link_table.specs.declared.source.Standing.TheVariants as standing
-use Rattle.link_table.proofs.lemmas.{get_answered, get_begun, get_dropped, get_ended, get_given_up, get_handed, get_put, number_begun}
-use Rattle.subnet_trace.specs.Told.{IsFlowNamed, IsKeptTold, IsShort, IsSourceTold}
+use Rattle.link_table.proofs.lemmas.{get_answered, get_dropped, get_ended, get_given_up, get_handed, number_begun}
+use Rattle.subnet_trace.specs.Told.{IsShort}
 
 -- of each flow that is found, with what is found
 abbrev pub TableHas : {V : Type 0} → (Flow × V → Type 0) → FinMap flow_cmp V → Type 0

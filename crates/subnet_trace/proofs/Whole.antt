@@ -1,22 +1,11 @@
 -- The texts of all parts determine a subnet, but for its log.
-use Rattle.std.proofs.Common.{◌≡◌, ℕ, suc, true, nat_lt, List, [], ◌∷◌, codes, length, map, Option, Some, None, is_some, slice_index_or, refl, sym, ap, ap₂, ◌∙◌, arith}
+use Rattle.subnet_trace.proofs.Common.{◌≡◌, ℕ, suc, true, nat_lt, List, [], ◌∷◌, codes, length, map, Option, Some, None, is_some, refl, sym, ap, ap₂, ◌∙◌, arith, All-cons, All-head, All-nil, All-tail, nat_tests, All, range_with_len, State, Flow, Standing, is_imp, site_at, Net, Wire, imp_at, wire_at, most_imps, vector_of, array, member, object, AreClosed, IsClosed, Spelled, also_closed, first_same, lists_spelled, member_once, none_closed, object_closed, object_once, rest_same, Imp, Line, finite_from, frame_text, heard_text, host_object, imp_text, kept_text, line_text, next_from, port_object, slot_text, source_text, IsFrameTold, IsHeardTold, IsHostTold, IsKeptTold, IsLineTold, IsOneNetwork, IsPortTold, IsSlotTold, IsSourceTold, IsTold, IsToldAt, SameTexts, ends_of}
+use Rattle.std.proofs.Common.{slice_index_or}
 use Rattle.std.proofs.lemmas.List.{get_or_default, same_lists}
-use Rattle.std.proofs.lemmas.List.Elements.{All-cons, All-head, All-nil, All-tail}
-use Rattle.std.proofs.lemmas.Bool.Decides.{nat_tests}
 use Rattle.std.specs.FinMap as fin
-use Rattle.std.specs.List.{All, range_with_len}
-use Rattle.imp_node.specs.State.{State}
-use Rattle.interface.specs.declared.address.Flow.{Flow}
-use Rattle.link_table.specs.declared.source.Standing.{Standing}
-use Rattle.subnet.specs.Events.{is_imp, site_at}
-use Rattle.subnet.specs.Net.{Net, Wire, imp_at, wire_at}
-use Rattle.interface.specs.Host.{most_imps}
-use Rattle.routing.specs.RouteTable.{vector_of}
-use Rattle.trace.specs.Texts.{array, member, object}
-use Rattle.trace.proofs.lemmas.{AreClosed, IsClosed, Spelled, also_closed, array_closed, array_once, first_same, lists_spelled, member_once, none_closed, object_closed, object_once, rest_same}
-use Rattle.subnet_trace.specs.Parts.{Imp, Line}
-use Rattle.subnet_trace.specs.Texts.{finite_from, frame_text, heard_text, host_object, imp_members, imp_text, kept_text, line_text, next_from, port_object, slot_text, source_text}
-use Rattle.subnet_trace.specs.Told.{IsFrameTold, IsHeardTold, IsHostTold, IsImpTold, IsKeptTold, IsLineTold, IsOneNetwork, IsPortTold, IsSlotTold, IsSourceTold, IsTold, IsToldAt, SameTexts, ends_of}
+use Rattle.trace.proofs.lemmas.{array_closed, array_once}
+use Rattle.subnet_trace.specs.Texts.{imp_members}
+use Rattle.subnet_trace.specs.Told.{IsImpTold}
 use Rattle.subnet_trace.proofs.Objects.{finite_closed, frame_spelled, heard_spelled, host_spelled, not_null, packets_spelled, port_spelled, ports_closed, slot_spelled}
 use Rattle.subnet_trace.proofs.Spelling.{kept_is_spelled, source_is_closed, source_once}
 

@@ -1,32 +1,22 @@
 -- What a host's user knows of an end is carried through each call of its program, with any peer.
-use Rattle.std.proofs.Common.{◌≡◌, ℕ, ◌==◌, Bool, true, false, List, [], ◌∷◌, Some, None, refl, sym, subst, ◌∙◌}
-use Rattle.interface.specs.Host.{Host, same_host}
-use Rattle.interface.specs.declared.address.Flow.{Flow}
-use Rattle.interface.specs.declared.crossing.Answer.{Answer}
+use Rattle.world_keeps_connections.proofs.Common.{◌≡◌, ℕ, ◌==◌, Bool, true, false, List, [], ◌∷◌, Some, None, refl, sym, subst, ◌∙◌, Host, same_host, Flow, Answer, HostMessage, same_host-true, Notice, accepted, NcpState, pair_with, refusal, served, served_notices, offered, Request, End, HasEnd, Knows, all_known}
 use Rattle.interface.specs.declared.crossing.Inbound.TheVariants as inbound
-use Rattle.interface.specs.declared.message.HostMessage.{HostMessage}
-use Rattle.interface.proofs.lemmas.{same_host-true}
 use Rattle.host_pairs.specs.About.{AreAbout}
 use Rattle.host_pairs.specs.Allowed.{commands_of}
 use Rattle.host_pairs.specs.Control.{orders_of}
 use Rattle.host_pairs.specs.Pair.{PairState}
 use Rattle.host_pairs.specs.Parcels.{Parcel}
 use Rattle.ncp_control.specs.Phases.{is_ready}
-use Rattle.host_pairs.specs.declared.notice.Notice.{Notice}
-use Rattle.sockets.specs.Accepting.{accepted, turn_of}
-use Rattle.sockets.specs.Pairs.{NcpState, pair_with}
+use Rattle.sockets.specs.Accepting.{turn_of}
 use Rattle.sockets.specs.Peers.{AreInOrder}
-use Rattle.sockets.specs.Requests.{refusal, served, served_notices}
-use Rattle.sockets.specs.Sending.{next_in, offered}
+use Rattle.sockets.specs.Sending.{next_in}
 use Rattle.sockets.specs.declared.peer.Peer.{Peer}
-use Rattle.sockets.specs.declared.request.Request.{Request}
 use Rattle.sockets.proofs.lemmas.{answer_about, answer_leaves, message_about, message_leaves, offer_about, offer_leaves}
-use Rattle.pairing_law.specs.Ends.{End, nothing}
+use Rattle.pairing_law.specs.Ends.{nothing}
 use Rattle.pairing_law.specs.Sides.{Life}
 use Rattle.host_keeps_pairing.specs.Words.{AllFit, all_gone, all_taken, marks, marks_in}
-use Rattle.host_keeps_pairing.specs.Ends.{HasEnd, Stand, Standing, at, kept_in}
+use Rattle.host_keeps_pairing.specs.Ends.{Stand, Standing, at, kept_in}
 use Rattle.host_keeps_pairing.specs.Hearing.{AreFree, AreJoint, after_request}
-use Rattle.host_keeps_pairing.specs.Known.{Knows, all_known}
 use Rattle.host_keeps_pairing.proofs.lemmas.{answer_keeps, answer_knows, data_told_same, idle_leaves, message_data, message_hears, message_idle, message_knows, message_replies, message_resets, offer_knows, offer_says, others_leave, request_keeps, request_knows, rrp_leaves, rst_knows}
 use Rattle.net_sim.specs.Projection.{IsApart, message_on}
 use Rattle.reset_law.specs.Events.{Message}

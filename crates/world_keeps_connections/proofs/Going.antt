@@ -1,27 +1,17 @@
 -- Each life of the book that continues is known to its user.
-use Rattle.std.proofs.Common.{◌≡◌, inl, inr, ℕ, zero, suc, ◌<◌, Bool, true, false, not, ◌&&◌, ◌==◌, if◌then◌else◌, List, [], ◌∷◌, ◌++◌, length, get_or, refl, sym, subst, ◌∙◌, eq-eqb, arith}
+use Rattle.world_keeps_connections.proofs.Common.{◌≡◌, ℕ, Bool, true, false, ◌&&◌, ◌==◌, if◌then◌else◌, List, [], ◌∷◌, refl, sym, subst, ◌∙◌, eq-eqb, arith, Contains, Host, same_host, Crossing, same_host-refl, same_host-true, Notice, Request, IsIn, all_known, Moment, Crossed, Asked, IsTimeline, crossings_of, is_between, life_of, known_in}
+use Rattle.std.proofs.Common.{inl, inr, zero, suc, ◌<◌, not, ◌++◌, length, get_or}
 use Rattle.std.proofs.lemmas.Bool.{eqb-true}
-use Rattle.std.specs.List.{Contains}
-use Rattle.interface.specs.Host.{Host, same_host}
 use Rattle.interface.specs.Mailboxes as mail
-use Rattle.interface.specs.declared.crossing.Crossing.{Crossing}
 use Rattle.interface.specs.declared.crossing.Crossing.TheVariants as crossing
-use Rattle.interface.proofs.lemmas.{same_host-refl, same_host-true}
-use Rattle.host_pairs.specs.declared.notice.Notice.{Notice}
 use Rattle.host_pairs.specs.declared.notice.Notice.TheVariants as notice
 use Rattle.host_pairs.proofs.lemmas.{both}
-use Rattle.sockets.specs.declared.request.Request.{Request}
 use Rattle.sockets.specs.declared.request.Request.TheVariants as request
-use Rattle.pairing_law.specs.Partners.{IsIn}
 use Rattle.pairing_law.specs.Sides.{Life}
-use Rattle.host_keeps_pairing.specs.Known.{all_known, known_after}
+use Rattle.host_keeps_pairing.specs.Known.{known_after}
 use Rattle.net_sim.specs.Book.{Kept, all_told, carried, changed_when, life_ended, granted, lives_asked, lives_at, lives_between, lives_on, lives_told, lives_with, new_life, returned, book_told, where_it}
 use Rattle.promise.specs.declared.life.Life as book
-use Rattle.net_sim.specs.Story.{Moment, Crossed, Asked}
-use Rattle.net_sim.specs.Timeline.{IsTimeline, crossings_of}
 use Rattle.net_sim.specs.Told.{kept_by, kept_in, notices_by}
-use Rattle.world_keeps_pairing.specs.Lives.{is_between, life_of}
-use Rattle.world_keeps_connections.specs.Users.{known_in}
 
 never : (b : Bool) → (b && false) ≡ true → ⊥
 never true e = absurd (let r : false ≡ true = e in cc)

@@ -1,28 +1,15 @@
 -- At all moments of a world what a host's user knows of an end is so.
-use Rattle.std.proofs.Common.{◌≡◌, ℕ, Bool, true, false, if◌then◌else◌, List, [], ◌∷◌, None, refl, ap, sym, subst, ◌∙◌}
-use Rattle.interface.specs.Host.{Host, same_host}
-use Rattle.interface.specs.declared.address.Flow.{Flow}
-use Rattle.interface.specs.declared.crossing.Answer.{Answer}
+use Rattle.world_keeps_connections.proofs.Common.{◌≡◌, ℕ, Bool, true, false, if◌then◌else◌, List, [], ◌∷◌, None, refl, ap, sym, subst, ◌∙◌, Host, same_host, Flow, Answer, HostMessage, same_host-true, accepted, NcpState, pair_with, refusal, served, served_notices, offered, Request, End, Sockets, HasEnd, Knows, all_known, Moment, Crossed, Asked, AllTied, all_tied, known_in}
 use Rattle.interface.specs.declared.crossing.Crossing.TheVariants as crossing
 use Rattle.interface.specs.declared.crossing.Inbound.TheVariants as inbound
-use Rattle.interface.specs.declared.message.HostMessage.{HostMessage}
-use Rattle.interface.proofs.lemmas.{same_host-true}
-use Rattle.sockets.specs.Accepting.{accepted}
-use Rattle.sockets.specs.Pairs.{NcpState, opening_state, pair_with}
-use Rattle.sockets.specs.Requests.{refusal, served, served_notices}
-use Rattle.sockets.specs.Sending.{offered}
-use Rattle.sockets.specs.declared.request.Request.{Request}
-use Rattle.pairing_law.specs.Ends.{End}
-use Rattle.pairing_law.specs.Links.{Sockets, Who, Receiver, Sender}
+use Rattle.sockets.specs.Pairs.{opening_state}
+use Rattle.pairing_law.specs.Links.{Who, Receiver, Sender}
 use Rattle.pairing_law.specs.Sides.{Life}
-use Rattle.host_keeps_pairing.specs.Ends.{HasEnd}
-use Rattle.host_keeps_pairing.specs.Known.{Knows, all_known}
 use Rattle.reset_law.specs.Runs.{IsRun}
-use Rattle.net_sim.specs.Story.{Moment, Crossed, Asked, IsNext, IsStory, events_of, places, program}
+use Rattle.net_sim.specs.Story.{IsNext, IsStory, events_of, places, program}
 use Rattle.net_sim.proofs.lemmas.{program_own}
 use Rattle.world_keeps_pairing.specs.Free.{TakesFreeAt}
-use Rattle.world_keeps_pairing.proofs.lemmas.{AllTied, AreOrigins, AreServed, Hears, IsFrom, IsPair, Side_of, Tie, all_tied, foreign_of, own_of, programs_ranged, receiver_hears, sender_hears, served_below, takes}
-use Rattle.world_keeps_connections.specs.Users.{known_in}
+use Rattle.world_keeps_pairing.proofs.lemmas.{AreOrigins, AreServed, Hears, IsFrom, IsPair, Side_of, Tie, foreign_of, own_of, programs_ranged, receiver_hears, sender_hears, served_below, takes}
 use Rattle.world_keeps_connections.proofs.Carried.{Fitting, answer_carries, carries, message_carries, offer_carries, request_carries}
 
 module _ (s : Sockets) (is_pair : IsPair s) (who : Who) (h p : Host) (origin : ℕ → ℕ) where

@@ -1,3 +1,4 @@
+pub mod Common
 pub mod Carried
 pub mod Known
 pub mod Users

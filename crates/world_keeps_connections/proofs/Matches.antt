@@ -1,25 +1,12 @@
 -- Lives of the book that continue at both ends of the same sockets match.
-use Rattle.std.proofs.Common.{◌≡◌, ℕ, true, false, ◌==◌, List, Option, Some, None, IsSome, refl, ap, sym, subst, ◌∙◌, eq-eqb}
-use Rattle.std.specs.List.{Contains}
-use Rattle.interface.specs.Host.{Host, same_host}
+use Rattle.world_keeps_connections.proofs.Common.{◌≡◌, ℕ, true, false, ◌==◌, List, Option, Some, None, refl, ap, sym, subst, ◌∙◌, eq-eqb, Contains, Host, same_host, same_host-refl, is_send_socket, ArePartners, Seen, Crossing, HaveAddresses, IsLawful, WorldState, served_in, Match, own_request, receives, sends, Moment, IsTimeline, crossings_of, Coupled, coupled, origin_in, is_between, life_of, AreOpposite}
+use Rattle.std.proofs.Common.{IsSome}
 use Rattle.interface.specs.Mailboxes as mail
-use Rattle.interface.proofs.lemmas.{same_host-refl}
-use Rattle.ncp_control.specs.Numbers.{is_send_socket}
-use Rattle.host_keeps_pairing.specs.Known.{ArePartners}
-use Rattle.interface.specs.Calls.{Seen}
-use Rattle.interface.specs.declared.crossing.Crossing.{Crossing}
-use Rattle.net_sim.specs.Clean.{HaveAddresses, IsLawful}
-use Rattle.net_sim.specs.World.{WorldState}
-use Rattle.world_keeps_pairing.proofs.lemmas.{between_itself, book_lives, book_run, life_matches, partner_named, served_in}
-use Rattle.promise.specs.Safe.{Match, before, control_flow, last_out, named, own_request, receives, sends}
-use Rattle.net_sim.specs.Story.{Moment}
-use Rattle.net_sim.specs.Timeline.{IsTimeline, crossings_of}
+use Rattle.world_keeps_pairing.proofs.lemmas.{between_itself, book_lives, book_run, life_matches, partner_named}
+use Rattle.promise.specs.Safe.{before, control_flow, last_out, named}
 use Rattle.net_sim.specs.Told.{kept_in}
 use Rattle.promise.specs.declared.life.Life as book
-use Rattle.net_sim.proofs.lemmas.{Coupled, coupled}
-use Rattle.world_keeps_pairing.specs.Free.{origin_in, place_or}
-use Rattle.world_keeps_pairing.specs.Lives.{is_between, life_of}
-use Rattle.world_keeps_connections.specs.Users.{AreOpposite}
+use Rattle.world_keeps_pairing.specs.Free.{place_or}
 use Rattle.world_keeps_connections.proofs.Going.{life_known}
 use Rattle.world_keeps_connections.proofs.Users.{known_partners}
 

@@ -1,23 +1,16 @@
 -- The ends of a finished initial connection match.
-use Rattle.std.proofs.Common.{◌≡◌, ℕ, ◌+◌, ◌&&◌, Bool, true, false, if◌then◌else◌, nat_le, ◌%◌, List, take, Option, Some, None, refl, ap, sym, subst, ◌∙◌, eq-eqb, eqb-true, arith}
+use Rattle.world_keeps_connections.proofs.Common.{◌≡◌, ℕ, ◌&&◌, Bool, true, false, if◌then◌else◌, List, Option, Some, None, refl, ap, sym, subst, ◌∙◌, eq-eqb, arith, Seen, Host, is_receive_socket, is_send_socket, Notice, IsLawful, IsBacked, Match, receives, sends, WorldState, AreOpposite}
+use Rattle.std.proofs.Common.{◌+◌, nat_le, ◌%◌, take, eqb-true}
 use Rattle.std.proofs.lemmas.List.Elements.{All-contains}
-use Rattle.interface.specs.Calls.{Seen}
-use Rattle.interface.specs.Host.{Host}
-use Rattle.ncp_control.specs.Numbers.{is_receive_socket, is_send_socket}
-use Rattle.host_pairs.specs.declared.notice.Notice.{Notice}
 use Rattle.icp.specs.Sockets.{server_fault, user_fault}
 use Rattle.icp.specs.declared.fault.StartFault.{StartFault}
 use Rattle.icp.specs.declared.fault.StartFault.TheVariants as fault
 use Rattle.icp.specs.declared.outcome.Outcome.TheVariants as outcome
 use Rattle.host_services.specs.declared.report.Report.{Report}
 use Rattle.host_services.specs.declared.report.Report.TheVariants as report
-use Rattle.net_sim.specs.Clean.{IsLawful}
-use Rattle.net_sim.specs.Reports.{AreReported, IsBacked, IsSo, ServerIsDone, UserIsDone, told_to}
-use Rattle.promise.specs.Safe.{Match, receives, sends}
-use Rattle.net_sim.specs.World.{WorldState}
+use Rattle.net_sim.specs.Reports.{AreReported, IsSo, ServerIsDone, UserIsDone, told_to}
 use Rattle.promise.specs.declared.life.Life.{Life}
 use Rattle.promise.specs.Connections.{HasReported, IsConnected, IsEnd, JoinedBook}
-use Rattle.world_keeps_connections.specs.Users.{AreOpposite}
 use Rattle.world_keeps_connections.proofs.Matches.{world_match}
 
 -- ---- the sockets above an even one

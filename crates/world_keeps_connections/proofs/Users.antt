@@ -1,22 +1,13 @@
 -- What users know is so, over any list of moments.
-use Rattle.std.proofs.Common.{◌≡◌, true, List, [], refl, sym, subst}
-use Rattle.interface.specs.Host.{Host}
+use Rattle.world_keeps_connections.proofs.Common.{◌≡◌, true, List, [], refl, sym, subst, Host, is_receive_socket, is_send_socket, Sockets, IsIn, ArePartners, Knows, HaveAddresses, Moment, IsTimeline, crossings_of, Coupled, coupled, origin_in, AllTied, all_tied, served_in, known_in}
 use Rattle.interface.specs.Mailboxes as mail
-use Rattle.ncp_control.specs.Numbers.{is_receive_socket, is_send_socket}
-use Rattle.pairing_law.specs.Links.{Sockets, events_at, receiver, sender}
-use Rattle.pairing_law.specs.Partners.{IsIn}
+use Rattle.pairing_law.specs.Links.{events_at, receiver, sender}
 use Rattle.pairing_law.specs.Sides.{Life, Side}
 use Rattle.pairing_law.proofs.lemmas.{run_at}
 use Rattle.host_keeps_pairing.proofs.lemmas.{known_match}
-use Rattle.host_keeps_pairing.specs.Known.{ArePartners, Knows}
-use Rattle.net_sim.specs.Clean.{HaveAddresses}
-use Rattle.net_sim.specs.Story.{Moment}
-use Rattle.net_sim.specs.Timeline.{IsTimeline, crossings_of}
-use Rattle.net_sim.proofs.lemmas.{Coupled, coupled}
-use Rattle.world_keeps_pairing.specs.Free.{law_events, origin_in}
+use Rattle.world_keeps_pairing.specs.Free.{law_events}
 use Rattle.world_keeps_pairing.specs.Steps.{steps}
-use Rattle.world_keeps_pairing.proofs.lemmas.{AllTied, all_tied, are_origins, receiver_half, sender_half, served_in}
-use Rattle.world_keeps_connections.specs.Users.{known_in}
+use Rattle.world_keeps_pairing.proofs.lemmas.{are_origins, receiver_half, sender_half}
 use Rattle.world_keeps_connections.proofs.Known.{AllKnown, all_known_at}
 
 known : (hosts : List Host) (moments : List Moment) → HaveAddresses hosts → mail.IsRun hosts (crossings_of moments) → IsTimeline hosts moments → AllKnown (origin_in (crossings_of moments)) moments

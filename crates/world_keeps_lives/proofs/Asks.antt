@@ -1,35 +1,15 @@
 -- What a user asks for, at one socket of the host.
-use Rattle.std.proofs.Common.{◌≡◌, inl, inr, ℕ, ◌+◌, ◌≤◌, ◌==◌, ◌&&◌, Bool, true, false, not, nat_lt, if◌then◌else◌, List, [], ◌∷◌, ◌++◌, map, find, length, Option, Some, None, is_some, refl, ap, sym, subst, ◌∙◌, arith}
-use Rattle.std.proofs.lemmas.Bool.{eqb-true, ltb-false}
-use Rattle.std.proofs.lemmas.List.{append-nil, append_assoc}
-use Rattle.interface.specs.Host.{Host}
-use Rattle.interface.proofs.lemmas.{not_false, or_false}
-use Rattle.ncp_control.specs.Numbers.{is_receive_socket, is_send_socket}
-use Rattle.ncp_control.specs.declared.allocation.Allocation.{Allocation}
-use Rattle.ncp_control.specs.declared.command.Command.{Command}
+use Rattle.world_keeps_lives.proofs.Common.{◌≡◌, inl, inr, ℕ, ◌+◌, ◌≤◌, ◌==◌, ◌&&◌, Bool, true, false, not, nat_lt, if◌then◌else◌, List, [], ◌∷◌, ◌++◌, map, find, length, Option, Some, None, is_some, refl, ap, sym, subst, ◌∙◌, arith, eqb-true, ltb-false, append_assoc, Host, not_false, or_false, is_receive_socket, is_send_socket, Allocation, Command, closed_end, commanded, contacted, interrupt_of, receiver_requested, requested, with_end, with_more_bits, listens_on, without_listener, called_off, changed_first, closed_when, entry_at, free_link, has_cls, is_mine_on, is_open, must_close, receiving_end, sending_end, PairState, is_ready, Entry, Listener, both, NcpState, owner_of, pair_with, AreInOrder, at_owner, closed_socket, is_used, on_open, send_fault, Request, not_first, pair_changed, Life, Kept, all_told, asked, handed_to, lives_at, where_it, IsPrefix, receives, AddsUp, AreRefusing, EachIn, EachOn, IsFresh, IsLifeOf, IsOwned, IsSafe, NoneOf, has_opened, mine_on}
+use Rattle.std.proofs.lemmas.List.{append-nil}
 use Rattle.ncp_control.specs.declared.command.Command.TheVariants as command
-use Rattle.host_pairs.specs.Asked.{closed_end, commanded, contact_notices, contacted, interrupt_of, passes, receiver_requested, requested, with_end, with_more_bits}
+use Rattle.host_pairs.specs.Asked.{contact_notices, passes}
 use Rattle.host_pairs.specs.Commands.{granted}
-use Rattle.host_pairs.specs.Desk.{listens_on, without_listener}
-use Rattle.host_pairs.specs.Entries.{called_off, changed_first, closed_when, entry_at, free_link, has_cls, is_mine_on, is_open, must_close, receiving_end, sending_end, was_closed}
-use Rattle.host_pairs.specs.Pair.{PairState}
+use Rattle.host_pairs.specs.Entries.{was_closed}
 use Rattle.host_pairs.specs.Parcels.{link_of}
-use Rattle.ncp_control.specs.Phases.{is_ready}
-use Rattle.host_pairs.specs.declared.entry.Entry.{Entry}
-use Rattle.host_pairs.specs.declared.listener.Listener.{Listener}
 use Rattle.host_pairs.specs.declared.notice.Notice.TheVariants as notice
-use Rattle.host_pairs.proofs.lemmas.{both}
-use Rattle.sockets.specs.Pairs.{NcpState, owner_of, pair_with}
-use Rattle.sockets.specs.Peers.{AreInOrder}
-use Rattle.sockets.specs.Requests.{at_owner, closed_socket, grant_fault, is_taken, is_used, on_open, open_receive_refusal, open_send_refusal, refusal, send_fault, served, served_notices, with_peer}
-use Rattle.sockets.specs.declared.request.Request.{Request}
+use Rattle.sockets.specs.Requests.{grant_fault, is_taken, open_receive_refusal, open_send_refusal, refusal, served, served_notices, with_peer}
 use Rattle.sockets.specs.declared.request.Request.TheVariants as request
-use Rattle.sockets.proofs.lemmas.{not_first, pair_changed}
-use Rattle.promise.specs.declared.life.Life.{Life}
 use Rattle.net_sim.specs.Book as book
-use Rattle.net_sim.specs.Book.{Kept, all_told, asked, handed_to, lives_at, where_it}
-use Rattle.promise.specs.Safe.{IsPrefix, receives}
-use Rattle.world_keeps_lives.specs.Lives.{AddsUp, AreRefusing, EachIn, EachOn, IsFresh, IsLifeOf, IsOwned, IsSafe, NoneOf, has_opened, mine_on}
 use Rattle.world_keeps_lives.proofs.Ends.{IsRefusing, mine_append, mine_one, refusing_append, refusing_changed, refusing_mapped, split}
 use Rattle.world_keeps_lives.proofs.Books.{each_apart, each_handed, each_weaker, other_socket, there_at}
 use Rattle.world_keeps_lives.proofs.Desks.{At, Elsewhere, Near, Place, at_changed, at_lessened, at_mapped, at_same, clash, open_opened, open_parts, own_is}

@@ -1,23 +1,6 @@
 -- A life that begins has both requests in messages that crossed, and the link of its end.
-use Rattle.std.proofs.Common.{◌≡◌, ◌⊎◌, inl, inr, ℕ, ◌==◌, Bool, true, false, ◌&&◌, if◌then◌else◌, List, [], ◌∷◌, filter, Some, refl, ap, sym, subst, ◌∙◌, eq-eqb}
-use Rattle.std.specs.List.{Contains}
-use Rattle.std.proofs.lemmas.Bool.{eqb-true}
-use Rattle.interface.specs.Host.{Host}
+use Rattle.world_keeps_lives.proofs.Common.{◌≡◌, ◌⊎◌, inl, inr, ℕ, ◌==◌, Bool, true, false, ◌&&◌, if◌then◌else◌, List, [], ◌∷◌, filter, Some, refl, ap, sym, subst, ◌∙◌, eq-eqb, Contains, eqb-true, Host, Flow, is_receive_socket, is_mine_on, Entry, both, pair_with, HaveAddresses, HasCrossed, coming, going, request, receives, Moment, program, IsTimeline, crossings_of, kept_in, Life, HasOpenEnd, mine_on}
 use Rattle.interface.specs.Mailboxes as mail
-use Rattle.interface.specs.declared.address.Flow.{Flow}
-use Rattle.ncp_control.specs.Numbers.{is_receive_socket}
-use Rattle.host_pairs.specs.Entries.{is_mine_on}
-use Rattle.host_pairs.specs.declared.entry.Entry.{Entry}
-use Rattle.host_pairs.proofs.lemmas.{both}
-use Rattle.sockets.specs.Pairs.{pair_with}
-use Rattle.net_sim.specs.Clean.{HaveAddresses}
-use Rattle.promise.specs.Formed.{HasCrossed, coming, going, request}
-use Rattle.promise.specs.Safe.{receives}
-use Rattle.net_sim.specs.Story.{Moment, program}
-use Rattle.net_sim.specs.Timeline.{IsTimeline, crossings_of}
-use Rattle.net_sim.specs.Told.{kept_in}
-use Rattle.promise.specs.declared.life.Life.{Life}
-use Rattle.world_keeps_lives.specs.Lives.{HasOpenEnd, mine_on}
 use Rattle.world_keeps_lives.proofs.Facts.{no}
 use Rattle.world_keeps_lives.proofs.Laws.{live}
 use Rattle.world_keeps_lives.proofs.Linked.{HasRequests, Linked}

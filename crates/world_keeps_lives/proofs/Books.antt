@@ -1,14 +1,8 @@
 -- What notices of a host, and what its user asks for, do to the lives of one of its sockets.
-use Rattle.std.proofs.Common.{◌≡◌, ℕ, ◌==◌, ◌&&◌, Bool, true, false, not, if◌then◌else◌, List, [], ◌∷◌, ◌++◌, refl, sym, subst, ◌∙◌}
-use Rattle.std.proofs.lemmas.Bool.{eqb-true}
-use Rattle.interface.specs.Host.{Host, same_host}
-use Rattle.interface.proofs.lemmas.{same_host-refl, same_host-true}
-use Rattle.host_pairs.specs.declared.notice.Notice.{Notice}
+use Rattle.world_keeps_lives.proofs.Common.{◌≡◌, ℕ, ◌==◌, ◌&&◌, Bool, true, not, if◌then◌else◌, List, [], ◌∷◌, ◌++◌, refl, sym, subst, ◌∙◌, eqb-true, Host, same_host, same_host-refl, same_host-true, Notice, both, not_is, Life, Kept, all_told, carried, changed_when, life_ended, handed_to, handed_told, lives_at, lives_between, lives_told, lives_with, new_life, book_told, where_it, EachIn, EachOn, IsSafe, at_socket}
+use Rattle.std.proofs.Common.{false}
 use Rattle.host_pairs.specs.declared.notice.Notice.TheVariants as notice
-use Rattle.host_pairs.proofs.lemmas.{both, not_is}
-use Rattle.promise.specs.declared.life.Life.{Life}
-use Rattle.net_sim.specs.Book.{Kept, all_told, carried, changed_when, life_ended, handed_to, handed_told, lives_at, lives_between, lives_told, lives_with, new_life, returned, book_told, where_it}
-use Rattle.world_keeps_lives.specs.Lives.{EachIn, EachOn, IsSafe, at_socket}
+use Rattle.net_sim.specs.Book.{returned}
 
 not_both : (P : Type 0) (b : Bool) → b ≡ true → b ≡ false → P
 not_both P b e f = absurd (let r : true ≡ false = sym e ∙ f in cc)
@@ -22,9 +16,6 @@ all_told_append h [] ms k = refl
 all_told_append h (n ∷ ns) ms k = all_told_append h ns ms (book_told h n k)
 
 module _ (a : Host) (k : ℕ) where
-  abbrev Here : Life → Bool
-  Here x = at_socket a k x
-
   -- ---- lists
 
   each_where : (test : Life → Bool) (f : Life → Life) (P Q : Life → List Bool → Type 0) (lives : List Life) (handed : List (List Bool))

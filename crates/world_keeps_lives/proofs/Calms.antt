@@ -1,18 +1,9 @@
 -- What moments of no data do to lives: all keep what they carried, and new ones begin where a request of theirs crosses.
-use Rattle.std.proofs.Common.{◌≡◌, ℕ, Bool, true, false, if◌then◌else◌, List, [], ◌∷◌, ◌++◌, map, refl, ap, sym, subst, ◌∙◌}
-use Rattle.std.proofs.lemmas.List.{append_assoc, map-append}
-use Rattle.interface.specs.Host.{Host}
-use Rattle.interface.specs.declared.crossing.Crossing.{Crossing}
+use Rattle.world_keeps_lives.proofs.Common.{◌≡◌, ℕ, Bool, true, false, if◌then◌else◌, List, [], ◌∷◌, ◌++◌, map, refl, ap, sym, subst, ◌∙◌, append_assoc, map-append, Host, Crossing, Notice, Request, Kept, all_told, book_told, changed_when, life_ended, lives_asked, lives_at, lives_between, lives_crossed, lives_on, lives_told, lives_with, new_life, where_it, Asked, Crossed, Moment, host_in, kept_by, kept_in, notices_by, Amount, Life}
 use Rattle.interface.specs.declared.crossing.Crossing.TheVariants as crossing
-use Rattle.host_pairs.specs.declared.notice.Notice.{Notice}
 use Rattle.host_pairs.specs.declared.notice.Notice.TheVariants as notice
-use Rattle.sockets.specs.declared.request.Request.{Request}
 use Rattle.sockets.specs.declared.request.Request.TheVariants as request
-use Rattle.net_sim.specs.Book.{Kept, all_told, book_told, changed_when, granted, life_ended, lives_asked, lives_at, lives_between, lives_crossed, lives_on, lives_told, lives_with, more, new_life, returned, where_it}
-use Rattle.net_sim.specs.Story.{Asked, Crossed, Moment}
-use Rattle.net_sim.specs.Told.{host_in, kept_by, kept_in, notices_by}
-use Rattle.promise.specs.declared.life.Amount.{Amount}
-use Rattle.promise.specs.declared.life.Life.{Life}
+use Rattle.net_sim.specs.Book.{granted, more, returned}
 use Rattle.world_keeps_lives.proofs.Grounds.{Opens, Tells}
 use Rattle.world_keeps_lives.proofs.Requests.{Each, each_append, each_map}
 use Rattle.world_keeps_lives.proofs.Stamps.{Now, Stamped}
@@ -35,9 +26,6 @@ map_two f g (x ∷ xs) = ap (λ (ys : List Life). g (f x) ∷ ys) (map_two f g x
 nil_right : (xs : List Life) → xs ++ [] ≡ xs
 nil_right [] = refl
 nil_right (x ∷ xs) = ap (λ (ys : List Life). x ∷ ys) (nil_right xs)
-
-itself : (x : Life) → x ≡ kept_as x.granted x.returned x.ended x
-itself x = refl
 
 all_itself : (xs : List Life) → xs ≡ map (λ (x : Life). kept_as x.granted x.returned x.ended x) xs
 all_itself [] = refl

@@ -1,22 +1,7 @@
 -- What is done to the connections of one pair, at one socket of the host.
-use Rattle.std.proofs.Common.{◌≡◌, ◌⊎◌, inl, inr, ℕ, ◌==◌, ◌&&◌, ◌||◌, Bool, true, false, not, if◌then◌else◌, List, [], ◌∷◌, ◌++◌, map, find, Option, Some, None, is_some, refl, ap, sym, subst, ◌∙◌}
-use Rattle.std.proofs.lemmas.Bool.{eqb-true}
+use Rattle.world_keeps_lives.proofs.Common.{◌≡◌, ◌⊎◌, inl, inr, ℕ, ◌==◌, ◌&&◌, ◌||◌, Bool, true, false, not, if◌then◌else◌, List, [], ◌∷◌, ◌++◌, map, find, Option, Some, None, is_some, refl, ap, sym, subst, ◌∙◌, eqb-true, Host, or_false, changed_first, has_cls, is_ending, is_mine_on, is_open, listener_on, listens_on, without_listener, Entry, Listener, Notice, both, not_is, Life, Kept, all_told, lives_between, lives_told, new_life, is_receive_socket, is_send_socket, Allocation, sends, AddsUp, EachIn, IsFresh, IsLifeOf, NoneOf, has_opened, mine_on}
 use Rattle.std.proofs.lemmas.List.{append-nil}
-use Rattle.interface.specs.Host.{Host}
-use Rattle.interface.proofs.lemmas.{or_false}
-use Rattle.host_pairs.specs.Entries.{changed_first, has_cls, is_ending, is_mine_on, is_open}
-use Rattle.host_pairs.specs.Desk.{listener_on, listens_on, without_listener}
-use Rattle.host_pairs.specs.declared.entry.Entry.{Entry}
-use Rattle.host_pairs.specs.declared.listener.Listener.{Listener}
-use Rattle.host_pairs.specs.declared.notice.Notice.{Notice}
-use Rattle.host_pairs.proofs.lemmas.{both, not_is}
-use Rattle.promise.specs.declared.life.Life.{Life}
 use Rattle.net_sim.specs.Book as book
-use Rattle.net_sim.specs.Book.{Kept, all_told, lives_between, lives_told, new_life}
-use Rattle.ncp_control.specs.Numbers.{is_receive_socket, is_send_socket}
-use Rattle.ncp_control.specs.declared.allocation.Allocation.{Allocation}
-use Rattle.promise.specs.Safe.{sends}
-use Rattle.world_keeps_lives.specs.Lives.{AddsUp, EachIn, IsFresh, IsLifeOf, NoneOf, has_opened, mine_on}
 use Rattle.world_keeps_lives.proofs.Ends.{IsRefusing, IsSplit, mine_append, mine_one, none_changed, split}
 use Rattle.world_keeps_lives.proofs.Books.{IsAside, each_aside, each_weaker}
 

@@ -1,39 +1,15 @@
 -- A sending life whose CLS is queued before its partner's was taken has sent all that was handed over in it, also once
 -- it is over.
-use Rattle.std.proofs.Common.{◌≡◌, ◌⊎◌, inl, inr, ℕ, zero, suc, ◌<◌, ◌==◌, ◌&&◌, not, Bool, true, false, if◌then◌else◌, List, [], ◌∷◌, ◌++◌, length, filter, find, slice_index_or, Option, Some, None, refl, ap, sym, subst, ◌∙◌, eq-eqb, arith}
-use Rattle.std.proofs.lemmas.Bool.{eqb-true}
-use Rattle.std.specs.List.{Contains}
-use Rattle.interface.specs.Calls.{Seen}
-use Rattle.interface.specs.Host.{Host, same_host}
+use Rattle.world_keeps_lives.proofs.Common.{◌≡◌, ◌⊎◌, inl, inr, ℕ, zero, suc, ◌<◌, ◌==◌, ◌&&◌, not, Bool, false, if◌then◌else◌, List, [], ◌∷◌, ◌++◌, length, filter, find, slice_index_or, Option, Some, None, refl, ap, sym, subst, ◌∙◌, eq-eqb, arith, eqb-true, Contains, Seen, Host, same_host, not_false, same_host-true, is_receive_socket, is_send_socket, Command, Order, orders_of, has_cls, is_mine_on, is_open, Entry, both, not_is, NcpState, owner_of, pair_with, AreInOrder, on_open, send_fault, not_first, lives_at, HaveAddresses, IsLawful, going, AreHanded, IsPrefix, Name, SafePartners, own_request, sends, Asked, Crossed, Moment, places, program, IsTimeline, crossings_of, kept_in, WorldState, Life, Coupled, coupled, places_same, book_run, even_odd, queued_commands, safe_partners, served_in, ClosedFirst, ClosesFirst, AreRefusing, EachOn, HasOpenEnd, IsFreeSocket, IsLifeOf, IsOwned, NoneOf, mine_on}
+use Rattle.std.proofs.Common.{true}
 use Rattle.interface.specs.Mailboxes as mail
 use Rattle.interface.specs.declared.crossing.Crossing.TheVariants as crossing
-use Rattle.interface.proofs.lemmas.{not_false, same_host-true}
-use Rattle.ncp_control.specs.Numbers.{is_receive_socket, is_send_socket}
-use Rattle.ncp_control.specs.declared.command.Command.{Command}
-use Rattle.host_pairs.specs.Control.{Order, orders_of}
-use Rattle.host_pairs.specs.Entries.{has_cls, is_mine_on, is_open}
 use Rattle.host_pairs.specs.Parcels as parcel
-use Rattle.host_pairs.specs.declared.entry.Entry.{Entry}
-use Rattle.host_pairs.proofs.lemmas.{both, not_is}
-use Rattle.sockets.specs.Pairs.{NcpState, owner_of, pair_with}
-use Rattle.sockets.specs.Peers.{AreInOrder}
-use Rattle.sockets.specs.Requests.{on_open, refusal, send_fault}
+use Rattle.sockets.specs.Requests.{refusal}
 use Rattle.sockets.specs.declared.request.Request.TheVariants as request
-use Rattle.sockets.proofs.lemmas.{not_first}
-use Rattle.net_sim.specs.Book.{lives_at}
-use Rattle.net_sim.specs.Clean.{HaveAddresses, IsLawful}
-use Rattle.promise.specs.Formed.{going}
-use Rattle.promise.specs.Safe.{AreHanded, IsPrefix, Name, SafePartners, own_request, sends}
-use Rattle.net_sim.specs.Story.{Asked, Crossed, Moment, places, program}
-use Rattle.net_sim.specs.Timeline.{IsTimeline, crossings_of}
-use Rattle.net_sim.specs.Told.{kept_in}
-use Rattle.net_sim.specs.World.{WorldState}
-use Rattle.promise.specs.declared.life.Life.{Life}
-use Rattle.net_sim.proofs.lemmas.{Coupled, coupled, places_same}
 use Rattle.world_keeps_pairing.specs.Lives.{ArePaired}
-use Rattle.world_keeps_pairing.proofs.lemmas.{book_run, even_odd, life_paired, mail_below, queued_commands, safe_partners, served_in}
-use Rattle.world_keeps_lives.specs.Drained.{AllDrained, AllSent, ClosedFirst, ClosesFirst}
-use Rattle.world_keeps_lives.specs.Lives.{AreRefusing, EachOn, HasOpenEnd, IsFreeSocket, IsLifeOf, IsOwned, NoneOf, mine_on}
+use Rattle.world_keeps_pairing.proofs.lemmas.{life_paired, mail_below}
+use Rattle.world_keeps_lives.specs.Drained.{AllDrained, AllSent}
 use Rattle.world_keeps_lives.proofs.Desks.{clash, open_parts, own_is}
 use Rattle.world_keeps_lives.proofs.Ends.{mine_one}
 use Rattle.world_keeps_lives.proofs.Begun as begun

@@ -1,10 +1,8 @@
 -- The own ends on a socket, and those that refuse, where a list of ends changes.
-use Rattle.std.proofs.Common.{◌≡◌, ℕ, Bool, true, false, if◌then◌else◌, List, [], ◌∷◌, ◌++◌, map, filter, find, Some, None, refl, ap, sym, subst, ◌∙◌}
+use Rattle.world_keeps_lives.proofs.Common.{◌≡◌, ℕ, Bool, false, if◌then◌else◌, List, [], ◌∷◌, ◌++◌, map, filter, find, Some, None, refl, ap, sym, subst, ◌∙◌, changed_first, has_cls, is_mine_on, Entry, AreRefusing, mine_on}
+use Rattle.std.proofs.Common.{true}
 use Rattle.std.proofs.lemmas.List.Elements.{filter-append}
-use Rattle.host_pairs.specs.Entries.{changed_first, has_cls, is_mine_on}
-use Rattle.host_pairs.specs.declared.entry.Entry.{Entry}
 use Rattle.host_keeps_pairing.proofs.lemmas.{found_same}
-use Rattle.world_keeps_lives.specs.Lives.{AreRefusing, mine_on}
 
 -- ---- what is found
 

@@ -1,52 +1,16 @@
 -- The messages of each life are the first on its link, over all moments.
-use Rattle.std.proofs.Common.{◌≡◌, ◌⊎◌, ◌<◌, inl, inr, ℕ, ◌*◌, ◌==◌, Bool, true, false, if◌then◌else◌, List, [], ◌∷◌, ◌++◌, take, drop, length, Option, Some, None, is_some, refl, ap, sym, subst, ◌∙◌, eq-eqb}
-use Rattle.std.specs.List.{Contains}
-use Rattle.std.proofs.lemmas.Bool.{eqb-true}
-use Rattle.std.proofs.Math.Seq.{drop-append_seam}
-use Rattle.interface.specs.Calls.{Seen}
-use Rattle.interface.specs.Flow.{same_flow}
-use Rattle.interface.specs.Host.{Host, same_host}
-use Rattle.interface.specs.declared.address.Flow.{Flow}
-use Rattle.interface.specs.declared.crossing.Crossing.{Crossing}
+use Rattle.world_keeps_lives.proofs.Common.{◌≡◌, ◌⊎◌, ◌<◌, inl, inr, ℕ, ◌*◌, ◌==◌, Bool, true, false, if◌then◌else◌, List, [], ◌∷◌, ◌++◌, take, drop, length, Option, Some, None, is_some, refl, ap, sym, subst, ◌∙◌, eq-eqb, Contains, eqb-true, drop-append_seam, Seen, same_flow, Host, same_host, Flow, Crossing, HostMessage, same_flow-refl, same_flow-true, same_host-refl, data_bits, header_bits, is_receive_socket, Command, MayGo, data_of, is_link, is_open, is_receiving, receives_on, sends_on, PairState, Parcel, link_for, may_send_on, next_of, Entry, Notice, both, what_goes, find_passes, pair_with, message_for, next_in, Request, next_is, next_pair, all_told, carried, lives_at, where_it, IsLawful, data_by, data_in, text_of, receives, Asked, Crossed, IsNext, Moment, places, program, crossings_of, host_in, kept_by, kept_in, notices_by, WorldState, Life, coupled, places_same, book_lives, book_run, begun, HasOpenEnd}
 use Rattle.interface.specs.declared.crossing.Crossing.TheVariants as crossing
-use Rattle.interface.specs.declared.message.HostMessage.{HostMessage}
-use Rattle.interface.proofs.lemmas.{same_flow-refl, same_flow-true, same_host-refl}
-use Rattle.ncp_control.specs.DataHeader.{data_bits, header_bits}
-use Rattle.ncp_control.specs.Numbers.{is_receive_socket}
-use Rattle.ncp_control.specs.declared.command.Command.{Command}
-use Rattle.host_pairs.specs.Allowed.{MayGo}
-use Rattle.host_pairs.specs.Data.{data_of}
-use Rattle.host_pairs.specs.Entries.{is_link, is_open, is_receiving, receives_on, sends_on}
-use Rattle.host_pairs.specs.Pair.{PairState}
 use Rattle.host_pairs.specs.Parcels as parcel
-use Rattle.host_pairs.specs.Parcels.{Parcel, link_for, link_of, may_send_on, next_of}
-use Rattle.host_pairs.specs.declared.entry.Entry.{Entry}
-use Rattle.host_pairs.specs.declared.notice.Notice.{Notice}
+use Rattle.host_pairs.specs.Parcels.{link_of}
 use Rattle.host_pairs.specs.declared.notice.Notice.TheVariants as notice
-use Rattle.host_pairs.proofs.lemmas.{both, what_goes}
 use Rattle.host_keeps_streams.proofs.lemmas.Senders as senders
-use Rattle.host_keeps_streams.proofs.lemmas.{find_passes}
-use Rattle.sockets.specs.Pairs.{pair_with}
-use Rattle.sockets.specs.Sending.{message_for, next_in}
-use Rattle.sockets.specs.declared.request.Request.{Request}
-use Rattle.sockets.proofs.lemmas.{next_is, next_pair}
-use Rattle.net_sim.specs.Book.{all_told, carried, lives_at, where_it}
-use Rattle.net_sim.specs.Clean.{IsLawful}
-use Rattle.promise.specs.Formed.{data_by, data_in, flow_of, text_of}
-use Rattle.promise.specs.Safe.{receives}
-use Rattle.net_sim.specs.Story.{Asked, Crossed, Follows, IsNext, Moment, places, program}
-use Rattle.net_sim.specs.Timeline.{crossings_of}
-use Rattle.net_sim.specs.Told.{host_in, kept_by, kept_in, notices_by}
-use Rattle.net_sim.specs.World.{WorldState}
-use Rattle.promise.specs.declared.life.Life.{Life}
-use Rattle.net_sim.proofs.lemmas.{coupled, places_same}
-use Rattle.world_keeps_pairing.proofs.lemmas.{book_lives, book_run}
-use Rattle.world_keeps_lives.specs.Firsts.{begun}
+use Rattle.promise.specs.Formed.{flow_of}
+use Rattle.net_sim.specs.Story.{Follows}
 use Rattle.world_keeps_lives.proofs.Facts.{no}
 use Rattle.world_keeps_lives.proofs.Calms.{Calm, calm_moment}
 use Rattle.world_keeps_lives.proofs.DataTold.{TakesIf, answer_told, asking_told, bytes_told, control_told, message_takes, offer_told}
 use Rattle.world_keeps_lives.proofs.FirstEnds.{Apart, AtEnd, IsGrown, Together, Good, Lawful, Tracked, all_due, answered_before, asked_before, at_end, ends_in, flow_link, is_end, lives_in}
-use Rattle.world_keeps_lives.specs.Lives.{HasOpenEnd}
 use Rattle.world_keeps_lives.proofs.FirstLists.{After, From, Pairwise, from_map, life_of}
 use Rattle.world_keeps_lives.proofs.Firsts.{good_calm, good_data}
 use Rattle.world_keeps_lives.proofs.Begun.{flow_two}

@@ -1,40 +1,12 @@
 -- The ends of lives that aren't over, each on its link. What is asked of two programs together is `Together`.
-use Rattle.std.proofs.Common.{◌≡◌, ◌⊎◌, inr, ℕ, ◌<◌, ◌≤◌, ◌==◌, Bool, true, false, if◌then◌else◌, List, [], ◌∷◌, map, drop, length, Some, refl, ap, sym, subst, ◌∙◌, arith, eq-eqb}
-use Rattle.std.specs.List.{Contains}
-use Rattle.std.proofs.Math.Nat.{max-le}
-use Rattle.std.proofs.lemmas.Bool.{eqb-true}
-use Rattle.interface.specs.Host.{Host}
+use Rattle.world_keeps_lives.proofs.Common.{◌≡◌, ◌⊎◌, inr, ℕ, ◌<◌, ◌≤◌, ◌==◌, Bool, true, false, if◌then◌else◌, List, [], ◌∷◌, map, drop, length, Some, refl, ap, sym, subst, ◌∙◌, arith, eq-eqb, Contains, max-le, eqb-true, Host, Flow, Crossing, HostMessage, IsCommand, is_receive_socket, Command, Legal, Order, orders_of, is_link, is_mine_on, is_open, is_receiving, sends_on, Parcel, Entry, both, text_good, AreOrders, IsOrder, pair_with, AreInOrder, message_for, next_in, Peer, HaveAddresses, CrossedAt, coming, going, request, texts_for, Name, before, own_request, receives, Asked, Crossed, IsNext, Moment, places, program, IsTimeline, crossings_of, kept_in, notices_by, Life, begun, HasOpenEnd}
 use Rattle.interface.specs.Mailboxes as mail
-use Rattle.interface.specs.declared.address.Flow.{Flow}
-use Rattle.interface.specs.declared.crossing.Crossing.{Crossing}
 use Rattle.interface.specs.declared.crossing.Crossing.TheVariants as crossing
-use Rattle.interface.specs.declared.message.HostMessage.{HostMessage}
-use Rattle.ncp_control.specs.Command.{IsCommand}
-use Rattle.ncp_control.specs.Numbers.{is_connection_link, is_receive_socket}
-use Rattle.ncp_control.specs.declared.command.Command.{Command}
+use Rattle.ncp_control.specs.Numbers.{is_connection_link}
 use Rattle.ncp_control.specs.declared.command.Command.TheVariants as command
-use Rattle.host_pairs.specs.Control.{Legal, Order, orders_of}
-use Rattle.host_pairs.specs.Entries.{is_link, is_mine_on, is_open, is_receiving, sends_on}
 use Rattle.host_pairs.specs.Parcels as parcel
-use Rattle.host_pairs.specs.Parcels.{Parcel}
-use Rattle.host_pairs.specs.declared.entry.Entry.{Entry}
 use Rattle.host_pairs.specs.declared.notice.Notice.TheVariants as notice
-use Rattle.host_pairs.proofs.lemmas.{both}
-use Rattle.host_keeps_ranges.proofs.lemmas.{text_good}
-use Rattle.host_keeps_ranges.specs.Ranges.{AreOrders, IsOrder}
-use Rattle.sockets.specs.Pairs.{pair_with}
-use Rattle.sockets.specs.Peers.{AreInOrder}
-use Rattle.sockets.specs.Sending.{message_for, next_in}
-use Rattle.sockets.specs.declared.peer.Peer.{Peer}
-use Rattle.net_sim.specs.Clean.{HaveAddresses}
-use Rattle.promise.specs.Formed.{CrossedAt, coming, flow_of, going, request, texts_for}
-use Rattle.promise.specs.Safe.{Name, before, own_request, receives}
-use Rattle.net_sim.specs.Story.{Asked, Crossed, IsNext, Moment, places, program}
-use Rattle.net_sim.specs.Timeline.{IsTimeline, crossings_of}
-use Rattle.net_sim.specs.Told.{kept_in, notices_by}
-use Rattle.promise.specs.declared.life.Life.{Life}
-use Rattle.world_keeps_lives.specs.Firsts.{begun}
-use Rattle.world_keeps_lives.specs.Lives.{HasOpenEnd}
+use Rattle.promise.specs.Formed.{flow_of}
 use Rattle.world_keeps_lives.proofs.Facts.{no, no_place, one_place}
 use Rattle.world_keeps_lives.proofs.Desks.{open_mine}
 use Rattle.world_keeps_lives.proofs.FirstLists.{Pairwise, each_all, life_of, mapped}
@@ -216,9 +188,6 @@ module _ (ms : List Moment) (p : Linked) (t : Tracked ms p) where
       let a : p.life.own_stamp < length (crossings_of ms) = asked_before in
       let b : p.life.partner_stamp < length (crossings_of ms) = answered_before in
       max-le (omega (arith, a)) (omega (arith, b))
-
-contains_life : (ms : List Moment) (g : Good ms) (p : Linked) → Contains g.links p → Contains (lives_in ms) p.life
-contains_life ms g p there = subst (λ (l : List Life). Contains l p.life) g.all (mapped life_of g.links p there)
 
 -- the life of an open end
 pub record Owner (a b : Host) (ms : List Moment) (e : Entry) : Type 0 where

@@ -1,9 +1,5 @@
 -- Lists of lives with their links: what holds of each, and of each two.
-use Rattle.std.proofs.Common.{◌≡◌, ℕ, zero, suc, ◌<◌, List, [], ◌∷◌, ◌++◌, map, length, slice_index_or, refl, ap, sym, subst, ◌∙◌, arith}
-use Rattle.std.specs.List.{Contains}
-use Rattle.std.proofs.lemmas.List.{append_assoc}
-use Rattle.promise.specs.Safe.{AreTwo, own_request}
-use Rattle.promise.specs.declared.life.Life.{Life}
+use Rattle.world_keeps_lives.proofs.Common.{◌≡◌, ℕ, zero, suc, ◌<◌, List, [], ◌∷◌, ◌++◌, map, length, slice_index_or, refl, ap, sym, subst, ◌∙◌, arith, Contains, append_assoc, AreTwo, own_request, Life}
 use Rattle.world_keeps_lives.proofs.Linked.{Linked}
 use Rattle.world_keeps_lives.proofs.Requests.{Each, each_in, each_of, each_weaker, first_of, later_of}
 

@@ -1,17 +1,9 @@
 -- Books whose messages that went out are those of lives, and books whose aren't.
-use Rattle.std.proofs.Common.{◌≡◌, ◌⊎◌, inl, inr, ℕ, ◌<◌, ◌≤◌, ◌==◌, Bool, true, false, List, [], ◌∷◌, drop, length, Option, Some, None, refl, ap, sym, subst, ◌∙◌, arith}
-use Rattle.std.specs.List.{Contains}
-use Rattle.std.specs.Prelude.{option_map}
-use Rattle.interface.specs.declared.address.Flow.{Flow}
-use Rattle.interface.specs.declared.crossing.Crossing.{Crossing}
+use Rattle.world_keeps_lives.proofs.Common.{◌≡◌, ◌⊎◌, inl, inr, ℕ, ◌<◌, ◌≤◌, ◌==◌, Bool, true, false, List, [], ◌∷◌, drop, length, Option, Some, None, refl, ap, sym, subst, ◌∙◌, arith, Contains, option_map, Flow, Crossing, HostMessage, CrossedAt, texts_on, before, receives, Life, eight_sent, AreApart, FirstBook, IsSentIn, flow_on, texts_before, gave, sent_log, took, two_log}
 use Rattle.interface.specs.declared.crossing.Crossing.TheVariants as crossing
-use Rattle.interface.specs.declared.message.HostMessage.{HostMessage}
-use Rattle.promise.specs.Formed.{CrossedAt, flow_of, link_of, texts_on}
-use Rattle.promise.specs.Safe.{before, receives}
-use Rattle.promise.specs.declared.life.Life.{Life}
-use Rattle.net_sim.specs.WorkedMoments.{eight_sent}
-use Rattle.world_keeps_lives.specs.Firsts.{AreApart, FirstBook, IsSentIn, ShareFlow, flow_on, texts_before}
-use Rattle.world_keeps_lives.specs.WorkedFormed.{gave, sent_log, took, two_log, zeros_sent}
+use Rattle.promise.specs.Formed.{flow_of, link_of}
+use Rattle.world_keeps_lives.specs.Firsts.{ShareFlow}
+use Rattle.world_keeps_lives.specs.WorkedFormed.{zeros_sent}
 use Rattle.world_keeps_lives.proofs.FormedRows.{rts_named}
 use Rattle.world_keeps_lives.proofs.Requests.{Each, each_in}
 

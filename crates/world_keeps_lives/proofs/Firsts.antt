@@ -1,29 +1,9 @@
 -- The messages of each life are the first on its link, and each message that goes out is one of a life: from one moment to the next.
-use Rattle.std.proofs.Common.{◌≡◌, ◌⊎◌, inl, inr, ℕ, suc, ◌+◌, ◌<◌, ◌≤◌, ◌==◌, ◌&&◌, max, not, Bool, true, false, List, [], ◌∷◌, ◌++◌, map, length, Some, refl, ap, sym, subst, ◌∙◌, arith, eq-eqb}
-use Rattle.std.specs.List.{Contains}
-use Rattle.std.proofs.Math.Nat.{le-max_left, le-max_right, max-le}
-use Rattle.std.proofs.lemmas.Bool.{eqb-true}
-use Rattle.std.proofs.lemmas.List.{map-append}
-use Rattle.std.proofs.lemmas.List.Elements.{Contains-append_left, Contains-append_right}
-use Rattle.interface.specs.Host.{Host, same_host}
-use Rattle.interface.specs.declared.crossing.Crossing.{Crossing}
+use Rattle.world_keeps_lives.proofs.Common.{◌≡◌, ◌⊎◌, inl, inr, ℕ, suc, ◌+◌, ◌<◌, ◌≤◌, ◌==◌, ◌&&◌, max, not, Bool, true, false, List, [], ◌∷◌, ◌++◌, map, length, Some, refl, ap, sym, subst, ◌∙◌, arith, eq-eqb, Contains, max-le, eqb-true, map-append, Contains-append_left, Host, same_host, Crossing, HostMessage, same_host-refl, same_host-true, is_mine_on, is_open, Entry, both, carried, changed_when, lives_at, where_it, CrossedAt, coming, data_in, going, text_of, texts_for, AreTwo, Name, SafePartners, before, own_request, receives, Asked, Crossed, IsNext, Moment, places, program, crossings_of, Amount, Life, Coupled, coupled, places_same, queued_commands, safe_partners, served_in, begun, HasOpenEnd, mine_on}
+use Rattle.std.proofs.Math.Nat.{le-max_left, le-max_right}
+use Rattle.std.proofs.lemmas.List.Elements.{Contains-append_right}
 use Rattle.interface.specs.declared.crossing.Crossing.TheVariants as crossing
-use Rattle.interface.specs.declared.message.HostMessage.{HostMessage}
-use Rattle.interface.proofs.lemmas.{same_host-refl, same_host-true}
-use Rattle.host_pairs.specs.Entries.{is_mine_on, is_open}
-use Rattle.host_pairs.specs.declared.entry.Entry.{Entry}
-use Rattle.host_pairs.proofs.lemmas.{both}
-use Rattle.net_sim.specs.Book.{carried, changed_when, lives_at, where_it}
-use Rattle.promise.specs.Formed.{CrossedAt, coming, data_in, flow_of, going, text_of, texts_for}
-use Rattle.promise.specs.Safe.{AreTwo, Name, SafePartners, before, own_request, receives}
-use Rattle.net_sim.specs.Story.{Asked, Crossed, IsNext, Moment, places, program}
-use Rattle.net_sim.specs.Timeline.{crossings_of}
-use Rattle.promise.specs.declared.life.Amount.{Amount}
-use Rattle.promise.specs.declared.life.Life.{Life}
-use Rattle.net_sim.proofs.lemmas.{Coupled, coupled, places_same}
-use Rattle.world_keeps_pairing.proofs.lemmas.{queued_commands, safe_partners, served_in}
-use Rattle.world_keeps_lives.specs.Firsts.{begun}
-use Rattle.world_keeps_lives.specs.Lives.{HasOpenEnd, mine_on}
+use Rattle.promise.specs.Formed.{flow_of}
 use Rattle.world_keeps_lives.proofs.Facts.{no}
 use Rattle.world_keeps_lives.proofs.Calms.{Born, Calm, kept_as, kept_so}
 use Rattle.world_keeps_lives.proofs.FirstLists.{After, AreDistinct, From, Pairwise, after_all, all_distinct, each_changed, each_two, from_map, life_of, map_life, mapped, pairs_all, pairs_append, pairs_both, pairs_changed, two_in}

@@ -1,24 +1,9 @@
 -- Each life of a book is formed, and its sending lives are one after another: with the link that its requests name.
-use Rattle.std.proofs.Common.{◌≡◌, ◌⊎◌, inl, inr, ℕ, ◌<◌, ◌≤◌, ◌==◌, Bool, true, false, if◌then◌else◌, zero, suc, List, [], ◌∷◌, map, take, length, Option, Some, is_some, refl, ap, sym, subst, ◌∙◌, arith}
-use Rattle.std.specs.List.{Contains}
-use Rattle.std.specs.Prelude.{IsSome, option_map}
-use Rattle.interface.specs.Host.{Host}
-use Rattle.interface.specs.declared.address.Flow.{Flow}
-use Rattle.interface.specs.declared.crossing.Crossing.{Crossing}
+use Rattle.world_keeps_lives.proofs.Common.{◌≡◌, ◌⊎◌, inl, inr, ℕ, ◌<◌, ◌≤◌, ◌==◌, Bool, true, false, if◌then◌else◌, zero, suc, List, [], ◌∷◌, map, take, length, Option, Some, is_some, refl, ap, sym, subst, ◌∙◌, arith, Contains, IsSome, option_map, Host, Flow, Crossing, HostMessage, is_receive_socket, Command, Legal, Order, orders_of, Entry, CrossedAt, IsFormed, coming, data_in, first_data, going, joined, named_at, named_in, request, texts_for, texts_on, before, receives, Moment, program, crossings_of, Life, AreApart, FirstBook, IsSentIn, begun, flow_on, texts_before, HasOpenEnd}
 use Rattle.interface.specs.declared.crossing.Crossing.TheVariants as crossing
-use Rattle.interface.specs.declared.message.HostMessage.{HostMessage}
-use Rattle.ncp_control.specs.Numbers.{is_receive_socket}
-use Rattle.ncp_control.specs.declared.command.Command.{Command}
 use Rattle.ncp_control.specs.declared.command.Command.TheVariants as command
-use Rattle.host_pairs.specs.Control.{Legal, Order, orders_of}
-use Rattle.host_pairs.specs.declared.entry.Entry.{Entry}
-use Rattle.promise.specs.Formed.{CrossedAt, FormedBook, IsFormed, coming, data_in, first_data, flow_of, going, joined, link_of, named_at, named_in, own_named, partner_named, request, texts_for, texts_on}
-use Rattle.promise.specs.Safe.{before, receives}
-use Rattle.net_sim.specs.Story.{Moment, program}
-use Rattle.net_sim.specs.Timeline.{crossings_of}
-use Rattle.promise.specs.declared.life.Life.{Life}
-use Rattle.world_keeps_lives.specs.Firsts.{AreAfter, AreApart, FirstBook, IsBefore, IsSentIn, begun, flow_on, texts_before}
-use Rattle.world_keeps_lives.specs.Lives.{HasOpenEnd}
+use Rattle.promise.specs.Formed.{FormedBook, flow_of, link_of, own_named, partner_named}
+use Rattle.world_keeps_lives.specs.Firsts.{AreAfter, IsBefore}
 use Rattle.world_keeps_lives.proofs.FirstBooks.{good}
 use Rattle.world_keeps_lives.proofs.FirstEnds.{AtEnd, Good, Lawful, Together, Tracked, at_end, is_end, lives_in, str_foreign}
 use Rattle.world_keeps_lives.proofs.FirstLists.{From, from_map, life_of, mapped}

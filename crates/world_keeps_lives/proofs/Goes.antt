@@ -1,29 +1,13 @@
 -- What goes out of a pair, at one socket of the host.
-use Rattle.std.proofs.Common.{◌≡◌, ◌⊎◌, inl, inr, ℕ, ◌==◌, ◌&&◌, Bool, true, false, if◌then◌else◌, List, [], ◌∷◌, ◌++◌, find, take, drop, Option, Some, None, is_some, refl, ap, sym, subst, ◌∙◌, eq-eqb}
-use Rattle.std.proofs.lemmas.Bool.{eqb-true}
-use Rattle.std.proofs.lemmas.List.{append_assoc, take-append-drop}
-use Rattle.interface.specs.Host.{Host}
-use Rattle.ncp_control.specs.Command.{IsCommand}
-use Rattle.ncp_control.specs.Numbers.{is_receive_socket, is_send_socket}
-use Rattle.ncp_control.specs.declared.command.Command.{Command}
+use Rattle.world_keeps_lives.proofs.Common.{◌≡◌, ◌⊎◌, inl, inr, ℕ, ◌==◌, ◌&&◌, Bool, true, false, if◌then◌else◌, List, [], ◌∷◌, ◌++◌, find, take, drop, Option, Some, None, is_some, refl, ap, sym, subst, ◌∙◌, eq-eqb, eqb-true, append_assoc, take-append-drop, Host, IsCommand, is_receive_socket, is_send_socket, Command, End, Mark, changed, DeskState, desk_told, listens_on, entry_at, has_cls, is_at, is_open, is_receiving, asked_at, bits_gone, cls_sent, command_gone, commands_gone, may_send_on, Entry, both, Stand, at, marks, AreCommands, Life, Kept, all_told, carried, IsLifeOf, IsSafe, has_opened, mine_on}
 use Rattle.ncp_control.specs.declared.command.Command.TheVariants as command
-use Rattle.pairing_law.specs.Ends.{End}
-use Rattle.pairing_law.specs.Marks.{Mark, Ask, Close}
-use Rattle.host_pairs.specs.Commands.{changed}
-use Rattle.host_pairs.specs.Desk.{DeskState, desk_told, listens_on}
-use Rattle.host_pairs.specs.Entries.{entry_at, has_cls, is_at, is_open, is_receiving}
-use Rattle.host_pairs.specs.Parcels.{asked_at, bits_gone, cls_sent, command_gone, commands_gone, may_send_on, request_gone}
-use Rattle.host_pairs.specs.declared.entry.Entry.{Entry}
+use Rattle.pairing_law.specs.Marks.{Ask, Close}
+use Rattle.host_pairs.specs.Parcels.{request_gone}
 use Rattle.host_pairs.specs.declared.notice.Notice.TheVariants as notice
-use Rattle.host_pairs.proofs.lemmas.{both}
-use Rattle.host_keeps_pairing.specs.Ends.{Standing, Stand, at, standing}
-use Rattle.host_keeps_pairing.specs.Words.{mark_of, marks}
+use Rattle.host_keeps_pairing.specs.Ends.{Standing, standing}
+use Rattle.host_keeps_pairing.specs.Words.{mark_of}
 use Rattle.host_keeps_pairing.proofs.lemmas.{Found, found_at, heads, none_at, one_gone}
-use Rattle.host_keeps_ranges.specs.Ranges.{AreCommands}
-use Rattle.promise.specs.declared.life.Life.{Life}
-use Rattle.net_sim.specs.Book.{Kept, all_told, carried}
 use Rattle.promise.specs.Safe.{receives, sends}
-use Rattle.world_keeps_lives.specs.Lives.{IsLifeOf, IsSafe, has_opened, mine_on}
 use Rattle.world_keeps_lives.proofs.Ends.{none_changed, refusing_changed, refusing_found, split}
 use Rattle.world_keeps_lives.proofs.Desks.{At, Place, at_less, clash, open_mine, open_opened, open_parts, own_off}
 use Rattle.world_keeps_lives.proofs.Steps.{good_changed, good_opening, good_quiet, good_swept, sent_drains, sent_less}

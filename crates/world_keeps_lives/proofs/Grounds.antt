@@ -1,46 +1,16 @@
 -- The requests of each end of a host's program, in the messages that crossed.
-use Rattle.std.proofs.Common.{◌≡◌, inl, inr, ℕ, ◌<◌, Bool, true, false, if◌then◌else◌, zero, suc, List, [], ◌∷◌, map, take, drop, length, slice_index_or, Some, refl, ap, sym, subst, ◌∙◌, arith}
-use Rattle.std.specs.List.{Contains}
-use Rattle.std.proofs.lemmas.Bool.{eqb-true}
-use Rattle.std.proofs.lemmas.List.{take-append-drop}
-use Rattle.std.proofs.lemmas.List.Elements.{Contains-append_left}
-use Rattle.interface.specs.Host.{Host, same_host}
+use Rattle.world_keeps_lives.proofs.Common.{◌≡◌, inl, inr, ℕ, ◌<◌, Bool, true, false, if◌then◌else◌, zero, suc, List, [], ◌∷◌, map, take, drop, length, slice_index_or, Some, refl, ap, sym, subst, ◌∙◌, arith, Contains, eqb-true, take-append-drop, Contains-append_left, Host, same_host, Flow, Answer, Crossing, HostMessage, or_false, same_host-true, is_receive_socket, is_send_socket, Command, Legal, Order, orders_of, has_cls, is_ending, is_receiving, PairState, Parcel, asked_at, link_for, Entry, Notice, offer_read, AreCommands, IsReadBack, accepted, NcpState, opening_state, pair_with, AreInOrder, served, message_for, next_in, offered, Peer, next_pair, HaveAddresses, CrossedAt, HasCrossed, coming, going, request, control_flow, Asked, Crossed, IsNext, Moment, places, program, IsTimeline, crossings_of, coupled, places_same, even_odd, programs_ranged, served_in, queued_commands}
 use Rattle.interface.specs.Mailboxes as mail
-use Rattle.interface.specs.declared.address.Flow.{Flow}
-use Rattle.interface.specs.declared.crossing.Answer.{Answer}
-use Rattle.interface.specs.declared.crossing.Crossing.{Crossing}
 use Rattle.interface.specs.declared.crossing.Crossing.TheVariants as crossing
 use Rattle.interface.specs.declared.crossing.Inbound.TheVariants as inbound
-use Rattle.interface.specs.declared.message.HostMessage.{HostMessage}
-use Rattle.interface.proofs.lemmas.{or_false, same_host-true}
-use Rattle.ncp_control.specs.Numbers.{is_receive_socket, is_send_socket}
-use Rattle.ncp_control.specs.declared.command.Command.{Command}
 use Rattle.ncp_control.specs.declared.command.Command.TheVariants as command
-use Rattle.host_pairs.specs.Control.{Legal, Order, orders_of}
-use Rattle.host_pairs.specs.Entries.{has_cls, is_ending, is_receiving}
-use Rattle.host_pairs.specs.Pair.{PairState}
 use Rattle.host_pairs.specs.Parcels as parcel
-use Rattle.host_pairs.specs.Parcels.{Parcel, asked_at, link_for, text_for}
-use Rattle.host_pairs.specs.declared.entry.Entry.{Entry}
-use Rattle.host_pairs.specs.declared.notice.Notice.{Notice}
+use Rattle.host_pairs.specs.Parcels.{text_for}
 use Rattle.host_pairs.specs.declared.notice.Notice.TheVariants as notice
-use Rattle.host_keeps_ranges.proofs.lemmas.{offer_read}
-use Rattle.host_keeps_ranges.specs.Ranges.{AreCommands, IsReadBack}
-use Rattle.sockets.specs.Accepting.{accepted}
-use Rattle.sockets.specs.Pairs.{NcpState, opening_state, pair_with}
-use Rattle.sockets.specs.Peers.{AreInOrder}
-use Rattle.sockets.specs.Requests.{served}
-use Rattle.sockets.specs.Sending.{message_for, next_in, offered}
-use Rattle.sockets.specs.declared.peer.Peer.{Peer}
-use Rattle.sockets.proofs.lemmas.{answer_leaves, message_leaves, next_pair, offer_leaves}
-use Rattle.net_sim.specs.Clean.{HaveAddresses}
-use Rattle.promise.specs.Formed.{CrossedAt, HasCrossed, coming, going, request}
-use Rattle.promise.specs.Safe.{control_flow}
-use Rattle.net_sim.specs.Story.{Asked, Crossed, IsNext, Moment, places, program}
-use Rattle.net_sim.specs.Timeline.{IsTimeline, crossings_of}
-use Rattle.net_sim.proofs.lemmas.{coupled, flow_of, places_same, program_own}
-use Rattle.world_keeps_pairing.proofs.lemmas.{even_odd, programs_ranged, send_odd, served_in}
-use Rattle.world_keeps_pairing.proofs.lemmas.{queued_commands, queued_link}
+use Rattle.sockets.proofs.lemmas.{answer_leaves, message_leaves, offer_leaves}
+use Rattle.net_sim.proofs.lemmas.{flow_of, program_own}
+use Rattle.world_keeps_pairing.proofs.lemmas.{send_odd}
+use Rattle.world_keeps_pairing.proofs.lemmas.{queued_link}
 use Rattle.world_keeps_lives.proofs.Facts.{no_place, one_place}
 use Rattle.world_keeps_lives.proofs.Requests.{Begins, Each, Goes, Hears, IsOther, MayTell, Quiet, Rules, each_of, each_weaker}
 use Rattle.world_keeps_lives.proofs.RequestCalls.{Done, Ends, MayTake, answer_keeps, message_keeps, offer_keeps, request_keeps}

@@ -1,41 +1,16 @@
 -- What comes in to a host and what goes out of it, at one of its sockets.
-use Rattle.std.proofs.Common.{◌≡◌, ◌⊎◌, inl, inr, ℕ, ◌*◌, Bool, true, false, if◌then◌else◌, cond, List, [], ◌∷◌, take, drop, Option, Some, None, refl, ap, sym, subst, ◌∙◌}
-use Rattle.std.proofs.lemmas.List.{take-append-drop}
-use Rattle.interface.specs.Host.{Host, same_host}
-use Rattle.interface.specs.declared.address.Flow.{Flow}
-use Rattle.interface.specs.declared.crossing.Answer.{Answer}
+use Rattle.world_keeps_lives.proofs.Common.{◌≡◌, ◌⊎◌, inl, inr, ℕ, ◌*◌, Bool, true, false, if◌then◌else◌, List, [], ◌∷◌, take, drop, Option, Some, None, refl, ap, sym, subst, ◌∙◌, take-append-drop, Host, same_host, Flow, Answer, HostMessage, same_host-refl, same_host-true, Command, End, Mark, MayGo, DeskState, desk_of, listens_on, is_busy, PairState, Parcel, command_gone, commands_gone, next_of, pair_after, parcel_gone, is_ready, TurnState, answered_turn, message_taken, Entry, Listener, what_goes, Stand, at, marks, AreCommands, turn_of, after_turn, NcpState, pair_with, AreInOrder, next_in, offered_by, Peer, next_is, next_pair, pair_changed, Kept, all_told, AreRefusing, EachIn, IsFreeSocket, IsLifeOf, IsOwned, IsSteady, mine_on}
+use Rattle.std.proofs.Common.{cond}
 use Rattle.interface.specs.declared.crossing.Inbound.TheVariants as inbound
-use Rattle.interface.specs.declared.message.HostMessage.{HostMessage}
-use Rattle.interface.proofs.lemmas.{same_host-refl, same_host-true}
-use Rattle.ncp_control.specs.declared.command.Command.{Command}
 use Rattle.ncp_control.specs.declared.command.Command.TheVariants as command
-use Rattle.pairing_law.specs.Ends.{End}
-use Rattle.pairing_law.specs.Marks.{Mark}
-use Rattle.host_pairs.specs.Allowed.{MayGo}
-use Rattle.host_pairs.specs.Desk.{DeskState, desk_of, listens_on}
-use Rattle.host_pairs.specs.Entries.{is_busy}
-use Rattle.host_pairs.specs.Pair.{PairState}
 use Rattle.host_pairs.specs.Parcels as parcel
-use Rattle.host_pairs.specs.Parcels.{Parcel, command_gone, commands_gone, link_of, next_of, pair_after, parcel_gone, unqueued}
-use Rattle.ncp_control.specs.Phases.{is_ready}
-use Rattle.host_pairs.specs.Turn.{TurnState, answered_turn, message_taken}
-use Rattle.host_pairs.specs.declared.entry.Entry.{Entry}
-use Rattle.host_pairs.specs.declared.listener.Listener.{Listener}
-use Rattle.host_pairs.proofs.lemmas.{what_goes}
-use Rattle.host_keeps_pairing.specs.Ends.{HasEnd, Stand, at}
-use Rattle.host_keeps_pairing.specs.Words.{marks}
+use Rattle.host_pairs.specs.Parcels.{link_of, unqueued}
+use Rattle.host_keeps_pairing.specs.Ends.{HasEnd}
 use Rattle.host_keeps_pairing.proofs.lemmas.{marks_append}
-use Rattle.host_keeps_ranges.specs.Ranges.{AreCommands}
 use Rattle.host_keeps_streams.proofs.lemmas.Senders as senders
-use Rattle.sockets.specs.Accepting.{accepted, turn_of, after_turn, with_turn}
-use Rattle.sockets.specs.Pairs.{NcpState, pair_with}
-use Rattle.sockets.specs.Peers.{AreInOrder}
-use Rattle.sockets.specs.Sending.{next_in, offered, offered_by}
-use Rattle.sockets.specs.declared.peer.Peer.{Peer}
-use Rattle.sockets.proofs.lemmas.{next_is, next_pair, pair_changed}
-use Rattle.net_sim.specs.Book.{Kept, all_told}
+use Rattle.sockets.specs.Accepting.{accepted, with_turn}
+use Rattle.sockets.specs.Sending.{offered}
 use Rattle.world_keeps_pairing.proofs.lemmas.{some_commands}
-use Rattle.world_keeps_lives.specs.Lives.{AreRefusing, EachIn, IsFreeSocket, IsLifeOf, IsOwned, IsSteady, mine_on}
 use Rattle.world_keeps_lives.proofs.Desks.{At, Elsewhere, Near, Place, clash}
 use Rattle.world_keeps_lives.proofs.Takes.{G}
 use Rattle.world_keeps_lives.proofs.Goes.{IsOfTwo, Waits, all_go, good_bytes}
@@ -208,9 +183,6 @@ waits origin q n has own foreign two =
     )
 
 module _ (a : Host) (k : ℕ) (s : NcpState) (stamp : ℕ) (κ : Kept) (g : Peer) where
-  abbrev Gone : Parcel → DeskState
-  Gone x = parcel_gone g.host stamp g.pair.busy x (desk_of g.pair s.listening)
-
   abbrev Goes : Parcel → Place → Type 0
   Goes x m = Done a k m g.host (pair_after x g.pair (parcel_gone g.host stamp g.pair.busy x (desk_of g.pair s.listening))) (listens_on k s.listening) (all_told a (parcel_gone g.host stamp g.pair.busy x (desk_of g.pair s.listening)).notices κ)
 

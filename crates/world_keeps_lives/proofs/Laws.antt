@@ -1,21 +1,7 @@
 -- What all lives of a world's moments have, by what each socket of each host has.
-use Rattle.std.proofs.Common.{◌≡◌, inl, inr, ℕ, ◌<◌, Bool, true, false, List, [], ◌∷◌, length, slice_index_or, zero, suc, refl, ap, sym, subst, eq-eqb, arith}
-use Rattle.std.specs.List.{Contains}
-use Rattle.interface.specs.Calls.{Seen}
-use Rattle.interface.specs.Host.{Host, same_host}
+use Rattle.world_keeps_lives.proofs.Common.{◌≡◌, inl, inr, ℕ, ◌<◌, Bool, true, false, List, [], ◌∷◌, length, slice_index_or, zero, suc, refl, ap, sym, subst, eq-eqb, arith, Contains, Seen, Host, same_host, same_host-refl, NcpState, pair_with, Life, Kept, HaveAddresses, IsLawful, AreHanded, receives, Moment, program, IsTimeline, crossings_of, kept_in, WorldState, book_lives, book_run, EachIn, EachOn, HasOpenEnd, IsBounded, IsLifeOf, IsOwned, IsSafe, NoneOf, at_socket, mine_on}
 use Rattle.interface.specs.Mailboxes as mail
-use Rattle.interface.proofs.lemmas.{same_host-refl}
-use Rattle.sockets.specs.Pairs.{NcpState, pair_with}
-use Rattle.promise.specs.declared.life.Life.{Life}
-use Rattle.net_sim.specs.Book.{Kept}
-use Rattle.net_sim.specs.Clean.{HaveAddresses, IsLawful}
-use Rattle.promise.specs.Safe.{AreHanded, IsGranted, receives}
-use Rattle.net_sim.specs.Story.{Moment, program}
-use Rattle.net_sim.specs.Timeline.{IsTimeline, crossings_of}
-use Rattle.net_sim.specs.Told.{kept_in}
-use Rattle.net_sim.specs.World.{WorldState}
-use Rattle.world_keeps_pairing.proofs.lemmas.{book_lives, book_run}
-use Rattle.world_keeps_lives.specs.Lives.{EachIn, EachOn, HasOpenEnd, IsBounded, IsLifeOf, IsOwned, IsSafe, NoneOf, at_socket, mine_on}
+use Rattle.promise.specs.Safe.{IsGranted}
 use Rattle.world_keeps_lives.proofs.Books.{One, each_weaker}
 use Rattle.world_keeps_lives.proofs.Hosts.{Holds}
 use Rattle.world_keeps_lives.proofs.Moments.{held}

@@ -1,3 +1,4 @@
+pub mod Common
 pub mod Facts
 pub mod Ends
 pub mod Books

@@ -1,13 +1,7 @@
 -- Lives, each with its link beside it: by these the laws of lives are proved from one moment to the next.
-use Rattle.std.proofs.Common.{◌≡◌, ◌⊎◌, ℕ, ◌≤◌, ◌<◌, ◌==◌, Bool, true, false, if◌then◌else◌, List, [], ◌∷◌, map, take, length, Option, Some}
-use Rattle.std.specs.List.{Contains}
-use Rattle.interface.specs.declared.crossing.Crossing.{Crossing}
+use Rattle.world_keeps_lives.proofs.Common.{◌≡◌, ◌⊎◌, ℕ, ◌≤◌, ◌<◌, ◌==◌, Bool, true, false, if◌then◌else◌, List, [], ◌∷◌, map, take, length, Option, Some, Contains, Crossing, HostMessage, CrossedAt, HasCrossed, coming, data_in, going, joined, request, texts_for, before, receives, Life, begun}
 use Rattle.interface.specs.declared.crossing.Crossing.TheVariants as crossing
-use Rattle.interface.specs.declared.message.HostMessage.{HostMessage}
-use Rattle.promise.specs.Formed.{CrossedAt, HasCrossed, coming, data_in, flow_of, going, joined, request, texts_for}
-use Rattle.promise.specs.Safe.{before, receives}
-use Rattle.promise.specs.declared.life.Life.{Life}
-use Rattle.world_keeps_lives.specs.Firsts.{begun}
+use Rattle.promise.specs.Formed.{flow_of}
 
 -- a life with its link
 pub record Linked : Type 0 where

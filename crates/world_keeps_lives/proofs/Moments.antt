@@ -1,30 +1,14 @@
 -- One socket of a host, over all moments of a world.
-use Rattle.std.proofs.Common.{◌≡◌, inl, inr, ℕ, ◌==◌, Bool, true, false, if◌then◌else◌, List, [], ◌∷◌, None, refl, sym, subst}
-use Rattle.interface.specs.Host.{Host, same_host}
+use Rattle.world_keeps_lives.proofs.Common.{◌≡◌, inl, inr, ℕ, ◌==◌, Bool, true, false, if◌then◌else◌, List, [], ◌∷◌, None, refl, sym, subst, Host, same_host, Crossing, same_host-refl, same_host-true, Notice, both, accepted, NcpState, opening_state, pair_with, served, offered, Request, Life, Kept, all_told, asked, crossed, lives_at, lives_on, opening_kept, HaveAddresses, Asked, Crossed, Moment, places, program, IsTimeline, crossings_of, kept_in, Coupled, coupled, programs_ranged, served_in, EachIn, IsLifeOf, NoneOf, at_socket}
 use Rattle.interface.specs.Mailboxes as mail
-use Rattle.interface.specs.declared.crossing.Crossing.{Crossing}
 use Rattle.interface.specs.declared.crossing.Crossing.TheVariants as crossing
 use Rattle.interface.specs.declared.crossing.Inbound.TheVariants as inbound
-use Rattle.interface.proofs.lemmas.{same_host-refl, same_host-true}
-use Rattle.host_pairs.specs.declared.notice.Notice.{Notice}
-use Rattle.host_pairs.proofs.lemmas.{both}
 use Rattle.host_keeps_ranges.proofs.lemmas.{pair_range}
-use Rattle.sockets.specs.Accepting.{accepted}
-use Rattle.sockets.specs.Pairs.{NcpState, opening_state, pair_with}
-use Rattle.sockets.specs.Requests.{refusal, served, served_notices}
-use Rattle.sockets.specs.Sending.{offered}
-use Rattle.sockets.specs.declared.request.Request.{Request}
+use Rattle.sockets.specs.Requests.{refusal, served_notices}
 use Rattle.sockets.specs.declared.request.Request.TheVariants as request
-use Rattle.promise.specs.declared.life.Life.{Life}
-use Rattle.net_sim.specs.Book.{Kept, all_told, asked, crossed, granted, lives_at, lives_on, opening_kept}
-use Rattle.net_sim.specs.Clean.{HaveAddresses}
-use Rattle.net_sim.specs.Story.{Asked, Crossed, Moment, places, program}
-use Rattle.net_sim.specs.Timeline.{IsTimeline, crossings_of}
-use Rattle.net_sim.specs.Told.{kept_in}
-use Rattle.net_sim.proofs.lemmas.{Coupled, coupled}
+use Rattle.net_sim.specs.Book.{granted}
 use Rattle.world_keeps_pairing.specs.Free.{origin_in}
-use Rattle.world_keeps_pairing.proofs.lemmas.{AllTied, all_tied, are_origins, programs_ranged, served_in}
-use Rattle.world_keeps_lives.specs.Lives.{EachIn, IsLifeOf, NoneOf, at_socket}
+use Rattle.world_keeps_pairing.proofs.lemmas.{AllTied, all_tied, are_origins}
 use Rattle.world_keeps_lives.proofs.Books.{all_away, away_at, each_apart, each_ended, each_ending, each_handed}
 use Rattle.world_keeps_lives.proofs.Desks.{clash}
 use Rattle.world_keeps_lives.proofs.Hosts.{HasEnds, Holds, answer_holds, message_holds, offer_holds}

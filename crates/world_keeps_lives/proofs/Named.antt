@@ -1,25 +1,10 @@
 -- What the first request of two sockets names, in a text and in what crossed at a place.
-use Rattle.std.proofs.Common.{◌≡◌, inl, inr, ℕ, ◌<◌, ◌==◌, ◌&&◌, not, Bool, true, false, if◌then◌else◌, zero, suc, List, [], ◌∷◌, length, slice_index_or, Option, Some, None, refl, ap, sym, subst, ◌∙◌, arith, eq-eqb}
-use Rattle.std.specs.List.{Contains}
+use Rattle.world_keeps_lives.proofs.Common.{◌≡◌, inl, inr, ℕ, ◌<◌, ◌==◌, ◌&&◌, not, Bool, if◌then◌else◌, zero, suc, List, [], ◌∷◌, length, slice_index_or, Option, Some, None, refl, ap, sym, subst, ◌∙◌, arith, eq-eqb, Contains, IsSome, eqb-true, same_flow, Host, Flow, Crossing, HostMessage, same_flow-refl, same_flow-true, is_receive_socket, Command, Legal, Order, Wrong, orders_of, both, CrossedAt, IsFormed, named_at, named_in, request, text_of, control_flow, Amount, Life}
+use Rattle.std.proofs.Common.{true, false}
 use Rattle.std.specs.Option.{option_or}
-use Rattle.std.specs.Prelude.{IsSome}
-use Rattle.std.proofs.lemmas.Bool.{eqb-true}
-use Rattle.interface.specs.Flow.{same_flow}
-use Rattle.interface.specs.Host.{Host}
-use Rattle.interface.specs.declared.address.Flow.{Flow}
-use Rattle.interface.specs.declared.crossing.Crossing.{Crossing}
 use Rattle.interface.specs.declared.crossing.Crossing.TheVariants as crossing
-use Rattle.interface.specs.declared.message.HostMessage.{HostMessage}
-use Rattle.interface.proofs.lemmas.{same_flow-refl, same_flow-true}
-use Rattle.ncp_control.specs.Numbers.{is_receive_socket}
-use Rattle.ncp_control.specs.declared.command.Command.{Command}
 use Rattle.ncp_control.specs.declared.command.Command.TheVariants as command
-use Rattle.host_pairs.specs.Control.{Legal, Order, Wrong, orders_of}
-use Rattle.host_pairs.proofs.lemmas.{both}
-use Rattle.promise.specs.Formed.{CrossedAt, IsFormed, named_at, named_by, named_in, named_of, request, text_of}
-use Rattle.promise.specs.Safe.{control_flow}
-use Rattle.promise.specs.declared.life.Amount.{Amount}
-use Rattle.promise.specs.declared.life.Life.{Life}
+use Rattle.promise.specs.Formed.{named_by, named_of}
 use Rattle.world_keeps_lives.proofs.Grounds.{crossed_below}
 use Rattle.world_keeps_lives.proofs.Requests.{first_of, later_of}
 
@@ -99,17 +84,6 @@ names_at own foreign n (Legal c ∷ orders) (suc i) less is = by (named_by own f
 
 pub names_of : (own foreign n : ℕ) (orders : List Order) → Contains orders (Legal (request own foreign n)) → Names own foreign orders
 names_of own foreign n orders there = names_at own foreign n orders there.0 there.1 there.2
-
--- and where one is named it is held
-pub held_in : (own foreign k : ℕ) (orders : List Order) → named_in own foreign orders ≡ Some k → Contains orders (Legal (request own foreign k))
-held_in own foreign k [] e = absurd (let none : None ≡ Some k = e in cc)
-held_in own foreign k (Wrong code octets ∷ orders) e = later_of (Wrong code octets) orders (Legal (request own foreign k)) (held_in own foreign k orders e)
-held_in own foreign k (Legal c ∷ orders) e = by (named_by own foreign c) refl e (held_in own foreign k orders) where
-  by : (o : Option ℕ) → named_by own foreign c ≡ o → option_or o (named_in own foreign orders) ≡ Some k → (named_in own foreign orders ≡ Some k → Contains orders (Legal (request own foreign k))) → Contains (Legal c ∷ orders) (Legal (request own foreign k))
-  by None f g rest = later_of (Legal c) orders (Legal (request own foreign k)) (rest g)
-  by (Some j) f g rest =
-      let same : j ≡ k = cc in
-      subst (λ (d : Command). Contains (Legal c ∷ orders) (Legal d)) (named_is own foreign k c (f ∙ ap (λ (x : ℕ). Some x) same)) (first_of (Legal c) orders)
 
 -- ---- what crossed at a place
 

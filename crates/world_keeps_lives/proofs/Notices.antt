@@ -1,46 +1,13 @@
 -- The notices of data in a book are those of messages that crossed.
-use Rattle.std.proofs.Common.{◌≡◌, inl, inr, ℕ, ◌+◌, ◌*◌, ◌==◌, Bool, true, false, if◌then◌else◌, List, [], ◌∷◌, ◌++◌, take, drop, length, Option, Some, None, is_some, refl, ap, sym, subst, ◌∙◌, arith, eq-eqb}
-use Rattle.std.specs.List.{Contains}
-use Rattle.std.proofs.lemmas.Bool.{eqb-true}
-use Rattle.std.proofs.Math.Seq.{drop-append_seam}
-use Rattle.interface.specs.Calls.{Seen}
-use Rattle.interface.specs.Host.{Host}
+use Rattle.world_keeps_lives.proofs.Common.{◌≡◌, inl, inr, ℕ, ◌+◌, ◌*◌, ◌==◌, Bool, true, false, if◌then◌else◌, List, [], ◌∷◌, ◌++◌, take, drop, length, Option, Some, None, is_some, refl, ap, sym, subst, ◌∙◌, arith, eq-eqb, Contains, eqb-true, drop-append_seam, Seen, Host, Crossing, HostMessage, data_bits, header_bits, is_receive_socket, MayGo, data_of, is_link, is_open, is_receiving, receives_on, PairState, Parcel, may_send_on, next_of, Entry, Notice, both, what_goes, find_passes, pair, pair_with, Request, message_for, next_in, next_is, next_pair, Told, Kept, all_told, asked, book_told, crossed, HaveAddresses, IsLawful, HasCrossed, coming, data_by, going, request, AreTold, FormedNotices, HasLink, data_told, Agrees, Asked, Crossed, IsNext, IsStory, Moment, places, program, events_of, IsTimeline, crossings_of, host_in, kept_by, kept_in, notices_by, WorldState, coupled, data_away, places_same, story_agrees, book_run}
 use Rattle.interface.specs.Mailboxes as mail
-use Rattle.interface.specs.declared.crossing.Crossing.{Crossing}
 use Rattle.interface.specs.declared.crossing.Crossing.TheVariants as crossing
-use Rattle.interface.specs.declared.message.HostMessage.{HostMessage}
-use Rattle.ncp_control.specs.DataHeader.{data_bits, header_bits}
-use Rattle.ncp_control.specs.Numbers.{is_receive_socket}
-use Rattle.host_pairs.specs.Allowed.{MayGo}
-use Rattle.host_pairs.specs.Data.{data_of}
-use Rattle.host_pairs.specs.Entries.{is_link, is_open, is_receiving, receives_on}
-use Rattle.host_pairs.specs.Pair.{PairState}
 use Rattle.host_pairs.specs.Parcels as parcel
-use Rattle.host_pairs.specs.Parcels.{Parcel, link_of, may_send_on, next_of}
-use Rattle.host_pairs.specs.declared.entry.Entry.{Entry}
-use Rattle.host_pairs.specs.declared.notice.Notice.{Notice}
+use Rattle.host_pairs.specs.Parcels.{link_of}
 use Rattle.host_pairs.specs.declared.notice.Notice.TheVariants as notice
-use Rattle.host_pairs.proofs.lemmas.{both, what_goes}
 use Rattle.host_keeps_streams.proofs.lemmas.Senders as senders
-use Rattle.host_keeps_streams.proofs.lemmas.{find_passes}
-use Rattle.reset_law.specs.Pairs.{pair}
-use Rattle.sockets.specs.Pairs.{pair_with}
-use Rattle.sockets.specs.declared.request.Request.{Request}
-use Rattle.sockets.specs.Sending.{message_for, next_in}
-use Rattle.sockets.proofs.lemmas.{next_is, next_pair}
-use Rattle.promise.specs.declared.book.Told.{Told}
-use Rattle.net_sim.specs.Book.{Kept, all_told, asked, book_told, crossed}
-use Rattle.net_sim.specs.Clean.{HaveAddresses, IsLawful}
-use Rattle.promise.specs.Formed.{HasCrossed, coming, data_by, going, request}
-use Rattle.promise.specs.Notices.{AreTold, FormedNotices, HasLink, MayBeUntold, TellsOf, data_told, is_data}
+use Rattle.promise.specs.Notices.{MayBeUntold, TellsOf, is_data}
 use Rattle.promise.specs.Notices as notices
-use Rattle.net_sim.specs.Projection.{Agrees}
-use Rattle.net_sim.specs.Story.{Asked, Crossed, IsNext, IsStory, Moment, places, program, events_of}
-use Rattle.net_sim.specs.Timeline.{IsTimeline, crossings_of}
-use Rattle.net_sim.specs.Told.{host_in, kept_by, kept_in, notices_by}
-use Rattle.net_sim.specs.World.{WorldState}
-use Rattle.net_sim.proofs.lemmas.{coupled, data_away, places_same, story_agrees}
-use Rattle.world_keeps_pairing.proofs.lemmas.{book_run}
 use Rattle.world_keeps_lives.proofs.Desks.{IsAnOpen, open_mine, open_parts}
 use Rattle.world_keeps_lives.proofs.Requests.{Each, each_in, each_of, each_weaker, found_in}
 use Rattle.world_keeps_lives.proofs.Grounds.{Grounded, IsAnswered, IsAsked, Tells, goes_of, grounds}

@@ -1,38 +1,12 @@
 -- A message of a host's program has one RTS of two sockets at most, where it goes out and where it comes in.
-use Rattle.std.proofs.Common.{◌≡◌, inl, inr, ℕ, ◌<◌, ◌==◌, Bool, true, false, if◌then◌else◌, zero, suc, List, [], ◌∷◌, ◌++◌, map, take, drop, length, slice_index_or, Some, refl, ap, sym, subst, ◌∙◌, arith, eq-eqb}
-use Rattle.std.specs.List.{Contains}
-use Rattle.std.proofs.lemmas.List.{take-append-drop}
-use Rattle.std.proofs.lemmas.List.Elements.{Contains-append_left}
-use Rattle.interface.specs.Flow.{same_flow}
-use Rattle.interface.specs.Host.{Host, same_host}
+use Rattle.world_keeps_lives.proofs.Common.{◌≡◌, inl, inr, ℕ, ◌<◌, ◌==◌, Bool, true, false, if◌then◌else◌, zero, suc, List, [], ◌∷◌, ◌++◌, map, take, drop, length, slice_index_or, Some, refl, ap, sym, subst, ◌∙◌, arith, eq-eqb, Contains, take-append-drop, Contains-append_left, same_flow, Host, same_host, Flow, Crossing, HostMessage, same_flow-true, Command, MayGo, Legal, Order, orders_of, PairState, Parcel, next_of, Entry, what_goes, offer_read, IsReadBack, pair_with, message_for, next_in, next_is, next_pair, HaveAddresses, Agrees, Asked, Crossed, IsNext, IsStory, Moment, events_of, program, IsTimeline, crossings_of, Coupled, coupled, data_away, story_agrees, CrossedAt, coming, going, pair, programs_ranged, served_in}
 use Rattle.interface.specs.Mailboxes as mail
-use Rattle.interface.specs.declared.address.Flow.{Flow}
-use Rattle.interface.specs.declared.crossing.Crossing.{Crossing}
 use Rattle.interface.specs.declared.crossing.Crossing.TheVariants as crossing
-use Rattle.interface.specs.declared.message.HostMessage.{HostMessage}
-use Rattle.interface.proofs.lemmas.{same_flow-true}
-use Rattle.ncp_control.specs.declared.command.Command.{Command}
 use Rattle.ncp_control.specs.declared.command.Command.TheVariants as command
-use Rattle.host_pairs.specs.Allowed.{MayGo}
-use Rattle.host_pairs.specs.Control.{Legal, Order, orders_of}
-use Rattle.host_pairs.specs.Pair.{PairState}
 use Rattle.host_pairs.specs.Parcels as parcel
-use Rattle.host_pairs.specs.Parcels.{Parcel, link_of, next_of}
-use Rattle.host_pairs.specs.declared.entry.Entry.{Entry}
-use Rattle.host_pairs.proofs.lemmas.{what_goes}
-use Rattle.host_keeps_ranges.proofs.lemmas.{offer_read}
-use Rattle.host_keeps_ranges.specs.Ranges.{IsReadBack}
-use Rattle.sockets.specs.Pairs.{pair_with}
-use Rattle.sockets.specs.Sending.{message_for, next_in}
-use Rattle.sockets.proofs.lemmas.{next_is, next_pair}
-use Rattle.net_sim.specs.Clean.{HaveAddresses}
-use Rattle.net_sim.specs.Projection.{Agrees}
-use Rattle.net_sim.specs.Story.{Asked, Crossed, IsNext, IsStory, Moment, events_of, program}
-use Rattle.net_sim.specs.Timeline.{IsTimeline, crossings_of}
-use Rattle.net_sim.proofs.lemmas.{Coupled, coupled, cleared_waits, data_away, fetched_waits, story_agrees}
-use Rattle.promise.specs.Formed.{CrossedAt, coming, going}
-use Rattle.reset_law.specs.Pairs.{pair}
-use Rattle.world_keeps_pairing.proofs.lemmas.{programs_ranged, queued_once, served_in}
+use Rattle.host_pairs.specs.Parcels.{link_of}
+use Rattle.net_sim.proofs.lemmas.{cleared_waits, fetched_waits}
+use Rattle.world_keeps_pairing.proofs.lemmas.{queued_once}
 use Rattle.world_keeps_lives.proofs.Facts.{no}
 use Rattle.world_keeps_lives.proofs.Requests.{Each, each_in}
 

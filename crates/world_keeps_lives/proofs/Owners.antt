@@ -1,17 +1,9 @@
 -- The own end on a socket, over all peers of a host.
-use Rattle.std.proofs.Common.{◌≡◌, ℕ, ◌<◌, ◌||◌, Bool, true, false, List, [], ◌∷◌, find, Option, Some, None, is_some, refl, ap, sym, subst, ◌∙◌, arith}
-use Rattle.interface.specs.Host.{Host, address_octet, same_host}
-use Rattle.interface.proofs.lemmas.{same_host-refl}
-use Rattle.host_pairs.specs.Desk.{listens_on}
-use Rattle.host_pairs.specs.Entries.{is_mine_on}
-use Rattle.host_pairs.specs.declared.entry.Entry.{Entry}
-use Rattle.sockets.specs.Pairs.{NcpState, owner_of, pair_with}
-use Rattle.sockets.specs.Peers.{AreInOrder, StandAbove}
-use Rattle.sockets.specs.Requests.{is_used}
-use Rattle.sockets.specs.declared.peer.Peer.{Peer}
+use Rattle.world_keeps_lives.proofs.Common.{◌≡◌, ℕ, ◌<◌, ◌||◌, Bool, true, false, List, [], ◌∷◌, find, Option, Some, is_some, refl, ap, sym, subst, ◌∙◌, arith, Host, same_host, same_host-refl, listens_on, is_mine_on, Entry, NcpState, owner_of, pair_with, AreInOrder, is_used, Peer, Kept, IsOwned, mine_on}
+use Rattle.std.proofs.Common.{None}
+use Rattle.interface.specs.Host.{address_octet}
+use Rattle.sockets.specs.Peers.{StandAbove}
 use Rattle.sockets.proofs.lemmas.{same_octet}
-use Rattle.net_sim.specs.Book.{Kept}
-use Rattle.world_keeps_lives.specs.Lives.{IsOwned, mine_on}
 use Rattle.world_keeps_lives.proofs.Ends.{mine_one}
 use Rattle.world_keeps_lives.proofs.Desks.{clash}
 

@@ -1,20 +1,10 @@
 -- A life and what was handed over in it, at one place of their two lists, from one moment to the next.
-use Rattle.std.proofs.Common.{◌≡◌, ◌⊎◌, inl, inr, ℕ, suc, ◌+◌, ◌<◌, ◌==◌, ◌&&◌, Bool, true, false, not, if◌then◌else◌, List, [], ◌∷◌, ◌++◌, length, refl, ap, sym, ◌∙◌, append-nil, arith}
-use Rattle.std.proofs.lemmas.List.{append_assoc, length-append}
-use Rattle.std.specs.List.{Contains}
-use Rattle.interface.specs.Host.{Host, same_host}
-use Rattle.interface.specs.declared.crossing.Crossing.{Crossing}
+use Rattle.world_keeps_lives.proofs.Common.{◌≡◌, ◌⊎◌, inl, inr, ℕ, suc, ◌+◌, ◌<◌, ◌==◌, ◌&&◌, Bool, true, false, not, if◌then◌else◌, List, [], ◌∷◌, ◌++◌, length, refl, ap, sym, ◌∙◌, arith, append_assoc, length-append, Contains, Host, same_host, Crossing, Notice, both, not_is, Request, Kept, all_told, book_told, carried, changed_when, handed_to, handed_told, life_ended, lives_asked, lives_at, lives_between, lives_crossed, lives_on, lives_told, lives_with, where_it, AreHanded, AreTwo, IsPrefix, own_request, sends, Asked, Crossed, Moment, host_in, kept_by, kept_in, notices_by, Life}
+use Rattle.std.proofs.Common.{append-nil}
 use Rattle.interface.specs.declared.crossing.Crossing.TheVariants as crossing
-use Rattle.host_pairs.specs.declared.notice.Notice.{Notice}
 use Rattle.host_pairs.specs.declared.notice.Notice.TheVariants as notice
-use Rattle.host_pairs.proofs.lemmas.{both, not_is}
-use Rattle.sockets.specs.declared.request.Request.{Request}
 use Rattle.sockets.specs.declared.request.Request.TheVariants as request
-use Rattle.net_sim.specs.Book.{Kept, all_told, book_told, carried, changed_when, granted, handed_asked, handed_to, handed_told, life_ended, lives_asked, lives_at, lives_between, lives_crossed, lives_on, lives_told, lives_with, returned, where_it}
-use Rattle.promise.specs.Safe.{AreHanded, AreTwo, IsPrefix, own_request, sends}
-use Rattle.net_sim.specs.Story.{Asked, Crossed, Moment}
-use Rattle.net_sim.specs.Told.{host_in, kept_by, kept_in, notices_by}
-use Rattle.promise.specs.declared.life.Life.{Life}
+use Rattle.net_sim.specs.Book.{granted, handed_asked, returned}
 
 -- ---- prefixes
 

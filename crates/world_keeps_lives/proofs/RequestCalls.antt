@@ -1,39 +1,17 @@
 -- What holds of each end that a host's program has with a peer, through each of its calls.
-use Rattle.std.proofs.Common.{◌≡◌, ℕ, ◌==◌, Bool, true, false, if◌then◌else◌, List, [], ◌∷◌, find, Option, Some, None, refl, sym, subst}
-use Rattle.interface.specs.Host.{Host, same_host}
-use Rattle.interface.specs.declared.address.Flow.{Flow}
-use Rattle.interface.specs.declared.crossing.Answer.{Answer}
+use Rattle.world_keeps_lives.proofs.Common.{◌≡◌, ℕ, ◌==◌, Bool, true, false, if◌then◌else◌, List, [], ◌∷◌, find, Option, Some, None, refl, sym, subst, Host, same_host, Flow, Answer, HostMessage, same_host-refl, same_host-true, data_bits, header_of, DataHeader, closed_end, commanded, contacted, interrupt_of, receiver_requested, requested, with_end, with_more_bits, orders_of, data_of, data_taken, desk_of, listens_on, free_link, is_busy, is_open, receives_on, sending_end, PairState, Parcel, pair_after, parcel_gone, is_ready, TurnState, answered_turn, message_taken, Entry, Notice, AreCommands, text_good, after_turn, turn_of, NcpState, owner_of, pair_with, AreInOrder, at_owner, closed_socket, next_in, offered_by, Peer, Request, next_pair}
 use Rattle.interface.specs.declared.crossing.Inbound.TheVariants as inbound
-use Rattle.interface.specs.declared.message.HostMessage.{HostMessage}
-use Rattle.interface.proofs.lemmas.{same_host-refl, same_host-true}
-use Rattle.ncp_control.specs.DataHeader.{data_bits, header_of}
 use Rattle.ncp_control.specs.declared.command.Command.TheVariants as command
-use Rattle.ncp_control.specs.declared.data_header.DataHeader.{DataHeader}
-use Rattle.host_pairs.specs.Asked.{closed_end, commanded, contacted, interrupt_of, receiver_requested, requested, with_end, with_more_bits}
 use Rattle.host_pairs.specs.Commands.{granted}
-use Rattle.host_pairs.specs.Control.{orders_of}
-use Rattle.host_pairs.specs.Data.{data_of, data_taken}
-use Rattle.host_pairs.specs.Desk.{desk_of, listens_on}
-use Rattle.host_pairs.specs.Entries.{free_link, is_busy, is_open, receives_on, sending_end}
-use Rattle.host_pairs.specs.Pair.{PairState}
-use Rattle.host_pairs.specs.Parcels.{Parcel, link_of, pair_after, parcel_gone}
-use Rattle.ncp_control.specs.Phases.{is_ready}
-use Rattle.host_pairs.specs.Turn.{TurnState, answered_turn, message_taken}
-use Rattle.host_pairs.specs.declared.entry.Entry.{Entry}
-use Rattle.host_pairs.specs.declared.notice.Notice.{Notice}
+use Rattle.host_pairs.specs.Parcels.{link_of}
 use Rattle.host_pairs.specs.declared.notice.Notice.TheVariants as notice
 use Rattle.host_keeps_pairing.proofs.lemmas.{peer_here}
-use Rattle.host_keeps_ranges.specs.Ranges.{AreCommands}
-use Rattle.host_keeps_ranges.proofs.lemmas.{text_good}
-use Rattle.sockets.specs.Accepting.{accepted, accepted_answer, accepted_message, after_turn, turn_of}
-use Rattle.sockets.specs.Pairs.{NcpState, owner_of, pair_with, with_pair}
-use Rattle.sockets.specs.Peers.{AreInOrder}
-use Rattle.sockets.specs.Requests.{at_owner, closed_socket, served, served_notices}
-use Rattle.sockets.specs.Sending.{next_in, offered, offered_by}
-use Rattle.sockets.specs.declared.peer.Peer.{Peer}
-use Rattle.sockets.specs.declared.request.Request.{Request}
+use Rattle.sockets.specs.Accepting.{accepted, accepted_answer, accepted_message}
+use Rattle.sockets.specs.Pairs.{with_pair}
+use Rattle.sockets.specs.Requests.{served, served_notices}
+use Rattle.sockets.specs.Sending.{offered}
 use Rattle.sockets.specs.declared.request.Request.TheVariants as request
-use Rattle.sockets.proofs.lemmas.{next_pair, others_stay}
+use Rattle.sockets.proofs.lemmas.{others_stay}
 use Rattle.world_keeps_lives.proofs.Requests.{Begins, Each, GoodTurn, Hears, MayTell, Rules, asked_by, asked_closed, asked_new, asked_receiver, good_data, good_parcel, turn_all, turn_answered, turn_ready}
 
 -- the ends with a peer

@@ -1,39 +1,16 @@
 -- What holds of each end of a pair through all that its host does: a rule for each change that names a request, and one for all others.
-use Rattle.std.proofs.Common.{◌≡◌, ℕ, zero, suc, ◌*◌, ◌<◌, ◌==◌, Bool, true, false, not, ◌||◌, if◌then◌else◌, List, [], ◌∷◌, ◌++◌, map, filter, find, take, length, slice_index_or, Option, Some, None, is_some, refl, subst, arith}
-use Rattle.std.proofs.lemmas.Bool.{eqb-true}
-use Rattle.std.specs.List.{Contains, list_any, flat_map}
+use Rattle.world_keeps_lives.proofs.Common.{◌≡◌, ℕ, zero, suc, ◌*◌, ◌<◌, ◌==◌, Bool, false, not, ◌||◌, if◌then◌else◌, List, [], ◌∷◌, ◌++◌, map, filter, find, take, length, slice_index_or, Option, Some, None, is_some, refl, subst, arith, eqb-true, Contains, list_any, flat_map, Host, Answer, IsCommand, spelling, data_bits, header_of, is_receive_socket, is_send_socket, Command, DataHeader, Ending, Open, Unconnected, answered_on, asked_on_link, asked_with_size, at_end, changed, closed_once, cls_taken_by, gvb_taken, interrupted, entry_joined, matched_once, receiver_on, ret_taken, rts_heard, rts_taken, rts_taken_by, sender_on, str_heard, str_linked, str_taken_by, desk_taken, ERRONEOUS, Legal, NOT_CONNECTED, NO_SOCKET, Order, Wrong, error, closed_end, receiver_requested, requested, with_end, arrived, arrived_if, data_found, data_of, data_taken, is_acceptable, spent, text_faulted, DeskState, command_queued, desk_of, desk_told, listener_on, settled, swept, called_off, changed_first, close_due, closed_by_partner, closed_when, ending, entry_at, free_link, has_cls, is_at, is_ending, is_mine_on, is_open, is_over, must_close, opening_by, opening_notices, receives_on, receiving_end, refused_end, sending_end, sends_on, PairState, Parcel, asked_at, bits_gone, cls_sent, command_gone, commands_gone, may_send_on, pair_after, parcel_gone, is_ready, TurnState, answered_turn, closed, command_taken, failed, failed_by, freed, if_ready, is_gone, order_taken, orders_taken, reply_notices, reset_notices, settled_turn, with_desk, Closing, Entry, Listener, Notice, Phase, both, AreCommands, AreOrders, IsOrder}
+use Rattle.std.proofs.Common.{true}
 use Rattle.bit_messages.specs.Octets.{octets_of}
-use Rattle.interface.specs.Host.{Host}
-use Rattle.interface.specs.declared.crossing.Answer.{Answer}
 use Rattle.interface.specs.declared.crossing.Answer.TheVariants as answer
-use Rattle.ncp_control.specs.Command.{IsCommand, spelling}
-use Rattle.ncp_control.specs.DataHeader.{data_bits, header_of}
-use Rattle.ncp_control.specs.Numbers.{is_receive_socket, is_send_socket}
-use Rattle.ncp_control.specs.declared.command.Command.{Command}
 use Rattle.ncp_control.specs.declared.command.Command.TheVariants as command
-use Rattle.ncp_control.specs.declared.data_header.DataHeader.{DataHeader}
 use Rattle.host_pairs.specs.Commands as commands
-use Rattle.host_pairs.specs.Commands.{Ending, Found, Open, Unconnected, all_taken, answered_on, asked_on_link, asked_with_size, at_end, changed, closed_once, cls_taken_by, gvb_taken, interrupted, entry_joined, matched_once, receiver_on, ret_taken, rts_heard, rts_taken, rts_taken_by, sender_on, str_heard, str_linked, str_taken_by, desk_taken}
-use Rattle.host_pairs.specs.Control.{ERRONEOUS, Legal, NOT_CONNECTED, NO_SOCKET, Order, Wrong, error}
-use Rattle.host_pairs.specs.Asked.{closed_end, receiver_requested, requested, with_end}
-use Rattle.host_pairs.specs.Data.{arrived, arrived_if, data_found, data_of, data_taken, is_acceptable, spent, text_faulted}
-use Rattle.host_pairs.specs.Desk.{DeskState, command_queued, desk_of, desk_told, listener_on, settled, swept}
-use Rattle.host_pairs.specs.Entries.{called_off, changed_first, close_due, closed_by_partner, closed_when, ending, entry_at, free_link, has_cls, is_at, is_ending, is_mine_on, is_open, is_over, must_close, opening_by, opening_notices, receives_on, receiving_end, refused_end, sending_end, sends_on}
-use Rattle.host_pairs.specs.Pair.{PairState}
+use Rattle.host_pairs.specs.Commands.{Found, all_taken}
 use Rattle.host_pairs.specs.Parcels as parcel
-use Rattle.host_pairs.specs.Parcels.{Parcel, asked_at, bits_gone, cls_sent, command_gone, commands_gone, link_of, may_send_on, pair_after, parcel_gone}
-use Rattle.ncp_control.specs.Phases.{is_ready}
-use Rattle.host_pairs.specs.Turn.{TurnState, answered_turn, closed, command_taken, failed, failed_by, freed, if_ready, is_gone, order_taken, orders_taken, reply_notices, reset_notices, settled_turn, with_desk}
-use Rattle.host_pairs.specs.declared.entry.Closing.{Closing}
+use Rattle.host_pairs.specs.Parcels.{link_of}
 use Rattle.host_pairs.specs.declared.entry.Closing.TheVariants as closing
-use Rattle.host_pairs.specs.declared.entry.Entry.{Entry}
-use Rattle.host_pairs.specs.declared.listener.Listener.{Listener}
-use Rattle.host_pairs.specs.declared.notice.Notice.{Notice}
 use Rattle.host_pairs.specs.declared.notice.Notice.TheVariants as notice
-use Rattle.ncp_control.specs.declared.phase.Phase.{Phase}
 use Rattle.ncp_control.specs.declared.phase.Phase.TheVariants as phase
-use Rattle.host_pairs.proofs.lemmas.{both}
-use Rattle.host_keeps_ranges.specs.Ranges.{AreCommands, AreOrders, IsOrder}
 
 -- ---- lists
 
@@ -182,9 +159,6 @@ module _ (P : Entry → Type 0) (N : Notice → Type 0) (peer : Host) (rules : R
 
   pub good_swept : (d : DeskState) → Good d → Good (swept peer d)
   good_swept d h = record { ends = each_filter P (λ e. not (is_over e)) d.entries h.ends; told = each_append N d.notices (flat_map (ending peer) (filter is_over d.entries)) h.told (all_ended (filter is_over d.entries)) }
-
-  good_joined : (e : Entry) (d : DeskState) → P e → Good d → Good (entry_joined e d)
-  good_joined e d i h = record { ends = each_append P d.entries (e ∷ []) h.ends (i, tt); told = h.told }
 
   opening_told : (e : Entry) (x y : Option ℕ) → P e → e.asked ≡ x → e.partner ≡ y → Each N (opening_by peer e x y)
   opening_told e None y i f g = tt

@@ -1,31 +1,15 @@
 -- Ends, lives and programs, computed.
-use Rattle.std.proofs.Common.{◌≡◌, ℕ, true, false, List, [], ◌∷◌, find, Option, Some, None, refl, ap, ◌∙◌, arith}
-use Rattle.interface.specs.Host.{Host, same_host}
-use Rattle.host_pairs.specs.Asked.{with_more_bits}
+use Rattle.world_keeps_lives.proofs.Common.{◌≡◌, ℕ, true, false, List, [], ◌∷◌, find, Option, Some, None, refl, ap, ◌∙◌, arith, Host, same_host, with_more_bits, asked_on_link, asked_with_size, receiving_end, sending_end, asked_at, Entry, opening_state, pair_with, Peer, first, second, Life, carried, life_ended, new_life, opening_kept, EachOn, HasOpenEnd, IsBounded, IsFreeSocket, IsFresh, IsLifeOf, IsOwned, IsSafe, IsSteady, NoneOf, mine_on}
 use Rattle.host_pairs.specs.Commands as commands
-use Rattle.host_pairs.specs.Commands.{asked_on_link, asked_with_size}
-use Rattle.host_pairs.specs.Entries.{receiving_end, sending_end}
-use Rattle.host_pairs.specs.Parcels.{asked_at}
-use Rattle.host_pairs.specs.declared.entry.Entry.{Entry}
-use Rattle.sockets.specs.Pairs.{opening_state, pair_in, pair_with}
-use Rattle.sockets.specs.declared.peer.Peer.{Peer}
-use Rattle.sockets.specs.Worked.{first, second}
-use Rattle.promise.specs.declared.life.Life.{Life}
-use Rattle.net_sim.specs.Book.{carried, life_ended, granted, new_life, opening_kept, returned}
+use Rattle.sockets.specs.Pairs.{pair_in}
+use Rattle.net_sim.specs.Book.{granted, returned}
 use Rattle.world_keeps_lives.specs.Worked.{worked_end, with_one}
-use Rattle.world_keeps_lives.specs.Lives.{EachOn, HasOpenEnd, IsBounded, IsFreeSocket, IsFresh, IsLifeOf, IsOwned, IsSafe, IsSteady, NoneOf, mine_on}
 
 pub row_early : IsFresh (with_more_bits (true ∷ []) (sending_end 33 16 8)) → ⊥
 row_early h = absurd (let r : true ∷ [] ≡ [] = (h refl).0 in cc)
 
 pub row_granted : IsFresh (commands.granted 1 5 (receiving_end 16 33 5)) → ⊥
 row_granted h = absurd (let r : 1 ≡ 0 = ap (λ a. a.messages) (h refl).1 in omega (arith, r))
-
-abbrev sender : Life
-sender = new_life first 33 second 16 6 10
-
-abbrev receiver : Life
-receiver = new_life first 16 second 33 6 10
 
 pub row_sent : IsSafe (carried (true ∷ []) (new_life first 33 second 16 6 10)) (true ∷ false ∷ [])
 row_sent = record { front = λ s. (false ∷ [], refl); within = λ r. absurd (let q : false ≡ true = r in cc); bounded = λ r. absurd (let q : false ≡ true = r in cc) }

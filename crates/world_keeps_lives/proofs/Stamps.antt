@@ -1,25 +1,9 @@
 -- Where a user is notified of an opening, one of its two requests has just crossed, unless a life of its own request is there.
-use Rattle.std.proofs.Common.{◌≡◌, ◌⊎◌, inl, inr, ℕ, Bool, true, false, List, Some, is_some, refl, ap, sym, subst, ◌∙◌}
-use Rattle.std.specs.List.{Contains}
-use Rattle.interface.specs.Host.{Host}
+use Rattle.world_keeps_lives.proofs.Common.{◌≡◌, ◌⊎◌, inl, inr, ℕ, Bool, true, false, List, Some, is_some, refl, ap, sym, subst, ◌∙◌, Contains, Host, HostMessage, Command, Order, has_cls, is_open, Parcel, Entry, Notice, pair_with, HaveAddresses, Asked, Crossed, IsNext, Moment, places, program, IsTimeline, crossings_of, notices_by, Life, queued_commands}
 use Rattle.interface.specs.Mailboxes as mail
 use Rattle.interface.specs.declared.crossing.Crossing.TheVariants as crossing
-use Rattle.interface.specs.declared.message.HostMessage.{HostMessage}
-use Rattle.ncp_control.specs.declared.command.Command.{Command}
-use Rattle.host_pairs.specs.Control.{Order}
-use Rattle.host_pairs.specs.Entries.{has_cls, is_open}
 use Rattle.host_pairs.specs.Parcels as parcel
-use Rattle.host_pairs.specs.Parcels.{Parcel}
-use Rattle.host_pairs.specs.declared.entry.Entry.{Entry}
-use Rattle.host_pairs.specs.declared.notice.Notice.{Notice}
 use Rattle.host_pairs.specs.declared.notice.Notice.TheVariants as notice
-use Rattle.sockets.specs.Pairs.{pair_with}
-use Rattle.net_sim.specs.Clean.{HaveAddresses}
-use Rattle.net_sim.specs.Story.{Asked, Crossed, IsNext, Moment, places, program}
-use Rattle.net_sim.specs.Timeline.{IsTimeline, crossings_of}
-use Rattle.net_sim.specs.Told.{notices_by}
-use Rattle.promise.specs.declared.life.Life.{Life}
-use Rattle.world_keeps_pairing.proofs.lemmas.{queued_commands}
 use Rattle.world_keeps_lives.proofs.Facts.{no, no_place, one_place}
 use Rattle.world_keeps_lives.proofs.Desks.{IsAnOpen, open_parts}
 use Rattle.world_keeps_lives.proofs.Requests.{Begins, Each, Goes, Hears, IsOther, MayTell, Quiet, Rules}

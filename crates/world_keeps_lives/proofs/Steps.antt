@@ -1,29 +1,11 @@
 -- Each thing that is done to the connections of a pair, at one socket of the host.
-use Rattle.std.proofs.Common.{◌≡◌, ◌⊎◌, inl, inr, ℕ, ◌==◌, ◌&&◌, ◌||◌, Bool, true, false, not, if◌then◌else◌, List, [], ◌∷◌, ◌++◌, length, filter, find, Option, Some, None, is_some, refl, ap, sym, subst, ◌∙◌, eq-eqb, arith}
-use Rattle.std.proofs.lemmas.Bool.{eqb-true}
+use Rattle.world_keeps_lives.proofs.Common.{◌≡◌, ◌⊎◌, inl, inr, ℕ, ◌==◌, ◌&&◌, ◌||◌, Bool, true, false, not, if◌then◌else◌, List, [], ◌∷◌, ◌++◌, length, filter, find, Option, Some, None, is_some, refl, ap, sym, subst, ◌∙◌, eq-eqb, arith, eqb-true, flat_map, Host, same_host, same_host-refl, is_receive_socket, is_send_socket, Allocation, Command, called_off, changed_first, close_due, closed_by_partner, closed_when, ending, entry_at, has_cls, is_at, is_ending, is_mine_on, is_over, is_receiving, must_close, opening_notices, opening_by, answered_on, changed, entry_joined, cls_sent, DeskState, listener_on, listens_on, command_queued, settled, swept, desk_told, Closing, Entry, Listener, Notice, both, Life, Kept, all_told, lives_between, new_life, AddsUp, AreRefusing, EachIn, IsFresh, IsLifeOf, IsSafe, NoneOf, at_socket, has_opened, mine_on}
 use Rattle.std.proofs.lemmas.List.{append-nil}
-use Rattle.std.specs.List.{flat_map}
-use Rattle.interface.specs.Host.{Host, same_host}
-use Rattle.interface.proofs.lemmas.{same_host-refl}
 use Rattle.ncp_control.specs.Allocation as counters
-use Rattle.ncp_control.specs.Numbers.{is_receive_socket, is_send_socket}
-use Rattle.ncp_control.specs.declared.allocation.Allocation.{Allocation}
-use Rattle.ncp_control.specs.declared.command.Command.{Command}
-use Rattle.host_pairs.specs.Entries.{called_off, changed_first, close_due, closed_by_partner, closed_when, ending, entry_at, has_cls, is_answered, is_at, is_drained, is_due, is_ending, is_mine_on, is_over, is_receiving, must_close, opening_notices, opening_by}
-use Rattle.host_pairs.specs.Commands.{answered_on, changed, entry_joined}
-use Rattle.host_pairs.specs.Parcels.{cls_sent}
-use Rattle.host_pairs.specs.Desk.{DeskState, listener_on, listens_on, command_queued, settled, swept, desk_told}
-use Rattle.host_pairs.specs.declared.entry.Closing.{Closing}
+use Rattle.host_pairs.specs.Entries.{is_answered, is_drained, is_due}
 use Rattle.host_pairs.specs.declared.entry.Closing.TheVariants as closing
-use Rattle.host_pairs.specs.declared.entry.Entry.{Entry}
-use Rattle.host_pairs.specs.declared.listener.Listener.{Listener}
-use Rattle.host_pairs.specs.declared.notice.Notice.{Notice}
 use Rattle.host_pairs.specs.declared.notice.Notice.TheVariants as notice
-use Rattle.host_pairs.proofs.lemmas.{both}
 use Rattle.host_keeps_streams.proofs.lemmas.{odd_is}
-use Rattle.promise.specs.declared.life.Life.{Life}
-use Rattle.net_sim.specs.Book.{Kept, all_told, lives_between, new_life}
-use Rattle.world_keeps_lives.specs.Lives.{AddsUp, AreRefusing, EachIn, IsFresh, IsLifeOf, IsSafe, NoneOf, at_socket, has_opened, mine_on}
 use Rattle.world_keeps_lives.proofs.Ends.{IsRefusing, split, found_changed, mine_append, mine_one, refusing_append, refusing_changed, refusing_filtered, refusing_found, refusing_mapped}
 use Rattle.world_keeps_lives.proofs.Books.{all_told_append, each_ended, each_more, each_weaker}
 use Rattle.world_keeps_lives.proofs.Desks.{AreAside, At, Drains, Elsewhere, IsLess, Near, Place, at_aside, at_changed, at_lessened, at_mapped, clash, each_all_aside, listens_found, open_parts, own_is, own_off, without_other, without_same}
@@ -122,9 +104,6 @@ pub refuses_due : (e : Entry) → IsRefusing e → IsRefusing (called_off e)
 refuses_due e r m = sym (due_cls e.closing) ∙ r m
 
 module _ (a : Host) (k : ℕ) (m : Place) (p : Host) (k0 : Kept) where
-  abbrev pub Now : DeskState → Kept
-  Now d = all_told a d.notices k0
-
   abbrev pub On : DeskState → Type 0
   On d = At a k m p (mine_on k d.entries) (listens_on k d.listening) (all_told a d.notices k0)
 

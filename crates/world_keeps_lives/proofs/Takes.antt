@@ -1,32 +1,17 @@
 -- What a command or data of the peer does, at one socket of the host.
-use Rattle.std.proofs.Common.{◌≡◌, ℕ, ◌+◌, ◌-◌, ◌≤◌, ◌<◌, ◌==◌, ◌&&◌, ◌||◌, Bool, true, false, not, nat_le, nat_lt, if◌then◌else◌, List, [], ◌∷◌, find, length, take, Option, Some, None, is_some, refl, ap, sym, subst, ◌∙◌, arith}
-use Rattle.std.proofs.lemmas.Bool.{eqb-true, leb-true, ltb-false, ltb-true}
-use Rattle.std.proofs.lemmas.List.{length-append, length-drop, length-take-le}
-use Rattle.std.specs.List.{list_any}
-use Rattle.interface.specs.Host.{Host, same_host}
+use Rattle.world_keeps_lives.proofs.Common.{◌≡◌, ℕ, ◌+◌, ◌-◌, ◌≤◌, ◌<◌, ◌==◌, ◌&&◌, ◌||◌, Bool, true, false, not, nat_lt, if◌then◌else◌, List, [], ◌∷◌, find, length, take, Option, Some, None, is_some, refl, ap, sym, subst, ◌∙◌, arith, eqb-true, ltb-false, ltb-true, length-append, list_any, Host, same_host, spelling, data_bits, header_of, is_receive_socket, is_send_socket, Allocation, Command, DataHeader, answered_on, asked_on_link, asked_with_size, at_end, changed, closed_once, cls_taken_by, gvb_taken, interrupted, matched_once, receiver_on, ret_taken, rts_heard, rts_taken, rts_taken_by, sender_on, str_heard, str_linked, str_taken_by, desk_taken, ERRONEOUS, NOT_CONNECTED, NO_SOCKET, error, arrived, arrived_if, data_found, data_of, data_taken, is_acceptable, spent, text_faulted, DeskState, listener_on, settled, swept, desk_told, closed_by_partner, entry_at, free_link, is_at, is_ending, is_link, is_mine_on, is_open, is_receiving, receiving_end, receives_on, refused_end, sending_end, sends_on, Entry, Listener, both, not_is, Life, Kept, all_told, carried, lives_at, where_it, receives, sends, AddsUp, EachOn, IsLifeOf, IsSafe, at_socket, has_opened}
+use Rattle.std.proofs.Common.{nat_le}
+use Rattle.std.proofs.lemmas.Bool.{leb-true}
+use Rattle.std.proofs.lemmas.List.{length-drop, length-take-le}
 use Rattle.ncp_control.specs.Allocation as counters
-use Rattle.ncp_control.specs.Command.{spelling}
-use Rattle.ncp_control.specs.DataHeader.{data_bits, fields_of, header_of}
-use Rattle.ncp_control.specs.Numbers.{is_receive_socket, is_send_socket}
-use Rattle.ncp_control.specs.declared.allocation.Allocation.{Allocation}
-use Rattle.ncp_control.specs.declared.command.Command.{Command}
+use Rattle.ncp_control.specs.DataHeader.{fields_of}
 use Rattle.ncp_control.specs.declared.command.Command.TheVariants as command
-use Rattle.ncp_control.specs.declared.data_header.DataHeader.{DataHeader}
 use Rattle.host_pairs.specs.Commands as commands
-use Rattle.host_pairs.specs.Commands.{answered_on, asked_on_link, asked_with_size, at_end, changed, closed_once, cls_taken_by, found_in, gvb_taken, interrupted, matched_once, receiver_on, ret_taken, returned, rts_heard, rts_taken, rts_taken_by, sender_on, str_heard, str_linked, str_taken_by, desk_taken}
-use Rattle.host_pairs.specs.Control.{ERRONEOUS, NOT_CONNECTED, NO_SOCKET, error}
-use Rattle.host_pairs.specs.Data.{arrived, arrived_if, data_found, data_of, data_taken, is_acceptable, is_covered, spent, text_faulted}
-use Rattle.host_pairs.specs.Desk.{DeskState, listener_on, settled, swept, desk_told}
-use Rattle.host_pairs.specs.Entries.{closed_by_partner, entry_at, free_link, is_at, is_ending, is_link, is_mine_on, is_open, is_receiving, is_size, receiving_end, receives_on, refused_end, sending_end, sends_on}
-use Rattle.host_pairs.specs.declared.entry.Entry.{Entry}
-use Rattle.host_pairs.specs.declared.listener.Listener.{Listener}
+use Rattle.host_pairs.specs.Commands.{found_in, returned}
+use Rattle.host_pairs.specs.Data.{is_covered}
+use Rattle.host_pairs.specs.Entries.{is_size}
 use Rattle.host_pairs.specs.declared.notice.Notice.TheVariants as notice
-use Rattle.host_pairs.proofs.lemmas.{both, not_is}
-use Rattle.promise.specs.declared.life.Life.{Life}
 use Rattle.net_sim.specs.Book as book
-use Rattle.net_sim.specs.Book.{Kept, all_told, carried, lives_at, where_it}
-use Rattle.promise.specs.Safe.{receives, sends}
-use Rattle.world_keeps_lives.specs.Lives.{AddsUp, EachOn, IsLifeOf, IsSafe, at_socket, has_opened}
 use Rattle.world_keeps_lives.proofs.Ends.{IsRefusing, refusing_found, split}
 use Rattle.world_keeps_lives.proofs.Books.{each_here, each_weaker}
 use Rattle.world_keeps_lives.proofs.Desks.{At, Elsewhere, Near, Place, clash, open_mine, open_opened, own_is, own_off}

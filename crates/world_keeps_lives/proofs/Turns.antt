@@ -1,29 +1,12 @@
 -- What a pair does with what comes in of its peer, at one socket of the host.
-use Rattle.std.proofs.Common.{◌≡◌, ℕ, ◌==◌, ◌||◌, Bool, true, false, not, if◌then◌else◌, List, [], ◌∷◌, ◌++◌, map, refl, ap, sym, subst, ◌∙◌}
-use Rattle.interface.specs.Host.{Host, same_host}
-use Rattle.interface.specs.declared.crossing.Answer.{Answer}
+use Rattle.world_keeps_lives.proofs.Common.{◌≡◌, ℕ, ◌==◌, ◌||◌, Bool, true, false, not, if◌then◌else◌, List, [], ◌∷◌, ◌++◌, map, refl, ap, sym, subst, ◌∙◌, Host, same_host, Answer, same_host-refl, Command, desk_taken, Legal, Order, Wrong, error, orders_of, data_taken, DeskState, desk_of, listens_on, command_queued, settled, is_ready, TurnState, answered_turn, closed, command_taken, failed, failed_by, freed, if_ready, is_gone, message_taken, order_taken, orders_taken, reply_notices, reset_notices, settled_turn, with_desk, closed_when, must_close, Entry, Listener, both, Notice, Phase, Life, Kept, all_told, lives_with, AreRefusing, IsLifeOf, NoneOf, at_socket, mine_on}
 use Rattle.interface.specs.declared.crossing.Answer.TheVariants as answer
-use Rattle.interface.proofs.lemmas.{same_host-refl}
-use Rattle.ncp_control.specs.declared.command.Command.{Command}
 use Rattle.ncp_control.specs.declared.command.Command.TheVariants as command
-use Rattle.host_pairs.specs.Commands.{desk_taken}
-use Rattle.host_pairs.specs.Control.{Legal, Order, Wrong, error, orders_of}
-use Rattle.host_pairs.specs.Data.{data_taken}
-use Rattle.host_pairs.specs.Desk.{DeskState, desk_of, listens_on, command_queued, settled}
-use Rattle.ncp_control.specs.Phases.{is_ready, taken_phase}
-use Rattle.host_pairs.specs.Turn.{TurnState, answered_turn, closed, command_taken, failed, failed_by, freed, if_ready, is_gone, message_taken, order_taken, orders_taken, reply_notices, reply_taken, reset_notices, reset_taken, settled_turn, with_desk}
-use Rattle.host_pairs.specs.Entries.{closed_when, must_close}
-use Rattle.host_pairs.specs.declared.entry.Entry.{Entry}
-use Rattle.host_pairs.specs.declared.listener.Listener.{Listener}
-use Rattle.host_pairs.proofs.lemmas.{both}
-use Rattle.host_pairs.specs.declared.notice.Notice.{Notice}
+use Rattle.ncp_control.specs.Phases.{taken_phase}
+use Rattle.host_pairs.specs.Turn.{reply_taken, reset_taken}
 use Rattle.host_pairs.specs.declared.notice.Notice.TheVariants as notice
-use Rattle.ncp_control.specs.declared.phase.Phase.{Phase}
 use Rattle.ncp_control.specs.declared.phase.Phase.TheVariants as phase
 use Rattle.host_keeps_pairing.proofs.lemmas.{reply_idle, rfnm_idle}
-use Rattle.promise.specs.declared.life.Life.{Life}
-use Rattle.net_sim.specs.Book.{Kept, all_told, lives_with}
-use Rattle.world_keeps_lives.specs.Lives.{AreRefusing, IsLifeOf, NoneOf, at_socket, mine_on}
 use Rattle.world_keeps_lives.proofs.Books.{all_told_append, each_ended}
 use Rattle.world_keeps_lives.proofs.Desks.{AreAside, At, Elsewhere, Near, Place, at_aside, clash}
 use Rattle.world_keeps_lives.proofs.Steps.{good_queued, good_settled}

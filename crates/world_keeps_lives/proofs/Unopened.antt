@@ -1,24 +1,10 @@
 -- No end opens of which a CLS was queued or taken: so no life begins then.
-use Rattle.std.proofs.Common.{◌≡◌, ◌⊎◌, inl, inr, ℕ, ◌||◌, Bool, true, false, List, ◌∷◌, None, refl, ap, sym, subst, ◌∙◌}
-use Rattle.std.specs.List.{Contains}
-use Rattle.interface.specs.Host.{Host}
+use Rattle.world_keeps_lives.proofs.Common.{◌≡◌, ◌⊎◌, inl, inr, ℕ, ◌||◌, Bool, List, ◌∷◌, None, refl, ap, sym, subst, ◌∙◌, Contains, Host, HostMessage, Command, Order, has_cls, is_ending, Parcel, Entry, Notice, pair_with, HaveAddresses, Asked, Crossed, IsNext, IsStory, Moment, places, program, IsTimeline, crossings_of, host_in, notices_by, queued_commands}
+use Rattle.std.proofs.Common.{true, false}
 use Rattle.interface.specs.Mailboxes as mail
 use Rattle.interface.specs.declared.crossing.Crossing.TheVariants as crossing
-use Rattle.interface.specs.declared.message.HostMessage.{HostMessage}
-use Rattle.ncp_control.specs.declared.command.Command.{Command}
-use Rattle.host_pairs.specs.Control.{Order}
-use Rattle.host_pairs.specs.Entries.{has_cls, is_ending}
 use Rattle.host_pairs.specs.Parcels as parcel
-use Rattle.host_pairs.specs.Parcels.{Parcel}
-use Rattle.host_pairs.specs.declared.entry.Entry.{Entry}
-use Rattle.host_pairs.specs.declared.notice.Notice.{Notice}
 use Rattle.host_pairs.specs.declared.notice.Notice.TheVariants as notice
-use Rattle.sockets.specs.Pairs.{pair_with}
-use Rattle.net_sim.specs.Clean.{HaveAddresses}
-use Rattle.net_sim.specs.Story.{Asked, Crossed, IsNext, IsStory, Moment, places, program}
-use Rattle.net_sim.specs.Timeline.{IsTimeline, crossings_of}
-use Rattle.net_sim.specs.Told.{host_in, notices_by}
-use Rattle.world_keeps_pairing.proofs.lemmas.{queued_commands}
 use Rattle.world_keeps_lives.proofs.Facts.{no, no_place}
 use Rattle.world_keeps_lives.proofs.Requests.{Begins, Each, Goes, Hears, IsOther, MayTell, Quiet, Rules, each_of, each_weaker}
 use Rattle.world_keeps_lives.proofs.RequestCalls.{answer_keeps, message_keeps, offer_keeps, request_told}

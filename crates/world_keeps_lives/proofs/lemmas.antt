@@ -15,7 +15,7 @@ pub use Rattle.world_keeps_lives.proofs.Laws.{handed, live, live_end, safe_life,
 pub use Rattle.world_keeps_lives.proofs.Linked.{Linked, LinkedBook}
 pub use Rattle.world_keeps_lives.proofs.Moments.{acts, asked_away, crossed_holds, ended_holds, has_ends}
 pub use Rattle.world_keeps_lives.proofs.Moments.{held, idle_if, opening_holds, up_at}
-pub use Rattle.world_keeps_lives.proofs.Named.{NamedAt, Names, found_at, held_in, named_again, named_is, named_there, names_of, some_named, way_of}
+pub use Rattle.world_keeps_lives.proofs.Named.{NamedAt, Names, found_at, named_again, named_is, named_there, names_of, some_named, way_of}
 pub use Rattle.world_keeps_lives.proofs.Notices.{world_told}
 pub use Rattle.world_keeps_lives.proofs.Owners.{owner_found}
 pub use Rattle.world_keeps_lives.proofs.RequestCalls.{Done, Ends, answer_keeps, message_keeps}

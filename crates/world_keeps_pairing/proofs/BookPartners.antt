@@ -1,27 +1,16 @@
 -- No two lives of a book have one request, and partners are partners both ways.
-use Rattle.std.proofs.Common.{◌≡◌, inl, inr, ℕ, suc, true, List, [], ◌∷◌, ◌++◌, Option, Some, None, refl, ap, sym, subst, ◌∙◌, arith, false, IsSome}
-use Rattle.std.specs.List.{Contains}
+use Rattle.world_keeps_pairing.proofs.Common.{◌≡◌, inl, inr, ℕ, suc, true, List, [], ◌∷◌, ◌++◌, Option, Some, None, refl, ap, sym, subst, ◌∙◌, arith, false, IsSome, Contains, Host, Crossing, is_receive_socket, is_send_socket, AreAmong, IsIn, NoneOwns, OwnOnce, PartnerOnce, Side, Receiver, Sender, Sockets, events_at, receiver, sender, run_at, safe_run, AreTwo, Match, SafePartners, control_flow, last_out, own_request, partner_request, receives, Moment, IsStory, events_of, crossings_of, law_events, origin_in, origin_or, place_or, is_between, life_of, openings, with_lives, steps}
 use Rattle.std.proofs.lemmas.List.Elements.{Contains-append_left, Contains-append_right}
-use Rattle.interface.specs.Host.{Host}
 use Rattle.interface.specs.Mailboxes as mail
-use Rattle.interface.specs.declared.crossing.Crossing.{Crossing}
-use Rattle.ncp_control.specs.Numbers.{is_receive_socket, is_send_socket}
-use Rattle.host_keeps_pairing.specs.Openings.{AreAmong}
 use Rattle.pairing_law.specs.Partners as law
-use Rattle.pairing_law.specs.Partners.{AreBoth, IsIn, NoneOwns, OwnOnce, PartnerOnce}
-use Rattle.pairing_law.specs.Sides.{Life, Side, both}
-use Rattle.pairing_law.specs.Links.{Receiver, Sender, Sockets, events_at, receiver, sender}
-use Rattle.pairing_law.proofs.lemmas.{run_at, safe_run}
+use Rattle.pairing_law.specs.Partners.{AreBoth}
+use Rattle.pairing_law.specs.Sides.{Life, both}
 use Rattle.reset_law.specs.Runs.{IsRun}
 use Rattle.promise.specs.declared.life.Life as book
-use Rattle.promise.specs.Safe.{AreTwo, Match, Name, SafePartners, before, control_flow, last_out, named, own_request, partner_request, receives}
-use Rattle.net_sim.specs.Story.{Moment, IsStory, events_of}
-use Rattle.net_sim.specs.Timeline.{crossings_of}
+use Rattle.promise.specs.Safe.{Name, before, named}
 use Rattle.net_sim.specs.Told.{kept_in}
-use Rattle.world_keeps_pairing.specs.Free.{law_events, origin_in, origin_or, place_or}
 use Rattle.world_keeps_pairing.proofs.Served.{AreServed}
-use Rattle.world_keeps_pairing.specs.Lives.{ArePaired, is_between, life_of, openings, with_lives}
-use Rattle.world_keeps_pairing.specs.Steps.{steps}
+use Rattle.world_keeps_pairing.specs.Lives.{ArePaired}
 use Rattle.world_keeps_pairing.proofs.LifeLists.{between_itself, in_among, once_among, own_once, partner_once, told_in, two_apart}
 use Rattle.world_keeps_pairing.proofs.LinkRun.{all_tied}
 use Rattle.world_keeps_pairing.proofs.LivesAmong.{by_sockets, lives_among}

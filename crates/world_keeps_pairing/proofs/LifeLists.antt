@@ -1,14 +1,9 @@
 -- Lives of a book at two sockets, one by one: each is reported, and two of them at two places.
-use Rattle.std.proofs.Common.{◌≡◌, ◌≢◌, inl, inr, ℕ, zero, suc, ◌<◌, Bool, true, false, if◌then◌else◌, List, [], ◌∷◌, ◌++◌, length, get_or, refl, ap, sym, subst, ◌∙◌, eq-eqb, arith}
-use Rattle.std.specs.List.{Contains}
-use Rattle.interface.specs.Host.{Host}
-use Rattle.interface.proofs.lemmas.{same_host-refl}
-use Rattle.host_keeps_pairing.specs.Openings.{AreAmong}
-use Rattle.pairing_law.specs.Partners.{IsIn, NoneOwns, NoneTook, OwnOnce, PartnerOnce}
+use Rattle.world_keeps_pairing.proofs.Common.{◌≡◌, inl, inr, ℕ, zero, suc, ◌<◌, Bool, true, false, if◌then◌else◌, List, [], ◌∷◌, ◌++◌, length, refl, ap, sym, subst, ◌∙◌, eq-eqb, arith, Contains, Host, same_host-refl, AreAmong, IsIn, NoneOwns, OwnOnce, PartnerOnce, AreTwo, is_between, life_of, with_life, with_lives}
+use Rattle.std.proofs.Common.{◌≢◌, get_or}
+use Rattle.pairing_law.specs.Partners.{NoneTook}
 use Rattle.pairing_law.specs.Sides.{Life}
 use Rattle.promise.specs.declared.life.Life as book
-use Rattle.promise.specs.Safe.{AreTwo}
-use Rattle.world_keeps_pairing.specs.Lives.{is_between, life_of, with_life, with_lives}
 
 -- ---- lives of the law
 

@@ -1,24 +1,8 @@
 -- Links are free at each moment of two programs.
-use Rattle.std.proofs.Common.{◌≡◌, Bool, true, false, if◌then◌else◌, List, [], ◌∷◌, None, refl, ap, sym, subst, ◌∙◌}
-use Rattle.interface.specs.Host.{Host, same_host}
-use Rattle.interface.specs.declared.address.Flow.{Flow}
-use Rattle.interface.specs.declared.crossing.Answer.{Answer}
+use Rattle.world_keeps_pairing.proofs.Common.{◌≡◌, Bool, true, false, if◌then◌else◌, List, [], ◌∷◌, None, refl, ap, sym, subst, ◌∙◌, Host, same_host, Flow, Answer, PairState, accepted, NcpState, opening_state, pair_with, refusal, served, Request, Receiver, Sender, Step, placed_event, Event, event_by, event_of, Asked, Crossed, Moment, events_of, places, program, by_request, law_events, all_said, heard_in, steps, words_of}
 use Rattle.interface.specs.declared.crossing.Crossing.TheVariants as crossing
 use Rattle.interface.specs.declared.crossing.Inbound.TheVariants as inbound
-use Rattle.host_pairs.specs.Pair.{PairState}
-use Rattle.sockets.specs.Accepting.{accepted}
-use Rattle.sockets.specs.Pairs.{NcpState, opening_state, pair_with}
-use Rattle.sockets.specs.Requests.{refusal, served}
-use Rattle.sockets.specs.declared.request.Request.{Request}
-use Rattle.pairing_law.specs.Links.{Receiver, Sender, Step}
-use Rattle.pairing_law.specs.Places.{placed_event}
-use Rattle.reset_law.specs.Events.{Event}
 use Rattle.reset_law.specs.Stays as stay
-use Rattle.net_sim.specs.Projection.{event_by, event_of}
-use Rattle.net_sim.specs.Story.{Asked, Crossed, Moment, events_of, places, program}
-use Rattle.net_sim.proofs.lemmas.{by_request}
-use Rattle.world_keeps_pairing.specs.Free.{law_events}
-use Rattle.world_keeps_pairing.specs.Steps.{all_said, heard_in, steps, words_of}
 use Rattle.world_keeps_pairing.proofs.Claims.{Claim, heard_claims, said_claims}
 use Rattle.world_keeps_pairing.proofs.LinkCalls.{LinksOf, answer_links, request_links}
 use Rattle.world_keeps_pairing.proofs.LinkMoments.{heard_next, said_next}

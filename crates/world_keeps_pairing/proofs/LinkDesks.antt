@@ -1,23 +1,17 @@
 -- Commands of the peer, and links.
-use Rattle.std.proofs.Common.{◌≡◌, ℕ, ◌==◌, Bool, true, false, not, ◌&&◌, if◌then◌else◌, nat_le, List, [], ◌∷◌, ◌++◌, map, filter, find, Option, Some, None, is_some, refl, ap, sym, subst, ◌∙◌, eq-eqb}
-use Rattle.std.proofs.lemmas.Bool.{eqb-true}
-use Rattle.std.specs.List.{list_any}
+use Rattle.world_keeps_pairing.proofs.Common.{◌≡◌, ℕ, ◌==◌, Bool, false, not, ◌&&◌, if◌then◌else◌, List, [], ◌∷◌, ◌++◌, map, filter, Option, Some, None, is_some, refl, ap, sym, subst, ◌∙◌, eq-eqb, eqb-true, list_any, Host, is_receive_socket, is_send_socket, Command, desk_taken, data_taken, DeskState, entry_at, free_link, is_at, is_link, is_over, receives_on, receiving_end, sending_end, sends_on, Entry, Listener}
+use Rattle.std.proofs.Common.{true, nat_le, find}
 use Rattle.bit_messages.specs.Octets.{octets_of}
-use Rattle.interface.specs.Host.{Host}
 use Rattle.ncp_control.specs.Command.{spelling}
 use Rattle.ncp_control.specs.DataHeader.{header_of}
-use Rattle.ncp_control.specs.Numbers.{is_receive_socket, is_send_socket}
-use Rattle.ncp_control.specs.declared.command.Command.{Command}
 use Rattle.ncp_control.specs.declared.command.Command.TheVariants as command
 use Rattle.ncp_control.specs.declared.data_header.DataHeader.{DataHeader}
 use Rattle.host_pairs.specs.Commands as commands
-use Rattle.host_pairs.specs.Commands.{Ending, Found, Open, Unconnected, all_taken, answered_on, asked_on_link, asked_with_size, at_end, changed, closed_once, cls_taken_by, gvb_taken, interrupted, entry_joined, matched_once, receiver_on, ret_taken, rts_heard, rts_taken, rts_taken_by, sender_on, str_heard, str_linked, str_taken_by, desk_taken}
+use Rattle.host_pairs.specs.Commands.{Ending, Found, Open, Unconnected, all_taken, answered_on, asked_on_link, asked_with_size, at_end, changed, closed_once, cls_taken_by, gvb_taken, interrupted, entry_joined, matched_once, receiver_on, ret_taken, rts_heard, rts_taken, rts_taken_by, sender_on, str_heard, str_linked, str_taken_by}
 use Rattle.host_pairs.specs.Control.{ERRONEOUS, NOT_CONNECTED, NO_SOCKET, error}
-use Rattle.host_pairs.specs.Data.{arrived_if, data_found, data_taken, is_acceptable}
-use Rattle.host_pairs.specs.Desk.{DeskState, listener_on, command_queued, settled, swept}
-use Rattle.host_pairs.specs.Entries.{closed_by_partner, closed_when, cls_of, connection_links, entry_at, free_link, is_at, is_link, is_over, must_close, receives_on, receiving_end, refused_end, sending_end, sends_on}
-use Rattle.host_pairs.specs.declared.entry.Entry.{Entry}
-use Rattle.host_pairs.specs.declared.listener.Listener.{Listener}
+use Rattle.host_pairs.specs.Data.{arrived_if, data_found, is_acceptable}
+use Rattle.host_pairs.specs.Desk.{listener_on, command_queued, settled, swept}
+use Rattle.host_pairs.specs.Entries.{closed_by_partner, closed_when, cls_of, connection_links, must_close, refused_end}
 use Rattle.host_pairs.proofs.lemmas.{both}
 use Rattle.world_keeps_pairing.proofs.Claims.{Claim, last_link}
 use Rattle.world_keeps_pairing.proofs.Local.{IsQuiet, Links, One, all_claims, claim_first, claim_of, claims_join, links_changed, links_filter, links_heard, links_joined, links_linked, links_map, links_said, none_found}
@@ -26,13 +20,7 @@ use Rattle.world_keeps_pairing.proofs.Local.{IsQuiet, Links, One, all_claims, cl
 abbrev pub Linked : List Claim → List Claim → DeskState → Type 0
 Linked said taken d = Links (all_claims d.queue said) taken d.entries
 
-abbrev pub quiet : (e f : Entry) → Type 0
-quiet e f = IsQuiet e f
-
 -- ---- the queue
-
-pub IsMute : Command → Type 0
-IsMute c = (claims : List Claim) → claim_of c claims ≡ claims
 
 cls_claims : (es : List Entry) (claims : List Claim) → all_claims (map cls_of es) claims ≡ claims
 cls_claims [] claims = refl
@@ -57,9 +45,6 @@ free_is : (es : List Entry) (link : ℕ) → free_link es ≡ Some link → list
 free_is es link e = not_true (list_any (receives_on link) es) (find_some (λ l. not (list_any (receives_on l) es)) connection_links link e)
 
 module _ (said taken_claims : List Claim) where
-  L : DeskState → Type 0
-  L d = Linked said taken_claims d
-
   linked_queued : (c : Command) (d : DeskState) → ((claims : List Claim) → claim_of c claims ≡ claims) → Linked said taken_claims d → Linked said taken_claims (command_queued c d)
   linked_queued c d mute h = subst (λ (claims : List Claim). Links claims taken_claims d.entries) (sym (claims_join d.queue (c ∷ []) said ∙ mute (all_claims d.queue said))) h
 
@@ -202,9 +187,6 @@ module _ (said taken_claims : List Claim) where
 -- ---- an RTS, which names a free link
 
 module _ (said taken_claims : List Claim) (own foreign link : ℕ) (odd : is_receive_socket own ≡ false) (even : is_receive_socket foreign ≡ true) where
-  abbrev more : List Claim
-  more = record { sockets = record { receive = foreign; send = own }; link = link } ∷ taken_claims
-
   rts_joined : (e : Entry) (claims : List Claim) (es : List Entry) → e.own ≡ own → e.foreign ≡ foreign → e.link ≡ Some link → is_some e.partner ≡ true → e.asked ≡ None → entry_at own foreign es ≡ None → Links claims taken_claims es
       → Links claims (record { sockets = record { receive = foreign; send = own }; link = link } ∷ taken_claims) (es ++ e ∷ [])
   rts_joined e claims es o f linked partner unasked none h =

@@ -1,31 +1,13 @@
 -- What goes out of a pair, and links.
-use Rattle.std.proofs.Common.{◌≡◌, ℕ, ◌*◌, ◌==◌, zero, suc, Bool, true, false, ◌&&◌, if◌then◌else◌, List, [], ◌∷◌, ◌++◌, map, take, drop, Some, refl, ap, sym, subst, ◌∙◌}
-use Rattle.std.proofs.lemmas.List.{append-nil, take-append-drop}
-use Rattle.interface.specs.Host.{Host}
-use Rattle.ncp_control.specs.declared.command.Command.{Command}
+use Rattle.world_keeps_pairing.proofs.Common.{◌≡◌, ℕ, ◌==◌, zero, suc, Bool, true, false, ◌&&◌, if◌then◌else◌, List, [], ◌∷◌, ◌++◌, map, drop, Some, refl, ap, sym, subst, ◌∙◌, append-nil, Host, Command, MayGo, Legal, Order, orders_of, desk_of, PairState, Parcel, commands_gone, link_for, link_of, next_of, pair_after, parcel_gone, text_for, Listener, what_goes, AreCommands, IsReadBack, untagged, MayAllGo, eqb-sym, untagged_is, AreSteps, Receiver, Sockets, Step, Who, Word, receiver, said_words, tagged, with_place, Message, Out, Pair, Agrees, message_on, data_away, NameFree, all_said, words_by, words_of}
+use Rattle.std.proofs.Common.{◌*◌, take}
+use Rattle.std.proofs.lemmas.List.{take-append-drop}
 use Rattle.ncp_control.specs.declared.command.Command.TheVariants as command
-use Rattle.host_pairs.specs.Allowed.{MayGo}
-use Rattle.host_pairs.specs.Control.{Legal, Order, orders_of}
-use Rattle.host_pairs.specs.Desk.{desk_of}
-use Rattle.host_pairs.specs.Pair.{PairState}
 use Rattle.host_pairs.specs.Parcels as parcel
-use Rattle.host_pairs.specs.Parcels.{Parcel, bits_gone, commands_gone, link_for, link_of, may_send_on, next_of, pair_after, parcel_gone, text_for}
-use Rattle.host_pairs.specs.declared.listener.Listener.{Listener}
-use Rattle.host_pairs.proofs.lemmas.{all_gone_queue, what_goes}
-use Rattle.host_keeps_ranges.specs.Ranges.{AreCommands, IsReadBack}
-use Rattle.host_keeps_pairing.specs.Spoken.{untagged}
-use Rattle.host_keeps_pairing.specs.Words.{MayAllGo}
-use Rattle.host_keeps_pairing.proofs.lemmas.{eqb-sym, untagged_is}
-use Rattle.pairing_law.specs.Links.{AreSteps, Receiver, Sockets, Step, Who, Word, receiver, said_words}
-use Rattle.pairing_law.specs.Places.{tagged, with_place}
+use Rattle.host_pairs.specs.Parcels.{bits_gone, may_send_on}
+use Rattle.host_pairs.proofs.lemmas.{all_gone_queue}
 use Rattle.pairing_law.proofs.lemmas.Seen as words
-use Rattle.reset_law.specs.Events.{Message, Out}
-use Rattle.reset_law.specs.Pairs.{Pair}
 use Rattle.reset_law.specs.Stays as stay
-use Rattle.net_sim.specs.Projection.{Agrees, message_on}
-use Rattle.net_sim.proofs.lemmas.{data_away}
-use Rattle.world_keeps_pairing.specs.Free.{NameFree}
-use Rattle.world_keeps_pairing.specs.Steps.{all_said, words_by, words_of}
 use Rattle.world_keeps_pairing.proofs.Claims.{Claim, said_claims}
 use Rattle.world_keeps_pairing.proofs.LinkCalls.{LinksOf}
 use Rattle.world_keeps_pairing.proofs.LinkGoes.{Receives}

@@ -1,10 +1,6 @@
 -- Links are free, moment by moment.
-use Rattle.std.proofs.Common.{◌≡◌, Bool, true, false, List, [], ◌∷◌, refl, ap, ◌∙◌}
-use Rattle.interface.specs.Host.{Host}
-use Rattle.reset_law.specs.Events.{Event}
+use Rattle.world_keeps_pairing.proofs.Common.{◌≡◌, Bool, true, false, List, [], ◌∷◌, refl, ap, ◌∙◌, Host, Event, Word, Who, Receiver, Sender, Step, Says, Hears, all_heard, all_said, heard_in, keeps, steps_left, met, spoken_by, steps, taken_by, words_of}
 use Rattle.reset_law.specs.Stays as stay
-use Rattle.pairing_law.specs.Links.{Word, Who, Receiver, Sender, Step, Says, Hears}
-use Rattle.world_keeps_pairing.specs.Steps.{all_heard, all_said, heard_in, keeps, steps_left, met, spoken_by, steps, taken_by, words_of}
 use Rattle.world_keeps_pairing.proofs.Claims.{claimed, heard_claims, said_claims}
 
 -- ---- what was said and heard, after an event

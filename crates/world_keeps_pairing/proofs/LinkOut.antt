@@ -1,26 +1,11 @@
 -- All commands of a message that goes out, and links.
-use Rattle.std.proofs.Common.{◌≡◌, ℕ, ◌==◌, Bool, true, false, not, ◌&&◌, if◌then◌else◌, List, [], ◌∷◌, ◌++◌, map, refl, ap, sym, subst, ◌∙◌, eq-eqb}
-use Rattle.interface.specs.Host.{Host}
-use Rattle.ncp_control.specs.Command.{IsCommand}
-use Rattle.ncp_control.specs.Numbers.{is_receive_socket, is_send_socket}
-use Rattle.ncp_control.specs.declared.command.Command.{Command}
+use Rattle.world_keeps_pairing.proofs.Common.{◌≡◌, ℕ, ◌==◌, Bool, true, false, not, ◌&&◌, if◌then◌else◌, List, [], ◌∷◌, ◌++◌, map, refl, ap, sym, subst, ◌∙◌, eq-eqb, Host, IsCommand, is_receive_socket, is_send_socket, Command, Legal, DeskState, changed_at, is_at, is_over, commands_gone, Entry, AreCommands, MayAllGo, all_gone, mark_of, marks, Stand, End, gone, Mark, Ask, Close, Side, says, Sockets, Word, Receiver, Step, Says, receiver, said_words, stays, AreSteps, NameFree, all_said, word_by, words_by}
 use Rattle.ncp_control.specs.declared.command.Command.TheVariants as command
-use Rattle.host_pairs.specs.Control.{Legal}
-use Rattle.host_pairs.specs.Desk.{DeskState}
-use Rattle.host_pairs.specs.Entries.{changed_at, is_at, is_over}
-use Rattle.host_pairs.specs.Parcels.{asked_at, cls_sent, command_gone, commands_gone}
-use Rattle.host_pairs.specs.declared.entry.Entry.{Entry}
-use Rattle.host_keeps_ranges.specs.Ranges.{AreCommands}
-use Rattle.host_keeps_pairing.specs.Words.{MayAllGo, all_gone, mark_of, marks}
-use Rattle.host_keeps_pairing.specs.Ends.{Stand, at}
+use Rattle.host_pairs.specs.Parcels.{asked_at, cls_sent, command_gone}
+use Rattle.host_keeps_pairing.specs.Ends.{at}
 use Rattle.host_keeps_pairing.proofs.lemmas.{one_gone}
-use Rattle.pairing_law.specs.Ends.{End, gone}
-use Rattle.pairing_law.specs.Marks.{Mark, Ask, Close}
-use Rattle.pairing_law.specs.Sides.{Side, above, says}
-use Rattle.pairing_law.specs.Links.{Sockets, Word, Receiver, Step, Says, receiver, said_words, stays, AreSteps}
+use Rattle.pairing_law.specs.Sides.{above}
 use Rattle.pairing_law.proofs.lemmas.Seen as words
-use Rattle.world_keeps_pairing.specs.Free.{NameFree}
-use Rattle.world_keeps_pairing.specs.Steps.{all_said, word_by, words_by}
 use Rattle.world_keeps_pairing.proofs.Claims.{Claim, said_claims}
 use Rattle.world_keeps_pairing.proofs.LinkGoes.{Receives, is_free, mine_by}
 use Rattle.world_keeps_pairing.proofs.LinkTurns.{one_at}

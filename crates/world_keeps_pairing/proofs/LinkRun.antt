@@ -1,29 +1,11 @@
 -- Links are free over all moments, so two programs are tied to the law.
-use Rattle.std.proofs.Common.{◌≡◌, ℕ, Bool, true, false, ◌&&◌, if◌then◌else◌, List, [], ◌∷◌, None, refl, ap, sym, subst, ◌∙◌, zero, suc, ◌+◌, ◌<◌, ◌≤◌, ◌==◌, ◌++◌, length, slice_index_or, Option, Some, eq-eqb, arith}
-use Rattle.interface.specs.Host.{Host, same_host}
+use Rattle.world_keeps_pairing.proofs.Common.{◌≡◌, ℕ, Bool, true, false, ◌&&◌, if◌then◌else◌, List, ◌∷◌, None, refl, ap, sym, subst, ◌∙◌, zero, suc, ◌+◌, ◌<◌, ◌≤◌, ◌==◌, ◌++◌, length, Option, Some, eq-eqb, arith, Host, same_host, HostMessage, same_host-true, IsRanged, AreCommands, accepted, pair_with, refusal, offered, message_leaves, offer_leaves, PairState, Receiver, Sender, Word, Sockets, placed_event, with_box, with_place, boxes, In, Message, Other, Out, Reply, Reset, are, place, event_of, message_on, Asked, Crossed, IsNext, IsStory, Moment, events_of, places, program, by_request, Coupled, coupled, NameFree, NamesFreeAt, TakesFreeAt, law_events, origin_in, all_said, steps, words_of, eqb-true, Contains, IsCommand, is_receive_socket, is_send_socket, Command, is_link, Closing, Entry, pair_range, HasEnd, Stand, Standing, close_waits, request_due, standing, mark_of, marks, End, Mark, Ask, Close, HaveAddresses, IsTimeline, crossings_of}
+use Rattle.std.proofs.Common.{[], slice_index_or}
 use Rattle.interface.specs.declared.crossing.Crossing.TheVariants as crossing
 use Rattle.interface.specs.declared.crossing.Inbound.TheVariants as inbound
-use Rattle.interface.specs.declared.message.HostMessage.{HostMessage}
-use Rattle.interface.proofs.lemmas.{same_host-true}
-use Rattle.host_keeps_ranges.specs.Ranges.{IsRanged, AreCommands}
-use Rattle.sockets.specs.Accepting.{accepted}
-use Rattle.sockets.specs.Pairs.{pair_with}
-use Rattle.sockets.specs.Requests.{refusal}
-use Rattle.sockets.specs.Sending.{offered}
-use Rattle.sockets.proofs.lemmas.{message_leaves, offer_leaves}
-use Rattle.host_pairs.specs.Pair.{PairState}
-use Rattle.pairing_law.specs.Links.{Receiver, Sender, Word, Sockets}
-use Rattle.pairing_law.specs.Places.{placed_event, with_box, with_place}
-use Rattle.reset_law.specs.Boxes.{boxes}
-use Rattle.reset_law.specs.Events.{In, Message, Other, Out, Reply, Reset, are, place}
 use Rattle.reset_law.specs.Runs.{IsRun}
 use Rattle.reset_law.specs.Stays as stay
-use Rattle.net_sim.specs.Projection.{event_of, message_on}
-use Rattle.net_sim.specs.Story.{Asked, Crossed, IsNext, IsStory, Moment, events_of, places, program}
-use Rattle.net_sim.proofs.lemmas.{by_request, Coupled, coupled}
-use Rattle.world_keeps_pairing.specs.Free.{NameFree, NamesFreeAt, TakesFreeAt, law_events, origin_in}
 use Rattle.world_keeps_pairing.proofs.Served.{AreServed, served_in}
-use Rattle.world_keeps_pairing.specs.Steps.{all_said, steps, words_of}
 use Rattle.world_keeps_pairing.proofs.Claims.{Claim, heard_claims, said_claims, last_link}
 use Rattle.world_keeps_pairing.proofs.LinkAll.{Linked, heard_nothing, as_before, asked_links, down_links, if_links, told_links, up_links}
 use Rattle.world_keeps_pairing.proofs.LinkCalls.{LinksOf}
@@ -31,25 +13,11 @@ use Rattle.world_keeps_pairing.proofs.LinkMoments.{heard_next, said_next, said_u
 use Rattle.world_keeps_pairing.proofs.LinkTied.{in_free, in_linked, out_here}
 use Rattle.world_keeps_pairing.proofs.Origins.{served_below, tied_opening, are_origins}
 use Rattle.world_keeps_pairing.proofs.Tied.{AreOrigins, IsOrigin, Tied, programs_ranged, tied_turn}
-use Rattle.std.proofs.lemmas.Bool.{eqb-true}
-use Rattle.std.specs.List.{Contains}
 use Rattle.interface.specs.Mailboxes as mail
-use Rattle.ncp_control.specs.Command.{IsCommand}
-use Rattle.ncp_control.specs.Numbers.{is_receive_socket, is_send_socket}
-use Rattle.ncp_control.specs.declared.command.Command.{Command}
 use Rattle.ncp_control.specs.declared.command.Command.TheVariants as command
-use Rattle.host_pairs.specs.Entries.{is_link}
-use Rattle.host_pairs.specs.declared.entry.Closing.{Closing}
 use Rattle.host_pairs.specs.declared.entry.Closing.TheVariants as closing
-use Rattle.host_pairs.specs.declared.entry.Entry.{Entry}
 use Rattle.host_pairs.proofs.lemmas.{both}
-use Rattle.host_keeps_ranges.proofs.lemmas.{pair_range}
-use Rattle.host_keeps_pairing.specs.Ends.{HasEnd, Stand, Standing, at, close_waits, request_due, standing}
-use Rattle.host_keeps_pairing.specs.Words.{mark_of, marks}
-use Rattle.pairing_law.specs.Ends.{End}
-use Rattle.pairing_law.specs.Marks.{Mark, Ask, Close}
-use Rattle.net_sim.specs.Clean.{HaveAddresses}
-use Rattle.net_sim.specs.Timeline.{IsTimeline, crossings_of}
+use Rattle.host_keeps_pairing.specs.Ends.{at}
 use Rattle.world_keeps_pairing.proofs.LinkTurns.{each_split, own_at, stands_alone}
 use Rattle.world_keeps_pairing.proofs.Local.{Each, ReceivesBy, all_claims, claim_first, claim_of}
 

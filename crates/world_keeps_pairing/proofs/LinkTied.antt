@@ -1,44 +1,19 @@
 -- Two programs with all that crosses between them: links are free, and all is tied to the law.
-use Rattle.std.proofs.Common.{◌≡◌, ℕ, ◌==◌, Bool, true, false, ◌&&◌, if◌then◌else◌, List, [], ◌∷◌, Some, refl, ap, sym, subst, ◌∙◌, cond}
-use Rattle.interface.specs.Host.{Host, same_host}
+use Rattle.world_keeps_pairing.proofs.Common.{◌≡◌, ℕ, ◌==◌, Bool, true, false, ◌&&◌, if◌then◌else◌, List, [], ◌∷◌, Some, refl, ap, sym, subst, ◌∙◌, Host, same_host, HostMessage, same_host-refl, same_host-true, Order, orders_of, data_taken, desk_of, PairState, Parcel, link_for, pair_after, parcel_gone, text_for, TurnState, orders_taken, with_desk, IsRanged, offer_read, pair_range, text_good, MayAllGo, marks, HasEnd, Stand, AreFree, AreJoint, eqb-sym, turn_of, NcpState, pair_with, with_pair, next_in, Peer, next_is, next_pair, End, Side, AreSteps, Receiver, Sender, Sockets, Step, Word, receiver, said_words, placed_event, tagged, with_place, Event, Message, Other, Out, Reply, Reset, are, place, In, pair, Agrees, event_of, message_on, IsApart, Crossed, IsNext, IsStory, Moment, events_of, places, program, program_own, story_agrees, NameFree, TakesFreeAt, law_events, all_heard, all_said, heard_in, onto, steps, words_by, words_of, Waiting, boxes}
+use Rattle.std.proofs.Common.{cond}
 use Rattle.interface.specs.declared.crossing.Crossing.TheVariants as crossing
 use Rattle.interface.specs.declared.crossing.Inbound.TheVariants as inbound
-use Rattle.interface.specs.declared.message.HostMessage.{HostMessage}
-use Rattle.interface.proofs.lemmas.{same_host-refl, same_host-true}
-use Rattle.host_pairs.specs.Control.{Order, orders_of}
-use Rattle.host_pairs.specs.Data.{data_taken}
-use Rattle.host_pairs.specs.Desk.{desk_of}
-use Rattle.host_pairs.specs.Pair.{PairState}
-use Rattle.host_pairs.specs.Parcels.{Parcel, link_for, pair_after, parcel_gone, text_for}
 use Rattle.ncp_control.specs.Phases as phases
-use Rattle.host_pairs.specs.Turn.{TurnState, if_ready, message_taken, orders_taken, with_desk}
-use Rattle.host_keeps_ranges.specs.Ranges.{IsRanged}
+use Rattle.host_pairs.specs.Turn.{if_ready, message_taken}
 use Rattle.host_keeps_ranges.specs.Ranges as ranges
-use Rattle.host_keeps_ranges.proofs.lemmas.{offer_read, pair_range, text_good}
-use Rattle.host_keeps_pairing.specs.Words.{MayAllGo, marks}
-use Rattle.host_keeps_pairing.specs.Ends.{HasEnd, Stand, at}
-use Rattle.host_keeps_pairing.specs.Hearing.{AreFree, AreJoint}
-use Rattle.host_keeps_pairing.proofs.lemmas.{eqb-sym, orders_idle}
-use Rattle.sockets.specs.Accepting.{accepted, accepted_message, turn_of}
-use Rattle.sockets.specs.Pairs.{NcpState, pair_with, with_pair}
-use Rattle.sockets.specs.Sending.{next_in, offered}
-use Rattle.sockets.specs.declared.peer.Peer.{Peer}
-use Rattle.sockets.proofs.lemmas.{next_is, next_pair, pair_changed}
-use Rattle.pairing_law.specs.Ends.{End}
-use Rattle.pairing_law.specs.Sides.{Side}
-use Rattle.pairing_law.specs.Links.{AreSteps, Receiver, Sender, Sockets, Step, Word, receiver, said_words}
-use Rattle.pairing_law.specs.Places.{placed_event, tagged, with_place}
+use Rattle.host_keeps_pairing.specs.Ends.{at}
+use Rattle.host_keeps_pairing.proofs.lemmas.{orders_idle}
+use Rattle.sockets.specs.Accepting.{accepted, accepted_message}
+use Rattle.sockets.specs.Sending.{offered}
+use Rattle.sockets.proofs.lemmas.{pair_changed}
 use Rattle.pairing_law.proofs.lemmas.Seen as words
-use Rattle.reset_law.specs.Events.{Event, Message, Other, Out, Reply, Reset, are, place, In}
-use Rattle.reset_law.specs.Pairs.{pair}
 use Rattle.reset_law.specs.Runs.{IsRun}
 use Rattle.reset_law.specs.Stays as stay
-use Rattle.net_sim.specs.Projection.{Agrees, event_of, message_on, IsApart}
-use Rattle.net_sim.specs.Story.{Crossed, IsNext, IsStory, Moment, events_of, places, program}
-use Rattle.net_sim.proofs.lemmas.{program_own, story_agrees}
-use Rattle.world_keeps_pairing.specs.Free.{NameFree, TakesFreeAt, law_events}
-use Rattle.world_keeps_pairing.specs.Steps.{all_heard, all_said, heard_in, onto, steps, words_by, words_of}
-use Rattle.reset_law.specs.Boxes.{Waiting, boxes}
 use Rattle.world_keeps_pairing.proofs.LinkDesks.{linked_data}
 use Rattle.world_keeps_pairing.proofs.LinkTurns.{orders_links}
 use Rattle.world_keeps_pairing.proofs.LinkGone.{words_tagged, parcel_links, read_words, words_said}

@@ -1,31 +1,12 @@
 -- A message that a host takes of its peer reports no openings but those that the law says.
-use Rattle.std.proofs.Common.{◌≡◌, inl, inr, ℕ, ◌==◌, Bool, true, false, ◌&&◌, if◌then◌else◌, List, [], ◌∷◌, refl, ap, sym, subst, ◌∙◌}
-use Rattle.interface.specs.Host.{Host, same_host}
+use Rattle.world_keeps_pairing.proofs.Common.{◌≡◌, inl, inr, ℕ, ◌==◌, Bool, true, false, ◌&&◌, if◌then◌else◌, List, [], ◌∷◌, refl, ap, sym, subst, ◌∙◌, Host, same_host, HostMessage, same_host-refl, same_host-true, orders_of, accepted, pair_with, message_about, AllFit, marks_in, AreJoint, AreAmong, all_lives_taken, with_openings, data_told, eqb-sym, idle_other, message_tells, rrp_other, rst_other, Mark, tagged, Side, Sockets, Who, Event, Message, Reset, Reply, Other, In, are, message_on, Moment, Crossed, IsStory, events_of, places, program, law_events, with_lives}
 use Rattle.interface.specs.declared.crossing.Crossing.TheVariants as crossing
 use Rattle.interface.specs.declared.crossing.Inbound.TheVariants as inbound
-use Rattle.interface.specs.declared.message.HostMessage.{HostMessage}
-use Rattle.interface.proofs.lemmas.{same_host-refl, same_host-true}
-use Rattle.host_pairs.specs.Control.{orders_of}
 use Rattle.ncp_control.specs.Phases as program_phases
-use Rattle.sockets.specs.Accepting.{accepted}
-use Rattle.sockets.specs.Pairs.{pair_with}
-use Rattle.sockets.proofs.lemmas.{message_about}
-use Rattle.host_keeps_pairing.specs.Words.{AllFit, marks_in}
-use Rattle.host_keeps_pairing.specs.Hearing.{AreJoint}
-use Rattle.host_keeps_pairing.specs.Openings.{AreAmong, all_lives_taken, with_openings}
-use Rattle.host_keeps_pairing.proofs.lemmas.{data_told, eqb-sym, idle_other, message_tells, rrp_other, rst_other}
-use Rattle.pairing_law.specs.Marks.{Mark}
-use Rattle.pairing_law.specs.Places.{tagged}
-use Rattle.pairing_law.specs.Sides.{Life, Side}
-use Rattle.pairing_law.specs.Links.{Sockets, Who}
-use Rattle.reset_law.specs.Events.{Event, Message, Reset, Reply, Other, In, are}
+use Rattle.pairing_law.specs.Sides.{Life}
 use Rattle.reset_law.specs.Runs.{IsRun}
 use Rattle.reset_law.specs.Stays as stay
-use Rattle.net_sim.specs.Projection.{message_on}
-use Rattle.net_sim.specs.Story.{Moment, Crossed, IsStory, events_of, places, program}
 use Rattle.net_sim.specs.Told.{kept_in}
-use Rattle.world_keeps_pairing.specs.Free.{law_events}
-use Rattle.world_keeps_pairing.specs.Lives.{with_lives}
 use Rattle.world_keeps_pairing.proofs.Books.{about_peer, all_of_peer}
 use Rattle.world_keeps_pairing.proofs.Marks.{IsPair, foreign_of, own_of}
 use Rattle.world_keeps_pairing.proofs.Messages.{Hears, IsFrom, are_same, boxed, boxed_is, heard_off, joint_now, own_is, place_in, stays_as}
@@ -41,9 +22,6 @@ module _ (s : Sockets) (is_pair : IsPair s) (who : Who) (origin : ℕ → ℕ) (
 
   abbrev p : Host
   p = m.flow.source
-
-  abbrev old : List Event
-  old = law_events moments
 
   abbrev x0 : Side
   x0 = Side_of s is_pair who m.flow.destination m.flow.source origin moments

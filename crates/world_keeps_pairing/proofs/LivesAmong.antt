@@ -1,20 +1,12 @@
 -- The lives of a book are openings of the law, at any two sockets.
-use Rattle.std.proofs.Common.{◌≡◌, ℕ, Bool, true, false, ◌&&◌, if◌then◌else◌, List, [], refl, sym, subst}
-use Rattle.interface.specs.Host.{Host}
+use Rattle.world_keeps_pairing.proofs.Common.{◌≡◌, ℕ, Bool, ◌&&◌, if◌then◌else◌, List, [], refl, sym, subst, Host, is_receive_socket, is_send_socket, AreAmong, Side, receiver, sender, Moment, IsStory, events_of, crossings_of, law_events, openings, with_lives, steps}
+use Rattle.std.proofs.Common.{true, false}
 use Rattle.interface.specs.Mailboxes as mail
-use Rattle.ncp_control.specs.Numbers.{is_receive_socket, is_send_socket}
 use Rattle.host_pairs.proofs.lemmas.{both}
-use Rattle.host_keeps_pairing.specs.Openings.{AreAmong}
-use Rattle.pairing_law.specs.Sides.{Life, Side}
-use Rattle.pairing_law.specs.Links.{receiver, sender}
+use Rattle.pairing_law.specs.Sides.{Life}
 use Rattle.reset_law.specs.Runs.{IsRun}
-use Rattle.net_sim.specs.Story.{Moment, IsStory, events_of}
-use Rattle.net_sim.specs.Timeline.{crossings_of}
 use Rattle.net_sim.specs.Told.{kept_in}
-use Rattle.world_keeps_pairing.specs.Free.{law_events}
 use Rattle.world_keeps_pairing.proofs.Served.{AreServed}
-use Rattle.world_keeps_pairing.specs.Lives.{openings, with_lives}
-use Rattle.world_keeps_pairing.specs.Steps.{steps}
 use Rattle.world_keeps_pairing.proofs.LivesRun.{AllAmong, all_among}
 use Rattle.world_keeps_pairing.proofs.Marks.{IsPair}
 use Rattle.world_keeps_pairing.proofs.Sides.{receiver_half, sender_half}

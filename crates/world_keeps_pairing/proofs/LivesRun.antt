@@ -1,13 +1,7 @@
 -- At all moments the lives of the book at a receiving socket and a sending one are some of those that the law says.
-use Rattle.std.proofs.Common.{◌≡◌, ℕ, true, List, [], ◌∷◌, refl}
-use Rattle.interface.specs.Host.{Host, same_host}
+use Rattle.world_keeps_pairing.proofs.Common.{◌≡◌, ℕ, true, List, [], ◌∷◌, refl, Host, same_host, HostMessage, IsRanged, Sockets, Who, Receiver, Sender, Moment, Crossed, Asked, IsStory, events_of, program, TakesFreeAt}
 use Rattle.interface.specs.declared.crossing.Crossing.TheVariants as crossing
-use Rattle.interface.specs.declared.message.HostMessage.{HostMessage}
-use Rattle.host_keeps_ranges.specs.Ranges.{IsRanged}
-use Rattle.pairing_law.specs.Links.{Sockets, Who, Receiver, Sender}
 use Rattle.reset_law.specs.Runs.{IsRun}
-use Rattle.net_sim.specs.Story.{Moment, Crossed, Asked, IsStory, events_of, program}
-use Rattle.world_keeps_pairing.specs.Free.{TakesFreeAt}
 use Rattle.world_keeps_pairing.proofs.Served.{AreServed}
 use Rattle.world_keeps_pairing.proofs.Listened.{in_among}
 use Rattle.world_keeps_pairing.proofs.LinkRun.{AllTied, all_tied, takes}

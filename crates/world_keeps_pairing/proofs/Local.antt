@@ -1,15 +1,9 @@
 -- The links of a pair's ends, against what the receiver said and the sender heard.
-use Rattle.std.proofs.Common.{◌≡◌, ℕ, ◌==◌, Bool, true, false, not, ◌&&◌, if◌then◌else◌, List, [], ◌∷◌, ◌++◌, map, filter, Option, Some, None, is_some, refl, ap, sym, subst, ◌∙◌, eq-eqb}
-use Rattle.std.proofs.lemmas.Bool.{eqb-true}
-use Rattle.std.specs.List.{list_any}
-use Rattle.ncp_control.specs.Numbers.{is_receive_socket, is_send_socket}
-use Rattle.ncp_control.specs.declared.command.Command.{Command}
+use Rattle.world_keeps_pairing.proofs.Common.{◌≡◌, ℕ, ◌==◌, Bool, not, ◌&&◌, if◌then◌else◌, List, [], ◌∷◌, ◌++◌, map, filter, Option, Some, None, is_some, refl, ap, sym, subst, ◌∙◌, eq-eqb, eqb-true, list_any, is_receive_socket, is_send_socket, Command, changed_at, entry_at, is_at, is_link, is_receiving, receives_on, sends_on, Entry, Sockets, same, same_is, same_self}
+use Rattle.std.proofs.Common.{true, false}
 use Rattle.ncp_control.specs.declared.command.Command.TheVariants as command
-use Rattle.host_pairs.specs.Entries.{changed_at, changed_first, entry_at, is_at, is_link, is_receiving, receives_on, sends_on}
-use Rattle.host_pairs.specs.declared.entry.Entry.{Entry}
+use Rattle.host_pairs.specs.Entries.{changed_first}
 use Rattle.host_pairs.proofs.lemmas.{both}
-use Rattle.pairing_law.specs.Links.{Sockets, same}
-use Rattle.pairing_law.proofs.lemmas.{same_is, same_self}
 use Rattle.world_keeps_pairing.proofs.Claims.{Claim, last_link}
 
 -- ---- requests that wait

@@ -1,21 +1,9 @@
 -- What orders say at one pair of sockets, by words and by marks.
-use Rattle.std.proofs.Common.{◌≡◌, ℕ, ◌%◌, ◌==◌, Bool, true, false, ◌&&◌, if◌then◌else◌, List, [], ◌∷◌, ◌++◌, refl, ap, sym, ◌∙◌, arith}
-use Rattle.std.proofs.lemmas.Bool.{eqb-true}
-use Rattle.std.proofs.lemmas.List.{append-nil}
-use Rattle.ncp_control.specs.Numbers.{is_receive_socket, is_send_socket}
+use Rattle.world_keeps_pairing.proofs.Common.{◌≡◌, ℕ, ◌%◌, ◌==◌, Bool, true, false, ◌&&◌, if◌then◌else◌, List, [], ◌∷◌, ◌++◌, refl, ap, sym, ◌∙◌, arith, eqb-true, append-nil, is_receive_socket, is_send_socket, Order, Legal, Wrong, orders_of, IsOrder, AreOrders, text_good, mark_in, marks_in, untagged, eqb-sym, untagged_is, Mark, Ask, Close, tagged, Sockets, same, Word, Who, Receiver, Sender, put, word_by, words_by, words_of}
 use Rattle.ncp_control.specs.declared.command.Command.TheVariants as command
-use Rattle.host_pairs.specs.Control.{Order, Legal, Wrong, orders_of}
 use Rattle.host_pairs.proofs.lemmas.{both}
-use Rattle.host_keeps_ranges.specs.Ranges.{IsOrder, AreOrders}
-use Rattle.host_keeps_ranges.proofs.lemmas.{text_good}
-use Rattle.host_keeps_pairing.specs.Words.{mark_in, marks_in}
-use Rattle.host_keeps_pairing.specs.Spoken.{untagged}
-use Rattle.host_keeps_pairing.proofs.lemmas.{eqb-sym, untagged_is}
-use Rattle.pairing_law.specs.Marks.{Mark, Ask, Close}
-use Rattle.pairing_law.specs.Places.{tagged}
-use Rattle.pairing_law.specs.Links.{Sockets, same, Word, Who, Receiver, Sender}
-use Rattle.pairing_law.proofs.lemmas.{at, put}
-use Rattle.world_keeps_pairing.specs.Steps.{word, word_by, words_by, words_of}
+use Rattle.pairing_law.proofs.lemmas.{at}
+use Rattle.world_keeps_pairing.specs.Steps.{word}
 use Rattle.world_keeps_pairing.proofs.Sides.{at_texts}
 
 -- a receiving socket and a sending one

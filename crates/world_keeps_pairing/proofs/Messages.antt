@@ -1,37 +1,15 @@
 -- A message that a host takes of its peer keeps what it has at two sockets.
-use Rattle.std.proofs.Common.{◌≡◌, inl, inr, ℕ, ◌==◌, Bool, true, false, ◌&&◌, if◌then◌else◌, List, [], ◌∷◌, refl, ap, sym, subst, ◌∙◌}
-use Rattle.interface.specs.Host.{Host, same_host}
+use Rattle.world_keeps_pairing.proofs.Common.{◌≡◌, inl, inr, ℕ, ◌==◌, Bool, true, false, ◌&&◌, if◌then◌else◌, List, [], ◌∷◌, refl, ap, sym, subst, ◌∙◌, Host, same_host, HostMessage, same_host-refl, same_host-true, orders_of, PairState, accepted, turn_of, NcpState, pair_with, AllFit, marks_in, HasEnd, AreFree, AreJoint, eqb-sym, same_kept, End, nothing, Mark, tagged, with_place, with_box, Side, Sockets, Who, placed_run, Box, Waiting, boxes, Event, Message, Reset, Reply, Other, In, are, pair, IsApart, message_on, Moment, Crossed, IsStory, events_of, places, program, program_own, law_events}
 use Rattle.interface.specs.declared.crossing.Crossing.TheVariants as crossing
 use Rattle.interface.specs.declared.crossing.Inbound.TheVariants as inbound
-use Rattle.interface.specs.declared.message.HostMessage.{HostMessage}
-use Rattle.interface.proofs.lemmas.{same_host-refl, same_host-true}
-use Rattle.host_pairs.specs.Control.{orders_of}
-use Rattle.host_pairs.specs.Pair.{PairState}
 use Rattle.ncp_control.specs.Phases as program_phases
-use Rattle.sockets.specs.Accepting.{accepted, turn_of}
-use Rattle.sockets.specs.Pairs.{NcpState, pair_with}
-use Rattle.host_keeps_pairing.specs.Words.{AllFit, all_taken, marks_in}
-use Rattle.host_keeps_pairing.specs.Ends.{HasEnd}
-use Rattle.host_keeps_pairing.specs.Hearing.{AreFree, AreJoint}
-use Rattle.host_keeps_pairing.proofs.lemmas.{eqb-sym, same_kept}
-use Rattle.pairing_law.specs.Ends.{End, nothing}
-use Rattle.pairing_law.specs.Marks.{Mark}
-use Rattle.pairing_law.specs.Places.{tagged, with_place, with_box}
-use Rattle.pairing_law.specs.Sides.{Side}
-use Rattle.pairing_law.specs.Links.{Sockets, Who}
-use Rattle.pairing_law.proofs.lemmas.{placed_run, takes_in_stay}
-use Rattle.reset_law.specs.Boxes.{Box, Waiting, boxes}
-use Rattle.reset_law.specs.Events.{Event, Message, Reset, Reply, Other, In, are}
-use Rattle.reset_law.specs.Pairs.{pair}
+use Rattle.host_keeps_pairing.specs.Words.{all_taken}
+use Rattle.pairing_law.proofs.lemmas.{takes_in_stay}
 use Rattle.ncp_control.specs.declared.phase.Phase as host
 use Rattle.ncp_control.specs.declared.phase.Phase.TheVariants as phase
 use Rattle.reset_law.specs.Runs.{IsRun}
 use Rattle.reset_law.specs.Stays as stay
 use Rattle.reset_law.proofs.lemmas.{stays_ready}
-use Rattle.net_sim.specs.Projection.{IsApart, message_on}
-use Rattle.net_sim.specs.Story.{Moment, Crossed, IsStory, events_of, places, program}
-use Rattle.net_sim.proofs.lemmas.{program_own}
-use Rattle.world_keeps_pairing.specs.Free.{law_events}
 use Rattle.world_keeps_pairing.proofs.Sides.{all_hears, at_texts, before, hears_if, met_if}
 use Rattle.world_keeps_pairing.proofs.Marks.{IsPair, foreign_of, own_of}
 use Rattle.world_keeps_pairing.proofs.Moves.{hears_end}
@@ -57,17 +35,11 @@ module _ (s : Sockets) (is_pair : IsPair s) (who : Who) (origin : ℕ → ℕ) (
   abbrev p : Host
   p = m.flow.source
 
-  abbrev l : ℕ
-  l = m.flow.link.0
-
   abbrev old : List Event
   old = law_events moments
 
   abbrev x0 : Side
   x0 = Side_of s is_pair who m.flow.destination m.flow.source origin moments
-
-  abbrev now : NcpState
-  now = program m.flow.destination (Crossed (crossing.In m) ∷ moments)
 
   abbrev q1 : PairState
   q1 = pair_with m.flow.source (program m.flow.destination (Crossed (crossing.In m) ∷ moments)).peers

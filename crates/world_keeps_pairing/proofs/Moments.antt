@@ -1,38 +1,12 @@
 -- Each moment keeps what a host has at two sockets.
-use Rattle.std.proofs.Common.{◌≡◌, ◌⊎◌, inl, inr, ℕ, Bool, true, false, ◌&&◌, if◌then◌else◌, List, [], ◌∷◌, None, refl, ap, sym, subst, ◌∙◌}
-use Rattle.interface.specs.Host.{Host, same_host}
-use Rattle.interface.specs.declared.address.Flow.{Flow}
-use Rattle.interface.specs.declared.crossing.Answer.{Answer}
+use Rattle.world_keeps_pairing.proofs.Common.{◌≡◌, ◌⊎◌, inl, inr, ℕ, Bool, true, false, ◌&&◌, if◌then◌else◌, List, [], ◌∷◌, None, refl, ap, sym, subst, ◌∙◌, Host, same_host, Flow, Answer, HostMessage, same_host-refl, same_host-true, PairState, accepted, NcpState, opening_state, pair_with, refusal, served, offered, Request, IsRanged, all_gone, HasEnd, after_request, opening_has, request_keeps, same_kept, End, nothing, Mark, placed_event, with_box, Side, Sockets, Who, Box, Empty, Waiting, Taken, boxes, Event, Message, Reset, Reply, Other, In, are, place, pair, event_of, event_by, message_on, Moment, Crossed, Asked, IsNext, IsStory, event_in, events_of, places, program, by_request, place_same, places_same, story_agrees, law_events}
 use Rattle.interface.specs.declared.crossing.Crossing.TheVariants as crossing
 use Rattle.interface.specs.declared.crossing.Inbound.TheVariants as inbound
-use Rattle.interface.specs.declared.message.HostMessage.{HostMessage}
-use Rattle.interface.proofs.lemmas.{same_host-refl, same_host-true}
-use Rattle.host_pairs.specs.Pair.{PairState}
 use Rattle.ncp_control.specs.Phases as program_phases
-use Rattle.sockets.specs.Accepting.{accepted}
-use Rattle.sockets.specs.Pairs.{NcpState, opening_state, pair_with}
-use Rattle.sockets.specs.Requests.{refusal, served}
-use Rattle.sockets.specs.Sending.{offered}
-use Rattle.sockets.specs.declared.request.Request.{Request}
 use Rattle.sockets.specs.declared.request.Request.TheVariants as request
-use Rattle.host_keeps_ranges.specs.Ranges.{IsRanged}
-use Rattle.host_keeps_pairing.specs.Words.{all_gone}
-use Rattle.host_keeps_pairing.specs.Ends.{HasEnd, kept_in}
-use Rattle.host_keeps_pairing.specs.Hearing.{after_request}
-use Rattle.host_keeps_pairing.proofs.lemmas.{opening_has, request_keeps, same_kept}
-use Rattle.pairing_law.specs.Ends.{End, nothing}
-use Rattle.pairing_law.specs.Marks.{Mark}
-use Rattle.pairing_law.specs.Places.{placed_event, with_box}
-use Rattle.pairing_law.specs.Sides.{Side}
-use Rattle.pairing_law.specs.Links.{Sockets, Who}
-use Rattle.reset_law.specs.Boxes.{Box, Empty, Waiting, Taken, WaitsWith, boxes}
-use Rattle.reset_law.specs.Events.{Event, Message, Reset, Reply, Other, In, are, place}
-use Rattle.reset_law.specs.Pairs.{pair}
+use Rattle.host_keeps_pairing.specs.Ends.{kept_in}
+use Rattle.reset_law.specs.Boxes.{WaitsWith}
 use Rattle.reset_law.specs.Stays as stay
-use Rattle.net_sim.specs.Projection.{event_of, event_by, message_on}
-use Rattle.net_sim.specs.Story.{Moment, Crossed, Asked, IsNext, IsStory, event_in, events_of, places, program}
-use Rattle.net_sim.proofs.lemmas.{by_request, place_same, places_same, story_agrees}
-use Rattle.world_keeps_pairing.specs.Free.{law_events}
 use Rattle.world_keeps_pairing.proofs.Sides.{all_says, at_texts, half}
 use Rattle.world_keeps_pairing.proofs.Marks.{IsPair, foreign_of, own_of}
 use Rattle.world_keeps_pairing.proofs.Moves.{says_end}

@@ -1,37 +1,10 @@
 -- Each moment reports no openings at two sockets but those that the law says.
-use Rattle.std.proofs.Common.{◌≡◌, ◌⊎◌, inl, inr, ℕ, Bool, true, false, if◌then◌else◌, List, [], ◌∷◌, refl, ap, sym, subst, ◌∙◌}
-use Rattle.interface.specs.Host.{Host, same_host}
-use Rattle.interface.specs.declared.address.Flow.{Flow}
-use Rattle.interface.specs.declared.crossing.Answer.{Answer}
+use Rattle.world_keeps_pairing.proofs.Common.{◌≡◌, ◌⊎◌, inl, inr, ℕ, Bool, true, false, if◌then◌else◌, List, [], ◌∷◌, refl, ap, sym, subst, ◌∙◌, Host, same_host, Flow, Answer, HostMessage, same_host-true, commands_of, accepted, offered, Request, answer_about, message_about, offer_about, IsRanged, AllFit, marks, AreAmong, all_lives_gone, all_lives_taken, with_openings, answer_other, offer_tells, End, mark_taken, Mark, placed_event, with_box, Side, hears, says, Sockets, Who, boxes, Event, place, pair, event_of, message_on, Moment, Crossed, Asked, IsNext, IsStory, event_in, events_of, places, program, host_in, notices_by, by_request, story_agrees, law_events, with_lives, keeps}
 use Rattle.interface.specs.declared.crossing.Crossing.TheVariants as crossing
 use Rattle.interface.specs.declared.crossing.Inbound.TheVariants as inbound
-use Rattle.interface.specs.declared.message.HostMessage.{HostMessage}
-use Rattle.interface.proofs.lemmas.{same_host-true}
-use Rattle.host_pairs.specs.Allowed.{commands_of}
-use Rattle.sockets.specs.Accepting.{accepted}
-use Rattle.sockets.specs.Sending.{offered}
-use Rattle.sockets.specs.declared.request.Request.{Request}
-use Rattle.sockets.proofs.lemmas.{answer_about, message_about, offer_about}
-use Rattle.host_keeps_ranges.specs.Ranges.{IsRanged}
-use Rattle.host_keeps_pairing.specs.Words.{AllFit, marks}
-use Rattle.host_keeps_pairing.specs.Openings.{AreAmong, all_lives_gone, all_lives_taken, with_openings}
-use Rattle.host_keeps_pairing.proofs.lemmas.{answer_other, offer_tells}
-use Rattle.pairing_law.specs.Ends.{End, mark_taken}
-use Rattle.pairing_law.specs.Marks.{Mark}
-use Rattle.pairing_law.specs.Places.{placed_event, with_box}
-use Rattle.pairing_law.specs.Sides.{Life, Side, hears, lives_taken, says}
-use Rattle.pairing_law.specs.Links.{Sockets, Who}
-use Rattle.reset_law.specs.Boxes.{boxes}
-use Rattle.reset_law.specs.Events.{Event, place}
-use Rattle.reset_law.specs.Pairs.{pair}
+use Rattle.pairing_law.specs.Sides.{Life, lives_taken}
 use Rattle.reset_law.specs.Stays as stay
-use Rattle.net_sim.specs.Projection.{event_of, message_on}
-use Rattle.net_sim.specs.Story.{Moment, Crossed, Asked, IsNext, IsStory, event_in, events_of, places, program}
-use Rattle.net_sim.specs.Told.{host_in, kept_in, notices_by}
-use Rattle.net_sim.proofs.lemmas.{by_request, story_agrees}
-use Rattle.world_keeps_pairing.specs.Free.{law_events}
-use Rattle.world_keeps_pairing.specs.Lives.{with_lives}
-use Rattle.world_keeps_pairing.specs.Steps.{keeps}
+use Rattle.net_sim.specs.Told.{kept_in}
 use Rattle.world_keeps_pairing.proofs.Books.{about_none, about_other, about_peer, all_of_peer, asked_none, kept_step}
 use Rattle.world_keeps_pairing.proofs.LinkRun.{heard_off_in}
 use Rattle.world_keeps_pairing.proofs.Marks.{IsPair, foreign_of, own_of}

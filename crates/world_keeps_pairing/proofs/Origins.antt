@@ -1,25 +1,12 @@
 -- Where a message that is taken went out, by the book; and two programs that start.
-use Rattle.std.proofs.Common.{◌≡◌, ℕ, ◌+◌, ◌-◌, Bool, List, [], ◌∷◌, ◌++◌, length, drop, Some, ap, sym, ◌∙◌, arith}
+use Rattle.world_keeps_pairing.proofs.Common.{◌≡◌, ℕ, ◌+◌, ◌-◌, Bool, List, [], ◌∷◌, ◌++◌, length, drop, Some, ap, sym, ◌∙◌, arith, eqb-true, append_assoc, Host, Flow, Crossing, HostMessage, Box, Empty, Waiting, Taken, Message, Receiver, Sender, message_on, control_flow, last_out, Moment, Crossed, Asked, places, crossings_of, places_same, opening_has, origin_or, place_or}
 use Rattle.std.proofs.Math.Seq.{drop-append_seam}
-use Rattle.std.proofs.lemmas.Bool.{eqb-true}
-use Rattle.std.proofs.lemmas.List.{append_assoc, length-append}
-use Rattle.interface.specs.Host.{Host}
+use Rattle.std.proofs.lemmas.List.{length-append}
 use Rattle.interface.specs.Mailboxes as mail
-use Rattle.interface.specs.declared.address.Flow.{Flow}
-use Rattle.interface.specs.declared.crossing.Crossing.{Crossing}
 use Rattle.interface.specs.declared.crossing.Crossing.TheVariants as crossing
-use Rattle.interface.specs.declared.message.HostMessage.{HostMessage}
-use Rattle.reset_law.specs.Boxes.{Box, Empty, Waiting, Taken}
-use Rattle.reset_law.specs.Events.{Message}
-use Rattle.pairing_law.specs.Links.{Receiver, Sender}
-use Rattle.net_sim.specs.Projection.{message_on}
 use Rattle.promise.specs.Safe as book
-use Rattle.promise.specs.Safe.{control_flow, last_out}
-use Rattle.net_sim.specs.Story.{Moment, Crossed, Asked, places}
-use Rattle.net_sim.specs.Timeline.{crossings_of, seen_box}
-use Rattle.net_sim.proofs.lemmas.{box_same, flow_of, places_same, waiting_out}
-use Rattle.host_keeps_pairing.proofs.lemmas.{opening_has}
-use Rattle.world_keeps_pairing.specs.Free.{origin_or, place_or}
+use Rattle.net_sim.specs.Timeline.{seen_box}
+use Rattle.net_sim.proofs.lemmas.{box_same, flow_of, waiting_out}
 use Rattle.world_keeps_pairing.proofs.Served.{AreServed}
 use Rattle.world_keeps_pairing.proofs.Marks.{foreign_of, own_of}
 use Rattle.world_keeps_pairing.proofs.Tied.{AreOrigins, IsOrigin, Tied}

@@ -1,38 +1,15 @@
 -- What each call of a host's program does to the end of two sockets, by what the message of it is.
-use Rattle.std.proofs.Common.{◌≡◌, ℕ, ◌≤◌, ◌==◌, Bool, true, false, if◌then◌else◌, List, [], ◌∷◌, ◌++◌, map, Some, refl, ap, sym, subst, ◌∙◌}
-use Rattle.interface.specs.Host.{Host, same_host}
-use Rattle.interface.specs.declared.address.Flow.{Flow}
-use Rattle.interface.specs.declared.crossing.Answer.{Answer}
+use Rattle.world_keeps_pairing.proofs.Common.{◌≡◌, ℕ, ◌≤◌, ◌==◌, Bool, false, if◌then◌else◌, List, [], ◌∷◌, ◌++◌, map, Some, refl, ap, sym, subst, ◌∙◌, Host, same_host, Flow, Answer, HostMessage, same_host-true, Command, commands_of, MayGo, Order, Legal, Wrong, orders_of, PairState, Parcel, link_for, text_for, next_of, is_ready, what_goes, accepted, turn_of, NcpState, pair_with, next_in, offered, Peer, message_leaves, next_is, next_pair, offer_leaves, IsRanged, IsReadBack, offer_read, AllFit, MayAllGo, all_gone, marks, marks_in, mark_of, HasEnd, AreFree, AreJoint, same_kept, End, nothing, Mark, Message, Reset, Reply, Other, Pair, Agrees, IsApart, message_on, data_away}
+use Rattle.std.proofs.Common.{true}
 use Rattle.interface.specs.declared.crossing.Inbound.TheVariants as inbound
-use Rattle.interface.specs.declared.message.HostMessage.{HostMessage}
-use Rattle.interface.proofs.lemmas.{same_host-true}
-use Rattle.ncp_control.specs.declared.command.Command.{Command}
 use Rattle.ncp_control.specs.declared.command.Command.TheVariants as command
-use Rattle.host_pairs.specs.Allowed.{commands_of, MayGo}
-use Rattle.host_pairs.specs.Control.{Order, Legal, Wrong, orders_of}
-use Rattle.host_pairs.specs.Pair.{PairState}
 use Rattle.host_pairs.specs.Parcels as parcel
-use Rattle.host_pairs.specs.Parcels.{Parcel, link_for, text_for, next_of}
-use Rattle.ncp_control.specs.Phases.{is_ready}
-use Rattle.host_pairs.proofs.lemmas.{what_goes}
-use Rattle.sockets.specs.Accepting.{accepted, turn_of}
-use Rattle.sockets.specs.Pairs.{NcpState, pair_with}
 use Rattle.sockets.specs.Peers.{AreInOrder}
-use Rattle.sockets.specs.Sending.{next_in, offered}
-use Rattle.sockets.specs.declared.peer.Peer.{Peer}
-use Rattle.sockets.proofs.lemmas.{answer_leaves, message_leaves, next_is, next_pair, offer_leaves}
-use Rattle.host_keeps_ranges.specs.Ranges.{IsRanged, IsReadBack}
-use Rattle.host_keeps_ranges.proofs.lemmas.{offer_read}
-use Rattle.host_keeps_pairing.specs.Words.{AllFit, MayAllGo, all_gone, all_taken, marks, marks_in, mark_of}
-use Rattle.host_keeps_pairing.specs.Ends.{HasEnd, kept_in}
-use Rattle.host_keeps_pairing.specs.Hearing.{AreFree, AreJoint}
-use Rattle.host_keeps_pairing.proofs.lemmas.{answer_keeps, message_data, message_hears, message_idle, message_replies, message_resets, offer_may, offer_says, same_kept}
-use Rattle.pairing_law.specs.Ends.{End, nothing}
-use Rattle.pairing_law.specs.Marks.{Mark}
-use Rattle.reset_law.specs.Events.{Message, Reset, Reply, Other}
-use Rattle.reset_law.specs.Pairs.{Pair}
-use Rattle.net_sim.specs.Projection.{Agrees, AllPlain, IsApart, IsPlain, is_alone, is_rst, is_rrp, message_on}
-use Rattle.net_sim.proofs.lemmas.{data_away}
+use Rattle.sockets.proofs.lemmas.{answer_leaves}
+use Rattle.host_keeps_pairing.specs.Words.{all_taken}
+use Rattle.host_keeps_pairing.specs.Ends.{kept_in}
+use Rattle.host_keeps_pairing.proofs.lemmas.{answer_keeps, message_data, message_hears, message_idle, message_replies, message_resets, offer_may, offer_says}
+use Rattle.net_sim.specs.Projection.{AllPlain, IsPlain, is_alone, is_rst, is_rrp}
 
 -- ---- what a text is for a reset
 

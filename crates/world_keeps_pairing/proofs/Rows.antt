@@ -1,20 +1,12 @@
 -- Steps, computed.
-use Rattle.std.proofs.Common.{◌≡◌, [], ◌∷◌, refl}
+use Rattle.world_keeps_pairing.proofs.Common.{◌≡◌, [], ◌∷◌, refl, HostMessage, control_flow, Receiver, Says, Sender, heard_words, Ask, Close, tagged, In, Other, Out, origin_in, steps}
 use Rattle.bit_messages.specs.Octets.{octets_of}
 use Rattle.host_keeps_pairing.specs.Spoken.{asking, reset_of_two}
 use Rattle.host_pairs.specs.Control.{orders_of}
 use Rattle.interface.specs.declared.crossing.Crossing.TheVariants as crossing
-use Rattle.interface.specs.declared.message.HostMessage.{HostMessage}
 use Rattle.ncp_control.specs.Reading.{command_of, read_of}
-use Rattle.promise.specs.Safe.{control_flow}
 use Rattle.pairing_law.specs.Example.{first_sockets}
-use Rattle.pairing_law.specs.Links.{Receiver, Says, Sender, heard_words}
-use Rattle.pairing_law.specs.Marks.{Ask, Close}
-use Rattle.pairing_law.specs.Places.{tagged}
-use Rattle.reset_law.specs.Events.{In, Other, Out}
 use Rattle.reset_law.specs.Example.{one, two}
-use Rattle.world_keeps_pairing.specs.Free.{origin_in}
-use Rattle.world_keeps_pairing.specs.Steps.{steps}
 
 pub row_said : steps one two (Out one two 0 (Other (tagged 5 asking)) ∷ reset_of_two) ≡ Says Receiver (record { sockets = first_sockets; link = 0; mark = Close }) ∷ Says Receiver (record { sockets = first_sockets; link = 2; mark = Ask 5 }) ∷ steps one two reset_of_two
 unfolding octets_of orders_of read_of command_of

@@ -1,10 +1,5 @@
 -- What users ask for isn't refused, and has numbers of their types.
-use Rattle.std.proofs.Common.{◌≡◌, List, [], ◌∷◌, None}
-use Rattle.interface.specs.Host.{Host}
-use Rattle.host_keeps_ranges.specs.Ranges.{IsAsked}
-use Rattle.sockets.specs.Requests.{refusal}
-use Rattle.net_sim.specs.Story.{Moment, Crossed, Asked, program}
-use Rattle.net_sim.specs.Timeline.{IsTimeline}
+use Rattle.world_keeps_pairing.proofs.Common.{◌≡◌, List, [], ◌∷◌, None, Host, IsAsked, refusal, Moment, Crossed, Asked, program, IsTimeline}
 
 abbrev pub AreServed : List Moment → Type 0
 AreServed [] = Unit {0}

@@ -1,24 +1,15 @@
 -- One of the two hosts at one pair of sockets, event by event.
-use Rattle.std.proofs.Common.{◌≡◌, ℕ, Bool, true, false, not, ◌&&◌, ◌||◌, if◌then◌else◌, List, [], ◌∷◌, Option, None, refl, ap, sym, subst, ◌∙◌}
-use Rattle.interface.specs.Host.{Host, same_host}
-use Rattle.interface.specs.declared.crossing.Answer.{Answer}
+use Rattle.world_keeps_pairing.proofs.Common.{◌≡◌, ℕ, Bool, true, false, not, ◌&&◌, ◌||◌, if◌then◌else◌, List, [], ◌∷◌, Option, None, refl, ap, sym, subst, ◌∙◌, Host, same_host, Answer, Event, Message, Reset, Reply, Other, Out, In, are, Pair, pair, Phase, is_ready, begins_either, End, nothing, fits, gone, mark_taken, Mark, Ask, Close, Side, says, hears, One, Two, Say, Sockets, same, Word, Who, Receiver, Sender, Step, Says, Hears, Leaves, Meets, receiver, sender, events_at, with_event, put, words_of, all_said, all_heard, heard_in, keeps, steps_left, met, spoken_by, taken_by, steps}
 use Rattle.interface.specs.declared.crossing.Answer.TheVariants as answer
-use Rattle.reset_law.specs.Events.{Event, Message, Reset, Reply, Other, Contact, Out, In, Told, Down, Up, Idle, Call, Send, Take, Hear, Begin, are, when}
-use Rattle.reset_law.specs.Pairs.{Pair, pair_moved, pair}
+use Rattle.reset_law.specs.Events.{Contact, Told, Down, Up, Idle, Call, Send, Take, Hear, Begin, when}
+use Rattle.reset_law.specs.Pairs.{pair_moved}
 use Rattle.ncp_control.specs.Phases.{failed_phase}
-use Rattle.ncp_control.specs.declared.phase.Phase.{Phase}
 use Rattle.ncp_control.specs.declared.phase.Phase.TheVariants.{Closed, Want, Gone, Heard, Ready}
 use Rattle.reset_law.specs.Stays as stay
-use Rattle.ncp_control.specs.Phases.{is_ready}
-use Rattle.reset_law.proofs.lemmas.{begins_either}
-use Rattle.pairing_law.specs.Ends.{End, nothing, fits, gone, mark_taken}
-use Rattle.pairing_law.specs.Marks.{Mark, Ask, Close}
 use Rattle.pairing_law.specs.Sides as sides
-use Rattle.pairing_law.specs.Sides.{Side, opening_side, both, says, hears, leaves, meets, One, Two, Say}
-use Rattle.pairing_law.specs.Links.{Sockets, same, Word, Who, Receiver, Sender, Step, Says, Hears, Leaves, Meets, receiver, sender, events_at, with_event}
+use Rattle.pairing_law.specs.Sides.{opening_side, both, leaves, meets}
 use Rattle.pairing_law.specs.Links as links
-use Rattle.pairing_law.proofs.lemmas.{at, put}
-use Rattle.world_keeps_pairing.specs.Steps.{words_of, all_said, all_heard, heard_in, keeps, steps_left, met, spoken_by, taken_by, steps}
+use Rattle.pairing_law.proofs.lemmas.{at}
 
 -- ---- marks one after the other
 

@@ -1,35 +1,16 @@
 -- Two programs, with all that crosses between them, are a run of the law of pairing, where links are free.
-use Rattle.std.proofs.Common.{◌≡◌, ℕ, ◌+◌, ◌≤◌, ◌==◌, Bool, true, false, ◌&&◌, if◌then◌else◌, List, [], ◌∷◌, None, refl, ap, sym, subst, ◌∙◌, arith}
-use Rattle.interface.specs.Host.{Host, same_host}
+use Rattle.world_keeps_pairing.proofs.Common.{◌≡◌, ℕ, ◌+◌, ◌≤◌, ◌==◌, Bool, true, false, ◌&&◌, if◌then◌else◌, List, [], ◌∷◌, None, refl, ap, sym, subst, ◌∙◌, arith, Host, same_host, HostMessage, same_host-true, Order, orders_of, NcpState, opening_state, pair_with, refusal, Request, IsAsked, IsRanged, AllFit, MayAllGo, marks_in, End, Mark, placed_event, tagged, Side, Sockets, Word, Who, Receiver, Sender, Step, AreSteps, placed_run, Waiting, boxes, Event, Message, Other, In, pair, event_of, event_by, message_on, Moment, Crossed, Asked, IsNext, IsStory, event_in, events_of, places, program, by_request, story_agrees, words_of, all_said, all_heard, heard_in, keeps, steps_left, met, spoken_by, taken_by, NamesFreeAt, TakesFreeAt, law_events, eqb-sym}
 use Rattle.interface.specs.declared.crossing.Crossing.TheVariants as crossing
-use Rattle.interface.specs.declared.message.HostMessage.{HostMessage}
-use Rattle.interface.proofs.lemmas.{same_host-true}
-use Rattle.host_pairs.specs.Control.{Order, orders_of}
 use Rattle.ncp_control.specs.Phases as program_phases
-use Rattle.sockets.specs.Pairs.{NcpState, opening_state, pair_with}
 use Rattle.sockets.specs.Requests as asks
-use Rattle.sockets.specs.Requests.{refusal}
-use Rattle.sockets.specs.declared.request.Request.{Request}
-use Rattle.host_keeps_ranges.specs.Ranges.{IsAsked, IsRanged}
 use Rattle.host_keeps_ranges.proofs.lemmas.{answer_ranged, message_ranged, offer_ranged, request_ranged}
-use Rattle.host_keeps_pairing.specs.Words.{AllFit, MayAllGo, marks_in}
-use Rattle.pairing_law.specs.Ends.{End}
-use Rattle.pairing_law.specs.Marks.{Mark}
-use Rattle.pairing_law.specs.Places.{placed_event, tagged}
-use Rattle.pairing_law.specs.Sides.{Side}
-use Rattle.pairing_law.specs.Links.{Sockets, Word, Who, Receiver, Sender, Step, receiver, sender, AreSteps}
-use Rattle.pairing_law.proofs.lemmas.{at, placed_run}
-use Rattle.reset_law.specs.Boxes.{Waiting, boxes}
-use Rattle.reset_law.specs.Events.{Event, Message, Other, In, place}
-use Rattle.reset_law.specs.Pairs.{pair}
+use Rattle.pairing_law.specs.Links.{receiver, sender}
+use Rattle.pairing_law.proofs.lemmas.{at}
+use Rattle.reset_law.specs.Events.{place}
 use Rattle.reset_law.specs.Runs.{IsRun}
 use Rattle.reset_law.specs.Stays as stay
-use Rattle.net_sim.specs.Projection.{event_of, event_by, message_on}
-use Rattle.net_sim.specs.Story.{Moment, Crossed, Asked, IsNext, IsStory, event_in, events_of, places, program}
-use Rattle.net_sim.proofs.lemmas.{by_request, story_agrees}
-use Rattle.world_keeps_pairing.specs.Steps.{words_of, all_said, all_heard, heard_in, keeps, steps_left, met, spoken_by, taken_by, steps}
+use Rattle.world_keeps_pairing.specs.Steps.{steps}
 use Rattle.world_keeps_pairing.proofs.Legal.{legal}
-use Rattle.world_keeps_pairing.specs.Free.{NamesFreeAt, TakesFreeAt, law_events}
 use Rattle.world_keeps_pairing.proofs.Served.{AreServed}
 use Rattle.world_keeps_pairing.proofs.Sides.{all_says, at_texts, before, hears_if, left_if, met_if, receiver_deaf_if, receiver_half, receiver_waits, sender_half}
 use Rattle.world_keeps_pairing.proofs.Marks.{AllAt, IsPair, foreign_of, marks_at, own_of, texts_pairs}
@@ -40,7 +21,6 @@ use Rattle.world_keeps_pairing.proofs.Moments.{Side_of, Tie, answer_turn, asked_
 use Rattle.world_keeps_pairing.proofs.Programs.{AnRrp, AnRst, AText, Sort, sort_of}
 use Rattle.world_keeps_pairing.proofs.Turns.{heard_is}
 use Rattle.world_keeps_pairing.proofs.Messages.{Hears, IsFrom, are_same, boxed, boxed_is, in_turn, place_in, stays_as}
-use Rattle.host_keeps_pairing.proofs.lemmas.{eqb-sym}
 
 -- ---- what a host says may be said
 

@@ -1,27 +1,9 @@
 -- One moment more: a host's program has, at two sockets, the end that the steps say.
-use Rattle.std.proofs.Common.{◌≡◌, ℕ, ◌==◌, Bool, true, false, not, ◌&&◌, if◌then◌else◌, List, [], ◌∷◌, refl, ap, sym, subst, ◌∙◌}
-use Rattle.interface.specs.Host.{Host, same_host}
-use Rattle.host_pairs.specs.Control.{Order, orders_of}
-use Rattle.host_pairs.specs.Pair.{PairState}
+use Rattle.world_keeps_pairing.proofs.Common.{◌≡◌, ℕ, ◌==◌, Bool, true, false, not, ◌&&◌, if◌then◌else◌, List, [], ◌∷◌, refl, ap, sym, subst, ◌∙◌, Host, same_host, Order, orders_of, PairState, pair_with, marks_in, HasEnd, eqb-sym, End, nothing, Mark, tagged, with_place, Side, Sockets, Who, Receiver, Sender, Event, Message, Out, place, Pair, pair, Agrees, message_on, Moment, IsStory, events_of, program, story_agrees, keeps, law_events}
 use Rattle.ncp_control.specs.Phases as program_phases
-use Rattle.sockets.specs.Pairs.{pair_with}
-use Rattle.host_keeps_pairing.specs.Words.{marks_in}
-use Rattle.host_keeps_pairing.specs.Ends.{HasEnd, kept_in}
-use Rattle.host_keeps_pairing.proofs.lemmas.{eqb-sym}
-use Rattle.pairing_law.specs.Ends.{End, nothing}
-use Rattle.pairing_law.specs.Marks.{Mark}
-use Rattle.pairing_law.specs.Places.{tagged, with_place}
-use Rattle.pairing_law.specs.Sides.{Side}
-use Rattle.pairing_law.specs.Links.{Sockets, Who, Receiver, Sender}
+use Rattle.host_keeps_pairing.specs.Ends.{kept_in}
 use Rattle.pairing_law.proofs.lemmas.{pair_same}
-use Rattle.reset_law.specs.Events.{Event, Message, Out, place}
-use Rattle.reset_law.specs.Pairs.{Pair, pair}
 use Rattle.reset_law.specs.Stays as stay
-use Rattle.net_sim.specs.Projection.{Agrees, message_on}
-use Rattle.net_sim.specs.Story.{Moment, IsStory, events_of, program}
-use Rattle.net_sim.proofs.lemmas.{story_agrees}
-use Rattle.world_keeps_pairing.specs.Steps.{keeps}
-use Rattle.world_keeps_pairing.specs.Free.{law_events}
 use Rattle.world_keeps_pairing.proofs.Sides.{all_says, at_texts, before, hears_if, left_if, met_if}
 use Rattle.world_keeps_pairing.proofs.Marks.{IsPair, foreign_of, own_of, text_at}
 use Rattle.world_keeps_pairing.proofs.Programs.{AnRrp, AnRst, AText, Sort, read_marks, sort_of}

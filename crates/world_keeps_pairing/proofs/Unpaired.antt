@@ -1,23 +1,9 @@
 -- Two sockets that both receive or both send: nothing is said of them, and no end of theirs opens.
-use Rattle.std.proofs.Common.{◌≡◌, ℕ, ◌==◌, Bool, true, false, ◌&&◌, if◌then◌else◌, List, [], ◌∷◌, ◌++◌, refl, ap, sym, subst, ◌∙◌}
-use Rattle.std.proofs.lemmas.Bool.{eqb-true}
-use Rattle.interface.specs.Host.{same_host}
+use Rattle.world_keeps_pairing.proofs.Common.{◌≡◌, ℕ, ◌==◌, Bool, true, false, ◌&&◌, if◌then◌else◌, List, [], ◌∷◌, ◌++◌, refl, ap, sym, subst, ◌∙◌, eqb-true, same_host, same_flow, Flow, Crossing, HostMessage, same_flow-true, is_receive_socket, is_send_socket, Order, Legal, Wrong, orders_of, AreOrders, IsOrder, text_good, MayAllGo, mark_in, marks_in, nothing, Mark, Ask, Close}
 use Rattle.interface.specs.Mailboxes as mail
-use Rattle.interface.specs.Mailboxes.{same_flow}
-use Rattle.interface.specs.declared.address.Flow.{Flow}
-use Rattle.interface.specs.declared.crossing.Crossing.{Crossing}
 use Rattle.interface.specs.declared.crossing.Crossing.TheVariants as crossing
-use Rattle.interface.specs.declared.message.HostMessage.{HostMessage}
-use Rattle.interface.proofs.lemmas.{same_flow-true}
-use Rattle.ncp_control.specs.Numbers.{is_receive_socket, is_send_socket}
 use Rattle.ncp_control.specs.declared.command.Command.TheVariants as command
-use Rattle.host_pairs.specs.Control.{Order, Legal, Wrong, orders_of}
 use Rattle.host_pairs.proofs.lemmas.{both}
-use Rattle.host_keeps_ranges.specs.Ranges.{AreOrders, IsOrder}
-use Rattle.host_keeps_ranges.proofs.lemmas.{text_good}
-use Rattle.host_keeps_pairing.specs.Words.{MayAllGo, mark_in, marks_in}
-use Rattle.pairing_law.specs.Ends.{nothing}
-use Rattle.pairing_law.specs.Marks.{Mark, Ask, Close}
 use Rattle.net_sim.proofs.lemmas.{cleared_waits, fetched_waits}
 use Rattle.world_keeps_pairing.proofs.Marks.{and_turned}
 use Rattle.world_keeps_pairing.proofs.Programs.{read_marks}

@@ -1,20 +1,9 @@
 -- All moments: two sockets that both receive or both send have no end and no life.
-use Rattle.std.proofs.Common.{◌≡◌, ℕ, ◌≤◌, List, [], ◌∷◌, None, sym, subst, arith}
-use Rattle.interface.specs.Host.{Host}
+use Rattle.world_keeps_pairing.proofs.Common.{◌≡◌, ℕ, ◌≤◌, List, [], ◌∷◌, None, sym, subst, arith, Host, HostMessage, same_host-true, IsRanged, refusal, link_for, text_for, opening_has, pair, Moment, Crossed, Asked, IsNext, IsStory, events_of, places, program, crossings_of, story_agrees, TakesFreeAt}
 use Rattle.interface.specs.Mailboxes as mail
 use Rattle.interface.specs.declared.crossing.Crossing.TheVariants as crossing
-use Rattle.interface.specs.declared.message.HostMessage.{HostMessage}
-use Rattle.interface.proofs.lemmas.{same_host-true, waits_with}
-use Rattle.host_keeps_ranges.specs.Ranges.{IsRanged}
-use Rattle.sockets.specs.Requests.{refusal}
-use Rattle.host_pairs.specs.Parcels.{link_for, text_for}
-use Rattle.host_keeps_pairing.proofs.lemmas.{opening_has}
-use Rattle.reset_law.specs.Pairs.{pair}
+use Rattle.interface.proofs.lemmas.{waits_with}
 use Rattle.reset_law.specs.Runs.{IsRun}
-use Rattle.net_sim.specs.Story.{Moment, Crossed, Asked, IsNext, IsStory, events_of, places, program}
-use Rattle.net_sim.specs.Timeline.{crossings_of}
-use Rattle.net_sim.proofs.lemmas.{story_agrees}
-use Rattle.world_keeps_pairing.specs.Free.{TakesFreeAt}
 use Rattle.world_keeps_pairing.proofs.Served.{AreServed}
 use Rattle.world_keeps_pairing.proofs.LinkRun.{AllTied, all_tied, takes}
 use Rattle.world_keeps_pairing.proofs.Origins.{served_below}

@@ -1,42 +1,12 @@
 -- At all moments no program has an end of two sockets that both receive or both send, and none was reported to be open.
-use Rattle.std.proofs.Common.{◌≡◌, ℕ, ◌==◌, Bool, true, false, if◌then◌else◌, List, [], ◌∷◌, None, refl, ap, sym, subst, ◌∙◌}
-use Rattle.interface.specs.Host.{Host, same_host}
-use Rattle.interface.specs.declared.address.Flow.{Flow}
-use Rattle.interface.specs.declared.crossing.Answer.{Answer}
+use Rattle.world_keeps_pairing.proofs.Common.{◌≡◌, ℕ, ◌==◌, Bool, true, false, if◌then◌else◌, List, [], ◌∷◌, None, refl, ap, sym, subst, ◌∙◌, Host, same_host, Flow, Answer, HostMessage, same_host-refl, same_host-true, commands_of, Order, orders_of, PairState, link_for, text_for, is_ready, accepted, NcpState, opening_state, pair_with, refusal, served, offered, Request, answer_about, message_about, offer_about, IsRanged, AllFit, all_gone, marks, marks_in, HasEnd, AreJoint, after_request, AreAmong, all_lives_gone, all_lives_taken, with_openings, answer_other, data_told, idle_other, message_tells, offer_tells, opening_has, request_keeps, rrp_other, rst_other, End, nothing, Mark, Message, Reset, Reply, Other, pair, IsApart, message_on, Moment, Crossed, Asked, IsNext, IsStory, events_of, places, program, host_in, notices_by, program_own, story_agrees, TakesFreeAt, with_lives}
 use Rattle.interface.specs.declared.crossing.Crossing.TheVariants as crossing
 use Rattle.interface.specs.declared.crossing.Inbound.TheVariants as inbound
-use Rattle.interface.specs.declared.message.HostMessage.{HostMessage}
-use Rattle.interface.proofs.lemmas.{same_host-refl, same_host-true}
-use Rattle.host_pairs.specs.Allowed.{commands_of}
-use Rattle.host_pairs.specs.Control.{Order, orders_of}
-use Rattle.host_pairs.specs.Pair.{PairState}
-use Rattle.host_pairs.specs.Parcels.{link_for, text_for}
-use Rattle.ncp_control.specs.Phases.{is_ready}
-use Rattle.sockets.specs.Accepting.{accepted}
-use Rattle.sockets.specs.Pairs.{NcpState, opening_state, pair_with}
-use Rattle.sockets.specs.Requests.{refusal, served}
-use Rattle.sockets.specs.Sending.{offered}
-use Rattle.sockets.specs.declared.request.Request.{Request}
 use Rattle.sockets.specs.declared.request.Request.TheVariants as request
-use Rattle.sockets.proofs.lemmas.{answer_about, message_about, offer_about}
-use Rattle.host_keeps_ranges.specs.Ranges.{IsRanged}
-use Rattle.host_keeps_pairing.specs.Words.{AllFit, all_gone, all_taken, marks, marks_in}
+use Rattle.host_keeps_pairing.specs.Words.{all_taken}
 use Rattle.host_keeps_pairing.specs.Ends as ends
-use Rattle.host_keeps_pairing.specs.Ends.{HasEnd}
-use Rattle.host_keeps_pairing.specs.Hearing.{AreJoint, after_request}
-use Rattle.host_keeps_pairing.specs.Openings.{AreAmong, all_lives_gone, all_lives_taken, with_openings}
-use Rattle.host_keeps_pairing.proofs.lemmas.{answer_other, data_told, idle_other, message_tells, offer_tells, opening_has, request_keeps, rrp_other, rst_other}
-use Rattle.pairing_law.specs.Ends.{End, nothing}
-use Rattle.pairing_law.specs.Marks.{Mark}
 use Rattle.pairing_law.specs.Sides.{Life}
-use Rattle.reset_law.specs.Events.{Message, Reset, Reply, Other}
-use Rattle.reset_law.specs.Pairs.{pair}
-use Rattle.net_sim.specs.Projection.{IsApart, message_on}
-use Rattle.net_sim.specs.Story.{Moment, Crossed, Asked, IsNext, IsStory, events_of, places, program}
-use Rattle.net_sim.specs.Told.{host_in, kept_in, notices_by}
-use Rattle.net_sim.proofs.lemmas.{program_own, story_agrees}
-use Rattle.world_keeps_pairing.specs.Free.{TakesFreeAt}
-use Rattle.world_keeps_pairing.specs.Lives.{with_lives}
+use Rattle.net_sim.specs.Told.{kept_in}
 use Rattle.world_keeps_pairing.proofs.Books.{about_none, about_other, about_peer, all_of_peer, asked_none, kept_step}
 use Rattle.world_keeps_pairing.proofs.Programs.{AnRrp, AnRst, AText, Has, Sort, after_text, answer_has, goes_marks, in_has, in_leaves, out_has, plain_joint, read_marks, sort_of}
 
@@ -166,9 +136,6 @@ module _ (origin : ℕ → ℕ) (own foreign : ℕ) where
 
   module _ (m : HostMessage) (moments : List Moment) (story : IsStory (Crossed (crossing.In m) ∷ moments)) (free : TakesFreeAt (Crossed (crossing.In m)) moments) (silent : read_marks (origin (places moments)) foreign own m.flow.link.0 m.text ≡ [])
       (k : IsBare m.flow.destination m.flow.source moments) where
-    abbrev s : NcpState
-    s = program m.flow.destination moments
-
     abbrev old : List Life
     old = Lives_at m.flow.destination m.flow.source moments
 

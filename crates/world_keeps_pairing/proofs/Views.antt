@@ -1,14 +1,6 @@
 -- Stays and words: by the steps they are those of the law of resets.
-use Rattle.std.proofs.Common.{◌≡◌, Bool, true, false, ◌&&◌, ◌||◌, if◌then◌else◌, List, [], ◌∷◌, ◌++◌, refl, ap, sym, ◌∙◌}
-use Rattle.std.proofs.lemmas.List.{append-nil, append_assoc}
-use Rattle.interface.specs.Host.{Host}
-use Rattle.reset_law.specs.Events.{Event}
+use Rattle.world_keeps_pairing.proofs.Common.{◌≡◌, Bool, true, false, ◌&&◌, ◌||◌, if◌then◌else◌, List, [], ◌∷◌, ◌++◌, refl, ap, sym, ◌∙◌, append-nil, append_assoc, Host, Event, begins_either, Word, Who, Receiver, Sender, Step, Says, Hears, stays, said_words, heard_words, words_of, words_by, onto, all_said, all_heard, heard_in, keeps, steps_left, met, spoken_by, taken_by, steps, untagged, orders_of}
 use Rattle.reset_law.specs.Stays as stay
-use Rattle.reset_law.proofs.lemmas.{begins_either}
-use Rattle.pairing_law.specs.Links.{Word, Who, Receiver, Sender, Step, Says, Hears, stays, said_words, heard_words}
-use Rattle.world_keeps_pairing.specs.Steps.{words_of, words_by, onto, all_said, all_heard, heard_in, keeps, steps_left, met, spoken_by, taken_by, steps}
-use Rattle.host_keeps_pairing.specs.Spoken.{untagged}
-use Rattle.host_pairs.specs.Control.{orders_of}
 
 -- ---- what is seen of a list of steps
 

@@ -1,27 +1,9 @@
 -- Where requests went out: a place is that of one message, of one host to one other.
-use Rattle.std.proofs.Common.{◌≡◌, ◌⊎◌, inl, inr, ℕ, zero, suc, ◌-◌, ◌<◌, Bool, true, false, if◌then◌else◌, List, [], ◌∷◌, length, drop, Option, Some, None, refl, ap, sym, subst, ◌∙◌, arith}
-use Rattle.interface.specs.Host.{Host, same_host}
-use Rattle.interface.specs.Mailboxes.{same_flow}
-use Rattle.interface.specs.declared.address.Flow.{Flow}
-use Rattle.interface.specs.declared.crossing.Crossing.{Crossing}
+use Rattle.world_keeps_pairing.proofs.Common.{◌≡◌, ◌⊎◌, inl, inr, ℕ, zero, suc, ◌-◌, ◌<◌, Bool, true, false, if◌then◌else◌, List, [], ◌∷◌, length, drop, Option, Some, None, refl, ap, sym, subst, ◌∙◌, arith, Host, same_host, same_flow, Flow, Crossing, HostMessage, same_flow-true, same_host-true, End, nothing, fits, Mark, Ask, Close, placed_event, Side, hears, says, Sockets, Who, Event, place, event_of, last_out, Moment, Crossed, Asked, event_in, events_of, crossings_of, by_request, place_same, law_events, place_or, keeps}
 use Rattle.interface.specs.declared.crossing.Crossing.TheVariants as crossing
-use Rattle.interface.specs.declared.message.HostMessage.{HostMessage}
-use Rattle.interface.proofs.lemmas.{same_flow-true, same_host-true}
-use Rattle.pairing_law.specs.Ends.{End, nothing, fits}
-use Rattle.pairing_law.specs.Marks.{Mark, Ask, Close}
-use Rattle.pairing_law.specs.Places.{placed_event}
-use Rattle.pairing_law.specs.Sides.{Life, Side, hears, lives_opened, says}
-use Rattle.pairing_law.specs.Links.{Sockets, Who}
-use Rattle.reset_law.specs.Events.{Event, place}
+use Rattle.pairing_law.specs.Sides.{Life, lives_opened}
 use Rattle.reset_law.specs.Stays as stay
-use Rattle.net_sim.specs.Projection.{event_of}
 use Rattle.promise.specs.Safe as book
-use Rattle.promise.specs.Safe.{last_out}
-use Rattle.net_sim.specs.Story.{Moment, Crossed, Asked, event_in, events_of}
-use Rattle.net_sim.specs.Timeline.{crossings_of}
-use Rattle.net_sim.proofs.lemmas.{by_request, place_same}
-use Rattle.world_keeps_pairing.specs.Free.{law_events, place_or}
-use Rattle.world_keeps_pairing.specs.Steps.{keeps}
 use Rattle.world_keeps_pairing.proofs.Marks.{AllAt, IsPair, foreign_of, own_of}
 use Rattle.world_keeps_pairing.proofs.Moments.{Side_of}
 use Rattle.world_keeps_pairing.proofs.Programs.{read_marks}

@@ -1,19 +1,12 @@
 -- The lives of a world's book.
-use Rattle.std.proofs.Common.{◌≡◌, List, ◌++◌, IsSome, ap, sym, subst, true, Some}
-use Rattle.std.specs.List.{Contains}
+use Rattle.world_keeps_pairing.proofs.Common.{◌≡◌, List, ◌++◌, IsSome, ap, sym, subst, true, Some, Contains, Host, Crossing, Kept, AreTwo, Match, SafePartners, own_request, partner_request, receives, crossings_of, Coupled, coupled}
 use Rattle.interface.specs.Calls.{Seen}
-use Rattle.interface.specs.Host.{Host}
 use Rattle.interface.specs.Mailboxes as mail
-use Rattle.interface.specs.declared.crossing.Crossing.{Crossing}
 use Rattle.interface.proofs.lemmas.{run_below}
-use Rattle.net_sim.specs.Book.{Kept}
 use Rattle.net_sim.specs.Clean.{IsLawful}
-use Rattle.promise.specs.Safe.{AreTwo, Match, SafePartners, own_request, partner_request, receives}
-use Rattle.net_sim.specs.Timeline.{crossings_of}
 use Rattle.net_sim.specs.Told.{kept_in}
 use Rattle.net_sim.specs.World.{WorldState}
 use Rattle.promise.specs.declared.life.Life.{Life}
-use Rattle.net_sim.proofs.lemmas.{Coupled, coupled}
 use Rattle.world_keeps_pairing.proofs.BookPartners.{life_alone, life_matches, partner_named, safe_partners}
 use Rattle.world_keeps_pairing.proofs.Served.{AreServed, served_in}
 

@@ -1,34 +1,16 @@
 -- An event at one host leaves all others as they are, and one of a calm by which nothing crosses leaves all hosts so.
-use Rattle.std.proofs.Common.{◌≡◌, inl, inr, ℕ, zero, suc, Bool, false, List, [], ◌∷◌, Option, Some, None, Result, Ok, Err, length, slice_get, refl, ap, sym, subst, ◌∙◌, arith}
+use Rattle.world_replay.proofs.Common.{◌≡◌, inl, inr, ℕ, zero, suc, Bool, false, List, [], ◌∷◌, Option, Some, None, Result, Ok, Err, length, refl, ap, sym, subst, ◌∙◌, arith, Notice, ServiceDeskState, ServicesState, opening_desk, line_bits, Calls, crossing_of, Host, Crossing, all_told, asked, crossed, shown, AskGives, AtSeat, Does, DoesOrHalts, OfferEnds, OfferGives, Passes, QuietEnds, StepGives, TakeEnds, TakeGives, TypeGives, WorldState, noticed, seat_of, served_at, services_of, stops, with_carrier, with_server, with_user, world_moved, Event, Ask, Net, Offer, Quiet, Server, Take, Typed, User, WorldFault, Seat, ServiceSeat, accepted, NcpState, refusal, served, served_notices, next_out, offered, NcpFault, Request, IsOfCalm}
+use Rattle.std.proofs.Common.{slice_get}
 use Rattle.std.proofs.lemmas.List.{length-map}
-use Rattle.host_pairs.specs.declared.notice.Notice.{Notice}
-use Rattle.host_services.specs.Services.{ServiceDeskState, ServicesState, opening_desk}
 use Rattle.host_services.specs.Turns as services
-use Rattle.host_services.specs.TypedLines.{line_bits}
-use Rattle.interface.specs.Calls.{Calls, crossing_of}
-use Rattle.interface.specs.Host.{Host, same_host}
+use Rattle.interface.specs.Host.{same_host}
 use Rattle.interface.specs.declared.CarrierFault.{CarrierFault}
 use Rattle.interface.specs.declared.HostMessage.{HostMessage}
 use Rattle.interface.specs.declared.Inbound.{Inbound}
-use Rattle.interface.specs.declared.crossing.Crossing.{Crossing}
 use Rattle.interface.specs.declared.crossing.Crossing.TheVariants as crossing
-use Rattle.net_sim.specs.Book.{all_told, asked, crossed}
-use Rattle.net_sim.specs.Carriers.{shown}
-use Rattle.net_sim.specs.World.{AskGives, AtSeat, Does, DoesOrHalts, EventGives, OfferEnds, OfferGives, Passes, QuietEnds, StepGives, TakeEnds, TakeGives, TypeGives, WorldState, noticed, seat_of, seated, served_at, serviced, services_of, stops, tended, turn_of, with_carrier, with_program, with_server, with_services, with_user, world_heard, world_moved}
-use Rattle.net_sim.specs.declared.event.Event.{Event}
-use Rattle.net_sim.specs.declared.event.Event.TheVariants.{Ask, Net, Offer, Quiet, Server, Take, Typed, User}
-use Rattle.net_sim.specs.declared.event.WorldFault.{WorldFault}
-use Rattle.net_sim.specs.declared.seat.Seat.{Seat}
-use Rattle.net_sim.specs.declared.seat.ServiceSeat.{ServiceSeat}
-use Rattle.sockets.specs.Accepting.{accepted}
-use Rattle.sockets.specs.Pairs.{NcpState}
-use Rattle.sockets.specs.Requests.{refusal, served, served_notices}
-use Rattle.sockets.specs.Sending.{next_out, offered}
-use Rattle.sockets.specs.declared.fault.NcpFault.{NcpFault}
-use Rattle.sockets.specs.declared.request.Request.{Request}
+use Rattle.net_sim.specs.World.{EventGives, seated, serviced, tended, turn_of, with_program, with_services, world_heard}
 use Rattle.sockets.specs.declared.request.Request.TheVariants as request
 use Rattle.world_replay.specs.Apart.{IsAt, OthersStay, SameHosts}
-use Rattle.world_replay.specs.Replay.{IsOfCalm}
 use Rattle.world_replay.proofs.Driven.{moved_log, step_runs}
 use Rattle.world_replay.proofs.Grown.{at_seat}
 use Rattle.world_replay.proofs.Steady.{halts_stop}

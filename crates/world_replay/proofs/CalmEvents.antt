@@ -1,18 +1,7 @@
 -- A calm is its events, one after another.
-use Rattle.std.proofs.Common.{◌≡◌, ℕ, zero, suc, Bool, true, false, List, [], ◌∷◌, ◌++◌, Result, Ok, refl, ap, sym, subst, ◌∙◌, length, nat_lt}
-use Rattle.std.proofs.lemmas.Bool.{false≢true}
-use Rattle.std.proofs.lemmas.List.Elements.{All-cons, All-nil}
-use Rattle.std.specs.Bool.{MatchBool}
-use Rattle.std.specs.List.{All}
-use Rattle.interface.specs.Calls.{Calls}
-use Rattle.interface.specs.Host.{Host}
-use Rattle.net_sim.specs.World.{Calms, Does, Repeats, StepGives, TurnsOf, WorldState, stops, up_in}
-use Rattle.net_sim.specs.declared.event.Event.{Event}
-use Rattle.net_sim.specs.declared.event.Event.TheVariants.{Offer, Quiet, Take}
-use Rattle.net_sim.specs.declared.event.WorldFault.{WorldFault}
-use Rattle.replay.specs.InTurn.{InTurn}
+use Rattle.world_replay.proofs.Common.{◌≡◌, ℕ, zero, suc, Bool, true, false, List, [], ◌∷◌, ◌++◌, Result, Ok, refl, ap, sym, subst, ◌∙◌, length, nat_lt, false≢true, All-cons, All-nil, MatchBool, All, Calls, Host, Calms, Does, Repeats, StepGives, TurnsOf, WorldState, stops, up_in, Event, Offer, Quiet, Take, WorldFault, InTurn, HappensInCalm, IsOfCalm}
 use Rattle.world_replay.specs.Output.{Shown}
-use Rattle.world_replay.specs.Replay.{Happens, HappensInCalm, IsOfCalm, quiet_rounds}
+use Rattle.world_replay.specs.Replay.{Happens, quiet_rounds}
 use Rattle.world_replay.proofs.CalmRounds.{Gained, calm_gained, more_gained, none_gained, runs_at}
 use Rattle.world_replay.proofs.Grown.{Grew, begins, step_grows}
 use Rattle.world_replay.proofs.Replays.{gained, gains_once, same_news}

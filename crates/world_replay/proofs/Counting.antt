@@ -1,22 +1,12 @@
 -- Worlds over a carrier that counts its calls.
-use Rattle.std.proofs.Common.{◌≡◌, ℕ, ◌+◌, zero, suc, Bool, true, false, List, [], ◌∷◌, length, Result, Ok, Err, refl, ap, sym, subst, ◌∙◌, add-zero, arith}
-use Rattle.std.specs.Bool.{MatchBool}
+use Rattle.world_replay.proofs.Common.{◌≡◌, ℕ, ◌+◌, zero, suc, Bool, true, false, List, [], ◌∷◌, length, Result, Ok, Err, refl, ap, sym, subst, ◌∙◌, arith, MatchBool, Calms, QuietEnds, StepGives, TurnsOf, WorldState, stops, up_in, with_carrier, Kept, Quiet, Take, WorldFault, Carrier, first, Gains, BeginsWith, HappensInCalm, MayDo, Again, Repeated, crosses, after, WorldEvent, Calm, Happen}
+use Rattle.std.proofs.Common.{add-zero}
 use Rattle.interface.specs.declared.carrier.CarrierFault.{CarrierFault}
-use Rattle.net_sim.specs.World.{Calms, QuietEnds, StepGives, TurnsOf, WorldState, stops, up_in, with_carrier}
 use Rattle.interface.specs.declared.carrier.CarrierFault.TheVariants as fault
-use Rattle.net_sim.specs.Book.{Kept}
-use Rattle.net_sim.specs.declared.event.Event.TheVariants.{Quiet, Take}
-use Rattle.net_sim.specs.declared.event.WorldFault.{WorldFault}
-use Rattle.net_sim.specs.declared.event.WorldFault.TheVariants.{Carrier}
-use Rattle.sockets.specs.Worked.{first}
-use Rattle.world_replay.specs.Gains.{Gains}
 use Rattle.world_replay.proofs.Replays.{gained, gains_once, same_news}
 use Rattle.world_replay.specs.Output.{Shown}
-use Rattle.world_replay.specs.Replay.{BeginsWith, EventGives, HappensInCalm, MayDo}
-use Rattle.world_replay.specs.Rounds.{Again, Repeated, crosses}
-use Rattle.world_replay.specs.Worked.{after, counting}
-use Rattle.world_script.specs.declared.event.WorldEvent.{WorldEvent}
-use Rattle.world_script.specs.declared.event.WorldEvent.TheVariants.{Calm, Happen}
+use Rattle.world_replay.specs.Replay.{EventGives}
+use Rattle.world_replay.specs.Worked.{counting}
 
 -- a quiet round is one call, and succeeds
 record Counts (n : ℕ) (r : Result (Unit {0}) WorldFault) (new : WorldState ℕ) : Type 0 where

@@ -1,54 +1,31 @@
 -- Each event of a world drives its carrier by the call that it makes.
-use Rattle.std.proofs.Common.{◌≡◌, ◌⊎◌, inl, inr, ℕ, Bool, true, false, List, [], ◌∷◌, ◌++◌, if◌then◌else◌, length, Option, Some, None, Result, Ok, Err, reverse, refl, ap, sym, subst, ◌∙◌}
-use Rattle.std.proofs.lemmas.Bool.{false≢true}
-use Rattle.std.proofs.lemmas.List.{append_assoc, append-nil, reverse-reverse}
-use Rattle.std.proofs.lemmas.List.Elements.{All-append, All-cons, All-nil}
-use Rattle.std.specs.Bool.{MatchBool}
-use Rattle.std.specs.List.{All}
+use Rattle.world_replay.proofs.Common.{◌≡◌, ◌⊎◌, inr, ℕ, Bool, true, false, List, [], ◌∷◌, ◌++◌, length, Option, Some, None, Result, Ok, Err, reverse, refl, ap, sym, subst, ◌∙◌, false≢true, append-nil, reverse-reverse, All-cons, All-nil, MatchBool, All, Notice, ServiceDeskState, opening_desk, line_bits, Calls, Seen, crossing_of, is_memory, step_crossings, Host, Crossing, Kept, all_asked, all_crossed, all_told, asked, book_told, crossed, shown, AskGives, AtProgram, AtSeat, DoesOrHalts, NetEnds, OfferEnds, OfferGives, Passes, QuietEnds, Refuses, StepGives, TakeEnds, TakeGives, TypeGives, WorldState, changed, done_by, noticed, seat_of, served_at, services_of, stops, with_carrier, with_server, with_user, world_moved, Event, Ask, Net, Offer, Quiet, Server, Take, Typed, User, WorldFault, Carrier, Seat, Happening, InTurn, GoesOn, outcome_of, grown_more, accepted, NcpState, refusal, served, served_notices, next_out, offered, NcpFault, Request, Brings, Drive, Drives, Goes, IsCall, IsDriven, IsDrivenIn, IsShown, Raw, Round, HappensInCalm, Replays, WorldEvent}
+use Rattle.std.proofs.Common.{inl, if◌then◌else◌}
+use Rattle.std.proofs.lemmas.List.{append_assoc}
+use Rattle.std.proofs.lemmas.List.Elements.{All-append}
 use Rattle.std.specs.Option.{option_and_then, option_map, option_to_list}
-use Rattle.host_pairs.specs.declared.notice.Notice.{Notice}
-use Rattle.host_services.specs.Services.{ServiceDeskState, opening_desk}
 use Rattle.host_services.specs.Turns as services
-use Rattle.host_services.specs.TypedLines.{line_bits}
-use Rattle.interface.specs.Calls.{Calls, Seen, ShowsCrossings, ShowsOffer, ShowsRefusal, ShowsStep, ShowsTake, crossing_of, halted, is_memory, step_crossings}
-use Rattle.interface.specs.Host.{Host}
+use Rattle.interface.specs.Calls.{ShowsCrossings, ShowsOffer, ShowsRefusal, ShowsStep, ShowsTake, halted}
 use Rattle.interface.specs.declared.CarrierFault.{CarrierFault}
 use Rattle.interface.specs.declared.CarrierFault.TheVariants as fault
 use Rattle.interface.specs.declared.HostMessage.{HostMessage}
 use Rattle.interface.specs.declared.Inbound.{Inbound}
 use Rattle.interface.specs.declared.NetEvent.{NetEvent}
-use Rattle.interface.specs.declared.crossing.Crossing.{Crossing}
 use Rattle.interface.specs.declared.crossing.Crossing.TheVariants as crossing
-use Rattle.net_sim.specs.Book.{Kept, all_asked, all_crossed, all_told, asked, book_told, crossed}
-use Rattle.net_sim.specs.Carriers.{shown}
-use Rattle.net_sim.specs.World.{AskGives, AtProgram, AtSeat, DoesOrHalts, EventGives, NetEnds, OfferEnds, OfferGives, Passes, QuietEnds, Refuses, StepGives, TakeEnds, TakeGives, TypeGives, WorldState, changed, done_by, noticed, seat_of, served_at, services_of, stops, turn_of, with_carrier, with_server, with_user, world_moved}
-use Rattle.net_sim.specs.declared.event.Event.{Event}
-use Rattle.net_sim.specs.declared.event.Event.TheVariants.{Ask, Net, Offer, Quiet, Server, Take, Typed, User}
-use Rattle.net_sim.specs.declared.event.WorldFault.{WorldFault}
-use Rattle.net_sim.specs.declared.event.WorldFault.TheVariants.{Carrier}
-use Rattle.net_sim.specs.declared.seat.Seat.{Seat}
-use Rattle.replay.specs.InTurn.{Happening, InTurn}
+use Rattle.net_sim.specs.World.{EventGives, turn_of}
 use Rattle.replay.specs.Output.{Crossed, Refused, crossings_of, shown_crossings, shown_refusal}
 use Rattle.replay.specs.Output as raw_output
-use Rattle.replay.specs.Replay.{GoesOn, Happens, IsOneCall, outcome_of}
+use Rattle.replay.specs.Replay.{Happens, IsOneCall}
 use Rattle.replay.specs.Replay as raw_replay
-use Rattle.replay.proofs.lemmas.{crossings_shown, grown_more}
+use Rattle.replay.proofs.lemmas.{crossings_shown}
 use Rattle.script.specs.declared.event.RawEvent.{RawEvent}
 use Rattle.script.specs.declared.event.RawEvent.TheVariants as raw
-use Rattle.sockets.specs.Accepting.{accepted}
-use Rattle.sockets.specs.Pairs.{NcpState}
-use Rattle.sockets.specs.Requests.{refusal, served, served_notices}
-use Rattle.sockets.specs.Sending.{next_out, offered}
-use Rattle.sockets.specs.declared.fault.NcpFault.{NcpFault}
-use Rattle.sockets.specs.declared.request.Request.{Request}
 use Rattle.sockets.specs.declared.request.Request.TheVariants as request
-use Rattle.world_replay.specs.Driven.{Brings, Drive, Drives, Goes, IsCall, IsDriven, IsDrivenIn, IsShown, Raw, Round, call_of, program_of}
+use Rattle.world_replay.specs.Driven.{call_of, program_of}
 use Rattle.world_replay.specs.Output.{Shown}
-use Rattle.world_replay.specs.Replay.{HappensInCalm, Replays}
 use Rattle.world_replay.specs.Replay as world_replay
 use Rattle.world_replay.proofs.CalmEvents.{calm_events}
 use Rattle.world_replay.proofs.Steady.{halts_stop, passes_goes}
-use Rattle.world_script.specs.declared.event.WorldEvent.{WorldEvent}
 use Rattle.world_script.specs.declared.event.WorldEvent.TheVariants as script
 
 abbrev Answer : Type 0

@@ -1,26 +1,17 @@
 -- What crosses by calls of small carriers.
-use Rattle.std.proofs.Common.{◌≡◌, inl, inr, ℕ, suc, List, [], ◌∷◌, ◌++◌, length, None, Ok, reverse, refl, ap, subst, ◌∙◌, arith}
-use Rattle.std.proofs.lemmas.List.Elements.{All-cons, All-head, All-nil, All-tail}
-use Rattle.std.specs.List.{All}
-use Rattle.interface.specs.Calls.{IsFor, Seen, crossing_of}
-use Rattle.interface.specs.Host.{Host}
+use Rattle.world_replay.proofs.Common.{◌≡◌, inl, inr, ℕ, suc, List, [], ◌∷◌, ◌++◌, length, None, Ok, reverse, refl, ap, subst, ◌∙◌, arith, All-cons, All-nil, All, Seen, crossing_of, Host, fresh, message, WorldState, Event, InTurn, first, second, Brings, Drive, Drives, Goes, IsCall, IsDriven, IsDrivenIn, IsShown, Raw, Round, IsOfCalm, after, booked, Calm, Happen}
+use Rattle.std.proofs.lemmas.List.Elements.{All-head, All-tail}
+use Rattle.interface.specs.Calls.{IsFor}
 use Rattle.interface.specs.declared.HostMessage.{HostMessage}
 use Rattle.interface.specs.declared.Inbound.{Inbound}
 use Rattle.interface.specs.declared.crossing.Inbound.TheVariants as inbound
 use Rattle.interface.specs.declared.crossing.Crossing.TheVariants as crossing
-use Rattle.net_sim.specs.Worked.{any_carrier, fresh, message}
-use Rattle.net_sim.specs.World.{WorldState}
-use Rattle.net_sim.specs.declared.event.Event.{Event}
+use Rattle.net_sim.specs.Worked.{any_carrier}
 use Rattle.net_sim.specs.declared.event.Event.TheVariants as event
-use Rattle.replay.specs.InTurn.{InTurn}
 use Rattle.replay.specs.Output.{Crossed, Shown, crossings_of, shown_crossings, shown_refusal}
 use Rattle.replay.specs.Worked.{counting}
 use Rattle.script.specs.declared.event.RawEvent.TheVariants as raw
-use Rattle.sockets.specs.Worked.{first, second}
-use Rattle.world_replay.specs.Driven.{Brings, Drive, Drives, Goes, IsCall, IsDriven, IsDrivenIn, IsShown, Raw, Round}
-use Rattle.world_replay.specs.Replay.{IsOfCalm}
-use Rattle.world_replay.specs.Worked.{after, booked, came, went}
-use Rattle.world_script.specs.declared.event.WorldEvent.TheVariants.{Calm, Happen}
+use Rattle.world_replay.specs.Worked.{came, went}
 
 -- ---- messages
 

@@ -1,3 +1,4 @@
+pub mod Common
 pub mod Accounts
 mod AtHosts
 pub mod CalmRounds

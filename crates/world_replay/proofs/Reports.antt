@@ -1,22 +1,17 @@
 -- Which notices the reports of services are about.
-use Rattle.std.proofs.Common.{◌≡◌, ℕ, ◌+◌, ◌<◌, ◌≤◌, List, [], ◌∷◌, ◌++◌, length, Option, Some, None, refl, ap, sym, subst, ◌∙◌, arith}
-use Rattle.std.proofs.lemmas.List.{append-nil, append_assoc}
-use Rattle.host_services.specs.Services.{ServiceDeskState, ServicesState, noticing, reporting, serving, typing_on}
+use Rattle.world_replay.proofs.Common.{◌≡◌, ℕ, ◌+◌, ◌<◌, ◌≤◌, List, [], ◌∷◌, ◌++◌, length, Option, Some, None, refl, ap, sym, subst, ◌∙◌, arith, append-nil, ServiceDeskState, ServicesState, Reported, Notice, refusal, NcpFault, Request}
+use Rattle.std.proofs.lemmas.List.{append_assoc}
+use Rattle.host_services.specs.Services.{noticing, reporting, serving, typing_on}
 use Rattle.host_services.specs.Turns.{all_heard, asked_by, asks, became, notice_heard, heard_by, line_told, lines_told, server_asked, server_asks, server_ends, services_told, tried, tried_by, tries, user_asked, user_asks, user_ends}
 use Rattle.host_services.specs.declared.report.Report.{Report}
 use Rattle.host_services.specs.declared.report.Report.TheVariants as report
-use Rattle.host_services.specs.declared.report.Reported.{Reported}
 use Rattle.host_services.specs.declared.service.Service.{Service}
 use Rattle.host_services.specs.declared.service.Service.TheVariants as service
-use Rattle.host_pairs.specs.declared.notice.Notice.{Notice}
 use Rattle.icp.specs.Outcomes.{IcpTurn}
 use Rattle.icp.specs.Server.{ServerState, server_local, server_turn}
 use Rattle.icp.specs.User.{UserState, user_local, user_turn}
 use Rattle.icp.specs.declared.outcome.Outcome.{Outcome}
 use Rattle.icp.specs.declared.outcome.Outcome.TheVariants as outcome
-use Rattle.sockets.specs.Requests.{refusal}
-use Rattle.sockets.specs.declared.fault.NcpFault.{NcpFault}
-use Rattle.sockets.specs.declared.request.Request.{Request}
 use Rattle.std.specs.Option.{option_or}
 use Rattle.terminal.specs.Ends.{first_requests}
 use Rattle.terminal.specs.Machines.{echo_turn, terminal_turn}

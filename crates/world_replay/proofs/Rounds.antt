@@ -1,25 +1,11 @@
 -- A calm that is printed round by round shows what the whole calm shows.
-use Rattle.std.proofs.Common.{◌≡◌, ℕ, ◌+◌, ◌-◌, ◌<◌, ◌≤◌, zero, suc, Bool, true, false, List, [], ◌++◌, Option, Result, Ok, Err, refl, ap, sym, subst, ◌∙◌, arith}
-use Rattle.std.proofs.lemmas.List.{append-nil}
-use Rattle.std.proofs.lemmas.Bool.{false≢true}
-use Rattle.std.specs.Bool.{MatchBool}
-use Rattle.std.specs.Io.KnownBytes.{Appends}
-use Rattle.std.proofs.KnownBytes.{Appends-nil, Appends-trans}
-use Rattle.net_sim.specs.World.{CalmGives, Calms, Does, Refuses, TurnsOf, WorldState, stops, up_in}
-use Rattle.interface.specs.Calls.{Calls}
-use Rattle.net_sim.specs.declared.event.WorldFault.{WorldFault}
-use Rattle.net_sim.specs.declared.event.WorldFault.TheVariants.{Carrier}
+use Rattle.world_replay.proofs.Common.{◌≡◌, ℕ, ◌+◌, ◌-◌, ◌<◌, ◌≤◌, zero, suc, Bool, true, false, List, [], ◌++◌, Option, Result, Ok, Err, refl, ap, sym, subst, ◌∙◌, arith, append-nil, false≢true, MatchBool, Appends, Appends-nil, Appends-trans, CalmGives, Calms, Does, Refuses, TurnsOf, WorldState, stops, up_in, Calls, WorldFault, Carrier, ReplayFault, Detail, output, BeginsWith, EventEnds, OneEnds, WorldEvent}
 use Rattle.interface.specs.declared.carrier.CarrierFault.TheVariants as carrier
-use Rattle.replay.specs.declared.events.ReplayFault.{ReplayFault}
 use Rattle.replay.specs.declared.events.ReplayFault.TheVariants as fault
-use Rattle.replay.specs.declared.print.Detail.{Detail}
-use Rattle.world_replay.specs.Output.{Shown, output, shown_refusal}
-use Rattle.world_replay.specs.Replay.{BeginsWith}
-use Rattle.world_replay.specs.Steps.{EventEnds, OneEnds}
+use Rattle.world_replay.specs.Output.{Shown, shown_refusal}
 use Rattle.world_replay.proofs.Grown.{Grew, grew_more, grew_none}
 use Rattle.world_replay.proofs.News.{output-append}
 use Rattle.world_replay.proofs.Replays.{calm_grows, gained, gained_more, gains_once, same_news}
-use Rattle.world_script.specs.declared.event.WorldEvent.{WorldEvent}
 use Rattle.world_script.specs.declared.event.WorldEvent.TheVariants as event
 
 -- ---- an event that is printed at once

@@ -1,9 +1,6 @@
 -- What is handed on after the last of several events.
-use Rattle.std.proofs.Common.{Bool, List, [], ◌∷◌, ◌++◌, OnOk, Result, Ok, Err}
-use Rattle.interface.specs.Calls.{Calls}
-use Rattle.net_sim.specs.World.{WorldState}
-use Rattle.world_replay.specs.Seen.{EndsSeen, IsSeen}
-use Rattle.world_script.specs.declared.event.WorldEvent.{WorldEvent}
+use Rattle.world_replay.proofs.Common.{Bool, List, [], ◌∷◌, ◌++◌, OnOk, Result, Ok, Err, Calls, WorldState, EndsSeen, WorldEvent}
+use Rattle.world_replay.specs.Seen.{IsSeen}
 
 pub whether_ok : {T E Q : Type 0} (r : Result T E) → Q → OnOk r Q
 whether_ok (Ok x) q = q

@@ -1,32 +1,16 @@
 -- A settled carrier leaves a world no choice.
-use Rattle.std.proofs.Common.{◌≡◌, ◌||◌, inl, inr, ℕ, zero, suc, Bool, true, false, List, [], ◌∷◌, length, nat_lt, Option, Some, None, Result, Ok, Err, refl, sym, ap, subst, ◌∙◌}
-use Rattle.std.proofs.lemmas.Bool.{false≢true}
-use Rattle.std.specs.Bool.{MatchBool}
-use Rattle.interface.specs.Calls.{Calls, crossing_of, step_crossings, is_memory, is_halt}
-use Rattle.interface.specs.Host.{Host}
+use Rattle.world_replay.proofs.Common.{◌≡◌, inl, inr, ℕ, zero, suc, Bool, true, false, List, [], ◌∷◌, length, nat_lt, Option, Some, None, Result, Ok, Err, refl, sym, ap, subst, ◌∙◌, false≢true, MatchBool, Calls, crossing_of, step_crossings, is_memory, Host, Kept, WorldState, seat_of, services_of, up_in, with_carrier, world_moved, changed, with_server, with_user, TypeGives, DoesOrHalts, stops, Refuses, Does, Halts, Passes, OfferEnds, OfferGives, TakeEnds, TakeGives, NetEnds, QuietEnds, AskGives, AtProgram, AtSeat, StepGives, Repeats, TurnsOf, Calms, CalmGives, Event, Net, Quiet, Offer, Take, Ask, Server, User, Typed, WorldFault, Carrier, Program, Seat, GoesOn, outcome_of, AreSettled, accepted, NcpState, refusal, next_out, offered, NcpFault, Request, line_bits}
+use Rattle.std.proofs.Common.{◌||◌}
+use Rattle.interface.specs.Calls.{is_halt}
 use Rattle.interface.specs.declared.carrier.CarrierFault.{CarrierFault}
 use Rattle.interface.specs.declared.carrier.CarrierFault.TheVariants as fault
 use Rattle.interface.specs.declared.crossing.Crossing.TheVariants as crossing
 use Rattle.interface.specs.declared.crossing.Inbound.{Inbound}
 use Rattle.interface.specs.declared.event.NetEvent.{NetEvent}
 use Rattle.interface.specs.declared.message.HostMessage.{HostMessage}
-use Rattle.net_sim.specs.Book.{Kept}
-use Rattle.net_sim.specs.World.{WorldState, seat_of, services_of, up_in, with_carrier, world_moved, changed, with_server, with_user, TypeGives, DoesOrHalts, stops, wants_memory, Refuses, Does, Halts, Passes, OfferEnds, OfferGives, TakeEnds, TakeGives, NetEnds, QuietEnds, AskGives, AtProgram, AtSeat, EventGives, StepGives, Repeats, TurnsOf, Calms, CalmGives}
-use Rattle.net_sim.specs.declared.event.Event.{Event}
-use Rattle.net_sim.specs.declared.event.Event.TheVariants.{Net, Quiet, Offer, Take, Ask, Server, User, Typed}
-use Rattle.net_sim.specs.declared.event.WorldFault.{WorldFault}
-use Rattle.net_sim.specs.declared.event.WorldFault.TheVariants.{Carrier, Program}
-use Rattle.net_sim.specs.declared.seat.Seat.{Seat}
-use Rattle.replay.specs.Replay.{GoesOn, outcome_of}
-use Rattle.replay.specs.Settled.{AreSettled, SameEnd}
-use Rattle.sockets.specs.Accepting.{accepted}
-use Rattle.sockets.specs.Pairs.{NcpState}
-use Rattle.sockets.specs.Requests.{refusal}
-use Rattle.sockets.specs.Sending.{next_out, offered}
-use Rattle.sockets.specs.declared.fault.NcpFault.{NcpFault}
-use Rattle.sockets.specs.declared.request.Request.{Request}
+use Rattle.net_sim.specs.World.{wants_memory, EventGives}
+use Rattle.replay.specs.Settled.{SameEnd}
 use Rattle.sockets.specs.declared.request.Request.TheVariants as request
-use Rattle.host_services.specs.TypedLines.{line_bits}
 use Rattle.world_replay.proofs.Grown.{Grew, begins, grew_more, grew_same, step_grows, step_kept}
 
 -- ---- what goes one way

@@ -1,15 +1,10 @@
 -- Events by which something crosses until two messages have.
-use Rattle.std.proofs.Common.{◌≡◌, ◌⊎◌, inl, inr, ℕ, zero, suc, ◌<◌, List, [], ◌∷◌, ◌++◌, length, refl, ap, sym, subst, ◌∙◌, arith}
-use Rattle.std.proofs.lemmas.Bool.{false≢true}
+use Rattle.world_replay.proofs.Common.{◌≡◌, ◌⊎◌, ℕ, zero, suc, ◌<◌, List, [], ◌∷◌, ◌++◌, length, refl, ap, sym, subst, ◌∙◌, arith, false≢true, WorldState, Event, Offer, Quiet, Take, Happening, HappensOnce, InTurn, in_turn_once, first, Again, EndsAgain, EndsRepeated, Repeated, RoundOf, crosses, turns_in, tally}
+use Rattle.std.proofs.Common.{inl, inr}
 use Rattle.std.proofs.lemmas.List.{append_assoc}
-use Rattle.net_sim.specs.World.{WorldState}
-use Rattle.net_sim.specs.declared.event.Event.{Event}
-use Rattle.net_sim.specs.declared.event.Event.TheVariants.{Offer, Quiet, Take}
-use Rattle.replay.specs.InTurn.{EndsInTurn, Happening, HappensOnce, InTurn}
-use Rattle.replay.proofs.lemmas.{in_turn_once}
-use Rattle.sockets.specs.Worked.{first}
-use Rattle.world_replay.specs.Rounds.{Again, EndsAgain, EndsRepeated, EndsRound, Repeated, RoundOf, crosses, turns_in}
-use Rattle.world_replay.specs.Worked.{Fails, Ticks, tally}
+use Rattle.replay.specs.InTurn.{EndsInTurn}
+use Rattle.world_replay.specs.Rounds.{EndsRound}
+use Rattle.world_replay.specs.Worked.{Fails, Ticks}
 use Rattle.world_replay.proofs.Turns.{again_once, repeated_once}
 
 ticks_once : HappensOnce Ticks

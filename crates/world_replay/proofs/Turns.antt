@@ -1,23 +1,12 @@
 -- A round of a calm is its events in their order.
-use Rattle.std.proofs.Common.{◌≡◌, inl, inr, ℕ, zero, suc, Bool, true, false, List, [], ◌∷◌, ◌++◌, Result, Ok, Err, refl, ap, ap₂, sym, subst, ◌∙◌}
-use Rattle.std.proofs.lemmas.Bool.{false≢true}
-use Rattle.std.proofs.lemmas.List.{append-nil, append_assoc}
-use Rattle.std.specs.Bool.{MatchBool}
+use Rattle.world_replay.proofs.Common.{◌≡◌, inl, inr, ℕ, zero, suc, Bool, true, false, List, [], ◌∷◌, ◌++◌, Result, Ok, Err, refl, ap, ap₂, sym, subst, ◌∙◌, false≢true, append-nil, MatchBool, Calls, Host, Calms, Does, QuietEnds, Refuses, Repeats, StepGives, TurnsOf, WorldState, stops, up_in, Event, Offer, Quiet, Take, WorldFault, Carrier, Seat, Happening, HappensOnce, InTurn, ShowsFront, HappensInCalm, Again, EndsAgain, EndsRepeated, Repeated, RoundOf, crosses}
+use Rattle.std.proofs.lemmas.List.{append_assoc}
 use Rattle.std.specs.List.{flat_map}
-use Rattle.interface.specs.Calls.{Calls}
-use Rattle.interface.specs.Host.{Host}
 use Rattle.interface.specs.declared.carrier.CarrierFault.{CarrierFault}
 use Rattle.interface.specs.declared.carrier.CarrierFault.TheVariants as fault
-use Rattle.net_sim.specs.World.{Calms, Does, QuietEnds, Refuses, Repeats, StepGives, TurnsOf, WorldState, stops, up_in}
-use Rattle.net_sim.specs.declared.event.Event.{Event}
-use Rattle.net_sim.specs.declared.event.Event.TheVariants.{Offer, Quiet, Take}
-use Rattle.net_sim.specs.declared.event.WorldFault.{WorldFault}
-use Rattle.net_sim.specs.declared.event.WorldFault.TheVariants.{Carrier}
-use Rattle.net_sim.specs.declared.seat.Seat.{Seat}
-use Rattle.replay.specs.InTurn.{Happening, HappensOnce, InTurn, ShowsFront}
 use Rattle.world_replay.specs.Output.{Shown}
-use Rattle.world_replay.specs.Replay.{Happens, HappensInCalm}
-use Rattle.world_replay.specs.Rounds.{Again, EndsAgain, EndsRepeated, Repeated, RoundOf, crosses, turn_of}
+use Rattle.world_replay.specs.Replay.{Happens}
+use Rattle.world_replay.specs.Rounds.{turn_of}
 use Rattle.world_replay.proofs.CalmRounds.{Gained, calm_gained, more_gained, none_gained, runs_at, steps_run}
 use Rattle.world_replay.proofs.Grown.{Grew, begins, step_grows}
 use Rattle.world_replay.proofs.Replays.{gained, gains_once, same_news}

@@ -1,24 +1,13 @@
 -- A calm is traced round by round, a round event by event.
-use Rattle.std.proofs.Common.{◌≡◌, inl, inr, ℕ, zero, suc, ◌<◌, ◌≤◌, ◌+◌, ◌-◌, true, false, List, [], ◌∷◌, ◌++◌, Option, Ok, Err, arith, refl, sym, ap, subst, ◌∙◌}
+use Rattle.world_trace.proofs.Common.{◌≡◌, inl, inr, ℕ, zero, suc, ◌<◌, ◌≤◌, ◌+◌, true, false, List, [], ◌∷◌, ◌++◌, Option, Ok, Err, arith, refl, sym, ap, subst, ◌∙◌, append_assoc, append-nil, Appends, Calls, IsAtRest, WorldState, Event, Quiet, appends_more, appends_none, last_shown, last_written, one_written, Happening, InTurn, text_of, ReplayFault, WritesTrace, Spot, when_false, Again, Repeated, crosses, turns_in, AgainEnds, EventEnds, RoundEnds, StepEnds, MayTell, StopsOne, TellsInCalm, TellsRound, first_rounds}
+use Rattle.std.proofs.Common.{◌-◌}
 use Rattle.std.proofs.lemmas.Bool.{cases_lt}
-use Rattle.std.proofs.lemmas.List.{append_assoc, append-nil}
-use Rattle.std.specs.Io.KnownBytes.{Appends}
-use Rattle.interface.specs.Calls.{Calls}
-use Rattle.net_sim.specs.Rest.{IsAtRest}
-use Rattle.net_sim.specs.World.{WorldState}
-use Rattle.net_sim.specs.declared.event.Event.{Event}
-use Rattle.net_sim.specs.declared.event.Event.TheVariants.{Quiet}
-use Rattle.replay.proofs.lemmas.{appends_more, appends_none, last_shown, last_written, one_written, text_of-append}
-use Rattle.replay.specs.InTurn.{Happening, InTurn, text_of}
-use Rattle.replay.specs.declared.events.ReplayFault.{ReplayFault}
+use Rattle.replay.proofs.lemmas.{text_of-append}
 use Rattle.replay.specs.declared.events.ReplayFault.TheVariants as fault
-use Rattle.trace.specs.Traces.{WritesTrace}
-use Rattle.trace.specs.declared.element.Spot.{Spot}
-use Rattle.world_replay.proofs.lemmas.{when_false, when_true}
-use Rattle.world_replay.specs.Rounds.{Again, EndsAgain, EndsRepeated, Repeated, crosses, turns_in}
+use Rattle.world_replay.proofs.lemmas.{when_true}
+use Rattle.world_replay.specs.Rounds.{EndsAgain, EndsRepeated}
 use Rattle.world_script.specs.declared.event.WorldEvent.TheVariants as world
-use Rattle.world_trace.specs.Steps.{AgainEnds, EndsRoundAt, EventEnds, RoundEnds, StepEnds}
-use Rattle.world_trace.specs.Traces.{MayTell, StopsOne, TellsInCalm, TellsRound, first_rounds}
+use Rattle.world_trace.specs.Steps.{EndsRoundAt}
 use Rattle.world_trace.proofs.Resting.{round_rests}
 use Rattle.world_trace.proofs.Telling.{SoFar, all_done, ends_so, fails_so, no_line, none_yet}
 

@@ -1,20 +1,8 @@
 -- Commands have texts of their own.
-use Rattle.std.proofs.Common.{◌≡◌, ℕ, Bool, true, false, List, [], ◌∷◌, codes, if◌then◌else◌, length, slice_index_or, refl, sym, ap, ap₂, subst, ◌∙◌, arith}
-use Rattle.std.proofs.lemmas.Bool.{false≢true}
-use Rattle.std.proofs.lemmas.List.Elements.{All-head, All-tail}
-use Rattle.std.specs.Fmt.{decimal}
-use Rattle.std.specs.List.{All}
-use Rattle.std.specs.Str.{bytes_eq}
-use Rattle.hex.specs.Hex.{IsBytes, encode_upper}
-use Rattle.ncp_control.specs.declared.command.Command.{Command}
+use Rattle.world_trace.proofs.Common.{◌≡◌, ℕ, Bool, true, false, List, [], ◌∷◌, codes, if◌then◌else◌, length, refl, sym, ap, ap₂, subst, ◌∙◌, arith, false≢true, All-head, All-tail, decimal, All, bytes_eq, IsBytes, encode_upper, Command, unmarked_where, Lacks, IsShort, member, object, quoted, AreClosed, IsClosed, Spelled, also_closed, decimal_closed, first_same, member_once, none_closed, object_closed, object_once, quoted_once, rest_same, short_once, string_closed, command_object, IsCommandTold}
+use Rattle.std.proofs.Common.{slice_index_or}
 use Rattle.ncp_control.specs.declared.command.Command.TheVariants as command
-use Rattle.script.proofs.lemmas.{unmarked_where}
-use Rattle.script.specs.Steps.{Lacks}
-use Rattle.trace.specs.Named.{IsShort}
-use Rattle.trace.specs.Texts.{member, object, quoted}
-use Rattle.trace.proofs.lemmas.{AreClosed, IsClosed, Spelled, also_closed, decimal_closed, first_same, member_once, none_closed, object_closed, object_once, quoted_once, rest_same, short_once, string_closed}
-use Rattle.world_trace.specs.Texts.{command_object}
-use Rattle.world_trace.specs.Told.{IsCommandTold, numbers_of, quoted_by}
+use Rattle.world_trace.specs.Told.{numbers_of, quoted_by}
 use Rattle.world_trace.proofs.Fields.{AreNames, all_names, are_names, octets_spelled}
 
 -- ---- words

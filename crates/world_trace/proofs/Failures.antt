@@ -1,12 +1,7 @@
 -- What happened where a write failed.
-use Rattle.std.proofs.Common.{◌≡◌, ℕ, List, [], ◌∷◌, ◌++◌, ap, arith, length}
-use Rattle.std.proofs.lemmas.List.{length-append}
-use Rattle.interface.specs.Calls.{Calls}
-use Rattle.net_sim.specs.World.{WorldState}
-use Rattle.net_sim.specs.declared.event.Event.{Event}
-use Rattle.trace.specs.declared.element.Spot.{Spot}
+use Rattle.world_trace.proofs.Common.{◌≡◌, ℕ, List, [], ◌∷◌, ◌++◌, ap, arith, length, length-append, Calls, WorldState, Event, Spot, MayTell}
 use Rattle.world_script.specs.declared.event.WorldEvent.TheVariants as world
-use Rattle.world_trace.specs.Traces.{EndsAt, MayTell}
+use Rattle.world_trace.specs.Traces.{EndsAt}
 
 pub row_nothing : {C : Type 0} (calls : Calls C) (members : C → List (List ℕ)) (spot : Spot) (old new : WorldState C) (lines : List (List ℕ)) → EndsAt calls members (MayTell calls) spot old (world.Calm 0) new lines → ⊥
 row_nothing calls members spot old new lines h =

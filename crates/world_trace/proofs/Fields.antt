@@ -1,20 +1,13 @@
 -- Objects whose members have fixed names, and values that have texts of their own.
-use Rattle.std.proofs.Common.{◌≡◌, ℕ, ◌==◌, Bool, true, false, List, [], ◌∷◌, ◌++◌, codes, if◌then◌else◌, length, Option, Some, None, IfSome, Ok, refl, sym, ap, ap₂, subst, ◌∙◌, arith, lit<}
-use Rattle.std.proofs.lemmas.Bool.{false≢true}
+use Rattle.world_trace.proofs.Common.{◌≡◌, ℕ, ◌==◌, Bool, true, false, List, [], ◌∷◌, ◌++◌, codes, if◌then◌else◌, length, Option, Some, None, IfSome, Ok, refl, sym, ap, ap₂, subst, ◌∙◌, arith, false≢true, append_assoc, All-cons, All-head, All-tail, decimal, All, IsBytes, encode_upper, Lacks, IsShort, bits_members, member, object, quoted, Any, AreClosed, IsClosed, Spelled, also_closed, decimal_closed, first_same, member_once, none_closed, object_closed, object_once, quoted_once, rest_same, short_once, string_closed, number_text}
+use Rattle.std.proofs.Common.{lit<}
 use Rattle.std.proofs.lemmas.Fmt.{decimal_is_IsNumeral_wide}
-use Rattle.std.proofs.lemmas.List.{append_assoc}
-use Rattle.std.proofs.lemmas.List.Elements.{All-cons, All-head, All-tail}
-use Rattle.std.specs.Fmt.{decimal}
-use Rattle.std.specs.List.{All, list_any}
+use Rattle.std.specs.List.{list_any}
 use Rattle.std.specs.Str.Parse.{IsNumeral}
 use Rattle.hex.proofs.HexLemmas.{decode_of-encode_upper}
-use Rattle.hex.specs.Hex.{IsBytes, decode_of, encode_upper}
+use Rattle.hex.specs.Hex.{decode_of}
 use Rattle.script.proofs.lemmas.{spelled_digits}
-use Rattle.script.specs.Steps.{Lacks}
-use Rattle.trace.specs.Named.{IsShort}
-use Rattle.trace.specs.Texts.{bits_members, member, object, quoted}
-use Rattle.trace.proofs.lemmas.{Any, AreClosed, IsClosed, Spelled, also_closed, bits_closed, bits_same, decimal_closed, digits_lack, first_same, member_once, none_closed, object_closed, object_once, quoted_once, rest_same, short_once, string_closed, word_closed}
-use Rattle.world_trace.specs.Texts.{number_text}
+use Rattle.trace.proofs.lemmas.{bits_closed, bits_same, digits_lack, word_closed}
 
 -- ---- members
 

@@ -1,3 +1,4 @@
+pub mod Common
 mod Calms
 mod Carriers
 mod Changing

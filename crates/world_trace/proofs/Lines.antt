@@ -1,10 +1,5 @@
 -- The pieces of a line.
-use Rattle.std.proofs.Common.{◌≡◌, ℕ, List, [], ◌∷◌, ◌++◌, codes, Option, ap, refl, subst, sym, ◌∙◌}
-use Rattle.std.proofs.lemmas.List.{append_assoc}
-use Rattle.std.specs.Io.KnownBytes.{Appends}
-use Rattle.replay.proofs.lemmas.{appends_more}
-use Rattle.script.specs.Input.{ended_line}
-use Rattle.trace.specs.Texts.{member, object, quoted}
+use Rattle.world_trace.proofs.Common.{◌≡◌, ℕ, List, [], ◌∷◌, ◌++◌, codes, Option, ap, refl, subst, sym, ◌∙◌, append_assoc, Appends, appends_more, ended_line, member, object, quoted}
 
 -- programs and services, and the end of a line
 abbrev hosts : List ℕ → List ℕ → List ℕ

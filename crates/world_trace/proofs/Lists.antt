@@ -1,15 +1,11 @@
 -- Lists are shown item by item.
-use Rattle.std.proofs.Common.{◌≡◌, ℕ, ◌+◌, ◌/◌, ◌%◌, ◌<◌, ◌≤◌, drop, slice_index, List, [], ◌∷◌, ◌++◌, codes, length, map, take, get_or, refl, ap, sym, ◌∙◌}
-use Rattle.std.proofs.lemmas.List.{append_assoc, append-nil, drop_all, take_more, map-append}
+use Rattle.world_trace.proofs.Common.{◌≡◌, ℕ, ◌+◌, ◌%◌, ◌<◌, ◌≤◌, drop, List, [], ◌∷◌, ◌++◌, codes, length, map, take, get_or, refl, ap, sym, ◌∙◌, append_assoc, append-nil, drop_all, map-append, flat_map, all_in, Service, encode_upper, array, mark_after, marked, service_object}
+use Rattle.std.proofs.Common.{◌/◌, slice_index}
+use Rattle.std.proofs.lemmas.List.{take_more}
 use Rattle.std.proofs.lemmas.Grind.{flat_map-append}
-use Rattle.std.specs.List.{flat_map}
-use Rattle.host_services.specs.Ears.{all_in}
-use Rattle.host_services.specs.declared.service.Service.{Service}
-use Rattle.hex.specs.Hex.{encode_upper, encode_with, upper_digits}
+use Rattle.hex.specs.Hex.{encode_with, upper_digits}
 use Rattle.hex.proofs.Pairs.{encode_with-drop}
-use Rattle.trace.specs.Texts.{array, further, listed}
-use Rattle.world_trace.specs.Steps.{mark_after, marked}
-use Rattle.world_trace.specs.Texts.{service_object}
+use Rattle.trace.specs.Texts.{further, listed}
 
 abbrev after_comma : List ℕ → List ℕ
 after_comma y = codes "," ++ y

@@ -1,14 +1,6 @@
 -- Calls of a carrier as events of a raw network.
-use Rattle.std.proofs.Common.{◌≡◌, List, [], ◌∷◌, ◌++◌, ap, arith, refl, subst}
-use Rattle.std.proofs.lemmas.List.Elements.{All-head}
-use Rattle.std.specs.List.{All}
-use Rattle.interface.specs.Host.{Host}
-use Rattle.script.specs.declared.event.RawEvent.{RawEvent}
+use Rattle.world_trace.proofs.Common.{◌≡◌, List, [], ◌∷◌, ◌++◌, ap, arith, refl, subst, All-head, All, Host, RawEvent, first, second, IsOfRound, Raw, Round, AreMade}
 use Rattle.script.specs.declared.event.RawEvent.TheVariants as raw
-use Rattle.sockets.specs.Worked.{first, second}
-use Rattle.subnet_trace.specs.Elements.{IsOfRound}
-use Rattle.world_replay.specs.Driven.{Raw, Round}
-use Rattle.world_trace.specs.Carriers.{AreMade}
 
 pub one_made : AreMade (Raw (raw.Take first) ∷ []) (raw.Take first ∷ [])
 one_made = ([], refl, refl)

@@ -1,26 +1,15 @@
 -- Small carriers as raw networks.
-use Rattle.std.proofs.Common.{◌≡◌, inl, ℕ, List, [], ◌∷◌, ◌++◌, Ok, reverse, refl, ap, ap₂, sym, subst, ◌∙◌, arith}
-use Rattle.std.proofs.lemmas.List.{append-nil}
-use Rattle.std.proofs.lemmas.List.Elements.{All-cons, All-head, All-nil, All-tail}
-use Rattle.std.specs.List.{All}
-use Rattle.interface.specs.Calls.{Calls}
+use Rattle.world_trace.proofs.Common.{◌≡◌, inl, ℕ, List, [], ◌∷◌, ◌++◌, Ok, reverse, refl, ap, ap₂, sym, subst, ◌∙◌, arith, append-nil, All-cons, All-head, All-nil, All-tail, All, Calls, WorldState, Event, InTurn, IsOneCall, RawEvent, IsOfRound, Drive, IsDriven, IsDrivenIn, Raw, Round, AreMade, IsRawNetwork}
 use Rattle.interface.specs.declared.event.NetEvent.{NetEvent}
 use Rattle.interface.specs.declared.event.NetEvent.TheVariants as net
-use Rattle.net_sim.specs.World.{WorldState}
-use Rattle.net_sim.specs.declared.event.Event.{Event}
 use Rattle.net_sim.specs.declared.event.Event.TheVariants as event
-use Rattle.replay.specs.InTurn.{InTurn}
 use Rattle.replay.specs.Output.{Shown, crossings_of}
-use Rattle.replay.specs.Replay.{Happens, IsOneCall, Replays}
+use Rattle.replay.specs.Replay.{Happens, Replays}
 use Rattle.replay.specs.Worked.{counting}
 use Rattle.replay.proofs.lemmas.{replays_show}
-use Rattle.script.specs.declared.event.RawEvent.{RawEvent}
 use Rattle.script.specs.declared.event.RawEvent.TheVariants as raw
-use Rattle.subnet_trace.specs.Elements.{IsOfRound}
-use Rattle.world_replay.specs.Driven.{Drive, IsDriven, IsDrivenIn, Raw, Round}
 use Rattle.world_replay.specs.Worked.{after, went}
 use Rattle.world_script.specs.declared.event.WorldEvent.TheVariants.{Happen}
-use Rattle.world_trace.specs.Carriers.{AreMade, IsRawNetwork}
 use Rattle.world_trace.specs.Worked.{counting_rounds, crossing_always}
 
 abbrev again : NetEvent

@@ -1,14 +1,10 @@
 -- A round whose events have lines passes as in a replay.
-use Rattle.std.proofs.Common.{inl, inr, ℕ, List, []}
-use Rattle.interface.specs.Calls.{Calls}
-use Rattle.net_sim.specs.World.{WorldState}
-use Rattle.trace.specs.declared.element.Spot.{Spot}
+use Rattle.world_trace.proofs.Common.{inl, inr, ℕ, List, [], Calls, WorldState, Spot, HappensInCalm, TellsInCalm, TellsRound}
 use Rattle.world_replay.proofs.lemmas.Accounts.{AreParts, ShowsAs, round_as}
 use Rattle.world_replay.proofs.lemmas.{round_calm}
 use Rattle.world_replay.specs.Output.{Shown}
-use Rattle.world_replay.specs.Replay.{Happens, HappensInCalm}
+use Rattle.world_replay.specs.Replay.{Happens}
 use Rattle.world_script.specs.declared.event.WorldEvent.TheVariants as world
-use Rattle.world_trace.specs.Traces.{TellsInCalm, TellsRound}
 
 -- whatever is shown
 abbrev Any : List (List ℕ) → List Shown → Type 0

@@ -1,30 +1,22 @@
 -- Texts say all of a world over plain mailboxes to which a replay comes.
-use Rattle.std.proofs.Common.{◌≡◌, ◌||◌, inl, inr, suc, Bool, true, false, not, if◌then◌else◌, List, [], ◌∷◌, ◌++◌, length, Option, Some, None, reverse, refl, ap, sym, subst, ◌∙◌, arith}
-use Rattle.std.proofs.lemmas.Bool.{false≢true}
-use Rattle.std.proofs.lemmas.List.Elements.{All-append, All-cons, All-head, All-nil, All-tail}
-use Rattle.std.specs.List.{All}
-use Rattle.interface.specs.Host.{Host, is_host, same_host}
+use Rattle.world_trace.proofs.Common.{◌≡◌, ◌||◌, inl, suc, Bool, true, false, if◌then◌else◌, List, [], ◌∷◌, ◌++◌, length, Option, Some, None, reverse, refl, ap, sym, subst, ◌∙◌, arith, false≢true, All-append, All-cons, All-head, All-nil, All-tail, All, Host, same_host, Crossing, same_host-true, Boxes, plain_calls, shown, Refused, IsOneCall, crossings_shown, IsHost, RawEvent, in_turn_then, IsWorldTold}
+use Rattle.std.proofs.Common.{inr, not}
+use Rattle.interface.specs.Host.{is_host}
 use Rattle.interface.specs.declared.CarrierFault.{CarrierFault}
 use Rattle.interface.specs.declared.CarrierFault.TheVariants as fault
 use Rattle.interface.specs.declared.HostMessage.{HostMessage}
-use Rattle.interface.specs.declared.crossing.Crossing.{Crossing}
 use Rattle.interface.specs.declared.crossing.Crossing.TheVariants as crossing
-use Rattle.interface.proofs.lemmas.{same_host-true}
-use Rattle.leader1822.specs.Boxes.{Boxes, opening_boxes, plain_calls}
-use Rattle.net_sim.specs.Carriers.{shown}
-use Rattle.replay.specs.Output.{Refused, Shown, crossings_of}
-use Rattle.replay.specs.Replay.{Happens, IsOneCall, Replays}
-use Rattle.replay.proofs.lemmas.{crossings_shown}
-use Rattle.script.specs.Spelling.{IsEvent, IsHost}
-use Rattle.script.specs.declared.event.RawEvent.{RawEvent}
+use Rattle.leader1822.specs.Boxes.{opening_boxes}
+use Rattle.replay.specs.Output.{Shown, crossings_of}
+use Rattle.replay.specs.Replay.{Happens, Replays}
+use Rattle.script.specs.Spelling.{IsEvent}
 use Rattle.script.specs.declared.event.RawEvent.TheVariants as raw
 use Rattle.trace.specs.Kept.{IsTold}
 use Rattle.trace.specs.Laws.Whole.{WholeTexts}
 use Rattle.trace.specs.Parts.{IsPart}
 use Rattle.trace.proofs.lemmas.{frame, left_of, reached}
-use Rattle.world_replay.proofs.lemmas.Driven.{in_turn_one, in_turn_then}
+use Rattle.world_replay.proofs.lemmas.Driven.{in_turn_one}
 use Rattle.world_trace.specs.Reached.{PlainStates}
-use Rattle.world_trace.specs.Told.{IsWorldTold}
 use Rattle.world_trace.proofs.Carriers.{plain_round}
 use Rattle.world_trace.proofs.States.{Keeps, reached_holds}
 use Rattle.world_trace.proofs.Whole.{reached_told, whole}

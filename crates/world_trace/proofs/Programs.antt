@@ -1,30 +1,14 @@
 -- The programs of hosts have texts of their own.
-use Rattle.std.proofs.Common.{◌≡◌, ℕ, ◌%◌, ◌==◌, Bool, true, false, List, [], ◌∷◌, codes, if◌then◌else◌, map, Option, Some, None, IfSome, refl, sym, ap, ap₂, subst, ◌∙◌, arith}
-use Rattle.std.proofs.lemmas.List.Elements.{All-cons, All-head, All-nil, All-tail}
-use Rattle.std.specs.Fmt.{decimal}
-use Rattle.std.specs.List.{All}
-use Rattle.std.specs.Str.{bytes_eq}
+use Rattle.world_trace.proofs.Common.{◌≡◌, ℕ, ◌%◌, ◌==◌, Bool, true, false, List, [], ◌∷◌, codes, if◌then◌else◌, map, Option, Some, None, IfSome, refl, sym, ap, ap₂, subst, ◌∙◌, arith, All-cons, All-head, All-nil, All-tail, decimal, All, bytes_eq, Entry, Host, host_text, Seat, unmarked_where, Lacks, NcpState, Peer, IsHostNamed, IsShort, array, bits_members, bool_text, member, object, quoted, Any, AreClosed, IsClosed, Spelled, bool_spelled, decimal_closed, first_same, host_spelled, host_words, lists_spelled, member_closed, member_once, none_closed, object_once, rest_same, short_once, string_closed, kind_text, ProgramLasts, SeatLasts, allocation_object, closings_object, command_object, number_text, requests_object, seat_member, IsCommandTold, IsListenerTold, IsPairTold, IsSeatTold}
 use Rattle.host_pairs.specs.declared.entry.Closing.{Closing}
 use Rattle.host_pairs.specs.declared.entry.Closing.TheVariants as closing
-use Rattle.host_pairs.specs.declared.entry.Entry.{Entry}
 use Rattle.host_pairs.specs.declared.listener.Listener.{Listener}
-use Rattle.interface.specs.Host.{Host}
-use Rattle.interface.specs.Printed.{host_text}
 use Rattle.ncp_control.specs.declared.allocation.Allocation.{Allocation}
 use Rattle.ncp_control.specs.declared.phase.Phase.{Phase}
 use Rattle.ncp_control.specs.declared.phase.Phase.TheVariants as phase
-use Rattle.net_sim.specs.declared.seat.Seat.{Seat}
-use Rattle.script.proofs.lemmas.{unmarked_where}
-use Rattle.script.specs.Steps.{Lacks}
-use Rattle.sockets.specs.Pairs.{NcpState}
-use Rattle.sockets.specs.declared.peer.Peer.{Peer}
-use Rattle.trace.specs.Named.{IsHostNamed, IsShort}
-use Rattle.trace.specs.Texts.{array, bits_members, bool_text, member, object, quoted}
-use Rattle.trace.proofs.lemmas.{Any, AreClosed, IsClosed, Spelled, Words, bool_spelled, decimal_closed, first_same, host_spelled, host_words, lists_spelled, member_closed, member_once, none_closed, object_once, rest_same, short_once, string_closed, strings_spelled}
-use Rattle.world_replay.specs.Printed.{kind_text}
-use Rattle.world_trace.specs.Lasting.{ProgramLasts, SeatLasts}
-use Rattle.world_trace.specs.Texts.{allocation_object, closing_word, closings_object, command_object, end_object, listener_object, number_text, pair_object, phase_word, program_text, programs_text, requests_object, seat_member}
-use Rattle.world_trace.specs.Told.{IsAllocationTold, IsCommandTold, IsEndTold, IsListenerTold, IsPairTold, IsProgramTold, IsSeatTold}
+use Rattle.trace.proofs.lemmas.{Words, strings_spelled}
+use Rattle.world_trace.specs.Texts.{closing_word, end_object, listener_object, pair_object, phase_word, program_text, programs_text}
+use Rattle.world_trace.specs.Told.{IsAllocationTold, IsEndTold, IsProgramTold}
 use Rattle.world_trace.proofs.CommandTexts.{command_spelled}
 use Rattle.world_trace.proofs.Fields.{also, bits_object, decimal_spelled, fields, fields_spelled, name_once, null_closed, number_spelled}
 

@@ -1,17 +1,10 @@
 -- The world after a trace is one that the replay of its script comes to.
-use Rattle.std.proofs.Common.{◌≡◌, ℕ, zero, suc, ◌+◌, List, [], ◌∷◌, ◌++◌, length, map, refl, subst, arith}
-use Rattle.std.proofs.lemmas.List.{length-append}
-use Rattle.interface.specs.Calls.{Calls}
-use Rattle.net_sim.specs.World.{WorldState, opening_world}
-use Rattle.replay.specs.InTurn.{InTurn}
-use Rattle.trace.specs.Traces.{numbered_from}
-use Rattle.trace.specs.declared.element.Spot.{Spot}
+use Rattle.world_trace.proofs.Common.{◌≡◌, ℕ, zero, suc, ◌+◌, List, [], ◌∷◌, ◌++◌, length, map, refl, subst, arith, length-append, Calls, WorldState, opening_world, InTurn, numbered_from, Spot, WorldEvent, TellsIn, TellsRound, TracesWorld, first_rounds}
 use Rattle.world_replay.specs.Output.{Shown}
 use Rattle.world_replay.specs.Replay.{Happens, Replays, rounds_of}
 use Rattle.world_replay.proofs.lemmas.CalmRounds.{rounds_calm}
-use Rattle.world_script.specs.declared.event.WorldEvent.{WorldEvent}
 use Rattle.world_script.specs.declared.event.WorldEvent.TheVariants as world
-use Rattle.world_trace.specs.Traces.{TellsAt, TellsIn, TellsRound, TracesWorld, first_rounds}
+use Rattle.world_trace.specs.Traces.{TellsAt}
 use Rattle.world_trace.proofs.Passing.{round_passes}
 use Rattle.world_trace.proofs.Unspent.Worlds.{Runs, happens_runs, opening_lasts}
 

@@ -1,20 +1,7 @@
 -- A world that rests: the events of a round change nothing, so that they have no lines.
-use Rattle.std.proofs.Common.{◌≡◌, inl, ℕ, suc, false, List, [], ◌∷◌, length, map, le-ltb, arith, refl, sym}
-use Rattle.std.proofs.lemmas.List.{append-nil}
-use Rattle.std.specs.List.{flat_map}
-use Rattle.interface.specs.Calls.{Calls}
-use Rattle.interface.specs.Host.{Host}
-use Rattle.net_sim.specs.Rest.{IsAtRest, Leaves}
-use Rattle.net_sim.specs.World.{WorldState, up_in}
-use Rattle.net_sim.specs.declared.event.Event.{Event}
-use Rattle.net_sim.specs.declared.event.Event.TheVariants.{Offer, Quiet, Take}
-use Rattle.replay.specs.InTurn.{InTurn}
-use Rattle.trace.proofs.lemmas.{none_changed}
-use Rattle.trace.specs.declared.element.Spot.{Spot}
-use Rattle.world_replay.proofs.lemmas.{when_false}
-use Rattle.world_replay.specs.Rounds.{Again, Repeated, crosses, turn_of}
-use Rattle.world_trace.specs.Texts.{seat_member, services_member}
-use Rattle.world_trace.specs.Traces.{TellsInCalm, TellsRound}
+use Rattle.world_trace.proofs.Common.{◌≡◌, inl, ℕ, suc, false, List, [], ◌∷◌, length, map, le-ltb, arith, refl, sym, append-nil, flat_map, Calls, Host, IsAtRest, WorldState, up_in, Event, Offer, Quiet, Take, InTurn, none_changed, Spot, when_false, Again, Repeated, crosses, seat_member, services_member, TellsInCalm, TellsRound}
+use Rattle.net_sim.specs.Rest.{Leaves}
+use Rattle.world_replay.specs.Rounds.{turn_of}
 
 module _ {C : Type 0} (calls : Calls C) (members : C → List (List ℕ)) (spot : Spot) (round : ℕ) where
   abbrev Tells : WorldState C → Event → WorldState C → List (List ℕ) → Type 0

@@ -1,27 +1,11 @@
 -- The services of hosts have texts of their own.
-use Rattle.std.proofs.Common.{◌≡◌, ℕ, Bool, List, [], ◌∷◌, ◌++◌, codes, map, Option, Some, None, IfSome, refl, sym, ap, ap₂, ◌∙◌}
+use Rattle.world_trace.proofs.Common.{◌≡◌, ℕ, Bool, List, [], ◌∷◌, ◌++◌, codes, map, Option, Some, None, IfSome, refl, sym, ap, ap₂, ◌∙◌, All-cons, All-head, All-nil, All-tail, decimal, All, encode_upper, ServicesState, Service, ServerState, UserState, Host, host_text, ServiceSeat, unmarked_where, EchoState, TerminalState, IsHostNamed, IsShort, array, bits_members, bool_text, member, object, quoted, Any, IsClosed, Spelled, bool_spelled, decimal_closed, first_same, host_spelled, host_words, lists_spelled, member_closed, member_once, none_closed, object_once, rest_same, short_once, string_closed, ServiceLasts, ServicesLast, asked_object, ends_object, number_text, service_object, services_member, sockets_object, IsServed, IsServiceTold}
 use Rattle.std.proofs.lemmas.List.{append_cancel_left}
-use Rattle.std.proofs.lemmas.List.Elements.{All-cons, All-head, All-nil, All-tail}
-use Rattle.std.specs.Fmt.{decimal}
-use Rattle.std.specs.List.{All}
-use Rattle.hex.specs.Hex.{encode_upper}
-use Rattle.host_services.specs.Services.{ServicesState}
-use Rattle.host_services.specs.declared.service.Service.{Service}
 use Rattle.host_services.specs.declared.service.Service.TheVariants as service
-use Rattle.icp.specs.Server.{ServerState}
-use Rattle.icp.specs.User.{UserState}
 use Rattle.icp.specs.declared.notices.Partner.{Partner}
-use Rattle.interface.specs.Host.{Host}
-use Rattle.interface.specs.Printed.{host_text}
-use Rattle.net_sim.specs.declared.seat.ServiceSeat.{ServiceSeat}
-use Rattle.script.proofs.lemmas.{unmarked_where}
-use Rattle.terminal.specs.Machines.{EchoState, TerminalState}
-use Rattle.trace.specs.Named.{IsHostNamed, IsShort}
-use Rattle.trace.specs.Texts.{array, bits_members, bool_text, member, object, quoted}
-use Rattle.trace.proofs.lemmas.{Any, IsClosed, Spelled, bool_spelled, decimal_closed, first_same, host_spelled, host_words, lists_spelled, member_closed, member_once, none_closed, object_once, other_first, rest_same, short_once, string_closed}
-use Rattle.world_trace.specs.Lasting.{ServiceLasts, ServicesLast}
-use Rattle.world_trace.specs.Texts.{asked_object, ends_object, met_object, number_text, partner_text, running_object, server_object, service_object, services_member, services_text, sockets_object, user_object}
-use Rattle.world_trace.specs.Told.{IsPartnerTold, IsServed, IsServiceTold}
+use Rattle.trace.proofs.lemmas.{other_first}
+use Rattle.world_trace.specs.Texts.{met_object, partner_text, running_object, server_object, services_text, user_object}
+use Rattle.world_trace.specs.Told.{IsPartnerTold}
 use Rattle.world_trace.proofs.Fields.{also, bits_object, fields, fields_spelled, name_once, null_closed, number_spelled, octets_spelled}
 use Rattle.world_trace.proofs.Programs.{no_word}
 

@@ -1,34 +1,18 @@
 -- What each call of a carrier keeps holds of the carrier of each world that the replay of a script comes to.
-use Rattle.std.proofs.Common.{◌≡◌, inl, inr, List, [], ◌∷◌, ◌++◌, Option, None, Some, Result, reverse, ap, refl, sym, subst, ◌∙◌}
-use Rattle.std.proofs.lemmas.List.{append-nil, reverse-append, reverse-reverse}
-use Rattle.std.proofs.lemmas.List.Elements.{All-append, All-cons, All-head, All-nil, All-same, All-tail}
-use Rattle.std.specs.List.{All}
+use Rattle.world_trace.proofs.Common.{◌≡◌, inl, inr, List, [], ◌∷◌, ◌++◌, Option, None, Some, Result, reverse, ap, refl, sym, subst, ◌∙◌, append-nil, reverse-append, reverse-reverse, All-append, All-cons, All-head, All-nil, All-same, All-tail, All, Calls, Host, Crossing, WorldState, opening_world, Event, Seat, InTurn, Refused, shown_crossings, GoesOn, IsMessage, IsNetEvent, NcpState, next_out, Drive, Goes, IsDriven, IsDrivenIn, Raw, Round, replay_drives, WorldEvent, IsReached, IsSaid}
 use Rattle.std.specs.Option.{option_and_then, option_map, option_to_list}
-use Rattle.interface.specs.Calls.{Calls}
-use Rattle.interface.specs.Host.{Host}
 use Rattle.interface.specs.declared.CarrierFault.{CarrierFault}
 use Rattle.interface.specs.declared.HostMessage.{HostMessage}
 use Rattle.interface.specs.declared.NetEvent.{NetEvent}
-use Rattle.interface.specs.declared.crossing.Crossing.{Crossing}
 use Rattle.interface.specs.declared.crossing.Crossing.TheVariants as crossing
-use Rattle.net_sim.specs.World.{WorldState, opening_world}
-use Rattle.net_sim.specs.declared.event.Event.{Event}
 use Rattle.net_sim.specs.declared.event.Event.TheVariants as event
-use Rattle.net_sim.specs.declared.seat.Seat.{Seat}
-use Rattle.replay.specs.InTurn.{InTurn}
-use Rattle.replay.specs.Output.{Refused, Shown, crossings_of, shown_crossings}
-use Rattle.replay.specs.Replay.{GoesOn, Happens}
-use Rattle.script.specs.Spelling.{IsMessage, IsNetEvent}
+use Rattle.replay.specs.Output.{Shown, crossings_of}
+use Rattle.replay.specs.Replay.{Happens}
 use Rattle.script.specs.declared.event.RawEvent.TheVariants as raw
-use Rattle.sockets.specs.Pairs.{NcpState}
-use Rattle.sockets.specs.Sending.{next_out}
-use Rattle.world_replay.specs.Driven.{Drive, Goes, IsCourse, IsDriven, IsDrivenIn, Raw, Round, call_of, program_of}
+use Rattle.world_replay.specs.Driven.{IsCourse, call_of, program_of}
 use Rattle.world_replay.specs.Replay.{IsOfCalm}
-use Rattle.world_replay.proofs.lemmas.Driven.{replay_drives}
 use Rattle.world_script.specs.WorldSpelling.{IsWorldEvent}
-use Rattle.world_script.specs.declared.event.WorldEvent.{WorldEvent}
 use Rattle.world_script.specs.declared.event.WorldEvent.TheVariants as script
-use Rattle.world_trace.specs.Reached.{IsReached, IsSaid}
 
 -- what the calls of a carrier keep, where events of the network and messages that cross are such as a script may ask for
 pub record Keeps {C : Type 0} (calls : Calls C) (Holds : C → Type 0) : Type 0 where

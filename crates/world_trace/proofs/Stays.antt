@@ -1,40 +1,17 @@
 -- What an event leaves as it was.
-use Rattle.std.proofs.Common.{◌≡◌, inl, inr, ℕ, suc, ◌≤◌, Bool, true, false, ◌||◌, List, [], ◌∷◌, length, map, Option, Some, None, Result, Ok, Err, arith, ap, refl, sym, subst, ◌∙◌}
-use Rattle.std.proofs.lemmas.Bool.{false≢true}
-use Rattle.interface.specs.Calls.{Calls, crossing_of, is_halt, is_memory}
-use Rattle.interface.specs.Host.{Host, same_host}
+use Rattle.world_trace.proofs.Common.{◌≡◌, inl, inr, ℕ, suc, ◌≤◌, Bool, true, false, ◌||◌, List, [], ◌∷◌, length, map, Option, Some, None, Result, Ok, Err, arith, ap, refl, sym, subst, ◌∙◌, false≢true, Calls, crossing_of, is_halt, is_memory, Host, same_host, Crossing, Notice, ServiceDeskState, ServicesState, opening_desk, line_bits, all_told, asked, crossed, shown, AskGives, AtSeat, DoesOrHalts, Halts, OfferEnds, OfferGives, QuietEnds, StepGives, TakeEnds, TakeGives, TypeGives, WorldState, noticed, seat_of, seated, serviced, services_of, stops, tended, wants_memory, with_program, with_server, with_services, with_user, world_heard, world_moved, Event, Ask, Offer, Quiet, Server, Take, Typed, User, WorldFault, Carrier, Program, Seat, ServiceSeat, accepted, NcpState, refusal, served, served_notices, next_out, offered, NcpFault, Request, HappensInCalm, AreOthers, IsAsBefore, IsStill, at_host, event_of, is_of_network, seat_place, service_place, seat_member, services_member, CalmEvent}
 use Rattle.interface.specs.declared.carrier.CarrierFault.{CarrierFault}
-use Rattle.interface.specs.declared.crossing.Crossing.{Crossing}
 use Rattle.interface.specs.declared.crossing.Crossing.TheVariants as crossing
 use Rattle.interface.specs.declared.crossing.Inbound.{Inbound}
 use Rattle.interface.specs.declared.message.HostMessage.{HostMessage}
-use Rattle.host_pairs.specs.declared.notice.Notice.{Notice}
-use Rattle.host_services.specs.Services.{ServiceDeskState, ServicesState, opening_desk}
 use Rattle.host_services.specs.Turns as services
-use Rattle.host_services.specs.TypedLines.{line_bits}
-use Rattle.net_sim.specs.Book.{all_told, asked, crossed}
-use Rattle.net_sim.specs.Carriers.{shown}
-use Rattle.net_sim.specs.World.{AskGives, AtSeat, DoesOrHalts, EventGives, Halts, OfferEnds, OfferGives, QuietEnds, StepGives, TakeEnds, TakeGives, TypeGives, WorldState, noticed, seat_of, seated, serviced, services_of, stops, tended, turn_of, wants_memory, with_program, with_server, with_services, with_user, world_heard, world_moved}
-use Rattle.net_sim.specs.declared.event.Event.{Event}
-use Rattle.net_sim.specs.declared.event.Event.TheVariants.{Ask, Net, Offer, Quiet, Server, Take, Typed, User}
-use Rattle.net_sim.specs.declared.event.WorldFault.{WorldFault}
-use Rattle.net_sim.specs.declared.event.WorldFault.TheVariants.{Carrier, Program}
-use Rattle.net_sim.specs.declared.seat.Seat.{Seat}
-use Rattle.net_sim.specs.declared.seat.ServiceSeat.{ServiceSeat}
-use Rattle.sockets.specs.Accepting.{accepted}
-use Rattle.sockets.specs.Pairs.{NcpState}
-use Rattle.sockets.specs.Requests.{refusal, served, served_notices}
-use Rattle.sockets.specs.Sending.{next_out, offered}
-use Rattle.sockets.specs.declared.fault.NcpFault.{NcpFault}
-use Rattle.sockets.specs.declared.request.Request.{Request}
+use Rattle.net_sim.specs.World.{EventGives, turn_of}
+use Rattle.net_sim.specs.declared.event.Event.TheVariants.{Net}
 use Rattle.sockets.specs.declared.request.Request.TheVariants as request
 use Rattle.world_replay.proofs.lemmas.Driven.{step_runs}
 use Rattle.world_replay.proofs.lemmas.{at_seat, if_stopped, one_crossed}
 use Rattle.world_replay.specs.Output.{Shown}
-use Rattle.world_replay.specs.Replay.{HappensInCalm}
-use Rattle.world_trace.specs.Steps.{AreOthers, IsAsBefore, IsStill, at_host, at_one, event_of, host_of, is_of_network, seat_place, service_place}
-use Rattle.world_trace.specs.Texts.{seat_member, services_member}
-use Rattle.world_trace.specs.declared.calm.CalmEvent.{CalmEvent}
+use Rattle.world_trace.specs.Steps.{at_one, host_of}
 use Rattle.world_trace.specs.declared.calm.CalmEvent.TheVariants as calm
 
 abbrev Answer : Type 0

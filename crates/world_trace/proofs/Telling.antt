@@ -1,39 +1,23 @@
 -- Events are traced one after the other, and one of them may be the last.
-use Rattle.std.proofs.Common.{Bool, true, false, nat_lt, lt-ltb, ◌≡◌, ◌⊎◌, inl, inr, ℕ, suc, ◌<◌, ◌+◌, List, [], ◌∷◌, ◌++◌, drop, get_or, length, reverse, Option, Some, Result, Ok, Err, arith, refl, sym, ap, ap₂, map, subst, ◌∙◌}
-use Rattle.std.proofs.lemmas.Bool.{false≢true}
-use Rattle.std.proofs.lemmas.List.{append_assoc, append-nil, length-append, length-reverse, reverse-append, reverse-reverse}
+use Rattle.world_trace.proofs.Common.{Bool, true, false, nat_lt, lt-ltb, ◌≡◌, ◌⊎◌, inl, inr, ℕ, suc, ◌<◌, ◌+◌, List, [], ◌∷◌, ◌++◌, drop, get_or, length, reverse, Option, Some, Result, Ok, Err, arith, refl, sym, ap, ap₂, map, subst, ◌∙◌, false≢true, append_assoc, append-nil, length-append, reverse-append, reverse-reverse, Appends, Crossing, WorldState, Calls, Event, appends_more, appends_none, last_shown, last_written, one_written, Happening, InTurn, text_of, ReplayFault, ended_line, WritesTrace, numbered_from, Spot, HappensInCalm, MayDo, StopsIn, WorldEvent, AreTextsOf, EventEnds, IsAsBefore, StepEnds, state_objects, event_text, line_of, seat_member, services_member, Texts, none_changed, object, shown, MayTell, StopsOne, TellsInCalm}
+use Rattle.std.proofs.lemmas.List.{length-reverse}
 use Rattle.std.proofs.Math.Seq.{drop-append_seam}
-use Rattle.std.specs.Io.KnownBytes.{Appends}
-use Rattle.interface.specs.declared.crossing.Crossing.{Crossing}
-use Rattle.net_sim.specs.World.{WorldState}
-use Rattle.interface.specs.Calls.{Calls}
-use Rattle.net_sim.specs.declared.event.Event.{Event}
-use Rattle.replay.proofs.lemmas.{appends_more, appends_none, last_shown, last_written, one_written}
-use Rattle.replay.specs.InTurn.{EndsInTurn, Happening, InTurn, text_of}
-use Rattle.replay.specs.declared.events.ReplayFault.{ReplayFault}
+use Rattle.replay.specs.InTurn.{EndsInTurn}
 use Rattle.replay.specs.declared.events.ReplayFault.TheVariants as fault
 use Rattle.replay.specs.declared.print.Detail.TheVariants.{Sizes}
-use Rattle.script.specs.Input.{ended_line}
 use Rattle.topology.specs.Topology.{TopologyFields}
-use Rattle.trace.specs.Traces.{WritesTrace, numbered_from}
-use Rattle.trace.specs.declared.element.Spot.{Spot}
 use Rattle.world_replay.specs.Output.{Shown, Writes, crossings_of, output}
 use Rattle.world_replay.proofs.lemmas.Replays.{HaveGains, gains_once, news_gained, same_news}
 use Rattle.world_replay.specs.Gains.{Gains}
-use Rattle.world_replay.specs.Replay.{EndsIn, EventGives, Happens, HappensInCalm, MayDo, MayStep, Replays, StopsIn}
-use Rattle.world_script.specs.declared.event.WorldEvent.{WorldEvent}
+use Rattle.world_replay.specs.Replay.{EndsIn, EventGives, Happens, MayStep, Replays}
 use Rattle.world_script.specs.declared.event.WorldEvent.TheVariants as world
-use Rattle.world_trace.specs.Steps.{AreChanged, AreChanges, AreTextsOf, EventEnds, HasPassed, IsAsBefore, OneEnds, Shows, ShowsInCalm, StepEnds, passed_line, state_objects}
-use Rattle.world_trace.specs.Texts.{event_text, line_of, opening_text, seat_member, services_member, world_line}
+use Rattle.world_trace.specs.Steps.{AreChanged, AreChanges, HasPassed, OneEnds, Shows, ShowsInCalm, passed_line}
+use Rattle.world_trace.specs.Texts.{opening_text, world_line}
 use Rattle.world_trace.specs.declared.line.Passed.{Passed}
 use Rattle.world_trace.specs.declared.texts.Changes.{Changes}
-use Rattle.world_trace.specs.declared.texts.Texts.{Texts}
 use Rattle.trace.specs.Changes.{changed}
-use Rattle.trace.proofs.lemmas.{none_changed}
-use Rattle.trace.specs.Texts.{object}
-use Rattle.net_sim.specs.Carriers.{shown}
 use Rattle.world_trace.proofs.Stays.{IsQuiet}
-use Rattle.world_trace.specs.Traces.{AfterOpening, IsUnchanged, MayTell, StopsOne, TellsInCalm, TellsOne, change_of, state_of}
+use Rattle.world_trace.specs.Traces.{AfterOpening, IsUnchanged, TellsOne, change_of, state_of}
 
 -- ---- one event
 

@@ -1,17 +1,8 @@
 -- The texts of programs and services say all of a world but its carrier and what is kept.
-use Rattle.std.proofs.Common.{◌≡◌, List, [], ◌∷◌, Some, refl, sym, ◌∙◌}
-use Rattle.std.proofs.lemmas.List.Elements.{All-cons, All-head, All-nil, All-tail}
-use Rattle.std.specs.List.{All}
-use Rattle.host_services.specs.Services.{no_services}
-use Rattle.interface.specs.Calls.{Calls}
-use Rattle.interface.specs.Host.{Host}
-use Rattle.net_sim.specs.World.{WorldState, opening_seats, opening_services, opening_world}
-use Rattle.sockets.specs.Pairs.{opening_state}
-use Rattle.trace.specs.Named.{IsHostNamed}
+use Rattle.world_trace.proofs.Common.{◌≡◌, List, [], ◌∷◌, Some, refl, sym, ◌∙◌, All-cons, All-head, All-nil, All-tail, All, no_services, Calls, Host, WorldState, opening_seats, opening_services, opening_world, opening_state, IsHostNamed, WorldEvent, AreNumbersTold, IsListenerTold, IsPairTold, IsSeatTold, IsServed, IsServiceTold, IsWorldTold}
 use Rattle.world_replay.specs.Output.{Shown}
 use Rattle.world_replay.specs.Replay.{Replays}
-use Rattle.world_script.specs.declared.event.WorldEvent.{WorldEvent}
-use Rattle.world_trace.specs.Told.{AreNumbersTold, HaveSameTexts, IsListenerTold, IsPairTold, IsSeatTold, IsServed, IsServiceTold, IsWorldTold}
+use Rattle.world_trace.specs.Told.{HaveSameTexts}
 use Rattle.world_trace.proofs.Programs.{programs_once}
 use Rattle.world_trace.proofs.Running.{services_once}
 use Rattle.world_trace.proofs.Unspent.Worlds.{Runs, opening_lasts, replay_runs}

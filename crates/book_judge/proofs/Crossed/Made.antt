@@ -1,13 +1,6 @@
 -- When lives are made of the messages that crossed.
-use Rattle.std.proofs.Common.{◌≡◌, ◌⊎◌, ℕ, zero, suc, ◌+◌, ◌<◌, ◌≤◌, Bool, true, false, if◌then◌else◌, List, [], ◌∷◌, ◌++◌, length, take, drop, get_or, reverse, Option, Some, None, is_some, MatchBool, ap, sym, subst, ◌∙◌, inl, inr}
-use Rattle.std.specs.List.{Contains}
-use Rattle.std.specs.Prelude.{IsSome}
-use Rattle.std.proofs.lemmas.List.{reverse-reverse, take_all, take_more}
-use Rattle.interface.specs.declared.crossing.Crossing.{Crossing}
-use Rattle.promise.specs.Formed.{FormedBook, IsFormed, first_data, flow_of, link_of, own_named, partner_named, texts_for, texts_on}
-use Rattle.promise.specs.Safe.{receives}
-use Rattle.promise.specs.declared.life.Life.{Life}
-use Rattle.book_judge.specs.Inside.Joined.{texts_by}
+use Rattle.book_judge.proofs.Common.{◌≡◌, ◌⊎◌, ℕ, zero, suc, ◌+◌, ◌<◌, ◌≤◌, Bool, true, false, if◌then◌else◌, List, [], ◌∷◌, ◌++◌, length, take, drop, get_or, reverse, Option, Some, None, is_some, MatchBool, ap, sym, subst, ◌∙◌, inl, inr, Contains, IsSome, reverse-reverse, take_all, take_more, Crossing, FormedBook, IsFormed, first_data, receives, Life, texts_by}
+use Rattle.promise.specs.Formed.{flow_of, link_of, own_named, partner_named, texts_for, texts_on}
 use Rattle.book_judge.specs.Inside.Made.{HasBits, since}
 use Rattle.book_judge.specs.Lives.{UnmadeAt}
 use Rattle.book_judge.proofs.Named.{contains_cases, contains_head, contains_none, contains_tail}

@@ -1,23 +1,13 @@
 -- Whether a log with one crossing more keeps messages: that is seen by what crossed last on its flow.
-use Rattle.std.proofs.Common.{◌≡◌, ◌⊎◌, ℕ, ◌+◌, ◌<◌, ◌≤◌, Bool, true, false, ◌||◌, if◌then◌else◌, List, [], ◌∷◌, ◌++◌, length, take, get_or, reverse, Option, Some, refl, ap, sym, subst, ◌∙◌, inl, inr, arith}
+use Rattle.book_judge.proofs.Common.{◌≡◌, ◌⊎◌, ℕ, ◌+◌, ◌<◌, ◌≤◌, Bool, true, false, ◌||◌, if◌then◌else◌, List, [], ◌∷◌, ◌++◌, length, take, get_or, reverse, Option, Some, refl, ap, sym, subst, ◌∙◌, inl, inr, arith, get-empty, take_all, slice_get_read, flow_cmp, same_flow, SafeMessages, Flow, Crossing, HostMessage, same_flow-refl, same_flow-true, EndsAt, before, Held}
 use Rattle.std.specs.List.{slice_get}
 use Rattle.std.specs.FinMap as map
-use Rattle.std.specs.FinMap.{get-empty}
-use Rattle.std.proofs.lemmas.List.{take_all}
-use Rattle.std.proofs.lemmas.Option.{slice_get_read}
-use Rattle.interface.specs.Flow.{flow_cmp, same_flow}
-use Rattle.interface.specs.Messages.{SafeMessages, SinceLastOut, TakenOnce, taken_in, went_out}
-use Rattle.interface.specs.declared.address.Flow.{Flow}
+use Rattle.interface.specs.Messages.{SinceLastOut, TakenOnce, taken_in, went_out}
 use Rattle.interface.specs.declared.crossing.Answer.TheVariants as answer
-use Rattle.interface.specs.declared.crossing.Crossing.{Crossing}
 use Rattle.interface.specs.declared.crossing.Crossing.TheVariants as crossing
-use Rattle.interface.specs.declared.message.HostMessage.{HostMessage}
-use Rattle.interface.proofs.lemmas.{or_false, same_flow-refl, same_flow-true}
-use Rattle.net_sim.specs.Findings.{EndsAt}
-use Rattle.promise.specs.Safe.{before}
+use Rattle.interface.proofs.lemmas.{or_false}
 use Rattle.book_judge.specs.Inside.{says, waits_with}
 use Rattle.book_judge.specs.Inside.Taken.{finds, held_or, last_on, noted, was_taken}
-use Rattle.book_judge.specs.declared.mail.Held.{Held}
 use Rattle.book_judge.specs.declared.mail.Held.TheVariants as held
 use Rattle.book_judge.proofs.Asked.{before_place, one_back}
 use Rattle.book_judge.proofs.Mailboxes.{get_set}

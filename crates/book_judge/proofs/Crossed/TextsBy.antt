@@ -1,16 +1,10 @@
 -- The texts that cross on a flow, and the data of the first of them.
-use Rattle.std.proofs.Common.{◌≡◌, ℕ, zero, suc, ◌+◌, ◌-◌, ◌<◌, ◌≤◌, ◌&&◌, Bool, true, false, if◌then◌else◌, List, [], ◌∷◌, ◌++◌, length, take, drop, reverse, Option, Some, None, refl, ap, ap₂, sym, ◌∙◌, append-nil, arith}
-use Rattle.std.specs.Prelude.{max, nat_lt, option_map}
-use Rattle.std.proofs.lemmas.Bool.{ltb-false, ltb-true}
-use Rattle.std.proofs.lemmas.List.{append_assoc, drop_all, drop_at, drop-append-le, length-append, length-reverse, reverse-append, take-append-drop, take_all, take_at}
-use Rattle.interface.specs.declared.address.Flow.{Flow}
-use Rattle.interface.specs.declared.crossing.Crossing.{Crossing}
-use Rattle.interface.proofs.lemmas.{and_true}
-use Rattle.ncp_control.specs.DataHeader.{header_of}
-use Rattle.ncp_control.specs.declared.data_header.DataHeader.{DataHeader}
-use Rattle.promise.specs.Formed.{data_by, data_in, first_data, joined, text_of, texts_of}
-use Rattle.book_judge.specs.Inside.Joined.{all_bits, bits_in, one_unread, texts_by, unread_in}
-use Rattle.book_judge.specs.Inside.Made.{end_by, end_of}
+use Rattle.book_judge.proofs.Common.{◌≡◌, ℕ, suc, ◌+◌, ◌-◌, ◌<◌, ◌≤◌, ◌&&◌, Bool, true, false, if◌then◌else◌, List, [], ◌∷◌, ◌++◌, length, take, drop, reverse, Option, Some, None, refl, ap, ap₂, sym, ◌∙◌, append-nil, arith, option_map, ltb-false, ltb-true, append_assoc, drop_all, drop_at, length-append, length-reverse, reverse-append, take-append-drop, take_all, take_at, Flow, Crossing, and_true, header_of, DataHeader, data_in, first_data, text_of, all_bits, bits_in, one_unread, texts_by, unread_in, end_of}
+use Rattle.std.proofs.Common.{zero}
+use Rattle.std.specs.Prelude.{max, nat_lt}
+use Rattle.std.proofs.lemmas.List.{drop-append-le}
+use Rattle.promise.specs.Formed.{data_by, joined, texts_of}
+use Rattle.book_judge.specs.Inside.Made.{end_by}
 
 -- ---- the messages on a link
 

@@ -1,26 +1,13 @@
 -- Contacts of a life's host don't cross. With them it is as far as without them, or it was reset by one.
-use Rattle.std.proofs.Common.{◌≡◌, ◌⊎◌, inl, inr, ℕ, ◌||◌, Bool, true, false, if◌then◌else◌, List, [], ◌∷◌, length}
-use Rattle.std.proofs.Common.{refl, ap, sym, subst, ◌∙◌}
-use Rattle.std.proofs.lemmas.Bool.{false≢true}
+use Rattle.book_judge.proofs.Common.{◌≡◌, ◌⊎◌, inl, inr, ℕ, ◌||◌, Bool, true, false, if◌then◌else◌, List, [], ◌∷◌, length, refl, ap, sym, subst, ◌∙◌, false≢true, Crossing, Asking, Closed, Course, Dropped, Going, Over, Stage, Stopped, course, stage, IsBeside, Fate, Life, AreSuited, acts, after, asked, closed, deeds_at, dropped, is_over, opening, reached_of, standing_of, step, stopped, suits_reached, Act, Deed, Reached, Standing}
 use Rattle.std.specs.List.{list_any}
-use Rattle.interface.specs.declared.crossing.Crossing.{Crossing}
 use Rattle.promise.specs.Ends as ends
-use Rattle.promise.specs.Ends.{Asking, Closed, Course, Dropped, Going, Leaves, Over, Stage, Stopped, course}
-use Rattle.promise.specs.Ends.{is_contact, stage}
-use Rattle.promise.specs.Fates.{IsBeside}
+use Rattle.promise.specs.Ends.{Leaves}
+use Rattle.promise.specs.Ends.{is_contact}
 use Rattle.promise.specs.declared.book.Called.{Called}
-use Rattle.promise.specs.declared.life.Fate.{Fate}
 use Rattle.promise.specs.declared.life.Fate.TheVariants as fate
-use Rattle.promise.specs.declared.life.Life.{Life}
-use Rattle.book_judge.specs.Fates.{AreSuited}
-use Rattle.book_judge.specs.Inside.Deeds.{acts, after, asked, closed, deeds_at, dropped, is_over, opening}
-use Rattle.book_judge.specs.Inside.Deeds.{reached_of, standing_of, step, stopped, suits_reached}
-use Rattle.book_judge.specs.declared.fates.Act.{Act}
 use Rattle.book_judge.specs.declared.fates.Act.TheVariants as act
-use Rattle.book_judge.specs.declared.fates.Deed.{Deed}
-use Rattle.book_judge.specs.declared.fates.Reached.{Reached}
 use Rattle.book_judge.specs.declared.fates.Reached.TheVariants as reached
-use Rattle.book_judge.specs.declared.fates.Standing.{Standing}
 use Rattle.book_judge.proofs.Ends.Reached.{dropped_same, one_crossing, over_acts, suits_same}
 
 -- ---- with contacts, and without

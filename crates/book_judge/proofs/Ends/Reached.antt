@@ -1,34 +1,22 @@
 -- How far a life is by what crossed: by deeds it is as far as `Ends` of `promise` says.
-use Rattle.std.proofs.Common.{zero, suc}
-use Rattle.std.proofs.Common.{◌≡◌, ℕ, ◌+◌, ◌<◌, ◌≤◌, ◌==◌, ◌&&◌, nat_lt, Bool, true, false, not, if◌then◌else◌}
-use Rattle.std.proofs.Common.{List, [], ◌∷◌, ◌++◌, length, drop, get_or, take, refl, ap, ap₂}
-use Rattle.std.proofs.Common.{arith, subst, sym, ◌∙◌}
-use Rattle.std.proofs.lemmas.Bool.{false≢true, lt-ltb, ltb-true, ne_eqb}
-use Rattle.std.proofs.lemmas.List.{drop_all, drop_more, take-append-drop, take_more}
-use Rattle.interface.specs.Host.{Host, same_host}
+use Rattle.book_judge.proofs.Common.{zero, suc, ◌≡◌, ℕ, ◌+◌, ◌<◌, ◌≤◌, ◌==◌, ◌&&◌, Bool, true, false, not, if◌then◌else◌, List, [], ◌∷◌, ◌++◌, length, drop, get_or, take, refl, ap, ap₂, arith, subst, sym, ◌∙◌, false≢true, ltb-true, drop_all, take-append-drop, take_more, Host, same_host, Crossing, Order, orders_of, Asking, Closed, Course, Dropped, Going, Over, Stage, Stopped, course, stage, Fate, Life, suits, AreRequests, AreQuiet, acts, after, asked, closed, deeds_at, deeds_by, deeds_in, dropped, is_over, opening, reached_of, standing_of, step, stopped, suits_reached, with_act, Act, Deed, Reached, Standing}
+use Rattle.std.proofs.Common.{nat_lt}
+use Rattle.std.proofs.lemmas.Bool.{lt-ltb, ne_eqb}
+use Rattle.std.proofs.lemmas.List.{drop_more}
 use Rattle.interface.specs.declared.crossing.Answer.TheVariants as answer
-use Rattle.interface.specs.declared.crossing.Crossing.{Crossing}
 use Rattle.interface.specs.declared.crossing.Crossing.TheVariants as crossing
 use Rattle.ncp_control.specs.declared.command.Command.{Command}
 use Rattle.ncp_control.specs.declared.command.Command.TheVariants as command
-use Rattle.host_pairs.specs.Control.{Legal, Order, Wrong, orders_of}
+use Rattle.host_pairs.specs.Control.{Legal, Wrong}
 use Rattle.promise.specs.Ends as ends
-use Rattle.promise.specs.Ends.{Asking, Closed, Course, Dropped, Going, Over, Stage, Stopped, course, stage}
-use Rattle.promise.specs.declared.life.Fate.{Fate}
 use Rattle.promise.specs.declared.life.Fate.TheVariants as fate
-use Rattle.promise.specs.declared.life.Life.{Life}
-use Rattle.book_judge.specs.Fates.{suits}
-use Rattle.book_judge.specs.Inside.Deeds.{AreRequests, is_going, is_request}
-use Rattle.book_judge.specs.Inside.Deeds.{AreQuiet, act_of, acts, after, asked, asked_at, closed, concerns}
-use Rattle.book_judge.specs.Inside.Deeds.{deeds_at, deeds_by, deeds_in, dropped, has_owed, is_of, is_over, is_quiet}
-use Rattle.book_judge.specs.Inside.Deeds.{opening, own_asked, own_closed, partner_asked, partner_closed, reached_of}
-use Rattle.book_judge.specs.Inside.Deeds.{stamp, standing_of, step, stopped, suits_reached, with_act}
-use Rattle.book_judge.specs.declared.fates.Act.{Act}
+use Rattle.book_judge.specs.Inside.Deeds.{is_going, is_request}
+use Rattle.book_judge.specs.Inside.Deeds.{act_of, asked_at, concerns}
+use Rattle.book_judge.specs.Inside.Deeds.{has_owed, is_of, is_quiet}
+use Rattle.book_judge.specs.Inside.Deeds.{own_asked, own_closed, partner_asked, partner_closed}
+use Rattle.book_judge.specs.Inside.Deeds.{stamp}
 use Rattle.book_judge.specs.declared.fates.Act.TheVariants as act
-use Rattle.book_judge.specs.declared.fates.Deed.{Deed}
-use Rattle.book_judge.specs.declared.fates.Reached.{Reached}
 use Rattle.book_judge.specs.declared.fates.Reached.TheVariants as reached
-use Rattle.book_judge.specs.declared.fates.Standing.{Standing}
 
 abbrev pub standing : Bool → Reached → Standing
 standing owes s = record { reached = s; owes = owes }
@@ -169,15 +157,6 @@ pub goes_there : (x : Life) (deeds : List Deed) (tail place : ℕ) (k whole : St
     → tail ≤ place → AreRequests (drop tail deeds) → is_going k.reached ≡ true → k.reached ≡ whole.reached
 goes_there x deeds tail place k whole e h r going =
     sym (ap (λ (s : Standing). s.reached) e ∙ goes_on x (drop place deeds) k (requests_later tail place deeds h r) going)
-
-pub one_request : (deeds : List Deed) (n : ℕ) (d : Deed) → n < length deeds → d ≡ get_or deeds n d → is_request d.act ≡ true
-    → AreRequests (drop (n + 1) deeds) → AreRequests (drop n deeds)
-one_request deeds n d h at e r =
-    subst (λ (ds : List Deed). AreRequests ds)
-    (sym (drop_more deeds n d h ∙ ap (λ (z : Deed). z ∷ drop (n + 1) deeds) (sym at))) (e, r)
-
-pub none_left : (deeds : List Deed) → AreRequests (drop (length deeds) deeds)
-none_left deeds = subst (λ (ds : List Deed). AreRequests ds) (sym (drop_all (length deeds) deeds (omega arith))) tt
 
 -- ---- deeds before a life is asked for
 

@@ -1,31 +1,13 @@
 -- Deeds of a log, and the first life whose fate they don't leave it.
-use Rattle.std.proofs.Common.{◌≡◌, ◌⊎◌, inl, inr, ℕ, zero, suc, ◌+◌, ◌-◌, ◌<◌, ◌≤◌, Bool, true, false, List, [], ◌∷◌}
-use Rattle.std.proofs.Common.{◌++◌, length, drop, get_or, reverse, take, Option, Some, None, append-nil, refl, ap}
-use Rattle.std.proofs.Common.{arith, subst, sym, ◌∙◌}
+use Rattle.book_judge.proofs.Common.{◌≡◌, ◌⊎◌, inl, inr, ℕ, zero, suc, ◌+◌, ◌-◌, ◌<◌, ◌≤◌, Bool, true, false, List, [], ◌∷◌, ◌++◌, length, drop, get_or, reverse, take, Option, Some, append-nil, refl, ap, arith, subst, sym, ◌∙◌, append_assoc, length-drop, length-reverse, length-take-le, take_all, take_more, Host, Crossing, Order, orders_within, stage, IsBeside, Fate, Life, AreSuited, suits, AreQuiet, AreStarts, deeds_at, deeds_by, deeds_in, suits_after, with_act, Act, Deed}
+use Rattle.std.proofs.Common.{None}
 use Rattle.std.specs.List.{slice_get}
-use Rattle.std.proofs.lemmas.List.{append_assoc, length-drop, length-reverse, length-take-le, take_all, take_more}
-use Rattle.interface.specs.Host.{Host}
-use Rattle.interface.specs.declared.crossing.Crossing.{Crossing}
-use Rattle.host_pairs.specs.Control.{Order, orders_within}
-use Rattle.promise.specs.Ends.{stage}
-use Rattle.promise.specs.Fates.{IsBeside}
-use Rattle.promise.specs.declared.life.Fate.{Fate}
-use Rattle.promise.specs.declared.life.Life.{Life}
-use Rattle.book_judge.specs.Fates.{AreSuited, UnsuitedAt, suits}
-use Rattle.book_judge.specs.Inside.Deeds.{AreQuiet, AreStarts, deeds_at, deeds_by, deeds_in, suits_after, with_act}
-use Rattle.book_judge.specs.declared.fates.Act.{Act}
-use Rattle.book_judge.specs.declared.fates.Deed.{Deed}
+use Rattle.book_judge.specs.Fates.{UnsuitedAt}
 use Rattle.book_judge.proofs.Asked.{one_back}
 use Rattle.book_judge.proofs.Named.{get_cases, none_within}
 use Rattle.book_judge.proofs.Ends.Reached.{suits_by}
 
 -- ---- deeds of a text
-
--- one command more
-pub with_more : (deeds : List Deed) (place : ℕ) (host peer : Host) (a : Option Act) (more : List Deed)
-    → deeds ++ with_act place host peer a more ≡ (deeds ++ with_act place host peer a []) ++ more
-with_more deeds place host peer None more = ap (λ (ds : List Deed). ds ++ more) (sym (append-nil deeds))
-with_more deeds place host peer (Some a) more = sym (append_assoc deeds (with_act place host peer (Some a) []) more)
 
 -- with what is still to be read, deeds are the same
 pub record AreAdded (comes : Bool) (place : ℕ) (host peer : Host) (octets : List ℕ) (deeds whole : List Deed) : Type 0 where
@@ -54,37 +36,7 @@ added_next comes place host peer octets rest deeds next whole read are some read
             ∙ ap (λ (k : ℕ). deeds ++ deeds_by comes place host peer (orders_within k octets)) (sym more) ∙ are.same;
       }
 
-pub all_added : (comes : Bool) (place : ℕ) (host peer : Host) (octets : List ℕ) (deeds whole : List Deed)
-    → AreAdded comes place host peer octets deeds whole → length octets ≡ 0 → deeds ≡ whole
-all_added comes place host peer [] deeds whole are e =
-    sym (append-nil deeds)
-    ∙ ap (λ (os : List Order). deeds ++ deeds_by comes place host peer os) (sym (none_within are.most)) ∙ are.same
-all_added comes place host peer (o ∷ octets) deeds whole are e = absurd (omega (arith, e))
-
--- ---- deeds of a log
-
-pub deeds_more : (log : List Crossing) (place : ℕ) (c : Crossing) (deeds next : List Deed) → place < length log
-    → c ≡ get_or log place c → next ≡ deeds ++ deeds_at place c → deeds ≡ deeds_in (reverse (take place log))
-    → next ≡ deeds_in (reverse (take (place + 1) log))
-deeds_more log place c deeds next h at more are =
-    let count : length (reverse (take place log)) ≡ place = length-reverse (take place log)
-    ∙ length-take-le place log (omega (arith, h)) in
-    more ∙ ap (λ (ds : List Deed). ds ++ deeds_at place c) are
-    ∙ ap (λ (n : ℕ). deeds_in (reverse (take place log)) ++ deeds_at n c) (sym count)
-    ∙ ap deeds_in (sym (one_back log place c h at))
-
-pub all_deeds : (log : List Crossing) (place : ℕ) (deeds : List Deed) → length log ≤ place
-    → deeds ≡ deeds_in (reverse (take place log)) → deeds ≡ deeds_in (reverse log)
-all_deeds log place deeds past are = are ∙ ap (λ (cs : List Crossing). deeds_in (reverse cs)) (take_all place log past)
-
 -- ---- where deeds begin
-
-none_get : {X : Type 0} (n : ℕ) (v : X) → slice_get [] n ≡ Some v → ⊥
-none_get zero v e = absurd (cc)
-none_get (suc n) v e = absurd (cc)
-
-pub no_starts : (deeds : List Deed) → AreStarts [] deeds
-no_starts deeds place n e = absurd (none_get place n e)
 
 pub starts_more : (starts : List ℕ) (deeds : List Deed) (place count : ℕ) → length starts ≡ place
     → AreStarts starts deeds → AreQuiet place (take count deeds) → AreStarts (starts ++ count ∷ []) deeds
@@ -125,9 +77,6 @@ one_suited : (log : List Crossing) (x : Life) (deeds : List Deed) (o : Option Fa
 one_suited log x deeds o f are e s =
     sym (ap (λ (ds : List Deed). suits_after ds x (Some f)) are ∙ suits_by x (reverse log) f)
     ∙ ap (suits_after deeds x) (sym e) ∙ s
-
-pub none_suited : (log : List Crossing) (lives : List Life) (fates : List Fate) → AreSuited log (take 0 lives) fates
-none_suited log lives fates x f b = absurd b
 
 pub suited_more : (log : List Crossing) (lives : List Life) (fates : List Fate) (deeds : List Deed) (place : ℕ) (x : Life) (o : Option Fate)
     → place < length lives → x ≡ get_or lives place x

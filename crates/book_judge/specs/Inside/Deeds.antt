@@ -131,17 +131,27 @@ abbrev pub stamp : Life → Bool → ℕ
 stamp x true = x.partner_stamp
 stamp x false = x.own_stamp
 
+abbrev pub reached_by : Life → ℕ → Act → Standing → Reached
+reached_by x place (act.Asks comes own foreign) k =
+    if is_of x comes own foreign && place == stamp x comes then asked comes k.reached else k.reached
+reached_by x place (act.Closes comes own foreign) k = if is_of x comes own foreign then closed comes k.reached else k.reached
+reached_by x place (act.Resets comes) k = dropped k.reached
+reached_by x place act.Replies k = if k.owes then k.reached else dropped k.reached
+reached_by x place act.Fails k = if k.owes then k.reached else dropped k.reached
+reached_by x place act.Stops k = stopped k.reached
+reached_by x place act.Starts k = k.reached
+
+abbrev pub owes_by : Act → Bool → Bool
+owes_by (act.Asks comes own foreign) owes = owes
+owes_by (act.Closes comes own foreign) owes = owes
+owes_by (act.Resets comes) owes = comes || owes
+owes_by act.Replies owes = false
+owes_by act.Fails owes = owes
+owes_by act.Stops owes = false
+owes_by act.Starts owes = false
+
 abbrev pub acts : Life → ℕ → Act → Standing → Standing
-acts x place (act.Asks comes own foreign) k =
-    record
-    { reached = if is_of x comes own foreign && place == stamp x comes then asked comes k.reached else k.reached; owes = k.owes }
-acts x place (act.Closes comes own foreign) k =
-    record { reached = if is_of x comes own foreign then closed comes k.reached else k.reached; owes = k.owes }
-acts x place (act.Resets comes) k = record { reached = dropped k.reached; owes = comes || k.owes }
-acts x place act.Replies k = record { reached = if k.owes then k.reached else dropped k.reached; owes = false }
-acts x place act.Fails k = record { reached = if k.owes then k.reached else dropped k.reached; owes = k.owes }
-acts x place act.Stops k = record { reached = stopped k.reached; owes = false }
-acts x place act.Starts k = record { reached = k.reached; owes = false }
+acts x place a k = record { reached = reached_by x place a k; owes = owes_by a k.owes }
 
 -- whether this is about one peer of its host
 abbrev pub has_peer : Act → Bool

@@ -1,9 +1,7 @@
 -- Tests of each and of some element of a list, and two of its elements.
-use Rattle.std.proofs.Common.{◌≡◌, ℕ, zero, suc, ◌+◌, ◌<◌, ◌≤◌, Bool, true, false, ◌&&◌, ◌||◌, not, List, [], ◌∷◌, ◌++◌, length, take, get_or, refl, ap, sym, subst, ◌∙◌, arith, inl, inr, ◌⊎◌, Some}
-use Rattle.std.specs.List.{list_all, list_any, Contains, slice_get, slice_index_or}
-use Rattle.std.proofs.lemmas.List.{take_all}
-use Rattle.std.proofs.lemmas.List.Folds.{list_all_more, list_any_more}
-use Rattle.interface.proofs.lemmas.{and_true}
+use Rattle.net_sim.proofs.Common.{◌≡◌, ℕ, zero, suc, ◌+◌, ◌<◌, ◌≤◌, Bool, true, false, ◌&&◌, ◌||◌, not, List, [], ◌∷◌, ◌++◌, length, take, get_or, refl, ap, sym, subst, ◌∙◌, arith, inl, inr, ◌⊎◌, Some, list_all, list_any, Contains, take_all, list_all_more, and_true}
+use Rattle.std.specs.List.{slice_get, slice_index_or}
+use Rattle.std.proofs.lemmas.List.Folds.{list_any_more}
 
 -- ---- chains of tests
 
@@ -116,18 +114,6 @@ any_from {X} test (y ∷ xs) x c e = elim (contains_cases y xs x c) [
 ]
 
 -- ---- loops
-
-pub all_more : {X : Type 0} (test : X → Bool) (xs : List X) (i : ℕ) (x : X) → i < length xs → x ≡ get_or xs i x → test x ≡ true → list_all test (take i xs) ≡ true → list_all test (take (i + 1) xs) ≡ true
-all_more {X} test xs i x lt at e h =
-    list_all_more test xs i x lt ∙ and_is (list_all test (take i xs)) (test (get_or xs i x)) h (subst (λ (z : X). test z ≡ true) at e)
-
-pub all_whole : {X : Type 0} (test : X → Bool) (xs : List X) (i : ℕ) → length xs ≤ i → list_all test (take i xs) ≡ true → true ≡ list_all test xs
-all_whole {X} test xs i past h = sym (subst (λ (zs : List X). list_all test zs ≡ true) (take_all i xs past) h)
-
-pub any_more : {X : Type 0} (test : X → Bool) (xs : List X) (i : ℕ) (x : X) → i < length xs → x ≡ get_or xs i x → test x ≡ false → list_any test (take i xs) ≡ false → list_any test (take (i + 1) xs) ≡ false
-any_more {X} test xs i x lt at e h =
-    let f : test (get_or xs i x) ≡ false = subst (λ (z : X). test z ≡ false) at e in
-    list_any_more test xs i x lt ∙ (rw (h, f) refl)
 
 pub all_take : {X : Type 0} (test : X → Bool) (n : ℕ) (xs : List X) → list_all test xs ≡ true → list_all test (take n xs) ≡ true
 all_take test zero xs h = refl

@@ -1,14 +1,8 @@
 -- The test of grants is true exactly where they are safe.
-use Rattle.std.proofs.Common.{◌≡◌, ℕ, ◌+◌, true, ◌&&◌, List, length}
+use Rattle.net_sim.proofs.Common.{◌≡◌, ℕ, ◌+◌, true, ◌&&◌, List, length, list_all, Contains, Crossing, and_true, Life, is_match, has_granted, grants_hold, HaveGranted, SafeGrants, IsGranted, receives}
 use Rattle.std.specs.Prelude.{nat_le}
-use Rattle.std.specs.List.{list_all, Contains}
 use Rattle.std.proofs.lemmas.Bool.{leb-true, le-leb}
-use Rattle.interface.specs.declared.crossing.Crossing.{Crossing}
-use Rattle.interface.proofs.lemmas.{and_true}
-use Rattle.promise.specs.declared.life.Life.{Life}
-use Rattle.net_sim.specs.Inside.Audit.{asked_at, is_match, is_granted, may_send, has_granted, grants_hold}
-use Rattle.net_sim.specs.Findings.{HaveGranted}
-use Rattle.promise.specs.Safe.{SafeGrants, IsGranted, receives}
+use Rattle.net_sim.specs.Inside.Audit.{asked_at, is_granted, may_send}
 use Rattle.net_sim.proofs.Audits.Elements.{and_is, when_true, when_is, all_at, all_from}
 use Rattle.net_sim.proofs.Audits.Streams.{match_true, match_is}
 

@@ -1,11 +1,6 @@
 -- The answer that the tests give is the one that says what is so.
-use Rattle.std.proofs.Common.{◌≡◌, Bool, true, false, List, refl, subst}
-use Rattle.std.specs.Prelude.{◌↔◌}
-use Rattle.interface.specs.declared.crossing.Crossing.{Crossing}
-use Rattle.net_sim.specs.Audit.{Says}
-use Rattle.promise.specs.declared.life.Life.{Life}
-use Rattle.net_sim.specs.Inside.Audit.{messages_hold, partners_hold, streams_hold, grants_hold, is_well_formed, answered_by, judged}
-use Rattle.net_sim.specs.declared.auditing.said.Audit.{Audit}
+use Rattle.net_sim.proofs.Common.{◌≡◌, Bool, true, false, List, refl, subst, ◌↔◌, Crossing, Says, Life, messages_hold, partners_hold, streams_hold, grants_hold, is_well_formed, Audit}
+use Rattle.net_sim.specs.Inside.Audit.{answered_by, judged}
 use Rattle.net_sim.specs.declared.auditing.said.Audit.TheVariants as audit
 use Rattle.net_sim.specs.declared.auditing.said.Part.TheVariants as part
 use Rattle.net_sim.proofs.Audits.Elements.{false_not, is_false}

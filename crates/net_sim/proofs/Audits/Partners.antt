@@ -1,23 +1,12 @@
 -- The test of partners is true exactly where they are safe, in a book whose stamps name messages.
-use Rattle.std.proofs.Common.{◌≡◌, ℕ, ◌+◌, ◌<◌, ◌==◌, Bool, true, false, ◌&&◌, ◌||◌, List, [], ◌∷◌, ◌++◌, length, take, drop, get_or, refl, ap, sym, subst, ◌∙◌, inl, inr, ◌⊎◌, Option, Some, None, arith, eq-eqb}
-use Rattle.std.specs.Prelude.{is_none}
-use Rattle.std.specs.List.{list_all, Contains}
+use Rattle.net_sim.proofs.Common.{◌≡◌, ℕ, ◌+◌, ◌<◌, ◌==◌, Bool, ◌&&◌, ◌||◌, List, [], ◌∷◌, ◌++◌, length, take, drop, get_or, refl, ap, sym, subst, ◌∙◌, inl, inr, ◌⊎◌, Option, Some, None, arith, eq-eqb, is_none, list_all, Contains, eqb-true, take-append-drop, take_more, same_host, Flow, Crossing, HostMessage, and_true, IsStamped, Life, AreAtPeace, AreStamped, is_place, same_own, same_asked, may_both, partners_hold, FoundTwo, AreTwo, SafePartners, control_flow, own_request, partner_request}
+use Rattle.std.proofs.Common.{true, false}
 use Rattle.std.proofs.lemmas.Option.{slice_get_read}
-use Rattle.std.proofs.lemmas.Bool.{eqb-true}
-use Rattle.std.proofs.lemmas.List.{append_assoc, take-append-drop, take_more}
+use Rattle.std.proofs.lemmas.List.{append_assoc}
 use Rattle.std.proofs.lemmas.List.Elements.{Contains-append_left, Contains-append_right}
 use Rattle.std.proofs.lemmas.List.Folds.{list_all-append}
-use Rattle.interface.specs.Host.{same_host}
-use Rattle.interface.specs.declared.address.Flow.{Flow}
-use Rattle.interface.specs.declared.crossing.Crossing.{Crossing}
 use Rattle.interface.specs.declared.crossing.Crossing.TheVariants as crossing
-use Rattle.interface.specs.declared.message.HostMessage.{HostMessage}
-use Rattle.interface.proofs.lemmas.{and_true}
-use Rattle.net_sim.specs.Audit.{IsStamped}
-use Rattle.promise.specs.declared.life.Life.{Life}
-use Rattle.net_sim.specs.Findings.{AreAtPeace, AreStamped}
-use Rattle.net_sim.specs.Inside.Audit.{asked_at, is_place, same_own, same_asked, are_mates, differ, is_one_way, are_at_odds, may_both, partners_hold, Found, FoundTwo}
-use Rattle.promise.specs.Safe.{AreTwo, SafePartners, control_flow, own_request, partner_request}
+use Rattle.net_sim.specs.Inside.Audit.{asked_at, are_mates, differ, is_one_way, are_at_odds, Found}
 use Rattle.net_sim.proofs.Audits.Elements.{all_at, all_fewer, all_from, false_not, and_is, contains_cases, contains_head, contains_none, contains_split, contains_take, is_false, none_of, not_is, or_cases}
 use Rattle.net_sim.proofs.Audits.Requests.{WentAt, asked_is, asked_true, asked_went, crossed_one, named_is, named_some, own_is, own_true, place_is, place_true, same_host-is, some_named}
 

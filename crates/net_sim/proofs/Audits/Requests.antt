@@ -1,19 +1,12 @@
 -- The requests of lives: where one went out, and which two are alike.
-use Rattle.std.proofs.Common.{◌≡◌, ℕ, zero, suc, ◌-◌, ◌<◌, ◌≤◌, Bool, true, false, ◌&&◌, ◌==◌, List, [], ◌∷◌, ◌++◌, length, take, drop, reverse, refl, ap, sym, subst, ◌∙◌, if◌then◌else◌, arith, inl, inr, Option, Some, None, eq-eqb}
+use Rattle.net_sim.proofs.Common.{◌≡◌, ℕ, zero, suc, ◌-◌, ◌<◌, ◌≤◌, Bool, true, false, ◌&&◌, ◌==◌, List, [], ◌∷◌, ◌++◌, length, take, drop, refl, ap, sym, subst, ◌∙◌, if◌then◌else◌, arith, inl, inr, Option, Some, None, eq-eqb, eqb-true, take-append-drop, reverse-append, length-reverse, Host, same_host, same_flow, Flow, Crossing, HostMessage, and_true, same_flow-true, same_host-refl, Life, CrossedAt, is_place, is_asked, same_own, same_asked, is_partner, Name, before, control_flow, last_out, own_request, partner_request}
+use Rattle.std.proofs.Common.{reverse}
 use Rattle.std.specs.Prelude.{IsSome}
-use Rattle.std.proofs.lemmas.Bool.{eqb-true}
-use Rattle.std.proofs.lemmas.List.{take-append-drop, reverse-append, length-reverse, length-drop, drop_at}
-use Rattle.interface.specs.Host.{Host, same_host}
-use Rattle.interface.specs.Mailboxes.{same_flow}
-use Rattle.interface.specs.declared.address.Flow.{Flow}
-use Rattle.interface.specs.declared.crossing.Crossing.{Crossing}
+use Rattle.std.proofs.lemmas.List.{length-drop, drop_at}
 use Rattle.interface.specs.declared.crossing.Crossing.TheVariants as crossing
-use Rattle.interface.specs.declared.message.HostMessage.{HostMessage}
-use Rattle.interface.proofs.lemmas.{and_true, same_flow-true, same_host-true, same_host-refl}
-use Rattle.promise.specs.declared.life.Life.{Life}
-use Rattle.promise.specs.Formed.{CrossedAt}
-use Rattle.net_sim.specs.Inside.Audit.{asked_at, is_place, is_asked, same_place, same_own, same_ends, same_asked, is_partner}
-use Rattle.promise.specs.Safe.{Name, before, control_flow, last_out, own_request, partner_request, named}
+use Rattle.interface.proofs.lemmas.{same_host-true}
+use Rattle.net_sim.specs.Inside.Audit.{asked_at, same_place, same_ends}
+use Rattle.promise.specs.Safe.{named}
 use Rattle.net_sim.proofs.Audits.Elements.{and_is}
 
 -- ---- the log before a place, read from its end

@@ -1,19 +1,9 @@
 -- What searches find: how many of the first entries are well.
-use Rattle.std.proofs.Common.{◌≡◌, ℕ, ◌+◌, ◌<◌, Bool, true, false, not, List, length, take, get_or, refl, sym, subst, ◌∙◌, arith, Option, Some, None}
-use Rattle.std.specs.Prelude.{is_none, is_some}
-use Rattle.std.specs.List.{list_all}
-use Rattle.std.proofs.lemmas.List.{take_all}
-use Rattle.std.proofs.lemmas.List.Folds.{list_all_more}
+use Rattle.net_sim.proofs.Common.{◌≡◌, ℕ, ◌+◌, ◌<◌, Bool, true, false, not, List, length, take, get_or, refl, sym, subst, ◌∙◌, arith, Option, Some, None, is_none, list_all, take_all, list_all_more}
+use Rattle.std.specs.Prelude.{is_some}
 use Rattle.net_sim.specs.Findings.{EndsAt}
 use Rattle.net_sim.specs.Inside.Audit.{Found}
 use Rattle.net_sim.proofs.Audits.Elements.{all_take, and_false, false_not, is_false}
-
--- ---- a search through a list
-
-pub found_here : {X : Type 0} (test : X → Bool) (xs : List X) (i : ℕ) (x : X) → i < length xs → x ≡ get_or xs i x → test x ≡ false → list_all test (take i xs) ≡ true
-    → Found (λ n. list_all test (take n xs)) (length xs) (Some i)
-found_here {X} test xs i x lt at e h =
-    (lt, h, list_all_more test xs i x lt ∙ and_false (list_all test (take i xs)) (test (get_or xs i x)) (subst (λ (z : X). test z ≡ false) at e))
 
 -- ---- whether there is nothing to find
 

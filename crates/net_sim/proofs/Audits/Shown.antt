@@ -1,14 +1,9 @@
 -- Where it shows what an audit says: what the searches find is what the definitions say.
-use Rattle.std.proofs.Common.{◌≡◌, ℕ, Bool, true, List, length, take, reverse, refl, subst, inr, arith, Option, Some, None, MatchOption}
-use Rattle.std.specs.List.{list_all, slice_get}
-use Rattle.std.proofs.lemmas.List.{take_all}
-use Rattle.interface.specs.Messages.{SafeMessages}
-use Rattle.interface.specs.declared.crossing.Crossing.{Crossing}
-use Rattle.net_sim.specs.Audit.{IsWellFormed, Says}
-use Rattle.promise.specs.declared.life.Life.{Life}
-use Rattle.net_sim.specs.Findings.{AreAtPeace, AreFed, AreStamped, HaveGranted, Shows, ShowsCrossing, ShowsLife, ShowsMalformed, ShowsTwo, WithMatch, AreUnmatched, first_fed, first_granted}
-use Rattle.net_sim.specs.Inside.Audit.{Found, FoundTwo, messages_hold, partners_hold, is_stamped, has_granted, is_unmatched, may_both, some_fed}
-use Rattle.promise.specs.Safe.{SafePartners, before}
+use Rattle.net_sim.proofs.Common.{◌≡◌, ℕ, Bool, true, List, length, take, refl, subst, inr, arith, Option, Some, None, MatchOption, list_all, take_all, SafeMessages, Crossing, IsWellFormed, Says, Life, AreAtPeace, AreFed, AreStamped, HaveGranted, Shows, AreUnmatched, FoundTwo, messages_hold, partners_hold, is_stamped, has_granted, is_unmatched, may_both, some_fed, SafePartners, before}
+use Rattle.std.proofs.Common.{reverse}
+use Rattle.std.specs.List.{slice_get}
+use Rattle.net_sim.specs.Findings.{ShowsCrossing, ShowsLife, ShowsMalformed, ShowsTwo, WithMatch, first_fed, first_granted}
+use Rattle.net_sim.specs.Inside.Audit.{Found}
 use Rattle.net_sim.specs.declared.auditing.findings.Finding.{Finding}
 use Rattle.net_sim.specs.declared.auditing.findings.Finding.TheVariants as finding
 use Rattle.net_sim.specs.declared.auditing.said.Audit.TheVariants as audit

@@ -1,19 +1,12 @@
 -- The test of stamps is true exactly where they name messages.
-use Rattle.std.proofs.Common.{◌≡◌, ℕ, ◌+◌, ◌<◌, ◌≤◌, Bool, true, false, ◌&&◌, ◌==◌, List, [], ◌∷◌, ◌++◌, length, take, drop, get_or, reverse, refl, ap, sym, subst, ◌∙◌, if◌then◌else◌, arith, inl, inr, Option, Some, None, eq-eqb}
-use Rattle.std.specs.List.{list_all}
-use Rattle.std.proofs.lemmas.Bool.{eqb-true}
+use Rattle.net_sim.proofs.Common.{◌≡◌, ℕ, ◌+◌, ◌<◌, ◌≤◌, Bool, true, false, ◌&&◌, ◌==◌, List, [], ◌∷◌, ◌++◌, length, take, drop, get_or, refl, ap, sym, subst, ◌∙◌, if◌then◌else◌, arith, inl, inr, Option, Some, None, eq-eqb, list_all, eqb-true, length-reverse, reverse-append, take-append-drop, drop_more, Flow, Crossing, and_true, same_flow-true, IsStamped, IsWellFormed, Life, AreStamped, CrossedAt, is_stamped, is_well_formed, control_flow}
+use Rattle.std.proofs.Common.{reverse}
 use Rattle.std.specs.Prelude.{IsSome}
-use Rattle.std.proofs.lemmas.List.{length-reverse, reverse-append, take-append-drop, length-take, drop_more, length-append, append_assoc}
-use Rattle.interface.specs.declared.address.Flow.{Flow}
-use Rattle.interface.specs.declared.crossing.Crossing.{Crossing}
+use Rattle.std.proofs.lemmas.List.{length-take, length-append, append_assoc}
 use Rattle.interface.specs.declared.crossing.Crossing.TheVariants as crossing
-use Rattle.interface.proofs.lemmas.{and_true, same_flow-true}
-use Rattle.net_sim.specs.Audit.{Passes, IsStamped, IsWellFormed}
-use Rattle.promise.specs.declared.life.Life.{Life}
-use Rattle.net_sim.specs.Findings.{AreStamped}
-use Rattle.promise.specs.Formed.{CrossedAt, going, coming}
-use Rattle.net_sim.specs.Inside.Audit.{asked_at, is_there, crossed_at, is_out, is_in, is_stamped, is_well_formed}
-use Rattle.promise.specs.Safe.{control_flow}
+use Rattle.net_sim.specs.Audit.{Passes}
+use Rattle.promise.specs.Formed.{going, coming}
+use Rattle.net_sim.specs.Inside.Audit.{asked_at, is_there, crossed_at, is_out, is_in}
 use Rattle.net_sim.proofs.Audits.Elements.{and_is, all_at, all_from, is_false}
 use Rattle.net_sim.proofs.Audits.Messages.{same_yes}
 use Rattle.net_sim.proofs.Audits.Requests.{crossed_below}

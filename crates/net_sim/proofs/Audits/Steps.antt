@@ -1,16 +1,15 @@
 -- A log read from its end, and when two lists of bits are the same.
-use Rattle.std.proofs.Common.{◌≡◌, ℕ, ◌+◌, ◌<◌, Bool, true, false, ◌==◌, List, [], ◌∷◌, ◌++◌, length, take, get_or, reverse, refl, ap, sym, subst, ◌∙◌}
-use Rattle.std.proofs.lemmas.Bool.{eqb-true}
-use Rattle.std.proofs.lemmas.List.{take_more, reverse-append, take_at}
+use Rattle.net_sim.proofs.Common.{◌≡◌, ℕ, ◌+◌, ◌<◌, Bool, true, false, ◌==◌, List, [], ◌∷◌, ◌++◌, length, take, get_or, refl, ap, sym, subst, ◌∙◌, eqb-true, take_more, reverse-append, octets_of, bits_of, same_bit, and_true, both_ways}
+use Rattle.std.proofs.Common.{reverse}
+use Rattle.std.proofs.lemmas.List.{take_at}
 use Rattle.std.specs.Prelude.{replicate}
 use Rattle.std.specs.Cmp.Lexicographic.{pointwise}
 use Rattle.std.proofs.lemmas.Slice.Eq.{slice_eq-Decides}
 use Rattle.std.proofs.lemmas.Bool.Decides.{Decides-eqb}
 use Rattle.std.proofs.Math.Dec.{eqb}
-use Rattle.bit_messages.specs.Octets.{octets_of, bits_of, spare_bits}
+use Rattle.bit_messages.specs.Octets.{spare_bits}
 use Rattle.bit_messages.proofs.lemmas.{bits_again}
-use Rattle.net_sim.specs.Inside.Audit.{same_bit, same_bits}
-use Rattle.interface.proofs.lemmas.{and_true, both_ways}
+use Rattle.net_sim.specs.Inside.Audit.{same_bits}
 
 -- one crossing more at the end
 pub reverse_more : {X : Type 0} (xs : List X) (i : ℕ) (d : X) → i < length xs → reverse (take (i + 1) xs) ≡ get_or xs i d ∷ reverse (take i xs)

@@ -1,16 +1,9 @@
 -- The test of streams is true exactly where they are safe, in a log with safe partners.
-use Rattle.std.proofs.Common.{◌≡◌, ℕ, zero, suc, add-one, ◌+◌, ◌<◌, ◌≤◌, Bool, true, false, ◌&&◌, ◌||◌, ◌==◌, not, List, [], ◌∷◌, ◌++◌, length, take, drop, get_or, refl, ap, ap₂, sym, subst, ◌∙◌, arith, inl, inr, Option, Some, None, eq-eqb}
-use Rattle.std.specs.List.{list_all, list_any, slice_get}
-use Rattle.std.specs.Prelude.{is_none}
-use Rattle.std.proofs.lemmas.List.{take_all}
-use Rattle.std.proofs.lemmas.List.Folds.{list_all_more}
-use Rattle.net_sim.specs.Findings.{AreFed, AreUnmatched}
-use Rattle.std.proofs.lemmas.Bool.{eqb-true, cases_lt}
-use Rattle.interface.specs.declared.crossing.Crossing.{Crossing}
-use Rattle.interface.proofs.lemmas.{and_true}
-use Rattle.promise.specs.declared.life.Life.{Life}
-use Rattle.net_sim.specs.Inside.Audit.{asked_at, is_asked, is_partner, is_match, same_bit, same_found, is_prefix, is_source, is_fed, is_handed, handed_at, are_handed, is_unmatched, some_fed, streams_hold, Found}
-use Rattle.promise.specs.Safe.{Name, SafePartners, SafeStreams, Match, Source, IsPrefix, AreHanded, own_request, partner_request, receives, sends}
+use Rattle.net_sim.proofs.Common.{◌≡◌, ℕ, zero, suc, add-one, ◌+◌, ◌<◌, ◌≤◌, Bool, true, false, ◌&&◌, ◌||◌, ◌==◌, not, List, [], ◌∷◌, ◌++◌, length, take, drop, get_or, refl, ap, sym, subst, ◌∙◌, arith, inl, inr, Option, Some, None, eq-eqb, list_all, list_any, is_none, take_all, list_all_more, AreFed, AreUnmatched, eqb-true, cases_lt, Crossing, and_true, Life, is_asked, is_partner, is_match, same_bit, is_prefix, is_source, is_unmatched, some_fed, streams_hold, Name, SafePartners, SafeStreams, Match, Source, own_request, partner_request, receives, sends}
+use Rattle.std.proofs.Common.{ap₂}
+use Rattle.std.specs.List.{slice_get}
+use Rattle.net_sim.specs.Inside.Audit.{asked_at, same_found, is_fed, is_handed, handed_at, are_handed, Found}
+use Rattle.promise.specs.Safe.{IsPrefix, AreHanded}
 use Rattle.net_sim.proofs.Audits.Elements.{and_false, and_is, or_cases, or_right, when_true, when_is, not_is, not_true, all_at, all_from, all_take, any_at, any_from, is_false}
 use Rattle.net_sim.proofs.Audits.Searches.{none_found}
 use Rattle.net_sim.proofs.Audits.Requests.{asks, asks_is, asked_sockets, partner_true, partner_is}

@@ -1,11 +1,8 @@
 -- What every event of a world keeps, every list of events and every number of quiet rounds keeps.
-use Rattle.std.proofs.Common.{◌≡◌, ℕ, Bool, true, false, zero, suc, List, [], ◌∷◌, length, nat_lt, Result, sym, subst}
-use Rattle.std.specs.Bool.{MatchBool}
-use Rattle.interface.specs.Host.{Host}
+use Rattle.net_sim.proofs.Common.{◌≡◌, ℕ, Bool, true, false, zero, suc, List, [], ◌∷◌, length, nat_lt, sym, subst, MatchBool, Host, Each, WorldState, WorldFault, Carrier, Quiet, Offer, Refuses, Does, StepGives, stops, Runs, RunGives, Repeats, TurnsOf, up_in, Calms, CalmGives, Calls}
+use Rattle.std.proofs.Common.{Result}
 use Rattle.interface.specs.declared.carrier.CarrierFault.TheVariants as fault
-use Rattle.net_sim.specs.Whole.{Each}
-use Rattle.net_sim.specs.World.{WorldState, WorldFault, Carrier, Event, Quiet, Offer, Take, Refuses, Does, StepGives, stops, Runs, RunGives, Repeats, TurnsOf, up_in, Calms, CalmGives}
-use Rattle.interface.specs.Calls.{Calls}
+use Rattle.net_sim.specs.World.{Event, Take}
 
 -- `Named` is what is asked of each event; rounds, takings and offers always have it
 module _ {C : Type 0} (calls : Calls C) (P : WorldState C → Type 0) (Named : Event → Type 0) (quiet : Named Quiet) (take : (h : Host) → Named (Take h)) (offer : (h : Host) → Named (Offer h))

@@ -1,21 +1,12 @@
 -- What resets see of a book is what they see of its moments.
-use Rattle.std.proofs.Common.{◌≡◌, inl, inr, ℕ, ◌+◌, ◌<◌, ◌≤◌, Bool, true, false, ◌==◌, if◌then◌else◌, List, [], ◌∷◌, ◌++◌, length, refl, ap, sym, subst, ◌∙◌, arith, eq-eqb}
-use Rattle.std.proofs.lemmas.List.{append-nil, append_assoc}
-use Rattle.std.proofs.lemmas.Bool.{eqb-true}
-use Rattle.interface.specs.Host.{Host}
+use Rattle.net_sim.proofs.Common.{◌≡◌, inl, inr, ℕ, ◌+◌, ◌<◌, ◌≤◌, Bool, true, false, ◌==◌, if◌then◌else◌, List, [], ◌∷◌, ◌++◌, length, refl, ap, sym, subst, ◌∙◌, arith, eq-eqb, append-nil, eqb-true, Host, same_flow, Crossing, Request, Box, WaitsWith, Fits, boxes, posted, Contact, In, Idle, part_of, place, Pair, pair_moved, pair, Needs, Allowed, Called, contacts_asked, event_of, event_by, Moment, Crossed, Asked, events_of, places, contacts_of, crossings_of, events_in}
+use Rattle.std.proofs.lemmas.List.{append_assoc}
 use Rattle.interface.specs.Mailboxes as mail
-use Rattle.interface.specs.Mailboxes.{same_flow}
-use Rattle.interface.specs.declared.crossing.Crossing.{Crossing}
-use Rattle.sockets.specs.declared.request.Request.{Request}
-use Rattle.reset_law.specs.Boxes.{Box, WaitsWith, Fits, boxes, post_of, posted}
-use Rattle.reset_law.specs.Events.{Event, Contact, Out, In, Told, Down, Up, Idle, is_up, part_of, place, up_after_event}
-use Rattle.reset_law.specs.Pairs.{Pair, MaySend, pair_moved, pair}
-use Rattle.reset_law.specs.Runs.{Needs, Allowed, IsRun}
-use Rattle.promise.specs.declared.book.Called.{Called}
-use Rattle.net_sim.specs.Book.{contacts_asked}
-use Rattle.net_sim.specs.Projection.{event_of, event_by}
-use Rattle.net_sim.specs.Story.{Moment, Crossed, Asked, events_of, places}
-use Rattle.net_sim.specs.Timeline.{called_at, contacts_of, crossings_of, events_in}
+use Rattle.reset_law.specs.Boxes.{post_of}
+use Rattle.reset_law.specs.Events.{Event, Out, Told, Down, Up, is_up, up_after_event}
+use Rattle.reset_law.specs.Pairs.{MaySend}
+use Rattle.reset_law.specs.Runs.{IsRun}
+use Rattle.net_sim.specs.Timeline.{called_at}
 use Rattle.net_sim.proofs.Resets.Bridge.{SameBoxes, box_step, contact_or, flow_of, place_by, places_same}
 
 -- ---- the events of moments, without what is nothing to resets

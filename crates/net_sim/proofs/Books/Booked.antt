@@ -1,27 +1,11 @@
 -- The book has what crossed, after every list of events.
-use Rattle.std.proofs.Common.{◌≡◌, ℕ, Bool, true, false, if◌then◌else◌, List, [], ◌∷◌, ◌++◌, length, refl, ap, sym, subst, ◌∙◌}
-use Rattle.interface.specs.Calls.{Calls, Seen, ShowsRefusal, ShowsCrossings, halted, is_memory, crossing_of, step_crossings}
-use Rattle.interface.specs.Host.{Host}
+use Rattle.net_sim.proofs.Common.{◌≡◌, ℕ, Bool, true, false, if◌then◌else◌, List, [], ◌∷◌, ◌++◌, length, refl, ap, sym, subst, ◌∙◌, Calls, Seen, ShowsRefusal, ShowsCrossings, halted, is_memory, crossing_of, step_crossings, Host, SafeMessages, CarrierFault, Crossing, run_below, safe_messages, NcpState, served, served_notices, offered, accepted, Notice, Request, ServiceDeskState, ServicesState, opening_desk, server_begun, user_begun, Kept, crossed, all_crossed, book_told, all_told, asked, all_asked, shown, AreOfOneEvent, Each, WorldState, opening_world, services_of, noticed, tended, with_carrier, world_moved, served_at, Halts, StepGives, RunGives, CalmGives}
 use Rattle.interface.specs.Mailboxes.{IsRun}
-use Rattle.interface.specs.Messages.{SafeMessages}
-use Rattle.interface.specs.declared.carrier.CarrierFault.{CarrierFault}
-use Rattle.interface.specs.declared.crossing.Crossing.{Crossing}
 use Rattle.interface.specs.declared.crossing.Crossing.TheVariants as crossing
-use Rattle.interface.proofs.lemmas.{run_below, safe_messages}
-use Rattle.sockets.specs.Pairs.{NcpState}
-use Rattle.sockets.specs.Requests.{served, served_notices}
-use Rattle.sockets.specs.Sending.{offered}
-use Rattle.sockets.specs.Accepting.{accepted}
-use Rattle.host_pairs.specs.declared.notice.Notice.{Notice}
-use Rattle.sockets.specs.declared.request.Request.{Request}
-use Rattle.host_services.specs.Services.{ServiceDeskState, ServicesState, opening_desk}
-use Rattle.host_services.specs.Turns.{server_begun, user_begun}
-use Rattle.net_sim.specs.Book.{Kept, crossed, all_crossed, book_told, all_told, asked, all_asked}
-use Rattle.net_sim.specs.Carriers.{shown, AreOfOneEvent, IsBooked}
-use Rattle.net_sim.specs.Whole.{Each}
+use Rattle.net_sim.specs.Carriers.{IsBooked}
 use Rattle.net_sim.proofs.Books.Always.{run_keeps, calm_keeps}
 use Rattle.net_sim.proofs.Books.EachEvent.{Answered, Shows, Ways, step_way}
-use Rattle.net_sim.specs.World.{WorldState, Event, opening_world, services_of, noticed, tended, turn_of, with_carrier, world_moved, changed, served_at, Halts, StepGives, RunGives, CalmGives}
+use Rattle.net_sim.specs.World.{Event, turn_of, changed}
 
 -- ---- the crossings of what is kept
 

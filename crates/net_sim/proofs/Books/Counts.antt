@@ -1,13 +1,7 @@
 -- The counts of lives stay within what the changes that were written allow.
-use Rattle.std.proofs.Common.{◌≡◌, ℕ, ◌≤◌, zero, suc, List, [], ◌∷◌, ◌++◌, length, take, slice_set, ap, sym, subst, ◌∙◌, arith}
-use Rattle.std.proofs.lemmas.List.Elements.{All-cons, All-head, All-set, All-tail, All-take, All-weaker}
-use Rattle.std.proofs.Math.Seq.{take-append_seam}
-use Rattle.promise.specs.declared.life.Life.{Life}
-use Rattle.net_sim.specs.Inside.Counts.{AreWithin, IsWithin}
-use Rattle.net_sim.specs.Inside.Lives.{LivesState}
-use Rattle.net_sim.specs.Inside.Open.{AreKept}
-use Rattle.net_sim.specs.Inside.Places.{changed_here}
-use Rattle.net_sim.specs.Inside.Undo.{Mark, Undo, all_undone, life_back, reopened, undone}
+use Rattle.net_sim.proofs.Common.{◌≡◌, ℕ, ◌≤◌, zero, suc, List, [], ◌∷◌, ◌++◌, length, take, slice_set, ap, sym, subst, ◌∙◌, arith, All-cons, All-head, All-tail, All-weaker, take-append_seam, Life, AreWithin, IsWithin, LivesState, AreKept, changed_here, Undo, all_undone, life_back, reopened, undone}
+use Rattle.std.proofs.lemmas.List.Elements.{All-set, All-take}
+use Rattle.net_sim.specs.Inside.Undo.{Mark}
 use Rattle.net_sim.specs.declared.undo.Undo.TheVariants as undo
 use Rattle.net_sim.proofs.Books.Marks.{kept_long}
 

@@ -1,33 +1,17 @@
 -- One walk over the events of a world: each ends in one of few ways, and a relation between the worlds before and after that each way
 -- keeps holds of every event.
-use Rattle.std.proofs.Common.{◌≡◌, inl, inr, ℕ, Bool, true, false, List, [], ◌∷◌, ◌++◌, length, map, Option, Some, None, Result, Ok, Err, refl, sym, subst}
-use Rattle.std.specs.Bool.{MatchBool}
+use Rattle.net_sim.proofs.Common.{◌≡◌, inl, inr, ℕ, Bool, true, false, List, [], ◌∷◌, ◌++◌, length, map, Option, Some, None, Ok, Err, refl, sym, subst, MatchBool, reverse_onto, Calls, Seen, crossing_of, is_memory, step_crossings, up_at, Host, CarrierFault, Crossing, Inbound, NetEvent, HostMessage, accepted, NcpState, refusal, next_out, NcpFault, Request, line_bits, AreOfOneEvent, AreStops, WorldState, WorldFault, Carrier, Program, Net, Quiet, Offer, Ask, Server, User, Typed, Seat, seat_of, served_at, services_of, with_carrier, with_server, with_user, world_moved, AskGives, AtProgram, AtSeat, Does, DoesOrHalts, EventGives, Halts, NetEnds, OfferEnds, OfferGives, QuietEnds, Refuses, StepGives, TakeEnds, TakeGives, TypeGives}
+use Rattle.std.proofs.Common.{Result}
 use Rattle.std.specs.Prelude.{reverse}
-use Rattle.std.proofs.lemmas.Grind.{reverse_onto}
-use Rattle.interface.specs.Calls.{Calls, Seen, crossing_of, is_memory, step_crossings, up_at}
-use Rattle.interface.specs.Host.{Host}
-use Rattle.interface.specs.declared.carrier.CarrierFault.{CarrierFault}
 use Rattle.interface.specs.declared.carrier.CarrierFault.TheVariants as fault
-use Rattle.interface.specs.declared.crossing.Crossing.{Crossing}
 use Rattle.interface.specs.declared.crossing.Crossing.TheVariants as crossing
-use Rattle.interface.specs.declared.crossing.Inbound.{Inbound}
-use Rattle.interface.specs.declared.event.NetEvent.{NetEvent}
 use Rattle.interface.specs.declared.event.NetEvent.TheVariants as event
-use Rattle.interface.specs.declared.message.HostMessage.{HostMessage}
-use Rattle.sockets.specs.Accepting.{accepted}
-use Rattle.sockets.specs.Pairs.{NcpState}
-use Rattle.sockets.specs.Requests.{refusal}
-use Rattle.sockets.specs.Sending.{next_out, offered}
-use Rattle.sockets.specs.declared.fault.NcpFault.{NcpFault}
+use Rattle.sockets.specs.Sending.{offered}
 use Rattle.sockets.specs.declared.fault.NcpFault.TheVariants as problem
-use Rattle.sockets.specs.declared.request.Request.{Request}
 use Rattle.sockets.specs.declared.request.Request.TheVariants as request
-use Rattle.host_services.specs.TypedLines.{line_bits}
-use Rattle.net_sim.specs.Carriers.{AreOfOneEvent, AreStops}
-use Rattle.net_sim.specs.World.{WorldState, WorldFault, Carrier, Program, Event, Net, Quiet, Offer, Take, Ask, Server, User, Typed, Seat}
-use Rattle.net_sim.specs.World.{changed, seat_of, served_at, services_of, with_carrier, with_server, with_user, world_moved}
-use Rattle.net_sim.specs.World.{AskGives, AtProgram, AtSeat, Does, DoesOrHalts, EventGives, Halts, NetEnds, OfferEnds, OfferGives, Passes}
-use Rattle.net_sim.specs.World.{QuietEnds, Refuses, StepGives, TakeEnds, TakeGives, TypeGives}
+use Rattle.net_sim.specs.World.{Event, Take}
+use Rattle.net_sim.specs.World.{changed}
+use Rattle.net_sim.specs.World.{Passes}
 
 abbrev pub Answered : Type 0
 Answered = Result (Unit {0}) WorldFault

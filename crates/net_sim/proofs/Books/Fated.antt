@@ -1,22 +1,11 @@
 -- A life is over exactly where its fate says so.
-use Rattle.std.proofs.Common.{◌≡◌, Bool, true, false, List, [], ◌∷◌, ◌++◌, refl, sym, subst, ◌∙◌, if◌then◌else◌}
-use Rattle.interface.specs.Host.{Host}
-use Rattle.interface.specs.Calls.{Seen}
-use Rattle.interface.specs.declared.crossing.Crossing.{Crossing}
+use Rattle.net_sim.proofs.Common.{◌≡◌, Bool, true, false, List, [], ◌∷◌, ◌++◌, refl, sym, subst, ◌∙◌, if◌then◌else◌, Host, Seen, Crossing, Notice, Request, Fate, Life, Kept, all_told, book_told, carried, changed_when, fates_where, life_ended, lives_asked, lives_at, lives_between, lives_crossed, lives_on, lives_told, lives_with, new_life, returned, where_it, Moment, Crossed, Asked, IsLawful, host_in, kept_by, kept_in, notices_by, WorldState}
 use Rattle.interface.specs.declared.crossing.Crossing.TheVariants as crossing
-use Rattle.host_pairs.specs.declared.notice.Notice.{Notice}
 use Rattle.host_pairs.specs.declared.notice.Notice.TheVariants as notice
-use Rattle.sockets.specs.declared.request.Request.{Request}
 use Rattle.sockets.specs.declared.request.Request.TheVariants as request
 use Rattle.promise.specs.Fates.{AreFated, is_over}
-use Rattle.promise.specs.declared.life.Fate.{Fate}
 use Rattle.promise.specs.declared.life.Fate.TheVariants as fate
-use Rattle.promise.specs.declared.life.Life.{Life}
-use Rattle.net_sim.specs.Book.{Kept, all_told, book_told, carried, changed_when, closing, fates_asked, fates_crossed, fates_told, fates_where, granted, life_ended, lives_asked, lives_at, lives_between, lives_crossed, lives_on, lives_told, lives_with, new_life, over_by_cls, returned, where_it}
-use Rattle.net_sim.specs.Story.{Moment, Crossed, Asked}
-use Rattle.net_sim.specs.Clean.{IsLawful}
-use Rattle.net_sim.specs.Told.{host_in, kept_by, kept_in, notices_by}
-use Rattle.net_sim.specs.World.{WorldState}
+use Rattle.net_sim.specs.Book.{closing, fates_asked, fates_crossed, fates_told, granted, over_by_cls}
 
 -- ---- changes of lives and of fates
 

@@ -1,40 +1,19 @@
 -- What a world keeps is enough for its next event.
-use Rattle.std.proofs.Common.{◌≡◌, ℕ, Bool, true, false, ◌||◌, if◌then◌else◌, List, [], ◌∷◌, map, Option, Some, None, IfSome, All, Result, refl, ap, sym, subst, ◌∙◌}
-use Rattle.std.specs.Bool.{MatchBool}
-use Rattle.std.proofs.lemmas.List.Elements.{All-nil, All-cons, All-head, All-tail}
+use Rattle.net_sim.proofs.Common.{◌≡◌, ℕ, Bool, true, false, ◌||◌, if◌then◌else◌, List, [], ◌∷◌, map, Option, Some, None, IfSome, refl, ap, sym, subst, ◌∙◌, MatchBool, All-nil, All-cons, All-head, All-tail, Calls, Seen, InOrder, Host, IsAddress, is_host, same_host, Inbound, after_turn, message_taken, answered_turn, is_busy, PairState, NcpState, opening_state, owner_of, pair_with, listens_on, at_owner, closed_end, Parcel, next_in, offered_by, Entry, Notice, Peer, Request, Kept, shown, HaveAddresses, IsLawful, IsHeld, AreLive, IsOnce, world_ended, hosts_of, hosts_served, running, Moment, Crossed, Asked, program_after, places, program, crossings_of, IsNamed, IsWhole, seat_in, WorldState, WorldFault, Carrier, Seat, ServiceSeat, EventGives, Refuses, StepGives, opening_world}
+use Rattle.std.proofs.Common.{All, Result}
 use Rattle.interface.proofs.lemmas.{host_before_never, host_before_trans}
-use Rattle.interface.specs.Calls.{Calls, Seen, InOrder}
-use Rattle.interface.specs.Host.{Host, IsAddress, host_before, is_host, same_host}
+use Rattle.interface.specs.Host.{host_before}
 use Rattle.interface.specs.Mailboxes.{IsRun, is_up}
 use Rattle.interface.specs.declared.crossing.Crossing.TheVariants as crossing
-use Rattle.interface.specs.declared.crossing.Inbound.{Inbound}
 use Rattle.interface.specs.declared.crossing.Inbound.TheVariants as inbound
 use Rattle.sockets.proofs.lemmas.{same_host-true}
-use Rattle.sockets.specs.Accepting.{accepted, turn_of, after_turn}
-use Rattle.host_pairs.specs.Turn.{message_taken, answered_turn}
-use Rattle.host_pairs.specs.Entries.{is_busy}
-use Rattle.host_pairs.specs.Pair.{PairState}
-use Rattle.sockets.specs.Pairs.{NcpState, opening_state, owner_of, pair_with}
-use Rattle.host_pairs.specs.Desk.{listens_on, without_listener}
-use Rattle.sockets.specs.Requests.{at_owner, served}
-use Rattle.host_pairs.specs.Asked.{closed_end}
-use Rattle.host_pairs.specs.Parcels.{Parcel}
-use Rattle.sockets.specs.Sending.{next_in, offered, offered_by}
-use Rattle.host_pairs.specs.declared.entry.Entry.{Entry}
-use Rattle.host_pairs.specs.declared.notice.Notice.{Notice}
-use Rattle.sockets.specs.declared.peer.Peer.{Peer}
-use Rattle.sockets.specs.declared.request.Request.{Request}
+use Rattle.sockets.specs.Accepting.{accepted, turn_of}
+use Rattle.host_pairs.specs.Desk.{without_listener}
+use Rattle.sockets.specs.Requests.{served}
+use Rattle.sockets.specs.Sending.{offered}
 use Rattle.sockets.specs.declared.request.Request.TheVariants as request
 use Rattle.interface.specs.declared.carrier.CarrierFault.TheVariants as fault
-use Rattle.net_sim.specs.Book.{Kept}
-use Rattle.net_sim.specs.Carriers.{shown}
-use Rattle.net_sim.specs.Clean.{HaveAddresses, IsLawful}
-use Rattle.net_sim.specs.Inside.Held.{IsHeld}
-use Rattle.net_sim.specs.Inside.Parts.{AreLive, IsOnce, world_ended, hosts_of, hosts_served, running}
-use Rattle.net_sim.specs.Story.{Moment, Crossed, Asked, program_after, places, program}
-use Rattle.net_sim.specs.Timeline.{crossings_of}
-use Rattle.net_sim.specs.Whole.{IsNamed, IsWhole, seat_in}
-use Rattle.net_sim.specs.World.{WorldState, WorldFault, Carrier, Event, Seat, ServiceSeat, EventGives, Refuses, StepGives, opening_world}
+use Rattle.net_sim.specs.World.{Event}
 use Rattle.net_sim.proofs.Resets.Clean.{opening_lawful, step_lawful}
 use Rattle.net_sim.proofs.Books.Whole.{step_whole}
 

@@ -1,20 +1,11 @@
 -- Crossings oldest first, and newest first.
-use Rattle.std.proofs.Common.{◌≡◌, ℕ, ◌+◌, Option, List, [], ◌∷◌, ◌++◌, Some, None, length, map, take, drop, ◌-◌, reverse, refl, ap, sym, ◌∙◌, arith}
-use Rattle.std.specs.List.{flat_map}
-use Rattle.std.proofs.lemmas.List.{reverse-append, length-append, length-reverse, append-nil, append_assoc, take_all}
-use Rattle.std.proofs.Math.Seq.{drop-append_seam}
-use Rattle.interface.specs.declared.crossing.Crossing.{Crossing}
-use Rattle.net_sim.specs.Inside.Seats.{emptied_in_order, turned_in_order}
-use Rattle.host_pairs.specs.declared.notice.Notice.{Notice}
-use Rattle.interface.specs.Host.{Host}
-use Rattle.sockets.specs.declared.request.Request.{Request}
+use Rattle.net_sim.proofs.Common.{◌≡◌, ℕ, ◌+◌, Option, List, [], ◌∷◌, ◌++◌, Some, None, length, map, take, drop, ◌-◌, refl, ap, sym, ◌∙◌, arith, flat_map, reverse-append, length-reverse, append-nil, take_all, drop-append_seam, Crossing, emptied_in_order, turned_in_order, Notice, Host, Request, Called, Reported, Kept, crossed, all_crossed, book_told, all_told, asked, all_asked, all_reported, contacts_asked, LivesState, entered, told_at, Seat, ServiceSeat, seats_turned, all_turned, all_emptied}
+use Rattle.std.proofs.Common.{reverse}
+use Rattle.std.proofs.lemmas.List.{length-append, append_assoc}
 use Rattle.promise.specs.declared.book.Told.{Told}
-use Rattle.promise.specs.declared.book.Called.{Called}
-use Rattle.host_services.specs.declared.report.Reported.{Reported}
-use Rattle.net_sim.specs.Book.{Kept, crossed, all_crossed, book_told, all_told, asked, all_asked, all_reported, contacts_asked}
 use Rattle.net_sim.specs.Inside.Lives as all
-use Rattle.net_sim.specs.Inside.Lives.{LivesState, of_kept, followed, written, entered, told_at}
-use Rattle.net_sim.specs.World.{Seat, ServiceSeat, seats_turned, all_turned, emptied, all_emptied}
+use Rattle.net_sim.specs.Inside.Lives.{of_kept, followed, written}
+use Rattle.net_sim.specs.World.{emptied}
 
 turned_behind : (cs : List Crossing) (c : Crossing) (seats : List Seat) → all_turned (cs ++ c ∷ []) seats ≡ all_turned cs (seats_turned c seats)
 turned_behind [] c seats = refl

@@ -1,36 +1,26 @@
 -- What services report while they have their turns is so, by what their host was notified of.
-use Rattle.std.proofs.Common.{◌≡◌, inl, inr, ℕ, ◌+◌, Bool, true, false, List, [], ◌∷◌, ◌++◌, map, filter, length, take, Option, Some, None, All, refl, ap, sym, subst, ◌∙◌, append_assoc, length-append, arith}
-use Rattle.std.proofs.lemmas.List.{append-nil, map-append, take-append-le, take_all}
-use Rattle.std.proofs.lemmas.List.Elements.{All-cons, All-head, All-nil, All-push, All-tail, All-weaker, filter-append}
-use Rattle.std.specs.Option.{option_or}
-use Rattle.interface.specs.Host.{Host, same_host}
-use Rattle.interface.proofs.lemmas.{same_host-refl}
-use Rattle.host_pairs.specs.declared.notice.Notice.{Notice}
-use Rattle.sockets.specs.Pairs.{NcpState}
-use Rattle.sockets.specs.Requests.{refusal}
-use Rattle.sockets.specs.declared.fault.NcpFault.{NcpFault}
-use Rattle.sockets.specs.declared.request.Request.{Request}
+use Rattle.net_sim.proofs.Common.{◌≡◌, inl, inr, ℕ, ◌+◌, Bool, true, false, List, [], ◌∷◌, ◌++◌, map, filter, length, take, Option, Some, None, refl, ap, sym, subst, ◌∙◌, arith, append-nil, map-append, take_all, All-cons, All-head, All-nil, All-push, All-tail, All-weaker, option_or, Host, same_host, same_host-refl, Notice, NcpState, refusal, NcpFault, Request, StartFault, ServiceDeskState, ServicesState, opening_desk, Reported, Kept, all_told, book_told, IsBacked, IsRunning, ServerIsDone, UserIsDone, told_to}
+use Rattle.std.proofs.Common.{All, append_assoc, length-append}
+use Rattle.std.proofs.lemmas.List.{take-append-le}
+use Rattle.std.proofs.lemmas.List.Elements.{filter-append}
 use Rattle.icp.specs.Outcomes.{IcpTurn, local_outcome}
 use Rattle.icp.specs.Server.{ServerState, opening_server, server_local, server_requests, server_turn}
 use Rattle.icp.specs.Sockets.{server_fault, user_fault}
 use Rattle.icp.specs.User.{UserState, opening_user, user_local, user_requests, user_turn}
-use Rattle.icp.specs.declared.fault.StartFault.{StartFault}
 use Rattle.icp.specs.declared.outcome.Failure.TheVariants as failure
 use Rattle.icp.specs.declared.outcome.Outcome.{Outcome}
 use Rattle.icp.specs.declared.outcome.Outcome.TheVariants as outcome
 use Rattle.icp.proofs.lemmas.{ServerDone, UserDone, server_after, server_comes, server_done, server_over, user_after, user_comes, user_done, user_over}
 use Rattle.terminal.specs.Ends.{first_requests}
 use Rattle.terminal.specs.Machines.{echo_turn, terminal_turn}
-use Rattle.host_services.specs.Services.{ServiceDeskState, ServicesState, noticing, opening_desk, reporting, serving, typing_on}
+use Rattle.host_services.specs.Services.{noticing, reporting, serving, typing_on}
 use Rattle.host_services.specs.Turns.{Turned, all_heard, asked_by, asks, became, heard_by, line_told, lines_told, notice_heard, server_asked, server_asks, server_begins, server_begun, server_ends, services_told, tried, tried_by, tries, user_asked, user_asks, user_begins, user_begun, user_ends}
 use Rattle.host_services.specs.declared.report.Report.{Report}
 use Rattle.host_services.specs.declared.report.Report.TheVariants as report
 use Rattle.host_services.specs.declared.service.Service.{Service}
 use Rattle.host_services.specs.declared.service.Service.TheVariants as service
 use Rattle.promise.specs.declared.book.Told.{Told}
-use Rattle.host_services.specs.declared.report.Reported.{Reported}
-use Rattle.net_sim.specs.Book.{Kept, all_told, book_told}
-use Rattle.net_sim.specs.Reports.{BegunServer, BegunUser, IsBacked, IsRunning, IsSo, ServerIsDone, UserIsDone, told_to}
+use Rattle.net_sim.specs.Reports.{BegunServer, BegunUser, IsSo}
 
 -- ---- one notice more
 

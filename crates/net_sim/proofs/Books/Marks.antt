@@ -1,16 +1,10 @@
 -- Lists of places that have at least those of the open lives.
-use Rattle.std.proofs.Common.{◌≡◌, inl, inr, ℕ, ◌<◌, ◌≤◌, ◌&&◌, ◌==◌, Bool, true, false, not, if◌then◌else◌, zero, suc, List, [], ◌∷◌, ◌++◌, length, take, drop, map, filter, slice_index_or, slice_set, refl, ap, sym, subst, ◌∙◌, arith, eq-eqb}
-use Rattle.std.proofs.lemmas.Bool.{eqb-true}
-use Rattle.std.proofs.lemmas.List.{map-append}
-use Rattle.std.proofs.Math.Seq.{take-append_seam}
-use Rattle.interface.specs.Host.{Host, same_host}
+use Rattle.net_sim.proofs.Common.{◌≡◌, inl, inr, ℕ, ◌<◌, ◌≤◌, ◌&&◌, ◌==◌, Bool, true, false, not, if◌then◌else◌, zero, suc, List, [], ◌∷◌, ◌++◌, length, take, drop, map, filter, slice_set, refl, ap, sym, subst, ◌∙◌, arith, eq-eqb, eqb-true, map-append, take-append_seam, Host, same_host, Life, changed_when, where_it, handed_to, lives_at, ends, AreKept, AreMarked, Covers, Holds, marked, is_open_at, IsEndNoted, IsNoted, Undo}
+use Rattle.std.proofs.Common.{slice_index_or}
 use Rattle.interface.proofs.lemmas.{same_host-true}
-use Rattle.promise.specs.declared.life.Life.{Life}
-use Rattle.net_sim.specs.Book.{changed_when, where_it, handed_to, lives_at}
-use Rattle.net_sim.specs.Inside.Endings.{Ending, ends}
-use Rattle.net_sim.specs.Inside.Open.{AreKept, AreMarked, Covers, Extends, Holds, IsKept, has_host, has_socket, host_key, marked, places_at, places_of, socket_key}
-use Rattle.net_sim.specs.Inside.Places.{changed_at, is_open_at}
-use Rattle.net_sim.specs.Inside.Undo.{IsEndNoted, IsNoted, Undo}
+use Rattle.net_sim.specs.Inside.Endings.{Ending}
+use Rattle.net_sim.specs.Inside.Open.{Extends, IsKept, has_host, has_socket, host_key, places_at, places_of, socket_key}
+use Rattle.net_sim.specs.Inside.Places.{changed_at}
 use Rattle.net_sim.specs.declared.life.Ending.TheVariants as ending
 use Rattle.net_sim.proofs.Books.Places.{hand_shifted, handed_at, none_handed, nothing_left, shifted, where_here}
 

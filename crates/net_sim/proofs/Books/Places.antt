@@ -1,8 +1,6 @@
 -- Changes of lives at places, one after the other.
-use Rattle.std.proofs.Common.{◌≡◌, ℕ, ◌+◌, ◌<◌, ◌≤◌, Bool, if◌then◌else◌, zero, suc, List, [], ◌∷◌, ◌++◌, length, drop, map, slice_index_or, slice_set, refl, ap, sym, ◌∙◌, arith}
-use Rattle.std.proofs.lemmas.List.{drop_more}
-use Rattle.promise.specs.declared.life.Life.{Life}
-use Rattle.net_sim.specs.Book.{changed_when}
+use Rattle.net_sim.proofs.Common.{◌≡◌, ℕ, ◌+◌, ◌<◌, ◌≤◌, Bool, if◌then◌else◌, zero, suc, List, [], ◌∷◌, ◌++◌, length, drop, map, slice_set, refl, ap, sym, ◌∙◌, arith, drop_more, Life, changed_when}
+use Rattle.std.proofs.Common.{slice_index_or}
 pub use Rattle.net_sim.specs.Inside.Places.{changed_at, changed_here}
 
 -- ---- a change at places, one after the other

@@ -1,7 +1,6 @@
 -- A refusal, and running out of memory, leave what is kept as it was.
-use Rattle.std.proofs.Common.{◌≡◌, Ok, Err, refl, sym, ◌∙◌}
-use Rattle.interface.specs.Calls.{Calls}
-use Rattle.net_sim.specs.World.{WorldState, WorldFault, Event, StepGives}
+use Rattle.net_sim.proofs.Common.{◌≡◌, Ok, Err, refl, sym, ◌∙◌, Calls, WorldState, WorldFault, StepGives}
+use Rattle.net_sim.specs.World.{Event}
 use Rattle.net_sim.proofs.Books.EachEvent.{Answered, Ways, step_way, unshown}
 
 module _ {C : Type 0} (calls : Calls C) (f : WorldFault) where

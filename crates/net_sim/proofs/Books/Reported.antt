@@ -1,25 +1,12 @@
 -- After every event of a world, what services have reported is so, and all that runs is as its host was notified.
-use Rattle.std.proofs.Common.{◌≡◌, ℕ, Bool, true, false, if◌then◌else◌, find, List, [], ◌∷◌, ◌++◌, length, Option, Some, All, refl, sym, subst, ◌∙◌}
-use Rattle.std.proofs.lemmas.List.Elements.{All-append, All-cons, All-head, All-nil, All-tail}
-use Rattle.interface.specs.Calls.{Calls, crossing_of, step_crossings, is_memory}
-use Rattle.interface.specs.Host.{Host, same_host}
-use Rattle.interface.specs.declared.crossing.Crossing.{Crossing}
+use Rattle.net_sim.proofs.Common.{◌≡◌, ℕ, Bool, true, false, if◌then◌else◌, find, List, [], ◌∷◌, ◌++◌, length, Option, Some, refl, sym, subst, ◌∙◌, All-cons, All-head, All-nil, All-tail, Calls, crossing_of, step_crossings, is_memory, Host, same_host, Crossing, Notice, accepted, NcpState, served, served_notices, offered, Request, ServiceDeskState, ServicesState, no_services, opening_desk, server_begun, user_begun, Reported, Kept, all_asked, all_crossed, all_told, asked, book_told, crossed, IsBacked, IsRunning, told_to, Each, WorldState, ServiceSeat, all_emptied, noticed, opening_services, opening_world, served_at, serviced, services_in, services_of, tended, with_services, world_heard, world_moved, CalmGives, Halts, RunGives, StepGives}
+use Rattle.std.proofs.Common.{All}
+use Rattle.std.proofs.lemmas.List.Elements.{All-append}
 use Rattle.interface.specs.declared.crossing.Crossing.TheVariants as crossing
 use Rattle.interface.proofs.lemmas.{same_host-true}
-use Rattle.host_pairs.specs.declared.notice.Notice.{Notice}
-use Rattle.sockets.specs.Accepting.{accepted}
-use Rattle.sockets.specs.Pairs.{NcpState}
-use Rattle.sockets.specs.Requests.{served, served_notices}
-use Rattle.sockets.specs.Sending.{offered}
-use Rattle.sockets.specs.declared.request.Request.{Request}
-use Rattle.host_services.specs.Services.{ServiceDeskState, ServicesState, no_services, opening_desk}
-use Rattle.host_services.specs.Turns.{server_begun, user_begun}
 use Rattle.promise.specs.declared.book.Told.{Told}
-use Rattle.host_services.specs.declared.report.Reported.{Reported}
-use Rattle.net_sim.specs.Book.{Kept, all_asked, all_crossed, all_told, asked, book_told, crossed}
-use Rattle.net_sim.specs.Reports.{AreReported, AreRunning, IsBacked, IsRunning, told_to}
-use Rattle.net_sim.specs.Whole.{Each}
-use Rattle.net_sim.specs.World.{WorldState, Event, ServiceSeat, all_emptied, changed, noticed, opening_services, opening_world, served_at, serviced, services_in, services_of, tended, turn_of, with_services, world_heard, world_moved, CalmGives, Halts, RunGives, StepGives}
+use Rattle.net_sim.specs.Reports.{AreReported, AreRunning}
+use Rattle.net_sim.specs.World.{Event, changed, turn_of}
 use Rattle.net_sim.proofs.Books.Always.{calm_keeps, run_keeps}
 use Rattle.net_sim.proofs.Books.EachEvent.{Answered, Ways, step_way, unshown}
 use Rattle.net_sim.proofs.Books.Machines.{AreLeft, backed_more, server_left, told_away, told_left, user_left}

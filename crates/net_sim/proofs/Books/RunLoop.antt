@@ -1,8 +1,7 @@
 -- A run, event by event.
-use Rattle.std.proofs.Common.{◌≡◌, ℕ, ◌+◌, Bool, true, false, List, ◌∷◌, drop, Result, refl, sym, subst}
-use Rattle.std.specs.Bool.{MatchBool}
-use Rattle.net_sim.specs.World.{WorldState, WorldFault, Carrier, Event, Refuses, StepGives, Runs, RunGives, stops}
-use Rattle.interface.specs.Calls.{Calls}
+use Rattle.net_sim.proofs.Common.{◌≡◌, ℕ, ◌+◌, Bool, true, false, List, ◌∷◌, drop, refl, sym, subst, MatchBool, WorldState, WorldFault, Carrier, Refuses, StepGives, Runs, RunGives, stops, Calls}
+use Rattle.std.proofs.Common.{Result}
+use Rattle.net_sim.specs.World.{Event}
 use Rattle.interface.specs.declared.carrier.CarrierFault.TheVariants as fault
 
 module _ {C : Type 0} (calls : Calls C) (events : List Event) (i : ℕ) (e : Event) (is : drop i events ≡ e ∷ drop (i + 1) events) (old mid : WorldState C) (answer : Result (Unit {0}) WorldFault)

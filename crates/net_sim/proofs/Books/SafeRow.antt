@@ -1,11 +1,7 @@
 -- The book of a connection on which a message was taken is safe.
-use Rattle.std.proofs.Common.{◌≡◌, true, false, [], ◌∷◌, ◌++◌, length, length-append, Some, IsSome, inl, inr, refl, ap, sym, subst, ◌∙◌, arith}
+use Rattle.net_sim.proofs.Common.{◌≡◌, true, false, [], ◌∷◌, ◌++◌, length, Some, inl, inr, refl, ap, sym, subst, ◌∙◌, arith, safe_messages, first, second, Life, Name, SafeBook, SafePartners, SafeStreams, SafeGrants, IsGranted, Source, AreTwo, receives, sends, own_request, partner_request, eight, crossings, taker, giver}
+use Rattle.std.proofs.Common.{length-append, IsSome}
 use Rattle.interface.specs.Mailboxes.{IsRun}
-use Rattle.interface.proofs.lemmas.{safe_messages}
-use Rattle.sockets.specs.Worked.{first, second}
-use Rattle.promise.specs.declared.life.Life.{Life}
-use Rattle.promise.specs.Safe.{Name, SafeBook, SafePartners, SafeStreams, SafeGrants, IsGranted, Source, AreTwo, receives, sends, own_request, partner_request}
-use Rattle.net_sim.specs.Worked.{eight, crossings, taker, giver}
 use Rattle.net_sim.proofs.Books.Unsafe.{two_there, not_sending, place_of}
 
 -- the two lives, and no others, are two

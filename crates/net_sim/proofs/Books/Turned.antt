@@ -1,11 +1,8 @@
 -- Fates of lives at places, one after the other.
-use Rattle.std.proofs.Common.{◌≡◌, ℕ, ◌+◌, ◌<◌, ◌≤◌, Bool, true, false, if◌then◌else◌, zero, suc, List, [], ◌∷◌, length, drop, map, slice_index_or, slice_set, refl, ap, sym, ◌∙◌, arith}
-use Rattle.std.proofs.lemmas.List.{drop_more}
-use Rattle.promise.specs.declared.life.Fate.{Fate}
-use Rattle.promise.specs.declared.life.Life.{Life}
-use Rattle.net_sim.specs.Book.{fates_where}
-use Rattle.net_sim.specs.Inside.Endings.{Turn, turns}
-use Rattle.net_sim.specs.Inside.Open.{AreMarked, Covers, Holds, marked, places_by}
+use Rattle.net_sim.proofs.Common.{◌≡◌, ℕ, ◌+◌, ◌<◌, ◌≤◌, Bool, true, false, if◌then◌else◌, zero, suc, List, [], ◌∷◌, length, drop, map, slice_set, refl, ap, sym, ◌∙◌, arith, drop_more, Fate, Life, fates_where, turns, AreMarked, Covers, Holds, marked}
+use Rattle.std.proofs.Common.{slice_index_or}
+use Rattle.net_sim.specs.Inside.Endings.{Turn}
+use Rattle.net_sim.specs.Inside.Open.{places_by}
 use Rattle.net_sim.specs.declared.life.Ending.TheVariants as ending
 use Rattle.net_sim.specs.declared.life.Turn.TheVariants as turn
 use Rattle.net_sim.proofs.Books.Marks.{look_at, look_of}

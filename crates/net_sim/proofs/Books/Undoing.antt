@@ -1,13 +1,8 @@
 -- What was done to the lives is taken back.
-use Rattle.std.proofs.Common.{◌≡◌, inl, inr, ℕ, ◌+◌, ◌<◌, ◌≤◌, Bool, zero, suc, List, [], ◌∷◌, ◌++◌, length, take, drop, slice_index_or, slice_set, refl, ap, sym, ◌∙◌, arith}
-use Rattle.std.proofs.lemmas.List.{drop_more}
-use Rattle.std.proofs.Math.Seq.{take-append_seam}
-use Rattle.promise.specs.declared.life.Fate.{Fate}
-use Rattle.promise.specs.declared.life.Life.{Life}
+use Rattle.net_sim.proofs.Common.{◌≡◌, inl, inr, ℕ, ◌+◌, ◌<◌, ◌≤◌, Bool, zero, suc, List, [], ◌∷◌, ◌++◌, length, take, drop, slice_set, refl, ap, sym, ◌∙◌, arith, drop_more, take-append_seam, Fate, Life, LivesState, changed_here, Undo, life_back, reopened, undone, all_undone, GoesBack, IsEndNoted, IsNoted}
+use Rattle.std.proofs.Common.{slice_index_or}
 pub use Rattle.net_sim.specs.Inside.Lives.{state}
-use Rattle.net_sim.specs.Inside.Lives.{LivesState}
-use Rattle.net_sim.specs.Inside.Places.{changed_here}
-use Rattle.net_sim.specs.Inside.Undo.{Undo, life_back, reopened, cut_here, fate_here, undone, all_undone, GoesBack, IsEndNoted, IsNoted, IsTurnNoted, AreNoted}
+use Rattle.net_sim.specs.Inside.Undo.{cut_here, fate_here, IsTurnNoted, AreNoted}
 use Rattle.net_sim.specs.declared.undo.Undo.TheVariants as undo
 
 -- one thing more was done

@@ -1,21 +1,14 @@
 -- Lives that are made of the messages of a small log, and lives that aren't.
-use Rattle.std.proofs.Common.{◌≡◌, ℕ, Bool, true, false, zero, suc, List, [], ◌∷◌, Option, Some, None, is_some, refl, ap, sym, subst, arith}
-use Rattle.std.specs.List.{Contains}
+use Rattle.net_sim.proofs.Common.{◌≡◌, ℕ, Bool, true, false, zero, suc, List, [], ◌∷◌, Option, Some, None, refl, ap, sym, subst, arith, Contains, Crossing, HostMessage, Legal, Order, Wrong, first, second, third, Life, receives, given_log, moved, taken_log, eight, eight_zeros, message, eight_sent, rts, str}
+use Rattle.std.proofs.Common.{is_some}
 use Rattle.std.specs.Prelude.{IsSome}
 use Rattle.bit_messages.specs.Octets.{octets_of}
-use Rattle.interface.specs.declared.crossing.Crossing.{Crossing}
 use Rattle.interface.specs.declared.crossing.Crossing.TheVariants as crossing
-use Rattle.interface.specs.declared.message.HostMessage.{HostMessage}
 use Rattle.ncp_control.specs.Reading.{command_of, read_of}
 use Rattle.ncp_control.specs.declared.command.Command.TheVariants as command
-use Rattle.host_pairs.specs.Control.{Legal, Order, Wrong, orders_of}
-use Rattle.sockets.specs.Worked.{first, second, third}
-use Rattle.promise.specs.declared.life.Life.{Life}
+use Rattle.host_pairs.specs.Control.{orders_of}
 use Rattle.promise.specs.Formed.{AreData, IsFormed, first_data, link_of, named_in, texts_on}
-use Rattle.promise.specs.Safe.{receives}
-use Rattle.net_sim.specs.SmallLogs.{given_log, moved, one_given, one_taken, taken_log, two_rts}
-use Rattle.net_sim.specs.Worked.{eight, eight_zeros, message}
-use Rattle.net_sim.specs.WorkedMoments.{eight_sent, rts, str}
+use Rattle.net_sim.specs.SmallLogs.{one_given, one_taken, two_rts}
 
 -- ---- what the messages hold
 

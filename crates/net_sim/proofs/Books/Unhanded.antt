@@ -1,26 +1,12 @@
 -- Nothing is handed over in a receiving life: a request to send is refused on a receiving socket.
-use Rattle.std.proofs.Common.{◌≡◌, ℕ, ◌==◌, ◌&&◌, ◌++◌, ◌%◌, Bool, true, false, not, List, [], ◌∷◌, None, refl, ap, sym, subst, ◌∙◌, arith, if◌then◌else◌}
-use Rattle.std.proofs.lemmas.Bool.{eqb-true}
-use Rattle.interface.specs.Host.{Host, same_host}
-use Rattle.interface.specs.Calls.{Seen}
-use Rattle.interface.specs.declared.crossing.Crossing.{Crossing}
+use Rattle.net_sim.proofs.Common.{◌≡◌, ℕ, ◌==◌, ◌&&◌, ◌++◌, ◌%◌, Bool, true, false, not, List, [], ◌∷◌, None, refl, ap, sym, subst, ◌∙◌, arith, if◌then◌else◌, eqb-true, Host, same_host, Seen, Crossing, and_true, is_receive_socket, is_send_socket, Notice, NcpState, Request, Life, Kept, all_told, book_told, carried, changed_when, handed_to, life_ended, lives_asked, lives_at, lives_between, lives_crossed, lives_on, lives_told, lives_with, new_life, returned, where_it, Moment, Crossed, Asked, program, Happens, IsTimeline, IsLawful, host_in, kept_by, kept_in, notices_by, WorldState}
 use Rattle.interface.specs.declared.crossing.Crossing.TheVariants as crossing
-use Rattle.interface.proofs.lemmas.{and_true, guard, not_false}
-use Rattle.ncp_control.specs.Numbers.{is_receive_socket, is_send_socket}
-use Rattle.host_pairs.specs.declared.notice.Notice.{Notice}
+use Rattle.interface.proofs.lemmas.{guard, not_false}
 use Rattle.host_pairs.specs.declared.notice.Notice.TheVariants as notice
-use Rattle.sockets.specs.Pairs.{NcpState}
 use Rattle.sockets.specs.Requests.{refusal}
-use Rattle.sockets.specs.declared.request.Request.{Request}
 use Rattle.sockets.specs.declared.request.Request.TheVariants as request
-use Rattle.promise.specs.declared.life.Life.{Life}
-use Rattle.net_sim.specs.Book.{Kept, all_told, book_told, carried, changed_when, granted, handed_asked, handed_told, handed_to, life_ended, lives_asked, lives_at, lives_between, lives_crossed, lives_on, lives_told, lives_with, new_life, returned, where_it}
+use Rattle.net_sim.specs.Book.{granted, handed_asked, handed_told}
 use Rattle.net_sim.specs.Handed.{AreUnhanded}
-use Rattle.net_sim.specs.Story.{Moment, Crossed, Asked, program}
-use Rattle.net_sim.specs.Timeline.{Happens, IsTimeline}
-use Rattle.net_sim.specs.Clean.{IsLawful}
-use Rattle.net_sim.specs.Told.{host_in, kept_by, kept_in, notices_by}
-use Rattle.net_sim.specs.World.{WorldState}
 
 -- ---- changes of lives
 

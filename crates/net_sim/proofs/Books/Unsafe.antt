@@ -1,14 +1,10 @@
 -- Books that aren't safe.
-use Rattle.std.proofs.Common.{◌≡◌, ◌⊎◌, ◌≤◌, true, false, List, [], ◌∷◌, ◌++◌, ℕ, Option, Some, None, IsSome, zero, suc, inl, inr, refl, ap, sym, subst, ◌∙◌, arith}
-use Rattle.std.specs.List.{Contains}
-use Rattle.interface.specs.Host.{Host}
+use Rattle.net_sim.proofs.Common.{◌≡◌, ◌⊎◌, ◌≤◌, true, false, List, [], ◌∷◌, ◌++◌, ℕ, Option, Some, None, zero, suc, inl, inr, refl, ap, sym, subst, ◌∙◌, arith, Contains, Host, Crossing, first, second, third, Life, Name, SafeBook, IsGranted, Source, Match, sends, own_request, partner_request, eight, eight_zeros, four, crossings, message, receiver, sender, taker, giver, elsewhere, asker, stranger}
+use Rattle.std.proofs.Common.{IsSome}
 use Rattle.interface.specs.declared.crossing.Answer.TheVariants as answer
-use Rattle.interface.specs.declared.crossing.Crossing.{Crossing}
 use Rattle.interface.specs.declared.crossing.Crossing.TheVariants as crossing
-use Rattle.sockets.specs.Worked.{first, second, third, on_link}
-use Rattle.promise.specs.declared.life.Life.{Life}
-use Rattle.promise.specs.Safe.{Name, SafeBook, IsGranted, Source, Match, IsPrefix, sends, own_request, partner_request}
-use Rattle.net_sim.specs.Worked.{eight, eight_zeros, four, crossings, message, receiver, sender, taker, giver, elsewhere, asker, stranger}
+use Rattle.sockets.specs.Worked.{on_link}
+use Rattle.promise.specs.Safe.{IsPrefix}
 
 -- ---- where a life is
 

@@ -1,11 +1,8 @@
 -- Books that aren't safe though each of their lives has ended.
-use Rattle.std.proofs.Common.{◌≡◌, ◌≤◌, [], ◌∷◌, ◌++◌, Some, IsSome, refl, ap, arith}
+use Rattle.net_sim.proofs.Common.{◌≡◌, ◌≤◌, [], ◌∷◌, ◌++◌, Some, refl, ap, arith, Host, first, second, third, Life, SafeBook, IsGranted, Source, Match, sends, own_request, partner_request, eight, four, crossings, message, receiver, sender, taker, giver, elsewhere, asker, stranger, over}
+use Rattle.std.proofs.Common.{IsSome}
 use Rattle.interface.specs.declared.crossing.Crossing.TheVariants as crossing
-use Rattle.interface.specs.Host.{Host}
-use Rattle.sockets.specs.Worked.{first, second, third}
-use Rattle.promise.specs.declared.life.Life.{Life}
-use Rattle.promise.specs.Safe.{SafeBook, IsGranted, Source, Match, IsPrefix, sends, own_request, partner_request}
-use Rattle.net_sim.specs.Worked.{eight, four, crossings, message, receiver, sender, taker, giver, elsewhere, asker, stranger, over}
+use Rattle.promise.specs.Safe.{IsPrefix}
 use Rattle.net_sim.proofs.Books.Unsafe.{one_there, not_sending, place_of}
 
 -- ---- partners

@@ -1,22 +1,11 @@
 -- Notices that report the messages of a small log, and notices that don't.
-use Rattle.std.proofs.Common.{◌≡◌, inl, inr, ℕ, ◌+◌, ◌≤◌, Bool, true, false, List, [], ◌∷◌, length, refl, ap, sym, subst, ◌∙◌, arith}
-use Rattle.std.specs.List.{Contains}
-use Rattle.interface.specs.Host.{Host}
-use Rattle.interface.specs.declared.crossing.Crossing.{Crossing}
+use Rattle.net_sim.proofs.Common.{◌≡◌, inl, inr, ℕ, ◌+◌, ◌≤◌, Bool, true, false, List, [], ◌∷◌, length, refl, ap, sym, subst, ◌∙◌, arith, Contains, Host, Crossing, HostMessage, is_receive_socket, Legal, Order, orders_of, Notice, first, second, third, CrossedAt, given_log, moved, taken_log, eight, eight_zeros, eight_sent, rts, str}
 use Rattle.interface.specs.declared.crossing.Crossing.TheVariants as crossing
-use Rattle.interface.specs.declared.message.HostMessage.{HostMessage}
-use Rattle.ncp_control.specs.Numbers.{is_receive_socket}
 use Rattle.ncp_control.specs.declared.command.Command.TheVariants as command
-use Rattle.host_pairs.specs.Control.{Legal, Order, orders_of}
-use Rattle.host_pairs.specs.declared.notice.Notice.{Notice}
 use Rattle.host_pairs.specs.declared.notice.Notice.TheVariants as notice
-use Rattle.sockets.specs.Worked.{first, second, third}
 use Rattle.promise.specs.declared.book.Told.{Told}
-use Rattle.promise.specs.Formed.{CrossedAt}
 use Rattle.promise.specs.Notices.{AreTold, FormedNotices, HasLink, TellsOf}
-use Rattle.net_sim.specs.SmallLogs.{given_log, given_told, moved, taken_log, taken_told}
-use Rattle.net_sim.specs.Worked.{eight, eight_zeros}
-use Rattle.net_sim.specs.WorkedMoments.{eight_sent, rts, str}
+use Rattle.net_sim.specs.SmallLogs.{given_told, taken_told}
 use Rattle.net_sim.proofs.Books.Unformed.{not_zeros, only_there, rts_holds, rts_read, str_holds, str_read}
 
 -- ---- good ones

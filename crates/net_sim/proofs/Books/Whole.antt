@@ -1,42 +1,19 @@
 -- After every event of a world its book still describes one list of moments.
-use Rattle.std.proofs.Common.{◌≡◌, ◌⊎◌, inl, inr, ℕ, Bool, true, false, ◌||◌, if◌then◌else◌, List, [], ◌∷◌, ◌++◌, map, length, All, Option, Some, None, Result, Ok, Err, refl, ap, sym, subst, ◌∙◌}
-use Rattle.std.specs.Bool.{MatchBool}
-use Rattle.std.specs.List.{fold}
-use Rattle.interface.specs.Calls.{Calls, Seen, ShowsOffer, ShowsTake, ShowsStep, ShowsRound, ShowsRefusal, ShowsCrossings, halted, is_memory, step_crossings}
-use Rattle.interface.specs.Host.{Host, IsAddress, same_host, is_host}
-use Rattle.interface.proofs.lemmas.{same_host-refl}
+use Rattle.net_sim.proofs.Common.{◌≡◌, ◌⊎◌, inl, inr, ℕ, Bool, true, false, ◌||◌, if◌then◌else◌, List, [], ◌∷◌, ◌++◌, map, length, Option, Some, None, Ok, Err, refl, ap, sym, subst, ◌∙◌, MatchBool, fold, Calls, Seen, ShowsOffer, ShowsTake, ShowsRefusal, ShowsCrossings, halted, is_memory, step_crossings, Host, IsAddress, same_host, is_host, same_host-refl, CarrierFault, Crossing, Inbound, NetEvent, HostMessage, accepted, NcpState, refusal, served, served_notices, next_out, offered, NcpFault, Notice, Request, MayAsk, NamePeers, NoneRefused, ServiceDeskState, ServicesState, opening_desk, server_begun, user_begun, line_bits, Called, Kept, contacts_asked, crossed, all_crossed, book_told, all_told, asked, shown, Moment, Crossed, Asked, places, Happens, IsAddressed, IsTimeline, contacts_of, crossings_of, host_in, kept_in, notices_by, without_reports, AreServed, Each, IsNamed, IsWhole, seat_in, WorldState, WorldFault, Carrier, Program, Net, Quiet, Offer, Ask, Server, User, Typed, Seat, opening_world, seat_of, seated, all_turned, services_of, noticed, world_heard, tended, with_server, with_user, DoesOrHalts, TypeGives, with_program, with_carrier, world_moved, Refuses, Does, Halts, OfferEnds, OfferGives, TakeEnds, TakeGives, NetEnds, QuietEnds, AskGives, AtProgram, AtSeat, EventGives, StepGives, RunGives, CalmGives, opening_seats}
+use Rattle.std.proofs.Common.{All, Result}
+use Rattle.interface.specs.Calls.{ShowsStep, ShowsRound}
 use Rattle.interface.specs.Mailboxes as mail
-use Rattle.interface.specs.declared.carrier.CarrierFault.{CarrierFault}
 use Rattle.interface.specs.declared.carrier.CarrierFault.TheVariants as fault
-use Rattle.interface.specs.declared.crossing.Crossing.{Crossing}
 use Rattle.interface.specs.declared.crossing.Crossing.TheVariants as crossing
-use Rattle.interface.specs.declared.crossing.Inbound.{Inbound}
 use Rattle.interface.specs.declared.crossing.Inbound.TheVariants as inbound
-use Rattle.interface.specs.declared.event.NetEvent.{NetEvent}
-use Rattle.interface.specs.declared.message.HostMessage.{HostMessage}
 use Rattle.ncp_control.specs.Command.{IsWord}
-use Rattle.sockets.specs.Accepting.{accepted}
-use Rattle.sockets.specs.Pairs.{NcpState}
-use Rattle.sockets.specs.Requests.{refusal, served, served_notices}
-use Rattle.sockets.specs.Sending.{next_out, offered}
-use Rattle.sockets.specs.declared.fault.NcpFault.{NcpFault}
-use Rattle.host_pairs.specs.declared.notice.Notice.{Notice}
 use Rattle.sockets.specs.declared.fault.NcpFault.TheVariants as problem
-use Rattle.sockets.specs.declared.request.Request.{Request}
 use Rattle.sockets.specs.declared.request.Request.TheVariants as request
 use Rattle.host_services.proofs.lemmas.{server_asked_all, server_named_all, told_asked, user_asked_all, user_named_all}
-use Rattle.host_services.specs.Named.{HasAsked, MayAsk, NamePeers, NoneRefused}
-use Rattle.host_services.specs.Services.{ServiceDeskState, ServicesState, opening_desk}
-use Rattle.host_services.specs.Turns.{server_begun, user_begun}
-use Rattle.host_services.specs.TypedLines.{line_bits}
-use Rattle.promise.specs.declared.book.Called.{Called}
-use Rattle.net_sim.specs.Book.{Kept, contacts_asked, crossed, all_crossed, book_told, all_told, asked}
-use Rattle.net_sim.specs.Carriers.{shown}
-use Rattle.net_sim.specs.Story.{Moment, Crossed, Asked, program, places}
-use Rattle.net_sim.specs.Timeline.{Happens, IsAddressed, IsAsked, IsTimeline, contacts_of, crossings_of}
-use Rattle.net_sim.specs.Told.{host_in, kept_in, notices_by, without_reports}
-use Rattle.net_sim.specs.Whole.{AreServed, Each, IsNamed, IsWhole, seat_in}
-use Rattle.net_sim.specs.World.{WorldState, WorldFault, Carrier, Program, Event, Net, Quiet, Offer, Take, Ask, Server, User, Typed, Seat, opening_world, seat_of, seated, all_turned, services_of, noticed, world_heard, tended, turn_of, with_server, with_user, DoesOrHalts, TypeGives, with_program, with_carrier, world_moved, changed, Refuses, Does, Halts, Passes, OfferEnds, OfferGives, TakeEnds, TakeGives, NetEnds, QuietEnds, AskGives, AtProgram, AtSeat, EventGives, StepGives, RunGives, CalmGives, opening_seats}
+use Rattle.host_services.specs.Named.{HasAsked}
+use Rattle.net_sim.specs.Story.{program}
+use Rattle.net_sim.specs.Timeline.{IsAsked}
+use Rattle.net_sim.specs.World.{Event, Take, turn_of, changed, Passes}
 use Rattle.net_sim.proofs.Books.Always.{run_keeps, calm_keeps}
 use Rattle.net_sim.proofs.Hosts.Asks.{after_each, asks_contacts, asks_crossings, asks_each, asks_of, asks_timeline, emptied_served, named_of, opening_served, same_each, still_served}
 use Rattle.net_sim.proofs.Books.Booked.{asked_crossings, told_crossings, crossed_crossings}

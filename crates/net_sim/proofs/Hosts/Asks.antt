@@ -1,23 +1,9 @@
 -- What services of a host ask for, as one moment after the other; and the services of all hosts.
-use Rattle.std.proofs.Common.{◌≡◌, ℕ, Bool, true, false, if◌then◌else◌, find, List, [], ◌∷◌, ◌++◌, map, length, Option, Some, None, All, refl, ap, sym, ◌∙◌}
-use Rattle.std.specs.List.{fold}
-use Rattle.std.proofs.lemmas.List.Elements.{All-cons, All-head, All-nil, All-tail}
-use Rattle.interface.specs.Host.{Host, same_host}
+use Rattle.net_sim.proofs.Common.{◌≡◌, ℕ, Bool, true, false, if◌then◌else◌, find, List, [], ◌∷◌, ◌++◌, map, length, Option, Some, None, refl, ap, sym, ◌∙◌, fold, All-cons, All-head, All-nil, All-tail, Host, same_host, Crossing, same_host-refl, NcpState, refusal, served, Request, MayAsk, NamePeers, NoneRefused, ServicesState, no_services, Called, Kept, all_asked, asked, contacts_asked, Moment, Asked, program, places, IsTimeline, contacts_of, crossings_of, AreServed, seat_in, ServiceSeat, Seat, all_emptied, opening_services, services_in, services_of, serviced, with_program, with_services}
+use Rattle.std.proofs.Common.{All}
 use Rattle.interface.specs.Mailboxes as mail
-use Rattle.interface.specs.declared.crossing.Crossing.{Crossing}
 use Rattle.interface.specs.declared.crossing.Crossing.TheVariants as crossing
-use Rattle.interface.proofs.lemmas.{same_host-refl}
-use Rattle.sockets.specs.Pairs.{NcpState}
-use Rattle.sockets.specs.Requests.{refusal, served}
-use Rattle.sockets.specs.declared.request.Request.{Request}
-use Rattle.host_services.specs.Named.{MayAsk, NamePeers, NamesPeer, NoneRefused}
-use Rattle.host_services.specs.Services.{ServicesState, no_services}
-use Rattle.promise.specs.declared.book.Called.{Called}
-use Rattle.net_sim.specs.Book.{Kept, all_asked, asked, contacts_asked}
-use Rattle.net_sim.specs.Story.{Moment, Asked, program, places}
-use Rattle.net_sim.specs.Timeline.{IsTimeline, contacts_of, crossings_of}
-use Rattle.net_sim.specs.Whole.{AreServed, seat_in}
-use Rattle.net_sim.specs.World.{ServiceSeat, Seat, all_emptied, opening_services, services_in, services_of, serviced, with_program, with_services}
+use Rattle.host_services.specs.Named.{NamesPeer}
 use Rattle.net_sim.proofs.Hosts.Seats.{seated_at}
 
 -- ---- moments

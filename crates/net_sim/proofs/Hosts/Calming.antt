@@ -1,21 +1,10 @@
 -- A calm, part by part: a host's takings and offers, its turn, a round, and the rounds.
-use Rattle.std.proofs.Common.{inl, inr, ◌≡◌, ℕ, ◌+◌, ◌-◌, ◌<◌, ◌≤◌, Bool, true, false, ◌||◌, zero, suc, nat_lt, is_some, cond, List, [], ◌∷◌, length, map, filter, reverse, drop, find, slice_get, lt-ltb, le-ltb, if◌then◌else◌, add-one, Option, Some, None, Result, Ok, Err, refl, ap, sym, subst, ◌∙◌, arith}
-use Rattle.std.proofs.lemmas.List.{length-map, length-reverse, drop_all}
-use Rattle.std.specs.Bool.{MatchBool}
-use Rattle.interface.specs.Host.{Host, same_host}
-use Rattle.interface.specs.Calls.{Calls, is_memory, is_halt}
-use Rattle.interface.specs.declared.carrier.CarrierFault.{CarrierFault}
+use Rattle.net_sim.proofs.Common.{inl, inr, ◌≡◌, ℕ, ◌+◌, ◌-◌, ◌<◌, ◌≤◌, Bool, true, false, ◌||◌, zero, suc, nat_lt, cond, List, [], ◌∷◌, length, map, filter, drop, find, if◌then◌else◌, add-one, Option, Some, None, Ok, Err, refl, ap, sym, subst, ◌∙◌, arith, length-map, length-reverse, MatchBool, Host, same_host, Calls, is_memory, is_halt, CarrierFault, Crossing, Inbound, HostMessage, accepted, NcpState, next_out, offered, Kept, IsOnce, hosts_of, WorldState, WorldFault, Carrier, Program, Quiet, Offer, Seat, seat_of, seated, services_of, noticed, Refuses, Does, Halts, OfferEnds, OfferGives, TakeEnds, TakeGives, QuietEnds, AtProgram, AtSeat, EventGives, StepGives, wants_memory, stops, Repeats, TurnsOf, up_in, Calms, CalmGives}
+use Rattle.std.proofs.Common.{is_some, reverse, slice_get, lt-ltb, le-ltb, Result}
+use Rattle.std.proofs.lemmas.List.{drop_all}
 use Rattle.interface.specs.declared.carrier.CarrierFault.TheVariants as fault
-use Rattle.interface.specs.declared.crossing.Crossing.{Crossing}
-use Rattle.interface.specs.declared.crossing.Inbound.{Inbound}
-use Rattle.interface.specs.declared.message.HostMessage.{HostMessage}
-use Rattle.sockets.specs.Accepting.{accepted}
-use Rattle.sockets.specs.Pairs.{NcpState}
-use Rattle.sockets.specs.Sending.{next_out, offered}
-use Rattle.net_sim.specs.Book.{Kept}
 use Rattle.net_sim.specs.Inside.Calm.{CalmTurn, Round}
-use Rattle.net_sim.specs.Inside.Parts.{IsOnce, hosts_of}
-use Rattle.net_sim.specs.World.{WorldState, WorldFault, Carrier, Program, Event, Quiet, Offer, Take, Seat, seat_of, seated, services_of, noticed, turn_of, Refuses, Does, Halts, Passes, OfferEnds, OfferGives, TakeEnds, TakeGives, QuietEnds, AtProgram, AtSeat, EventGives, StepGives, wants_memory, stops, Repeats, TurnsOf, up_in, Calms, CalmGives}
+use Rattle.net_sim.specs.World.{Event, Take, turn_of, Passes}
 use Rattle.net_sim.proofs.Hosts.SeatLemmas.{absent}
 
 abbrev Answer : Type 0

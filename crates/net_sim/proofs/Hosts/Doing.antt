@@ -1,18 +1,11 @@
 -- What the services of a host did in a call, put together from its steps.
-use Rattle.std.proofs.Common.{◌≡◌, ℕ, zero, suc, List, [], ◌∷◌, Option, Some, None, Result, Ok, Err, OnOk, slice_index_or, slice_set, refl, ap, sym, subst, ◌∙◌}
-use Rattle.std.proofs.lemmas.List.{append-nil, get_or-set_same, set-get_or}
-use Rattle.interface.specs.Host.{Host}
-use Rattle.host_pairs.specs.declared.notice.Notice.{Notice}
-use Rattle.host_services.specs.Services.{ServiceDeskState, ServicesState, opening_desk}
+use Rattle.net_sim.proofs.Common.{◌≡◌, ℕ, zero, suc, List, [], ◌∷◌, Option, Some, None, Ok, Err, OnOk, slice_set, refl, ap, sym, subst, ◌∙◌, append-nil, Host, Notice, ServiceDeskState, ServicesState, opening_desk, Reported, Kept, all_asked, all_reported, all_told, AreDone, Serves, Sits, ServiceSeat, Seat, NcpState, NcpFault, Request}
+use Rattle.std.proofs.Common.{Result, slice_index_or}
+use Rattle.std.proofs.lemmas.List.{get_or-set_same, set-get_or}
 use Rattle.host_services.specs.Turns.{passed_by, services_told}
-use Rattle.host_services.specs.declared.report.Reported.{Reported}
-use Rattle.net_sim.specs.Book.{Kept, all_asked, all_reported, all_told}
-use Rattle.net_sim.specs.Inside.Parts.{AreDone, IsDone, IsSettled, Serves, Sits}
-use Rattle.net_sim.specs.World.{ServiceSeat, Seat, turn_of}
+use Rattle.net_sim.specs.Inside.Parts.{IsDone, IsSettled}
+use Rattle.net_sim.specs.World.{turn_of}
 use Rattle.sockets.specs.Calls.{Turns}
-use Rattle.sockets.specs.Pairs.{NcpState}
-use Rattle.sockets.specs.declared.fault.NcpFault.{NcpFault}
-use Rattle.sockets.specs.declared.request.Request.{Request}
 
 pub done_of : (h : Host) (t : ServicesState × ServiceDeskState) (s : ServicesState) (d : ServiceDeskState) (before k1 : Kept) (p : NcpState) (asked : List Request) (reports : List Reported) → t ≡ (s, d) → p ≡ d.program → asked ≡ d.asked
     → reports ≡ d.reports → k1 ≡ all_reported reports (all_asked h asked before) → IsDone h t before p s k1

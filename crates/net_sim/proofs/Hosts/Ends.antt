@@ -1,34 +1,14 @@
 -- How an event at a host ends.
-use Rattle.std.proofs.Common.{◌≡◌, ◌⊎◌, ◌&&◌, if◌then◌else◌, not, is_some, inl, inr, ℕ, Bool, true, false, List, [], ◌∷◌, ◌++◌, ◌-◌, take, drop, length, reverse, Option, Some, None, Result, Ok, Err, OnOk, IfErr, MatchResult, refl, ap, sym, subst, ◌∙◌}
-use Rattle.std.proofs.Math.Seq.{drop-append_seam}
-use Rattle.std.proofs.lemmas.List.{reverse-append, reverse-reverse, take_rest}
-use Rattle.interface.specs.Calls.{Calls, Seen, ShowsTake, crossing_of}
-use Rattle.interface.specs.Host.{Host}
-use Rattle.interface.specs.declared.crossing.Crossing.{Crossing}
+use Rattle.net_sim.proofs.Common.{◌≡◌, ◌⊎◌, ◌&&◌, if◌then◌else◌, not, inl, inr, ℕ, Bool, true, false, List, [], ◌∷◌, ◌++◌, ◌-◌, take, drop, length, Option, Some, None, Ok, Err, OnOk, refl, ap, sym, subst, ◌∙◌, drop-append_seam, reverse-append, Calls, Seen, ShowsTake, crossing_of, Host, Crossing, Inbound, HostMessage, accepted, NcpState, owner_of, pair_with, listens_on, is_ready, Entry, is_byte_size, is_send_socket, is_receive_socket, is_open, free_link, served, served_notices, next_out, offered, NcpFault, Notice, Request, Kept, crossed, all_crossed, all_told, asked, ServiceDeskState, ServicesState, opening_desk, server_begun, user_begun, line_bits, AreDone, Sits, running, world_ended, WorldState, WorldFault, Program, Seat, ServiceSeat, seat_of, seated, services_of, serviced, tended, with_server, with_user, wants_memory, world_moved, Does, DoesOrHalts, Halts, Refuses, AtSeat, AskGives, OfferGives, TakeGives, TypeGives}
+use Rattle.std.proofs.Common.{is_some, reverse, Result, IfErr, MatchResult}
+use Rattle.std.proofs.lemmas.List.{reverse-reverse, take_rest}
 use Rattle.interface.specs.declared.crossing.Crossing.TheVariants as crossing
-use Rattle.interface.specs.declared.crossing.Inbound.{Inbound}
-use Rattle.interface.specs.declared.message.HostMessage.{HostMessage}
-use Rattle.sockets.specs.Accepting.{accepted}
-use Rattle.sockets.specs.Pairs.{NcpState, owner_of, pair_with}
-use Rattle.host_pairs.specs.Desk.{listens_on}
-use Rattle.ncp_control.specs.Phases.{is_ready}
-use Rattle.host_pairs.specs.declared.entry.Entry.{Entry}
-use Rattle.ncp_control.specs.Numbers.{is_byte_size, is_send_socket, is_receive_socket}
-use Rattle.host_pairs.specs.Entries.{was_closed, is_open, free_link}
-use Rattle.sockets.specs.Requests.{refusal, served, served_notices, first_if, on_open, is_used, is_taken, send_fault, grant_fault, closing_fault, close_fault}
+use Rattle.host_pairs.specs.Entries.{was_closed}
+use Rattle.sockets.specs.Requests.{refusal, first_if, on_open, is_used, is_taken, send_fault, grant_fault, closing_fault, close_fault}
 use Rattle.host_pairs.specs.Asked.{are_bytes, passes}
-use Rattle.sockets.specs.Sending.{next_out, offered}
-use Rattle.sockets.specs.declared.fault.NcpFault.{NcpFault}
 use Rattle.sockets.specs.declared.fault.NcpFault.TheVariants as problem
-use Rattle.host_pairs.specs.declared.notice.Notice.{Notice}
-use Rattle.sockets.specs.declared.request.Request.{Request}
 use Rattle.sockets.specs.declared.request.Request.TheVariants as request
-use Rattle.net_sim.specs.Book.{Kept, crossed, all_crossed, all_told, asked}
-use Rattle.host_services.specs.Services.{ServiceDeskState, ServicesState, opening_desk}
-use Rattle.host_services.specs.Turns.{server_begun, user_begun}
-use Rattle.host_services.specs.TypedLines.{line_bits}
-use Rattle.net_sim.specs.Inside.Parts.{AreDone, Sits, running, world_ended}
-use Rattle.net_sim.specs.World.{WorldState, WorldFault, Program, Seat, ServiceSeat, seat_of, seated, services_of, serviced, turn_of, tended, with_server, with_user, wants_memory, world_moved, Does, DoesOrHalts, Halts, Refuses, AtSeat, AskGives, OfferGives, TakeGives, TypeGives}
+use Rattle.net_sim.specs.World.{turn_of}
 use Rattle.net_sim.proofs.Hosts.SeatLemmas.{sits_gives}
 
 halts : {C : Type 0} (c : C) (old : WorldState C) (seats : List Seat) (ss : List ServiceSeat) (k : Kept) (f : WorldFault) → wants_memory f ≡ true → k ≡ old.kept → Halts c old (Err f) (world_ended c seats ss k (Err f))

@@ -1,17 +1,12 @@
 -- Where a host sits.
-use Rattle.std.proofs.Common.{◌≡◌, ℕ, zero, suc, ◌+◌, ◌<◌, ◌≤◌, nat_lt, Bool, true, false, not, is_some, cond, List, [], ◌∷◌, length, Option, Some, None, Result, find, slice_index_or, refl, ap, sym, subst, ◌∙◌, arith}
+use Rattle.net_sim.proofs.Common.{◌≡◌, ℕ, zero, suc, ◌+◌, ◌<◌, ◌≤◌, nat_lt, Bool, false, not, cond, List, [], ◌∷◌, length, Option, Some, None, find, refl, ap, sym, subst, ◌∙◌, arith, length-map, Host, same_host, is_host, or_false, one_found, changed_first, NcpState, IsOnce, Sits, hosts_of, WorldState, WorldFault, Seat, seat_of, seated, AtSeat}
+use Rattle.std.proofs.Common.{true, is_some, Result, slice_index_or}
 use Rattle.std.specs.List.{position, position_or_len}
 use Rattle.std.proofs.lemmas.Bool.{ltb-false}
-use Rattle.std.proofs.lemmas.List.{get_or-map, get_or_default, length-map}
+use Rattle.std.proofs.lemmas.List.{get_or-map, get_or_default}
 use Rattle.std.proofs.lemmas.List.Folds.{list_any_at}
-use Rattle.interface.specs.Host.{Host, same_host, is_host}
-use Rattle.interface.proofs.lemmas.{or_false}
-use Rattle.host_pairs.proofs.lemmas.{one_changed, one_found}
+use Rattle.host_pairs.proofs.lemmas.{one_changed}
 use Rattle.sockets.proofs.lemmas.{same_host-true}
-use Rattle.host_pairs.specs.Entries.{changed_first}
-use Rattle.sockets.specs.Pairs.{NcpState}
-use Rattle.net_sim.specs.Inside.Parts.{IsOnce, Sits, hosts_of}
-use Rattle.net_sim.specs.World.{WorldState, WorldFault, Seat, seat_of, seated, AtSeat}
 
 -- what is found passes
 found_by : (test : Seat → Bool) (x y : Seat) (rest : Option Seat) (b : Bool) → test x ≡ b → (rest ≡ Some y → test y ≡ true) → cond b (Some x) rest ≡ Some y → test y ≡ true

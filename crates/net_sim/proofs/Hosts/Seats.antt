@@ -1,20 +1,10 @@
 -- The seats of a world after one moment more.
-use Rattle.std.proofs.Common.{◌≡◌, Bool, true, false, if◌then◌else◌, List, [], ◌∷◌, ◌++◌, map, Option, Some, None, refl, ap, sym, subst, ◌∙◌}
+use Rattle.net_sim.proofs.Common.{◌≡◌, Bool, true, false, if◌then◌else◌, List, [], ◌∷◌, ◌++◌, map, Option, Some, None, refl, ap, sym, subst, ◌∙◌, reverse_onto, Seen, step_crossings, up_at, Host, same_host, Crossing, NetEvent, both_ways, same_host-refl, NcpState, opening_state, Moment, Crossed, program, IsTimeline, contacts_of, crossings_of, seat_in, Seat, all_turned, seat_of, seated, seats_turned, with_program}
 use Rattle.std.specs.Prelude.{reverse}
-use Rattle.std.proofs.lemmas.Grind.{reverse_onto}
-use Rattle.interface.specs.Calls.{Seen, step_crossings, up_at}
-use Rattle.interface.specs.Host.{Host, same_host}
 use Rattle.interface.specs.Mailboxes as mail
-use Rattle.interface.specs.declared.crossing.Crossing.{Crossing}
 use Rattle.interface.specs.declared.crossing.Crossing.TheVariants as crossing
-use Rattle.interface.specs.declared.event.NetEvent.{NetEvent}
 use Rattle.interface.specs.declared.event.NetEvent.TheVariants as event
-use Rattle.interface.proofs.lemmas.{both_ways, same_host-refl, same_host-true}
-use Rattle.sockets.specs.Pairs.{NcpState, opening_state}
-use Rattle.net_sim.specs.Story.{Moment, Crossed, program}
-use Rattle.net_sim.specs.Timeline.{IsTimeline, contacts_of, crossings_of}
-use Rattle.net_sim.specs.Whole.{seat_in}
-use Rattle.net_sim.specs.World.{Seat, all_turned, seat_of, seated, seats_turned, with_program}
+use Rattle.interface.proofs.lemmas.{same_host-true}
 
 -- ---- finding a seat
 

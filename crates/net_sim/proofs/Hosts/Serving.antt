@@ -1,11 +1,6 @@
 -- A host's services are where its seat is.
-use Rattle.std.proofs.Common.{◌≡◌, ℕ, zero, suc, ◌<◌, Bool, true, false, ◌||◌, List, [], ◌∷◌, length, Option, Some, slice_index_or, refl, ap, sym, subst, ◌∙◌, arith}
-use Rattle.interface.specs.Host.{Host, same_host, is_host}
-use Rattle.interface.proofs.lemmas.{or_false, same_host-refl}
-use Rattle.sockets.specs.Pairs.{NcpState}
-use Rattle.host_services.specs.Services.{ServicesState}
-use Rattle.net_sim.specs.Inside.Parts.{IsOnce, Serves, Sits, hosts_of, hosts_served}
-use Rattle.net_sim.specs.World.{ServiceSeat, Seat, services_of, serviced}
+use Rattle.net_sim.proofs.Common.{◌≡◌, ℕ, zero, suc, ◌<◌, Bool, true, false, ◌||◌, List, [], ◌∷◌, length, Option, Some, refl, ap, sym, subst, ◌∙◌, arith, Host, same_host, is_host, or_false, same_host-refl, NcpState, ServicesState, IsOnce, Serves, Sits, hosts_of, hosts_served, ServiceSeat, Seat, services_of, serviced}
+use Rattle.std.proofs.Common.{slice_index_or}
 
 -- ---- a host that is none of these
 

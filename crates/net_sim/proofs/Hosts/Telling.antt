@@ -1,18 +1,10 @@
 -- What is kept of a world, but for what services report, is what its moments say.
-use Rattle.std.proofs.Common.{◌≡◌, List, [], ◌∷◌, All, refl, ap, sym, ◌∙◌}
-use Rattle.std.proofs.lemmas.List.Elements.{All-head, All-tail}
-use Rattle.interface.specs.Host.{Host}
-use Rattle.interface.specs.declared.crossing.Crossing.{Crossing}
+use Rattle.net_sim.proofs.Common.{◌≡◌, List, [], ◌∷◌, refl, ap, sym, ◌∙◌, All-head, All-tail, Host, Crossing, Notice, NcpState, Request, MayAsk, Kept, all_asked, all_crossed, all_told, asked, book_told, Moment, Crossed, Asked, program, host_in, kept_by, kept_in, notices_by, without_reports}
+use Rattle.std.proofs.Common.{All}
 use Rattle.interface.specs.declared.crossing.Crossing.TheVariants as crossing
-use Rattle.host_pairs.specs.declared.notice.Notice.{Notice}
-use Rattle.sockets.specs.Pairs.{NcpState}
 use Rattle.sockets.specs.Requests.{served_notices}
-use Rattle.sockets.specs.declared.request.Request.{Request}
 use Rattle.sockets.specs.declared.request.Request.TheVariants as request
-use Rattle.host_services.specs.Named.{IsSilent, MayAsk}
-use Rattle.net_sim.specs.Book.{Kept, all_asked, all_crossed, all_told, asked, book_told}
-use Rattle.net_sim.specs.Story.{Moment, Crossed, Asked, program}
-use Rattle.net_sim.specs.Told.{host_in, kept_by, kept_in, notices_by, without_reports}
+use Rattle.host_services.specs.Named.{IsSilent}
 use Rattle.net_sim.proofs.Hosts.Asks.{asks_of}
 use Rattle.net_sim.proofs.Hosts.Seats.{AreTurns, with_crossings}
 

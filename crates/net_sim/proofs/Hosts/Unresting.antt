@@ -1,18 +1,8 @@
 -- Events that don't leave a world as it is: something crosses by them, or memory runs out.
-use Rattle.std.proofs.Common.{◌≡◌, ◌⊎◌, inl, inr, suc, true, false, is_some, None, List, ◌∷◌, length, Result, Ok, Some, Option, arith, ap, subst, ◌∙◌}
-use Rattle.interface.specs.Calls.{Calls, crossing_of}
-use Rattle.interface.specs.Host.{Host}
-use Rattle.interface.specs.declared.carrier.CarrierFault.{CarrierFault}
-use Rattle.interface.specs.declared.crossing.Crossing.{Crossing}
+use Rattle.net_sim.proofs.Common.{◌≡◌, ◌⊎◌, inl, inr, suc, true, false, None, List, ◌∷◌, length, Ok, Some, Option, arith, ap, subst, ◌∙◌, Calls, crossing_of, Host, CarrierFault, Crossing, Inbound, HostMessage, Notice, accepted, NcpState, offered, crossed, WorldState, WorldFault, Does, Halts, OfferEnds, OfferGives, TakeEnds, noticed, services_of, stops, world_moved}
+use Rattle.std.proofs.Common.{is_some, Result}
 use Rattle.interface.specs.declared.crossing.Crossing.TheVariants as crossing
-use Rattle.interface.specs.declared.crossing.Inbound.{Inbound}
-use Rattle.interface.specs.declared.message.HostMessage.{HostMessage}
-use Rattle.host_pairs.specs.declared.notice.Notice.{Notice}
-use Rattle.sockets.specs.Accepting.{accepted}
-use Rattle.sockets.specs.Pairs.{NcpState}
-use Rattle.sockets.specs.Sending.{offered}
-use Rattle.net_sim.specs.Book.{crossed}
-use Rattle.net_sim.specs.World.{WorldState, WorldFault, Does, Halts, OfferEnds, OfferGives, TakeEnds, noticed, services_of, stops, turn_of, world_moved}
+use Rattle.net_sim.specs.World.{turn_of}
 use Rattle.net_sim.proofs.Books.Booked.{heard_crossings}
 use Rattle.net_sim.proofs.Hosts.Calming.{no_halt}
 

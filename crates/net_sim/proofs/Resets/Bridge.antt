@@ -1,22 +1,11 @@
 -- The law of resets has the mailboxes, the hosts that are up and the places that the crossings have.
-use Rattle.std.proofs.Common.{◌≡◌, ◌⊎◌, inl, inr, ℕ, ◌+◌, Bool, true, false, ◌&&◌, ◌==◌, if◌then◌else◌, List, [], ◌∷◌, length, refl, ap, sym, subst, ◌∙◌, arith}
-use Rattle.std.proofs.lemmas.Bool.{eqb-true}
-use Rattle.interface.specs.Host.{Host, same_host}
+use Rattle.net_sim.proofs.Common.{◌≡◌, ◌⊎◌, inl, inr, ℕ, ◌+◌, Bool, true, false, ◌&&◌, ◌==◌, if◌then◌else◌, List, [], ◌∷◌, length, refl, ap, sym, subst, ◌∙◌, arith, eqb-true, Host, same_host, Flow, Answer, Crossing, Request, Box, Waiting, WaitsWith, Fits, posted, boxes, Contact, Idle, when, place, Needs, contacts_asked, message_on, event_of, event_by, Moment, Crossed, Asked, places, events_of, crossings_of, seen_box}
 use Rattle.interface.specs.Mailboxes as mail
-use Rattle.interface.specs.declared.address.Flow.{Flow}
-use Rattle.interface.specs.declared.crossing.Answer.{Answer}
 use Rattle.interface.specs.declared.crossing.Answer.TheVariants as answer
-use Rattle.interface.specs.declared.crossing.Crossing.{Crossing}
 use Rattle.interface.specs.declared.crossing.Crossing.TheVariants as crossing
-use Rattle.sockets.specs.declared.request.Request.{Request}
 use Rattle.sockets.specs.declared.request.Request.TheVariants as request
-use Rattle.reset_law.specs.Boxes.{Box, Waiting, WaitsWith, Fits, Put, Fetch, Clear, ClearAll, fetched, posted, boxes}
-use Rattle.reset_law.specs.Events.{Event, Contact, Idle, are, when, place, is_up}
-use Rattle.reset_law.specs.Runs.{Needs}
-use Rattle.net_sim.specs.Book.{contacts_asked}
-use Rattle.net_sim.specs.Projection.{message_on, event_of, event_by}
-use Rattle.net_sim.specs.Story.{Moment, Crossed, Asked, places, events_of}
-use Rattle.net_sim.specs.Timeline.{crossings_of, seen_box}
+use Rattle.reset_law.specs.Boxes.{Put, Fetch, Clear, ClearAll, fetched}
+use Rattle.reset_law.specs.Events.{Event, are, is_up}
 
 -- ---- what a user asks for is a contact, or nothing to a reset
 

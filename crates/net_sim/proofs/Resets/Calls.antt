@@ -1,33 +1,20 @@
 -- What a user asks for, what comes in and a program that starts are, for each peer, steps of the law of resets.
-use Rattle.std.proofs.Common.{◌≡◌, ℕ, Bool, true, false, ◌==◌, if◌then◌else◌, List, [], ◌∷◌, ◌++◌, Option, Some, None, is_some, refl, ap, sym, subst, ◌∙◌, cond}
-use Rattle.interface.specs.Host.{Host, same_host}
-use Rattle.interface.specs.declared.address.Flow.{Flow}
-use Rattle.interface.specs.declared.crossing.Answer.{Answer}
+use Rattle.net_sim.proofs.Common.{◌≡◌, ℕ, Bool, true, false, ◌==◌, if◌then◌else◌, List, [], ◌∷◌, ◌++◌, Option, Some, None, refl, ap, sym, subst, ◌∙◌, cond, Host, same_host, Flow, Answer, HostMessage, same_host-refl, Command, accepted_message, accepted_answer, message_taken, answered_turn, is_busy, is_receiving, is_mine_on, sending_end, receiving_end, free_link, PairState, NcpState, opening_state, pair_with, with_pair, owner_of, desk_of, listens_on, settled, at_owner, closed_socket, requested, receiver_requested, with_end, with_more_bits, commanded, interrupt_of, closed_end, Entry, Peer, Request, pair_changed, when, part_of, Pair, pair_moved, has_control, message_on, event_of, event_by, Agrees, IsApart, IsQueued}
+use Rattle.std.proofs.Common.{is_some}
 use Rattle.interface.specs.declared.crossing.Crossing.TheVariants as crossing
 use Rattle.interface.specs.declared.crossing.Inbound.TheVariants as inbound
-use Rattle.interface.specs.declared.message.HostMessage.{HostMessage}
-use Rattle.interface.proofs.lemmas.{same_host-refl, same_host-true}
-use Rattle.ncp_control.specs.declared.command.Command.{Command}
+use Rattle.interface.proofs.lemmas.{same_host-true}
 use Rattle.ncp_control.specs.declared.command.Command.TheVariants as command
-use Rattle.sockets.specs.Accepting.{accepted, accepted_message, accepted_answer, turn_of}
-use Rattle.host_pairs.specs.Turn.{message_taken, answered_turn}
+use Rattle.sockets.specs.Accepting.{accepted, turn_of}
 use Rattle.host_pairs.specs.Commands.{granted}
-use Rattle.host_pairs.specs.Entries.{is_busy, is_receiving, is_mine_on, sending_end, receiving_end, free_link, called_off}
-use Rattle.host_pairs.specs.Pair.{PairState}
-use Rattle.sockets.specs.Pairs.{NcpState, opening_state, pair_with, with_pair, owner_of}
-use Rattle.host_pairs.specs.Desk.{desk_of, listens_on, settled}
-use Rattle.sockets.specs.Requests.{served, at_owner, closed_socket}
-use Rattle.host_pairs.specs.Asked.{contacted, requested, receiver_requested, with_end, with_more_bits, commanded, interrupt_of, closed_end}
+use Rattle.host_pairs.specs.Entries.{called_off}
+use Rattle.sockets.specs.Requests.{served}
+use Rattle.host_pairs.specs.Asked.{contacted}
 use Rattle.host_pairs.specs.Parcels.{link_of}
-use Rattle.host_pairs.specs.declared.entry.Entry.{Entry}
-use Rattle.sockets.specs.declared.peer.Peer.{Peer}
-use Rattle.sockets.specs.declared.request.Request.{Request}
 use Rattle.sockets.specs.declared.request.Request.TheVariants as request
-use Rattle.sockets.proofs.lemmas.{others_stay, pair_changed}
-use Rattle.reset_law.specs.Events.{Part, Call, Take, Hear, when, part_of}
-use Rattle.reset_law.specs.Pairs.{Pair, pair_moved}
+use Rattle.sockets.proofs.lemmas.{others_stay}
+use Rattle.reset_law.specs.Events.{Part, Call, Take, Hear}
 use Rattle.reset_law.specs.Pairs as resets
-use Rattle.net_sim.specs.Projection.{has_control, message_on, event_of, event_by, Agrees, IsApart, IsQueued}
 use Rattle.net_sim.proofs.Resets.Kept.{AreKept, Kept, any_changed, any_more, asks, free_away, plain_one, strays, kept_settled}
 use Rattle.net_sim.proofs.Resets.Turns.{agrees_message, agrees_answer, linked_by}
 

@@ -1,31 +1,14 @@
 -- A host that is through a reset takes of its peer only what went out after its last clean point.
-use Rattle.std.proofs.Common.{◌≡◌, ℕ, Bool, true, false, if◌then◌else◌, List, [], ◌∷◌, ◌++◌, length, Result, Some, refl, ap, sym, subst, ◌∙◌}
-use Rattle.interface.specs.Calls.{Calls, Seen}
-use Rattle.interface.specs.Host.{Host, same_host}
+use Rattle.net_sim.proofs.Common.{◌≡◌, ℕ, Bool, true, if◌then◌else◌, List, [], ◌∷◌, ◌++◌, length, Some, refl, ap, sym, subst, ◌∙◌, Calls, Seen, Host, same_host, same_flow, Flow, Crossing, HostMessage, run_below, NcpState, pair_with, Box, Waiting, Message, Other, In, Pair, pair, WaitsAfterClean, clean_run, ready_phase, Called, HaveAddresses, IsFresh, IsLawful, IsText, is_through, Agrees, event_of, last_out, events_of, program, contacts_of, crossings_of, events_in, seen_box, shown, Each, IsNamed, seat_in, Seat, WorldFault, WorldState, opening_world, seat_of, StepGives, RunGives, CalmGives}
+use Rattle.std.proofs.Common.{false, Result}
 use Rattle.interface.specs.Mailboxes as mail
-use Rattle.interface.specs.Mailboxes.{same_flow}
-use Rattle.interface.specs.declared.address.Flow.{Flow}
-use Rattle.interface.specs.declared.crossing.Crossing.{Crossing}
 use Rattle.interface.specs.declared.crossing.Crossing.TheVariants as crossing
-use Rattle.interface.specs.declared.message.HostMessage.{HostMessage}
-use Rattle.interface.proofs.lemmas.{run_below}
-use Rattle.sockets.specs.Pairs.{NcpState, pair_with}
-use Rattle.reset_law.specs.Boxes.{Box, Empty, Waiting, Taken}
+use Rattle.reset_law.specs.Boxes.{Empty, Taken}
 use Rattle.reset_law.specs.Events as reset
-use Rattle.reset_law.specs.Events.{Message, Other, In}
-use Rattle.reset_law.specs.Pairs.{Pair, pair}
-use Rattle.reset_law.specs.Runs.{IsRun, WaitsAfterClean}
+use Rattle.reset_law.specs.Runs.{IsRun}
 use Rattle.reset_law.specs.Stays.{IsPrefix, heard_in_stay, said_in_stay}
-use Rattle.reset_law.proofs.lemmas.{clean_run, heard_front, ready_phase}
-use Rattle.promise.specs.declared.book.Called.{Called}
-use Rattle.net_sim.specs.Clean.{HaveAddresses, IsFresh, IsLawful, IsText, is_through}
-use Rattle.net_sim.specs.Projection.{Agrees, event_of}
-use Rattle.promise.specs.Safe.{last_out}
-use Rattle.net_sim.specs.Story.{events_of, program}
-use Rattle.net_sim.specs.Timeline.{contacts_of, crossings_of, events_in, seen_box}
-use Rattle.net_sim.specs.Carriers.{shown}
-use Rattle.net_sim.specs.Whole.{Each, IsNamed, seat_in}
-use Rattle.net_sim.specs.World.{Event, Seat, WorldFault, WorldState, opening_world, seat_of, StepGives, RunGives, CalmGives}
+use Rattle.reset_law.proofs.lemmas.{heard_front}
+use Rattle.net_sim.specs.World.{Event}
 use Rattle.net_sim.proofs.Books.Booked.{calm_books, opening_booked, run_books, step_books}
 use Rattle.net_sim.proofs.Books.Reported.{calm_reported, opening_reported, run_reported, step_reported}
 use Rattle.net_sim.proofs.Hosts.Seats.{found_seat}

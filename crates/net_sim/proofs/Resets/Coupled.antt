@@ -1,33 +1,17 @@
 -- What the hosts do over the mailboxes is a run of the law of resets.
-use Rattle.std.proofs.Common.{◌≡◌, ℕ, Bool, true, false, if◌then◌else◌, List, [], ◌∷◌, Option, Some, None, is_some, refl, ap, sym, subst, ◌∙◌}
-use Rattle.interface.specs.Host.{Host, same_host, is_host}
+use Rattle.net_sim.proofs.Common.{◌≡◌, ℕ, Bool, true, false, if◌then◌else◌, List, [], ◌∷◌, Option, Some, None, refl, ap, sym, subst, ◌∙◌, Host, same_host, is_host, same_flow, Flow, Answer, Crossing, HostMessage, same_flow-true, NcpState, opening_state, pair_with, AreInOrder, served, Parcel, message_for, next_in, offered, Peer, Request, Box, boxes, Kind, pair, Needs, Allowed, HaveAddresses, Agrees, IsApart, message_on, Moment, Crossed, Asked, places, events_of, program, IsStory, Happens, IsTimeline, crossings_of, seen_box}
+use Rattle.std.proofs.Common.{is_some}
 use Rattle.interface.specs.Mailboxes as mail
-use Rattle.interface.specs.Mailboxes.{same_flow}
-use Rattle.interface.specs.declared.address.Flow.{Flow}
-use Rattle.interface.specs.declared.crossing.Answer.{Answer}
 use Rattle.interface.specs.declared.crossing.Answer.TheVariants as answer
-use Rattle.interface.specs.declared.crossing.Crossing.{Crossing}
 use Rattle.interface.specs.declared.crossing.Crossing.TheVariants as crossing
-use Rattle.interface.specs.declared.message.HostMessage.{HostMessage}
-use Rattle.interface.proofs.lemmas.{same_flow-true, same_host-true}
-use Rattle.sockets.specs.Pairs.{NcpState, opening_state, pair_with}
-use Rattle.sockets.specs.Peers.{AreInOrder}
-use Rattle.sockets.specs.Requests.{served}
-use Rattle.host_pairs.specs.Parcels.{Parcel}
-use Rattle.sockets.specs.Sending.{message_for, message_of, next_in, next_out, offered}
-use Rattle.sockets.specs.declared.peer.Peer.{Peer}
-use Rattle.sockets.specs.declared.request.Request.{Request}
-use Rattle.reset_law.specs.Boxes.{Box, boxes}
+use Rattle.interface.proofs.lemmas.{same_host-true}
+use Rattle.sockets.specs.Sending.{message_of, next_out}
 use Rattle.reset_law.specs.Events.{is_up}
 use Rattle.reset_law.specs.Invariant.{kind_in, Sound}
 use Rattle.reset_law.specs.Monitor.{monitor}
-use Rattle.reset_law.specs.Pairs.{Kind, MaySend, pair}
-use Rattle.reset_law.specs.Runs.{Needs, Allowed, IsRun}
+use Rattle.reset_law.specs.Pairs.{MaySend}
+use Rattle.reset_law.specs.Runs.{IsRun}
 use Rattle.reset_law.proofs.lemmas.{sound_run}
-use Rattle.net_sim.specs.Clean.{HaveAddresses}
-use Rattle.net_sim.specs.Projection.{Agrees, IsApart, message_on}
-use Rattle.net_sim.specs.Story.{Moment, Crossed, Asked, places, events_of, program, IsStory}
-use Rattle.net_sim.specs.Timeline.{Happens, IsTimeline, crossings_of, seen_box}
 use Rattle.net_sim.proofs.Resets.Bridge.{by_request, box_same, needs_same, up_same}
 use Rattle.net_sim.proofs.Resets.Offers.{offer_apart, offer_may}
 use Rattle.net_sim.proofs.Resets.Ordered.{answer_order, message_order, offer_order, request_order}

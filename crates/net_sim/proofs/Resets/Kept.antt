@@ -1,27 +1,19 @@
 -- What a command, a message of data or a request does to the connections of a pair makes no request go out, and queues neither
 -- RST nor RRP.
-use Rattle.std.proofs.Common.{◌≡◌, ℕ, Bool, true, false, not, ◌||◌, ◌&&◌, ◌==◌, if◌then◌else◌, List, [], ◌∷◌, ◌++◌, map, filter, find, drop, length, replicate, Option, Some, None, is_some, refl, ap, sym, subst, ◌∙◌, nat_le, zero, suc, arith, eq-eqb}
+use Rattle.net_sim.proofs.Common.{◌≡◌, ℕ, Bool, false, not, ◌||◌, ◌&&◌, ◌==◌, if◌then◌else◌, List, [], ◌∷◌, ◌++◌, map, filter, find, drop, length, Option, Some, None, refl, ap, sym, subst, ◌∙◌, zero, suc, arith, eq-eqb, octets_of, Host, Command, DataHeader, header_of, spelling, error, desk_taken, data_taken, changed_first, is_at, free_link, receiving_end, sending_end, DeskState, command_queued, settled, Entry, Listener, Notice, list_any, has_asked, has_control, names_control, on_control, ArePlain, IsQueued}
+use Rattle.std.proofs.Common.{true, replicate, is_some, nat_le}
 use Rattle.std.proofs.lemmas.List.{length-append, length-take-le}
 use Rattle.std.proofs.lemmas.List.Folds.{list_any-append}
-use Rattle.bit_messages.specs.Octets.{octets_of}
-use Rattle.interface.specs.Host.{Host}
 use Rattle.interface.proofs.lemmas.{or_false as either_false}
-use Rattle.ncp_control.specs.declared.command.Command.{Command}
 use Rattle.ncp_control.specs.declared.command.Command.TheVariants as command
-use Rattle.ncp_control.specs.declared.data_header.DataHeader.{DataHeader}
-use Rattle.ncp_control.specs.DataHeader.{header_of}
-use Rattle.ncp_control.specs.Command.{detail_of, spelling}
+use Rattle.ncp_control.specs.Command.{detail_of}
 use Rattle.host_pairs.specs.Commands as commands
-use Rattle.host_pairs.specs.Control.{error, ERRONEOUS, NO_SOCKET, NOT_CONNECTED}
-use Rattle.host_pairs.specs.Commands.{changed, entry_joined, matched_once, rts_heard, rts_taken_by, rts_taken, str_linked, str_heard, str_taken_by, str_taken, closed_once, cls_taken_by, cls_taken, Found, Unconnected, Ending, Open, at_end, sender_on, receiver_on, all_taken, gvb_taken, ret_taken, interrupted, desk_taken, asked_on_link, asked_with_size}
-use Rattle.host_pairs.specs.Data.{data_found, data_taken, arrived_if, is_acceptable}
-use Rattle.host_pairs.specs.Entries.{changed_first, closed_when, connection_links, is_at, must_close, cls_of, is_over, free_link, entry_at, receiving_end, receives_on, refused_end, sending_end, sends_on}
-use Rattle.host_pairs.specs.Desk.{DeskState, command_queued, desk_told, settled, swept, listener_on}
-use Rattle.host_pairs.specs.declared.entry.Entry.{Entry}
-use Rattle.host_pairs.specs.declared.listener.Listener.{Listener}
-use Rattle.host_pairs.specs.declared.notice.Notice.{Notice}
-use Rattle.std.specs.List.{list_any}
-use Rattle.net_sim.specs.Projection.{has_asked, has_control, misquotes, names_control, on_control, ArePlain, IsQueued}
+use Rattle.host_pairs.specs.Control.{ERRONEOUS, NO_SOCKET, NOT_CONNECTED}
+use Rattle.host_pairs.specs.Commands.{changed, entry_joined, matched_once, rts_heard, rts_taken_by, rts_taken, str_linked, str_heard, str_taken_by, str_taken, closed_once, cls_taken_by, cls_taken, Found, Unconnected, Ending, Open, at_end, sender_on, receiver_on, all_taken, gvb_taken, ret_taken, interrupted, asked_on_link, asked_with_size}
+use Rattle.host_pairs.specs.Data.{data_found, arrived_if, is_acceptable}
+use Rattle.host_pairs.specs.Entries.{closed_when, connection_links, must_close, cls_of, is_over, entry_at, receives_on, refused_end, sends_on}
+use Rattle.host_pairs.specs.Desk.{desk_told, swept, listener_on}
+use Rattle.net_sim.specs.Projection.{misquotes}
 
 -- ---- commands that wait
 

@@ -1,38 +1,24 @@
 -- What goes out is, for each peer, a step that the law of resets allows.
-use Rattle.std.proofs.Common.{◌≡◌, ◌≢◌, ◌⊎◌, inl, inr, ℕ, Bool, true, false, not, ◌&&◌, ◌||◌, ◌==◌, ◌*◌, if◌then◌else◌, List, [], ◌∷◌, take, drop, find, filter, length, nat_lt, Option, Some, None, is_some, refl, ap, sym, subst, ◌∙◌, eq-eqb, zero, suc}
-use Rattle.std.proofs.lemmas.Bool.{eqb-true}
+use Rattle.net_sim.proofs.Common.{◌≡◌, ◌⊎◌, inl, inr, ℕ, Bool, not, ◌&&◌, ◌||◌, ◌==◌, ◌*◌, if◌then◌else◌, List, [], ◌∷◌, take, drop, find, filter, length, nat_lt, Option, Some, None, refl, ap, sym, subst, ◌∙◌, eq-eqb, zero, suc, eqb-true, Host, same_host, same_host-refl, Command, packed_count, Order, Legal, Wrong, changed_first, is_at, is_busy, is_open, is_receiving, PairState, DeskState, desk_of, NcpState, pair_with, AreInOrder, Parcel, next_of, pair_after, parcel_gone, next_in, message_for, Entry, Listener, Peer, at_link, Message, Reset, Reply, Other, part_of, Pair, Kind, pair_moved, is_rst, is_rrp, is_alone, message_on, has_asked, event_of, IsApart, ArePlain, AllPlain, Agrees, has_control, on_control, list_any}
+use Rattle.std.proofs.Common.{◌≢◌, true, false, is_some}
 use Rattle.bit_messages.specs.Octets.{octets_of}
-use Rattle.interface.specs.Host.{Host, same_host}
-use Rattle.interface.proofs.lemmas.{same_host-refl}
-use Rattle.ncp_control.specs.declared.command.Command.{Command}
 use Rattle.ncp_control.specs.declared.command.Command.TheVariants as command
-use Rattle.ncp_control.specs.Packing.{packed_count}
 use Rattle.ncp_control.specs.Reading.{read_of, command_of}
 use Rattle.interface.specs.declared.crossing.Crossing.TheVariants as crossing
-use Rattle.host_pairs.specs.Control.{Order, Legal, Wrong, orders_of}
-use Rattle.host_pairs.specs.Entries.{changed_first, is_at, is_busy, is_open, is_answered, is_receiving, is_ending}
+use Rattle.host_pairs.specs.Control.{orders_of}
+use Rattle.host_pairs.specs.Entries.{is_answered, is_ending}
 use Rattle.host_pairs.specs.Allowed.{MaySend, MayGo, MayReset, MayReply, MaySpeak, MayCommand}
-use Rattle.host_pairs.specs.Pair.{PairState}
-use Rattle.host_pairs.specs.Desk.{DeskState, desk_of}
-use Rattle.sockets.specs.Pairs.{NcpState, pair_with}
-use Rattle.sockets.specs.Peers.{AreInOrder}
 use Rattle.ncp_control.specs.Phases as program
 use Rattle.host_pairs.specs.Parcels as parcel
-use Rattle.host_pairs.specs.Parcels.{Parcel, next_of, next_of_ready, next_bytes, bytes_on, bytes_of, bytes_by, lowest_link, may_send, may_send_on, link_of, link_for, text_for, if_silent, pair_after, parcel_gone, commands_gone, command_gone, request_gone, asked_at, cls_sent, bits_gone}
-use Rattle.sockets.specs.Sending.{next_in, message_for, offered}
-use Rattle.host_pairs.specs.declared.entry.Entry.{Entry}
-use Rattle.host_pairs.specs.declared.listener.Listener.{Listener}
-use Rattle.sockets.specs.declared.peer.Peer.{Peer}
+use Rattle.host_pairs.specs.Parcels.{next_of_ready, next_bytes, bytes_on, bytes_of, bytes_by, lowest_link, may_send, may_send_on, link_of, link_for, text_for, if_silent, commands_gone, command_gone, request_gone, asked_at, cls_sent, bits_gone}
+use Rattle.sockets.specs.Sending.{offered}
 use Rattle.ncp_control.specs.declared.phase.Phase as host
 use Rattle.ncp_control.specs.declared.phase.Phase.TheVariants as phase
 use Rattle.sockets.proofs.lemmas.{next_is, next_pair}
 use Rattle.host_pairs.proofs.lemmas.{all_gone_queue, both, what_goes}
-use Rattle.reset_law.specs.Boxes.{at_link}
-use Rattle.reset_law.specs.Events.{Message, Reset, Reply, Other, Send, part_of}
-use Rattle.reset_law.specs.Pairs.{Pair, Kind, IsFreePair, pair_moved, pair_sent}
+use Rattle.reset_law.specs.Events.{Send}
+use Rattle.reset_law.specs.Pairs.{IsFreePair, pair_sent}
 use Rattle.reset_law.specs.Pairs as resets
-use Rattle.net_sim.specs.Projection.{is_rst, is_rrp, is_alone, message_on, has_asked, event_of, IsApart, ArePlain, AllPlain, Agrees, has_control, on_control}
-use Rattle.std.specs.List.{list_any}
 use Rattle.net_sim.proofs.Resets.Kept.{any_changed, over_less, plain_drop, strays}
 use Rattle.net_sim.proofs.Resets.Spelled.{packed_plain}
 use Rattle.net_sim.proofs.Resets.Turns.{linked_by}

@@ -1,28 +1,12 @@
 -- Both halves of a clean reset: what a host takes went out after its last clean point, or does nothing.
-use Rattle.std.proofs.Common.{◌≡◌, ◌⊎◌, inl, inr, Bool, true, false, List, [], ◌∷◌, ◌++◌, refl, ap, sym, subst, ◌∙◌}
-use Rattle.interface.specs.Calls.{Seen}
-use Rattle.interface.specs.Host.{Host}
+use Rattle.net_sim.proofs.Common.{◌≡◌, ◌⊎◌, inl, inr, Bool, true, false, List, [], ◌∷◌, ◌++◌, refl, ap, sym, subst, ◌∙◌, Seen, Host, Crossing, HostMessage, run_below, accepted, pair_with, Message, Other, In, Pair, pair, WaitsAfterClean, is_ready, clean_run, ready_phase, HaveAddresses, IsFresh, IsLawful, IsText, IsUnheard, is_through, WorldState, Agrees, event_of, Crossed, Asked, Moment, events_of, places, IsTimeline, contacts_of, crossings_of, events_in}
 use Rattle.interface.specs.Mailboxes as mail
-use Rattle.interface.specs.declared.crossing.Crossing.{Crossing}
 use Rattle.interface.specs.declared.crossing.Crossing.TheVariants as crossing
 use Rattle.interface.specs.declared.crossing.Inbound.TheVariants as inbound
-use Rattle.interface.specs.declared.message.HostMessage.{HostMessage}
-use Rattle.interface.proofs.lemmas.{run_below}
 use Rattle.ncp_control.specs.Phases as program
-use Rattle.sockets.specs.Accepting.{accepted}
-use Rattle.sockets.specs.Pairs.{pair_with}
 use Rattle.reset_law.specs.Events as reset
-use Rattle.reset_law.specs.Events.{Message, Other, In}
-use Rattle.reset_law.specs.Pairs.{Pair, pair}
-use Rattle.reset_law.specs.Runs.{IsRun, WaitsAfterClean}
-use Rattle.ncp_control.specs.Phases.{is_ready}
-use Rattle.reset_law.proofs.lemmas.{clean_run, ready_phase}
-use Rattle.net_sim.specs.Clean.{HaveAddresses, IsFresh, IsLawful, IsText, IsUnheard, is_through}
-use Rattle.net_sim.specs.World.{WorldState}
-use Rattle.net_sim.specs.Projection.{Agrees, event_of}
-use Rattle.net_sim.specs.Story.{Crossed, Asked, Moment, events_of, places}
+use Rattle.reset_law.specs.Runs.{IsRun}
 use Rattle.net_sim.specs.Story as story
-use Rattle.net_sim.specs.Timeline.{IsTimeline, contacts_of, crossings_of, events_in}
 use Rattle.net_sim.proofs.Books.BookEvents.{box_in, pair_told, run_at, run_told, same_events}
 use Rattle.net_sim.proofs.Resets.Clean.{seen_waiting, waiting_out}
 use Rattle.net_sim.proofs.Resets.Coupled.{Coupled, coupled}

@@ -1,25 +1,20 @@
 -- Commands that wait to go out are read as neither RST nor RRP, whatever numbers are in them.
-use Rattle.std.proofs.Common.{◌≡◌, ℕ, ◌*◌, ◌/◌, ◌%◌, ◌≤◌, Bool, true, false, not, ◌==◌, ◌&&◌, nat_lt, nat_le, if◌then◌else◌, List, [], ◌∷◌, ◌++◌, map, length, take, drop, Option, Some, None, Result, refl, ap, sym, subst, ◌∙◌, arith, zero, suc}
-use Rattle.std.proofs.lemmas.Bool.{eqb-true, ltb-true}
-use Rattle.std.proofs.lemmas.List.{take_all, length-append, length-map}
-use Rattle.bit_messages.specs.Octets.{bits_of, octet, octets_of}
+use Rattle.net_sim.proofs.Common.{◌≡◌, ℕ, ◌*◌, ◌%◌, ◌≤◌, Bool, true, false, not, ◌==◌, ◌&&◌, nat_lt, if◌then◌else◌, List, [], ◌∷◌, ◌++◌, map, length, take, drop, Option, Some, None, refl, ap, sym, subst, ◌∙◌, arith, zero, suc, eqb-true, take_all, length-map, bits_of, and_true, spelling, header_of, is_byte_size, is_receive_socket, is_send_socket, packed_count, Command, DataHeader, Order, Legal, orders_of, AllPlain, ArePlain, IsPlain, IsQueued}
+use Rattle.std.proofs.Common.{◌/◌, nat_le, Result}
+use Rattle.std.proofs.lemmas.Bool.{ltb-true}
+use Rattle.std.proofs.lemmas.List.{length-append}
+use Rattle.bit_messages.specs.Octets.{octet, octets_of}
 use Rattle.bit_messages.proofs.lemmas.{length-bits_of, octets_of-append}
-use Rattle.interface.proofs.lemmas.{and_true}
 use Rattle.std.specs.Prelude.{slice_index}
 use Rattle.std.specs.Int.{w16, w32, to_be_bytes}
-use Rattle.ncp_control.specs.Command.{spelling}
-use Rattle.ncp_control.specs.DataHeader.{header_of}
-use Rattle.ncp_control.specs.Numbers.{is_byte_size, is_connection_link, is_receive_socket, is_send_socket}
-use Rattle.ncp_control.specs.Packing.{packed_count, spellings}
+use Rattle.ncp_control.specs.Numbers.{is_connection_link}
+use Rattle.ncp_control.specs.Packing.{spellings}
 use Rattle.ncp_control.specs.Reading.{command_of, length_of, number_at, read_as, read_of, rts_of, str_of}
-use Rattle.ncp_control.specs.declared.command.Command.{Command}
 use Rattle.ncp_control.specs.declared.command.Command.TheVariants as command
-use Rattle.ncp_control.specs.declared.data_header.DataHeader.{DataHeader}
 use Rattle.ncp_control.specs.declared.fault.ControlFault.{ControlFault}
 use Rattle.ncp_control.proofs.lemmas.{header_again, longest_front}
-use Rattle.host_pairs.specs.Control.{Order, Legal, control_text, is_control, orders_of, orders_within, then_orders}
+use Rattle.host_pairs.specs.Control.{control_text, is_control, orders_within, then_orders}
 use Rattle.host_pairs.proofs.lemmas.{control_read}
-use Rattle.net_sim.specs.Projection.{AllPlain, ArePlain, IsPlain, IsQueued}
 
 -- ---- octets
 

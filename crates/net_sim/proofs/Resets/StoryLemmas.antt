@@ -1,29 +1,15 @@
 -- After every story each program is, for each peer, where the law of resets has it.
-use Rattle.std.proofs.Common.{◌≡◌, ℕ, Bool, true, false, if◌then◌else◌, List, [], ◌∷◌, Option, Some, None, is_some, refl, sym, subst, ◌∙◌}
-use Rattle.interface.specs.Host.{Host, same_host}
-use Rattle.interface.specs.declared.address.Flow.{Flow}
-use Rattle.interface.specs.declared.crossing.Answer.{Answer}
+use Rattle.net_sim.proofs.Common.{◌≡◌, ℕ, Bool, true, false, if◌then◌else◌, List, [], ◌∷◌, Option, Some, None, refl, sym, subst, ◌∙◌, Host, same_host, Flow, Answer, Inbound, HostMessage, accepted_message, accepted_answer, is_busy, PairState, NcpState, pair_with, owner_of, listens_on, at_owner, closed_socket, Parcel, message_for, next_in, offered_by, Entry, Peer, Request, part_of, Pair, pair_moved, pair, Agrees, event_of, event_by, Moment, Crossed, Asked, places, events_of, program_after, program, IsStory}
+use Rattle.std.proofs.Common.{is_some}
 use Rattle.interface.specs.declared.crossing.Crossing.TheVariants as crossing
-use Rattle.interface.specs.declared.crossing.Inbound.{Inbound}
 use Rattle.interface.specs.declared.crossing.Inbound.TheVariants as inbound
-use Rattle.interface.specs.declared.message.HostMessage.{HostMessage}
 use Rattle.interface.proofs.lemmas.{same_host-true}
-use Rattle.sockets.specs.Accepting.{accepted, accepted_message, accepted_answer}
-use Rattle.host_pairs.specs.Entries.{is_busy}
-use Rattle.host_pairs.specs.Pair.{PairState}
-use Rattle.sockets.specs.Pairs.{NcpState, pair_with, owner_of}
-use Rattle.host_pairs.specs.Desk.{listens_on}
-use Rattle.sockets.specs.Requests.{served, at_owner, closed_socket}
-use Rattle.host_pairs.specs.Parcels.{Parcel}
-use Rattle.sockets.specs.Sending.{message_for, next_in, offered, offered_by}
-use Rattle.host_pairs.specs.declared.entry.Entry.{Entry}
-use Rattle.sockets.specs.declared.peer.Peer.{Peer}
-use Rattle.sockets.specs.declared.request.Request.{Request}
+use Rattle.sockets.specs.Accepting.{accepted}
+use Rattle.sockets.specs.Requests.{served}
+use Rattle.sockets.specs.Sending.{offered}
 use Rattle.sockets.specs.declared.request.Request.TheVariants as request
-use Rattle.reset_law.specs.Events.{Event, part_of}
-use Rattle.reset_law.specs.Pairs.{Pair, pair_moved, pair}
-use Rattle.net_sim.specs.Projection.{Agrees, event_of, event_by}
-use Rattle.net_sim.specs.Story.{Moment, Crossed, Asked, places, event_in, events_of, program_after, program, IsNext, Follows, IsStory}
+use Rattle.reset_law.specs.Events.{Event}
+use Rattle.net_sim.specs.Story.{event_in, IsNext, Follows}
 use Rattle.net_sim.proofs.Resets.Calls.{opening_agrees, request_agrees, message_agrees, answer_agrees}
 use Rattle.net_sim.proofs.Resets.Offers.{offer_agrees}
 

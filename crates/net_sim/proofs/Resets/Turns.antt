@@ -1,28 +1,14 @@
 -- What comes in is, for each peer, a step of the law of resets.
-use Rattle.std.proofs.Common.{◌≡◌, ℕ, Bool, true, false, not, ◌==◌, if◌then◌else◌, List, [], ◌∷◌, filter, Option, None, is_some, refl, ap, sym, subst, ◌∙◌, eq-eqb}
-use Rattle.std.proofs.lemmas.Bool.{eqb-true}
-use Rattle.interface.specs.Host.{Host}
-use Rattle.interface.specs.declared.crossing.Answer.{Answer}
+use Rattle.net_sim.proofs.Common.{◌≡◌, ℕ, Bool, not, ◌==◌, if◌then◌else◌, List, [], ◌∷◌, filter, Option, None, refl, ap, sym, subst, ◌∙◌, eq-eqb, eqb-true, Host, Answer, Command, TurnState, if_ready, command_taken, order_taken, orders_taken, message_taken, answered_turn, desk_taken, Order, Legal, Wrong, orders_of, error, data_taken, is_busy, PairState, DeskState, desk_of, command_queued, Entry, Listener, Notice, at_link, Message, Reset, Reply, Other, Pair, Kind, has_control, is_rst, is_rrp, names_control, is_alone, message_on, Agrees, IsPlain, AllPlain, IsApart}
+use Rattle.std.proofs.Common.{true, false, is_some}
 use Rattle.interface.specs.declared.crossing.Answer.TheVariants as answer
-use Rattle.ncp_control.specs.declared.command.Command.{Command}
 use Rattle.ncp_control.specs.declared.command.Command.TheVariants as command
-use Rattle.host_pairs.specs.Turn.{TurnState, if_ready, with_desk, reset_taken, reply_taken, command_taken, order_taken, orders_taken, message_taken, freed, settled_turn, rfnm_taken, failed, answered_turn}
-use Rattle.host_pairs.specs.Commands.{desk_taken}
-use Rattle.host_pairs.specs.Control.{Order, Legal, Wrong, orders_of, error}
-use Rattle.host_pairs.specs.Data.{data_taken}
-use Rattle.host_pairs.specs.Entries.{is_busy}
-use Rattle.host_pairs.specs.Pair.{PairState}
-use Rattle.host_pairs.specs.Desk.{DeskState, desk_of, command_queued}
+use Rattle.host_pairs.specs.Turn.{with_desk, reset_taken, reply_taken, freed, settled_turn, rfnm_taken, failed}
 use Rattle.ncp_control.specs.Phases as program
-use Rattle.host_pairs.specs.declared.entry.Entry.{Entry}
-use Rattle.host_pairs.specs.declared.listener.Listener.{Listener}
-use Rattle.host_pairs.specs.declared.notice.Notice.{Notice}
 use Rattle.ncp_control.specs.declared.phase.Phase as host
 use Rattle.ncp_control.specs.declared.phase.Phase.TheVariants as phase
-use Rattle.reset_law.specs.Boxes.{at_link}
-use Rattle.reset_law.specs.Events.{Message, Reset, Reply, Other}
-use Rattle.reset_law.specs.Pairs.{Pair, Kind, took, pair_answered}
-use Rattle.net_sim.specs.Projection.{has_control, is_rst, is_rrp, names_control, is_alone, control_message, message_on, Agrees, IsPlain, AllPlain, IsApart}
+use Rattle.reset_law.specs.Pairs.{took, pair_answered}
+use Rattle.net_sim.specs.Projection.{control_message}
 use Rattle.net_sim.proofs.Resets.Kept.{Kept, kept_taken, kept_data, kept_error, kept_settled}
 
 -- ---- phases

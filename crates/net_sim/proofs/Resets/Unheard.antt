@@ -1,23 +1,10 @@
 -- A host that isn't through a reset does nothing with a text.
-use Rattle.std.proofs.Common.{◌≡◌, ℕ, Bool, true, false, ◌==◌, List, [], ◌∷◌, refl, ap, sym, subst, ◌∙◌, cond}
-use Rattle.interface.specs.Host.{Host, same_host}
+use Rattle.net_sim.proofs.Common.{◌≡◌, ℕ, Bool, true, false, ◌==◌, List, [], ◌∷◌, refl, ap, sym, subst, ◌∙◌, cond, Host, same_host, HostMessage, Command, TurnState, if_ready, command_taken, message_taken, order_taken, orders_taken, accepted_message, after_turn, Order, Legal, Wrong, orders_of, data_taken, DeskState, NcpState, pair_with, with_pair, Peer, pair_changed, Message, IsText, IsUnheard, is_rst, is_rrp, message_on, AllPlain, IsApart, IsPlain}
 use Rattle.interface.specs.declared.crossing.Inbound.TheVariants as inbound
-use Rattle.interface.specs.declared.message.HostMessage.{HostMessage}
 use Rattle.interface.proofs.lemmas.{same_host-true}
-use Rattle.ncp_control.specs.declared.command.Command.{Command}
 use Rattle.ncp_control.specs.declared.command.Command.TheVariants as command
-use Rattle.host_pairs.specs.Turn.{TurnState, if_ready, command_taken, message_taken, order_taken, orders_taken}
-use Rattle.sockets.specs.Accepting.{accepted, accepted_message, turn_of, after_turn}
-use Rattle.host_pairs.specs.Control.{Order, Legal, Wrong, orders_of}
-use Rattle.host_pairs.specs.Data.{data_taken}
-use Rattle.host_pairs.specs.Desk.{DeskState}
-use Rattle.sockets.specs.Pairs.{NcpState, pair_with, with_pair}
+use Rattle.sockets.specs.Accepting.{accepted, turn_of}
 use Rattle.ncp_control.specs.Phases as program
-use Rattle.sockets.specs.declared.peer.Peer.{Peer}
-use Rattle.sockets.proofs.lemmas.{pair_changed}
-use Rattle.reset_law.specs.Events.{Message}
-use Rattle.net_sim.specs.Clean.{IsText, IsUnheard}
-use Rattle.net_sim.specs.Projection.{is_rst, is_rrp, message_on, AllPlain, IsApart, IsPlain}
 
 if_unready : (work : DeskState → DeskState) (t : TurnState) → program.is_ready t.pair.phase ≡ false → if_ready work t ≡ t
 if_unready work t e = rw e refl

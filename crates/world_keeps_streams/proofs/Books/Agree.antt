@@ -1,26 +1,12 @@
 -- Lives at rest whose ends are open, and between whose hosts no command is on its way, agree on what may still be sent.
-use Rattle.std.proofs.Common.{◌≡◌, ℕ, suc, ◌==◌, Bool, true, List, [], length, refl, ap, sym, subst, ◌∙◌, arith}
-use Rattle.std.proofs.lemmas.Bool.{eqb-true}
-use Rattle.interface.specs.Calls.{Seen}
-use Rattle.interface.specs.Host.{Host}
-use Rattle.ncp_control.specs.declared.allocation.Allocation.{Allocation}
+use Rattle.world_keeps_streams.proofs.Common.{◌≡◌, ℕ, suc, ◌==◌, Bool, true, List, [], length, refl, ap, sym, subst, ◌∙◌, arith, eqb-true, Seen, Host, Allocation, message_bits, is_link, sends_on, has_opened, numbered, numbered_tells, OfOne, IsLawful, Moment, events_of, WorldState, book_run, numbered_by_peer, Agree}
 use Rattle.stream_law.specs.Agreed.{AreAgreed}
 use Rattle.stream_law.specs.Receivers.{Receiver}
-use Rattle.stream_law.specs.Within.{message_bits}
-use Rattle.host_pairs.specs.Entries.{is_link, sends_on}
-use Rattle.host_keeps_streams.specs.Ends.{has_opened}
-use Rattle.host_keeps_streams.specs.Histories.{numbered}
-use Rattle.host_keeps_streams.proofs.lemmas.{numbered_tells}
-use Rattle.pair_keeps_streams.proofs.lemmas.{OfOne, agree, counters, linked}
+use Rattle.pair_keeps_streams.proofs.lemmas.{agree, counters, linked}
 use Rattle.reset_law.specs.Stays as stay
-use Rattle.net_sim.specs.Clean.{IsLawful}
-use Rattle.net_sim.specs.Story.{Moment, events_of}
-use Rattle.net_sim.specs.World.{WorldState}
 use Rattle.promise.specs.declared.life.Life.{Life}
 use Rattle.world_keeps_lives.specs.Lives.{AddsUp}
-use Rattle.world_keeps_pairing.proofs.lemmas.{book_run}
-use Rattle.world_keeps_streams.specs.Calls.{numbered_by_peer}
-use Rattle.world_keeps_streams.specs.Rests.{Agree, AllAgree, AreSettled}
+use Rattle.world_keeps_streams.specs.Rests.{AllAgree, AreSettled}
 use Rattle.world_keeps_streams.proofs.Books.Arrives.{rest_lawful}
 use Rattle.world_keeps_streams.proofs.Books.Closes as closes
 use Rattle.world_keeps_streams.proofs.Books.One.{HasPartner}
@@ -84,10 +70,6 @@ module _ (hosts : List Host) (ms : List Moment) (l : Lawful hosts ms) (x s : Lif
 
   sends_here : sends_on (suc n) q.giver.end ≡ true
   sends_here = subst (λ (m : ℕ). sends_on (suc m) q.giver.end ≡ true) same_link sends
-
-  -- the name of the connection
-  name : ℕ
-  name = closes.c hosts ms l x (closes.at_rest hosts ms l x s q.rest)
 
   both_agree : AreAgreed (j n).x (closes.c hosts ms l x (closes.at_rest hosts ms l x s q.rest))
   both_agree =

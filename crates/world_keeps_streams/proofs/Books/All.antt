@@ -1,15 +1,8 @@
 -- What a safe book asks of all lives of a world: what was taken has a source, and what was sent is granted.
-use Rattle.std.proofs.Common.{◌≡◌, true, List, [], length}
-use Rattle.std.specs.List.{Contains}
-use Rattle.interface.specs.Calls.{Seen}
-use Rattle.interface.specs.Host.{Host}
+use Rattle.world_keeps_streams.proofs.Common.{◌≡◌, true, List, [], length, Contains, Seen, Host, HaveAddresses, IsLawful, IsGranted, Match, Source, Moment, IsTimeline, crossings_of, WorldState}
 use Rattle.interface.specs.Mailboxes as mail
-use Rattle.net_sim.specs.Clean.{HaveAddresses, IsLawful}
-use Rattle.promise.specs.Safe.{IsGranted, Match, Source, receives}
-use Rattle.net_sim.specs.Story.{Moment}
-use Rattle.net_sim.specs.Timeline.{IsTimeline, crossings_of}
+use Rattle.promise.specs.Safe.{receives}
 use Rattle.net_sim.specs.Told.{kept_in}
-use Rattle.net_sim.specs.World.{WorldState}
 use Rattle.promise.specs.declared.life.Life.{Life}
 use Rattle.world_keeps_streams.proofs.Carried.World.{carries_numbered, carries_turned}
 use Rattle.world_keeps_streams.proofs.Books.Books as books

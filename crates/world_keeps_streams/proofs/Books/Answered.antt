@@ -1,20 +1,8 @@
 -- Data whose sender got RFNM have arrived where they came for a receiving life.
-use Rattle.std.proofs.Common.{◌≡◌, ℕ, Bool, true, false, List, [], ◌∷◌, ◌++◌, length, refl, ap, sym, subst, ◌∙◌}
-use Rattle.interface.specs.Calls.{Seen}
-use Rattle.interface.specs.Host.{Host, same_host}
-use Rattle.interface.specs.Mailboxes.{Box, Empty, Fits, IsRun, Taken, Waiting, box_of, fetched, same_flow}
-use Rattle.interface.specs.Messages.{SinceLastOut, taken_in, went_out}
-use Rattle.interface.specs.declared.address.Flow.{Flow}
+use Rattle.world_keeps_streams.proofs.Common.{◌≡◌, ℕ, Bool, true, false, List, [], ◌∷◌, ◌++◌, length, refl, ap, sym, subst, ◌∙◌, Seen, Host, same_host, box_of, SinceLastOut, taken_in, went_out, Flow, Crossing, HostMessage, same_flow-true, waits_with, IsLawful, Asked, Crossed, Moment, crossings_of, WorldState, book_run}
+use Rattle.interface.specs.Mailboxes.{Box, Empty, Fits, IsRun, Taken, Waiting, fetched, same_flow}
 use Rattle.interface.specs.declared.crossing.Answer.TheVariants as answer
-use Rattle.interface.specs.declared.crossing.Crossing.{Crossing}
 use Rattle.interface.specs.declared.crossing.Crossing.TheVariants as crossing
-use Rattle.interface.specs.declared.message.HostMessage.{HostMessage}
-use Rattle.interface.proofs.lemmas.{same_flow-true, waits_with}
-use Rattle.net_sim.specs.Clean.{IsLawful}
-use Rattle.net_sim.specs.Story.{Asked, Crossed, Moment}
-use Rattle.net_sim.specs.Timeline.{crossings_of}
-use Rattle.net_sim.specs.World.{WorldState}
-use Rattle.world_keeps_pairing.proofs.lemmas.{book_run}
 use Rattle.world_keeps_streams.specs.Answered.{AllAnswered, HasArrived}
 use Rattle.world_keeps_streams.proofs.Books.Arrives.{arrives, rest_lawful}
 use Rattle.world_keeps_streams.proofs.Books.Run.{below}

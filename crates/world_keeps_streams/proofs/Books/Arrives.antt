@@ -1,51 +1,22 @@
 -- Data that are taken where they come for a receiving life whose end is open, or which no user of its host has closed, arrive there.
-use Rattle.std.proofs.Common.{◌≡◌, inl, inr, ◌==◌, ◌&&◌, not, ℕ, Bool, true, false, List, [], ◌∷◌, ◌++◌, length, filter, find, drop, Option, Some, is_some, refl, ap, sym, subst, ◌∙◌, eq-eqb}
-use Rattle.std.proofs.lemmas.Bool.{eqb-true}
-use Rattle.std.specs.List.{Contains}
-use Rattle.interface.specs.Calls.{Seen}
-use Rattle.interface.specs.Host.{Host, same_host}
+use Rattle.world_keeps_streams.proofs.Common.{◌≡◌, inl, inr, ◌==◌, ◌&&◌, not, ℕ, Bool, true, false, List, [], ◌∷◌, ◌++◌, length, filter, find, drop, Option, Some, is_some, refl, ap, sym, subst, ◌∙◌, eq-eqb, eqb-true, Contains, Seen, Host, same_host, HostMessage, same_host-refl, data_bits, header_of, is_receive_socket, DataHeader, covers, Inv, some_is, waits_of, found_in, arrived_if, data_found, data_of, data_taken, is_acceptable, DeskState, desk_of, has_cls, is_link, is_mine_on, is_open, receives_on, message_taken, Entry, both, AreReceiver, HasReceiver, IsReceiver, HasClosed, name_now, numbered, receiver_now, accept_same, bits_there, closed_first, accepted, turn_of, NcpState, pair_with, HaveAddresses, IsLawful, Crossed, Moment, events_of, places, program, IsTimeline, crossings_of, WorldState, program_own, HasOpenEnd, held, book_run, mail_below, Arrives, ComesFor, own_calls}
 use Rattle.interface.specs.Mailboxes as mail
 use Rattle.interface.specs.declared.crossing.Crossing.TheVariants as crossing
 use Rattle.interface.specs.declared.crossing.Inbound.TheVariants as inbound
-use Rattle.interface.specs.declared.message.HostMessage.{HostMessage}
-use Rattle.interface.proofs.lemmas.{same_host-refl}
-use Rattle.ncp_control.specs.DataHeader.{data_bits, header_of}
-use Rattle.ncp_control.specs.Numbers.{is_receive_socket}
-use Rattle.ncp_control.specs.declared.data_header.DataHeader.{DataHeader}
 use Rattle.stream_law.specs.Words as words
-use Rattle.stream_law.specs.Words.{covers}
 use Rattle.stream_law.specs.Receivers as receivers
 use Rattle.stream_law.specs.Receivers.{Receiver}
 use Rattle.stream_law.specs.Streams.{Waiting}
 use Rattle.stream_law.specs.Senders.{Sender}
-use Rattle.stream_law.proofs.lemmas.{Inv, acceptable, some_is, waits_of}
-use Rattle.host_pairs.specs.Commands.{Found, found_in}
-use Rattle.host_pairs.specs.Data.{arrived_if, data_found, data_of, data_taken, is_acceptable}
-use Rattle.host_pairs.specs.Desk.{DeskState, desk_of}
-use Rattle.host_pairs.specs.Entries.{has_cls, is_link, is_mine_on, is_open, receives_on}
+use Rattle.stream_law.proofs.lemmas.{acceptable}
+use Rattle.host_pairs.specs.Commands.{Found}
 use Rattle.ncp_control.specs.Phases as phases
-use Rattle.host_pairs.specs.Turn.{message_taken}
-use Rattle.host_pairs.specs.declared.entry.Entry.{Entry}
 use Rattle.host_pairs.specs.declared.notice.Notice.TheVariants as notice
-use Rattle.host_pairs.proofs.lemmas.{both}
-use Rattle.host_keeps_streams.specs.Ends.{AreReceiver, HasReceiver, IsReceiver}
-use Rattle.host_keeps_streams.specs.Histories.{HasClosed, name_now, numbered, receiver_now}
-use Rattle.host_keeps_streams.proofs.lemmas.{accept_same, bits_there, closed_first, first_is, open_found, open_same}
+use Rattle.host_keeps_streams.proofs.lemmas.{first_is, open_found, open_same}
 use Rattle.reset_law.specs.Stays as stay
-use Rattle.sockets.specs.Accepting.{accepted, turn_of}
-use Rattle.sockets.specs.Pairs.{NcpState, pair_with}
-use Rattle.net_sim.specs.Clean.{HaveAddresses, IsLawful}
 use Rattle.promise.specs.Safe.{receives}
-use Rattle.net_sim.specs.Story.{Crossed, Moment, events_of, places, program}
-use Rattle.net_sim.specs.Timeline.{IsTimeline, crossings_of}
-use Rattle.net_sim.specs.World.{WorldState}
 use Rattle.promise.specs.declared.life.Life.{Life}
-use Rattle.net_sim.proofs.lemmas.{program_own}
-use Rattle.world_keeps_lives.specs.Lives.{HasOpenEnd}
-use Rattle.world_keeps_lives.proofs.lemmas.{held}
-use Rattle.world_keeps_pairing.proofs.lemmas.{book_run, mail_below}
-use Rattle.world_keeps_streams.specs.Arrivals.{AllArrive, Arrives, ComesFor, IsUnclosed}
-use Rattle.world_keeps_streams.specs.Calls.{own_calls}
+use Rattle.world_keeps_streams.specs.Arrivals.{AllArrive, IsUnclosed}
 use Rattle.world_keeps_streams.proofs.Books.Lies.{Boxed, lies_there}
 use Rattle.world_keeps_streams.proofs.Books.Run.{below}
 use Rattle.world_keeps_streams.proofs.Deeds.Effects.{Among, among_filter, among_kept}
@@ -130,9 +101,6 @@ module _ (hosts : List Host) (addresses : HaveAddresses hosts) (m : HostMessage)
 
   here : receives_on link f.end.end ≡ true
   here = on_link link f.end.end x own f.receiving f.link
-
-  j : Joined x.host x.peer link ms
-  j = joined link f.off_control hosts addresses x.host x.peer ms lawful.1 time.1
 
   has : HasReceiver (name_now numbered x.peer (own_calls x.host x.peer ms)) link es (joined link f.off_control hosts addresses x.host x.peer ms lawful.1 time.1).x.receiver
   has = subst (λ (r : Receiver). HasReceiver (name_now numbered x.peer (own_calls x.host x.peer ms)) link es r) (sym ((joined link f.off_control hosts addresses x.host x.peer ms lawful.1 time.1).received_a stays))

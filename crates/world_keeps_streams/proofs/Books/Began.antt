@@ -1,40 +1,12 @@
 -- A sending life that isn't over where the receiving life has taken its CLS, then or later, closed first: its CLS has gone out, and it has taken none.
-use Rattle.std.proofs.Common.{◌≡◌, inl, inr, ℕ, ◌+◌, ◌<◌, ◌≤◌, ◌&&◌, ◌==◌, Bool, true, false, List, [], ◌∷◌, ◌++◌, length, Option, Some, None, refl, ap, sym, subst, ◌∙◌, arith}
-use Rattle.std.proofs.lemmas.Bool.{eqb-true}
-use Rattle.std.proofs.lemmas.List.{length-append}
-use Rattle.std.specs.List.{Contains}
-use Rattle.interface.specs.Host.{Host}
-use Rattle.interface.specs.declared.crossing.Crossing.{Crossing}
-use Rattle.ncp_control.specs.Numbers.{is_send_socket}
-use Rattle.host_pairs.specs.Entries.{entry_at, has_cls, is_sent}
-use Rattle.host_pairs.specs.declared.entry.Closing.{Closing}
+use Rattle.world_keeps_streams.proofs.Common.{◌≡◌, inl, inr, ℕ, ◌+◌, ◌<◌, ◌≤◌, ◌&&◌, ◌==◌, Bool, true, false, List, [], ◌∷◌, ◌++◌, length, Option, Some, None, refl, ap, sym, subst, ◌∙◌, arith, eqb-true, length-append, Contains, Host, Crossing, is_send_socket, entry_at, has_cls, is_sent, Closing, Entry, both, gone_now, counted, has_heard, Sockets, receiver, sender, Asks, Mark, placed_event, Side, Joined, asks_said, count, place, begins_either, NcpState, pair_with, Match, Name, control_flow, last_out, Moment, event_in, events_of, program, crossings_of, Coupled, place_same, ClosesFirst, HasOpenEnd, live, law_events, origin_in, place_or, steps, Tie, all_says, all_tied, are_origins, at_texts, receiver_half, served_in, own_calls, IsClosedByPartner}
 use Rattle.host_pairs.specs.declared.entry.Closing.TheVariants as closing
-use Rattle.host_pairs.specs.declared.entry.Entry.{Entry}
-use Rattle.host_pairs.proofs.lemmas.{both}
-use Rattle.host_keeps_streams.specs.Histories.{gone_now}
-use Rattle.pair_keeps_streams.specs.Words.{counted, has_heard}
-use Rattle.pairing_law.specs.Links.{Receiver, Sender, Sockets, receiver, sender}
-use Rattle.pairing_law.specs.Marks.{Asks, Mark, closes}
-use Rattle.pairing_law.specs.Places.{placed_event}
-use Rattle.pairing_law.specs.Sides.{Side}
-use Rattle.pairing_law.proofs.lemmas.{Joined, asks_said, count}
-use Rattle.reset_law.specs.Events.{place}
+use Rattle.pairing_law.specs.Links.{Receiver, Sender}
+use Rattle.pairing_law.specs.Marks.{closes}
 use Rattle.reset_law.specs.Stays as stay
-use Rattle.reset_law.proofs.lemmas.{begins_either}
-use Rattle.sockets.specs.Pairs.{NcpState, pair_with}
-use Rattle.promise.specs.Safe.{Match, Name, before, control_flow, last_out, named, sends}
+use Rattle.promise.specs.Safe.{before, named, sends}
 use Rattle.promise.specs.declared.life.Life.{Life}
-use Rattle.net_sim.specs.Story.{Moment, event_in, events_of, program}
-use Rattle.net_sim.specs.Timeline.{crossings_of}
-use Rattle.net_sim.proofs.lemmas.{Coupled, place_same}
-use Rattle.world_keeps_lives.specs.Drained.{ClosesFirst}
-use Rattle.world_keeps_lives.specs.Lives.{HasOpenEnd}
-use Rattle.world_keeps_lives.proofs.lemmas.{live}
-use Rattle.world_keeps_pairing.specs.Free.{law_events, origin_in, place_or}
-use Rattle.world_keeps_pairing.specs.Steps.{steps}
-use Rattle.world_keeps_pairing.proofs.lemmas.{IsPair, Tie, all_says, all_tied, are_origins, at_texts, receiver_half, served_in}
-use Rattle.world_keeps_streams.specs.Calls.{own_calls}
-use Rattle.world_keeps_streams.specs.Closes.{IsClosedByPartner}
+use Rattle.world_keeps_pairing.proofs.lemmas.{IsPair}
 use Rattle.world_keeps_streams.proofs.Deeds.Effects.{Among}
 use Rattle.world_keeps_streams.proofs.Heard.Run.{heard_closes}
 use Rattle.world_keeps_streams.proofs.Lives.Left.{found_tied}

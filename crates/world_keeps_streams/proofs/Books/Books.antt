@@ -1,17 +1,7 @@
 -- The clauses of a safe book that are about two hosts: what was taken has a source, and what was sent is granted.
-use Rattle.std.proofs.Common.{◌≡◌, ◌⊎◌, inl, inr, ℕ, ◌+◌, ◌≤◌, Bool, true, List, [], length, take, drop, Option, Some, None, refl, ap, sym, subst, ◌∙◌, arith}
-use Rattle.std.specs.List.{Contains}
-use Rattle.interface.specs.Calls.{Seen}
-use Rattle.interface.specs.Host.{Host}
-use Rattle.interface.specs.declared.crossing.Crossing.{Crossing}
-use Rattle.net_sim.specs.Clean.{IsLawful}
-use Rattle.promise.specs.Safe.{IsGranted, Match, Name, SafePartners, Source, own_request, receives}
-use Rattle.net_sim.specs.Story.{Moment}
-use Rattle.net_sim.specs.Timeline.{crossings_of}
-use Rattle.net_sim.specs.World.{WorldState}
+use Rattle.world_keeps_streams.proofs.Common.{◌≡◌, ◌⊎◌, inl, inr, ℕ, ◌+◌, ◌≤◌, Bool, true, List, [], length, take, drop, Option, Some, None, refl, ap, sym, subst, ◌∙◌, arith, Contains, Seen, Host, Crossing, IsLawful, IsGranted, Match, Name, SafePartners, Source, own_request, Moment, crossings_of, WorldState, Coupled, book_lives, book_run, safe_partners, served_in}
+use Rattle.promise.specs.Safe.{receives}
 use Rattle.promise.specs.declared.life.Life.{Life}
-use Rattle.net_sim.proofs.lemmas.{Coupled}
-use Rattle.world_keeps_pairing.proofs.lemmas.{book_lives, book_run, safe_partners, served_in}
 use Rattle.world_keeps_lives.proofs.lemmas.{taken}
 use Rattle.world_keeps_streams.proofs.Lives.Lists.{IsOf, contains, is_of, of_both, of_drop, of_parts, one_or_two}
 use Rattle.world_keeps_streams.proofs.Requests.Sides.{Lawful, coupled_in, lives_in}

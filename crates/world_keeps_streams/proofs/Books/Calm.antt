@@ -1,33 +1,11 @@
 -- Lives whose hosts have nothing left to do agree.
-use Rattle.std.proofs.Common.{◌≡◌, ℕ, ◌==◌, true, false, List, [], Option, Some, None, is_some, ap, sym, subst, ◌∙◌}
-use Rattle.std.proofs.lemmas.Bool.{eqb-true}
-use Rattle.interface.specs.Calls.{Seen}
-use Rattle.interface.specs.Host.{Host}
+use Rattle.world_keeps_streams.proofs.Common.{◌≡◌, ℕ, ◌==◌, true, false, List, [], Option, Some, None, is_some, ap, sym, subst, ◌∙◌, eqb-true, Seen, Host, is_receive_socket, is_busy, is_mine_on, is_open, is_receiving, was_closed, PairState, next_of, sendable, Entry, both, boxes, kind_in, pair, sound_run, stays_ready, pair_with, next_in, IsLawful, Agrees, Moment, events_of, program, crossings_of, seen_box, WorldState, box_same, story_agrees, linked_end, book_run, send_odd, Agree, AreAtRest, AreSilent, NoneOut, NoneWaits}
 use Rattle.interface.specs.Mailboxes as mail
-use Rattle.ncp_control.specs.Numbers.{is_receive_socket}
 use Rattle.ncp_control.specs.Phases as program_phases
-use Rattle.host_pairs.specs.Entries.{is_busy, is_mine_on, is_open, is_receiving, was_closed}
-use Rattle.host_pairs.specs.Pair.{PairState}
-use Rattle.host_pairs.specs.Parcels.{next_of, sendable}
-use Rattle.host_pairs.specs.declared.entry.Entry.{Entry}
-use Rattle.host_pairs.proofs.lemmas.{both}
-use Rattle.reset_law.specs.Boxes.{boxes}
-use Rattle.reset_law.specs.Invariant.{kind_in}
-use Rattle.reset_law.specs.Pairs.{pair}
 use Rattle.reset_law.specs.Stays as stay
-use Rattle.reset_law.proofs.lemmas.{sound_run, stays_ready}
-use Rattle.sockets.specs.Pairs.{pair_with}
-use Rattle.sockets.specs.Sending.{next_in, next_out}
-use Rattle.net_sim.specs.Clean.{IsLawful}
-use Rattle.net_sim.specs.Projection.{Agrees}
-use Rattle.net_sim.specs.Story.{Moment, events_of, program}
-use Rattle.net_sim.specs.Timeline.{crossings_of, seen_box}
-use Rattle.net_sim.specs.World.{WorldState}
-use Rattle.net_sim.proofs.lemmas.{box_same, story_agrees}
+use Rattle.sockets.specs.Sending.{next_out}
 use Rattle.promise.specs.declared.life.Life.{Life}
-use Rattle.world_keeps_lives.proofs.lemmas.{linked_end}
-use Rattle.world_keeps_pairing.proofs.lemmas.{book_run, send_odd}
-use Rattle.world_keeps_streams.specs.Rests.{Agree, AllCalm, AreAtRest, AreCalm, AreOpen, AreSilent, NoneOut, NoneWaits}
+use Rattle.world_keeps_streams.specs.Rests.{AllCalm, AreCalm, AreOpen}
 use Rattle.world_keeps_streams.proofs.Books.Agree.{settled}
 use Rattle.world_keeps_streams.proofs.Books.Arrives.{end_at, rest_lawful, stays_of}
 use Rattle.world_keeps_streams.proofs.Books.Closes.{AtLink, rests}
@@ -43,9 +21,6 @@ use Rattle.world_keeps_streams.proofs.Tidy.Mute.{none_in, none_next, none_queued
 -- ---- a program that has nothing to say
 
 module _ (hosts : List Host) (ms : List Moment) (l : Lawful hosts ms) (h p : Host) (stays : stay.stays h p (events_of ms) ≡ true) (out : NoneOut h p (crossings_of ms)) (mute : next_out (program h ms) ≡ None) where
-  abbrev q : PairState
-  q = pair_with p (program h ms).peers
-
   agrees : Agrees (pair_with p (program h ms).peers) (pair h p (events_of ms))
   agrees = story_agrees ms h p (coupled_in hosts ms l).story
 

@@ -1,24 +1,9 @@
 -- Where the end of a receiving life has taken its partner's CLS, all that its partner sent has come in; and it sends nothing more.
-use Rattle.std.proofs.Common.{◌≡◌, ◌⊎◌, inl, inr, ℕ, zero, suc, ◌+◌, ◌≤◌, ◌==◌, Bool, true, false, List, [], ◌∷◌, ◌++◌, length, map, Option, Some, None, refl, ap, sym, subst, ◌∙◌, eq-eqb, arith}
-use Rattle.std.specs.List.{Contains}
-use Rattle.interface.specs.Calls.{Seen}
-use Rattle.interface.specs.Host.{Host}
-use Rattle.interface.specs.declared.crossing.Crossing.{Crossing}
-use Rattle.ncp_control.specs.Numbers.{is_receive_socket}
+use Rattle.world_keeps_streams.proofs.Common.{◌≡◌, ◌⊎◌, inl, inr, ℕ, zero, suc, ◌+◌, ◌≤◌, ◌==◌, Bool, true, false, List, [], ◌∷◌, ◌++◌, length, map, Option, Some, None, refl, ap, sym, subst, ◌∙◌, eq-eqb, arith, Contains, Seen, Host, Crossing, is_receive_socket, IsSafe, came_inv, safe_inv, numbered, receiver_now, Match, Name, control_flow, last_out, own_request, partner_request, IsLawful, Moment, crossings_of, WorldState, texts_for, book_run, own_calls, HasTakenCls}
 use Rattle.stream_law.specs.Receivers.{Receiver}
-use Rattle.stream_law.specs.Within.{IsSafe}
-use Rattle.stream_law.proofs.lemmas.{came_inv, safe_inv}
-use Rattle.host_keeps_streams.specs.Histories.{numbered, receiver_now}
-use Rattle.promise.specs.Safe.{Match, Name, before, control_flow, last_out, named, own_request, partner_request, receives}
-use Rattle.net_sim.specs.Clean.{IsLawful}
-use Rattle.net_sim.specs.Story.{Moment}
-use Rattle.net_sim.specs.Timeline.{crossings_of}
-use Rattle.net_sim.specs.World.{WorldState}
+use Rattle.promise.specs.Safe.{before, named, receives}
 use Rattle.promise.specs.declared.life.Life.{Life}
-use Rattle.promise.specs.Formed.{texts_for}
-use Rattle.world_keeps_pairing.proofs.lemmas.{book_run}
-use Rattle.world_keeps_streams.specs.Calls.{own_calls}
-use Rattle.world_keeps_streams.specs.Came.{AllCame, CameAll, HasTakenCls}
+use Rattle.world_keeps_streams.specs.Came.{AllCame, CameAll}
 use Rattle.world_keeps_streams.proofs.Books.All.{all_given}
 use Rattle.world_keeps_streams.proofs.Books.Arrives.{rest_lawful, unlike}
 use Rattle.world_keeps_streams.proofs.Books.Books.{one_own, same_name}

@@ -1,43 +1,22 @@
 -- As many messages came in on the link of a receiving life that isn't over, after both its requests, as the law counts in its connection.
-use Rattle.std.proofs.Common.{◌≡◌, ◌⊎◌, inl, inr, ℕ, zero, suc, ◌+◌, ◌<◌, ◌≤◌, ◌==◌, max, Bool, true, false, if◌then◌else◌, List, [], ◌∷◌, ◌++◌, length, map, Option, Some, refl, ap, sym, subst, ◌∙◌, eq-eqb, arith}
+use Rattle.world_keeps_streams.proofs.Common.{◌≡◌, ◌⊎◌, inl, inr, ℕ, zero, suc, ◌+◌, ◌<◌, ◌≤◌, ◌==◌, Bool, false, if◌then◌else◌, List, [], ◌∷◌, ◌++◌, length, map, Option, Some, refl, ap, sym, subst, ◌∙◌, eq-eqb, arith, eqb-true, length-append, Host, same_host, Flow, HostMessage, same_flow-refl, same_flow-true, same_host-refl, header_of, is_receive_socket, DataHeader, IsSafe, safe_inv, waiting_of, waits_of, all_received, Takes, gone_now, name_now, numbered, receiver_now, data_received, numbered_tells, Fresh, begins_fresh, stays_ready, pair_with, texts_for, texts_of, Name, own_request, Asked, Crossed, Moment, event_in, events_of, program, crossings_of, texts_one, keeps, mail_below, calls_by, own_calls}
+use Rattle.std.proofs.Common.{max, true}
 use Rattle.std.proofs.Math.Nat.{max-le}
-use Rattle.std.proofs.lemmas.Bool.{eqb-true}
-use Rattle.std.proofs.lemmas.List.{length-append}
 use Rattle.interface.specs.Flow.{same_flow}
-use Rattle.interface.specs.Host.{Host, same_host}
-use Rattle.interface.specs.declared.address.Flow.{Flow}
 use Rattle.interface.specs.declared.crossing.Crossing.TheVariants as crossing
-use Rattle.interface.specs.declared.message.HostMessage.{HostMessage}
-use Rattle.interface.proofs.lemmas.{same_flow-refl, same_flow-true, same_host-refl}
-use Rattle.ncp_control.specs.DataHeader.{header_of}
-use Rattle.ncp_control.specs.Numbers.{is_receive_socket}
-use Rattle.ncp_control.specs.declared.data_header.DataHeader.{DataHeader}
 use Rattle.ncp_control.specs.Phases as phases
 use Rattle.stream_law.specs.Receivers as receivers
 use Rattle.stream_law.specs.Receivers.{Receiver}
 use Rattle.stream_law.specs.Streams.{Box}
-use Rattle.stream_law.specs.Within.{IsSafe}
-use Rattle.stream_law.proofs.lemmas.{safe_inv, waiting_of, waits_of}
-use Rattle.host_keeps_streams.specs.Closings.{all_received}
 use Rattle.host_keeps_streams.specs.Histories as calls
-use Rattle.host_keeps_streams.specs.Histories.{Takes, gone_now, name_now, numbered, receiver_now}
-use Rattle.host_keeps_streams.specs.Moves.{data_received}
-use Rattle.host_keeps_streams.proofs.lemmas.{numbered_tells}
-use Rattle.pairing_law.proofs.lemmas.{Fresh, begins_fresh}
 use Rattle.reset_law.specs.Stays as stay
-use Rattle.reset_law.proofs.lemmas.{stays_ready}
-use Rattle.sockets.specs.Pairs.{pair_with}
-use Rattle.promise.specs.Formed.{flow_of, texts_for, texts_of}
-use Rattle.promise.specs.Safe.{Name, own_request, receives}
-use Rattle.net_sim.specs.Story.{Asked, Crossed, Moment, event_in, events_of, program}
-use Rattle.net_sim.specs.Timeline.{crossings_of}
+use Rattle.promise.specs.Formed.{flow_of}
+use Rattle.promise.specs.Safe.{receives}
 use Rattle.promise.specs.declared.life.Life.{Life}
 use Rattle.world_keeps_lives.specs.Firsts.{begun}
 use Rattle.world_keeps_lives.proofs.lemmas as books
-use Rattle.world_keeps_lives.proofs.lemmas.{WasAt, texts_none, texts_one, texts_same}
-use Rattle.world_keeps_pairing.specs.Steps.{keeps}
-use Rattle.world_keeps_pairing.proofs.lemmas.{mail_below}
-use Rattle.world_keeps_streams.specs.Calls.{called, calls_by, own_calls}
+use Rattle.world_keeps_lives.proofs.lemmas.{WasAt, texts_none, texts_same}
+use Rattle.world_keeps_streams.specs.Calls.{called}
 use Rattle.world_keeps_streams.proofs.Books.All.{all_given}
 use Rattle.world_keeps_streams.proofs.Books.Arrives.{unlike}
 use Rattle.world_keeps_streams.proofs.Books.Books.{one_own}
@@ -73,9 +52,6 @@ more_by c k came = by (c == k) refl where
 
 -- is one of the connection whose end has it
 module _ (hosts : List Host) (a b : Host) (m : HostMessage) (ms : List Moment) (l : Lawful hosts (Crossed (crossing.In m) ∷ ms)) (stays : stay.stays a b (events_of ms) ≡ true) (host : a ≡ m.flow.destination) (peer : b ≡ m.flow.source) (other : (m.flow.link.0 == 0) ≡ false) where
-  abbrev on : ℕ
-  on = m.flow.link.0
-
   abbrev older : Lawful hosts ms
   older = below hosts (Crossed (crossing.In m)) ms l
 

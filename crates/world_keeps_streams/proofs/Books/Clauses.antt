@@ -1,13 +1,8 @@
 -- Of all lives of a book: what was taken has a source, and what was sent is granted.
-use Rattle.std.proofs.Common.{◌≡◌, ◌⊎◌, inl, inr, ℕ, ◌≤◌, Bool, true, false, List, [], ◌∷◌, length, map, take, refl, ap, sym, subst, ◌∙◌, arith}
-use Rattle.interface.specs.Host.{Host}
-use Rattle.ncp_control.specs.Numbers.{is_receive_socket, is_send_socket}
-use Rattle.pairing_law.proofs.lemmas.{Fresh, begins_fresh}
+use Rattle.world_keeps_streams.proofs.Common.{◌≡◌, ◌⊎◌, inl, inr, ℕ, ◌≤◌, Bool, true, false, List, [], ◌∷◌, length, map, take, refl, ap, sym, subst, ◌∙◌, arith, Host, is_receive_socket, is_send_socket, Fresh, begins_fresh, IsGranted, Match, Source, own_request, partner_request, Moment, Crossed, Asked, event_in, events_of, crossings_of}
 use Rattle.reset_law.specs.Stays as stay
 use Rattle.promise.specs.Safe as book
-use Rattle.promise.specs.Safe.{IsGranted, Match, Source, own_request, partner_request, receives, sends}
-use Rattle.net_sim.specs.Story.{Moment, Crossed, Asked, event_in, events_of}
-use Rattle.net_sim.specs.Timeline.{crossings_of}
+use Rattle.promise.specs.Safe.{receives, sends}
 use Rattle.promise.specs.declared.life.Life.{Life}
 use Rattle.world_keeps_streams.proofs.Lives.Lists.{IsOf, Grown, contains, grown, of_drop, of_left, of_map, of_mapped, of_parts, of_take, take_grown}
 use Rattle.world_keeps_streams.proofs.Requests.Names.{request_grows}

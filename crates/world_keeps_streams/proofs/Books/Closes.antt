@@ -1,36 +1,15 @@
 -- A receiving life that isn't over beside the law of its link; and one at rest, whose end is open, took all that its partner sent.
-use Rattle.std.proofs.Common.{◌≡◌, ◌⊎◌, inl, inr, ℕ, suc, ◌+◌, ◌≤◌, ◌==◌, Bool, true, false, List, [], ◌∷◌, ◌++◌, length, filter, Some, refl, ap, sym, subst, ◌∙◌, append-nil, arith}
-use Rattle.std.proofs.lemmas.Bool.{eqb-true, ne_eqb}
-use Rattle.std.specs.List.{Contains}
-use Rattle.interface.specs.Calls.{Seen}
-use Rattle.interface.specs.Host.{Host}
+use Rattle.world_keeps_streams.proofs.Common.{◌≡◌, ◌⊎◌, inl, inr, ℕ, suc, ◌+◌, ◌≤◌, ◌==◌, Bool, true, false, List, [], ◌∷◌, ◌++◌, length, filter, Some, refl, ap, sym, subst, ◌∙◌, arith, eqb-true, ne_eqb, Contains, Seen, Host, box_of, IsSafe, waiting_in, safe_inv, some_is, is_mine_on, receives_on, both, HasReceiver, IsReceiver, name_now, numbered, receiver_now, Fetched, Free, IsPosted, boxes, pair_with, IsLawful, Match, Moment, events_of, program, crossings_of, seen_box, WorldState, box_same, HasOpenEnd, open_parts, book_run, own_calls, AreAtRest}
+use Rattle.std.proofs.Common.{append-nil}
 use Rattle.interface.specs.Mailboxes as mail
-use Rattle.interface.specs.Mailboxes.{box_of}
 use Rattle.stream_law.specs.Receivers.{Receiver}
 use Rattle.stream_law.specs.Streams.{Box, Empty, Waiting, Taken}
-use Rattle.stream_law.specs.Within.{IsSafe, waiting_in}
-use Rattle.stream_law.proofs.lemmas.{safe_inv, some_is}
-use Rattle.host_pairs.specs.Entries.{is_mine_on, receives_on}
-use Rattle.host_pairs.proofs.lemmas.{both}
-use Rattle.host_keeps_streams.specs.Ends.{HasReceiver, IsReceiver}
-use Rattle.host_keeps_streams.specs.Histories.{name_now, numbered, receiver_now}
-use Rattle.pair_keeps_streams.proofs.lemmas.{Fetched, Free, IsPosted}
 use Rattle.reset_law.specs.Boxes as reset
-use Rattle.reset_law.specs.Boxes.{boxes}
 use Rattle.reset_law.specs.Stays as stay
-use Rattle.sockets.specs.Pairs.{pair_with}
-use Rattle.net_sim.specs.Clean.{IsLawful}
-use Rattle.promise.specs.Safe.{Match, receives}
-use Rattle.net_sim.specs.Story.{Moment, events_of, program}
-use Rattle.net_sim.specs.Timeline.{crossings_of, seen_box}
-use Rattle.net_sim.specs.World.{WorldState}
+use Rattle.promise.specs.Safe.{receives}
 use Rattle.promise.specs.declared.life.Life.{Life}
-use Rattle.net_sim.proofs.lemmas.{box_same, flow_of}
-use Rattle.world_keeps_lives.specs.Lives.{HasOpenEnd}
-use Rattle.world_keeps_lives.proofs.lemmas.{open_parts}
-use Rattle.world_keeps_pairing.proofs.lemmas.{book_run}
-use Rattle.world_keeps_streams.specs.Calls.{own_calls}
-use Rattle.world_keeps_streams.specs.Rests.{AllRest, AreAtRest}
+use Rattle.net_sim.proofs.lemmas.{flow_of}
+use Rattle.world_keeps_streams.specs.Rests.{AllRest}
 use Rattle.world_keeps_streams.proofs.Books.All.{all_given}
 use Rattle.world_keeps_streams.proofs.Books.Arrives.{end_at, on_link, one_end, rest_lawful, stays_of, unlike}
 use Rattle.world_keeps_streams.proofs.Books.Books.{one_receiver, one_sender}
@@ -144,15 +123,6 @@ module _ (hosts : List Host) (ms : List Moment) (l : Lawful hosts ms) (x : Life)
   some_sent : (ts : List (List Bool)) → (ts ≡ [] → ⊥) → 1 ≤ length ts
   some_sent [] some = absurd (some refl)
   some_sent (t ∷ ts) some = omega arith
-
-  -- where something was sent in the connection there is one
-  pub giver : ((w.j n).x.sender.sent c ≡ [] → ⊥) → (s : Life) × Contains (lives_in ms) s × Match (crossings_of ms) x s
-  giver some =
-      let h : HasS x.host x.peer (Own x.host x.peer) (Heard x.host x.peer) ms w.j n c = w.has_sender n c some in (
-        h.life,
-        contains h.life (lives_in ms) (of_drop (since x.host x.peer ms) h.life (lives_in ms) h.there),
-        one_matches x.host x.peer (Own x.host x.peer) (Heard x.host x.peer) ms (given.matched ms l) w x h.life known.g h.is.g late h.there (refl, refl) (h.host, h.peer) f.receiving h.name known.own h.is.heard,
-      )
 
   module _ (s : Life) (there : Contains (lives_in ms) s) (m : Match (crossings_of ms) x s) where
     s_in : IsOf s (lives_in ms)

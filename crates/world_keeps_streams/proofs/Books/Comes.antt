@@ -1,25 +1,10 @@
 -- Data of a sending life come for the receiving life that it matches.
-use Rattle.std.proofs.Common.{◌≡◌, ℕ, ◌==◌, true, false, List, ◌∷◌, Option, Some, None, ap, sym, subst, ◌∙◌}
-use Rattle.std.proofs.lemmas.Bool.{eqb-true}
-use Rattle.interface.specs.Calls.{Seen}
-use Rattle.interface.specs.Host.{Host}
+use Rattle.world_keeps_streams.proofs.Common.{◌≡◌, ℕ, ◌==◌, true, false, List, ◌∷◌, Option, Some, None, ap, sym, subst, ◌∙◌, eqb-true, Seen, Host, HostMessage, some_is, is_link, numbered, numbered_tells, HaveAddresses, IsLawful, Crossed, Moment, IsTimeline, crossings_of, WorldState, linked_end, book_run, mail_below, numbered_by_peer, ComesFor}
 use Rattle.interface.specs.Mailboxes as mail
 use Rattle.interface.specs.declared.crossing.Crossing.TheVariants as crossing
-use Rattle.interface.specs.declared.message.HostMessage.{HostMessage}
-use Rattle.stream_law.proofs.lemmas.{some_is}
-use Rattle.host_pairs.specs.Entries.{is_link}
-use Rattle.host_keeps_streams.specs.Histories.{numbered}
-use Rattle.host_keeps_streams.proofs.lemmas.{numbered_tells}
 use Rattle.pair_keeps_streams.proofs.lemmas.{linked_waiting}
-use Rattle.net_sim.specs.Clean.{HaveAddresses, IsLawful}
-use Rattle.net_sim.specs.Story.{Crossed, Moment}
-use Rattle.net_sim.specs.Timeline.{IsTimeline, crossings_of}
-use Rattle.net_sim.specs.World.{WorldState}
 use Rattle.promise.specs.declared.life.Life.{Life}
-use Rattle.world_keeps_lives.proofs.lemmas.{linked_end}
-use Rattle.world_keeps_pairing.proofs.lemmas.{book_run, mail_below}
-use Rattle.world_keeps_streams.specs.Calls.{numbered_by_peer}
-use Rattle.world_keeps_streams.specs.Arrivals.{AllCome, ComesBetween, ComesFor}
+use Rattle.world_keeps_streams.specs.Arrivals.{AllCome, ComesBetween}
 use Rattle.world_keeps_streams.proofs.Books.Arrives.{rest_lawful}
 use Rattle.world_keeps_streams.proofs.Books.Closes.{AtLink}
 use Rattle.world_keeps_streams.proofs.Books.Firsts.{together}

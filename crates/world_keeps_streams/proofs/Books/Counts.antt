@@ -1,20 +1,8 @@
 -- How many CLS a host has said and heard of a connection, by the end that it has of it.
-use Rattle.std.proofs.Common.{◌≡◌, ℕ, ◌+◌, ◌≤◌, ◌&&◌, Bool, true, false, List, [], ◌∷◌, ◌++◌, refl, ap, sym, subst, ◌∙◌, arith}
-use Rattle.interface.specs.Host.{Host}
-use Rattle.host_pairs.specs.Entries.{is_sent}
-use Rattle.host_pairs.specs.declared.entry.Entry.{Entry}
-use Rattle.host_keeps_pairing.specs.Ends.{end_of, is_past, standing}
-use Rattle.pairing_law.specs.Ends.{End}
-use Rattle.pairing_law.specs.Links.{Sockets, Who}
-use Rattle.pairing_law.specs.Marks.{Ask, Close, IsOlder, Mark, closes}
-use Rattle.pairing_law.specs.Sides.{Side}
-use Rattle.pairing_law.proofs.lemmas.{Half, count, stays_same}
+use Rattle.world_keeps_streams.proofs.Common.{◌≡◌, ℕ, ◌+◌, ◌≤◌, ◌&&◌, Bool, true, false, List, [], ◌∷◌, ◌++◌, refl, ap, sym, subst, ◌∙◌, arith, Host, is_sent, Entry, end_of, is_past, standing, End, Sockets, Who, Ask, Close, Mark, Side, Half, count, stays_same, pair_with, Moment, events_of, program, crossings_of, law_events, origin_in, Tie, at_texts, foreign_of, half, other, own_of}
+use Rattle.pairing_law.specs.Marks.{IsOlder, closes}
 use Rattle.reset_law.specs.Stays as stay
-use Rattle.sockets.specs.Pairs.{pair_with}
-use Rattle.net_sim.specs.Story.{Moment, events_of, program}
-use Rattle.net_sim.specs.Timeline.{crossings_of}
-use Rattle.world_keeps_pairing.specs.Free.{law_events, origin_in}
-use Rattle.world_keeps_pairing.proofs.lemmas.{IsPair, Tie, at_texts, foreign_of, half, other, own_of}
+use Rattle.world_keeps_pairing.proofs.lemmas.{IsPair}
 use Rattle.world_keeps_streams.proofs.Deeds.Effects.{Among}
 use Rattle.world_keeps_streams.proofs.Lives.Left.{entry_end}
 use Rattle.world_keeps_streams.proofs.Requests.Now.{side_stays}

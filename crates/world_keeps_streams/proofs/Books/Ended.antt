@@ -1,34 +1,13 @@
 -- A sending life whose CLS its partner has taken, and whose partner has said none, isn't over while its host stays: so it is there, or it was at the last
 -- moment before its host left.
-use Rattle.std.proofs.Common.{◌≡◌, inl, inr, ℕ, suc, ◌+◌, ◌<◌, ◌≤◌, ◌&&◌, ◌||◌, not, if◌then◌else◌, Bool, true, false, List, [], ◌∷◌, ◌++◌, Option, refl, ap, sym, subst, ◌∙◌, arith}
-use Rattle.std.specs.List.{Contains}
-use Rattle.interface.specs.Host.{Host}
-use Rattle.interface.specs.declared.crossing.Crossing.{Crossing}
-use Rattle.ncp_control.specs.Numbers.{is_receive_socket, is_send_socket}
-use Rattle.host_pairs.specs.Entries.{entry_at}
-use Rattle.host_pairs.specs.declared.entry.Entry.{Entry}
-use Rattle.host_keeps_streams.specs.Histories.{gone_now}
-use Rattle.pair_keeps_streams.specs.Words.{counted, has_heard, heard_from}
-use Rattle.pairing_law.specs.Links.{Receiver, Sender, Sockets, Who, receiver, sender}
-use Rattle.pairing_law.specs.Marks.{Asks, Mark, closes}
-use Rattle.pairing_law.specs.Partners.{IsIn}
+use Rattle.world_keeps_streams.proofs.Common.{◌≡◌, inl, inr, ℕ, suc, ◌+◌, ◌<◌, ◌≤◌, ◌&&◌, ◌||◌, not, if◌then◌else◌, Bool, true, false, List, [], ◌∷◌, ◌++◌, Option, refl, ap, sym, subst, ◌∙◌, arith, Contains, Host, Crossing, is_receive_socket, is_send_socket, entry_at, Entry, gone_now, counted, has_heard, heard_from, Sockets, Who, receiver, sender, Asks, Mark, IsIn, Side, Joined, Stands, Stood, asks_once, asks_said, every_in, from_asks, begins_either, pair_with, life_ended, Asked, Crossed, Moment, event_in, events_of, program, crossings_of, Coupled, law_events, origin_in, life_of, openings, steps, even_odd, foreign_of, life_in, own_of, sender_half, served_in, own_calls}
+use Rattle.pairing_law.specs.Links.{Receiver, Sender}
+use Rattle.pairing_law.specs.Marks.{closes}
 use Rattle.pairing_law.specs.Sides as law
-use Rattle.pairing_law.specs.Sides.{Side}
-use Rattle.pairing_law.proofs.lemmas.{Joined, Stands, Stood, asks_once, asks_said, every_in, from_asks}
 use Rattle.reset_law.specs.Stays as stay
-use Rattle.reset_law.proofs.lemmas.{begins_either}
-use Rattle.sockets.specs.Pairs.{pair_with}
 use Rattle.promise.specs.Safe.{sends}
 use Rattle.promise.specs.declared.life.Life.{Life}
-use Rattle.net_sim.specs.Book.{life_ended}
-use Rattle.net_sim.specs.Story.{Asked, Crossed, Moment, event_in, events_of, program}
-use Rattle.net_sim.specs.Timeline.{crossings_of}
-use Rattle.net_sim.proofs.lemmas.{Coupled}
-use Rattle.world_keeps_pairing.specs.Free.{law_events, origin_in}
-use Rattle.world_keeps_pairing.specs.Lives.{life_of, openings}
-use Rattle.world_keeps_pairing.specs.Steps.{steps}
-use Rattle.world_keeps_pairing.proofs.lemmas.{IsPair, even_odd, foreign_of, life_in, own_of, sender_half, served_in}
-use Rattle.world_keeps_streams.specs.Calls.{own_calls}
+use Rattle.world_keeps_pairing.proofs.lemmas.{IsPair}
 use Rattle.world_keeps_streams.proofs.Books.All.{all_given}
 use Rattle.world_keeps_streams.proofs.Books.Arrives.{rest_lawful}
 use Rattle.world_keeps_streams.proofs.Books.Counts.{closes_said, side_of}
@@ -107,9 +86,6 @@ at_most false n = omega arith
 module _ (hosts : List Host) (ms : List Moment) (l : Lawful hosts ms) (s : Sockets) (q : IsPair s) (who : Who) (h p : Host) (stays : stay.stays h p (events_of ms) ≡ true) where
   heard_is : closes (side_of s who h p ms).heard ≡ heard_from (gone_now p (own_calls h p ms)) (pair_with p (program h ms).peers).entries (foreign_of who s) (own_of who s)
   heard_is = heard_closes s q who hosts h p ms l stays ∙ counts hosts ms l h p (foreign_of who s) (own_of who s)
-
-  found : Option Entry
-  found = entry_at (own_of who s) (foreign_of who s) (pair_with p (program h ms).peers).entries
 
   pub heard_least : gone_now p (own_calls h p ms) (own_of who s) (foreign_of who s) ≤ closes (side_of s who h p ms).heard
   heard_least = subst (λ (n : ℕ). gone_now p (own_calls h p ms) (own_of who s) (foreign_of who s) ≤ n) (sym heard_is)

@@ -1,38 +1,17 @@
 -- A receiving life that ended by CLS was closed by its partner: an open one is of a connection that no user has closed, and where its end goes, the sender's
 -- CLS was heard before.
-use Rattle.std.proofs.Common.{◌≡◌, ◌⊎◌, inl, inr, ℕ, suc, ◌≤◌, ◌==◌, Bool, true, false, if◌then◌else◌, List, [], ◌∷◌, ◌++◌, map, drop, filter, Some, None, refl, ap, sym, subst, ◌∙◌, arith}
-use Rattle.std.proofs.lemmas.Bool.{eqb-true}
-use Rattle.interface.specs.Host.{Host}
-use Rattle.interface.proofs.lemmas.{or_false}
-use Rattle.ncp_control.specs.Numbers.{is_receive_socket, is_send_socket}
+use Rattle.world_keeps_streams.proofs.Common.{◌≡◌, ◌⊎◌, inl, inr, ℕ, suc, ◌≤◌, ◌==◌, Bool, true, false, if◌then◌else◌, List, ◌∷◌, ◌++◌, map, drop, filter, Some, None, refl, ap, sym, subst, ◌∙◌, arith, eqb-true, Host, or_false, is_receive_socket, is_send_socket, Inv, some_is, has_cls, is_ending, is_mine_on, receives_on, Entry, both, AreReceiver, AreAllowed, HasClosed, IsHistory, gone_now, name_now, numbered, receiver_now, closed_first, numbered_tells, pair_with, begins_fresh, IsBeside, own_request, Fate, Asked, Moment, event_in, events_of, program, host_in, notices_by, Coupled, kept_fated, HasOpenEnd, live, keeps, life_paired, served_in, calls_by, own_calls, IsClosedByPartner, WasClosedByPartner}
+use Rattle.std.proofs.Common.{[]}
 use Rattle.stream_law.specs.Receivers.{Receiver}
-use Rattle.stream_law.proofs.lemmas.{Inv, some_is}
-use Rattle.host_pairs.specs.Entries.{has_cls, is_ending, is_mine_on, receives_on}
-use Rattle.host_pairs.specs.declared.entry.Entry.{Entry}
-use Rattle.host_pairs.proofs.lemmas.{both}
-use Rattle.host_keeps_streams.specs.Ends.{AreReceiver}
 use Rattle.host_keeps_streams.specs.Histories as calls
-use Rattle.host_keeps_streams.specs.Histories.{AreAllowed, HasClosed, IsHistory, gone_now, name_now, numbered, receiver_now}
-use Rattle.host_keeps_streams.proofs.lemmas.{closed_first, numbered_tells}
 use Rattle.reset_law.specs.Stays as stay
-use Rattle.sockets.specs.Pairs.{pair_with}
 use Rattle.sockets.specs.Requests.{served_notices}
 use Rattle.sockets.specs.declared.request.Request.TheVariants as request
-use Rattle.pairing_law.proofs.lemmas.{begins_fresh}
-use Rattle.promise.specs.Fates.{IsBeside, is_over}
-use Rattle.promise.specs.Safe.{own_request, receives}
-use Rattle.promise.specs.declared.life.Fate.{Fate}
+use Rattle.promise.specs.Fates.{is_over}
+use Rattle.promise.specs.Safe.{receives}
 use Rattle.promise.specs.declared.life.Fate.TheVariants as fate
 use Rattle.promise.specs.declared.life.Life.{Life}
-use Rattle.net_sim.specs.Story.{Asked, Moment, event_in, events_of, program}
-use Rattle.net_sim.specs.Told.{host_in, kept_in, notices_by}
-use Rattle.net_sim.proofs.lemmas.{Coupled, kept_fated}
-use Rattle.world_keeps_lives.specs.Lives.{HasOpenEnd}
-use Rattle.world_keeps_lives.proofs.lemmas.{live}
-use Rattle.world_keeps_pairing.specs.Steps.{keeps}
-use Rattle.world_keeps_pairing.proofs.lemmas.{life_paired, served_in}
-use Rattle.world_keeps_streams.specs.Calls.{calls_by, own_calls}
-use Rattle.world_keeps_streams.specs.Closes.{IsClosedByPartner, WasClosedByPartner}
+use Rattle.net_sim.specs.Told.{kept_in}
 use Rattle.world_keeps_streams.proofs.Calls.Chain.{chain}
 use Rattle.world_keeps_streams.proofs.Deeds.Effects.{Among, among_filter}
 use Rattle.world_keeps_streams.proofs.Lives.Fates.{Came, IsBegun, IsClose, Moved, TellsEnd, TellsOpening, beside_of, beside_over, came}
@@ -109,9 +88,6 @@ module _ (hosts : List Host) (y : Moment) (ms : List Moment) (l : Lawful hosts (
     by false e = refl
     by true e = absurd (unlike (stay.stays x.host x.peer (events_of ms)) was (begins_fresh hosts (event_in y) (events_of ms) (coupled_in hosts (y ∷ ms) l).run x.host x.peer e).left)
 
-  abbrev newer : List calls.Moment
-  newer = calls_by x.host x.peer y ms
-
   own_is : own_calls x.host x.peer (y ∷ ms) ≡ calls_by x.host x.peer y ms ++ own_calls x.host x.peer ms
   own_is = later.own_if (keeps x.host x.peer (event_in y) (events_of ms)) (calls_by x.host x.peer y ms ++ own_calls x.host x.peer ms) [] (stays_on x.host x.peer (event_in y) (events_of ms) on none).0
 
@@ -154,9 +130,6 @@ module _ (hosts : List Host) (y : Moment) (ms : List Moment) (l : Lawful hosts (
             (subst (λ (cs : List calls.Moment). (receiver_now numbered x.peer (suc m) cs).end ≡ Some its_c) own_is end)
 
   -- ---- the life then
-
-  abbrev next : Life
-  next = (grown y ms).change x
 
   names : Named x ((grown y ms).change x)
   names = (grown y ms).names x

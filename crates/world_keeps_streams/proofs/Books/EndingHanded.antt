@@ -1,16 +1,7 @@
 -- A receiving life that ended by CLS took all that its partner sent, and all that was handed over there.
-use Rattle.std.proofs.Common.{List, sym, subst}
-use Rattle.interface.specs.Calls.{Seen}
-use Rattle.interface.specs.Host.{Host}
-use Rattle.interface.specs.declared.crossing.Crossing.{Crossing}
+use Rattle.world_keeps_streams.proofs.Common.{List, sym, subst, Seen, Host, Crossing, Kept, IsLawful, Moment, crossings_of, WorldState, book_run}
 use Rattle.promise.specs.Fates.{ClosesWhole}
-use Rattle.net_sim.specs.Book.{Kept}
-use Rattle.net_sim.specs.Clean.{IsLawful}
-use Rattle.net_sim.specs.Story.{Moment}
-use Rattle.net_sim.specs.Timeline.{crossings_of}
 use Rattle.net_sim.specs.Told.{kept_in}
-use Rattle.net_sim.specs.World.{WorldState}
-use Rattle.world_keeps_pairing.proofs.lemmas.{book_run}
 use Rattle.world_keeps_streams.proofs.Requests.Sides.{Lawful}
 use Rattle.world_keeps_streams.proofs.Books.Ending.{ended_by_partner}
 use Rattle.world_keeps_streams.proofs.Books.Handed.{took_beside}

@@ -1,23 +1,11 @@
 -- What was sent to a receiving life when its end had taken its partner's CLS stays all that is sent to it, whatever becomes of both lives later.
-use Rattle.std.proofs.Common.{◌≡◌, ◌⊎◌, inl, inr, ℕ, suc, ◌+◌, ◌≤◌, ◌==◌, Bool, true, false, if◌then◌else◌, List, [], ◌∷◌, ◌++◌, length, map, take, drop, Some, refl, ap, sym, subst, ◌∙◌, arith}
-use Rattle.std.proofs.lemmas.Bool.{eqb-true}
-use Rattle.interface.specs.Host.{Host}
+use Rattle.world_keeps_streams.proofs.Common.{◌≡◌, ◌⊎◌, inl, inr, ℕ, suc, ◌+◌, ◌≤◌, ◌==◌, Bool, true, false, if◌then◌else◌, List, [], ◌∷◌, ◌++◌, length, map, take, drop, Some, refl, ap, sym, subst, ◌∙◌, arith, eqb-true, Host, IsSafe, safe_inv, numbered, receiver_now, sender_now, numbered_tells, Fresh, begins_either, Match, Name, own_request, Moment, event_in, events_of, crossings_of, keeps, calls_by, own_calls}
 use Rattle.stream_law.specs.Receivers.{Receiver}
 use Rattle.stream_law.specs.Senders.{Sender}
-use Rattle.stream_law.specs.Within.{IsSafe}
-use Rattle.stream_law.proofs.lemmas.{safe_inv}
 use Rattle.host_keeps_streams.specs.Histories as calls
-use Rattle.host_keeps_streams.specs.Histories.{numbered, receiver_now, sender_now}
-use Rattle.host_keeps_streams.proofs.lemmas.{numbered_tells}
-use Rattle.pairing_law.proofs.lemmas.{Fresh}
 use Rattle.reset_law.specs.Stays as stay
-use Rattle.reset_law.proofs.lemmas.{begins_either}
-use Rattle.promise.specs.Safe.{Match, Name, own_request, receives}
-use Rattle.net_sim.specs.Story.{Moment, event_in, events_of}
-use Rattle.net_sim.specs.Timeline.{crossings_of}
+use Rattle.promise.specs.Safe.{receives}
 use Rattle.promise.specs.declared.life.Life.{Life}
-use Rattle.world_keeps_pairing.specs.Steps.{keeps}
-use Rattle.world_keeps_streams.specs.Calls.{calls_by, own_calls}
 use Rattle.world_keeps_streams.proofs.Books.All.{all_given}
 use Rattle.world_keeps_streams.proofs.Books.Books.{one_own, one_sender, same_name}
 use Rattle.world_keeps_streams.proofs.Books.Clauses.{match_grows, stays_in}
@@ -214,9 +202,6 @@ module _ (hosts : List Host) (a b : Host) (T : ℕ → List (List Bool)) (n : �
     done_on : (t : Life) → IsOf t (lives_in ms) → IsOf t (take (since a b (z ∷ ms)) (lives_in (z ∷ ms))) → t.ended ≡ true → Nothing ms t ⊎ ((o : Source ms t) × (o.sender.ended ≡ true)) → Done (z ∷ ms) t
     done_on t i early over (inl k) = record { early = early; over = over; done = inl (record { none = k.none; all = none_on hosts a b z ms l t early k.all }) }
     done_on t i early over (inr o) = record { early = early; over = over; done = inr (source_on t i o.0 o.1) }
-
-    abbrev t_on : Life → Life
-    t_on t = (grown z ms).change t
 
     still_fixed : (t : Life) → Fixed ms (below hosts z ms l) t → stay.begins a b (event_in z) (events_of ms) ≡ false → Fixed (z ∷ ms) l ((grown z ms).change t)
     still_fixed t h none = record {

@@ -1,27 +1,12 @@
 -- Each life is made of the first messages on its link: what two programs do together to make it so.
-use Rattle.std.proofs.Common.{◌≡◌, inl, inr, ℕ, ◌==◌, true, false, List, [], ◌∷◌, drop, filter, sym, subst, ◌∙◌}
-use Rattle.std.specs.List.{Contains}
-use Rattle.interface.specs.Calls.{Seen}
-use Rattle.interface.specs.Host.{Host}
-use Rattle.interface.specs.declared.crossing.Crossing.{Crossing}
+use Rattle.world_keeps_streams.proofs.Common.{◌≡◌, inl, inr, ℕ, ◌==◌, true, false, List, [], ◌∷◌, drop, filter, sym, subst, ◌∙◌, Contains, Seen, Host, Crossing, is_open, sends_on, Entry, name_now, numbered, sender_now, IsSending, pair_with, IsLawful, Moment, program, crossings_of, WorldState, LinkedBook, book_lives, book_run, own_calls}
 use Rattle.stream_law.specs.Senders.{Sender}
-use Rattle.host_pairs.specs.Entries.{is_open, sends_on}
-use Rattle.host_pairs.specs.declared.entry.Entry.{Entry}
 use Rattle.host_keeps_streams.specs.Ends.{AreSender}
-use Rattle.host_keeps_streams.specs.Histories.{name_now, numbered, sender_now}
-use Rattle.host_keeps_streams.specs.Names.{IsSending}
-use Rattle.sockets.specs.Pairs.{pair_with}
-use Rattle.net_sim.specs.Clean.{IsLawful}
-use Rattle.net_sim.specs.Story.{Moment, program}
-use Rattle.net_sim.specs.Timeline.{crossings_of}
-use Rattle.net_sim.specs.World.{WorldState}
 use Rattle.promise.specs.Formed.{FormedBook}
 use Rattle.promise.specs.declared.life.Life.{Life}
 use Rattle.world_keeps_lives.specs.Firsts.{FirstBook}
 use Rattle.world_keeps_lives.proofs.lemmas as books
-use Rattle.world_keeps_lives.proofs.lemmas.{HasOwner, LinkedBook, Together}
-use Rattle.world_keeps_pairing.proofs.lemmas.{book_lives, book_run}
-use Rattle.world_keeps_streams.specs.Calls.{own_calls}
+use Rattle.world_keeps_lives.proofs.lemmas.{HasOwner, Together}
 use Rattle.world_keeps_streams.proofs.Books.Arrives.{arrives}
 use Rattle.world_keeps_streams.proofs.Carried.Calls.{Carries, contains_among, recent, since}
 use Rattle.world_keeps_streams.proofs.Carried.Step.{LifeFor}

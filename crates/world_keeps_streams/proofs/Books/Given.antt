@@ -1,14 +1,8 @@
 -- What a safe book asks of two hosts, but for their lives: requests and streams.
-use Rattle.std.proofs.Common.{◌≡◌, ℕ, suc, ◌==◌, ◌≤◌, true, false, List, [], ◌∷◌, refl}
-use Rattle.std.proofs.lemmas.Bool.{ne_eqb}
-use Rattle.interface.specs.Host.{Host}
-use Rattle.host_keeps_streams.specs.Histories.{numbered, receiver_now, sender_now}
-use Rattle.host_keeps_streams.proofs.lemmas.{numbered_tells}
+use Rattle.world_keeps_streams.proofs.Common.{◌≡◌, ℕ, suc, ◌==◌, ◌≤◌, true, false, List, [], ◌∷◌, refl, ne_eqb, Host, numbered, receiver_now, sender_now, numbered_tells, Moment, event_in, events_of, own_calls, numbered_by_peer}
 use Rattle.reset_law.specs.Stays as stay
 use Rattle.promise.specs.Safe.{receives, sends}
-use Rattle.net_sim.specs.Story.{Moment, event_in, events_of}
 use Rattle.promise.specs.declared.life.Life.{Life}
-use Rattle.world_keeps_streams.specs.Calls.{own_calls, numbered_by_peer}
 use Rattle.world_keeps_streams.proofs.Lives.Lists.{IsOf}
 use Rattle.world_keeps_streams.proofs.Requests.Now.{Counts}
 use Rattle.world_keeps_streams.proofs.Requests.Placed.{heard_law_on, matched_law, own_law_on}

@@ -1,13 +1,7 @@
 -- What the book has of two hosts beside their streams, moment by moment.
-use Rattle.std.proofs.Common.{◌≡◌, ℕ, suc, ◌+◌, ◌≤◌, Bool, true, false, List, [], ◌∷◌, length, map, drop, if◌then◌else◌, refl, ap, sym, subst, ◌∙◌, arith}
-use Rattle.std.proofs.lemmas.List.{length-append}
-use Rattle.interface.specs.Host.{Host}
-use Rattle.ncp_control.specs.declared.allocation.Allocation.{Allocation}
-use Rattle.host_keeps_streams.specs.Histories.{numbered}
+use Rattle.world_keeps_streams.proofs.Common.{◌≡◌, ℕ, suc, ◌+◌, ◌≤◌, Bool, true, false, List, [], ◌∷◌, length, map, drop, if◌then◌else◌, refl, ap, sym, subst, ◌∙◌, arith, length-append, Host, Allocation, numbered, life_ended, Moment, event_in, events_of}
 use Rattle.reset_law.specs.Stays as stay
-use Rattle.net_sim.specs.Book.{life_ended}
 use Rattle.promise.specs.Safe.{receives, sends}
-use Rattle.net_sim.specs.Story.{Moment, event_in, events_of}
 use Rattle.promise.specs.declared.life.Life.{Life}
 use Rattle.world_keeps_streams.proofs.Steps.Joined.{IsSettled, Joined, Keeps}
 use Rattle.world_keeps_streams.proofs.Carried.Streams.{all_bits}

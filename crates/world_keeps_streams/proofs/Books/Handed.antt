@@ -1,31 +1,15 @@
 -- A receiving life that its partner has closed, and no user of its host, took all that was handed over in the life that it matches.
-use Rattle.std.proofs.Common.{◌≡◌, inl, inr, ℕ, ◌+◌, ◌≤◌, Bool, true, false, List, [], ◌∷◌, ◌++◌, map, refl, ap, sym, subst, ◌∙◌, arith}
-use Rattle.std.proofs.lemmas.List.{append_assoc}
-use Rattle.std.specs.List.{Contains}
-use Rattle.interface.specs.Calls.{Seen}
-use Rattle.interface.specs.Host.{Host}
-use Rattle.ncp_control.specs.Numbers.{is_send_socket}
-use Rattle.host_pairs.specs.Entries.{is_sent}
-use Rattle.host_keeps_streams.specs.Histories.{gone_now}
+use Rattle.world_keeps_streams.proofs.Common.{◌≡◌, inl, inr, ℕ, ◌+◌, ◌≤◌, Bool, true, false, List, [], ◌∷◌, ◌++◌, map, refl, ap, sym, subst, ◌∙◌, arith, append_assoc, Contains, Seen, Host, is_send_socket, is_sent, gone_now, pair_with, IsLawful, IsBeside, Match, own_request, Moment, events_of, program, crossings_of, WorldState, ClosesFirst, HasOpenEnd, live, origin_in, book_run, own_calls, IsClosedByPartner, WasClosedBy, WasClosedByPartner}
 use Rattle.pairing_law.specs.Links.{Receiver}
 use Rattle.pairing_law.specs.Marks.{closes}
 use Rattle.reset_law.specs.Stays as stay
-use Rattle.sockets.specs.Pairs.{pair_with}
-use Rattle.net_sim.specs.Clean.{IsLawful}
-use Rattle.promise.specs.Fates.{IsBeside}
-use Rattle.promise.specs.Safe.{AreHanded, IsPrefix, Match, own_request, sends}
-use Rattle.net_sim.specs.Story.{Moment, events_of, program}
-use Rattle.net_sim.specs.Timeline.{crossings_of}
+use Rattle.promise.specs.Safe.{AreHanded, IsPrefix, sends}
 use Rattle.net_sim.specs.Told.{kept_in}
-use Rattle.net_sim.specs.World.{WorldState}
 use Rattle.promise.specs.declared.life.Life.{Life}
-use Rattle.world_keeps_lives.specs.Drained.{AllSent, ClosedFirst, ClosesFirst}
-use Rattle.world_keeps_lives.specs.Lives.{HasOpenEnd}
-use Rattle.world_keeps_lives.proofs.lemmas.{drained, handed, live}
-use Rattle.world_keeps_pairing.specs.Free.{origin_in}
-use Rattle.world_keeps_pairing.proofs.lemmas.{IsPair, book_run}
-use Rattle.world_keeps_streams.specs.Calls.{own_calls}
-use Rattle.world_keeps_streams.specs.Closes.{AllHanded, IsClosedByPartner, TookHanded, WasClosedBy, WasClosedByPartner}
+use Rattle.world_keeps_lives.specs.Drained.{AllSent, ClosedFirst}
+use Rattle.world_keeps_lives.proofs.lemmas.{drained, handed}
+use Rattle.world_keeps_pairing.proofs.lemmas.{IsPair}
+use Rattle.world_keeps_streams.specs.Closes.{AllHanded, TookHanded}
 use Rattle.world_keeps_streams.proofs.Deeds.Effects.{Among}
 use Rattle.world_keeps_streams.proofs.Lives.Fates.{beside_of}
 use Rattle.world_keeps_streams.proofs.Lives.Lists.{IsOf, Named, contains, grown, is_of, named_itself, of_left, of_map}

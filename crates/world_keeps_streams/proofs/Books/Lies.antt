@@ -1,24 +1,10 @@
 -- Data that are taken lie in the box of the law of streams.
-use Rattle.std.proofs.Common.{◌≡◌, ◌==◌, ℕ, Bool, true, false, List, ◌∷◌, drop, Some, refl, ap, sym, subst, ◌∙◌}
-use Rattle.interface.specs.Host.{Host}
+use Rattle.world_keeps_streams.proofs.Common.{◌≡◌, ◌==◌, ℕ, Bool, true, false, List, ◌∷◌, drop, Some, refl, ap, sym, subst, ◌∙◌, Host, HostMessage, data_bits, header_of, DataHeader, data_of, IsPosted, Lies, Post, boxes, Message, Other, HaveAddresses, message_on, Crossed, Moment, events_of, IsTimeline, crossings_of, coupled, mail_below, waiting}
 use Rattle.interface.specs.Mailboxes as mail
 use Rattle.interface.specs.declared.crossing.Crossing.TheVariants as crossing
-use Rattle.interface.specs.declared.message.HostMessage.{HostMessage}
-use Rattle.ncp_control.specs.DataHeader.{data_bits, header_of}
-use Rattle.ncp_control.specs.declared.data_header.DataHeader.{DataHeader}
 use Rattle.stream_law.specs.Streams.{Box, Empty, Waiting, Taken}
-use Rattle.host_pairs.specs.Data.{data_of}
-use Rattle.pair_keeps_streams.proofs.lemmas.{IsPosted, Lies, Post}
 use Rattle.reset_law.specs.Boxes as reset
-use Rattle.reset_law.specs.Boxes.{boxes}
-use Rattle.reset_law.specs.Events.{Message, Other}
 use Rattle.reset_law.specs.Stays as stay
-use Rattle.net_sim.specs.Clean.{HaveAddresses}
-use Rattle.net_sim.specs.Projection.{message_on}
-use Rattle.net_sim.specs.Story.{Crossed, Moment, events_of}
-use Rattle.net_sim.specs.Timeline.{IsTimeline, crossings_of}
-use Rattle.net_sim.proofs.lemmas.{coupled}
-use Rattle.world_keeps_pairing.proofs.lemmas.{mail_below, waiting}
 use Rattle.world_keeps_streams.proofs.Steps.Joined.{Joined, post_in}
 use Rattle.world_keeps_streams.proofs.Steps.JoinedAll.{joined}
 

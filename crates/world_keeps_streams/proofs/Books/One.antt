@@ -1,29 +1,10 @@
 -- A receiving life and the sending one that it matches are of one connection.
-use Rattle.std.proofs.Common.{◌≡◌, inl, inr, ℕ, ◌==◌, Bool, true, false, List, [], ◌∷◌, Option, Some, None, refl, ap, sym, subst, ◌∙◌, eq-eqb}
-use Rattle.std.proofs.lemmas.Bool.{eqb-true}
-use Rattle.std.specs.List.{Contains}
-use Rattle.interface.specs.Host.{Host}
-use Rattle.ncp_control.specs.Numbers.{is_receive_socket, is_send_socket}
-use Rattle.host_pairs.specs.Entries.{entry_at, is_at, is_link, is_mine_on, is_receiving, sends_on}
-use Rattle.host_pairs.specs.declared.entry.Entry.{Entry}
-use Rattle.host_pairs.proofs.lemmas.{both}
-use Rattle.host_keeps_streams.specs.Histories.{gone_now, numbered}
-use Rattle.host_keeps_streams.proofs.lemmas.{name_of}
-use Rattle.pair_keeps_streams.proofs.lemmas.{AreSeparate, OfOne, separate}
-use Rattle.pairing_law.specs.Links.{receiver, sender}
-use Rattle.pairing_law.specs.Marks.{Asks}
-use Rattle.pairing_law.proofs.lemmas.{Joined as Paired, asks_once, asks_said}
+use Rattle.world_keeps_streams.proofs.Common.{◌≡◌, inl, inr, ℕ, ◌==◌, Bool, true, false, List, [], ◌∷◌, Option, Some, None, refl, ap, sym, subst, ◌∙◌, eq-eqb, eqb-true, Contains, Host, is_receive_socket, is_send_socket, entry_at, is_at, is_link, is_mine_on, is_receiving, sends_on, Entry, both, gone_now, numbered, name_of, AreSeparate, OfOne, separate, receiver, sender, Asks, asks_once, asks_said, pair_with, Moment, events_of, program, crossings_of, Match, Name, own_request, HasOpenEnd, law_events, origin_in, place_or, steps, send_odd, numbered_by_peer, own_calls}
+use Rattle.pairing_law.proofs.lemmas.{Joined as Paired}
 use Rattle.reset_law.specs.Stays as stay
-use Rattle.sockets.specs.Pairs.{pair_with}
-use Rattle.net_sim.specs.Story.{Moment, events_of, program}
-use Rattle.net_sim.specs.Timeline.{crossings_of}
-use Rattle.promise.specs.Safe.{Match, Name, named, own_request}
+use Rattle.promise.specs.Safe.{named}
 use Rattle.promise.specs.declared.life.Life.{Life}
-use Rattle.world_keeps_lives.specs.Lives.{HasOpenEnd}
-use Rattle.world_keeps_pairing.specs.Free.{law_events, origin_in, place_or}
-use Rattle.world_keeps_pairing.specs.Steps.{steps}
-use Rattle.world_keeps_pairing.proofs.lemmas.{IsPair, send_odd}
-use Rattle.world_keeps_streams.specs.Calls.{numbered_by_peer, own_calls}
+use Rattle.world_keeps_pairing.proofs.lemmas.{IsPair}
 use Rattle.world_keeps_streams.proofs.Books.Arrives.{end_at, stays_of, unlike}
 use Rattle.world_keeps_streams.proofs.Books.Closes as closes
 use Rattle.world_keeps_streams.proofs.Books.Given.{counts}

@@ -1,23 +1,11 @@
 -- How many CLS a host has said of a connection while it stays, and that it says none any more once it has left.
-use Rattle.std.proofs.Common.{◌≡◌, ◌+◌, ◌≤◌, ◌&&◌, ◌||◌, not, if◌then◌else◌, Bool, true, false, List, [], ◌∷◌, ◌++◌, refl, ap, sym, subst, ◌∙◌, arith}
-use Rattle.interface.specs.Host.{Host}
-use Rattle.host_pairs.specs.Entries.{is_sent}
-use Rattle.host_pairs.specs.declared.entry.Entry.{Entry}
-use Rattle.pairing_law.specs.Links.{Receiver, Sender, Sockets, Who}
-use Rattle.pairing_law.specs.Marks.{Ask, Close, Mark, closes}
-use Rattle.pairing_law.specs.Sides.{Side, hears, says}
-use Rattle.pairing_law.specs.Places.{placed_event}
-use Rattle.pairing_law.proofs.lemmas.{Joined, count, stays_same}
-use Rattle.reset_law.specs.Events.{Contact, Event, Other, Out, Reply, Reset, are}
+use Rattle.world_keeps_streams.proofs.Common.{◌≡◌, ◌+◌, ◌≤◌, ◌&&◌, ◌||◌, not, if◌then◌else◌, Bool, List, [], ◌∷◌, ◌++◌, refl, ap, sym, subst, ◌∙◌, arith, Host, is_sent, Entry, Sockets, Who, Ask, Close, Mark, Side, hears, says, placed_event, Joined, count, stays_same, Contact, Event, Other, Out, are, begins_either, stays_ready, pair_with, Moment, event_in, events_of, program, crossings_of, Coupled, law_events, origin_in, keeps, all_hears, all_says, all_tied, are_origins, at_texts, hears_if, left_if, met_if, other, served_in}
+use Rattle.std.proofs.Common.{true, false}
+use Rattle.pairing_law.specs.Links.{Receiver, Sender}
+use Rattle.pairing_law.specs.Marks.{closes}
+use Rattle.reset_law.specs.Events.{Reply, Reset}
 use Rattle.reset_law.specs.Stays as stay
-use Rattle.reset_law.proofs.lemmas.{begins_either, stays_ready}
-use Rattle.sockets.specs.Pairs.{pair_with}
-use Rattle.net_sim.specs.Story.{Moment, event_in, events_of, program}
-use Rattle.net_sim.specs.Timeline.{crossings_of}
-use Rattle.net_sim.proofs.lemmas.{Coupled}
-use Rattle.world_keeps_pairing.specs.Free.{law_events, origin_in}
-use Rattle.world_keeps_pairing.specs.Steps.{keeps}
-use Rattle.world_keeps_pairing.proofs.lemmas.{IsPair, all_hears, all_says, all_tied, are_origins, at_texts, before, hears_if, left_if, met_if, other, served_in}
+use Rattle.world_keeps_pairing.proofs.lemmas.{IsPair, before}
 use Rattle.world_keeps_streams.proofs.Books.Counts.{Counted, bounds, closes_said, counted, side_of}
 use Rattle.world_keeps_streams.proofs.Deeds.Effects.{Among}
 use Rattle.world_keeps_streams.proofs.Requests.Now.{joined_halves, side_stays}
@@ -106,9 +94,6 @@ no_begin h p e events off = by (stay.begins h p e events) off where
   by false off = refl
 
 module _ (s : Sockets) (who : Who) (h p : Host) where
-  half_stays : (ms : List Moment) → (side_of s who h p ms).stays ≡ stay.stays h p (events_of ms)
-  half_stays ms = side_stays h p (at_texts s who) (at_texts s (other who)) (law_events ms) ∙ stays_same h p (events_of ms)
-
   pub grows_by : (y : Moment) (ms : List Moment) → stay.begins h p (event_in y) (events_of ms) ≡ false → closes (side_of s who h p ms).said ≤ closes (side_of s who h p (y ∷ ms)).said
   grows_by y ms none =
       grows h p (at_texts s who) (at_texts s (other who)) (placed_event (event_in y) (events_of ms)) (law_events ms) (side_of s who h p ms)

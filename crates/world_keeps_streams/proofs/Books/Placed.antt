@@ -1,22 +1,14 @@
 -- Where messages of a run crossed: what was before a place, the texts that came in since, and what a message that
 -- comes in was when it went out.
-use Rattle.std.proofs.Common.{◌≡◌, inl, inr, ℕ, suc, ◌+◌, ◌-◌, ◌<◌, ◌≤◌, ◌==◌, ◌&&◌, nat_lt, Bool, true, false, if◌then◌else◌, List, [], ◌∷◌, ◌++◌, drop, length, Some, refl, ap, sym, subst, ◌∙◌, arith}
+use Rattle.world_keeps_streams.proofs.Common.{◌≡◌, inl, inr, ℕ, suc, ◌+◌, ◌<◌, ◌≤◌, ◌==◌, ◌&&◌, nat_lt, Bool, true, false, if◌then◌else◌, List, ◌∷◌, ◌++◌, drop, length, Some, refl, ap, sym, subst, ◌∙◌, arith, eqb-true, length-append, Host, box_of, went_out, Flow, Crossing, HostMessage, or_false, same_flow-refl, waits_with, CrossedAt, text_of, texts_of, last_out, texts_one}
+use Rattle.std.proofs.Common.{◌-◌, []}
 use Rattle.std.proofs.Math.Seq.{drop-append_seam}
-use Rattle.std.proofs.lemmas.Bool.{eqb-true}
-use Rattle.std.proofs.lemmas.List.{length-append}
 use Rattle.interface.specs.Flow.{same_flow}
-use Rattle.interface.specs.Host.{Host}
-use Rattle.interface.specs.Mailboxes.{IsRun, Waiting, WaitsWith, box_of}
-use Rattle.interface.specs.Messages.{went_out}
-use Rattle.interface.specs.declared.address.Flow.{Flow}
-use Rattle.interface.specs.declared.crossing.Crossing.{Crossing}
+use Rattle.interface.specs.Mailboxes.{IsRun, Waiting, WaitsWith}
 use Rattle.interface.specs.declared.crossing.Crossing.TheVariants as crossing
-use Rattle.interface.specs.declared.message.HostMessage.{HostMessage}
-use Rattle.interface.proofs.lemmas.{or_false, same_flow-refl, waits_with}
-use Rattle.promise.specs.Formed.{CrossedAt, link_of, named_at, text_of, texts_of}
-use Rattle.promise.specs.Safe.{before, last_out, receives}
+use Rattle.promise.specs.Formed.{link_of, named_at}
+use Rattle.promise.specs.Safe.{before, receives}
 use Rattle.promise.specs.declared.life.Life.{Life}
-use Rattle.world_keeps_lives.proofs.lemmas.{texts_one}
 use Rattle.world_keeps_streams.proofs.Books.Answered.{Waits, waiting}
 use Rattle.world_keeps_streams.proofs.Books.Unasked.{crossed_less}
 
@@ -25,11 +17,6 @@ use Rattle.world_keeps_streams.proofs.Books.Unasked.{crossed_less}
 pub crossed_end : (xs ys : List Crossing) (c : Crossing) → CrossedAt (length ys) c (xs ++ c ∷ ys)
 crossed_end [] ys c = inl (refl, refl)
 crossed_end (x ∷ xs) ys c = inr (crossed_end xs ys c)
-
-pub crossed_later : (xs ys : List Crossing) (place : ℕ) (c : Crossing) → CrossedAt place c ys
-    → CrossedAt place c (xs ++ ys)
-crossed_later [] ys place c i = i
-crossed_later (x ∷ xs) ys place c i = inr (crossed_later xs ys place c i)
 
 -- one thing crosses at a place
 pub crossed_one : (place : ℕ) (c d : Crossing) (log : List Crossing) → CrossedAt place c log → CrossedAt place d log
@@ -63,9 +50,6 @@ before_end xs ys =
     ap (λ (k : ℕ). drop k (xs ++ ys)) e ∙ drop-append_seam xs ys
 
 -- ---- what a life's requests name
-
-some_of : {A : Type 0} (b : Bool) (x y : A) → b ≡ false → (if b then x else y) ≡ y
-some_of b x y e = rw e refl
 
 not_there : (place n : ℕ) → place < n → (place == n) ≡ false
 not_there place n less = by (place == n) refl where

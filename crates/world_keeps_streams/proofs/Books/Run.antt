@@ -1,20 +1,11 @@
 -- What the book has of two hosts beside their streams, over all moments.
-use Rattle.std.proofs.Common.{◌≡◌, ℕ, suc, ◌≤◌, ◌||◌, ◌&&◌, not, Bool, true, false, List, [], ◌∷◌, refl, ap, sym, subst, ◌∙◌, arith}
-use Rattle.interface.specs.Host.{Host}
-use Rattle.ncp_control.specs.declared.allocation.Allocation.{Allocation}
+use Rattle.world_keeps_streams.proofs.Common.{◌≡◌, ℕ, suc, ◌≤◌, ◌||◌, ◌&&◌, not, Bool, true, false, List, [], ◌∷◌, refl, ap, sym, subst, ◌∙◌, arith, Host, Allocation, Stream, numbered, receiver_now, sender_now, begins_either, Match, Moment, event_in, events_of, IsTimeline, crossings_of, mail_below, own_calls}
 use Rattle.stream_law.specs.Receivers.{Receiver}
 use Rattle.stream_law.specs.Senders.{Sender}
 use Rattle.stream_law.specs.Streams as streams
-use Rattle.stream_law.specs.Streams.{Stream}
-use Rattle.host_keeps_streams.specs.Histories.{numbered, receiver_now, sender_now}
 use Rattle.reset_law.specs.Stays as stay
-use Rattle.reset_law.proofs.lemmas.{begins_either}
-use Rattle.promise.specs.Safe.{Match, receives, sends}
-use Rattle.net_sim.specs.Story.{Moment, event_in, events_of}
-use Rattle.net_sim.specs.Timeline.{IsTimeline, crossings_of}
+use Rattle.promise.specs.Safe.{receives, sends}
 use Rattle.promise.specs.declared.life.Life.{Life}
-use Rattle.world_keeps_pairing.proofs.lemmas.{mail_below}
-use Rattle.world_keeps_streams.specs.Calls.{own_calls}
 use Rattle.world_keeps_streams.proofs.Steps.Joined.{Joined, Keeps, numbered_by_peer}
 use Rattle.world_keeps_streams.proofs.Lives.Lists.{IsOf}
 use Rattle.world_keeps_streams.proofs.Requests.Sides.{Lawful, lives_in}
@@ -84,9 +75,6 @@ module _ (hosts : List Host) (a b : Host) (Own Heard : List Moment → ℕ → �
   -- ---- and from there on
 
   module _ (y : Moment) (ms : List Moment) (l : Lawful hosts (y ∷ ms)) (none : stay.begins a b (event_in y) (events_of ms) ≡ false) (w : Whole a b Own Heard ms) where
-    abbrev next : (n : ℕ) → Joined a b (suc n) (y ∷ ms)
-    next n = (given.goes y ms l none n (w.j n)).0
-
     keeps : (n : ℕ) → Keeps (stay.stays a b (events_of (y ∷ ms))) (stay.stays b a (events_of (y ∷ ms))) (w.j n).x (given.goes y ms l none n (w.j n)).0.x
     keeps n = (given.goes y ms l none n (w.j n)).1
 

@@ -1,24 +1,13 @@
 -- In a world that has settled all lives that match agree.
-use Rattle.std.proofs.Common.{◌≡◌, ◌<◌, ℕ, zero, suc, Bool, true, false, List, [], ◌∷◌, ◌++◌, length, map, slice_get, Option, Some, None, refl, ap, sym, subst, ◌∙◌, arith}
-use Rattle.std.specs.List.{Contains}
-use Rattle.interface.specs.Calls.{Seen}
-use Rattle.interface.specs.Host.{Host, is_host, same_host}
+use Rattle.world_keeps_streams.proofs.Common.{◌≡◌, ◌<◌, ℕ, zero, suc, Bool, true, List, [], ◌∷◌, ◌++◌, length, map, Option, Some, None, refl, ap, sym, subst, ◌∙◌, arith, Contains, Seen, Host, same_host, same_host-true, Crossing, stays_ready, IsLawful, Moment, events_of, program, crossings_of, WorldState, Seat, book_run, NoneOut}
+use Rattle.std.proofs.Common.{false, slice_get}
+use Rattle.interface.specs.Host.{is_host}
 use Rattle.interface.specs.Mailboxes as mail
-use Rattle.interface.proofs.lemmas.{same_host-true}
-use Rattle.interface.specs.declared.crossing.Crossing.{Crossing}
-use Rattle.reset_law.proofs.lemmas.{stays_ready}
 use Rattle.sockets.specs.Sending.{next_out}
-use Rattle.net_sim.specs.Clean.{IsLawful}
-use Rattle.net_sim.specs.Story.{Moment, events_of, program}
-use Rattle.net_sim.specs.Timeline.{crossings_of}
 use Rattle.net_sim.specs.Told.{kept_in}
 use Rattle.net_sim.specs.Whole.{seat_in}
-use Rattle.net_sim.specs.World.{WorldState}
-use Rattle.net_sim.specs.declared.seat.Seat.{Seat}
 use Rattle.net_sim.proofs.lemmas.{up_host, up_same}
 use Rattle.promise.specs.declared.life.Life.{Life}
-use Rattle.world_keeps_pairing.proofs.lemmas.{book_run}
-use Rattle.world_keeps_streams.specs.Rests.{NoneOut}
 use Rattle.world_keeps_streams.specs.Settled.{EachAgrees, HasSettled}
 use Rattle.world_keeps_streams.proofs.Books.Arrives.{stays_of}
 use Rattle.world_keeps_streams.proofs.Books.Calm.{calm}
@@ -50,9 +39,6 @@ length_mapped change (g ∷ hosts) = ap (λ (n : ℕ). suc n) (length_mapped cha
 -- ---- a world
 
 module _ {C : Type 0} (seen : C → Seen) (hosts : List Host) (w : WorldState C) (lawful : IsLawful seen hosts w) (settled : HasSettled seen w) where
-  abbrev ms : List Moment
-  ms = lawful.whole.moments
-
   l : Lawful hosts lawful.whole.moments
   l = (lawful.addresses, book_run seen hosts w lawful, lawful.whole.timeline)
 

@@ -1,26 +1,10 @@
 -- Two lives of one connection, between whose hosts no command is on its way: each end has heard what the other said.
-use Rattle.std.proofs.Common.{◌≡◌, ℕ, zero, suc, ◌==◌, true, false, List, [], ◌++◌, Some, refl, ap, sym, subst, ◌∙◌}
-use Rattle.interface.specs.Host.{Host}
+use Rattle.world_keeps_streams.proofs.Common.{◌≡◌, ℕ, zero, suc, ◌==◌, true, false, List, [], ◌++◌, Some, refl, ap, sym, subst, ◌∙◌, Host, box_of, Command, has_cls, sends_on, has_opened, numbered, numbered_tells, OfOne, boxes, pair_with, Moment, events_of, program, crossings_of, seen_box, box_same, control_flow, linked_end, numbered_by_peer, AreSilent, NoneWaits}
 use Rattle.interface.specs.Mailboxes as mail
-use Rattle.interface.specs.Mailboxes.{box_of}
-use Rattle.ncp_control.specs.declared.command.Command.{Command}
-use Rattle.host_pairs.specs.Entries.{has_cls, sends_on}
-use Rattle.host_keeps_streams.specs.Ends.{has_opened}
-use Rattle.host_keeps_streams.specs.Histories.{numbered}
-use Rattle.host_keeps_streams.proofs.lemmas.{numbered_tells}
 use Rattle.pair_keeps_streams.proofs.lemmas as pair
-use Rattle.pair_keeps_streams.proofs.lemmas.{OfOne}
-use Rattle.reset_law.specs.Boxes.{boxes}
 use Rattle.reset_law.specs.Stays as stay
-use Rattle.sockets.specs.Pairs.{pair_with}
-use Rattle.net_sim.specs.Story.{Moment, events_of, program}
-use Rattle.net_sim.specs.Timeline.{crossings_of, seen_box}
-use Rattle.net_sim.proofs.lemmas.{box_same, flow_of}
-use Rattle.promise.specs.Safe.{control_flow}
+use Rattle.net_sim.proofs.lemmas.{flow_of}
 use Rattle.promise.specs.declared.life.Life.{Life}
-use Rattle.world_keeps_lives.proofs.lemmas.{linked_end}
-use Rattle.world_keeps_streams.specs.Calls.{numbered_by_peer}
-use Rattle.world_keeps_streams.specs.Rests.{AreSilent, NoneWaits}
 use Rattle.world_keeps_streams.proofs.Books.Closes as closes
 use Rattle.world_keeps_streams.proofs.Books.Firsts.{together}
 use Rattle.world_keeps_streams.proofs.Books.One as one

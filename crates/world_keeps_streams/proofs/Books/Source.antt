@@ -1,15 +1,7 @@
 -- What follows for lives since both met: what was taken has a source, and what was sent is granted.
-use Rattle.std.proofs.Common.{◌≡◌, ◌⊎◌, inl, inr, ℕ, suc, ◌+◌, ◌≤◌, Bool, true, List, [], ◌∷◌, length, refl, ap, sym, subst, ◌∙◌, arith}
-use Rattle.interface.specs.Host.{Host}
-use Rattle.ncp_control.specs.declared.allocation.Allocation.{Allocation}
-use Rattle.stream_law.specs.Within.{IsSafe, message_bits}
-use Rattle.stream_law.proofs.lemmas.{safe_inv}
-use Rattle.host_keeps_streams.specs.Histories.{numbered}
-use Rattle.host_keeps_streams.proofs.lemmas.{numbered_tells}
+use Rattle.world_keeps_streams.proofs.Common.{◌≡◌, ◌⊎◌, inl, inr, ℕ, suc, ◌+◌, ◌≤◌, Bool, true, List, [], ◌∷◌, length, refl, ap, sym, subst, ◌∙◌, arith, Host, Allocation, IsSafe, message_bits, safe_inv, numbered, numbered_tells, IsGranted, Match, Moment, crossings_of}
 use Rattle.promise.specs.Safe as book
-use Rattle.promise.specs.Safe.{IsGranted, Match, receives, sends}
-use Rattle.net_sim.specs.Story.{Moment}
-use Rattle.net_sim.specs.Timeline.{crossings_of}
+use Rattle.promise.specs.Safe.{receives, sends}
 use Rattle.promise.specs.declared.life.Life.{Life}
 use Rattle.world_keeps_streams.proofs.Steps.Joined.{Joined}
 use Rattle.world_keeps_streams.proofs.Carried.Streams.{all_bits}

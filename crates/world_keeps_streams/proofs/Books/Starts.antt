@@ -1,10 +1,5 @@
 -- Two hosts and their streams before anything happened.
-use Rattle.std.proofs.Common.{◌≡◌, ℕ, suc, [], refl}
-use Rattle.interface.specs.Host.{Host}
-use Rattle.stream_law.specs.Streams.{opening_stream}
-use Rattle.host_keeps_streams.specs.Histories.{numbered}
-use Rattle.host_keeps_streams.proofs.lemmas.{numbered_tells}
-use Rattle.pair_keeps_streams.proofs.lemmas.{opened}
+use Rattle.world_keeps_streams.proofs.Common.{◌≡◌, ℕ, suc, [], refl, Host, opening_stream, numbered, numbered_tells, opened}
 use Rattle.world_keeps_streams.proofs.Steps.Joined.{Joined, party, numbered_by_peer, turned_tells}
 
 abbrev pub started : (a b : Host) (link : ℕ) → Joined a b link []

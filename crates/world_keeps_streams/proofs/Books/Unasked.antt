@@ -1,30 +1,13 @@
 -- The requests that a host said since it met its peer last aren't those of lives from before.
-use Rattle.std.proofs.Common.{◌≡◌, ◌⊎◌, inl, inr, ℕ, suc, ◌<◌, ◌==◌, ◌&&◌, if◌then◌else◌, Bool, true, false, List, [], ◌∷◌, ◌++◌, length, map, take, refl, ap, sym, subst, ◌∙◌, arith}
-use Rattle.std.specs.List.{Contains}
-use Rattle.interface.specs.Host.{Host}
-use Rattle.interface.specs.declared.crossing.Crossing.{Crossing}
+use Rattle.world_keeps_streams.proofs.Common.{◌≡◌, ◌⊎◌, inl, inr, ℕ, suc, ◌<◌, ◌==◌, ◌&&◌, if◌then◌else◌, Bool, true, false, List, [], ◌∷◌, ◌++◌, length, map, take, refl, ap, sym, subst, ◌∙◌, arith, Contains, Host, Crossing, is_send_socket, Command, Legal, Order, Wrong, orders_of, mark_of, marks_in, Sockets, Who, Ask, Asks, Close, Mark, placed_event, tagged, Side, says, Contact, Event, Other, Out, are, place, begins_either, CrossedAt, Moment, event_in, events_of, crossings_of, place_same, Linked, LinkedBook, law_events, all_says, at_texts, foreign_of, heard_is, met_if, other, own_of}
 use Rattle.interface.specs.declared.crossing.Crossing.TheVariants as crossing
-use Rattle.ncp_control.specs.Numbers.{is_send_socket}
-use Rattle.ncp_control.specs.declared.command.Command.{Command}
 use Rattle.ncp_control.specs.declared.command.Command.TheVariants as command
-use Rattle.host_pairs.specs.Control.{Legal, Order, Wrong, orders_of}
-use Rattle.host_keeps_pairing.specs.Words.{mark_of, marks_in}
-use Rattle.pairing_law.specs.Links.{Receiver, Sender, Sockets, Who}
-use Rattle.pairing_law.specs.Marks.{Ask, Asks, Close, Mark}
-use Rattle.pairing_law.specs.Places.{placed_event, tagged}
-use Rattle.pairing_law.specs.Sides.{Side, says}
-use Rattle.reset_law.specs.Events.{Contact, Event, Other, Out, Reply, Reset, are, place}
+use Rattle.pairing_law.specs.Links.{Receiver, Sender}
+use Rattle.reset_law.specs.Events.{Reply, Reset}
 use Rattle.reset_law.specs.Stays as stay
-use Rattle.reset_law.proofs.lemmas.{begins_either}
-use Rattle.promise.specs.Formed.{CrossedAt}
 use Rattle.promise.specs.Safe.{sends}
 use Rattle.promise.specs.declared.life.Life.{Life}
-use Rattle.net_sim.specs.Story.{Moment, event_in, events_of}
-use Rattle.net_sim.specs.Timeline.{crossings_of}
-use Rattle.net_sim.proofs.lemmas.{place_same}
-use Rattle.world_keeps_lives.proofs.lemmas.{Linked, LinkedBook}
-use Rattle.world_keeps_pairing.specs.Free.{law_events}
-use Rattle.world_keeps_pairing.proofs.lemmas.{IsPair, all_says, at_texts, before, foreign_of, heard_is, met_if, other, own_of}
+use Rattle.world_keeps_pairing.proofs.lemmas.{IsPair, before}
 use Rattle.world_keeps_streams.proofs.Books.All.{all_given}
 use Rattle.world_keeps_streams.proofs.Books.Clauses.{Older, older, settled_s}
 use Rattle.world_keeps_streams.proofs.Books.Counts.{side_of}

@@ -1,25 +1,8 @@
 -- Two lives between whose hosts nothing is left to be done: nobody has closed their ends, but for a sender that drains.
-use Rattle.std.proofs.Common.{◌≡◌, inl, inr, ℕ, Bool, true, false, List, [], ◌∷◌, ◌++◌, Option, Some, None, refl, ap, sym, subst, ◌∙◌}
-use Rattle.interface.specs.Host.{Host}
-use Rattle.ncp_control.specs.Numbers.{is_receive_socket, is_send_socket}
-use Rattle.ncp_control.specs.declared.command.Command.{Command}
-use Rattle.pairing_law.specs.Ends.{End}
-use Rattle.pairing_law.specs.Marks.{Close}
-use Rattle.host_pairs.specs.Entries.{entry_at, is_answered, is_busy, is_open, is_receiving, was_closed}
-use Rattle.host_pairs.specs.declared.entry.Closing.{Closing}
+use Rattle.world_keeps_streams.proofs.Common.{◌≡◌, inl, inr, ℕ, Bool, true, false, List, [], ◌∷◌, ◌++◌, Option, Some, None, refl, ap, sym, subst, ◌∙◌, Host, is_receive_socket, is_send_socket, Command, End, Close, entry_at, is_answered, is_busy, is_open, is_receiving, was_closed, Closing, Entry, Stand, Standing, standing, marks, found_at, has_opened, pair_with, Moment, program, crossings_of, IsOfTwo, has_ends, origin_in, AreSilent}
 use Rattle.host_pairs.specs.declared.entry.Closing.TheVariants as closing
-use Rattle.host_pairs.specs.declared.entry.Entry.{Entry}
-use Rattle.host_keeps_pairing.specs.Ends.{Stand, Standing, close_waits, request_due, standing}
-use Rattle.host_keeps_pairing.specs.Words.{marks}
-use Rattle.host_keeps_pairing.proofs.lemmas.{found_at}
-use Rattle.host_keeps_streams.specs.Ends.{has_opened}
-use Rattle.sockets.specs.Pairs.{pair_with}
-use Rattle.net_sim.specs.Story.{Moment, program}
-use Rattle.net_sim.specs.Timeline.{crossings_of}
+use Rattle.host_keeps_pairing.specs.Ends.{close_waits, request_due}
 use Rattle.promise.specs.declared.life.Life.{Life}
-use Rattle.world_keeps_lives.proofs.lemmas.{IsOfTwo, has_ends}
-use Rattle.world_keeps_pairing.specs.Free.{origin_in}
-use Rattle.world_keeps_streams.specs.Rests.{AreSilent}
 use Rattle.world_keeps_streams.proofs.Books.Arrives.{end_at}
 use Rattle.world_keeps_streams.proofs.Books.Closes as closes
 use Rattle.world_keeps_streams.proofs.Books.One as one

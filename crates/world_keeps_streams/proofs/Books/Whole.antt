@@ -1,18 +1,11 @@
 -- What the book has of two hosts, one that receives and one that sends, beside the streams of their links.
-use Rattle.std.proofs.Common.{◌≡◌, inl, inr, ℕ, suc, ◌≤◌, Bool, true, false, List, [], ◌∷◌, ◌++◌, length, map, drop, if◌then◌else◌, Some, refl, ap, sym, subst, ◌∙◌}
-use Rattle.interface.specs.Host.{Host}
+use Rattle.world_keeps_streams.proofs.Common.{◌≡◌, inl, inr, ℕ, suc, ◌≤◌, Bool, true, false, List, [], ◌∷◌, ◌++◌, length, map, drop, if◌then◌else◌, Some, refl, ap, sym, subst, ◌∙◌, Host, Entry, gone_now, numbered, receiver_now, sender_now, pair_with, life_ended, IsGranted, Match, Moment, event_in, events_of, program, own_calls}
 use Rattle.stream_law.specs.Receivers.{Receiver}
 use Rattle.stream_law.specs.Senders.{Sender}
-use Rattle.host_pairs.specs.declared.entry.Entry.{Entry}
-use Rattle.host_keeps_streams.specs.Histories.{gone_now, numbered, receiver_now, sender_now}
 use Rattle.reset_law.specs.Stays as stay
-use Rattle.sockets.specs.Pairs.{pair_with}
-use Rattle.net_sim.specs.Book.{life_ended}
 use Rattle.promise.specs.Safe as book
-use Rattle.promise.specs.Safe.{IsGranted, Match, receives, sends}
-use Rattle.net_sim.specs.Story.{Moment, event_in, events_of, program}
+use Rattle.promise.specs.Safe.{receives, sends}
 use Rattle.promise.specs.declared.life.Life.{Life}
-use Rattle.world_keeps_streams.specs.Calls.{own_calls}
 use Rattle.world_keeps_streams.proofs.Steps.Joined.{Joined, numbered_by_peer}
 use Rattle.world_keeps_streams.proofs.Carried.Streams.{all_bits}
 use Rattle.world_keeps_streams.proofs.Deeds.Effects.{Among}
@@ -63,9 +56,6 @@ nil_bits (v ∷ bs) = ap (λ (vs : List Bool). v ∷ vs) (nil_bits bs)
 
 -- the lives of `a` and `b` are named by requests: `Own` of the receiver's, `Heard` of those that the sender took
 module _ (a b : Host) (Own Heard : List Moment → ℕ → ℕ → ℕ → ℕ → Type 0) where
-  abbrev pub Streams : List Moment → Type 0
-  Streams ms = (n : ℕ) → Joined a b (suc n) ms
-
   -- a life of a host that stays
   pub record Receives (ms : List Moment) (x : Life) : Type 0 where
     pub link : ℕ

@@ -1,34 +1,9 @@
 -- Each call of a world's programs may be made.
-use Rattle.std.proofs.Common.{◌≡◌, ℕ, ◌&&◌, Bool, true, false, if◌then◌else◌, List, [], ◌∷◌, None, Option, Some, refl, ap, sym, subst, ◌∙◌}
-use Rattle.interface.specs.Host.{Host, same_host}
+use Rattle.world_keeps_streams.proofs.Common.{◌≡◌, ℕ, ◌&&◌, Bool, true, false, if◌then◌else◌, List, [], ◌∷◌, None, Option, Some, refl, ap, sym, subst, ◌∙◌, Host, same_host, Flow, Answer, HostMessage, same_host-true, is_busy, PairState, Parcel, AreCommands, IsRanged, pair_range, HasEnd, End, turn_of, pair_with, refusal, next_in, Peer, Request, next_is, next_pair, HaveAddresses, Asked, Crossed, Moment, places, program, IsTimeline, crossings_of, Coupled, coupled, origin_in, AllBare, AllTied, AreOrigins, all_bare, all_tied, are_origins, mail_below, programs_ranged, served_in, takes, calls_by, message_calls, next_calls, parcel_calls, request_calls}
 use Rattle.interface.specs.Mailboxes as mail
-use Rattle.interface.specs.declared.address.Flow.{Flow}
-use Rattle.interface.specs.declared.crossing.Answer.{Answer}
 use Rattle.interface.specs.declared.crossing.Crossing.TheVariants as crossing
-use Rattle.interface.specs.declared.message.HostMessage.{HostMessage}
-use Rattle.interface.proofs.lemmas.{same_host-true}
-use Rattle.host_pairs.specs.Entries.{is_busy}
-use Rattle.host_pairs.specs.Pair.{PairState}
-use Rattle.host_pairs.specs.Parcels.{Parcel}
-use Rattle.host_keeps_ranges.specs.Ranges.{AreCommands, IsRanged}
-use Rattle.host_keeps_ranges.proofs.lemmas.{pair_range}
-use Rattle.host_keeps_pairing.specs.Ends.{HasEnd}
 use Rattle.host_keeps_streams.specs.Histories as calls
-use Rattle.pairing_law.specs.Ends.{End}
-use Rattle.sockets.specs.Accepting.{turn_of}
-use Rattle.sockets.specs.Pairs.{pair_with}
-use Rattle.sockets.specs.Requests.{refusal}
-use Rattle.sockets.specs.Sending.{next_in}
-use Rattle.sockets.specs.declared.peer.Peer.{Peer}
-use Rattle.sockets.specs.declared.request.Request.{Request}
-use Rattle.sockets.proofs.lemmas.{next_is, next_pair}
-use Rattle.net_sim.specs.Clean.{HaveAddresses}
-use Rattle.net_sim.specs.Story.{Asked, Crossed, Moment, places, program}
-use Rattle.net_sim.specs.Timeline.{IsTimeline, crossings_of}
-use Rattle.net_sim.proofs.lemmas.{Coupled, coupled}
-use Rattle.world_keeps_pairing.specs.Free.{origin_in}
-use Rattle.world_keeps_pairing.proofs.lemmas.{AllBare, AllTied, AreOrigins, AreServed, all_bare, all_tied, are_origins, mail_below, programs_ranged, served_in, takes}
-use Rattle.world_keeps_streams.specs.Calls.{calls_by, message_calls, next_calls, parcel_calls, request_calls}
+use Rattle.world_keeps_pairing.proofs.lemmas.{AreServed}
 use Rattle.world_keeps_streams.proofs.Calls.CallSizes.{all_sized}
 use Rattle.world_keeps_streams.proofs.Calls.May.{AllMay}
 use Rattle.world_keeps_streams.proofs.Calls.MayAsk.{AreSized, parcel_may, request_may}

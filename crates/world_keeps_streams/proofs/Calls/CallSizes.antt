@@ -1,44 +1,15 @@
 -- Each call of a world's programs finds byte sizes that are octets and not zero.
-use Rattle.std.proofs.Common.{◌≡◌, ℕ, ◌==◌, ◌&&◌, IsTrue, not, Bool, true, false, if◌then◌else◌, List, [], ◌∷◌, ◌++◌, take, Option, Some, None, refl, ap, sym, subst, ◌∙◌}
-use Rattle.interface.specs.Host.{Host, same_host}
+use Rattle.world_keeps_streams.proofs.Common.{◌≡◌, ℕ, ◌==◌, ◌&&◌, IsTrue, not, Bool, true, false, if◌then◌else◌, List, [], ◌∷◌, ◌++◌, take, Option, Some, None, refl, ap, sym, subst, ◌∙◌, Host, same_host, not_false, same_host-true, is_byte_size, is_receive_socket, is_send_socket, Command, desk_taken, Legal, Order, Wrong, error, orders_of, desk_of, listens_on, command_queued, is_busy, PairState, Parcel, command_gone, with_connections, is_ready, TurnState, order_taken, with_desk, Entry, Listener, AreOrders, AreSizes, IsRanged, pair_range, text_good, AreJoint, ready_when, AsksBack, Closes, Gives, Grants, Hears, OpensReceiver, OpensSender, Says, Takes, turn_of, NcpState, owner_of, pair_with, is_taken, next_in, Peer, Request, not_first, HaveAddresses, IsApart, message_on, Asked, Crossed, IsStory, Moment, event_in, events_of, places, program, Happens, IsTimeline, crossings_of, coupled, keeps, AText, AnRrp, AnRst, Sort, mail_below, plain_joint, programs_ranged, served_in, sort_of, calls_by, commands_said, message_calls, next_calls, orders_heard, own_calls, owner_calls, parcel_calls, request_calls}
 use Rattle.interface.specs.Mailboxes as mail
 use Rattle.interface.specs.declared.crossing.Crossing.TheVariants as crossing
-use Rattle.interface.proofs.lemmas.{not_false, same_host-true}
-use Rattle.ncp_control.specs.Numbers.{is_byte_size, is_receive_socket, is_send_socket}
-use Rattle.ncp_control.specs.declared.command.Command.{Command}
-use Rattle.host_pairs.specs.Commands.{desk_taken}
-use Rattle.host_pairs.specs.Control.{Legal, Order, Wrong, error, orders_of}
-use Rattle.host_pairs.specs.Desk.{desk_of, listens_on, command_queued}
-use Rattle.host_pairs.specs.Entries.{is_busy}
-use Rattle.host_pairs.specs.Pair.{PairState}
 use Rattle.host_pairs.specs.Parcels as parcel
-use Rattle.host_pairs.specs.Parcels.{Parcel, command_gone, with_connections}
-use Rattle.ncp_control.specs.Phases.{is_ready}
-use Rattle.host_pairs.specs.Turn.{TurnState, order_taken, with_desk}
-use Rattle.host_pairs.specs.declared.entry.Entry.{Entry}
-use Rattle.host_pairs.specs.declared.listener.Listener.{Listener}
-use Rattle.host_keeps_ranges.specs.Ranges.{AreOrders, AreSizes, IsAsked, IsPair, IsRanged}
-use Rattle.host_keeps_ranges.proofs.lemmas.{Ranged, pair_range, ranged_error, ranged_taken, text_good}
-use Rattle.host_keeps_pairing.specs.Hearing.{AreJoint}
-use Rattle.host_keeps_pairing.proofs.lemmas.{ready_when}
+use Rattle.host_keeps_ranges.specs.Ranges.{IsAsked, IsPair}
+use Rattle.host_keeps_ranges.proofs.lemmas.{Ranged, ranged_error, ranged_taken}
 use Rattle.host_keeps_streams.specs.Histories as calls
-use Rattle.host_keeps_streams.specs.Histories.{AsksBack, Call, Closes, Gives, Grants, Hears, OpensReceiver, OpensSender, Says, Takes}
-use Rattle.sockets.specs.Accepting.{turn_of}
-use Rattle.sockets.specs.Pairs.{NcpState, owner_of, pair_with}
-use Rattle.sockets.specs.Requests.{is_taken, refusal}
-use Rattle.sockets.specs.Sending.{next_in}
-use Rattle.sockets.specs.declared.peer.Peer.{Peer}
-use Rattle.sockets.specs.declared.request.Request.{Request}
+use Rattle.host_keeps_streams.specs.Histories.{Call}
+use Rattle.sockets.specs.Requests.{refusal}
 use Rattle.sockets.specs.declared.request.Request.TheVariants as request
-use Rattle.sockets.proofs.lemmas.{not_first}
-use Rattle.net_sim.specs.Clean.{HaveAddresses}
-use Rattle.net_sim.specs.Projection.{IsApart, message_on}
-use Rattle.net_sim.specs.Story.{Asked, Crossed, IsStory, Moment, event_in, events_of, places, program}
-use Rattle.net_sim.specs.Timeline.{Happens, IsTimeline, crossings_of}
-use Rattle.net_sim.proofs.lemmas.{coupled}
-use Rattle.world_keeps_pairing.specs.Steps.{keeps}
-use Rattle.world_keeps_pairing.proofs.lemmas.{AText, AnRrp, AnRst, Sort, mail_below, plain_joint, programs_ranged, served_in, sort_of}
-use Rattle.world_keeps_streams.specs.Calls.{called, calls_by, commands_said, message_calls, next_calls, orders_heard, own_calls, owner_calls, parcel_calls, request_calls}
+use Rattle.world_keeps_streams.specs.Calls.{called}
 use Rattle.world_keeps_streams.proofs.Calls.Chain.{chain}
 use Rattle.world_keeps_streams.proofs.Calls.MayAsk.{AreSized}
 use Rattle.world_keeps_streams.proofs.Calls.Sizes.{AllSizes, HasSize, history_sized, is_size, sizes_append}

@@ -1,34 +1,11 @@
 -- The calls of a host with a peer follow one another, and lead to the ends that its program has.
-use Rattle.std.proofs.Common.{◌≡◌, ℕ, Bool, true, false, not, ◌&&◌, if◌then◌else◌, List, [], ◌∷◌, ◌++◌, None, refl, ap, sym, subst, ◌∙◌}
-use Rattle.interface.specs.Host.{Host, same_host}
+use Rattle.world_keeps_streams.proofs.Common.{◌≡◌, ℕ, Bool, true, false, not, ◌&&◌, if◌then◌else◌, List, [], ◌∷◌, ◌++◌, None, refl, ap, sym, subst, ◌∙◌, Host, same_host, Flow, Answer, HostMessage, same_host-true, PairState, is_ready, IsHistory, ends_now, pair_same, In, Message, Other, Pair, accepted, turn_of, opening_state, pair_with, refusal, served, next_in, offered, Request, answer_leaves, message_leaves, HaveAddresses, message_on, Asked, Crossed, IsStory, Moment, event_in, events_of, places, program, Happens, IsTimeline, crossings_of, Coupled, by_request, coupled, program_own, clash, mail_below, answer_calls, calls_by, message_calls, next_calls, own_calls, request_calls}
 use Rattle.interface.specs.Mailboxes as mail
-use Rattle.interface.specs.declared.address.Flow.{Flow}
-use Rattle.interface.specs.declared.crossing.Answer.{Answer}
 use Rattle.interface.specs.declared.crossing.Crossing.TheVariants as crossing
 use Rattle.interface.specs.declared.crossing.Inbound.TheVariants as inbound
-use Rattle.interface.specs.declared.message.HostMessage.{HostMessage}
-use Rattle.interface.proofs.lemmas.{same_host-true}
-use Rattle.host_pairs.specs.Pair.{PairState}
-use Rattle.ncp_control.specs.Phases.{is_ready}
-use Rattle.host_keeps_streams.specs.Histories.{IsHistory, ends_now}
-use Rattle.pairing_law.proofs.lemmas.{pair_same}
-use Rattle.reset_law.specs.Events.{In, Message, Reset, Reply, Other}
-use Rattle.reset_law.specs.Pairs.{Pair}
+use Rattle.reset_law.specs.Events.{Reset, Reply}
 use Rattle.reset_law.specs.Stays as stay
-use Rattle.sockets.specs.Accepting.{accepted, turn_of}
-use Rattle.sockets.specs.Pairs.{opening_state, pair_with}
-use Rattle.sockets.specs.Requests.{refusal, served}
-use Rattle.sockets.specs.Sending.{next_in, offered}
-use Rattle.sockets.specs.declared.request.Request.{Request}
-use Rattle.sockets.proofs.lemmas.{answer_leaves, message_leaves}
-use Rattle.net_sim.specs.Clean.{HaveAddresses}
-use Rattle.net_sim.specs.Projection.{message_on}
-use Rattle.net_sim.specs.Story.{Asked, Crossed, IsStory, Moment, event_in, events_of, places, program}
-use Rattle.net_sim.specs.Timeline.{Happens, IsTimeline, crossings_of}
-use Rattle.net_sim.proofs.lemmas.{Coupled, by_request, coupled, program_own}
-use Rattle.world_keeps_lives.proofs.lemmas.{clash}
-use Rattle.world_keeps_pairing.proofs.lemmas.{mail_below, ready_is}
-use Rattle.world_keeps_streams.specs.Calls.{answer_calls, calls_by, message_calls, next_calls, own_calls, request_calls}
+use Rattle.world_keeps_pairing.proofs.lemmas.{ready_is}
 use Rattle.world_keeps_streams.proofs.Calls.Leads.{IsIdle, Turned, is_reset, same_turned}
 use Rattle.world_keeps_streams.proofs.Calls.Moved.{answer_moved, message_moved, offered_moved, request_moved}
 

@@ -1,44 +1,18 @@
 -- How many messages of data came to a host on a link, by the law of streams: only one that it takes or drops there counts.
-use Rattle.std.proofs.Common.{◌≡◌, ℕ, ◌==◌, ◌&&◌, Bool, true, false, if◌then◌else◌, List, [], ◌∷◌, ◌++◌, take, Option, Some, None, refl, ap, sym, subst, ◌∙◌}
-use Rattle.interface.specs.Host.{Host, same_host}
+use Rattle.world_keeps_streams.proofs.Common.{◌≡◌, ℕ, ◌==◌, ◌&&◌, Bool, true, false, if◌then◌else◌, List, [], ◌∷◌, ◌++◌, take, Option, Some, None, refl, ap, sym, subst, ◌∙◌, Host, same_host, Flow, HostMessage, header_of, is_ready, Command, DataHeader, holds, Legal, Order, Wrong, orders_of, desk_of, listener_on, listens_on, entry_at, free_link, is_busy, receives_on, PairState, Parcel, command_gone, with_connections, TurnState, order_taken, Entry, Listener, all_received, Hears, Takes, Says, Sends, Answered, OpensReceiver, OpensSender, Grants, AsksBack, Gives, Closes, name_now, receiver_now, received_at, cls_received, data_received, received_by, received_out, str_received, eqb-sym, IsAsking, turn_of, NcpState, owner_of, pair_with, next_in, Peer, Request, Asked, Crossed, Moment, places, program, text_of, answer_calls, calls_by, commands_said, message_calls, next_calls, orders_heard, owner_calls, parcel_calls, request_calls}
 use Rattle.interface.specs.Flow.{same_flow}
-use Rattle.interface.specs.declared.address.Flow.{Flow}
 use Rattle.interface.specs.declared.crossing.Crossing.TheVariants as crossing
-use Rattle.interface.specs.declared.message.HostMessage.{HostMessage}
-use Rattle.ncp_control.specs.DataHeader.{header_of}
-use Rattle.ncp_control.specs.Phases.{is_ready}
-use Rattle.ncp_control.specs.declared.command.Command.{Command}
 use Rattle.ncp_control.specs.declared.command.Command.TheVariants as command
-use Rattle.ncp_control.specs.declared.data_header.DataHeader.{DataHeader}
 use Rattle.stream_law.specs.Words as words
-use Rattle.stream_law.specs.Words.{holds}
 use Rattle.stream_law.specs.Receivers as receivers
 use Rattle.stream_law.specs.Receivers.{Receiver}
-use Rattle.host_pairs.specs.Control.{Legal, Order, Wrong, orders_of}
-use Rattle.host_pairs.specs.Desk.{desk_of, listener_on, listens_on}
-use Rattle.host_pairs.specs.Entries.{entry_at, free_link, is_busy, receives_on}
-use Rattle.host_pairs.specs.Pair.{PairState}
 use Rattle.host_pairs.specs.Parcels as parcel
-use Rattle.host_pairs.specs.Parcels.{Parcel, command_gone, with_connections}
-use Rattle.host_pairs.specs.Turn.{TurnState, order_taken}
-use Rattle.host_pairs.specs.declared.entry.Entry.{Entry}
-use Rattle.host_pairs.specs.declared.listener.Listener.{Listener}
-use Rattle.host_keeps_streams.specs.Closings.{all_received}
 use Rattle.host_keeps_streams.specs.Histories as calls
-use Rattle.host_keeps_streams.specs.Histories.{Call, Hears, Takes, Says, Sends, Answered, OpensReceiver, OpensSender, Grants, AsksBack, Gives, Closes, name_now, receiver_now, received_at}
-use Rattle.host_keeps_streams.specs.Moves.{asks_for, cls_received, data_received, received_by, received_out, str_received}
+use Rattle.host_keeps_streams.specs.Histories.{Call}
+use Rattle.host_keeps_streams.specs.Moves.{asks_for}
 use Rattle.host_keeps_streams.specs.Names.{named}
-use Rattle.host_keeps_pairing.proofs.lemmas.{eqb-sym}
-use Rattle.pair_keeps_streams.proofs.lemmas.{IsAsking}
-use Rattle.sockets.specs.Accepting.{turn_of}
-use Rattle.sockets.specs.Pairs.{NcpState, owner_of, pair_with}
-use Rattle.sockets.specs.Sending.{next_in}
-use Rattle.sockets.specs.declared.peer.Peer.{Peer}
-use Rattle.sockets.specs.declared.request.Request.{Request}
 use Rattle.sockets.specs.declared.request.Request.TheVariants as request
-use Rattle.net_sim.specs.Story.{Asked, Crossed, Moment, places, program}
-use Rattle.promise.specs.Formed.{text_of}
-use Rattle.world_keeps_streams.specs.Calls.{answer_calls, called, calls_by, commands_said, message_calls, next_calls, orders_heard, owner_calls, parcel_calls, request_calls}
+use Rattle.world_keeps_streams.specs.Calls.{called}
 use Rattle.world_keeps_streams.proofs.Deeds.Law.{AreStill, IsStill, asks_still, cls_still, out_still, str_still}
 use Rattle.world_keeps_streams.proofs.Stays.Quiet.{Asks, IsSolo, Quiet, Replied, Told}
 

@@ -1,20 +1,8 @@
 -- What may be said of each call of a world's program when it is made.
-use Rattle.std.proofs.Common.{◌≡◌, not, true, false, List, [], ◌∷◌, find, Some, None}
-use Rattle.std.specs.List.{list_any}
-use Rattle.ncp_control.specs.Command.{IsCommand}
-use Rattle.ncp_control.specs.DataHeader.{IsHeader}
-use Rattle.ncp_control.specs.Numbers.{is_receive_socket, is_send_socket}
-use Rattle.ncp_control.specs.declared.command.Command.{Command}
+use Rattle.world_keeps_streams.proofs.Common.{◌≡◌, not, true, false, List, [], ◌∷◌, find, Some, None, list_any, IsCommand, IsHeader, is_receive_socket, is_send_socket, Command, passes, entry_at, is_mine_on, is_open, sends_on, was_closed, PairState, Bytes, next_of, Entry, HasSaid, Answered, AsksBack, Closes, Gives, Grants, Hears, OpensReceiver, OpensSender, Says, Sends, Takes, IsFirst, IsPaired}
 use Rattle.ncp_control.specs.declared.command.Command.TheVariants as command
-use Rattle.host_pairs.specs.Asked.{passes}
-use Rattle.host_pairs.specs.Entries.{entry_at, is_mine_on, is_open, sends_on, was_closed}
-use Rattle.host_pairs.specs.Pair.{PairState}
-use Rattle.host_pairs.specs.Parcels.{Bytes, next_of}
-use Rattle.host_pairs.specs.declared.entry.Entry.{Entry}
-use Rattle.host_keeps_streams.specs.Formed.{HasSaid}
 use Rattle.host_keeps_streams.specs.Histories as calls
-use Rattle.host_keeps_streams.specs.Histories.{Answered, AsksBack, Call, Closes, Gives, Grants, Hears, OpensReceiver, OpensSender, Says, Sends, Takes}
-use Rattle.pair_keeps_streams.proofs.lemmas.{IsFirst, IsPaired}
+use Rattle.host_keeps_streams.specs.Histories.{Call}
 
 -- an RTS that is heard names a link that no sending end has, and a CLS is of a receiving socket and a sending one
 abbrev pub IsHeard : Command → List Entry → Type 0

@@ -1,38 +1,15 @@
 -- What a user asks for, and what goes out next, may be done.
-use Rattle.std.proofs.Common.{◌≡◌, ℕ, zero, suc, ◌*◌, ◌<◌, ◌≤◌, ◌^◌, ◌&&◌, not, Bool, true, false, if◌then◌else◌, List, [], ◌∷◌, take, drop, find, Option, Some, None, is_some, refl, ap, sym, subst, ◌∙◌, arith}
+use Rattle.world_keeps_streams.proofs.Common.{◌≡◌, ℕ, zero, suc, ◌*◌, ◌<◌, ◌≤◌, ◌&&◌, not, Bool, true, false, if◌then◌else◌, List, [], ◌∷◌, take, drop, find, Option, Some, None, is_some, refl, ap, sym, subst, ◌∙◌, arith, Host, same_host, not_false, or_false, same_host-true, is_receive_socket, is_send_socket, Command, passes, listens_on, entry_at, is_mine_on, is_open, was_closed, PairState, Parcel, may_send_on, next_of, is_ready, Entry, Listener, both, what_goes, AreCommands, HasEnd, Stand, at, marks, found_same, marks_append, AsksBack, Closes, Gives, Grants, OpensReceiver, OpensSender, End, Mark, NcpState, owner_of, pair_with, AreInOrder, grant_fault, is_taken, on_open, Request, not_first, owner_found, send_odd, owner_calls, parcel_calls, request_calls}
+use Rattle.std.proofs.Common.{◌^◌}
 use Rattle.std.proofs.lemmas.List.{take-append-drop}
-use Rattle.interface.specs.Host.{Host, same_host}
-use Rattle.interface.proofs.lemmas.{not_false, or_false, same_host-true}
-use Rattle.ncp_control.specs.Numbers.{is_receive_socket, is_send_socket}
-use Rattle.ncp_control.specs.declared.command.Command.{Command}
-use Rattle.host_pairs.specs.Asked.{passes}
-use Rattle.host_pairs.specs.Desk.{listens_on}
-use Rattle.host_pairs.specs.Entries.{entry_at, is_mine_on, is_open, was_closed}
-use Rattle.host_pairs.specs.Pair.{PairState}
 use Rattle.host_pairs.specs.Parcels as parcel
-use Rattle.host_pairs.specs.Parcels.{Parcel, link_of, may_send_on, next_of}
-use Rattle.ncp_control.specs.Phases.{is_ready}
-use Rattle.host_pairs.specs.declared.entry.Entry.{Entry}
-use Rattle.host_pairs.specs.declared.listener.Listener.{Listener}
-use Rattle.host_pairs.proofs.lemmas.{both, what_goes}
-use Rattle.host_keeps_ranges.specs.Ranges.{AreCommands}
-use Rattle.host_keeps_pairing.specs.Ends.{HasEnd, Stand, at}
-use Rattle.host_keeps_pairing.specs.Words.{marks}
-use Rattle.host_keeps_pairing.proofs.lemmas.{found_same, marks_append}
-use Rattle.host_keeps_streams.specs.Histories.{AsksBack, Call, Closes, Gives, Grants, OpensReceiver, OpensSender}
+use Rattle.host_pairs.specs.Parcels.{link_of}
+use Rattle.host_keeps_streams.specs.Histories.{Call}
 use Rattle.host_keeps_streams.proofs.lemmas.Senders as senders
-use Rattle.pairing_law.specs.Ends.{End}
-use Rattle.pairing_law.specs.Marks.{Mark}
-use Rattle.sockets.specs.Pairs.{NcpState, owner_of, pair_with}
-use Rattle.sockets.specs.Peers.{AreInOrder}
-use Rattle.sockets.specs.Requests.{close_fault, closing_fault, grant_fault, is_taken, is_used, on_open, refusal}
+use Rattle.sockets.specs.Requests.{close_fault, closing_fault, is_used, refusal}
 use Rattle.sockets.specs.declared.fault.NcpFault.{NcpFault}
-use Rattle.sockets.specs.declared.request.Request.{Request}
 use Rattle.sockets.specs.declared.request.Request.TheVariants as request
-use Rattle.sockets.proofs.lemmas.{not_first}
-use Rattle.world_keeps_lives.proofs.lemmas.{owner_found}
-use Rattle.world_keeps_pairing.proofs.lemmas.{send_odd}
-use Rattle.world_keeps_streams.specs.Calls.{called, owner_calls, parcel_calls, request_calls}
+use Rattle.world_keeps_streams.specs.Calls.{called}
 use Rattle.world_keeps_streams.proofs.Calls.May.{AllMay, MayCall}
 use Rattle.world_keeps_streams.proofs.Calls.MayTurns.{said_may}
 

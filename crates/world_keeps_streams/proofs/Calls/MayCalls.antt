@@ -1,14 +1,8 @@
 -- What holds of each call of a host's program.
-use Rattle.std.proofs.Common.{◌≡◌, ℕ, List, [], ◌∷◌, Some}
-use Rattle.ncp_control.specs.Command.{IsCommand}
-use Rattle.ncp_control.specs.DataHeader.{IsHeader}
+use Rattle.world_keeps_streams.proofs.Common.{◌≡◌, ℕ, List, [], ◌∷◌, Some, IsCommand, IsHeader, PairState, Bytes, next_of, HasSaid, Hears, Takes, Says, Sends, Answered, IsAllowed, IsFirst, IsHeard, IsPaired, IsPairedCall}
 use Rattle.stream_law.specs.Senders.{Sender}
-use Rattle.host_pairs.specs.Pair.{PairState}
-use Rattle.host_pairs.specs.Parcels.{Bytes, next_of}
-use Rattle.host_keeps_streams.specs.Formed.{HasSaid}
 use Rattle.host_keeps_streams.specs.Histories as calls
-use Rattle.host_keeps_streams.specs.Histories.{Call, Hears, Takes, Says, Sends, Answered, IsAllowed}
-use Rattle.pair_keeps_streams.proofs.lemmas.{IsFirst, IsHeard, IsPaired, IsPairedCall}
+use Rattle.host_keeps_streams.specs.Histories.{Call}
 
 abbrev pub MayCall : Call → PairState → Type 0
 MayCall (Hears stamp said c) q = IsCommand c × IsPaired c × IsFirst c q.entries × IsHeard c q.entries

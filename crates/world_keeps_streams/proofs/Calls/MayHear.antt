@@ -1,32 +1,13 @@
 -- What a host hears of a peer may be heard, over all moments.
-use Rattle.std.proofs.Common.{◌≡◌, ℕ, ◌==◌, ◌&&◌, Bool, true, false, if◌then◌else◌, List, [], ◌∷◌, refl, sym, subst}
-use Rattle.interface.specs.Host.{Host}
+use Rattle.world_keeps_streams.proofs.Common.{◌≡◌, ℕ, ◌==◌, ◌&&◌, Bool, if◌then◌else◌, List, [], ◌∷◌, refl, sym, subst, Host, HostMessage, same_host-refl, waits_with, is_receive_socket, is_send_socket, Order, orders_of, is_ready, both, text_good, HasEnd, AreJoint, AllFit, marks_in, Takes, End, Sockets, Mark, Message, turn_of, pair_with, IsApart, Crossed, IsStory, Moment, events_of, places, program, crossings_of, TakesFreeAt, AText, AllBare, AllTied, AnRrp, AnRst, AreOrigins, IsUnpaired, Side_of, Sort, plain_joint, sort_of, message_calls, orders_heard}
+use Rattle.std.proofs.Common.{true, false}
 use Rattle.interface.specs.Mailboxes as mail
 use Rattle.interface.specs.declared.crossing.Crossing.TheVariants as crossing
-use Rattle.interface.specs.declared.message.HostMessage.{HostMessage}
-use Rattle.interface.proofs.lemmas.{same_host-refl, waits_with}
-use Rattle.ncp_control.specs.Numbers.{is_receive_socket, is_send_socket}
-use Rattle.host_pairs.specs.Control.{Order, orders_of}
-use Rattle.ncp_control.specs.Phases.{is_ready}
-use Rattle.host_pairs.proofs.lemmas.{both}
-use Rattle.host_keeps_ranges.proofs.lemmas.{text_good}
-use Rattle.host_keeps_pairing.specs.Ends.{HasEnd}
-use Rattle.host_keeps_pairing.specs.Hearing.{AreJoint}
-use Rattle.host_keeps_pairing.specs.Words.{AllFit, marks_in}
-use Rattle.host_keeps_streams.specs.Histories.{Takes}
-use Rattle.pairing_law.specs.Ends.{End, nothing}
-use Rattle.pairing_law.specs.Links.{Receiver, Sender, Sockets}
-use Rattle.pairing_law.specs.Marks.{Mark}
-use Rattle.reset_law.specs.Events.{Message}
+use Rattle.pairing_law.specs.Ends.{nothing}
+use Rattle.pairing_law.specs.Links.{Receiver, Sender}
 use Rattle.reset_law.specs.Runs.{IsRun}
-use Rattle.sockets.specs.Accepting.{turn_of}
-use Rattle.sockets.specs.Pairs.{pair_with}
-use Rattle.net_sim.specs.Projection.{IsApart}
-use Rattle.net_sim.specs.Story.{Crossed, IsStory, Moment, events_of, places, program}
-use Rattle.net_sim.specs.Timeline.{crossings_of}
-use Rattle.world_keeps_pairing.specs.Free.{TakesFreeAt}
-use Rattle.world_keeps_pairing.proofs.lemmas.{AText, AllBare, AllTied, AnRrp, AnRst, AreOrigins, IsSilent, IsUnpaired, Side_of, Sort, plain_joint, receiver_hears, sender_hears, sort_of, unpaired_turned, waiting_silent}
-use Rattle.world_keeps_streams.specs.Calls.{called, message_calls, orders_heard}
+use Rattle.world_keeps_pairing.proofs.lemmas.{IsSilent, receiver_hears, sender_hears, unpaired_turned, waiting_silent}
+use Rattle.world_keeps_streams.specs.Calls.{called}
 use Rattle.world_keeps_streams.proofs.Calls.May.{AllMay}
 use Rattle.world_keeps_streams.proofs.Calls.MayTurns.{AreSilent, Fits, heard_may}
 

@@ -1,22 +1,13 @@
 -- What may be said of each call of a world's programs, as the steps of two programs on a link need it.
-use Rattle.std.proofs.Common.{List, [], ◌∷◌}
-use Rattle.interface.specs.Host.{Host}
+use Rattle.world_keeps_streams.proofs.Common.{List, [], ◌∷◌, Host, Command, PairState, Entry, Answered, AsksBack, Closes, Gives, Grants, Hears, OpensReceiver, OpensSender, Says, Sends, Takes, HaveAddresses, Moment, IsTimeline, crossings_of, calls_by, IsHeard}
 use Rattle.interface.specs.Mailboxes as mail
-use Rattle.ncp_control.specs.declared.command.Command.{Command}
 use Rattle.ncp_control.specs.declared.command.Command.TheVariants as command
-use Rattle.host_pairs.specs.Pair.{PairState}
-use Rattle.host_pairs.specs.declared.entry.Entry.{Entry}
 use Rattle.host_keeps_streams.specs.Histories as calls
-use Rattle.host_keeps_streams.specs.Histories.{Answered, AsksBack, Call, Closes, Gives, Grants, Hears, OpensReceiver, OpensSender, Says, Sends, Takes}
-use Rattle.net_sim.specs.Clean.{HaveAddresses}
-use Rattle.net_sim.specs.Story.{Moment}
-use Rattle.net_sim.specs.Timeline.{IsTimeline, crossings_of}
-use Rattle.world_keeps_streams.specs.Calls.{calls_by}
+use Rattle.host_keeps_streams.specs.Histories.{Call}
 use Rattle.world_keeps_streams.proofs.Calls.Allowed.{may_calls}
 use Rattle.world_keeps_streams.proofs.Calls.May as may
 use Rattle.world_keeps_streams.proofs.Calls.May.{AllMay}
 use Rattle.world_keeps_streams.proofs.Calls.MayCalls.{MayCall, MayCalls}
-use Rattle.pair_keeps_streams.proofs.lemmas.{IsHeard}
 
 heard : (c : Command) (es : List Entry) → may.IsHeard c es → IsHeard c es
 heard (command.Rts receive send link) es h = h

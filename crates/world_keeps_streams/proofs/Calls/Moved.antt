@@ -1,37 +1,16 @@
 -- Each call of a host's program, for one peer: the calls of streams that it is lead from the ends before it to those after it.
-use Rattle.std.proofs.Common.{◌≡◌, ℕ, Bool, true, false, not, if◌then◌else◌, cond, List, [], ◌∷◌, find, Option, Some, None, refl, ap, sym, subst, ◌∙◌}
-use Rattle.interface.specs.Host.{Host, same_host}
-use Rattle.interface.specs.declared.address.Flow.{Flow}
-use Rattle.interface.specs.declared.crossing.Answer.{Answer}
+use Rattle.world_keeps_streams.proofs.Common.{◌≡◌, ℕ, Bool, true, false, not, if◌then◌else◌, cond, List, [], ◌∷◌, find, Option, Some, None, refl, ap, sym, subst, ◌∙◌, Host, same_host, Flow, Answer, HostMessage, not_false, same_host-true, closed_end, commanded, contacted, interrupt_of, receiver_requested, requested, with_end, with_more_bits, desk_of, listens_on, free_link, is_busy, is_mine_on, sending_end, PairState, Parcel, pair_after, parcel_gone, is_ready, answered_turn, message_taken, Entry, what_goes, put, AsksBack, Closes, Gives, Grants, IsHistory, OpensReceiver, OpensSender, ends_by, ends_now, turn_of, NcpState, owner_of, pair_with, with_pair, AreInOrder, at_owner, closed_socket, with_peer, next_in, offered_by, Peer, Request, next_is, next_pair, not_first, pair_changed, IsApart, message_on, clash, owner_found, answer_calls, message_calls, next_calls, owner_calls, parcel_calls, request_calls}
 use Rattle.interface.specs.declared.crossing.Inbound.TheVariants as inbound
-use Rattle.interface.specs.declared.message.HostMessage.{HostMessage}
-use Rattle.interface.proofs.lemmas.{not_false, same_host-true}
 use Rattle.ncp_control.specs.declared.command.Command.TheVariants as command
-use Rattle.host_pairs.specs.Asked.{closed_end, commanded, contacted, interrupt_of, receiver_requested, requested, with_end, with_more_bits}
 use Rattle.host_pairs.specs.Commands.{granted}
-use Rattle.host_pairs.specs.Desk.{desk_of, listens_on}
-use Rattle.host_pairs.specs.Entries.{free_link, is_busy, is_mine_on, sending_end}
-use Rattle.host_pairs.specs.Pair.{PairState}
-use Rattle.host_pairs.specs.Parcels.{Parcel, link_of, pair_after, parcel_gone}
-use Rattle.ncp_control.specs.Phases.{is_ready}
-use Rattle.host_pairs.specs.Turn.{answered_turn, message_taken}
-use Rattle.host_pairs.specs.declared.entry.Entry.{Entry}
-use Rattle.host_pairs.proofs.lemmas.{what_goes}
-use Rattle.host_keeps_pairing.proofs.lemmas.{put}
+use Rattle.host_pairs.specs.Parcels.{link_of}
 use Rattle.host_keeps_streams.specs.Histories as calls
-use Rattle.host_keeps_streams.specs.Histories.{AsksBack, Call, Closes, Gives, Grants, IsHistory, OpensReceiver, OpensSender, ends_by, ends_now}
-use Rattle.sockets.specs.Accepting.{accepted, turn_of}
-use Rattle.sockets.specs.Pairs.{NcpState, owner_of, pair_with, with_pair}
-use Rattle.sockets.specs.Peers.{AreInOrder}
-use Rattle.sockets.specs.Requests.{at_owner, closed_socket, refusal, served, with_peer}
-use Rattle.sockets.specs.Sending.{next_in, offered, offered_by}
-use Rattle.sockets.specs.declared.peer.Peer.{Peer}
-use Rattle.sockets.specs.declared.request.Request.{Request}
+use Rattle.host_keeps_streams.specs.Histories.{Call}
+use Rattle.sockets.specs.Accepting.{accepted}
+use Rattle.sockets.specs.Requests.{refusal, served}
+use Rattle.sockets.specs.Sending.{offered}
 use Rattle.sockets.specs.declared.request.Request.TheVariants as request
-use Rattle.sockets.proofs.lemmas.{next_is, next_pair, not_first, pair_changed}
-use Rattle.net_sim.specs.Projection.{IsApart, message_on}
-use Rattle.world_keeps_lives.proofs.lemmas.{clash, owner_found}
-use Rattle.world_keeps_streams.specs.Calls.{answer_calls, called, message_calls, next_calls, owner_calls, parcel_calls, request_calls}
+use Rattle.world_keeps_streams.specs.Calls.{called}
 use Rattle.world_keeps_streams.proofs.Calls.Leads.{IsIdle, Turned, answer_turned, is_reset, message_turned, one_lead, parcel_turned, same_turned}
 
 -- ---- a program

@@ -1,28 +1,12 @@
 -- The byte sizes of a pair's ends are octets, and not zero: each call keeps that.
-use Rattle.std.proofs.Common.{◌≡◌, ℕ, zero, suc, ◌&&◌, IsTrue, nat_le, Bool, true, false, if◌then◌else◌, List, [], ◌∷◌, ◌++◌, map, filter, Option, Some, None, is_some, refl, sym, subst, arith}
-use Rattle.std.specs.List.{list_any}
-use Rattle.interface.specs.Host.{Host}
-use Rattle.ncp_control.specs.Command.{IsCommand, IsOctet}
-use Rattle.ncp_control.specs.DataHeader.{header_of}
-use Rattle.ncp_control.specs.Numbers.{is_byte_size}
-use Rattle.ncp_control.specs.declared.command.Command.{Command}
+use Rattle.world_keeps_streams.proofs.Common.{◌≡◌, ℕ, zero, suc, ◌&&◌, IsTrue, nat_le, Bool, true, false, if◌then◌else◌, List, [], ◌∷◌, ◌++◌, map, filter, Option, Some, None, is_some, refl, sym, subst, arith, list_any, Host, IsCommand, header_of, is_byte_size, Command, DataHeader, receiver_requested, Ending, Open, Unconnected, at_end, cls_taken_by, gvb_taken, interrupted, matched_once, receiver_on, ret_taken, rts_heard, rts_taken_by, sender_on, str_heard, str_linked, str_taken_by, desk_taken, ERRONEOUS, arrived_if, data_found, is_acceptable, DeskState, listener_on, changed_first, entry_at, free_link, receiving_end, sends_on, PairState, command_gone, Entry, Listener, AreSizes, Answered, AsksBack, Closes, Gives, Grants, Hears, IsHistory, OpensReceiver, OpensSender, Says, Sends, Takes, ends_by, ends_now}
+use Rattle.ncp_control.specs.Command.{IsOctet}
 use Rattle.ncp_control.specs.declared.command.Command.TheVariants as command
-use Rattle.ncp_control.specs.declared.data_header.DataHeader.{DataHeader}
-use Rattle.host_pairs.specs.Asked.{receiver_requested}
 use Rattle.host_pairs.specs.Commands as commands
-use Rattle.host_pairs.specs.Commands.{Ending, Found, Open, Unconnected, all_taken, at_end, cls_taken_by, gvb_taken, interrupted, matched_once, receiver_on, ret_taken, rts_heard, rts_taken_by, sender_on, str_heard, str_linked, str_taken_by, desk_taken}
-use Rattle.host_pairs.specs.Control.{ERRONEOUS}
-use Rattle.host_pairs.specs.Data.{arrived_if, data_found, is_acceptable}
-use Rattle.host_pairs.specs.Desk.{DeskState, listener_on}
-use Rattle.host_pairs.specs.Entries.{changed_first, entry_at, free_link, receiving_end, sends_on}
-use Rattle.host_pairs.specs.Pair.{PairState}
-use Rattle.host_pairs.specs.Parcels.{command_gone}
-use Rattle.host_pairs.specs.declared.entry.Entry.{Entry}
-use Rattle.host_pairs.specs.declared.listener.Listener.{Listener}
-use Rattle.host_keeps_ranges.specs.Ranges.{AreSizes}
+use Rattle.host_pairs.specs.Commands.{Found, all_taken}
 use Rattle.host_keeps_ranges.proofs.lemmas.{size_found}
 use Rattle.host_keeps_streams.specs.Histories as calls
-use Rattle.host_keeps_streams.specs.Histories.{Answered, AsksBack, Call, Closes, Gives, Grants, Hears, IsHistory, OpensReceiver, OpensSender, Says, Sends, Takes, ends_by, ends_now}
+use Rattle.host_keeps_streams.specs.Histories.{Call}
 use Rattle.world_keeps_streams.proofs.Calls.MayAsk.{AreSized, IsSize}
 
 -- ---- lists

@@ -1,23 +1,11 @@
 -- After a call, all that holds of the lives of a host with one peer holds again.
-use Rattle.std.proofs.Common.{◌≡◌, ◌⊎◌, inl, inr, ℕ, ◌==◌, not, Bool, true, false, List, [], ◌∷◌, ◌++◌, map, length, Option, Some, is_some, refl, ap, sym, subst, ◌∙◌, arith}
-use Rattle.std.proofs.lemmas.Bool.{eqb-true}
-use Rattle.interface.specs.Host.{Host}
-use Rattle.ncp_control.specs.Numbers.{is_receive_socket, is_send_socket}
-use Rattle.ncp_control.specs.declared.allocation.Allocation.{Allocation}
+use Rattle.world_keeps_streams.proofs.Common.{◌≡◌, ◌⊎◌, inl, inr, ℕ, ◌==◌, not, Bool, true, List, [], ◌∷◌, ◌++◌, map, length, Option, Some, is_some, refl, ap, sym, subst, ◌∙◌, arith, eqb-true, Host, is_receive_socket, is_send_socket, Allocation, is_link, is_open, is_receiving, receives_on, sends_on, Entry, both, not_is, has_opened, IsTelling, gone_by, is_there, name_of, new_life, clash, open_parts, odd_send}
+use Rattle.std.proofs.Common.{false}
 use Rattle.stream_law.specs.Receivers.{Receiver}
 use Rattle.stream_law.specs.Senders.{Sender}
-use Rattle.host_pairs.specs.Entries.{is_link, is_open, is_receiving, receives_on, sends_on}
-use Rattle.host_pairs.specs.declared.entry.Entry.{Entry}
-use Rattle.host_pairs.proofs.lemmas.{both, not_is}
-use Rattle.host_keeps_streams.specs.Ends.{has_opened}
-use Rattle.host_keeps_streams.specs.Histories.{IsTelling, gone_by}
 use Rattle.host_keeps_streams.specs.Names.{named}
-use Rattle.host_keeps_streams.proofs.lemmas.{is_there, name_of}
 use Rattle.promise.specs.declared.life.Life.{Life}
-use Rattle.net_sim.specs.Book.{new_life}
 use Rattle.promise.specs.Safe.{receives, sends}
-use Rattle.world_keeps_lives.proofs.lemmas.{clash, open_parts}
-use Rattle.world_keeps_pairing.proofs.lemmas.{odd_send}
 use Rattle.world_keeps_streams.proofs.Deeds.Effects as deeds
 use Rattle.world_keeps_streams.proofs.Deeds.Effects.{Among, Becomes, Deed, From, HasLink, IsLinked, IsNew, OpensAs, Receives, Sends, among_either, among_front, among_behind, among_map, among_mapped, at_receiver, at_sender, granted_by, life_by, new_by, returned_by, sent_by, taken_by}
 use Rattle.world_keeps_streams.proofs.Deeds.Ends.{Acts, Does, IsAt, Opening}
@@ -222,9 +210,6 @@ module _ (told next_told : ℕ → ℕ → ℕ → ℕ → Type 0) (grows : (own
           let h : EndOf es l.life = old l.life l.there l.host l.peer t in
           let one : h.end ≡ o.before = the_end es l.life h o.before o.there o.was_mine (sym o.own ∙ sym own) in
           clash ⊥ (has_opened o.before) (subst (λ (z : Entry). has_opened z ≡ true) one (end_opened es l.life h)) o.unopened
-
-    abbrev New : Life
-    New = new_life a e.own b e.foreign u v
 
     blank_new : (link : ℕ) → (link == 0) ≡ false → Receives (name_of number gone) link (deeds.Opens e u v) (r link) (rr link) → HasTaken ((rr link).taken (named (name_of number gone) e)) ((rr link).granted (named (name_of number gone) e)) ((rr link).returned (named (name_of number gone) e)) (new_life a e.own b e.foreign u v)
     blank_new link other q = elim (c.takes link other (named (name_of number gone) e)) [

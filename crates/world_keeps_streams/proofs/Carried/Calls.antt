@@ -1,23 +1,11 @@
 -- The lives of a host with one peer beside the calls of its program, and what comes of it for the host's book.
-use Rattle.std.proofs.Common.{◌≡◌, inl, inr, ℕ, zero, suc, ◌<◌, ◌==◌, ◌||◌, Bool, true, false, if◌then◌else◌, List, [], ◌∷◌, ◌++◌, drop, length, slice_index_or, Some, refl, ap, sym, ◌∙◌, subst, eq-eqb, arith}
-use Rattle.std.proofs.lemmas.Bool.{eqb-true}
-use Rattle.std.specs.List.{Contains}
-use Rattle.interface.specs.Host.{Host}
-use Rattle.host_pairs.specs.Entries.{entry_at}
-use Rattle.host_pairs.specs.declared.entry.Entry.{Entry}
+use Rattle.world_keeps_streams.proofs.Common.{◌≡◌, inl, inr, ℕ, zero, suc, ◌<◌, ◌==◌, ◌||◌, Bool, true, false, if◌then◌else◌, List, [], ◌∷◌, ◌++◌, drop, length, slice_index_or, Some, refl, ap, sym, ◌∙◌, subst, eq-eqb, arith, eqb-true, Contains, Host, entry_at, Entry, AreAllowed, IsHistory, IsTelling, ends_after, gone_now, receiver_now, sender_now, holds_now, name_of, AreApart, is_among, numbers, Ask, Asks, Close, Mark, pair_with, Moment, event_in, events_of, program, AreRefusing, keeps, own_calls}
 use Rattle.host_keeps_streams.specs.Histories as calls
-use Rattle.host_keeps_streams.specs.Histories.{AreAllowed, IsHistory, IsTelling, ends_after, gone_now, receiver_now, sender_now}
-use Rattle.host_keeps_streams.proofs.lemmas.{Holds, holds_now, name_of}
-use Rattle.host_keeps_streams.specs.Names.{AreApart, is_among, named, numbers}
-use Rattle.pairing_law.specs.Marks.{Ask, Asks, Close, Mark}
-use Rattle.sockets.specs.Pairs.{pair_with}
+use Rattle.host_keeps_streams.proofs.lemmas.{Holds}
+use Rattle.host_keeps_streams.specs.Names.{named}
 use Rattle.promise.specs.declared.life.Life.{Life}
 use Rattle.promise.specs.Safe.{receives, sends}
-use Rattle.net_sim.specs.Story.{Moment, event_in, events_of, program}
 use Rattle.net_sim.specs.Told.{kept_in}
-use Rattle.world_keeps_lives.specs.Lives.{AreRefusing}
-use Rattle.world_keeps_pairing.specs.Steps.{keeps}
-use Rattle.world_keeps_streams.specs.Calls.{own_calls}
 use Rattle.world_keeps_streams.proofs.Deeds.Effects.{Among}
 use Rattle.world_keeps_streams.proofs.Deeds.Kinds.{deed_of}
 use Rattle.world_keeps_streams.proofs.Deeds.Law.{receiver_by}
@@ -116,49 +104,3 @@ recent a b ms = drop (since a b ms) (kept_in ms).book.lives
 -- what is to hold after all moments
 abbrev pub Carries : (ℕ → ℕ → ℕ → ℕ) → Host → Host → List Moment → Type 0
 Carries number a b ms = CarryIn a b number (own_calls a b ms) (pair_with b (program a ms).peers).entries (recent a b ms)
-
--- a life since then, beside the law of its link
-pub record Carried (number : ℕ → ℕ → ℕ → ℕ) (a b : Host) (ms : List Moment) (x : Life) : Type 0 where
-  pub link : ℕ
-  pub gone : ℕ
-  pub on : CarriedOn (Named number b (own_calls a b ms)) number (gone_now b (own_calls a b ms)) (pair_with b (program a ms).peers).entries (λ l. receiver_now number b l (own_calls a b ms)) (λ l. sender_now number b l (own_calls a b ms)) link gone x
-
--- one of a connection on a link
-pub record CarriedAs (number : ℕ → ℕ → ℕ → ℕ) (a b : Host) (ms : List Moment) (link c : ℕ) (x : Life) : Type 0 where
-  pub there : Contains (drop (since a b ms) (kept_in ms).book.lives) x
-  pub host : x.host ≡ a
-  pub peer : x.peer ≡ b
-  pub carried : Carried number a b ms x
-  pub link_is : carried.link ≡ link
-  pub number_is : number x.socket x.foreign carried.gone ≡ c
-
-module _ (number : ℕ → ℕ → ℕ → ℕ) (a b : Host) (ms : List Moment) (holds : Carries number a b ms) where
-  pub carried : (x : Life) → Contains (drop (since a b ms) (kept_in ms).book.lives) x → x.host ≡ a → x.peer ≡ b → Carried number a b ms x
-  carried x there host peer =
-      let k : (link : ℕ) × (g : ℕ) × _ = holds.all x (contains_among (recent a b ms) x there) host peer in
-      record { link = k.0; gone = k.1; on = k.2 }
-
-  as_carried : (link c : ℕ) → (l : Lives (Named number b (own_calls a b ms)) a b number (gone_now b (own_calls a b ms)) (pair_with b (program a ms).peers).entries (λ l. receiver_now number b l (own_calls a b ms)) (λ l. sender_now number b l (own_calls a b ms)) (recent a b ms) link c)
-      → CarriedAs number a b ms link c l.life
-  as_carried link c l = record {
-    there = among_contains (recent a b ms) l.life l.there;
-    host = l.host;
-    peer = l.peer;
-    carried = record { link = link; gone = l.gone_before; on = l.carried };
-    link_is = refl;
-    number_is = l.is;
-  }
-
-  -- what was granted or taken has a life
-  pub taken_by : (link : ℕ) → (link == 0) ≡ false → (c : ℕ) → (IsBlank c (receiver_now number b link (own_calls a b ms)) → ⊥) → (x : Life) × CarriedAs number a b ms link c x × (receives x ≡ true)
-  taken_by link other c some = elim (holds.takes link other c) [
-    | inl u ↦ absurd (some u)
-    | inr l ↦ (l.0.life, as_carried link c l.0, l.1)
-  ]
-
-  -- and so has what was sent
-  pub sent_by : (link : ℕ) → (link == 0) ≡ false → (c : ℕ) → ((sender_now number b link (own_calls a b ms)).sent c ≡ [] → ⊥) → (x : Life) × CarriedAs number a b ms link c x × (sends x ≡ true)
-  sent_by link other c some = elim (holds.sends link other c) [
-    | inl u ↦ absurd (some u)
-    | inr l ↦ (l.0.life, as_carried link c l.0, l.1)
-  ]

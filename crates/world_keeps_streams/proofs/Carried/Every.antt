@@ -1,15 +1,6 @@
 -- The lives of a host's book with one peer are carried by its calls at all lawful moments, if they are from each moment to the next.
-use Rattle.std.proofs.Common.{◌≡◌, ℕ, Bool, true, false, List, [], ◌∷◌, refl, sym}
-use Rattle.interface.specs.Host.{Host}
+use Rattle.world_keeps_streams.proofs.Common.{◌≡◌, ℕ, Bool, true, false, List, [], ◌∷◌, refl, sym, Host, ends_now, pair_with, HaveAddresses, Moment, event_in, events_of, program, IsTimeline, crossings_of, keeps, mail_below, own_calls}
 use Rattle.interface.specs.Mailboxes as mail
-use Rattle.host_keeps_streams.specs.Histories.{ends_now}
-use Rattle.sockets.specs.Pairs.{pair_with}
-use Rattle.net_sim.specs.Clean.{HaveAddresses}
-use Rattle.net_sim.specs.Story.{Moment, event_in, events_of, program}
-use Rattle.net_sim.specs.Timeline.{IsTimeline, crossings_of}
-use Rattle.world_keeps_pairing.specs.Steps.{keeps}
-use Rattle.world_keeps_pairing.proofs.lemmas.{mail_below}
-use Rattle.world_keeps_streams.specs.Calls.{own_calls}
 use Rattle.world_keeps_streams.proofs.Carried.Calls.{Carries, carry_none}
 use Rattle.world_keeps_streams.proofs.Carried.Moments.{dropped_next}
 use Rattle.world_keeps_streams.proofs.Calls.Chain.{Chained, chain}

@@ -1,23 +1,11 @@
 -- The lives of a host with one peer, over all that it hears in one message of its peer.
-use Rattle.std.proofs.Common.{◌≡◌, ℕ, ◌≤◌, ◌==◌, true, false, List, [], ◌∷◌, ◌++◌, drop, length, refl, ap, sym, subst, ◌∙◌, append-nil, arith}
-use Rattle.interface.specs.Host.{Host}
-use Rattle.ncp_control.specs.declared.command.Command.{Command}
+use Rattle.world_keeps_streams.proofs.Common.{◌≡◌, ℕ, ◌≤◌, ◌==◌, true, false, List, [], ◌∷◌, ◌++◌, drop, length, refl, ap, sym, subst, ◌∙◌, arith, Host, Command, desk_taken, Legal, Order, Wrong, error, DeskState, desk_of, listens_on, command_queued, is_ready, TurnState, command_taken, if_ready, order_taken, orders_taken, with_desk, Entry, Notice, AreAllowed, Hears, IsHistory, IsTelling, ends_after, gone_now, receiver_now, sender_now, holds_now, Kept, all_told, AreRefusing, GoodTurn, Place, all_told_append, good_queued, good_ready, good_taken, orders_heard}
+use Rattle.std.proofs.Common.{append-nil}
 use Rattle.ncp_control.specs.declared.command.Command.TheVariants as command
-use Rattle.host_pairs.specs.Commands.{desk_taken}
-use Rattle.host_pairs.specs.Control.{Legal, Order, Wrong, error}
-use Rattle.host_pairs.specs.Desk.{DeskState, desk_of, listens_on, command_queued}
-use Rattle.ncp_control.specs.Phases.{is_ready}
-use Rattle.host_pairs.specs.Turn.{TurnState, command_taken, if_ready, order_taken, orders_taken, with_desk}
-use Rattle.host_pairs.specs.declared.entry.Entry.{Entry}
-use Rattle.host_pairs.specs.declared.notice.Notice.{Notice}
 use Rattle.host_keeps_streams.specs.Histories as calls
-use Rattle.host_keeps_streams.specs.Histories.{AreAllowed, Hears, IsHistory, IsTelling, ends_after, gone_now, receiver_now, sender_now}
-use Rattle.host_keeps_streams.proofs.lemmas.{Holds, holds_now}
+use Rattle.host_keeps_streams.proofs.lemmas.{Holds}
 use Rattle.promise.specs.declared.life.Life.{Life}
-use Rattle.net_sim.specs.Book.{Kept, all_told}
-use Rattle.world_keeps_lives.specs.Lives.{AreRefusing}
-use Rattle.world_keeps_lives.proofs.lemmas.{GoodTurn, Place, all_told_append, good_queued, good_ready, good_taken}
-use Rattle.world_keeps_streams.specs.Calls.{called, orders_heard}
+use Rattle.world_keeps_streams.specs.Calls.{called}
 use Rattle.world_keeps_streams.proofs.Deeds.Effects.{all_lives}
 use Rattle.world_keeps_streams.proofs.Deeds.Kinds.{deed_of, hears}
 use Rattle.world_keeps_streams.proofs.Deeds.Told.{After, call_told, notices_of}

@@ -1,27 +1,14 @@
 -- The lives of a host with one peer, from one moment to the next: where it drops its ends, where it makes one call, and where it makes none.
-use Rattle.std.proofs.Common.{◌≡◌, inl, inr, ℕ, Bool, true, false, List, [], ◌∷◌, ◌++◌, drop, length, refl, ap, sym, subst, ◌∙◌}
-use Rattle.interface.specs.Host.{Host, same_host}
+use Rattle.world_keeps_streams.proofs.Common.{◌≡◌, inl, inr, ℕ, Bool, true, false, List, [], ◌∷◌, ◌++◌, drop, length, refl, ap, sym, subst, ◌∙◌, Host, same_host, same_host-true, listens_on, Entry, IsHistory, IsTelling, ends_after, turn_of, NcpState, pair_with, Kept, HaveAddresses, Moment, event_in, events_of, program, IsTimeline, crossings_of, AreRefusing, IsLifeOf, mine_on, At, Elsewhere, GoodTurn, Near, Place, same_turned, keeps, calls_by, own_calls}
 use Rattle.interface.specs.Mailboxes as mail
-use Rattle.interface.proofs.lemmas.{same_host-true}
 use Rattle.stream_law.specs.Receivers.{Receiver}
 use Rattle.stream_law.specs.Senders.{Sender}
-use Rattle.host_pairs.specs.Desk.{listens_on}
-use Rattle.host_pairs.specs.declared.entry.Entry.{Entry}
 use Rattle.host_pairs.proofs.lemmas.{none_left}
 use Rattle.host_keeps_streams.specs.Histories as calls
-use Rattle.host_keeps_streams.specs.Histories.{IsHistory, IsTelling, ends_after}
-use Rattle.sockets.specs.Accepting.{turn_of}
-use Rattle.sockets.specs.Pairs.{NcpState, pair_with}
 use Rattle.promise.specs.declared.life.Life.{Life}
-use Rattle.net_sim.specs.Book.{Kept}
-use Rattle.net_sim.specs.Clean.{HaveAddresses}
-use Rattle.net_sim.specs.Story.{Moment, event_in, events_of, program}
-use Rattle.net_sim.specs.Timeline.{IsTimeline, crossings_of}
 use Rattle.net_sim.specs.Told.{kept_in}
-use Rattle.world_keeps_lives.specs.Lives.{AreRefusing, EachIn, IsLifeOf, IsOwned, mine_on}
-use Rattle.world_keeps_lives.proofs.lemmas.{At, Elsewhere, GoodTurn, Holds, Near, Place, same_turned}
-use Rattle.world_keeps_pairing.specs.Steps.{keeps}
-use Rattle.world_keeps_streams.specs.Calls.{calls_by, own_calls}
+use Rattle.world_keeps_lives.specs.Lives.{EachIn, IsOwned}
+use Rattle.world_keeps_lives.proofs.lemmas.{Holds}
 use Rattle.world_keeps_streams.proofs.Deeds.Effects.{Among}
 use Rattle.world_keeps_streams.proofs.Deeds.Kinds.{deed_of}
 use Rattle.world_keeps_streams.proofs.Deeds.Told.{After}

@@ -1,22 +1,11 @@
 -- The step itself: after a call all lives of a host with one peer are again beside the laws of their links.
-use Rattle.std.proofs.Common.{◌≡◌, inl, inr, ℕ, suc, ◌≤◌, ◌==◌, ◌&&◌, Bool, true, false, List, map, Option, Some, is_some, refl, ap, sym, subst, ◌∙◌, eq-eqb, arith}
-use Rattle.std.proofs.lemmas.Bool.{eqb-true}
-use Rattle.interface.specs.Host.{Host, same_host}
-use Rattle.interface.proofs.lemmas.{same_host-refl}
-use Rattle.ncp_control.specs.Numbers.{is_receive_socket, is_send_socket}
-use Rattle.ncp_control.specs.declared.allocation.Allocation.{Allocation}
+use Rattle.world_keeps_streams.proofs.Common.{◌≡◌, inl, inr, ℕ, suc, ◌≤◌, ◌==◌, ◌&&◌, Bool, true, false, List, map, Option, Some, is_some, refl, ap, sym, subst, ◌∙◌, eq-eqb, arith, eqb-true, Host, same_host, same_host-refl, is_receive_socket, is_send_socket, Allocation, is_link, is_receiving, receives_on, sends_on, Entry, has_opened, IsTelling, gone_by, is_there, name_of, lives_at, clash}
 use Rattle.stream_law.specs.Receivers.{Receiver}
 use Rattle.stream_law.specs.Senders.{Sender}
-use Rattle.host_pairs.specs.Entries.{is_link, is_receiving, receives_on, sends_on}
-use Rattle.host_pairs.specs.declared.entry.Entry.{Entry}
-use Rattle.host_keeps_streams.specs.Ends.{has_opened}
-use Rattle.host_keeps_streams.specs.Histories.{IsTelling, gone_by}
 use Rattle.host_keeps_streams.specs.Names.{named}
-use Rattle.host_keeps_streams.proofs.lemmas.{is_there, name_of, odd_is}
+use Rattle.host_keeps_streams.proofs.lemmas.{odd_is}
 use Rattle.promise.specs.declared.life.Life.{Life}
-use Rattle.net_sim.specs.Book.{lives_at}
 use Rattle.promise.specs.Safe.{receives, sends}
-use Rattle.world_keeps_lives.proofs.lemmas.{clash}
 use Rattle.world_keeps_streams.proofs.Deeds.Effects.{Among, Deed, From, Receives, Sends, among_front, among_mapped, at_receiver, at_sender, granted_by, life_by, new_by, taken_by}
 use Rattle.world_keeps_streams.proofs.Deeds.Ends.{Does, IsAt}
 use Rattle.world_keeps_streams.proofs.Deeds.Told.{After}
@@ -105,9 +94,6 @@ module _ (told next_told : ℕ → ℕ → ℕ → ℕ → Type 0) (grows : (own
   module _ (deed : Deed) (new : List Entry) (rr : ℕ → Receiver) (ss : ℕ → Sender) (lives : List Life) (does : Does deed es new)
       (received : (link : ℕ) → (link == 0) ≡ false → Receives (name_of number gone) link deed (r link) (rr link)) (sent : (link : ℕ) → Sends (name_of number gone) link deed (s link) (ss link))
       (old : AreOwned a b es lives) (now : AreOwned a b new (After a b deed lives)) (c : Carry told a b number gone es r s lives) where
-    abbrev Gone : ℕ → ℕ → ℕ
-    Gone = gone_by es new gone
-
     -- an end that is there before and after has its link still
     link_same : (x : Life) (link : ℕ) (h : EndOf es x) → ((e : Entry) → Among e es → e.mine ≡ true → e.own ≡ x.socket → e.link ≡ Some link) → (y : Life) (h2 : EndOf new y) → y.socket ≡ x.socket
         → (e : Entry) → Among e new → e.mine ≡ true → e.own ≡ y.socket → e.link ≡ Some link

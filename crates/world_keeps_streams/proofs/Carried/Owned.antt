@@ -1,26 +1,13 @@
 -- Lives that continue and their ends, by what world_keeps_lives has of each socket; and the lives of a book since a host dropped its ends.
-use Rattle.std.proofs.Common.{◌≡◌, inl, inr, ℕ, zero, suc, ◌+◌, ◌≤◌, ◌==◌, Bool, true, false, if◌then◌else◌, List, [], ◌∷◌, ◌++◌, map, drop, length, refl, ap, sym, subst, ◌∙◌, eq-eqb, arith}
-use Rattle.std.proofs.lemmas.List.{length-append}
-use Rattle.interface.specs.Host.{Host, same_host}
+use Rattle.world_keeps_streams.proofs.Common.{◌≡◌, inl, inr, ℕ, zero, suc, ◌+◌, ◌≤◌, ◌==◌, Bool, true, false, if◌then◌else◌, List, [], ◌∷◌, ◌++◌, map, drop, length, refl, ap, sym, subst, ◌∙◌, eq-eqb, arith, length-append, Host, same_host, same_host-refl, Entry, Notice, pair_with, Request, Kept, all_told, changed_when, lives_asked, lives_crossed, lives_told, where_it, HaveAddresses, Asked, Crossed, Moment, event_in, events_of, program, IsTimeline, crossings_of, host_in, kept_by, notices_by, HasOpenEnd, IsLifeOf, at_socket, mine_on, At, Elsewhere, Near, Place, clash, live, keeps}
 use Rattle.interface.specs.Mailboxes as mail
 use Rattle.interface.specs.declared.crossing.Crossing.TheVariants as crossing
-use Rattle.interface.proofs.lemmas.{same_host-refl}
-use Rattle.host_pairs.specs.declared.entry.Entry.{Entry}
-use Rattle.host_pairs.specs.declared.notice.Notice.{Notice}
 use Rattle.host_pairs.specs.declared.notice.Notice.TheVariants as notice
-use Rattle.sockets.specs.Pairs.{pair_with}
-use Rattle.sockets.specs.declared.request.Request.{Request}
 use Rattle.sockets.specs.declared.request.Request.TheVariants as request
 use Rattle.promise.specs.declared.life.Life.{Life}
 use Rattle.net_sim.specs.Book as book
-use Rattle.net_sim.specs.Book.{Kept, all_told, changed_when, lives_asked, lives_crossed, lives_told, where_it}
-use Rattle.net_sim.specs.Clean.{HaveAddresses}
-use Rattle.net_sim.specs.Story.{Asked, Crossed, Moment, event_in, events_of, program}
-use Rattle.net_sim.specs.Timeline.{IsTimeline, crossings_of}
-use Rattle.net_sim.specs.Told.{host_in, kept_by, kept_in, notices_by}
-use Rattle.world_keeps_lives.specs.Lives.{EachOn, HasOpenEnd, IsLifeOf, NoneOf, at_socket, mine_on}
-use Rattle.world_keeps_lives.proofs.lemmas.{At, Elsewhere, Near, Place, clash, live}
-use Rattle.world_keeps_pairing.specs.Steps.{keeps}
+use Rattle.net_sim.specs.Told.{kept_in}
+use Rattle.world_keeps_lives.specs.Lives.{EachOn, NoneOf}
 use Rattle.world_keeps_streams.proofs.Deeds.Effects.{Among, Deed, all_lives, life_by, new_by}
 use Rattle.world_keeps_streams.proofs.Deeds.Told.{After}
 use Rattle.world_keeps_streams.proofs.Carried.Streams.{EndOf}

@@ -1,28 +1,12 @@
 -- The lives of a host with one peer, over all commands that go out to it in one message.
-use Rattle.std.proofs.Common.{◌≡◌, inl, inr, ℕ, ◌≤◌, ◌==◌, ◌&&◌, Bool, true, if◌then◌else◌, List, [], ◌∷◌, ◌++◌, drop, length, Some, None, refl, ap, sym, subst, ◌∙◌, append-nil, eq-eqb, arith}
-use Rattle.interface.specs.Host.{Host}
-use Rattle.ncp_control.specs.Command.{IsCommand}
-use Rattle.ncp_control.specs.declared.command.Command.{Command}
+use Rattle.world_keeps_streams.proofs.Common.{◌≡◌, inl, inr, ℕ, ◌≤◌, ◌==◌, ◌&&◌, Bool, true, if◌then◌else◌, List, [], ◌∷◌, ◌++◌, drop, length, Some, None, refl, ap, sym, subst, ◌∙◌, eq-eqb, arith, Host, IsCommand, Command, End, Ask, Mark, Stand, Standing, at, standing, mark_of, marks, found_at, marks_append, one_gone, AreCommands, DeskState, desk_of, listens_on, entry_at, PairState, command_gone, commands_gone, with_connections, Entry, Listener, Notice, AreAllowed, IsHistory, IsTelling, Says, Kept, all_told, IsOfTwo, Place, all_told_append, commands_said}
+use Rattle.std.proofs.Common.{append-nil}
 use Rattle.ncp_control.specs.declared.command.Command.TheVariants as command
-use Rattle.pairing_law.specs.Ends.{End}
-use Rattle.pairing_law.specs.Marks.{Ask, Mark}
-use Rattle.host_keeps_pairing.specs.Ends.{Stand, Standing, at, standing}
-use Rattle.host_keeps_pairing.specs.Words.{mark_of, marks}
-use Rattle.host_keeps_pairing.proofs.lemmas.{Found, found_at, marks_append, one_gone}
-use Rattle.host_keeps_ranges.specs.Ranges.{AreCommands}
-use Rattle.host_pairs.specs.Desk.{DeskState, desk_of, listens_on}
-use Rattle.host_pairs.specs.Entries.{entry_at}
-use Rattle.host_pairs.specs.Pair.{PairState}
-use Rattle.host_pairs.specs.Parcels.{command_gone, commands_gone, with_connections}
-use Rattle.host_pairs.specs.declared.entry.Entry.{Entry}
-use Rattle.host_pairs.specs.declared.listener.Listener.{Listener}
-use Rattle.host_pairs.specs.declared.notice.Notice.{Notice}
+use Rattle.host_keeps_pairing.proofs.lemmas.{Found}
 use Rattle.host_keeps_streams.specs.Histories as calls
-use Rattle.host_keeps_streams.specs.Histories.{AreAllowed, IsHistory, IsTelling, Says}
 use Rattle.promise.specs.declared.life.Life.{Life}
-use Rattle.net_sim.specs.Book.{Kept, all_told}
-use Rattle.world_keeps_lives.proofs.lemmas.{G, IsOfTwo, Place, Waits, all_go, all_told_append, unasked_by}
-use Rattle.world_keeps_streams.specs.Calls.{called, commands_said}
+use Rattle.world_keeps_lives.proofs.lemmas.{G, Waits, all_go, unasked_by}
+use Rattle.world_keeps_streams.specs.Calls.{called}
 use Rattle.world_keeps_streams.proofs.Deeds.Effects.{all_lives}
 use Rattle.world_keeps_streams.proofs.Deeds.Kinds.{says}
 use Rattle.world_keeps_streams.proofs.Deeds.Told.{After, call_told}

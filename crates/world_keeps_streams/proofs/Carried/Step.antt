@@ -1,18 +1,10 @@
 -- All lives of a host with one peer, beside the laws of their links, from one call to the next.
-use Rattle.std.proofs.Common.{◌≡◌, ◌⊎◌, inl, inr, ℕ, suc, ◌≤◌, ◌==◌, ◌&&◌, not, Bool, true, false, if◌then◌else◌, List, [], ◌∷◌, Some, refl, ap, sym, ◌∙◌}
-use Rattle.std.proofs.lemmas.Bool.{eqb-true}
-use Rattle.interface.specs.Host.{Host, same_host}
+use Rattle.world_keeps_streams.proofs.Common.{◌≡◌, ◌⊎◌, inl, inr, ℕ, suc, ◌≤◌, ◌==◌, ◌&&◌, not, Bool, true, false, if◌then◌else◌, List, [], ◌∷◌, Some, refl, ap, sym, ◌∙◌, eqb-true, Host, same_host, is_open, Entry, both, is_there, changed_when, life_ended, lives_at, lives_between, new_life, clash}
 use Rattle.stream_law.specs.Receivers.{Receiver}
 use Rattle.stream_law.specs.Senders.{Sender}
-use Rattle.host_pairs.specs.Entries.{is_open}
-use Rattle.host_pairs.specs.declared.entry.Entry.{Entry}
-use Rattle.host_pairs.proofs.lemmas.{both}
-use Rattle.host_keeps_streams.proofs.lemmas.{is_there}
 use Rattle.promise.specs.declared.life.Life.{Life}
 use Rattle.net_sim.specs.Book as book
-use Rattle.net_sim.specs.Book.{changed_when, life_ended, lives_at, lives_between, new_life}
 use Rattle.promise.specs.Safe.{receives, sends}
-use Rattle.world_keeps_lives.proofs.lemmas.{clash}
 use Rattle.world_keeps_streams.proofs.Deeds.Effects as deeds
 use Rattle.world_keeps_streams.proofs.Deeds.Effects.{Among, Becomes, Deed, From, HasLink, IsLinked, IsNew, OpensAs, Receives, Sends, among_either, among_front, among_behind, among_map, among_mapped, at_receiver, at_sender, granted_by, life_by, life_ends, new_by, returned_by, sent_by, taken_by}
 use Rattle.world_keeps_streams.proofs.Deeds.Ends.{Acts}

@@ -1,15 +1,8 @@
 -- A moment at which a host makes no call with its peer leaves the lives of the two carried as they were.
-use Rattle.std.proofs.Common.{◌≡◌, ℕ, true, List, [], ◌∷◌, ◌++◌, drop, sym, subst}
-use Rattle.interface.specs.Host.{Host}
-use Rattle.host_pairs.specs.declared.entry.Entry.{Entry}
+use Rattle.world_keeps_streams.proofs.Common.{◌≡◌, ℕ, true, List, [], ◌∷◌, ◌++◌, drop, sym, subst, Host, Entry, gone_now, receiver_now, sender_now, pair_with, Moment, event_in, events_of, program, keeps, calls_by, own_calls}
 use Rattle.host_keeps_streams.specs.Histories as calls
-use Rattle.host_keeps_streams.specs.Histories.{gone_now, receiver_now, sender_now}
-use Rattle.sockets.specs.Pairs.{pair_with}
 use Rattle.promise.specs.declared.life.Life.{Life}
-use Rattle.net_sim.specs.Story.{Moment, event_in, events_of, program}
 use Rattle.net_sim.specs.Told.{kept_in}
-use Rattle.world_keeps_pairing.specs.Steps.{keeps}
-use Rattle.world_keeps_streams.specs.Calls.{calls_by, own_calls}
 use Rattle.world_keeps_streams.proofs.Deeds.Effects.{Among}
 use Rattle.world_keeps_streams.proofs.Carried.Calls.{Named, Carries, CarryIn, recent, since}
 use Rattle.world_keeps_streams.proofs.Carried.Moments.{carry_moved}

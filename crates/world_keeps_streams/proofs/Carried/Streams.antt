@@ -1,23 +1,11 @@
 -- The lives of a host with one peer beside what the laws of their links have, as one call changes them.
-use Rattle.std.proofs.Common.{◌≡◌, inl, inr, ℕ, suc, ◌+◌, ◌≤◌, ◌==◌, ◌&&◌, not, Bool, true, false, if◌then◌else◌, List, [], ◌∷◌, ◌++◌, length, Option, Some, is_some, refl, ap, sym, subst, ◌∙◌, append-nil, eq-eqb, arith}
-use Rattle.std.proofs.lemmas.Bool.{eqb-true}
-use Rattle.std.proofs.lemmas.List.{append_assoc, length-append}
-use Rattle.interface.specs.Host.{Host}
+use Rattle.world_keeps_streams.proofs.Common.{◌≡◌, inl, inr, ℕ, suc, ◌+◌, ◌≤◌, ◌==◌, ◌&&◌, not, Bool, true, false, if◌then◌else◌, List, [], ◌∷◌, ◌++◌, length, Option, Some, is_some, refl, ap, sym, subst, ◌∙◌, eq-eqb, arith, eqb-true, append_assoc, length-append, Host, Allocation, is_at, is_mine_on, is_receiving, Entry, both, has_opened, gone_by, is_there, changed_when, life_ended, lives_at, lives_between, mine_on, clash}
+use Rattle.std.proofs.Common.{append-nil}
 use Rattle.ncp_control.specs.Allocation as counters
-use Rattle.ncp_control.specs.declared.allocation.Allocation.{Allocation}
 use Rattle.stream_law.specs.Receivers.{Receiver}
 use Rattle.stream_law.specs.Senders.{Sender}
-use Rattle.host_pairs.specs.Entries.{is_at, is_mine_on, is_receiving}
-use Rattle.host_pairs.specs.declared.entry.Entry.{Entry}
-use Rattle.host_pairs.proofs.lemmas.{both}
-use Rattle.host_keeps_streams.specs.Ends.{has_opened}
-use Rattle.host_keeps_streams.specs.Histories.{gone_by}
-use Rattle.host_keeps_streams.proofs.lemmas.{is_there}
 use Rattle.promise.specs.declared.life.Life.{Life}
 use Rattle.net_sim.specs.Book as book
-use Rattle.net_sim.specs.Book.{changed_when, life_ended, lives_at, lives_between}
-use Rattle.world_keeps_lives.specs.Lives.{mine_on}
-use Rattle.world_keeps_lives.proofs.lemmas.{clash}
 use Rattle.world_keeps_streams.proofs.Deeds.Effects as deeds
 use Rattle.world_keeps_streams.proofs.Deeds.Effects.{Among, Deed, among_kept, at_receiver, at_sender, granted_by, life_by, life_ends, returned_by, sent_by, taken_by}
 use Rattle.world_keeps_streams.proofs.Deeds.Ends.{Acts, IsAt}

@@ -1,26 +1,8 @@
 -- The lives of a host's book with each peer are carried by its calls, at all lawful moments of a world.
-use Rattle.std.proofs.Common.{◌≡◌, ℕ, ◌==◌, ◌&&◌, Bool, true, false, if◌then◌else◌, List, [], ◌∷◌, Option, Some, refl, ap, sym, subst}
-use Rattle.interface.specs.Host.{Host, same_host}
+use Rattle.world_keeps_streams.proofs.Common.{◌≡◌, ℕ, ◌==◌, ◌&&◌, Bool, true, false, if◌then◌else◌, List, [], ◌∷◌, Option, Some, refl, ap, sym, subst, Host, same_host, HostMessage, same_host-true, Parcel, Listener, AreAllowed, IsTelling, numbered, numbered_tells, turn_of, pair_with, next_in, Peer, HaveAddresses, Asked, Crossed, IsNext, Moment, event_in, events_of, places, program, IsTimeline, crossings_of, coupled, clash, keeps, answer_calls, calls_by, message_calls, next_calls, own_calls, parcel_calls, request_calls, numbered_by_peer}
 use Rattle.interface.specs.Mailboxes as mail
 use Rattle.interface.specs.declared.crossing.Crossing.TheVariants as crossing
-use Rattle.interface.specs.declared.message.HostMessage.{HostMessage}
-use Rattle.interface.proofs.lemmas.{same_host-true}
-use Rattle.host_pairs.specs.Parcels.{Parcel}
-use Rattle.host_pairs.specs.declared.listener.Listener.{Listener}
 use Rattle.host_keeps_streams.specs.Histories as calls
-use Rattle.host_keeps_streams.specs.Histories.{AreAllowed, IsTelling, numbered}
-use Rattle.host_keeps_streams.proofs.lemmas.{numbered_tells}
-use Rattle.sockets.specs.Accepting.{turn_of}
-use Rattle.sockets.specs.Pairs.{pair_with}
-use Rattle.sockets.specs.Sending.{next_in}
-use Rattle.sockets.specs.declared.peer.Peer.{Peer}
-use Rattle.net_sim.specs.Clean.{HaveAddresses}
-use Rattle.net_sim.specs.Story.{Asked, Crossed, IsNext, Moment, event_in, events_of, places, program}
-use Rattle.net_sim.specs.Timeline.{IsTimeline, crossings_of}
-use Rattle.net_sim.proofs.lemmas.{coupled}
-use Rattle.world_keeps_lives.proofs.lemmas.{clash}
-use Rattle.world_keeps_pairing.specs.Steps.{keeps}
-use Rattle.world_keeps_streams.specs.Calls.{answer_calls, calls_by, message_calls, next_calls, own_calls, parcel_calls, request_calls, numbered_by_peer}
 use Rattle.world_keeps_streams.proofs.Carried.Calls.{Carries}
 use Rattle.world_keeps_streams.proofs.Carried.Every.{Keeping, carries_by}
 use Rattle.world_keeps_streams.proofs.Moments.Answer.{keeps_answer}

@@ -1,19 +1,11 @@
 -- What one call of a host's program does to the lives of its ends, and to what the laws of their links have of them.
-use Rattle.std.proofs.Common.{◌≡◌, ◌⊎◌, inl, inr, ℕ, ◌==◌, ◌&&◌, Bool, true, false, if◌then◌else◌, List, [], ◌∷◌, ◌++◌, map, filter, find, Some, None, is_some, refl, ap, sym, subst, ◌∙◌}
-use Rattle.interface.specs.Host.{Host}
+use Rattle.world_keeps_streams.proofs.Common.{◌≡◌, ◌⊎◌, inl, inr, ℕ, ◌==◌, ◌&&◌, Bool, true, false, if◌then◌else◌, List, [], ◌∷◌, ◌++◌, map, filter, find, Some, None, is_some, refl, ap, sym, subst, ◌∙◌, Host, Allocation, changed_first, is_open, is_receiving, receives_on, sends_on, Entry, Notice, found_same, has_opened, changed_when, life_ended, lives_at, lives_between, lives_told, new_life}
 use Rattle.ncp_control.specs.Allocation as counters
-use Rattle.ncp_control.specs.declared.allocation.Allocation.{Allocation}
 use Rattle.stream_law.specs.Receivers.{Receiver}
 use Rattle.stream_law.specs.Senders.{Sender}
-use Rattle.host_pairs.specs.Entries.{changed_first, is_open, is_receiving, receives_on, sends_on}
-use Rattle.host_pairs.specs.declared.entry.Entry.{Entry}
-use Rattle.host_pairs.specs.declared.notice.Notice.{Notice}
-use Rattle.host_keeps_pairing.proofs.lemmas.{found_same}
-use Rattle.host_keeps_streams.specs.Ends.{has_opened}
 use Rattle.host_keeps_streams.specs.Names.{named}
 use Rattle.promise.specs.declared.life.Life.{Life}
 use Rattle.net_sim.specs.Book as book
-use Rattle.net_sim.specs.Book.{changed_when, life_ended, lives_at, lives_between, lives_told, new_life}
 
 -- ---- one of a list
 

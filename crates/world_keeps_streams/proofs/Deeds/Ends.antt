@@ -1,36 +1,17 @@
 -- What becomes of a host's ends by a call, beside its deed.
-use Rattle.std.proofs.Common.{◌≡◌, ◌⊎◌, inl, inr, ℕ, ◌*◌, ◌==◌, ◌&&◌, ◌||◌, not, Bool, true, false, nat_le, if◌then◌else◌, List, [], ◌∷◌, ◌++◌, take, map, filter, find, Option, Some, None, is_some, refl, ap, sym, subst, ◌∙◌, eq-eqb}
-use Rattle.std.proofs.lemmas.Bool.{eqb-true}
-use Rattle.std.specs.List.{list_any}
-use Rattle.interface.specs.Host.{Host}
-use Rattle.ncp_control.specs.Command.{IsCommand}
-use Rattle.ncp_control.specs.DataHeader.{data_bits, header_of}
-use Rattle.ncp_control.specs.Numbers.{is_connection_link, is_receive_socket}
-use Rattle.ncp_control.specs.declared.command.Command.{Command}
+use Rattle.world_keeps_streams.proofs.Common.{◌≡◌, ◌⊎◌, inl, inr, ℕ, ◌*◌, ◌==◌, ◌&&◌, ◌||◌, not, Bool, true, false, nat_le, if◌then◌else◌, List, [], ◌∷◌, ◌++◌, take, map, filter, find, Option, Some, None, is_some, refl, ap, sym, subst, ◌∙◌, eq-eqb, eqb-true, list_any, Host, IsCommand, data_bits, header_of, is_receive_socket, Command, DataHeader, MayGo, receiver_requested, with_more_bits, Unconnected, Ending, Open, asked_on_link, asked_with_size, at_end, found_in, given_back, interrupted, ret_taken, desk_taken, arrived_if, data_found, data_of, data_taken, is_acceptable, spent, DeskState, desk_of, listener_on, called_off, changed_at, changed_first, closed_by_partner, closed_when, entry_at, free_link, is_at, is_ending, is_mine_on, is_open, is_receiving, must_close, receives_on, receiving_end, refused_end, sending_end, sends_on, PairState, Bytes, asked_at, bits_gone, cls_sent, command_gone, may_send_on, next_of, freed, Entry, Listener, both, not_is, what_goes, found_same, has_opened, Hears, Takes, Says, Sends, Answered, OpensReceiver, OpensSender, Grants, AsksBack, Gives, Closes, ends_by, AreApart, is_among, numbers, find_passes, is_there, numbers_mapped, unlike, AreRefusing, clash, open_mine, open_parts, refusing_found}
+use Rattle.ncp_control.specs.Numbers.{is_connection_link}
 use Rattle.ncp_control.specs.declared.command.Command.TheVariants as command
-use Rattle.ncp_control.specs.declared.data_header.DataHeader.{DataHeader}
-use Rattle.host_pairs.specs.Allowed.{MayGo}
-use Rattle.host_pairs.specs.Asked.{receiver_requested, with_more_bits}
 use Rattle.host_pairs.specs.Commands as commands
-use Rattle.host_pairs.specs.Commands.{Found, Unconnected, Ending, Open, asked_on_link, asked_with_size, at_end, found_in, granted, given_back, interrupted, returned, ret_taken, desk_taken}
-use Rattle.host_pairs.specs.Data.{arrived_if, data_found, data_of, data_taken, is_acceptable, spent}
-use Rattle.host_pairs.specs.Desk.{DeskState, desk_of, listener_on}
-use Rattle.host_pairs.specs.Entries.{called_off, changed_at, changed_first, closed_by_partner, closed_when, entry_at, free_link, is_at, is_ending, is_mine_on, is_open, is_over, is_receiving, must_close, receives_on, receiving_end, refused_end, sending_end, sends_on}
-use Rattle.host_pairs.specs.Pair.{PairState}
-use Rattle.host_pairs.specs.Parcels.{Bytes, asked_at, bits_gone, cls_sent, command_gone, link_of, may_send_on, next_of}
-use Rattle.host_pairs.specs.Turn.{freed}
-use Rattle.host_pairs.specs.declared.entry.Entry.{Entry}
-use Rattle.host_pairs.specs.declared.listener.Listener.{Listener}
-use Rattle.host_pairs.proofs.lemmas.{both, not_is, what_goes}
+use Rattle.host_pairs.specs.Commands.{Found, granted, returned}
+use Rattle.host_pairs.specs.Entries.{is_over}
+use Rattle.host_pairs.specs.Parcels.{link_of}
 use Rattle.host_keeps_ranges.proofs.lemmas.{free_is_link}
-use Rattle.host_keeps_pairing.proofs.lemmas.{found_same}
-use Rattle.host_keeps_streams.specs.Ends.{has_opened}
-use Rattle.host_keeps_streams.specs.Histories.{Call, Hears, Takes, Says, Sends, Answered, OpensReceiver, OpensSender, Grants, AsksBack, Gives, Closes, ends_by}
-use Rattle.host_keeps_streams.specs.Names.{AreApart, is_among, named, numbers}
-use Rattle.host_keeps_streams.proofs.lemmas.{find_passes, is_there, numbers_changed, numbers_mapped, received_is, unlike}
+use Rattle.host_keeps_streams.specs.Histories.{Call}
+use Rattle.host_keeps_streams.specs.Names.{named}
+use Rattle.host_keeps_streams.proofs.lemmas.{numbers_changed, received_is}
 use Rattle.host_keeps_streams.proofs.lemmas.Senders as senders
-use Rattle.world_keeps_lives.specs.Lives.{AreRefusing}
-use Rattle.world_keeps_lives.proofs.lemmas.{IsLess, IsRefusing, called_less, clash, closed_less, found_changed, heard_less, none_changed, open_mine, open_parts, refusing_found, sent_less}
+use Rattle.world_keeps_lives.proofs.lemmas.{IsLess, IsRefusing, called_less, closed_less, found_changed, heard_less, none_changed, sent_less}
 use Rattle.world_keeps_streams.proofs.Deeds.Effects as deeds
 use Rattle.world_keeps_streams.proofs.Deeds.Effects.{Among, Becomes, Comes, Deed, From, HasLink, IsLinked, IsNew, OpensAs, Stays, among_filter, changed_comes, changed_stays, filtered_stays, found_among, joined_comes, mapped_stays, stays_comes, stays_same, stays_then}
 use Rattle.world_keeps_streams.proofs.Deeds.Kinds.{arrives, arrives_if, closings, deed_of, hears, matches, opens, opens_by, returns, says, sweeps}
@@ -267,9 +248,6 @@ module _ (name : ℕ → ℕ → ℕ) (p : Host) (q : PairState) (listening : Li
     by : (o : Option Listener) → Does deeds.Nothing q.entries (commands.str_heard x y size stamp o (desk_of q listening)).entries
     by None = join_refused x y stamp
     by (Some s) = str_linked_does x y size stamp (free_link q.entries) refl
-
-  named_same : (e new : Entry) → new.own ≡ e.own → new.foreign ≡ e.foreign → named name new ≡ named name e
-  named_same e new f g = ap (λ (n : ℕ). name n new.foreign) f ∙ ap (λ (n : ℕ). name e.own n) g
 
   cls_does : (own foreign : ℕ) (o : Option Entry) → Does (closings q.busy own foreign q.entries o) q.entries (commands.cls_taken_by p q.busy own foreign o (desk_of q listening)).entries
   cls_does own foreign None = does_nothing q.entries

@@ -1,25 +1,13 @@
 -- What a host's user is notified of by a call, as what the call does to the lives.
-use Rattle.std.proofs.Common.{◌≡◌, ℕ, ◌*◌, ◌&&◌, Bool, true, false, nat_le, if◌then◌else◌, List, [], ◌∷◌, ◌++◌, take, map, filter, find, Option, Some, None, is_some, refl, ap, sym, subst, ◌∙◌, append-nil}
-use Rattle.std.specs.List.{flat_map, list_any}
-use Rattle.interface.specs.Host.{Host}
-use Rattle.ncp_control.specs.DataHeader.{data_bits, header_of}
-use Rattle.ncp_control.specs.declared.command.Command.{Command}
+use Rattle.world_keeps_streams.proofs.Common.{◌≡◌, ℕ, ◌*◌, ◌&&◌, Bool, true, false, nat_le, if◌then◌else◌, List, [], ◌∷◌, ◌++◌, take, map, filter, find, Option, Some, None, is_some, refl, ap, sym, subst, ◌∙◌, flat_map, list_any, Host, data_bits, header_of, Command, DataHeader, Unconnected, Ending, Open, asked_on_link, asked_with_size, at_end, found_in, interrupted, ret_taken, rts_heard, rts_taken_by, str_heard, str_linked, str_taken_by, desk_taken, arrived_if, data_found, data_of, data_taken, is_acceptable, DeskState, desk_of, listener_on, changed_at, closed_by_partner, closed_when, ending, entry_at, free_link, is_ending, must_close, opening_notices, opening_by, receives_on, sends_on, PairState, Bytes, asked_at, cls_sent, command_gone, parcel_gone, Entry, Listener, Notice, Hears, Takes, Says, Sends, Grants, changed_when, life_ended, lives_between, lives_told}
+use Rattle.std.proofs.Common.{append-nil}
 use Rattle.ncp_control.specs.declared.command.Command.TheVariants as command
-use Rattle.ncp_control.specs.declared.data_header.DataHeader.{DataHeader}
 use Rattle.host_pairs.specs.Commands as commands
-use Rattle.host_pairs.specs.Commands.{Found, Unconnected, Ending, Open, asked_on_link, asked_with_size, at_end, found_in, interrupted, matched, ret_taken, rts_heard, rts_taken_by, str_heard, str_linked, str_taken_by, desk_taken}
-use Rattle.host_pairs.specs.Data.{arrived_if, data_found, data_of, data_taken, is_acceptable}
-use Rattle.host_pairs.specs.Desk.{DeskState, desk_of, listener_on}
-use Rattle.host_pairs.specs.Entries.{changed_at, closed_by_partner, closed_when, ending, entry_at, free_link, is_ending, is_over, must_close, opening_notices, opening_by, receives_on, sends_on}
-use Rattle.host_pairs.specs.Pair.{PairState}
-use Rattle.host_pairs.specs.Parcels.{Bytes, asked_at, cls_sent, command_gone, parcel_gone}
-use Rattle.host_pairs.specs.declared.entry.Entry.{Entry}
-use Rattle.host_pairs.specs.declared.listener.Listener.{Listener}
-use Rattle.host_pairs.specs.declared.notice.Notice.{Notice}
+use Rattle.host_pairs.specs.Commands.{Found, matched}
+use Rattle.host_pairs.specs.Entries.{is_over}
 use Rattle.host_pairs.specs.declared.notice.Notice.TheVariants as notice
-use Rattle.host_keeps_streams.specs.Histories.{Call, Hears, Takes, Says, Sends, Grants}
+use Rattle.host_keeps_streams.specs.Histories.{Call}
 use Rattle.promise.specs.declared.life.Life.{Life}
-use Rattle.net_sim.specs.Book.{changed_when, life_ended, lives_between, lives_told}
 use Rattle.world_keeps_streams.proofs.Deeds.Effects as deeds
 use Rattle.world_keeps_streams.proofs.Deeds.Effects.{Deed, all_lives, life_by, life_ends, new_by}
 use Rattle.world_keeps_streams.proofs.Deeds.Kinds.{arrives, arrives_if, closings, deed_of, hears, matches, opens, opens_by, returns, says, sweeps}
@@ -93,9 +81,6 @@ module _ (a p : Host) where
   tells_ends es ls = all_end es ls ∙ sym (append-nil (map (λ x. life_ends a p es x) ls))
 
   module _ (q : PairState) (listening : List Listener) where
-    abbrev D : DeskState
-    D = desk_of q listening
-
     matched_told : (own foreign : ℕ) (c : Command) (e : Entry) (change : Entry → Entry) → Tells (commands.matched_once p own foreign c e change (desk_of q listening)).notices (matches own foreign change q.entries (Some e))
     matched_told own foreign c e change =
         tells_if (is_some e.partner) _ _ deeds.Nothing (opens (entry_at own foreign (changed_at own foreign change q.entries))) none_told (tells_opens (entry_at own foreign (changed_at own foreign change q.entries)))

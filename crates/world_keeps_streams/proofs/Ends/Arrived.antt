@@ -1,48 +1,19 @@
 -- An open receiving life counts all that came in on its link. So data of which a host got RFNM are among its bits,
 -- where it matches the life that sent them.
-use Rattle.std.proofs.Common.{◌≡◌, ◌⊎◌, inl, inr, ℕ, suc, ◌+◌, ◌<◌, ◌≤◌, ◌==◌, Bool, true, false, if◌then◌else◌, List, [], ◌∷◌, ◌++◌, length, map, Option, Some, None, refl, ap, sym, subst, ◌∙◌, eq-eqb, arith}
-use Rattle.std.specs.List.{Contains}
-use Rattle.std.specs.Prelude.{option_map}
-use Rattle.std.proofs.lemmas.List.{append_assoc, length-append}
-use Rattle.interface.specs.Calls.{Seen}
-use Rattle.interface.specs.Host.{Host}
-use Rattle.interface.specs.Messages.{SinceLastOut, went_out}
-use Rattle.interface.specs.declared.address.Flow.{Flow}
+use Rattle.world_keeps_streams.proofs.Common.{◌≡◌, ◌⊎◌, inl, inr, ℕ, suc, ◌+◌, ◌<◌, ◌≤◌, ◌==◌, Bool, true, false, if◌then◌else◌, List, [], ◌∷◌, ◌++◌, length, map, Option, Some, None, refl, ap, sym, subst, ◌∙◌, eq-eqb, arith, Contains, option_map, append_assoc, length-append, Seen, Host, SinceLastOut, went_out, Flow, Crossing, HostMessage, is_send_socket, orders_of, Entry, End, Stream, waiting_in, Inv, came_inv, some_is, waiting_of, waits_of, HasClosed, name_now, numbered, receiver_now, closed_first, IsCounted, Course, Going, stage, IsBeside, CrossedAt, texts_for, texts_of, texts_on, Match, Name, control_flow, last_out, own_request, Called, Kept, IsLawful, Asked, Crossed, Moment, contacts_of, crossings_of, WorldState, kept_fated, Linked, LinkedBook, book_run, odd_send, send_odd, own_calls, IsClosedByPartner, WasClosedByPartner}
 use Rattle.interface.specs.declared.crossing.Answer.TheVariants as answer
-use Rattle.interface.specs.declared.crossing.Crossing.{Crossing}
 use Rattle.interface.specs.declared.crossing.Crossing.TheVariants as crossing
-use Rattle.interface.specs.declared.message.HostMessage.{HostMessage}
-use Rattle.ncp_control.specs.Numbers.{is_send_socket}
-use Rattle.host_pairs.specs.Control.{orders_of}
-use Rattle.host_pairs.specs.declared.entry.Entry.{Entry}
-use Rattle.pairing_law.specs.Ends.{End}
 use Rattle.stream_law.specs.Receivers.{Receiver}
-use Rattle.stream_law.specs.Streams.{Box, Empty, Stream, Taken, Waiting}
-use Rattle.stream_law.specs.Within.{waiting_in}
-use Rattle.stream_law.proofs.lemmas.{Inv, came_inv, some_is, waiting_of, waits_of}
-use Rattle.host_keeps_streams.specs.Histories.{HasClosed, name_now, numbered, receiver_now}
-use Rattle.host_keeps_streams.proofs.lemmas.{closed_first}
-use Rattle.promise.specs.Arrived.{ArrivedBook, HasArrived, IsCounted}
-use Rattle.promise.specs.Ends.{Course, Going, stage}
-use Rattle.promise.specs.Fates.{IsBeside}
-use Rattle.promise.specs.Formed.{CrossedAt, flow_of, link_of, named_in, own_named, partner_named, texts_for, texts_of, texts_on}
-use Rattle.promise.specs.Safe.{Match, Name, before, control_flow, last_out, named, own_request, receives, sends}
-use Rattle.promise.specs.declared.book.Called.{Called}
+use Rattle.stream_law.specs.Streams.{Box, Empty, Taken, Waiting}
+use Rattle.promise.specs.Arrived.{ArrivedBook, HasArrived}
+use Rattle.promise.specs.Formed.{flow_of, link_of, named_in, own_named, partner_named}
+use Rattle.promise.specs.Safe.{before, named, receives, sends}
 use Rattle.promise.specs.declared.life.Fate.TheVariants as fate
 use Rattle.promise.specs.declared.life.Life.{Life}
-use Rattle.net_sim.specs.Book.{Kept}
-use Rattle.net_sim.specs.Clean.{IsLawful}
-use Rattle.net_sim.specs.Story.{Asked, Crossed, Moment}
-use Rattle.net_sim.specs.Timeline.{contacts_of, crossings_of}
 use Rattle.net_sim.specs.Told.{kept_in}
-use Rattle.net_sim.specs.World.{WorldState}
-use Rattle.net_sim.proofs.lemmas.{kept_fated}
 use Rattle.world_keeps_lives.specs.Firsts.{IsSentIn}
-use Rattle.world_keeps_lives.proofs.lemmas.{end_link, Linked, LinkedBook, named_there}
-use Rattle.world_keeps_pairing.proofs.lemmas.{book_run, odd_send, send_odd}
+use Rattle.world_keeps_lives.proofs.lemmas.{end_link, named_there}
 use Rattle.world_keeps_streams.specs.Answered as moments
-use Rattle.world_keeps_streams.specs.Calls.{own_calls}
-use Rattle.world_keeps_streams.specs.Closes.{IsClosedByPartner, WasClosedByPartner}
 use Rattle.world_keeps_streams.proofs.Books.All.{all_given}
 use Rattle.world_keeps_streams.proofs.Books.Answered.{answered}
 use Rattle.world_keeps_streams.proofs.Books.Arrives.{rest_lawful, unlike}

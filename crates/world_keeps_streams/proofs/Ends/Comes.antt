@@ -1,39 +1,15 @@
 -- What a message that a host takes of its peer is for a life.
-use Rattle.std.proofs.Common.{◌≡◌, inl, inr, ℕ, ◌==◌, ◌&&◌, Bool, true, false, if◌then◌else◌, List, [], ◌∷◌, refl, ap, sym, subst, ◌∙◌}
-use Rattle.interface.specs.Host.{Host, same_host}
+use Rattle.world_keeps_streams.proofs.Common.{◌≡◌, inl, inr, ℕ, ◌==◌, ◌&&◌, Bool, true, false, if◌then◌else◌, List, [], ◌∷◌, refl, ap, sym, subst, ◌∙◌, Host, same_host, HostMessage, same_host-refl, Legal, Order, orders_of, data_taken, is_sent, if_ready, message_taken, orders_taken, reply_notices, Entry, Notice, is_ready, Phase, End, HasEnd, at, AreJoint, with_openings, AllFit, marks_in, eqb-sym, plain, Message, after_turn, turn_of, pair_with, AllPlain, IsApart, Crossed, Moment, places, program, crossings_of, new_life, notices_by, Coupled, program_own, Course, each, heard, TakesFreeAt, origin_in, AText, AllBare, AllTied, AnRrp, AnRst, AreOrigins, Sort, all_bare, all_tied, are_origins, plain_joint, programs_ranged, served_in, sort_of, takes}
 use Rattle.interface.specs.declared.crossing.Crossing.TheVariants as crossing
 use Rattle.interface.specs.declared.crossing.Inbound.TheVariants as inbound
-use Rattle.interface.specs.declared.message.HostMessage.{HostMessage}
-use Rattle.interface.proofs.lemmas.{same_host-refl}
-use Rattle.host_pairs.specs.Control.{Legal, Order, orders_of}
-use Rattle.host_pairs.specs.Data.{data_taken}
-use Rattle.host_pairs.specs.Entries.{is_over, is_sent}
-use Rattle.host_pairs.specs.Turn.{if_ready, message_taken, orders_taken, reply_notices}
-use Rattle.host_pairs.specs.declared.entry.Entry.{Entry}
-use Rattle.host_pairs.specs.declared.notice.Notice.{Notice}
-use Rattle.ncp_control.specs.Phases.{is_ready}
+use Rattle.host_pairs.specs.Entries.{is_over}
 use Rattle.ncp_control.specs.declared.command.Command.TheVariants as command
-use Rattle.ncp_control.specs.declared.phase.Phase.{Phase}
 use Rattle.ncp_control.specs.declared.phase.Phase.TheVariants as phase
-use Rattle.pairing_law.specs.Ends.{End, nothing}
-use Rattle.host_keeps_pairing.specs.Ends.{HasEnd, at}
-use Rattle.host_keeps_pairing.specs.Hearing.{AreJoint}
-use Rattle.host_keeps_pairing.specs.Openings.{with_openings}
-use Rattle.host_keeps_pairing.specs.Words.{AllFit, all_taken, marks_in}
-use Rattle.host_keeps_pairing.proofs.lemmas.{data_told, eqb-sym, idle_other, rst_other, message_data, message_hears, message_idle, message_replies, message_resets, message_tells, plain}
-use Rattle.reset_law.specs.Events.{Message}
-use Rattle.sockets.specs.Accepting.{accepted, after_turn, turn_of}
-use Rattle.sockets.specs.Pairs.{pair_with}
-use Rattle.net_sim.specs.Projection.{AllPlain, IsApart}
-use Rattle.net_sim.specs.Story.{Crossed, Moment, places, program}
-use Rattle.net_sim.specs.Timeline.{crossings_of}
-use Rattle.net_sim.specs.Book.{new_life}
-use Rattle.net_sim.specs.Told.{notices_by}
-use Rattle.net_sim.proofs.lemmas.{Coupled, program_own}
-use Rattle.promise.specs.Ends.{Course, each, heard}
+use Rattle.pairing_law.specs.Ends.{nothing}
+use Rattle.host_keeps_pairing.specs.Words.{all_taken}
+use Rattle.host_keeps_pairing.proofs.lemmas.{data_told, idle_other, rst_other, message_data, message_hears, message_idle, message_replies, message_resets, message_tells}
+use Rattle.sockets.specs.Accepting.{accepted}
 use Rattle.promise.specs.declared.life.Life.{Life}
-use Rattle.world_keeps_pairing.specs.Free.{TakesFreeAt, origin_in}
-use Rattle.world_keeps_pairing.proofs.lemmas.{AText, AllBare, AllTied, AnRrp, AnRst, AreOrigins, Sort, all_bare, all_tied, are_origins, plain_joint, programs_ranged, served_in, sort_of, takes}
 use Rattle.world_keeps_streams.proofs.Books.Run.{below}
 use Rattle.world_keeps_streams.proofs.Calls.MayHear.{fits_all}
 use Rattle.world_keeps_streams.proofs.Calls.MayTurns.{Fits}
@@ -100,10 +76,6 @@ module _ (hosts : List Host) (m : HostMessage) (ms : List Moment) (l : Lawful ho
   kept_data away_from =
       subst (λ (ns : List Notice). AllKept ⊥ socket foreign ns) (sym (notes_by false away_from))
       (turn_data ⊥ m.flow.source socket foreign (places ms) is_over test_over m.flow.link.0 m.text (turn_of (program m.flow.destination ms) m.flow.source) (record { ends = off_over it hosts ms lower_in; told = tt })).told
-
-  -- a text in order
-  origin : Host → Host → ℕ → ℕ
-  origin = origin_in (crossings_of (Crossed (crossing.In m) ∷ ms))
 
   sources : AreOrigins (origin_in (crossings_of (Crossed (crossing.In m) ∷ ms))) (Crossed (crossing.In m) ∷ ms)
   sources = are_origins 0 (crossings_of (Crossed (crossing.In m) ∷ ms)) [] (Crossed (crossing.In m) ∷ ms) refl

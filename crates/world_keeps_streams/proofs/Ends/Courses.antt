@@ -1,23 +1,13 @@
 -- The course of a life, moment by moment: each crossing and each contact of its host changes it once.
-use Rattle.std.proofs.Common.{◌≡◌, ℕ, suc, ◌+◌, ◌<◌, ◌≤◌, ◌==◌, ◌&&◌, ◌||◌, Bool, true, false, if◌then◌else◌, List, [], ◌∷◌, ◌++◌, length, refl, ap, sym, ◌∙◌, eq-eqb, arith}
-use Rattle.std.proofs.lemmas.Bool.{eqb-true}
+use Rattle.world_keeps_streams.proofs.Common.{◌≡◌, ℕ, suc, ◌+◌, ◌<◌, ◌≤◌, ◌==◌, ◌&&◌, ◌||◌, Bool, true, false, if◌then◌else◌, List, [], ◌∷◌, ◌++◌, length, refl, ap, sym, ◌∙◌, eq-eqb, arith, eqb-true, list_any, Host, same_host, Crossing, Legal, Order, Wrong, orders_of, Command, Request, Asking, Course, Dropped, Going, Over, Stage, crosses, cut, each, ended_by, heard, is_contact, said, Called, new_life, Asked, Crossed, Moment, places, contacts_of, crossings_of}
 use Rattle.std.proofs.lemmas.List.{append-nil}
 use Rattle.std.proofs.lemmas.List.Folds.{list_any-append}
-use Rattle.std.specs.List.{list_any}
-use Rattle.interface.specs.Host.{Host, same_host}
-use Rattle.interface.specs.declared.crossing.Crossing.{Crossing}
 use Rattle.interface.specs.declared.crossing.Crossing.TheVariants as crossing
-use Rattle.host_pairs.specs.Control.{Legal, Order, Wrong, orders_of}
-use Rattle.ncp_control.specs.declared.command.Command.{Command}
 use Rattle.ncp_control.specs.declared.command.Command.TheVariants as command
-use Rattle.sockets.specs.declared.request.Request.{Request}
 use Rattle.sockets.specs.declared.request.Request.TheVariants as request
-use Rattle.promise.specs.Ends.{Asking, Course, Dropped, Going, Over, Stage, called, course, crosses, cut, each, ended_by, heard, is_contact, is_half, said}
-use Rattle.promise.specs.declared.book.Called.{Called}
+use Rattle.promise.specs.Ends.{called, course, is_half}
 use Rattle.promise.specs.declared.life.Life.{Life}
-use Rattle.net_sim.specs.Book.{contacts_asked, new_life}
-use Rattle.net_sim.specs.Story.{Asked, Crossed, Moment, places}
-use Rattle.net_sim.specs.Timeline.{contacts_of, crossings_of}
+use Rattle.net_sim.specs.Book.{contacts_asked}
 use Rattle.net_sim.proofs.lemmas.{places_same}
 use Rattle.world_keeps_streams.proofs.Lives.Lists.{Named}
 

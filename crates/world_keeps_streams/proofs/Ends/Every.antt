@@ -1,22 +1,8 @@
 -- What each moment is for a life.
-use Rattle.std.proofs.Common.{◌≡◌, ◌==◌, ◌&&◌, Bool, true, false, if◌then◌else◌, List, ◌∷◌, refl, ap, sym, subst, ◌∙◌}
-use Rattle.interface.specs.Host.{Host, same_host}
-use Rattle.interface.specs.declared.address.Flow.{Flow}
-use Rattle.interface.specs.declared.crossing.Answer.{Answer}
+use Rattle.world_keeps_streams.proofs.Common.{◌≡◌, ◌==◌, ◌&&◌, Bool, true, false, if◌then◌else◌, List, ◌∷◌, refl, ap, sym, subst, ◌∙◌, Host, same_host, Flow, Answer, HostMessage, same_host-true, orders_of, PairState, at, accepted, pair_with, offered, answer_leaves, message_about, message_leaves, offer_about, offer_leaves, new_life, Asked, Crossed, IsNext, Moment, places, program, Dropped, cut, each, ended_by, fails, heard, said}
 use Rattle.interface.specs.declared.crossing.Crossing.TheVariants as crossing
 use Rattle.interface.specs.declared.crossing.Inbound.TheVariants as inbound
-use Rattle.interface.specs.declared.message.HostMessage.{HostMessage}
-use Rattle.interface.proofs.lemmas.{same_host-true}
-use Rattle.host_pairs.specs.Control.{orders_of}
-use Rattle.host_pairs.specs.Pair.{PairState}
-use Rattle.host_keeps_pairing.specs.Ends.{at}
-use Rattle.sockets.specs.Accepting.{accepted}
-use Rattle.sockets.specs.Pairs.{pair_with}
-use Rattle.sockets.specs.Sending.{offered}
-use Rattle.sockets.proofs.lemmas.{answer_about, answer_leaves, message_about, message_leaves, offer_about, offer_leaves}
-use Rattle.net_sim.specs.Book.{new_life}
-use Rattle.net_sim.specs.Story.{Asked, Crossed, IsNext, Moment, places, program}
-use Rattle.promise.specs.Ends.{Dropped, cut, each, ended_by, fails, heard, said}
+use Rattle.sockets.proofs.lemmas.{answer_about}
 use Rattle.promise.specs.declared.life.Life.{Life}
 use Rattle.world_keeps_streams.proofs.Ends.Comes.{in_here}
 use Rattle.world_keeps_streams.proofs.Ends.Courses.{course_in, key_of}
@@ -33,9 +19,6 @@ first_off : (a b c : Bool) → a ≡ false → (a && b && c) ≡ false
 first_off a b c e = ap (λ (v : Bool). v && b && c) e
 
 module _ (hosts : List Host) (x : Life) where
-  abbrev k : Life
-  k = key_of x
-
   out_every : (m : HostMessage) (ms : List Moment) → Lawful hosts (Crossed (crossing.Out m) ∷ ms) → Kind (key_of x) (Crossed (crossing.Out m)) ms
   out_every m ms l = by (same_host x.host m.flow.source) (same_host x.peer m.flow.destination) refl refl where
     same_stage : (v : Bool) → (same_host x.host m.flow.source && same_host x.peer m.flow.destination && 0 == m.flow.link.0) ≡ false → stage_of (key_of x) (Crossed (crossing.Out m) ∷ ms) ≡ stage_of (key_of x) ms

@@ -1,36 +1,18 @@
 -- What an answer, a stop, a start or a request of its user is for a life.
-use Rattle.std.proofs.Common.{◌≡◌, inl, inr, ℕ, ◌==◌, ◌&&◌, ◌||◌, not, Bool, true, false, if◌then◌else◌, List, [], ◌∷◌, ◌++◌, Some, None, refl, ap, sym, subst, ◌∙◌}
-use Rattle.interface.specs.Host.{Host, same_host}
-use Rattle.interface.specs.declared.address.Flow.{Flow}
-use Rattle.interface.specs.declared.crossing.Answer.{Answer}
+use Rattle.world_keeps_streams.proofs.Common.{◌≡◌, inl, inr, ℕ, ◌==◌, ◌&&◌, ◌||◌, not, Bool, true, false, if◌then◌else◌, List, [], ◌∷◌, ◌++◌, Some, None, refl, ap, sym, subst, ◌∙◌, Host, same_host, Flow, Answer, same_host-refl, same_host-true, is_busy, TurnState, answered_turn, failed_by, freed, is_gone, settled_turn, Notice, failed_phase, is_ready, rfnm_phase, Phase, End, HasEnd, at, Hear, when, pair, pair_moved, after_turn, turn_of, NcpState, opening_state, pair_with, refusal, served, Request, Agrees, Asked, Crossed, Moment, events_of, places, program, new_life, notices_by, story_agrees, Dropped, Stopped, cut, ended_by, fails}
 use Rattle.interface.specs.declared.crossing.Answer.TheVariants as answer
 use Rattle.interface.specs.declared.crossing.Crossing.TheVariants as crossing
 use Rattle.interface.specs.declared.crossing.Inbound.TheVariants as inbound
-use Rattle.interface.proofs.lemmas.{same_host-refl, same_host-true}
-use Rattle.host_pairs.specs.Entries.{is_busy}
-use Rattle.host_pairs.specs.Turn.{TurnState, answered_turn, failed_by, freed, is_gone, settled_turn}
-use Rattle.host_pairs.specs.declared.notice.Notice.{Notice}
 use Rattle.host_pairs.specs.declared.notice.Notice.TheVariants as notice
-use Rattle.ncp_control.specs.Phases.{failed_phase, is_ready, rfnm_phase, taken_phase}
-use Rattle.ncp_control.specs.declared.phase.Phase.{Phase}
+use Rattle.ncp_control.specs.Phases.{taken_phase}
 use Rattle.ncp_control.specs.declared.phase.Phase.TheVariants as phase
-use Rattle.pairing_law.specs.Ends.{End, nothing}
-use Rattle.host_keeps_pairing.specs.Ends.{HasEnd, at, kept_in}
+use Rattle.pairing_law.specs.Ends.{nothing}
+use Rattle.host_keeps_pairing.specs.Ends.{kept_in}
 use Rattle.host_keeps_pairing.specs.Hearing.{after_request}
 use Rattle.host_keeps_pairing.proofs.lemmas.{answer_keeps, answer_other, request_keeps}
-use Rattle.reset_law.specs.Events.{Hear, when}
-use Rattle.reset_law.specs.Pairs.{pair, pair_moved}
-use Rattle.sockets.specs.Accepting.{accepted, after_turn, turn_of}
-use Rattle.sockets.specs.Pairs.{NcpState, opening_state, pair_with}
-use Rattle.sockets.specs.Requests.{refusal, served, served_notices}
-use Rattle.sockets.specs.declared.request.Request.{Request}
+use Rattle.sockets.specs.Accepting.{accepted}
+use Rattle.sockets.specs.Requests.{served_notices}
 use Rattle.sockets.specs.declared.request.Request.TheVariants as request
-use Rattle.net_sim.specs.Projection.{Agrees}
-use Rattle.net_sim.specs.Story.{Asked, Crossed, Moment, events_of, places, program}
-use Rattle.net_sim.specs.Book.{new_life}
-use Rattle.net_sim.specs.Told.{notices_by}
-use Rattle.net_sim.proofs.lemmas.{story_agrees}
-use Rattle.promise.specs.Ends.{Dropped, Stopped, cut, ended_by, fails}
 use Rattle.promise.specs.declared.life.Life.{Life}
 use Rattle.world_keeps_streams.proofs.Books.Run.{below}
 use Rattle.world_keeps_streams.proofs.Ends.Courses.{contacted_if, course_in}
@@ -58,9 +40,6 @@ if_nothing true = refl
 if_nothing false = refl
 
 module _ (hosts : List Host) (kind : Answer) (f : Flow) (ms : List Moment) (l : Lawful hosts (Crossed (crossing.Answer kind f) ∷ ms)) (socket foreign own partner : ℕ) where
-  abbrev one : Life
-  one = new_life f.source socket f.destination foreign own partner
-
   lower_told : Lawful hosts ms
   lower_told = below hosts (Crossed (crossing.Answer kind f)) ms l
 

@@ -1,37 +1,14 @@
 -- At all moments each life of the book has a fate that its stage leaves. One that continues is as far as its end is by the law of pairing.
-use Rattle.std.proofs.Common.{◌≡◌, ◌⊎◌, inl, inr, ℕ, ◌&&◌, ◌||◌, Bool, true, false, List, [], ◌∷◌, Option, Some, None, is_some, refl, ap, sym, subst, ◌∙◌, arith}
-use Rattle.std.specs.List.{Contains}
-use Rattle.interface.specs.Calls.{Seen}
-use Rattle.interface.specs.Host.{Host}
-use Rattle.interface.specs.declared.crossing.Crossing.{Crossing}
+use Rattle.world_keeps_streams.proofs.Common.{◌≡◌, ◌⊎◌, inl, inr, ℕ, ◌&&◌, ◌||◌, Bool, true, false, List, [], ◌∷◌, Option, Some, None, is_some, refl, ap, sym, subst, ◌∙◌, arith, Contains, Seen, Host, Crossing, has_cls, is_ending, is_sent, Closing, Entry, Notice, End, standing, all_lives_gone, all_lives_taken, with_openings, all_gone, plain, pair_with, Asking, Cause, Course, Dropped, Going, Leaves, Over, Stage, Stopped, cut, stage, IsBeside, Called, Fate, Kept, IsLawful, Crossed, Moment, places, program, contacts_of, crossings_of, WorldState, host_in, notices_by, kept_fated, HasOpenEnd, live, unopened, book_run}
 use Rattle.interface.specs.declared.crossing.Crossing.TheVariants as crossing
-use Rattle.host_pairs.specs.Entries.{has_cls, is_ending, is_sent}
-use Rattle.host_pairs.specs.declared.entry.Closing.{Closing}
 use Rattle.host_pairs.specs.declared.entry.Closing.TheVariants as closing
-use Rattle.host_pairs.specs.declared.entry.Entry.{Entry}
-use Rattle.host_pairs.specs.declared.notice.Notice.{Notice}
-use Rattle.pairing_law.specs.Ends.{End, nothing}
-use Rattle.host_keeps_pairing.specs.Ends.{standing}
-use Rattle.host_keeps_pairing.specs.Openings.{all_lives_gone, all_lives_taken, with_openings}
-use Rattle.host_keeps_pairing.specs.Words.{all_gone, all_taken}
-use Rattle.host_keeps_pairing.proofs.lemmas.{plain}
-use Rattle.sockets.specs.Pairs.{pair_with}
-use Rattle.promise.specs.Ends.{Asking, Cause, Closed, Course, Dropped, Going, Leaves, Over, Stage, Stopped, cut, stage}
-use Rattle.promise.specs.Fates.{IsBeside, is_over}
-use Rattle.promise.specs.declared.book.Called.{Called}
-use Rattle.promise.specs.declared.life.Fate.{Fate}
+use Rattle.pairing_law.specs.Ends.{nothing}
+use Rattle.host_keeps_pairing.specs.Words.{all_taken}
+use Rattle.promise.specs.Ends.{Closed}
+use Rattle.promise.specs.Fates.{is_over}
 use Rattle.promise.specs.declared.life.Fate.TheVariants as fate
 use Rattle.promise.specs.declared.life.Life.{Life}
-use Rattle.net_sim.specs.Book.{Kept}
-use Rattle.net_sim.specs.Clean.{IsLawful}
-use Rattle.net_sim.specs.Story.{Crossed, Moment, places, program}
-use Rattle.net_sim.specs.Timeline.{contacts_of, crossings_of}
-use Rattle.net_sim.specs.World.{WorldState}
-use Rattle.net_sim.specs.Told.{host_in, kept_in, notices_by}
-use Rattle.net_sim.proofs.lemmas.{kept_fated}
-use Rattle.world_keeps_lives.specs.Lives.{HasOpenEnd}
-use Rattle.world_keeps_lives.proofs.lemmas.{live, unopened}
-use Rattle.world_keeps_pairing.proofs.lemmas.{book_run}
+use Rattle.net_sim.specs.Told.{kept_in}
 use Rattle.promise.specs.Over.{AreOver, IsOverBy}
 use Rattle.world_keeps_streams.proofs.Books.Run.{below}
 use Rattle.world_keeps_streams.proofs.Deeds.Effects.{Among}

@@ -1,19 +1,11 @@
 -- Before a life begins: while only one of its requests is there, its stage is that of this one. And one that is over stays so.
-use Rattle.std.proofs.Common.{◌≡◌, inl, inr, ℕ, ◌+◌, ◌<◌, ◌≤◌, ◌==◌, ◌&&◌, not, Bool, true, false, if◌then◌else◌, List, [], ◌∷◌, Some, refl, ap, sym, ◌∙◌, arith}
-use Rattle.std.proofs.lemmas.Bool.{eqb-true}
-use Rattle.interface.specs.Host.{Host, same_host}
+use Rattle.world_keeps_streams.proofs.Common.{◌≡◌, inl, inr, ℕ, ◌+◌, ◌<◌, ◌≤◌, ◌==◌, ◌&&◌, not, Bool, true, false, if◌then◌else◌, List, [], ◌∷◌, Some, refl, ap, sym, ◌∙◌, arith, eqb-true, Host, same_host, Legal, Order, Wrong, orders_of, Command, both, End, Asked, Crossed, Moment, places, Asking, Cause, Course, Dropped, Over, Stage, Stopped, cut, each, ended_by, fails, heard, own_asked, own_closed, own_step, partner_asked, partner_closed, partner_step, said, control_flow}
 use Rattle.interface.specs.Mailboxes.{same_flow}
 use Rattle.interface.specs.declared.crossing.Crossing.TheVariants as crossing
-use Rattle.host_pairs.specs.Control.{Legal, Order, Wrong, orders_of}
-use Rattle.ncp_control.specs.declared.command.Command.{Command}
 use Rattle.ncp_control.specs.declared.command.Command.TheVariants as command
-use Rattle.host_pairs.proofs.lemmas.{both}
 use Rattle.sockets.specs.declared.request.Request.TheVariants as request
-use Rattle.pairing_law.specs.Ends.{End, nothing}
-use Rattle.net_sim.specs.Story.{Asked, Crossed, Moment, places}
-use Rattle.interface.specs.Host.{Host}
-use Rattle.promise.specs.Ends.{Asking, Cause, Course, Dropped, Over, Stage, Stopped, asks_for, closes, cut, each, ended_by, fails, heard, own_asked, own_closed, own_step, partner_asked, partner_closed, partner_step, said}
-use Rattle.promise.specs.Safe.{control_flow}
+use Rattle.pairing_law.specs.Ends.{nothing}
+use Rattle.promise.specs.Ends.{asks_for, closes}
 use Rattle.promise.specs.declared.life.Life.{Life}
 use Rattle.world_keeps_streams.proofs.Books.Run.{below}
 use Rattle.world_keeps_streams.proofs.Ends.Courses.{contacted_if, course_in, moved}

@@ -1,42 +1,19 @@
 -- What a moment is for a life: what is said or heard of its sockets, or its connections are dropped, or its host stops, or nothing of it changes.
-use Rattle.std.proofs.Common.{◌≡◌, ◌⊎◌, inl, inr, ℕ, ◌+◌, ◌≤◌, ◌==◌, ◌&&◌, Bool, true, false, if◌then◌else◌, List, [], ◌∷◌, ◌++◌, map, take, Option, refl, ap, sym, subst, ◌∙◌, eq-eqb}
-use Rattle.std.proofs.lemmas.Bool.{eqb-true}
-use Rattle.interface.specs.Host.{Host, same_host}
+use Rattle.world_keeps_streams.proofs.Common.{◌≡◌, ◌⊎◌, inl, inr, ℕ, ◌+◌, ◌≤◌, ◌==◌, ◌&&◌, Bool, true, false, if◌then◌else◌, List, [], ◌∷◌, ◌++◌, map, take, Option, refl, ap, sym, subst, ◌∙◌, eq-eqb, eqb-true, Host, same_host, HostMessage, same_host-true, AreAbout, IsAbout, Legal, Order, orders_of, desk_of, close_due, is_at, is_sent, PairState, Parcel, cls_sent, parcel_gone, Closing, Entry, Notice, both, is_ready, Command, End, Close, Mark, HasEnd, at, all_lives_gone, all_lives_taken, with_openings, AllFit, MayAllGo, all_gone, mark_in, mark_of, marks_in, eqb-sym, pair_with, offered_by, Peer, Crossed, IsNext, Moment, places, program, host_in, notices_by, plain_take, Course, Dropped, Stage, Stopped, cut, each, ended_by, said}
 use Rattle.interface.specs.declared.crossing.Crossing.TheVariants as crossing
-use Rattle.interface.specs.declared.message.HostMessage.{HostMessage}
-use Rattle.interface.proofs.lemmas.{same_host-true}
-use Rattle.host_pairs.specs.About.{AreAbout, IsAbout}
 use Rattle.host_pairs.specs.Allowed.{commands_of}
-use Rattle.host_pairs.specs.Control.{Legal, Order, orders_of}
-use Rattle.host_pairs.specs.Desk.{desk_of}
-use Rattle.host_pairs.specs.Entries.{close_due, is_at, is_over, is_sent}
-use Rattle.host_pairs.specs.Pair.{PairState}
+use Rattle.host_pairs.specs.Entries.{is_over}
 use Rattle.host_pairs.specs.Parcels as parcel
-use Rattle.host_pairs.specs.Parcels.{Parcel, cls_sent, parcel_gone}
-use Rattle.host_pairs.specs.declared.entry.Closing.{Closing}
 use Rattle.host_pairs.specs.declared.entry.Closing.TheVariants as closing
-use Rattle.host_pairs.specs.declared.entry.Entry.{Entry}
-use Rattle.host_pairs.specs.declared.notice.Notice.{Notice}
 use Rattle.host_pairs.specs.declared.notice.Notice.TheVariants as notice
-use Rattle.host_pairs.proofs.lemmas.{both}
-use Rattle.ncp_control.specs.Phases.{is_ready}
-use Rattle.ncp_control.specs.declared.command.Command.{Command}
 use Rattle.ncp_control.specs.declared.command.Command.TheVariants as command
-use Rattle.pairing_law.specs.Ends.{End, nothing}
-use Rattle.pairing_law.specs.Marks.{Close, Mark}
+use Rattle.pairing_law.specs.Ends.{nothing}
 use Rattle.pairing_law.specs.Sides as law
-use Rattle.host_keeps_pairing.specs.Ends.{HasEnd, at}
-use Rattle.host_keeps_pairing.specs.Openings.{AreAmong, all_lives_gone, all_lives_taken, with_openings}
+use Rattle.host_keeps_pairing.specs.Openings.{AreAmong}
 use Rattle.host_keeps_pairing.specs.Words as words
-use Rattle.host_keeps_pairing.specs.Words.{AllFit, MayAllGo, all_gone, all_taken, mark_in, mark_of, marks, marks_in}
-use Rattle.host_keeps_pairing.proofs.lemmas.{eqb-sym, offer_may, offer_says, offer_tells}
-use Rattle.sockets.specs.Pairs.{pair_with}
-use Rattle.sockets.specs.Sending.{offered, offered_by}
-use Rattle.sockets.specs.declared.peer.Peer.{Peer}
-use Rattle.net_sim.specs.Story.{Crossed, IsNext, Moment, places, program}
-use Rattle.net_sim.specs.Told.{host_in, notices_by}
-use Rattle.net_sim.proofs.lemmas.{plain_take}
-use Rattle.promise.specs.Ends.{Course, Dropped, Stage, Stopped, cut, each, ended_by, said}
+use Rattle.host_keeps_pairing.specs.Words.{all_taken, marks}
+use Rattle.host_keeps_pairing.proofs.lemmas.{offer_may, offer_says, offer_tells}
+use Rattle.sockets.specs.Sending.{offered}
 use Rattle.promise.specs.declared.life.Life.{Life}
 use Rattle.world_keeps_streams.proofs.Books.Run.{below}
 use Rattle.world_keeps_streams.proofs.Deeds.Effects.{Among}

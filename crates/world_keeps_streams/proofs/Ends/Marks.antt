@@ -1,18 +1,11 @@
 -- A life's stage by what is said and heard of its two sockets, beside the end that the law of pairing has there.
-use Rattle.std.proofs.Common.{◌≡◌, ◌⊎◌, inl, inr, ℕ, ◌+◌, ◌<◌, ◌≤◌, ◌==◌, ◌&&◌, not, Bool, true, false, if◌then◌else◌, List, [], ◌∷◌, ◌++◌, map, Option, Some, None, is_some, refl, ap, sym, subst, ◌∙◌, eq-eqb, arith}
-use Rattle.std.proofs.lemmas.Bool.{eqb-true}
-use Rattle.host_pairs.specs.Control.{Legal, Order, Wrong}
-use Rattle.host_pairs.proofs.lemmas.{both, not_is}
-use Rattle.ncp_control.specs.declared.command.Command.{Command}
+use Rattle.world_keeps_streams.proofs.Common.{◌≡◌, ◌⊎◌, inl, inr, ℕ, ◌+◌, ◌<◌, ◌≤◌, ◌==◌, ◌&&◌, not, Bool, true, false, if◌then◌else◌, List, [], ◌∷◌, ◌++◌, map, Option, Some, None, is_some, refl, ap, sym, subst, ◌∙◌, eq-eqb, arith, eqb-true, Legal, Order, Wrong, both, not_is, Command, End, fits, is_begun, mark_taken, Ask, Close, Mark, all_lives_gone, all_lives_taken, AllFit, MayAllGo, all_gone, mark_in, mark_of, marks, marks_in, AllPlain, ArePlain, is_rrp, is_rst, Asking, Course, Going, Over, Stage, each, ended_by, heard, own_asked, own_closed, own_step, partner_asked, partner_closed, partner_step, said}
 use Rattle.ncp_control.specs.declared.command.Command.TheVariants as command
-use Rattle.pairing_law.specs.Ends.{End, fits, gone, is_begun, mark_taken, nothing}
-use Rattle.pairing_law.specs.Marks.{Ask, Close, Mark}
+use Rattle.pairing_law.specs.Ends.{gone, nothing}
 use Rattle.pairing_law.specs.Sides as law
 use Rattle.pairing_law.specs.Sides.{IsLater, above, lives_gone, lives_opened, lives_taken}
-use Rattle.host_keeps_pairing.specs.Openings.{all_lives_gone, all_lives_taken}
-use Rattle.host_keeps_pairing.specs.Words.{AllFit, MayAllGo, all_gone, all_taken, mark_in, mark_of, marks, marks_in}
-use Rattle.net_sim.specs.Projection.{AllPlain, ArePlain, is_rrp, is_rst}
-use Rattle.promise.specs.Ends.{Asking, Closed, Course, Going, Over, Stage, each, ended_by, heard, own_asked, own_closed, own_step, partner_asked, partner_closed, partner_step, said}
+use Rattle.host_keeps_pairing.specs.Words.{all_taken}
+use Rattle.promise.specs.Ends.{Closed}
 use Rattle.promise.specs.declared.life.Life.{Life}
 
 pub never : {A : Type 0} → true ≡ false → A

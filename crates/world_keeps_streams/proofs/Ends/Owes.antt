@@ -1,35 +1,16 @@
 -- Whether a life's host owes its peer an RRP, by what crosses and by its program.
-use Rattle.std.proofs.Common.{◌≡◌, ℕ, ◌==◌, ◌&&◌, not, Bool, true, false, if◌then◌else◌, List, [], ◌∷◌, map, take, Some, refl, ap, sym, subst, ◌∙◌, eq-eqb}
-use Rattle.interface.specs.Host.{Host, same_host}
-use Rattle.interface.specs.declared.crossing.Answer.{Answer}
+use Rattle.world_keeps_streams.proofs.Common.{◌≡◌, ℕ, ◌==◌, ◌&&◌, not, Bool, true, false, if◌then◌else◌, List, [], ◌∷◌, map, take, Some, refl, ap, sym, subst, ◌∙◌, eq-eqb, Host, same_host, Answer, HostMessage, same_host-true, MayGo, Legal, Order, Wrong, orders_of, PairState, Parcel, link_for, next_of, text_for, Entry, IsReadBack, what_goes, Command, offer_read, eqb-sym, Begin, Hear, Message, Other, Send, Take, are, when, Pair, pair, pair_moved, pair_with, next_is, next_pair, Agrees, AllPlain, ArePlain, IsApart, control_message, is_rrp, is_rst, message_on, Asked, Crossed, IsNext, Moment, events_of, places, program, data_away, plain_take, story_agrees, Course, Dropped, Stopped, cut, each, ended_by, fails, heard, own_asked, own_closed, partner_asked, partner_closed, said, AText, AnRrp, AnRst, Sort, programs_ranged, served_in, sort_of}
 use Rattle.interface.specs.declared.crossing.Answer.TheVariants as answer
 use Rattle.interface.specs.declared.crossing.Crossing.TheVariants as crossing
-use Rattle.interface.specs.declared.message.HostMessage.{HostMessage}
-use Rattle.interface.proofs.lemmas.{same_host-true}
-use Rattle.host_pairs.specs.Allowed.{MayGo}
-use Rattle.host_pairs.specs.Control.{Legal, Order, Wrong, orders_of}
-use Rattle.host_pairs.specs.Pair.{PairState}
 use Rattle.host_pairs.specs.Parcels as parcel
-use Rattle.host_pairs.specs.Parcels.{Parcel, link_for, next_of, text_for}
-use Rattle.host_pairs.specs.declared.entry.Entry.{Entry}
 use Rattle.ncp_control.specs.declared.phase.Phase.TheVariants as phase
-use Rattle.host_keeps_ranges.specs.Ranges.{IsReadBack}
-use Rattle.host_pairs.proofs.lemmas.{what_goes}
-use Rattle.ncp_control.specs.declared.command.Command.{Command}
 use Rattle.ncp_control.specs.declared.command.Command.TheVariants as command
-use Rattle.host_keeps_ranges.proofs.lemmas.{offer_read}
-use Rattle.host_keeps_pairing.proofs.lemmas.{eqb-sym}
-use Rattle.reset_law.specs.Events.{Begin, Call, Hear, Message, Other, Reply, Reset, Send, Take, are, when}
-use Rattle.reset_law.specs.Pairs.{Pair, pair, pair_moved, pair_sent, took}
-use Rattle.sockets.specs.Pairs.{pair_with}
+use Rattle.reset_law.specs.Events.{Call, Reply, Reset}
+use Rattle.reset_law.specs.Pairs.{pair_sent, took}
 use Rattle.sockets.specs.declared.request.Request.TheVariants as request
-use Rattle.sockets.proofs.lemmas.{next_is, next_pair}
-use Rattle.net_sim.specs.Projection.{Agrees, AllPlain, ArePlain, IsApart, control_message, has_control, is_alone, is_rrp, is_rst, message_on}
-use Rattle.net_sim.specs.Story.{Asked, Crossed, IsNext, Moment, events_of, places, program}
-use Rattle.net_sim.proofs.lemmas.{data_away, plain_take, story_agrees}
-use Rattle.promise.specs.Ends.{Course, Dropped, Stopped, asks_for, closes, cut, each, ended_by, fails, heard, own_asked, own_closed, partner_asked, partner_closed, said}
+use Rattle.net_sim.specs.Projection.{has_control, is_alone}
+use Rattle.promise.specs.Ends.{asks_for, closes}
 use Rattle.promise.specs.declared.life.Life.{Life}
-use Rattle.world_keeps_pairing.proofs.lemmas.{AText, AnRrp, AnRst, Sort, programs_ranged, served_in, sort_of}
 use Rattle.world_keeps_streams.proofs.Books.Run.{below}
 use Rattle.world_keeps_streams.proofs.Ends.Courses.{course_in}
 use Rattle.world_keeps_streams.proofs.Ends.Marks.{heard_plain, said_plain}
@@ -130,9 +111,6 @@ when_on f z orders os k e g = ap (λ (v : Bool). if v then each f orders k else 
 -- ---- all moments
 
 module _ (hosts : List Host) (x : Life) where
-  abbrev law : List Moment → Pair
-  law ms = pair x.host x.peer (events_of ms)
-
   abbrev IsOwed : List Moment → Type 0
   IsOwed ms = (course_in x ms).owes ≡ (pair x.host x.peer (events_of ms)).owed
 

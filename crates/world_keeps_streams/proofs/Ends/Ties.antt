@@ -1,27 +1,8 @@
 -- The end of two sockets in a host's program as the law of pairing has it, where a partner's request is named by the place at which it was taken.
-use Rattle.std.proofs.Common.{◌≡◌, ℕ, ◌==◌, Bool, true, false, not, ◌&&◌, ◌||◌, if◌then◌else◌, List, [], ◌∷◌, ◌++◌, filter, Option, Some, None, is_some, refl, ap, sym, subst, ◌∙◌, eq-eqb}
-use Rattle.std.proofs.lemmas.Bool.{eqb-true}
-use Rattle.interface.specs.Host.{Host}
-use Rattle.host_pairs.specs.Control.{Legal, Order, Wrong}
-use Rattle.host_pairs.specs.Entries.{is_at, is_mine_on, is_sent}
-use Rattle.host_pairs.specs.Pair.{PairState}
-use Rattle.host_pairs.specs.declared.entry.Entry.{Entry}
-use Rattle.host_pairs.proofs.lemmas.{both}
-use Rattle.ncp_control.specs.declared.command.Command.{Command}
+use Rattle.world_keeps_streams.proofs.Common.{◌≡◌, ℕ, ◌==◌, Bool, true, false, not, ◌&&◌, ◌||◌, if◌then◌else◌, List, [], ◌∷◌, ◌++◌, filter, Option, Some, None, is_some, refl, ap, sym, subst, ◌∙◌, eq-eqb, eqb-true, Host, Legal, Order, Wrong, is_at, is_mine_on, is_sent, PairState, Entry, both, Command, End, mark_taken, Ask, Close, Mark, HasEnd, Stand, Standing, at, came_from, end_of, is_past, standing, AllFit, mark_of, marks, marks_in, live_end, plain, pair_with, Moment, program, crossings_of, Coupled, HasOpenEnd, origin_in, AllBare, AllTied, all_bare, all_tied, are_origins, served_in}
 use Rattle.ncp_control.specs.declared.command.Command.TheVariants as command
-use Rattle.pairing_law.specs.Ends.{End, mark_taken, nothing}
-use Rattle.pairing_law.specs.Marks.{Ask, Close, Mark}
-use Rattle.host_keeps_pairing.specs.Ends.{HasEnd, Stand, Standing, at, came_from, end_of, is_past, standing}
-use Rattle.host_keeps_pairing.specs.Words.{AllFit, mark_of, marks, marks_in}
-use Rattle.host_keeps_pairing.proofs.lemmas.{live_end, plain}
-use Rattle.sockets.specs.Pairs.{pair_with}
-use Rattle.net_sim.specs.Story.{Moment, program}
-use Rattle.net_sim.specs.Timeline.{crossings_of}
-use Rattle.net_sim.proofs.lemmas.{Coupled}
+use Rattle.pairing_law.specs.Ends.{nothing}
 use Rattle.promise.specs.declared.life.Life.{Life}
-use Rattle.world_keeps_lives.specs.Lives.{HasOpenEnd}
-use Rattle.world_keeps_pairing.specs.Free.{origin_in}
-use Rattle.world_keeps_pairing.proofs.lemmas.{AllBare, AllTied, all_bare, all_tied, are_origins, served_in}
 use Rattle.world_keeps_streams.proofs.Books.Arrives.{end_at}
 use Rattle.world_keeps_streams.proofs.Calls.MayHear.{has_end}
 use Rattle.world_keeps_streams.proofs.Deeds.Effects.{Among, among_kept, among_mapped}

@@ -1,53 +1,18 @@
 -- What a host heard by its calls is what the law of pairing has it hear.
-use Rattle.std.proofs.Common.{◌≡◌, ℕ, ◌==◌, ◌&&◌, Bool, true, false, if◌then◌else◌, List, [], ◌∷◌, ◌++◌, take, Option, Some, None, refl, ap, sym, subst, ◌∙◌}
-use Rattle.std.proofs.lemmas.List.{append_assoc}
-use Rattle.interface.specs.Host.{Host, same_host}
+use Rattle.world_keeps_streams.proofs.Common.{◌≡◌, ℕ, ◌==◌, ◌&&◌, Bool, true, false, if◌then◌else◌, List, [], ◌∷◌, ◌++◌, take, Option, Some, None, refl, ap, sym, subst, ◌∙◌, append_assoc, Host, same_host, HostMessage, same_host-true, Command, Order, Legal, Wrong, orders_of, desk_of, listens_on, is_busy, PairState, Parcel, command_gone, with_connections, is_ready, TurnState, order_taken, Entry, Listener, eqb-sym, mark_of, marks_in, Answered, AsksBack, Closes, Gives, Grants, Hears, OpensReceiver, OpensSender, Says, Sends, Takes, Sockets, Who, Mark, Ask, Close, placed_event, tagged, with_box, with_place, Side, hears, says, Fresh, begins_fresh, stays_same, boxes, Event, In, Message, Other, stays_ready, turn_of, NcpState, owner_of, pair_with, next_in, Peer, Request, HaveAddresses, message_on, Asked, Crossed, Moment, event_in, events_of, places, program, IsTimeline, crossings_of, Coupled, by_request, coupled, IsAsking, law_events, keeps, AText, AnRrp, AnRst, AreOrigins, Sort, all_hears, all_says, at_texts, foreign_of, half, heard_is, hears_if, left_if, mail_below, met_if, other, own_of, sort_of, waiting, answer_calls, calls_by, commands_said, message_calls, next_calls, orders_heard, own_calls, owner_calls, parcel_calls, request_calls}
 use Rattle.interface.specs.Mailboxes as mail
 use Rattle.interface.specs.declared.crossing.Crossing.TheVariants as crossing
-use Rattle.interface.specs.declared.message.HostMessage.{HostMessage}
-use Rattle.interface.proofs.lemmas.{same_host-true}
-use Rattle.ncp_control.specs.declared.command.Command.{Command}
 use Rattle.ncp_control.specs.declared.command.Command.TheVariants as command
-use Rattle.host_pairs.specs.Control.{Order, Legal, Wrong, orders_of}
-use Rattle.host_pairs.specs.Desk.{desk_of, listens_on}
-use Rattle.host_pairs.specs.Entries.{is_busy}
-use Rattle.host_pairs.specs.Pair.{PairState}
 use Rattle.host_pairs.specs.Parcels as parcel
-use Rattle.host_pairs.specs.Parcels.{Parcel, command_gone, with_connections}
-use Rattle.ncp_control.specs.Phases.{is_ready}
-use Rattle.host_pairs.specs.Turn.{TurnState, order_taken}
-use Rattle.host_pairs.specs.declared.entry.Entry.{Entry}
-use Rattle.host_pairs.specs.declared.listener.Listener.{Listener}
-use Rattle.host_keeps_pairing.proofs.lemmas.{eqb-sym}
 use Rattle.host_keeps_pairing.specs.Spoken.{upon}
-use Rattle.host_keeps_pairing.specs.Words.{mark_of, marks_in}
 use Rattle.host_keeps_streams.specs.Histories as calls
-use Rattle.host_keeps_streams.specs.Histories.{Answered, AsksBack, Call, Closes, Gives, Grants, Hears, OpensReceiver, OpensSender, Says, Sends, Takes}
-use Rattle.pairing_law.specs.Links.{Sockets, Who}
-use Rattle.pairing_law.specs.Marks.{Mark, Ask, Close}
-use Rattle.pairing_law.specs.Places.{placed_event, tagged, with_box, with_place}
-use Rattle.pairing_law.specs.Sides.{Side, hears, says}
-use Rattle.pairing_law.proofs.lemmas.{Fresh, begins_fresh, stays_same}
-use Rattle.reset_law.specs.Boxes.{Box, Waiting, boxes}
-use Rattle.reset_law.specs.Events.{Event, In, Message, Other, Reply, Reset}
+use Rattle.host_keeps_streams.specs.Histories.{Call}
+use Rattle.reset_law.specs.Boxes.{Box, Waiting}
+use Rattle.reset_law.specs.Events.{Reply, Reset}
 use Rattle.reset_law.specs.Stays as stay
-use Rattle.reset_law.proofs.lemmas.{stays_ready}
-use Rattle.sockets.specs.Accepting.{turn_of}
-use Rattle.sockets.specs.Pairs.{NcpState, owner_of, pair_with}
-use Rattle.sockets.specs.Sending.{next_in}
-use Rattle.sockets.specs.declared.peer.Peer.{Peer}
-use Rattle.sockets.specs.declared.request.Request.{Request}
 use Rattle.sockets.specs.declared.request.Request.TheVariants as request
-use Rattle.net_sim.specs.Clean.{HaveAddresses}
-use Rattle.net_sim.specs.Projection.{message_on}
-use Rattle.net_sim.specs.Story.{Asked, Crossed, Moment, event_in, events_of, places, program}
-use Rattle.net_sim.specs.Timeline.{IsTimeline, crossings_of}
-use Rattle.net_sim.proofs.lemmas.{Coupled, by_request, coupled}
-use Rattle.pair_keeps_streams.proofs.lemmas.{IsAsking}
-use Rattle.world_keeps_pairing.specs.Free.{law_events}
-use Rattle.world_keeps_pairing.specs.Steps.{keeps}
-use Rattle.world_keeps_pairing.proofs.lemmas.{AText, AnRrp, AnRst, AreOrigins, IsOrigin, IsPair, Sort, all_hears, all_says, at_texts, before, foreign_of, half, heard_is, hears_if, left_if, mail_below, met_if, other, own_of, sort_of, waiting}
-use Rattle.world_keeps_streams.specs.Calls.{answer_calls, called, calls_by, commands_said, message_calls, next_calls, orders_heard, own_calls, owner_calls, parcel_calls, request_calls}
+use Rattle.world_keeps_pairing.proofs.lemmas.{IsOrigin, IsPair, before}
+use Rattle.world_keeps_streams.specs.Calls.{called}
 use Rattle.world_keeps_streams.proofs.Calls.Chain.{ready_both}
 use Rattle.world_keeps_streams.proofs.Requests.Sides.{begins_same}
 use Rattle.world_keeps_streams.proofs.Heard.Lists.{heard_list, mark_heard}

@@ -1,23 +1,12 @@
 -- How many CLS of a peer a host has heard since it dropped its ends: one in each connection that is gone, and that of the end which is there.
-use Rattle.std.proofs.Common.{◌≡◌, ℕ, suc, ◌==◌, ◌&&◌, Bool, true, false, if◌then◌else◌, List, [], ◌∷◌, ◌++◌, refl, ap, sym, subst, ◌∙◌}
-use Rattle.interface.specs.Host.{Host}
+use Rattle.world_keeps_streams.proofs.Common.{◌≡◌, ℕ, suc, ◌==◌, ◌&&◌, Bool, true, false, if◌then◌else◌, List, [], ◌∷◌, ◌++◌, refl, ap, sym, subst, ◌∙◌, Host, Command, PairState, Entry, Answered, AreAllowed, AsksBack, Closes, Gives, Grants, Hears, IsHistory, IsTelling, OpensReceiver, OpensSender, Says, Sends, Takes, ends_now, gone_now, receiver_now, sender_now, holds_now, pair_with, HaveAddresses, Moment, event_in, events_of, program, IsTimeline, crossings_of, heard_from, keeps, mail_below, calls_by, own_calls}
 use Rattle.interface.specs.Mailboxes as mail
-use Rattle.ncp_control.specs.declared.command.Command.{Command}
 use Rattle.ncp_control.specs.declared.command.Command.TheVariants as command
-use Rattle.host_pairs.specs.Pair.{PairState}
-use Rattle.host_pairs.specs.declared.entry.Entry.{Entry}
 use Rattle.host_keeps_streams.specs.Histories as calls
-use Rattle.host_keeps_streams.specs.Histories.{Answered, AreAllowed, AsksBack, Call, Closes, Gives, Grants, Hears, IsHistory, IsTelling, OpensReceiver, OpensSender, Says, Sends, Takes, ends_now, gone_now, receiver_now, sender_now}
-use Rattle.host_keeps_streams.proofs.lemmas.{Holds, holds_now}
-use Rattle.sockets.specs.Pairs.{pair_with}
-use Rattle.net_sim.specs.Clean.{HaveAddresses}
-use Rattle.net_sim.specs.Story.{Moment, event_in, events_of, program}
-use Rattle.net_sim.specs.Timeline.{IsTimeline, crossings_of}
-use Rattle.pair_keeps_streams.specs.Words.{heard_from, with_closing}
+use Rattle.host_keeps_streams.specs.Histories.{Call}
+use Rattle.host_keeps_streams.proofs.lemmas.{Holds}
+use Rattle.pair_keeps_streams.specs.Words.{with_closing}
 use Rattle.pair_keeps_streams.proofs.lemmas.{IsFirstCall, heard_more, heard_step}
-use Rattle.world_keeps_pairing.specs.Steps.{keeps}
-use Rattle.world_keeps_pairing.proofs.lemmas.{mail_below}
-use Rattle.world_keeps_streams.specs.Calls.{calls_by, own_calls}
 use Rattle.world_keeps_streams.proofs.Calls.Allowed.{may_calls}
 use Rattle.world_keeps_streams.proofs.Calls.Chain.{Chained, chain}
 use Rattle.world_keeps_streams.proofs.Calls.May.{AllMay, MayCall}

@@ -1,29 +1,14 @@
 -- Which request of the peer an end has, where ends change, come and go.
-use Rattle.std.proofs.Common.{◌≡◌, ℕ, ◌*◌, ◌==◌, ◌&&◌, nat_le, Bool, true, false, List, [], ◌∷◌, ◌++◌, map, filter, Option, Some, None, is_some, refl, ap, sym, subst, ◌∙◌, ◌⊎◌, inl, inr}
-use Rattle.std.proofs.lemmas.Bool.{eqb-true}
-use Rattle.std.specs.List.{list_any}
-use Rattle.interface.specs.Host.{Host}
-use Rattle.ncp_control.specs.DataHeader.{header_of, data_bits}
-use Rattle.ncp_control.specs.declared.command.Command.{Command}
+use Rattle.world_keeps_streams.proofs.Common.{◌≡◌, ℕ, ◌*◌, ◌==◌, ◌&&◌, nat_le, Bool, List, [], ◌∷◌, ◌++◌, map, filter, Option, Some, None, is_some, refl, ap, sym, subst, ◌∙◌, ◌⊎◌, inl, inr, eqb-true, list_any, Host, header_of, data_bits, Command, DataHeader, receiver_requested, with_more_bits, Unconnected, Ending, Open, asked_on_link, asked_with_size, at_end, cls_taken_by, given_back, gvb_taken, interrupted, ret_taken, receiver_on, rts_heard, rts_taken, rts_taken_by, sender_on, str_heard, str_linked, str_taken_by, desk_taken, arrived_if, data_found, is_acceptable, spent, DeskState, desk_of, listener_on, called_off, changed_first, closed_by_partner, entry_at, free_link, is_at, is_mine_on, receiving_end, receives_on, refused_end, sending_end, sends_on, PairState, asked_at, bits_gone, cls_sent, command_gone, may_send_on, freed, Entry, Listener, both, Hears, Takes, Says, Sends, Answered, OpensReceiver, OpensSender, Grants, AsksBack, Gives, Closes, IsTelling, ends_by, numbers, AreApart, name_of, numbers_mapped, AreSeparate, separate}
+use Rattle.std.proofs.Common.{true, false}
 use Rattle.ncp_control.specs.declared.command.Command.TheVariants as command
-use Rattle.ncp_control.specs.declared.data_header.DataHeader.{DataHeader}
 use Rattle.stream_law.specs.Receivers.{Receiver}
 use Rattle.stream_law.specs.Senders.{Sender}
-use Rattle.host_pairs.specs.Asked.{receiver_requested, with_more_bits}
-use Rattle.host_pairs.specs.Commands.{Found, Unconnected, Ending, Open, all_taken, asked_on_link, asked_with_size, at_end, cls_taken_by, given_back, granted, gvb_taken, interrupted, ret_taken, returned, receiver_on, rts_heard, rts_taken, rts_taken_by, sender_on, str_heard, str_linked, str_taken_by, desk_taken}
-use Rattle.host_pairs.specs.Data.{arrived_if, data_found, is_acceptable, spent}
-use Rattle.host_pairs.specs.Desk.{DeskState, desk_of, listener_on}
-use Rattle.host_pairs.specs.Entries.{called_off, changed_first, closed_by_partner, entry_at, free_link, is_at, is_mine_on, receiving_end, receives_on, refused_end, sending_end, sends_on}
-use Rattle.host_pairs.specs.Pair.{PairState}
-use Rattle.host_pairs.specs.Parcels.{asked_at, bits_gone, cls_sent, command_gone, link_of, may_send_on}
-use Rattle.host_pairs.specs.Turn.{freed}
-use Rattle.host_pairs.specs.declared.entry.Entry.{Entry}
-use Rattle.host_pairs.specs.declared.listener.Listener.{Listener}
-use Rattle.host_pairs.proofs.lemmas.{both}
-use Rattle.host_keeps_streams.specs.Histories.{Call, Hears, Takes, Says, Sends, Answered, OpensReceiver, OpensSender, Grants, AsksBack, Gives, Closes, IsTelling, ends_by}
-use Rattle.host_keeps_streams.specs.Names.{numbers, AreApart}
-use Rattle.host_keeps_streams.proofs.lemmas.{Holds, apart_changed, name_of, numbers_mapped, shut_one, stays}
-use Rattle.pair_keeps_streams.proofs.lemmas.{AreSeparate, Stays, at_changed, kept_if, separate, sweep_found}
+use Rattle.host_pairs.specs.Commands.{Found, all_taken, granted, returned}
+use Rattle.host_pairs.specs.Parcels.{link_of}
+use Rattle.host_keeps_streams.specs.Histories.{Call}
+use Rattle.host_keeps_streams.proofs.lemmas.{Holds, apart_changed, shut_one, stays}
+use Rattle.pair_keeps_streams.proofs.lemmas.{Stays, at_changed, kept_if, sweep_found}
 
 abbrev pub partner_at : Option Entry → Option ℕ
 partner_at None = None

@@ -1,38 +1,16 @@
 -- The CLS that a host has heard of its peer since both met, over all moments: as many by the law of pairing as by its calls.
-use Rattle.std.proofs.Common.{◌≡◌, ℕ, ◌==◌, ◌&&◌, ◌||◌, not, Bool, true, false, if◌then◌else◌, List, [], ◌∷◌, ◌++◌, refl, ap, sym, subst, ◌∙◌}
-use Rattle.interface.specs.Host.{Host, same_host}
+use Rattle.world_keeps_streams.proofs.Common.{◌≡◌, ℕ, ◌==◌, ◌&&◌, ◌||◌, not, Bool, true, false, if◌then◌else◌, List, [], ◌∷◌, ◌++◌, refl, ap, sym, subst, ◌∙◌, Host, same_host, HostMessage, same_host-true, Command, Order, orders_of, PairState, eqb-sym, marks_in, Answered, AsksBack, Closes, Gives, Grants, Hears, OpensReceiver, OpensSender, Says, Sends, Takes, IsAsking, Sockets, Who, Mark, placed_event, tagged, with_box, with_place, Side, Fresh, begins_fresh, stays_same, boxes, Event, Message, Other, In, stays_ready, turn_of, pair_with, next_in, message_on, Moment, Crossed, Asked, event_in, events_of, places, program, Coupled, by_request, law_events, keeps, AText, AnRrp, AnRst, Sort, all_says, at_texts, foreign_of, half, heard_is, hears_if, left_if, met_if, other, own_of, sort_of, waiting, answer_calls, calls_by, message_calls, next_calls, own_calls, request_calls}
 use Rattle.interface.specs.declared.crossing.Crossing.TheVariants as crossing
-use Rattle.interface.specs.declared.message.HostMessage.{HostMessage}
-use Rattle.interface.proofs.lemmas.{same_host-true}
-use Rattle.ncp_control.specs.declared.command.Command.{Command}
-use Rattle.host_pairs.specs.Control.{Order, orders_of}
-use Rattle.host_pairs.specs.Pair.{PairState}
 use Rattle.ncp_control.specs.Phases as program_phases
-use Rattle.host_keeps_pairing.proofs.lemmas.{eqb-sym}
-use Rattle.host_keeps_pairing.specs.Words.{marks_in}
 use Rattle.host_keeps_streams.specs.Histories as calls
-use Rattle.host_keeps_streams.specs.Histories.{Answered, AsksBack, Call, Closes, Gives, Grants, Hears, OpensReceiver, OpensSender, Says, Sends, Takes}
-use Rattle.pair_keeps_streams.proofs.lemmas.{IsAsking}
-use Rattle.pairing_law.specs.Links.{Sockets, Who}
-use Rattle.pairing_law.specs.Marks.{Mark, closes}
-use Rattle.pairing_law.specs.Places.{placed_event, tagged, with_box, with_place}
-use Rattle.pairing_law.specs.Sides.{Side}
-use Rattle.pairing_law.proofs.lemmas.{Fresh, begins_fresh, stays_same}
-use Rattle.reset_law.specs.Boxes.{Box, Waiting, boxes}
-use Rattle.reset_law.specs.Events.{Event, Message, Reply, Other, In}
+use Rattle.host_keeps_streams.specs.Histories.{Call}
+use Rattle.pairing_law.specs.Marks.{closes}
+use Rattle.reset_law.specs.Boxes.{Box, Waiting}
+use Rattle.reset_law.specs.Events.{Reply}
 use Rattle.reset_law.specs.Runs.{IsRun}
 use Rattle.reset_law.specs.Stays as stay
-use Rattle.reset_law.proofs.lemmas.{stays_ready}
-use Rattle.sockets.specs.Accepting.{turn_of}
-use Rattle.sockets.specs.Pairs.{pair_with}
-use Rattle.sockets.specs.Sending.{next_in}
-use Rattle.net_sim.specs.Projection.{event_of, message_on}
-use Rattle.net_sim.specs.Story.{Moment, Crossed, Asked, event_in, events_of, places, program}
-use Rattle.net_sim.proofs.lemmas.{Coupled, by_request}
-use Rattle.world_keeps_pairing.specs.Free.{law_events}
-use Rattle.world_keeps_pairing.specs.Steps.{keeps}
-use Rattle.world_keeps_pairing.proofs.lemmas.{AText, AnRrp, AnRst, IsPair, Sort, all_says, are_same, at_texts, before, foreign_of, half, heard_is, heard_off_in, hears_if, left_if, met_if, other, own_of, sort_of, waiting}
-use Rattle.world_keeps_streams.specs.Calls.{answer_calls, calls_by, message_calls, next_calls, own_calls, request_calls}
+use Rattle.net_sim.specs.Projection.{event_of}
+use Rattle.world_keeps_pairing.proofs.lemmas.{IsPair, are_same, before, heard_off_in}
 use Rattle.world_keeps_streams.proofs.Calls.Chain.{ready_both}
 use Rattle.world_keeps_streams.proofs.Books.Run.{below}
 use Rattle.world_keeps_streams.proofs.Requests.Sides.{Lawful, begins_same, coupled_in}
@@ -83,14 +61,8 @@ module _ (s : Sockets) (q : IsPair s) (who : Who) (hosts : List Host) where
   module _ (m : HostMessage) (ms : List Moment) (waits : (n : ℕ) × (boxes m.flow.source m.flow.destination (events_of ms) m.flow.link.0 ≡ Waiting n (message_on m.flow.link.0 m.text)))
       (keep : keeps m.flow.destination m.flow.source (event_of (crossing.In m)) (events_of ms) ≡ true)
       (ready : program_phases.is_ready (pair_with m.flow.source (program m.flow.destination ms).peers).phase ≡ true) where
-    abbrev boxed : Message
-    boxed = with_box (boxes m.flow.source m.flow.destination (events_of ms) m.flow.link.0) (message_on m.flow.link.0 m.text)
-
     boxed_is : (n : Message) → message_on m.flow.link.0 m.text ≡ n → with_box (boxes m.flow.source m.flow.destination (events_of ms) m.flow.link.0) (message_on m.flow.link.0 m.text) ≡ with_place waits.0 n
     boxed_is n e = ap (λ (b : Box). with_box b (message_on m.flow.link.0 m.text)) waits.1 ∙ ap (with_place waits.0) e
-
-    abbrev Calls : List calls.Moment
-    Calls = message_calls m.flow.source (places ms) m.flow.link.0 m.text (turn_of (program m.flow.destination ms) m.flow.source)
 
     abbrev Goal : Message → Type 0
     Goal b = (n : ℕ) → adds (at_texts s (other who) (stay.heard_by m.flow.source m.flow.destination 0 (In m.flow.source m.flow.destination m.flow.link.0 b))) n

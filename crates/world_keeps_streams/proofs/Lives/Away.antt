@@ -1,9 +1,6 @@
 -- A host that leaves, or has left: its lives with the peer end, where they do nothing else and no new one begins.
-use Rattle.std.proofs.Common.{◌≡◌, ◌⊎◌, inl, inr, Bool, true, false, List, ◌∷◌, map, ap, sym, subst, ◌∙◌}
-use Rattle.interface.specs.Host.{Host}
+use Rattle.world_keeps_streams.proofs.Common.{◌≡◌, ◌⊎◌, inl, inr, Bool, true, false, List, ◌∷◌, map, ap, sym, subst, ◌∙◌, Host, life_ended, Moment, events_of}
 use Rattle.reset_law.specs.Stays as stay
-use Rattle.net_sim.specs.Book.{life_ended}
-use Rattle.net_sim.specs.Story.{Moment, events_of}
 use Rattle.promise.specs.declared.life.Life.{Life}
 use Rattle.world_keeps_streams.proofs.Lives.Lists.{Grown, IsOf, grown, of_left, of_map}
 use Rattle.world_keeps_streams.proofs.Lives.Left.{over_when_left}

@@ -1,38 +1,13 @@
 -- The lives of a host that leaves its peer, or has left, end and do nothing else.
-use Rattle.std.proofs.Common.{◌≡◌, ◌⊎◌, inl, inr, ℕ, ◌==◌, ◌&&◌, Bool, true, false, List, [], ◌∷◌, filter, Option, Some, None, refl, ap, sym, subst, ◌∙◌, eq-eqb}
-use Rattle.interface.specs.Host.{Host, same_host}
+use Rattle.world_keeps_streams.proofs.Common.{◌≡◌, ◌⊎◌, inl, inr, ℕ, ◌==◌, ◌&&◌, Bool, true, false, List, [], ◌∷◌, filter, Option, Some, None, refl, ap, sym, subst, ◌∙◌, eq-eqb, Host, same_host, HostMessage, same_host-true, is_receive_socket, is_send_socket, is_at, is_ready, Entry, both, HasEnd, at, end_of, is_past, standing, marks, End, takes_in_stay, Event, Idle, In, Message, Other, Out, Send, Take, are, when, MaySend, pair_moved, pair, ready_phase, stays_ready, pair_with, Request, life_ended, IsApart, message_on, Moment, Crossed, Asked, event_in, events_of, places, program, crossings_of, host_in, notices_by, Coupled, clash, origin_in, keeps, AText, AnRrp, AnRst, IsUnpaired, Sort, all_bare, are_origins, served_in, sort_of}
 use Rattle.interface.specs.declared.crossing.Crossing.TheVariants as crossing
-use Rattle.interface.specs.declared.message.HostMessage.{HostMessage}
-use Rattle.interface.proofs.lemmas.{same_host-true}
-use Rattle.ncp_control.specs.Numbers.{is_receive_socket, is_send_socket}
-use Rattle.host_pairs.specs.Entries.{is_at}
-use Rattle.ncp_control.specs.Phases.{is_ready}
-use Rattle.host_pairs.specs.declared.entry.Entry.{Entry}
-use Rattle.host_pairs.proofs.lemmas.{both}
-use Rattle.host_keeps_pairing.specs.Ends.{HasEnd, at, end_of, is_past, standing}
-use Rattle.host_keeps_pairing.specs.Words.{marks}
-use Rattle.pairing_law.specs.Ends.{End, nothing}
-use Rattle.pairing_law.proofs.lemmas.{takes_in_stay}
-use Rattle.reset_law.specs.Events.{Event, Idle, In, Message, Other, Out, Reply, Reset, Send, Take, are, when}
-use Rattle.reset_law.specs.Pairs.{MaySend, pair_moved, pair}
+use Rattle.pairing_law.specs.Ends.{nothing}
+use Rattle.reset_law.specs.Events.{Reply, Reset}
 use Rattle.ncp_control.specs.declared.phase.Phase.TheVariants as phase
 use Rattle.reset_law.specs.Runs.{IsRun}
 use Rattle.reset_law.specs.Stays as stay
-use Rattle.reset_law.proofs.lemmas.{ready_phase, stays_ready}
-use Rattle.sockets.specs.Pairs.{pair_with}
-use Rattle.sockets.specs.declared.request.Request.{Request}
 use Rattle.sockets.specs.declared.request.Request.TheVariants as request
-use Rattle.net_sim.specs.Book.{life_ended}
-use Rattle.net_sim.specs.Projection.{IsApart, message_on}
-use Rattle.net_sim.specs.Story.{Moment, Crossed, Asked, event_in, events_of, places, program}
-use Rattle.net_sim.specs.Timeline.{crossings_of}
-use Rattle.net_sim.specs.Told.{host_in, notices_by}
 use Rattle.promise.specs.declared.life.Life.{Life}
-use Rattle.net_sim.proofs.lemmas.{Coupled}
-use Rattle.world_keeps_lives.proofs.lemmas.{clash}
-use Rattle.world_keeps_pairing.specs.Free.{origin_in}
-use Rattle.world_keeps_pairing.specs.Steps.{keeps}
-use Rattle.world_keeps_pairing.proofs.lemmas.{AText, AnRrp, AnRst, IsUnpaired, Sort, all_bare, are_origins, served_in, sort_of}
 use Rattle.world_keeps_streams.proofs.Calls.Chain.{ready_both}
 use Rattle.world_keeps_streams.proofs.Deeds.Effects.{Among, among_kept, among_mapped}
 use Rattle.world_keeps_streams.proofs.Lives.Away.{away, away_still}

@@ -1,37 +1,16 @@
 -- What a program reports by a moment with which its host leaves a peer: of no end with that peer that it is over.
-use Rattle.std.proofs.Common.{◌≡◌, inl, inr, ℕ, ◌==◌, ◌||◌, not, Bool, true, false, if◌then◌else◌, List, [], ◌∷◌, ◌++◌, refl, sym, subst}
-use Rattle.interface.specs.Host.{Host, same_host}
-use Rattle.interface.specs.declared.address.Flow.{Flow}
-use Rattle.interface.specs.declared.crossing.Answer.{Answer}
+use Rattle.world_keeps_streams.proofs.Common.{◌≡◌, inl, inr, ℕ, ◌==◌, ◌||◌, not, Bool, true, false, if◌then◌else◌, List, [], ◌∷◌, ◌++◌, refl, sym, subst, Host, same_host, Flow, Answer, HostMessage, Legal, orders_of, is_busy, is_ready, Phase, TurnState, answered_turn, failed_by, freed, is_gone, message_taken, reply_notices, reset_notices, settled_turn, Notice, In, Message, Other, stays_ready, after_turn, turn_of, NcpState, pair_with, Request, message_on, Asked, Crossed, Moment, event_in, events_of, places, program, host_in, notices_by, Coupled, clash, keeps, AText, AnRrp, AnRst, Sort, sort_of}
 use Rattle.interface.specs.declared.crossing.Answer.TheVariants as answer
 use Rattle.interface.specs.declared.crossing.Crossing.TheVariants as crossing
 use Rattle.interface.specs.declared.crossing.Inbound.TheVariants as inbound
-use Rattle.interface.specs.declared.message.HostMessage.{HostMessage}
 use Rattle.ncp_control.specs.declared.command.Command.TheVariants as command
-use Rattle.host_pairs.specs.Control.{Legal, orders_of}
-use Rattle.host_pairs.specs.Entries.{is_busy}
-use Rattle.ncp_control.specs.Phases.{is_ready}
-use Rattle.ncp_control.specs.declared.phase.Phase.{Phase}
 use Rattle.ncp_control.specs.declared.phase.Phase.TheVariants as phase
-use Rattle.host_pairs.specs.Turn.{TurnState, answered_turn, failed_by, freed, is_gone, message_taken, reply_notices, reset_notices, settled_turn}
-use Rattle.host_pairs.specs.declared.notice.Notice.{Notice}
 use Rattle.host_pairs.specs.declared.notice.Notice.TheVariants as notice
-use Rattle.reset_law.specs.Events.{In, Message, Other}
 use Rattle.reset_law.specs.Stays as stay
-use Rattle.reset_law.proofs.lemmas.{stays_ready}
-use Rattle.sockets.specs.Accepting.{accepted, after_turn, turn_of}
-use Rattle.sockets.specs.Pairs.{NcpState, pair_with}
+use Rattle.sockets.specs.Accepting.{accepted}
 use Rattle.sockets.specs.Requests.{served_notices}
-use Rattle.sockets.specs.declared.request.Request.{Request}
 use Rattle.sockets.specs.declared.request.Request.TheVariants as request
-use Rattle.net_sim.specs.Projection.{message_on}
-use Rattle.net_sim.specs.Story.{Asked, Crossed, Moment, event_in, events_of, places, program}
-use Rattle.net_sim.specs.Told.{host_in, notices_by}
 use Rattle.promise.specs.declared.life.Life.{Life}
-use Rattle.net_sim.proofs.lemmas.{Coupled}
-use Rattle.world_keeps_lives.proofs.lemmas.{clash}
-use Rattle.world_keeps_pairing.specs.Steps.{keeps}
-use Rattle.world_keeps_pairing.proofs.lemmas.{AText, AnRrp, AnRst, Sort, sort_of}
 use Rattle.world_keeps_streams.proofs.Lives.Fates.{IsEnd, TellsEnd}
 use Rattle.world_keeps_streams.proofs.Lives.Leaves.{keeps_out, keeps_text}
 use Rattle.world_keeps_streams.proofs.Requests.Sides.{Lawful, coupled_in}

@@ -1,18 +1,11 @@
 -- Lives of one host with one peer, where a moment lets them be or ends them, and begins none.
-use Rattle.std.proofs.Common.{◌≡◌, ◌⊎◌, inl, inr, ℕ, Bool, true, false, List, [], ◌∷◌, ◌++◌, map, refl, ap, sym, subst, ◌∙◌}
-use Rattle.std.proofs.lemmas.List.{append_assoc, map-append}
-use Rattle.interface.specs.Host.{Host, same_host}
+use Rattle.world_keeps_streams.proofs.Common.{◌≡◌, ◌⊎◌, inl, inr, ℕ, Bool, true, false, List, [], ◌∷◌, ◌++◌, map, refl, ap, sym, subst, ◌∙◌, append_assoc, map-append, Host, same_host, same_host-refl, Notice, Request, Kept, all_told, carried, changed_when, life_ended, lives_asked, lives_at, lives_between, lives_on, lives_told, lives_with, new_life, book_told, where_it, Moment, Crossed, Asked, host_in, kept_by, notices_by, clash}
 use Rattle.interface.specs.declared.crossing.Crossing.TheVariants as crossing
-use Rattle.interface.proofs.lemmas.{same_host-refl}
-use Rattle.host_pairs.specs.declared.notice.Notice.{Notice}
 use Rattle.host_pairs.specs.declared.notice.Notice.TheVariants as notice
-use Rattle.sockets.specs.declared.request.Request.{Request}
 use Rattle.sockets.specs.declared.request.Request.TheVariants as request
 use Rattle.promise.specs.declared.life.Life.{Life}
-use Rattle.net_sim.specs.Book.{Kept, all_told, carried, changed_when, life_ended, granted, lives_asked, lives_at, lives_between, lives_on, lives_told, lives_with, new_life, returned, book_told, where_it}
-use Rattle.net_sim.specs.Story.{Moment, Crossed, Asked}
-use Rattle.net_sim.specs.Told.{host_in, kept_by, kept_in, notices_by}
-use Rattle.world_keeps_lives.proofs.lemmas.{clash}
+use Rattle.net_sim.specs.Book.{granted, returned}
+use Rattle.net_sim.specs.Told.{kept_in}
 use Rattle.world_keeps_streams.proofs.Lives.Lists.{IsOf, grown, of_either, of_mapped, map_itself, nil_right, map_both}
 
 -- ---- notices
@@ -140,12 +133,6 @@ module _ (calm : Bool) (h p : Host) where
 
     at_off : (socket : ℕ) (x : Life) → x.host ≡ h → lives_at g socket x ≡ false
     at_off socket x e = rw (off x e) refl
-
-    between_off : (socket : ℕ) (peer : Host) (foreign : ℕ) (x : Life) → x.host ≡ h → lives_between g socket peer foreign x ≡ false
-    between_off socket peer foreign x e = rw (off x e) refl
-
-    with_off : (peer : Host) (x : Life) → x.host ≡ h → lives_with g peer x ≡ false
-    with_off peer x e = rw (off x e) refl
 
     elsewhere_told : (n : Notice) (xs : List Life) → Bare calm h p xs (lives_told g n xs)
     elsewhere_told (notice.Opened socket peer foreign own partner) xs = bare_more xs (new_life g socket peer foreign own partner) (λ e f. clash ⊥ (same_host g h) (ap (same_host g) (sym e) ∙ same_host-refl g) away)

@@ -1,40 +1,17 @@
 -- What a program reports of a peer with which its host does not stay, or which it leaves: none of it opens an end with that peer.
-use Rattle.std.proofs.Common.{◌≡◌, ◌⊎◌, inl, inr, ℕ, ◌*◌, ◌==◌, ◌||◌, not, Bool, true, false, if◌then◌else◌, List, [], ◌∷◌, ◌++◌, filter, take, Option, Some, None, refl, ap, sym, subst, ◌∙◌}
-use Rattle.std.specs.List.{flat_map}
-use Rattle.interface.specs.Host.{Host, same_host}
-use Rattle.interface.specs.declared.address.Flow.{Flow}
-use Rattle.interface.specs.declared.crossing.Answer.{Answer}
+use Rattle.world_keeps_streams.proofs.Common.{◌≡◌, ◌⊎◌, inl, inr, ℕ, ◌*◌, ◌==◌, ◌||◌, not, Bool, true, false, if◌then◌else◌, List, [], ◌∷◌, ◌++◌, filter, take, Option, Some, None, refl, ap, sym, subst, ◌∙◌, flat_map, Host, same_host, Flow, Answer, HostMessage, same_host-refl, same_host-true, Command, AreAbout, IsAbout, changed, Order, Legal, Wrong, orders_of, DeskState, desk_of, swept, changed_at, changed_first, ending, entry_at, is_at, is_busy, opening_notices, opening_by, Parcel, asked_at, cls_sent, command_gone, commands_gone, parcel_gone, is_ready, TurnState, answered_turn, failed_by, freed, is_gone, message_taken, order_taken, orders_taken, reply_notices, reset_notices, settled_turn, Entry, Notice, Phase, turn_of, after_turn, NcpState, pair_with, AreInOrder, next_in, offered_by, Peer, Request, message_about, next_pair, offer_about, AllPlain, clash}
 use Rattle.interface.specs.declared.crossing.Answer.TheVariants as answer
 use Rattle.interface.specs.declared.crossing.Inbound.TheVariants as inbound
-use Rattle.interface.specs.declared.message.HostMessage.{HostMessage}
-use Rattle.interface.proofs.lemmas.{same_host-refl, same_host-true}
-use Rattle.ncp_control.specs.declared.command.Command.{Command}
 use Rattle.ncp_control.specs.declared.command.Command.TheVariants as command
-use Rattle.host_pairs.specs.About.{AreAbout, IsAbout}
-use Rattle.host_pairs.specs.Commands.{changed}
-use Rattle.host_pairs.specs.Control.{Order, Legal, Wrong, orders_of}
-use Rattle.host_pairs.specs.Desk.{DeskState, desk_of, swept}
-use Rattle.host_pairs.specs.Entries.{changed_at, changed_first, ending, entry_at, is_at, is_busy, is_over, opening_notices, opening_by}
+use Rattle.host_pairs.specs.Entries.{is_over}
 use Rattle.host_pairs.specs.Parcels as parcel
-use Rattle.host_pairs.specs.Parcels.{Parcel, asked_at, cls_sent, command_gone, commands_gone, parcel_gone}
-use Rattle.ncp_control.specs.Phases.{is_ready}
-use Rattle.host_pairs.specs.Turn.{TurnState, answered_turn, failed_by, freed, is_gone, message_taken, order_taken, orders_taken, reply_notices, reset_notices, settled_turn}
-use Rattle.host_pairs.specs.declared.entry.Entry.{Entry}
-use Rattle.host_pairs.specs.declared.notice.Notice.{Notice}
 use Rattle.host_pairs.specs.declared.notice.Notice.TheVariants as notice
-use Rattle.ncp_control.specs.declared.phase.Phase.{Phase}
 use Rattle.ncp_control.specs.declared.phase.Phase.TheVariants as phase
-use Rattle.sockets.specs.Accepting.{accepted, turn_of, after_turn}
-use Rattle.sockets.specs.Pairs.{NcpState, pair_with}
-use Rattle.sockets.specs.Peers.{AreInOrder}
+use Rattle.sockets.specs.Accepting.{accepted}
 use Rattle.sockets.specs.Requests.{served_notices}
-use Rattle.sockets.specs.Sending.{next_in, offered, offered_by}
-use Rattle.sockets.specs.declared.peer.Peer.{Peer}
-use Rattle.sockets.specs.declared.request.Request.{Request}
+use Rattle.sockets.specs.Sending.{offered}
 use Rattle.sockets.specs.declared.request.Request.TheVariants as request
-use Rattle.sockets.proofs.lemmas.{message_about, next_pair, offer_about}
-use Rattle.net_sim.specs.Projection.{AllPlain, IsPlain}
-use Rattle.world_keeps_lives.proofs.lemmas.{clash}
+use Rattle.net_sim.specs.Projection.{IsPlain}
 use Rattle.world_keeps_streams.proofs.Deeds.Effects.{Among, Changed, among_changed, among_filter, found_among}
 use Rattle.world_keeps_streams.proofs.Lives.LeavesLists.{AllFine, Fine, fine_both}
 

@@ -1,28 +1,10 @@
 -- The lives of a host that doesn't stay with a peer have all ended: it has taken no request of the peer since it left.
-use Rattle.std.proofs.Common.{◌≡◌, ◌⊎◌, inl, inr, ℕ, ◌==◌, Bool, true, false, List, [], ◌∷◌, filter, find, map, Option, Some, None, refl, ap, sym, subst, ◌∙◌, eq-eqb}
-use Rattle.std.specs.List.{Contains}
-use Rattle.std.proofs.lemmas.Bool.{eqb-true}
-use Rattle.interface.specs.Host.{Host}
-use Rattle.ncp_control.specs.Numbers.{is_receive_socket, is_send_socket}
-use Rattle.host_pairs.specs.Entries.{entry_at, is_at, is_mine_on}
-use Rattle.host_pairs.specs.declared.entry.Entry.{Entry}
-use Rattle.host_pairs.proofs.lemmas.{both}
-use Rattle.host_keeps_pairing.specs.Ends.{Stand, Standing, at, end_of, is_past, standing}
-use Rattle.host_keeps_pairing.specs.Words.{marks}
-use Rattle.pairing_law.specs.Ends.{End}
-use Rattle.pairing_law.specs.Links.{Sockets, Who, Receiver, Sender}
-use Rattle.pairing_law.specs.Marks.{Mark}
-use Rattle.pairing_law.proofs.lemmas.{stays_same}
+use Rattle.world_keeps_streams.proofs.Common.{◌≡◌, ◌⊎◌, inl, inr, ℕ, ◌==◌, Bool, false, List, [], ◌∷◌, filter, find, map, Option, Some, None, refl, ap, sym, subst, ◌∙◌, eq-eqb, Contains, eqb-true, Host, is_receive_socket, is_send_socket, entry_at, is_at, is_mine_on, Entry, both, Stand, Standing, at, end_of, is_past, standing, marks, End, Sockets, Who, Mark, stays_same, pair_with, Moment, events_of, program, crossings_of, Coupled, HasOpenEnd, mine_on, live, law_events, origin_in, Side_of, Tie, all_tied, are_origins, at_texts, foreign_of, life_paired, other, own_of, served_in}
+use Rattle.std.proofs.Common.{true}
+use Rattle.pairing_law.specs.Links.{Receiver, Sender}
 use Rattle.reset_law.specs.Stays as stay
-use Rattle.sockets.specs.Pairs.{pair_with}
-use Rattle.net_sim.specs.Story.{Moment, events_of, program}
-use Rattle.net_sim.specs.Timeline.{crossings_of}
 use Rattle.promise.specs.declared.life.Life.{Life}
-use Rattle.net_sim.proofs.lemmas.{Coupled}
-use Rattle.world_keeps_lives.specs.Lives.{HasOpenEnd, mine_on}
-use Rattle.world_keeps_lives.proofs.lemmas.{live}
-use Rattle.world_keeps_pairing.specs.Free.{law_events, origin_in}
-use Rattle.world_keeps_pairing.proofs.lemmas.{IsPair, Side_of, Tie, Unheard, all_tied, are_origins, at_texts, foreign_of, life_paired, other, own_of, served_in, unheard}
+use Rattle.world_keeps_pairing.proofs.lemmas.{IsPair, Unheard, unheard}
 use Rattle.world_keeps_streams.proofs.Deeds.Effects.{Among, among_filter, among_kept, among_mapped, found_among}
 use Rattle.world_keeps_streams.proofs.Lives.Lists.{IsOf, contains}
 use Rattle.world_keeps_streams.proofs.Requests.Sides.{Lawful, coupled_in, lives_in}

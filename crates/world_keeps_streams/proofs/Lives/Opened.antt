@@ -1,29 +1,12 @@
 -- A life that begins by a moment: before it no CLS of its end was queued or taken. So it isn't over by the moment.
-use Rattle.std.proofs.Common.{◌≡◌, inl, inr, ℕ, zero, suc, ◌<◌, ◌==◌, Bool, true, false, List, [], ◌∷◌, length, slice_index_or, Option, Some, None, refl, ap, subst, ◌∙◌, arith}
-use Rattle.std.specs.List.{Contains}
-use Rattle.interface.specs.Host.{Host}
+use Rattle.world_keeps_streams.proofs.Common.{◌≡◌, inl, inr, ℕ, zero, suc, ◌<◌, ◌==◌, Bool, true, false, List, [], ◌∷◌, length, slice_index_or, Option, Some, None, refl, ap, subst, ◌∙◌, arith, Contains, Host, or_false, is_send_socket, entry_at, has_cls, is_at, is_ending, is_sent, Closing, Entry, Notice, both, eqb-true, pair_with, Asked, Crossed, IsStory, Moment, places, program, crossings_of, host_in, notices_by, Coupled, origin_in, all_tied, are_origins, served_in, unopened}
 use Rattle.interface.specs.declared.crossing.Crossing.TheVariants as crossing
-use Rattle.interface.proofs.lemmas.{or_false}
-use Rattle.ncp_control.specs.Numbers.{is_send_socket}
-use Rattle.host_pairs.specs.Entries.{entry_at, has_cls, is_at, is_ending, is_sent}
-use Rattle.host_pairs.specs.declared.entry.Closing.{Closing}
 use Rattle.host_pairs.specs.declared.entry.Closing.TheVariants as closing
-use Rattle.host_pairs.specs.declared.entry.Entry.{Entry}
-use Rattle.host_pairs.specs.declared.notice.Notice.{Notice}
 use Rattle.host_pairs.specs.declared.notice.Notice.TheVariants as notice
-use Rattle.host_pairs.proofs.lemmas.{both}
-use Rattle.std.proofs.lemmas.Bool.{eqb-true}
 use Rattle.pairing_law.specs.Links.{Receiver}
-use Rattle.sockets.specs.Pairs.{pair_with}
 use Rattle.promise.specs.declared.life.Life.{Life}
-use Rattle.net_sim.specs.Story.{Asked, Crossed, IsStory, Moment, places, program}
-use Rattle.net_sim.specs.Timeline.{crossings_of}
-use Rattle.net_sim.specs.Told.{host_in, notices_by}
-use Rattle.net_sim.proofs.lemmas.{Coupled}
 use Rattle.promise.specs.Safe.{receives}
-use Rattle.world_keeps_pairing.specs.Free.{origin_in}
-use Rattle.world_keeps_pairing.proofs.lemmas.{all_tied, are_origins, served_in}
-use Rattle.world_keeps_lives.proofs.lemmas.{Each, IsNoOpening, unopened}
+use Rattle.world_keeps_lives.proofs.lemmas.{Each, IsNoOpening}
 use Rattle.world_keeps_streams.proofs.Books.Run.{below}
 use Rattle.world_keeps_streams.proofs.Deeds.Effects.{Among, found_among}
 use Rattle.world_keeps_streams.proofs.Lives.Fates.{IsEnd, IsOpening, TellsEnd, TellsOpening}

@@ -1,16 +1,11 @@
 -- The lives of a host that stays: those since it dropped its ends last are those since both met.
-use Rattle.std.proofs.Common.{◌≡◌, inl, inr, ℕ, zero, suc, ◌≤◌, ◌&&◌, ◌||◌, not, Bool, true, false, if◌then◌else◌, List, [], ◌∷◌, ◌++◌, length, map, drop, refl, ap, sym, subst, ◌∙◌, arith}
-use Rattle.interface.specs.Host.{Host}
-use Rattle.host_pairs.proofs.lemmas.{both}
-use Rattle.pairing_law.proofs.lemmas.{Fresh, begins_fresh}
-use Rattle.reset_law.specs.Events.{Contact, Event, In, Other, Reply, Reset}
-use Rattle.reset_law.specs.Pairs.{pair}
+use Rattle.world_keeps_streams.proofs.Common.{◌≡◌, inl, inr, ℕ, zero, suc, ◌≤◌, ◌&&◌, ◌||◌, not, Bool, if◌then◌else◌, List, [], ◌∷◌, ◌++◌, length, map, drop, refl, ap, sym, subst, ◌∙◌, arith, Host, both, Fresh, begins_fresh, Contact, Event, In, Other, pair, begins_either, contradicts, ready_phase, Moment, event_in, events_of, keeps}
+use Rattle.std.proofs.Common.{true, false}
+use Rattle.reset_law.specs.Events.{Reply, Reset}
 use Rattle.reset_law.specs.Runs.{IsRun}
 use Rattle.reset_law.specs.Stays as stay
-use Rattle.reset_law.proofs.lemmas.{begins_either, contradicts, ready_phase, reset_unready}
-use Rattle.net_sim.specs.Story.{Moment, event_in, events_of}
+use Rattle.reset_law.proofs.lemmas.{reset_unready}
 use Rattle.promise.specs.declared.life.Life.{Life}
-use Rattle.world_keeps_pairing.specs.Steps.{keeps}
 use Rattle.world_keeps_streams.proofs.Carried.Calls as carried
 use Rattle.world_keeps_streams.proofs.Books.Goes.{since_bound, since_on}
 use Rattle.world_keeps_streams.proofs.Lives.Lists.{IsOf, drop_grown, grown, of_drop, of_either, of_left, of_map, of_mapped, of_right}

@@ -1,39 +1,18 @@
 -- An end whose own CLS hasn't gone out doesn't go by what comes in, and one whose partner's CLS wasn't taken doesn't go by what goes out.
-use Rattle.std.proofs.Common.{◌≡◌, ◌⊎◌, inl, inr, ℕ, ◌*◌, ◌==◌, not, Bool, true, false, if◌then◌else◌, List, [], ◌∷◌, ◌++◌, filter, take, Option, Some, None, is_some, refl, sym, subst, ◌∙◌}
-use Rattle.std.specs.List.{flat_map, list_any}
+use Rattle.world_keeps_streams.proofs.Common.{◌≡◌, ◌⊎◌, inl, inr, ℕ, ◌*◌, ◌==◌, not, Bool, true, false, if◌then◌else◌, List, [], ◌∷◌, ◌++◌, filter, take, Option, Some, None, is_some, refl, sym, subst, ◌∙◌, flat_map, list_any, Host, same_host, HostMessage, data_bits, header_of, Command, DataHeader, Ending, Open, Unconnected, asked_on_link, asked_with_size, at_end, changed, cls_taken_by, desk_taken, found_in, gvb_taken, interrupted, entry_joined, receiver_on, ret_taken, rts_heard, rts_taken, rts_taken_by, sender_on, str_heard, str_linked, str_taken_by, ERRONEOUS, Legal, Order, Wrong, error, orders_of, arrived, arrived_if, data_found, data_of, data_taken, is_acceptable, spent, text_faulted, DeskState, command_queued, desk_of, desk_told, listener_on, settled, swept, changed_at, close_due, closed_by_partner, closed_when, ending, entry_at, free_link, is_at, is_ending, is_sent, must_close, opening_by, opening_notices, receives_on, receiving_end, refused_end, sending_end, sends_on, Parcel, asked_at, cls_sent, command_gone, commands_gone, parcel_gone, TurnState, command_taken, if_ready, message_taken, order_taken, orders_taken, reply_notices, reset_notices, with_desk, Closing, Entry, Listener, Notice, both, is_ready, Phase, after_turn, turn_of, NcpState, pair_with, AreInOrder, next_in, offered_by, Peer, next_pair}
 use Rattle.bit_messages.specs.Octets.{octets_of}
-use Rattle.interface.specs.Host.{Host, same_host}
 use Rattle.interface.specs.declared.crossing.Inbound.TheVariants as inbound
-use Rattle.interface.specs.declared.message.HostMessage.{HostMessage}
-use Rattle.ncp_control.specs.DataHeader.{data_bits, header_of}
-use Rattle.ncp_control.specs.declared.command.Command.{Command}
 use Rattle.ncp_control.specs.declared.command.Command.TheVariants as command
-use Rattle.ncp_control.specs.declared.data_header.DataHeader.{DataHeader}
 use Rattle.host_pairs.specs.Commands as commands
-use Rattle.host_pairs.specs.Commands.{Ending, Found, Open, Unconnected, all_taken, asked_on_link, asked_with_size, at_end, changed, cls_taken_by, desk_taken, found_in, gvb_taken, interrupted, entry_joined, receiver_on, ret_taken, rts_heard, rts_taken, rts_taken_by, sender_on, str_heard, str_linked, str_taken_by}
-use Rattle.host_pairs.specs.Control.{ERRONEOUS, Legal, NOT_CONNECTED, Order, Wrong, error, orders_of}
-use Rattle.host_pairs.specs.Data.{arrived, arrived_if, data_found, data_of, data_taken, is_acceptable, spent, text_faulted}
-use Rattle.host_pairs.specs.Desk.{DeskState, command_queued, desk_of, desk_told, listener_on, settled, swept}
-use Rattle.host_pairs.specs.Entries.{changed_at, close_due, closed_by_partner, closed_when, ending, entry_at, free_link, is_at, is_ending, is_over, is_sent, must_close, opening_by, opening_notices, receives_on, receiving_end, refused_end, sending_end, sends_on}
+use Rattle.host_pairs.specs.Commands.{Found, all_taken}
+use Rattle.host_pairs.specs.Control.{NOT_CONNECTED}
+use Rattle.host_pairs.specs.Entries.{is_over}
 use Rattle.host_pairs.specs.Parcels as parcel
-use Rattle.host_pairs.specs.Parcels.{Parcel, asked_at, cls_sent, command_gone, commands_gone, parcel_gone}
-use Rattle.host_pairs.specs.Turn.{TurnState, command_taken, if_ready, message_taken, order_taken, orders_taken, reply_notices, reset_notices, with_desk}
-use Rattle.host_pairs.specs.declared.entry.Closing.{Closing}
 use Rattle.host_pairs.specs.declared.entry.Closing.TheVariants as closing
-use Rattle.host_pairs.specs.declared.entry.Entry.{Entry}
-use Rattle.host_pairs.specs.declared.listener.Listener.{Listener}
-use Rattle.host_pairs.specs.declared.notice.Notice.{Notice}
 use Rattle.host_pairs.specs.declared.notice.Notice.TheVariants as notice
-use Rattle.host_pairs.proofs.lemmas.{both}
-use Rattle.ncp_control.specs.Phases.{is_ready}
-use Rattle.ncp_control.specs.declared.phase.Phase.{Phase}
 use Rattle.ncp_control.specs.declared.phase.Phase.TheVariants as phase
-use Rattle.sockets.specs.Accepting.{accepted, after_turn, turn_of}
-use Rattle.sockets.specs.Pairs.{NcpState, pair_with}
-use Rattle.sockets.specs.Peers.{AreInOrder}
-use Rattle.sockets.specs.Sending.{next_in, offered, offered_by}
-use Rattle.sockets.specs.declared.peer.Peer.{Peer}
-use Rattle.sockets.proofs.lemmas.{next_pair}
+use Rattle.sockets.specs.Accepting.{accepted}
+use Rattle.sockets.specs.Sending.{offered}
 use Rattle.world_keeps_streams.proofs.Deeds.Effects.{Among, Changed, among_changed, among_either, among_filter, among_map}
 
 -- ---- notices of no end of these sockets that goes
@@ -120,9 +99,6 @@ module _ (p : Host) (own foreign : ℕ) where
     lasting_if false d e h k = k
 
   -- ---- what comes in: a CLS of the own queue doesn't go out by it
-
-  unsent : Entry → Bool
-  unsent e = is_sent e.closing
 
   sent_over : (e : Entry) → is_over e ≡ true → is_sent e.closing ≡ true
   sent_over e over = (both (is_sent e.closing) e.partner_closed over).0

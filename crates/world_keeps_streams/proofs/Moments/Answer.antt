@@ -1,37 +1,16 @@
 -- The lives of a host with one peer are carried by its calls at a moment at which an answer comes back.
-use Rattle.std.proofs.Common.{◌≡◌, ℕ, ◌==◌, Bool, true, false, not, ◌&&◌, ◌||◌, if◌then◌else◌, List, [], ◌∷◌, ◌++◌, is_some, refl, ap, sym, subst, ◌∙◌}
-use Rattle.interface.specs.Host.{Host, same_host}
+use Rattle.world_keeps_streams.proofs.Common.{◌≡◌, ℕ, ◌==◌, Bool, true, false, not, ◌&&◌, ◌||◌, if◌then◌else◌, List, [], ◌∷◌, ◌++◌, is_some, refl, ap, sym, subst, ◌∙◌, Host, same_host, Flow, Answer, same_host-true, is_busy, PairState, TurnState, answered_turn, failed, failed_by, freed, is_gone, settled_turn, Notice, Phase, put, Answered, AreAllowed, IsTelling, ends_after, ends_now, pair, turn_of, NcpState, pair_with, all_told, crossed, HaveAddresses, Agrees, Crossed, IsStory, Moment, event_in, events_of, places, program, IsTimeline, crossings_of, coupled, program_own, story_agrees, keeps, mail_below, calls_by, own_calls}
 use Rattle.interface.specs.Mailboxes as mail
-use Rattle.interface.specs.declared.address.Flow.{Flow}
-use Rattle.interface.specs.declared.crossing.Answer.{Answer}
 use Rattle.interface.specs.declared.crossing.Answer.TheVariants as answer
 use Rattle.interface.specs.declared.crossing.Crossing.TheVariants as crossing
 use Rattle.interface.specs.declared.crossing.Inbound.TheVariants as inbound
-use Rattle.interface.proofs.lemmas.{same_host-true}
-use Rattle.host_pairs.specs.Entries.{is_busy}
-use Rattle.host_pairs.specs.Pair.{PairState}
 use Rattle.ncp_control.specs.Phases as program_phases
-use Rattle.host_pairs.specs.Turn.{TurnState, answered_turn, failed, failed_by, freed, is_gone, settled_turn}
-use Rattle.host_pairs.specs.declared.notice.Notice.{Notice}
-use Rattle.ncp_control.specs.declared.phase.Phase.{Phase}
 use Rattle.ncp_control.specs.declared.phase.Phase.TheVariants as phase
-use Rattle.host_keeps_pairing.proofs.lemmas.{put}
 use Rattle.host_keeps_streams.specs.Histories as calls
-use Rattle.host_keeps_streams.specs.Histories.{Answered, AreAllowed, IsTelling, ends_after, ends_now}
-use Rattle.reset_law.specs.Pairs.{pair}
 use Rattle.reset_law.specs.Stays as stay
-use Rattle.sockets.specs.Accepting.{accepted, turn_of}
-use Rattle.sockets.specs.Pairs.{NcpState, pair_with}
-use Rattle.net_sim.specs.Book.{all_told, crossed}
-use Rattle.net_sim.specs.Clean.{HaveAddresses}
-use Rattle.net_sim.specs.Projection.{Agrees}
-use Rattle.net_sim.specs.Story.{Crossed, IsStory, Moment, event_in, events_of, places, program}
-use Rattle.net_sim.specs.Timeline.{IsTimeline, crossings_of}
+use Rattle.sockets.specs.Accepting.{accepted}
 use Rattle.net_sim.specs.Told.{kept_in}
-use Rattle.net_sim.proofs.lemmas.{coupled, program_own, story_agrees}
-use Rattle.world_keeps_pairing.specs.Steps.{keeps}
-use Rattle.world_keeps_pairing.proofs.lemmas.{mail_below}
-use Rattle.world_keeps_streams.specs.Calls.{called, calls_by, own_calls}
+use Rattle.world_keeps_streams.specs.Calls.{called}
 use Rattle.world_keeps_streams.proofs.Calls.Chain.{Chained, chain, ready_both}
 use Rattle.world_keeps_streams.proofs.Deeds.Effects.{all_lives}
 use Rattle.world_keeps_streams.proofs.Deeds.Told.{call_told}

@@ -1,40 +1,17 @@
 -- The lives of a host with one peer are carried by its calls at a moment at which its user asks for something.
-use Rattle.std.proofs.Common.{◌≡◌, ℕ, ◌==◌, ◌&&◌, not, Bool, true, false, if◌then◌else◌, List, [], ◌∷◌, map, filter, find, Option, Some, None, refl, ap, sym, subst, ◌∙◌, append-nil}
-use Rattle.std.proofs.lemmas.Bool.{eqb-true}
-use Rattle.interface.specs.Host.{Host, same_host}
+use Rattle.world_keeps_streams.proofs.Common.{◌≡◌, ℕ, ◌==◌, ◌&&◌, not, Bool, true, false, if◌then◌else◌, List, [], ◌∷◌, map, filter, find, Option, Some, None, refl, ap, sym, subst, ◌∙◌, eqb-true, Host, same_host, same_host-refl, same_host-true, is_receive_socket, contact_notices, listens_on, is_mine_on, PairState, is_ready, Entry, Notice, both, AreAllowed, AsksBack, Closes, Gives, Grants, IsTelling, OpensReceiver, OpensSender, IsAsking, NcpState, owner_of, pair_with, grant_fault, on_open, Request, not_first, changed_when, life_ended, lives_asked, lives_at, lives_with, where_it, HaveAddresses, Asked, Moment, event_in, events_of, program, IsTimeline, crossings_of, coupled, same_host-sym, HasOpenEnd, mine_on, live, owner_found, keeps, send_odd, calls_by, owner_calls, own_calls, request_calls}
+use Rattle.std.proofs.Common.{append-nil}
 use Rattle.interface.specs.Mailboxes as mail
-use Rattle.interface.proofs.lemmas.{same_host-refl, same_host-true}
-use Rattle.ncp_control.specs.Numbers.{is_receive_socket}
-use Rattle.host_pairs.specs.Asked.{contact_notices}
-use Rattle.host_pairs.specs.Desk.{listens_on}
-use Rattle.host_pairs.specs.Entries.{is_mine_on}
-use Rattle.host_pairs.specs.Pair.{PairState}
-use Rattle.ncp_control.specs.Phases.{is_ready}
-use Rattle.host_pairs.specs.declared.entry.Entry.{Entry}
-use Rattle.host_pairs.specs.declared.notice.Notice.{Notice}
 use Rattle.host_pairs.specs.declared.notice.Notice.TheVariants as notice
-use Rattle.host_pairs.proofs.lemmas.{both}
 use Rattle.host_keeps_streams.specs.Histories as calls
-use Rattle.host_keeps_streams.specs.Histories.{AreAllowed, AsksBack, Call, Closes, Gives, Grants, IsTelling, OpensReceiver, OpensSender}
-use Rattle.pair_keeps_streams.proofs.lemmas.{IsAsking}
-use Rattle.sockets.specs.Pairs.{NcpState, owner_of, pair_with}
-use Rattle.sockets.specs.Requests.{grant_fault, on_open, refusal, served_notices}
-use Rattle.sockets.specs.declared.request.Request.{Request}
+use Rattle.host_keeps_streams.specs.Histories.{Call}
+use Rattle.sockets.specs.Requests.{refusal, served_notices}
 use Rattle.sockets.specs.declared.request.Request.TheVariants as request
-use Rattle.sockets.proofs.lemmas.{not_first}
 use Rattle.promise.specs.declared.life.Life.{Life}
 use Rattle.net_sim.specs.Book as book
-use Rattle.net_sim.specs.Book.{asked, changed_when, life_ended, lives_asked, lives_at, lives_with, where_it}
-use Rattle.net_sim.specs.Clean.{HaveAddresses}
-use Rattle.net_sim.specs.Story.{Asked, Moment, event_in, events_of, program}
-use Rattle.net_sim.specs.Timeline.{IsTimeline, crossings_of}
+use Rattle.net_sim.specs.Book.{asked}
 use Rattle.net_sim.specs.Told.{kept_in}
-use Rattle.net_sim.proofs.lemmas.{coupled, same_host-sym}
-use Rattle.world_keeps_lives.specs.Lives.{HasOpenEnd, mine_on}
-use Rattle.world_keeps_lives.proofs.lemmas.{live, owner_found}
-use Rattle.world_keeps_pairing.specs.Steps.{keeps}
-use Rattle.world_keeps_pairing.proofs.lemmas.{send_odd}
-use Rattle.world_keeps_streams.specs.Calls.{called, calls_by, owner_calls, own_calls, request_calls}
+use Rattle.world_keeps_streams.specs.Calls.{called}
 use Rattle.world_keeps_streams.proofs.Steps.ActsAsked.{no_contact}
 use Rattle.world_keeps_streams.proofs.Calls.Allowed.{may_calls}
 use Rattle.world_keeps_streams.proofs.Calls.May.{AllMay, MayCall}

@@ -1,19 +1,9 @@
 -- The lives of a host with one peer are carried by its calls at a moment at which some host stops or starts.
-use Rattle.std.proofs.Common.{◌≡◌, ℕ, ◌==◌, ◌&&◌, not, Bool, true, false, List, ◌∷◌, refl, ap, ◌∙◌}
-use Rattle.interface.specs.Host.{Host, same_host}
+use Rattle.world_keeps_streams.proofs.Common.{◌≡◌, ℕ, ◌==◌, ◌&&◌, not, Bool, true, false, List, ◌∷◌, refl, ap, ◌∙◌, Host, same_host, pair, AreAllowed, IsTelling, life_ended, lives_on, HaveAddresses, Crossed, Moment, event_in, events_of, IsTimeline, crossings_of, same_host-sym, keeps, own_calls}
 use Rattle.interface.specs.Mailboxes as mail
 use Rattle.interface.specs.declared.crossing.Crossing.TheVariants as crossing
-use Rattle.reset_law.specs.Pairs.{pair}
-use Rattle.host_keeps_streams.specs.Histories.{AreAllowed, IsTelling}
 use Rattle.promise.specs.declared.life.Life.{Life}
-use Rattle.net_sim.specs.Book.{life_ended, lives_on}
-use Rattle.net_sim.specs.Clean.{HaveAddresses}
-use Rattle.net_sim.specs.Story.{Crossed, Moment, event_in, events_of}
-use Rattle.net_sim.specs.Timeline.{IsTimeline, crossings_of}
 use Rattle.net_sim.specs.Told.{kept_in}
-use Rattle.net_sim.proofs.lemmas.{same_host-sym}
-use Rattle.world_keeps_pairing.specs.Steps.{keeps}
-use Rattle.world_keeps_streams.specs.Calls.{own_calls}
 use Rattle.world_keeps_streams.proofs.Deeds.Effects.{Among}
 use Rattle.world_keeps_streams.proofs.Steps.ActsAsked.{kept_stop}
 use Rattle.world_keeps_streams.proofs.Carried.Calls.{Carries}

@@ -1,42 +1,18 @@
 -- The lives of a host with one peer are carried by its calls at a moment at which a message of the peer comes in.
-use Rattle.std.proofs.Common.{◌≡◌, ℕ, ◌==◌, ◌&&◌, not, Bool, true, false, List, [], ◌∷◌, ◌++◌, drop, refl, ap, sym, subst, ◌∙◌}
-use Rattle.interface.specs.Host.{Host, same_host}
+use Rattle.world_keeps_streams.proofs.Common.{◌≡◌, ℕ, ◌==◌, ◌&&◌, not, Bool, true, false, List, [], ◌∷◌, ◌++◌, drop, refl, ap, sym, subst, ◌∙◌, Host, same_host, HostMessage, same_host-true, Legal, Order, Wrong, orders_of, data_taken, desk_of, PairState, TurnState, message_taken, orders_taken, reply_notices, with_desk, Entry, Notice, Phase, AreJoint, IsJoint, orders_idle, AreAllowed, Hears, IsHistory, IsTelling, Takes, In, Message, Other, are, turn_of, NcpState, pair_with, all_told, crossed, HaveAddresses, IsApart, message_on, Crossed, Moment, event_in, events_of, places, program, IsTimeline, crossings_of, coupled, program_own, held, keeps, AText, AnRrp, AnRst, Sort, mail_below, message_pair, plain_joint, sort_of, calls_by, message_calls, orders_heard, own_calls}
 use Rattle.interface.specs.Mailboxes as mail
 use Rattle.interface.specs.declared.crossing.Crossing.TheVariants as crossing
 use Rattle.interface.specs.declared.crossing.Inbound.TheVariants as inbound
-use Rattle.interface.specs.declared.message.HostMessage.{HostMessage}
-use Rattle.interface.proofs.lemmas.{same_host-true}
 use Rattle.ncp_control.specs.declared.command.Command.TheVariants as command
-use Rattle.host_pairs.specs.Control.{Legal, Order, Wrong, orders_of}
-use Rattle.host_pairs.specs.Data.{data_taken}
-use Rattle.host_pairs.specs.Desk.{desk_of}
-use Rattle.host_pairs.specs.Pair.{PairState}
 use Rattle.ncp_control.specs.Phases as phases
-use Rattle.host_pairs.specs.Turn.{TurnState, message_taken, orders_taken, reply_notices, with_desk}
-use Rattle.host_pairs.specs.declared.entry.Entry.{Entry}
-use Rattle.host_pairs.specs.declared.notice.Notice.{Notice}
-use Rattle.ncp_control.specs.declared.phase.Phase.{Phase}
 use Rattle.ncp_control.specs.declared.phase.Phase.TheVariants as phase
-use Rattle.host_keeps_pairing.specs.Hearing.{AreJoint, IsJoint}
-use Rattle.host_keeps_pairing.proofs.lemmas.{orders_idle}
 use Rattle.host_keeps_streams.specs.Histories as calls
-use Rattle.host_keeps_streams.specs.Histories.{AreAllowed, Hears, IsHistory, IsTelling, Takes}
-use Rattle.reset_law.specs.Events.{In, Message, Reset, Other, are}
+use Rattle.reset_law.specs.Events.{Reset}
 use Rattle.reset_law.specs.Stays as stay
-use Rattle.sockets.specs.Accepting.{accepted, turn_of}
-use Rattle.sockets.specs.Pairs.{NcpState, pair_with}
+use Rattle.sockets.specs.Accepting.{accepted}
 use Rattle.promise.specs.declared.life.Life.{Life}
-use Rattle.net_sim.specs.Book.{all_told, crossed}
-use Rattle.net_sim.specs.Clean.{HaveAddresses}
-use Rattle.net_sim.specs.Projection.{IsApart, message_on}
-use Rattle.net_sim.specs.Story.{Crossed, Moment, event_in, events_of, places, program}
-use Rattle.net_sim.specs.Timeline.{IsTimeline, crossings_of}
 use Rattle.net_sim.specs.Told.{kept_in}
-use Rattle.net_sim.proofs.lemmas.{coupled, program_own}
-use Rattle.world_keeps_lives.proofs.lemmas.{held}
-use Rattle.world_keeps_pairing.specs.Steps.{keeps}
-use Rattle.world_keeps_pairing.proofs.lemmas.{AText, AnRrp, AnRst, Sort, mail_below, message_pair, plain_joint, sort_of}
-use Rattle.world_keeps_streams.specs.Calls.{called, calls_by, message_calls, orders_heard, own_calls}
+use Rattle.world_keeps_streams.specs.Calls.{called}
 use Rattle.world_keeps_streams.proofs.Deeds.Effects.{Among, all_lives}
 use Rattle.world_keeps_streams.proofs.Deeds.Kinds.{deed_of}
 use Rattle.world_keeps_streams.proofs.Deeds.Told.{After, call_told}

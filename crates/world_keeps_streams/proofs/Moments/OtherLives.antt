@@ -1,53 +1,24 @@
 -- A moment at which a host does nothing with a peer leaves its lives with that peer as they were.
-use Rattle.std.proofs.Common.{◌≡◌, ℕ, ◌*◌, ◌==◌, ◌&&◌, not, Bool, true, false, if◌then◌else◌, List, [], ◌∷◌, drop, filter, take, Option, Some, None, refl, ap, sym, subst}
-use Rattle.std.proofs.lemmas.Bool.{eqb-true}
-use Rattle.std.specs.List.{flat_map}
-use Rattle.interface.specs.Host.{Host, same_host}
+use Rattle.world_keeps_streams.proofs.Common.{◌≡◌, ℕ, ◌*◌, ◌==◌, ◌&&◌, not, Bool, true, if◌then◌else◌, List, [], ◌∷◌, drop, filter, take, Option, Some, None, refl, ap, sym, subst, eqb-true, flat_map, Host, same_host, Flow, Answer, HostMessage, same_host-true, is_receive_socket, Command, MayGo, contact_notices, DeskState, desk_of, changed_at, ending, entry_at, is_busy, is_ending, is_mine_on, opening_notices, opening_by, PairState, Parcel, asked_at, cls_sent, command_gone, commands_gone, may_send_on, next_of, parcel_gone, is_ready, answered_turn, message_taken, Entry, Notice, Phase, both, what_goes, turn_of, after_turn, NcpState, owner_of, pair_with, AreInOrder, grant_fault, on_open, message_of, next_in, offered_by, Peer, Request, next_is, next_pair, Kept, lives_asked, lives_at, lives_on, where_it, HaveAddresses, Asked, Crossed, Moment, places, program, IsTimeline, crossings_of, host_in, kept_by, notices_by, coupled, AreRefusing, held, owner_found, same_turned}
+use Rattle.std.proofs.Common.{false}
 use Rattle.interface.specs.Mailboxes as mail
-use Rattle.interface.specs.declared.address.Flow.{Flow}
-use Rattle.interface.specs.declared.crossing.Answer.{Answer}
 use Rattle.interface.specs.declared.crossing.Crossing.TheVariants as crossing
 use Rattle.interface.specs.declared.crossing.Inbound.TheVariants as inbound
-use Rattle.interface.specs.declared.message.HostMessage.{HostMessage}
-use Rattle.interface.proofs.lemmas.{same_host-true}
-use Rattle.ncp_control.specs.Numbers.{is_receive_socket}
-use Rattle.ncp_control.specs.declared.command.Command.{Command}
 use Rattle.ncp_control.specs.declared.command.Command.TheVariants as command
-use Rattle.host_pairs.specs.Allowed.{MayGo}
-use Rattle.host_pairs.specs.Asked.{contact_notices}
-use Rattle.host_pairs.specs.Desk.{DeskState, desk_of}
-use Rattle.host_pairs.specs.Entries.{changed_at, ending, entry_at, is_busy, is_ending, is_mine_on, is_over, opening_notices, opening_by}
-use Rattle.host_pairs.specs.Pair.{PairState}
+use Rattle.host_pairs.specs.Entries.{is_over}
 use Rattle.host_pairs.specs.Parcels as parcel
-use Rattle.host_pairs.specs.Parcels.{Parcel, asked_at, cls_sent, command_gone, commands_gone, link_of, may_send_on, next_of, parcel_gone}
-use Rattle.ncp_control.specs.Phases.{is_ready}
-use Rattle.host_pairs.specs.Turn.{answered_turn, message_taken}
-use Rattle.host_pairs.specs.declared.entry.Entry.{Entry}
-use Rattle.host_pairs.specs.declared.notice.Notice.{Notice}
+use Rattle.host_pairs.specs.Parcels.{link_of}
 use Rattle.host_pairs.specs.declared.notice.Notice.TheVariants as notice
-use Rattle.ncp_control.specs.declared.phase.Phase.{Phase}
-use Rattle.host_pairs.proofs.lemmas.{both, what_goes}
 use Rattle.host_keeps_streams.proofs.lemmas.Senders as senders
-use Rattle.sockets.specs.Accepting.{accepted, turn_of, after_turn}
-use Rattle.sockets.specs.Pairs.{NcpState, owner_of, pair_with}
-use Rattle.sockets.specs.Peers.{AreInOrder}
-use Rattle.sockets.specs.Requests.{first_if, grant_fault, on_open, refusal, served_notices}
-use Rattle.sockets.specs.Sending.{message_of, next_in, next_out, offered, offered_by}
+use Rattle.sockets.specs.Accepting.{accepted}
+use Rattle.sockets.specs.Requests.{first_if, refusal, served_notices}
+use Rattle.sockets.specs.Sending.{next_out, offered}
 use Rattle.sockets.specs.declared.fault.NcpFault.TheVariants as fault
-use Rattle.sockets.specs.declared.peer.Peer.{Peer}
-use Rattle.sockets.specs.declared.request.Request.{Request}
 use Rattle.sockets.specs.declared.request.Request.TheVariants as request
-use Rattle.sockets.proofs.lemmas.{next_is, next_pair}
 use Rattle.promise.specs.declared.life.Life.{Life}
 use Rattle.net_sim.specs.Book as book
-use Rattle.net_sim.specs.Book.{Kept, lives_asked, lives_at, lives_on, where_it}
-use Rattle.net_sim.specs.Clean.{HaveAddresses}
-use Rattle.net_sim.specs.Story.{Asked, Crossed, Moment, places, program}
-use Rattle.net_sim.specs.Timeline.{IsTimeline, crossings_of}
-use Rattle.net_sim.specs.Told.{host_in, kept_by, kept_in, notices_by}
-use Rattle.net_sim.proofs.lemmas.{coupled}
-use Rattle.world_keeps_lives.specs.Lives.{AreRefusing}
-use Rattle.world_keeps_lives.proofs.lemmas.{Holds, held, owner_found, same_turned}
+use Rattle.net_sim.specs.Told.{kept_in}
+use Rattle.world_keeps_lives.proofs.lemmas.{Holds}
 use Rattle.world_keeps_streams.proofs.Deeds.Effects.{Among, all_lives, found_among}
 use Rattle.world_keeps_streams.proofs.Deeds.Ends.{IsAt}
 use Rattle.world_keeps_streams.proofs.Carried.Calls.{recent, since}

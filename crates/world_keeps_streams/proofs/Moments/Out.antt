@@ -1,38 +1,15 @@
 -- The lives of a host with one peer are carried by its calls at a moment at which a message goes out to the peer.
-use Rattle.std.proofs.Common.{◌≡◌, ℕ, ◌==◌, Bool, true, false, ◌&&◌, List, [], ◌∷◌, ◌++◌, take, drop, Some, refl, ap, sym, subst, ◌∙◌}
-use Rattle.interface.specs.Host.{Host, same_host}
+use Rattle.world_keeps_streams.proofs.Common.{◌≡◌, ℕ, ◌==◌, Bool, true, false, ◌&&◌, List, [], ◌∷◌, ◌++◌, take, drop, Some, refl, ap, sym, subst, ◌∙◌, Host, same_host, HostMessage, same_host-true, Command, DeskState, desk_of, PairState, Parcel, next_of, parcel_gone, with_connections, Entry, Listener, Notice, pair_range, AreAllowed, IsHistory, IsTelling, Says, Sends, turn_of, NcpState, pair_with, next_in, Peer, next_is, next_pair, all_told, crossed, HaveAddresses, Crossed, IsNext, IsStory, Moment, event_in, events_of, places, program, IsTimeline, crossings_of, coupled, GoodTurn, Place, has_ends, held, origin_in, keeps, mail_below, offered_pair, programs_ranged, served_in, calls_by, commands_said, own_calls, parcel_calls}
 use Rattle.interface.specs.Mailboxes as mail
 use Rattle.interface.specs.declared.crossing.Crossing.TheVariants as crossing
-use Rattle.interface.specs.declared.message.HostMessage.{HostMessage}
-use Rattle.interface.proofs.lemmas.{same_host-true}
-use Rattle.ncp_control.specs.declared.command.Command.{Command}
-use Rattle.host_pairs.specs.Desk.{DeskState, desk_of}
-use Rattle.host_pairs.specs.Pair.{PairState}
 use Rattle.host_pairs.specs.Parcels as parcel
-use Rattle.host_pairs.specs.Parcels.{Parcel, next_of, parcel_gone, with_connections}
-use Rattle.host_pairs.specs.declared.entry.Entry.{Entry}
-use Rattle.host_pairs.specs.declared.listener.Listener.{Listener}
-use Rattle.host_pairs.specs.declared.notice.Notice.{Notice}
-use Rattle.host_keeps_ranges.proofs.lemmas.{pair_range}
 use Rattle.host_keeps_streams.specs.Histories as calls
-use Rattle.host_keeps_streams.specs.Histories.{AreAllowed, IsHistory, IsTelling, Says, Sends}
-use Rattle.sockets.specs.Accepting.{turn_of}
-use Rattle.sockets.specs.Pairs.{NcpState, pair_with}
-use Rattle.sockets.specs.Sending.{next_in, offered}
-use Rattle.sockets.specs.declared.peer.Peer.{Peer}
-use Rattle.sockets.proofs.lemmas.{next_is, next_pair}
+use Rattle.sockets.specs.Sending.{offered}
 use Rattle.promise.specs.declared.life.Life.{Life}
-use Rattle.net_sim.specs.Book.{all_told, crossed}
-use Rattle.net_sim.specs.Clean.{HaveAddresses}
-use Rattle.net_sim.specs.Story.{Crossed, IsNext, IsStory, Moment, event_in, events_of, places, program}
-use Rattle.net_sim.specs.Timeline.{IsTimeline, crossings_of}
 use Rattle.net_sim.specs.Told.{kept_in}
-use Rattle.net_sim.proofs.lemmas.{coupled}
-use Rattle.world_keeps_lives.proofs.lemmas.{GoodTurn, Place, has_ends, held, waits}
-use Rattle.world_keeps_pairing.specs.Free.{origin_in}
-use Rattle.world_keeps_pairing.specs.Steps.{keeps}
-use Rattle.world_keeps_pairing.proofs.lemmas.{mail_below, offered_pair, programs_ranged, served_in, some_commands}
-use Rattle.world_keeps_streams.specs.Calls.{called, calls_by, commands_said, own_calls, parcel_calls}
+use Rattle.world_keeps_lives.proofs.lemmas.{waits}
+use Rattle.world_keeps_pairing.proofs.lemmas.{some_commands}
+use Rattle.world_keeps_streams.specs.Calls.{called}
 use Rattle.world_keeps_streams.proofs.Calls.Chain.{chain}
 use Rattle.world_keeps_streams.proofs.Deeds.Effects.{Among, all_lives}
 use Rattle.world_keeps_streams.proofs.Deeds.Told.{call_told}

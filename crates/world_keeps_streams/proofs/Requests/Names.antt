@@ -1,21 +1,14 @@
 -- A life's partner's request stays the same while more crosses; and two lives of one connection match.
-use Rattle.std.proofs.Common.{◌≡◌, ℕ, suc, true, false, List, [], ◌++◌, Option, Some, None, IsSome, refl, ap, sym, subst, ◌∙◌}
-use Rattle.std.specs.List.{Contains}
-use Rattle.interface.specs.Host.{Host}
-use Rattle.interface.specs.declared.crossing.Crossing.{Crossing}
-use Rattle.pairing_law.specs.Links.{events_at}
-use Rattle.pairing_law.specs.Partners.{IsIn, OwnOnce}
+use Rattle.world_keeps_streams.proofs.Common.{◌≡◌, ℕ, suc, true, false, List, [], ◌++◌, Option, Some, None, refl, ap, sym, subst, ◌∙◌, Contains, Host, Crossing, events_at, IsIn, run_at, Match, SafePartners, control_flow, last_out, own_request, partner_request, Moment, crossings_of, Coupled, law_events, origin_in, place_or, life_of, openings, steps, all_tied, are_origins, safe_partners, served_in}
+use Rattle.std.proofs.Common.{IsSome}
+use Rattle.pairing_law.specs.Partners.{OwnOnce}
 use Rattle.pairing_law.specs.Sides.{Life}
-use Rattle.pairing_law.proofs.lemmas.{run_at, safe_run}
+use Rattle.pairing_law.proofs.lemmas.{safe_run}
 use Rattle.promise.specs.declared.life.Life as book
-use Rattle.promise.specs.Safe.{Match, SafePartners, before, control_flow, last_out, named, own_request, partner_request, receives}
-use Rattle.net_sim.specs.Story.{Moment}
-use Rattle.net_sim.specs.Timeline.{crossings_of}
-use Rattle.net_sim.proofs.lemmas.{Coupled}
-use Rattle.world_keeps_pairing.specs.Free.{law_events, origin_in, origin_or, place_or}
-use Rattle.world_keeps_pairing.specs.Lives.{life_of, openings, with_lives}
-use Rattle.world_keeps_pairing.specs.Steps.{steps}
-use Rattle.world_keeps_pairing.proofs.lemmas.{all_tied, are_origins, between_itself, by_sockets, in_among, life_matches, lives_among, one_own, partner_named, place_there, safe_partners, served_in, told_in}
+use Rattle.promise.specs.Safe.{before, named, receives}
+use Rattle.world_keeps_pairing.specs.Free.{origin_or}
+use Rattle.world_keeps_pairing.specs.Lives.{with_lives}
+use Rattle.world_keeps_pairing.proofs.lemmas.{between_itself, by_sockets, in_among, life_matches, lives_among, one_own, partner_named, place_there, told_in}
 use Rattle.world_keeps_streams.proofs.Requests.Sides.{Lawful, Own, Heard, coupled_in, lives_in, same_request}
 
 some_place : (x : book.Life) (o : Option ℕ) → IsSome (named x o) → (p : ℕ) × (o ≡ Some p)

@@ -1,28 +1,10 @@
 -- The requests of an end that is there, in a host that stays: those of the connection that its sockets' gone ones count.
-use Rattle.std.proofs.Common.{◌≡◌, ℕ, ◌+◌, ◌==◌, ◌&&◌, ◌||◌, Bool, true, false, List, [], ◌∷◌, Option, Some, None, refl, ap, sym, subst, ◌∙◌, arith}
-use Rattle.std.proofs.lemmas.Bool.{eqb-true}
-use Rattle.interface.specs.Host.{Host}
-use Rattle.host_pairs.specs.Entries.{entry_at, is_at}
-use Rattle.host_pairs.specs.declared.entry.Entry.{Entry}
-use Rattle.host_pairs.proofs.lemmas.{both}
-use Rattle.host_keeps_pairing.specs.Ends.{end_of, is_past, standing}
-use Rattle.host_keeps_streams.specs.Histories.{gone_now}
-use Rattle.pair_keeps_streams.specs.Words.{counted, has_heard, heard_from}
-use Rattle.pairing_law.specs.Ends.{End}
-use Rattle.pairing_law.specs.Links.{Sockets, Who, Receiver, Sender, receiver}
-use Rattle.pairing_law.specs.Marks.{Mark, closes, Asks}
-use Rattle.pairing_law.specs.Sides.{Side, hears, says}
-use Rattle.pairing_law.proofs.lemmas.{Balanced, Half, Joined, count, stays_same}
-use Rattle.reset_law.specs.Events.{Event}
+use Rattle.world_keeps_streams.proofs.Common.{◌≡◌, ℕ, ◌+◌, ◌==◌, ◌&&◌, ◌||◌, Bool, true, false, List, [], ◌∷◌, Option, Some, None, refl, ap, sym, subst, ◌∙◌, arith, eqb-true, Host, entry_at, is_at, Entry, both, end_of, is_past, standing, gone_now, counted, has_heard, heard_from, End, Sockets, Who, receiver, Mark, Asks, Side, hears, says, Half, Joined, count, stays_same, Event, pair_with, Moment, events_of, program, crossings_of, Coupled, law_events, origin_in, keeps, steps, Tie, all_hears, all_says, all_tied, are_origins, at_texts, foreign_of, half, hears_if, left_if, met_if, other, own_of, receiver_half, sender_half, served_in, own_calls}
+use Rattle.pairing_law.specs.Links.{Receiver, Sender}
+use Rattle.pairing_law.specs.Marks.{closes}
+use Rattle.pairing_law.proofs.lemmas.{Balanced}
 use Rattle.reset_law.specs.Stays as stay
-use Rattle.sockets.specs.Pairs.{pair_with}
-use Rattle.net_sim.specs.Story.{Moment, events_of, program}
-use Rattle.net_sim.specs.Timeline.{crossings_of}
-use Rattle.net_sim.proofs.lemmas.{Coupled}
-use Rattle.world_keeps_pairing.specs.Free.{law_events, origin_in}
-use Rattle.world_keeps_pairing.specs.Steps.{keeps, steps}
-use Rattle.world_keeps_pairing.proofs.lemmas.{IsPair, Tie, all_hears, all_says, all_tied, are_origins, at_texts, before, foreign_of, half, hears_if, left_if, met_if, other, own_of, receiver_half, sender_half, served_in}
-use Rattle.world_keeps_streams.specs.Calls.{own_calls}
+use Rattle.world_keeps_pairing.proofs.lemmas.{IsPair, before}
 use Rattle.world_keeps_streams.proofs.Deeds.Effects.{Among, found_among}
 use Rattle.world_keeps_streams.proofs.Lives.Left.{entry_end}
 use Rattle.world_keeps_streams.proofs.Requests.Sides.{Heard, Lawful, coupled_in, law_joined}
@@ -115,9 +97,6 @@ module _ (hosts : List Host) (ms : List Moment) (l : Lawful hosts ms) (s : Socke
       (gone_now p (own_calls h p ms) (own_of who s) (foreign_of who s)) e.partner_closed law.balanced
       (law.same (side_stays h p (at_texts s who) (at_texts s (other who)) (law_events ms) ∙ stays_same h p (events_of ms) ∙ stays))
       (ap (λ (x : End). x.taken) end_is.0 ∙ (let live : is_past (standing e) ≡ false = end_is.1 in rw live refl)) counted_here
-
-  asked_here : (n : ℕ) → e.asked ≡ Some n → Asks (gone_now p (own_calls h p ms) (own_of who s) (foreign_of who s)) n (half h p (at_texts s who) (at_texts s (other who)) (law_events ms)).said
-  asked_here n asked = now.asked n (ap (λ (x : End). x.asked) end_is.0 ∙ (let live : is_past (standing e) ≡ false = end_is.1 in rw live asked))
 
   pub partner_here : (t : ℕ) → e.partner ≡ Some t → Asks (gone_now p (own_calls h p ms) (own_of who s) (foreign_of who s)) (origin_in (crossings_of ms) h p t) (half h p (at_texts s who) (at_texts s (other who)) (law_events ms)).heard
   partner_here t partner =

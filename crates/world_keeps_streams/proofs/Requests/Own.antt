@@ -1,23 +1,8 @@
 -- The own request of a receiving life: it is that of the connection whose partner's request its host took.
-use Rattle.std.proofs.Common.{◌≡◌, inl, inr, ℕ, ◌<◌, ◌≤◌, ◌&&◌, Bool, true, if◌then◌else◌, List, [], ap, sym, subst, ◌∙◌, arith}
-use Rattle.std.specs.List.{Contains}
-use Rattle.interface.specs.Host.{Host}
-use Rattle.ncp_control.specs.Numbers.{is_receive_socket, is_send_socket}
-use Rattle.pairing_law.specs.Links.{receiver, sender}
-use Rattle.pairing_law.specs.Marks.{Asks}
-use Rattle.pairing_law.specs.Partners.{IsIn}
+use Rattle.world_keeps_streams.proofs.Common.{◌≡◌, inl, inr, ℕ, ◌<◌, ◌≤◌, ◌&&◌, Bool, true, if◌then◌else◌, List, [], ap, sym, subst, ◌∙◌, arith, Contains, Host, is_receive_socket, is_send_socket, receiver, sender, Asks, IsIn, Side, Joined, Stands, Stood, asks_once, asks_said, every_in, from_asks, Moment, crossings_of, Coupled, law_events, origin_in, ArePaired, life_of, openings, steps, even_odd, life_in, life_paired, served_in}
 use Rattle.pairing_law.specs.Sides as law
-use Rattle.pairing_law.specs.Sides.{Side}
-use Rattle.pairing_law.proofs.lemmas.{Joined, Stands, Stood, asks_once, asks_said, every_in, from_asks}
 use Rattle.promise.specs.declared.life.Life.{Life}
 use Rattle.promise.specs.Safe.{receives}
-use Rattle.net_sim.specs.Story.{Moment}
-use Rattle.net_sim.specs.Timeline.{crossings_of}
-use Rattle.net_sim.proofs.lemmas.{Coupled}
-use Rattle.world_keeps_pairing.specs.Free.{law_events, origin_in}
-use Rattle.world_keeps_pairing.specs.Lives.{ArePaired, life_of, openings}
-use Rattle.world_keeps_pairing.specs.Steps.{steps}
-use Rattle.world_keeps_pairing.proofs.lemmas.{even_odd, life_in, life_paired, served_in}
 use Rattle.world_keeps_streams.proofs.Lives.Lists.{IsOf, contains}
 use Rattle.world_keeps_streams.proofs.Requests.Sides.{Lawful, Own, coupled_in, law_joined, lives_in}
 

@@ -1,25 +1,13 @@
 -- Requests by the places where they went out, connection by connection: what the clauses of a safe book ask of them.
-use Rattle.std.proofs.Common.{◌≡◌, ℕ, true, false, List, [], ◌∷◌, Option, Some, None, refl, ap, subst}
-use Rattle.interface.specs.Host.{Host}
+use Rattle.world_keeps_streams.proofs.Common.{◌≡◌, ℕ, true, false, List, [], ◌∷◌, Option, Some, None, refl, ap, subst, Host, Match, Moment, Crossed, Asked, event_in, events_of, crossings_of, origin_in}
 use Rattle.reset_law.specs.Stays as stay
-use Rattle.promise.specs.Safe.{Match, receives}
-use Rattle.net_sim.specs.Story.{Moment, Crossed, Asked, event_in, events_of}
-use Rattle.net_sim.specs.Timeline.{crossings_of}
+use Rattle.promise.specs.Safe.{receives}
 use Rattle.promise.specs.declared.life.Life.{Life}
-use Rattle.world_keeps_pairing.specs.Free.{origin_in}
 use Rattle.world_keeps_streams.proofs.Lives.Lists.{IsOf, contains}
 use Rattle.world_keeps_streams.proofs.Requests.Names.{matched, origin_grows}
 use Rattle.world_keeps_streams.proofs.Requests.Sides as sides
 use Rattle.world_keeps_streams.proofs.Requests.Sides.{Lawful, heard_on, lives_in, own_on}
 use Rattle.world_keeps_streams.proofs.Books.Run.{below}
-
-value : Option ℕ → ℕ
-value None = 0
-value (Some n) = n
-
-same_some : (m n : ℕ) → Some m ≡ Some n → m ≡ n
-unfolding value
-same_some m n e = ap value e
 
 -- the origin of a life's partner's request stays the same by a moment
 origin_on : (hosts : List Host) (y : Moment) (ms : List Moment) → Lawful hosts ms → (b a : Host) (s : Life) → IsOf s (lives_in ms) → s.host ≡ b → s.peer ≡ a

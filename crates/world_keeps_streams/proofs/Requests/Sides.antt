@@ -1,26 +1,14 @@
 -- Requests of two hosts beside the law of pairing: each is where this many connections of its sockets were closed before it.
-use Rattle.std.proofs.Common.{◌≡◌, inr, ℕ, ◌&&◌, not, Bool, true, false, List, [], ◌∷◌, if◌then◌else◌, refl, ap, sym, subst, ◌∙◌}
-use Rattle.interface.specs.Host.{Host}
+use Rattle.world_keeps_streams.proofs.Common.{◌≡◌, inr, ℕ, ◌&&◌, not, Bool, true, false, List, [], ◌∷◌, if◌then◌else◌, refl, ap, sym, subst, ◌∙◌, Host, Sockets, events_at, receiver, sender, Mark, Ask, Close, Asks, placed_event, Side, hears, says, Joined, asks_said, pair_same, run_at, Event, Pair, begins_either, HaveAddresses, Moment, event_in, events_of, IsTimeline, crossings_of, Coupled, coupled, law_events, origin_in, keeps, steps, all_hears, all_says, all_tied, are_origins, at_texts, half, hears_if, left_if, met_if, receiver_half, sender_half, served_in}
 use Rattle.interface.specs.Mailboxes as mail
-use Rattle.pairing_law.specs.Links.{Sockets, Receiver, Sender, events_at, receiver, sender}
-use Rattle.pairing_law.specs.Marks.{Mark, Ask, Close, Asks}
-use Rattle.pairing_law.specs.Places.{placed, placed_event}
-use Rattle.pairing_law.specs.Sides.{Side, hears, says}
-use Rattle.pairing_law.proofs.lemmas.{Joined, asks_said, joined_run, pair_same, run_at}
-use Rattle.reset_law.specs.Events.{Event}
-use Rattle.reset_law.specs.Pairs.{Pair}
+use Rattle.pairing_law.specs.Links.{Receiver, Sender}
+use Rattle.pairing_law.specs.Places.{placed}
+use Rattle.pairing_law.proofs.lemmas.{joined_run}
 use Rattle.ncp_control.specs.Phases as phases
 use Rattle.reset_law.specs.Stays as stay
-use Rattle.reset_law.proofs.lemmas.{begins_either}
-use Rattle.net_sim.specs.Clean.{HaveAddresses}
-use Rattle.net_sim.specs.Story.{Moment, event_in, events_of}
-use Rattle.net_sim.specs.Timeline.{IsTimeline, crossings_of}
 use Rattle.net_sim.specs.Told.{kept_in}
 use Rattle.promise.specs.declared.life.Life as book
-use Rattle.net_sim.proofs.lemmas.{Coupled, coupled}
-use Rattle.world_keeps_pairing.specs.Free.{law_events, origin_in}
-use Rattle.world_keeps_pairing.specs.Steps.{keeps, steps}
-use Rattle.world_keeps_pairing.proofs.lemmas.{all_hears, all_says, all_tied, are_origins, at_texts, before, half, hears_if, left_if, met_if, receiver_half, sender_half, served_in}
+use Rattle.world_keeps_pairing.proofs.lemmas.{before}
 
 -- ---- moments that may be
 
@@ -29,9 +17,6 @@ Lawful hosts ms = HaveAddresses hosts × mail.IsRun hosts (crossings_of ms) × I
 
 abbrev pub lives_in : List Moment → List book.Life
 lives_in ms = (kept_in ms).book.lives
-
-abbrev pub at_sockets : ℕ → ℕ → Sockets
-at_sockets receive send = record { receive = receive; send = send }
 
 -- the request of connection `g` of these sockets, which the receiver said by this place
 abbrev pub Own : Host → Host → List Moment → ℕ → ℕ → ℕ → ℕ → Type 0

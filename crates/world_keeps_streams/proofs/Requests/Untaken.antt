@@ -1,25 +1,11 @@
 -- Where the request of an end hasn't gone out, the peer has no end that took it.
-use Rattle.std.proofs.Common.{◌≡◌, ℕ, Bool, true, false, List, [], ◌∷◌, Option, Some, None, refl, ap, sym, subst, ◌∙◌}
-use Rattle.interface.specs.Host.{Host}
+use Rattle.world_keeps_streams.proofs.Common.{◌≡◌, ℕ, Bool, true, false, List, [], ◌∷◌, Option, Some, None, refl, ap, sym, subst, ◌∙◌, Host, HostMessage, IsTelling, gone_now, numbered, numbered_tells, Sockets, Asks, Mark, placed_event, Side, asks_said, Event, HaveAddresses, Moment, Crossed, Asked, event_in, events_of, IsTimeline, crossings_of, law_events, origin_in, keeps, all_says, at_texts, half, hears_if, left_if, mail_below, met_if, odd_send, numbered_by_peer, own_calls}
 use Rattle.interface.specs.Mailboxes as mail
 use Rattle.interface.specs.declared.crossing.Crossing.TheVariants as crossing
-use Rattle.interface.specs.declared.message.HostMessage.{HostMessage}
-use Rattle.host_keeps_streams.specs.Histories.{IsTelling, gone_now, numbered}
-use Rattle.host_keeps_streams.proofs.lemmas.{numbered_tells}
-use Rattle.pairing_law.specs.Links.{Sockets, Receiver, Sender}
-use Rattle.pairing_law.specs.Marks.{Asks, Mark}
-use Rattle.pairing_law.specs.Places.{placed_event}
-use Rattle.pairing_law.specs.Sides.{Side}
-use Rattle.pairing_law.proofs.lemmas.{Joined as Paired, asks_said}
-use Rattle.reset_law.specs.Events.{Event}
+use Rattle.pairing_law.specs.Links.{Receiver, Sender}
+use Rattle.pairing_law.proofs.lemmas.{Joined as Paired}
 use Rattle.reset_law.specs.Stays as stay
-use Rattle.net_sim.specs.Clean.{HaveAddresses}
-use Rattle.net_sim.specs.Story.{Moment, Crossed, Asked, event_in, events_of}
-use Rattle.net_sim.specs.Timeline.{IsTimeline, crossings_of}
-use Rattle.world_keeps_pairing.specs.Free.{law_events, origin_in}
-use Rattle.world_keeps_pairing.specs.Steps.{keeps}
-use Rattle.world_keeps_pairing.proofs.lemmas.{IsPair, all_says, at_texts, before, half, hears_if, left_if, mail_below, met_if, odd_send}
-use Rattle.world_keeps_streams.specs.Calls.{numbered_by_peer, own_calls}
+use Rattle.world_keeps_pairing.proofs.lemmas.{IsPair, before}
 use Rattle.world_keeps_streams.proofs.Heard.Calls.{heard_calls}
 use Rattle.world_keeps_streams.proofs.Heard.Marks.{said_heard}
 use Rattle.world_keeps_streams.proofs.Requests.Now.{Counts, heard_there, joined_halves, unsaid_there}

@@ -1,17 +1,7 @@
 -- Where two hosts meet: what each did by itself is the law's beginning of both streams.
-use Rattle.std.proofs.Common.{◌≡◌, ℕ, ◌==◌, Bool, true, false, List, [], ◌++◌, refl, ap, sym, subst, ◌∙◌}
-use Rattle.interface.specs.Host.{Host}
-use Rattle.ncp_control.specs.declared.command.Command.{Command}
-use Rattle.stream_law.specs.Streams.{opening_stream}
-use Rattle.host_keeps_streams.specs.Histories.{ends_now, gone_now, numbered}
-use Rattle.host_keeps_streams.proofs.lemmas.{numbered_tells}
-use Rattle.pair_keeps_streams.proofs.lemmas.{Free, Joint, Party, Post, Steps, all_steps, mirror, opened}
+use Rattle.world_keeps_streams.proofs.Common.{◌≡◌, ℕ, ◌==◌, Bool, true, false, List, [], ◌++◌, refl, ap, sym, subst, ◌∙◌, Host, Command, opening_stream, ends_now, gone_now, numbered, numbered_tells, Free, Joint, Party, Post, Steps, all_steps, mirror, opened, boxes, pair_with, Moment, events_of, program, own_calls}
 use Rattle.reset_law.specs.Boxes as reset
-use Rattle.reset_law.specs.Boxes.{boxes}
 use Rattle.reset_law.specs.Stays as stay
-use Rattle.sockets.specs.Pairs.{pair_with}
-use Rattle.net_sim.specs.Story.{Moment, events_of, program}
-use Rattle.world_keeps_streams.specs.Calls.{own_calls}
 use Rattle.world_keeps_streams.proofs.Steps.Joined.{Joined, commands_in, party, post_in, numbered_by_peer, turned_tells}
 use Rattle.world_keeps_streams.proofs.Stays.Quiet.{IsSolo, Reached, reach, solo_allowed}
 

@@ -1,30 +1,13 @@
 -- Where two hosts of a world meet both streams begin.
-use Rattle.std.proofs.Common.{◌≡◌, ℕ, ◌==◌, Bool, true, false, not, ◌&&◌, if◌then◌else◌, List, [], ◌∷◌, ◌++◌, refl, ap, sym, subst, ◌∙◌}
-use Rattle.interface.specs.Host.{Host, same_host}
+use Rattle.world_keeps_streams.proofs.Common.{◌≡◌, ℕ, ◌==◌, Bool, true, false, not, ◌&&◌, if◌then◌else◌, List, [], ◌∷◌, ◌++◌, refl, ap, sym, subst, ◌∙◌, Host, same_host, HostMessage, same_host-true, Command, PairState, ends_now, numbered, Message, In, pair, begins, ready, takes_reset, begins_either, contradicts, Fresh, begins_fresh, accepted, pair_with, HaveAddresses, Asked, Crossed, Moment, event_in, events_of, places, program, IsTimeline, crossings_of, Coupled, by_request, coupled, program_own, keeps, AText, AnRrp, AnRst, Sort, mail_below, sort_of, calls_by, own_calls}
 use Rattle.interface.specs.Mailboxes as mail
 use Rattle.interface.specs.declared.crossing.Crossing.TheVariants as crossing
 use Rattle.interface.specs.declared.crossing.Inbound.TheVariants as inbound
-use Rattle.interface.specs.declared.message.HostMessage.{HostMessage}
-use Rattle.interface.proofs.lemmas.{and_true, same_host-true}
-use Rattle.ncp_control.specs.declared.command.Command.{Command}
-use Rattle.host_pairs.specs.Pair.{PairState}
+use Rattle.interface.proofs.lemmas.{and_true}
 use Rattle.host_keeps_streams.specs.Histories as calls
-use Rattle.host_keeps_streams.specs.Histories.{ends_now, numbered}
-use Rattle.reset_law.specs.Events.{Message, Reset, In}
-use Rattle.reset_law.specs.Pairs.{pair}
+use Rattle.reset_law.specs.Events.{Reset}
 use Rattle.reset_law.specs.Runs.{IsRun}
-use Rattle.reset_law.specs.Stays.{begins, ready, takes_reset, stays}
-use Rattle.reset_law.proofs.lemmas.{begins_either, contradicts}
-use Rattle.pairing_law.proofs.lemmas.{Fresh, begins_fresh}
-use Rattle.sockets.specs.Accepting.{accepted}
-use Rattle.sockets.specs.Pairs.{pair_with}
-use Rattle.net_sim.specs.Clean.{HaveAddresses}
-use Rattle.net_sim.specs.Story.{Asked, Crossed, Moment, event_in, events_of, places, program}
-use Rattle.net_sim.specs.Timeline.{IsTimeline, crossings_of}
-use Rattle.net_sim.proofs.lemmas.{Coupled, by_request, coupled, program_own}
-use Rattle.world_keeps_pairing.specs.Steps.{keeps}
-use Rattle.world_keeps_pairing.proofs.lemmas.{AText, AnRrp, AnRst, Sort, mail_below, sort_of}
-use Rattle.world_keeps_streams.specs.Calls.{calls_by, own_calls}
+use Rattle.reset_law.specs.Stays.{stays}
 use Rattle.world_keeps_streams.proofs.Calls.Allowed.{may_calls}
 use Rattle.world_keeps_streams.proofs.Stays.Calm.{Calm, One, Still, reset_drops}
 use Rattle.world_keeps_streams.proofs.Calls.Chain.{chain, idle, ready_both}

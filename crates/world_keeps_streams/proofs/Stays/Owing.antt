@@ -1,20 +1,12 @@
 -- A host that stays and owes an RRP has said nothing since its stay began; so a text fails only where its sender leaves.
-use Rattle.std.proofs.Common.{◌≡◌, ◌⊎◌, ℕ, Bool, true, false, not, ◌&&◌, List, [], ◌∷◌, Some, refl, inl, inr}
-use Rattle.interface.specs.Host.{Host, same_host}
-use Rattle.interface.specs.declared.crossing.Answer.{Answer}
+use Rattle.world_keeps_streams.proofs.Common.{◌≡◌, ◌⊎◌, ℕ, Bool, false, not, ◌&&◌, List, [], ◌∷◌, Some, refl, inl, inr, Host, same_host, Answer, failed_phase, Phase, Want, Gone, Heard, Ready, Message, Other, Event, Contact, Out, In, Told, Down, Up, Idle, Take, Hear, when, are, place, Put, Fetch, Clear, ClearAll, boxes, Plain, Pair, MaySend, pair_moved, pair, kind_in, is_ready, ready, begins, takes_reset, NoPlain, begin_quiet, carry, keeps}
+use Rattle.std.proofs.Common.{true}
 use Rattle.interface.specs.declared.crossing.Answer.TheVariants as answer
-use Rattle.ncp_control.specs.Phases.{failed_phase}
-use Rattle.ncp_control.specs.declared.phase.Phase.{Phase}
-use Rattle.ncp_control.specs.declared.phase.Phase.TheVariants.{Closed, Want, Gone, Heard, Ready}
-use Rattle.reset_law.specs.Events.{Message, Reset, Reply, Other, Event, Contact, Out, In, Told, Down, Up, Idle, Take, Hear, when, are, place}
-use Rattle.reset_law.specs.Boxes.{Put, Fetch, Clear, ClearAll, boxes}
-use Rattle.reset_law.specs.Pairs.{Plain, Pair, MaySend, pair_moved, pair}
-use Rattle.reset_law.specs.Invariant.{kind_in}
+use Rattle.ncp_control.specs.declared.phase.Phase.TheVariants.{Closed}
+use Rattle.reset_law.specs.Events.{Reset, Reply}
 use Rattle.reset_law.specs.Runs.{IsRun}
-use Rattle.ncp_control.specs.Phases.{is_ready}
-use Rattle.reset_law.specs.Stays.{ready, begins, takes_reset, stays}
-use Rattle.reset_law.proofs.lemmas.{NoPlain, begin_quiet, carry, owed_begin, owed_call, owed_sent, owed_told, plain_cleared, plain_fetched, plain_if, plain_put, sends_signal}
-use Rattle.world_keeps_pairing.specs.Steps.{keeps}
+use Rattle.reset_law.specs.Stays.{stays}
+use Rattle.reset_law.proofs.lemmas.{owed_begin, owed_call, owed_sent, owed_told, plain_cleared, plain_fetched, plain_if, plain_put, sends_signal}
 use Rattle.world_keeps_streams.proofs.Stays.Resets.{stays_on}
 
 -- ---- but for an RST that is taken nothing makes a host owe

@@ -1,42 +1,16 @@
 -- What a host did since it dropped its ends, where it has said nothing and wasn't in a stay, is what a host does by itself.
-use Rattle.std.proofs.Common.{◌≡◌, ℕ, Bool, true, false, not, ◌&&◌, if◌then◌else◌, List, [], ◌∷◌, Option, Some, None, refl, ap, sym, subst, ◌∙◌}
-use Rattle.interface.specs.Host.{Host, same_host}
-use Rattle.interface.specs.declared.address.Flow.{Flow}
-use Rattle.interface.specs.declared.crossing.Answer.{Answer}
+use Rattle.world_keeps_streams.proofs.Common.{◌≡◌, ℕ, Bool, true, false, not, ◌&&◌, if◌then◌else◌, List, [], ◌∷◌, Option, Some, None, refl, ap, sym, subst, ◌∙◌, Host, same_host, Flow, Answer, HostMessage, same_host-true, PairState, Parcel, failed_phase, Phase, Want, Gone, Heard, Ready, Message, Other, Event, Contact, Out, In, Told, Down, Up, Idle, Send, Take, Hear, Begin, when, are, boxes, MaySend, pair_moved, pair, is_ready, ready, takes_reset, carry, contradicts, ready_phase, accepted, turn_of, opening_state, pair_with, served, next_in, offered, Peer, Request, answer_leaves, message_leaves, Agrees, message_on, Asked, Crossed, IsNext, IsStory, Moment, event_in, events_of, places, program, Coupled, program_own, story_agrees, keeps, AText, AnRrp, AnRst, Sort, sort_of, clash, answer_calls, calls_by, message_calls, next_calls, request_calls}
 use Rattle.interface.specs.declared.crossing.Answer.TheVariants as answer
 use Rattle.interface.specs.declared.crossing.Crossing.TheVariants as crossing
 use Rattle.interface.specs.declared.crossing.Inbound.TheVariants as inbound
-use Rattle.interface.specs.declared.message.HostMessage.{HostMessage}
-use Rattle.interface.proofs.lemmas.{same_host-true}
-use Rattle.host_pairs.specs.Pair.{PairState}
-use Rattle.host_pairs.specs.Parcels.{Parcel}
 use Rattle.ncp_control.specs.Phases as program_phases
-use Rattle.ncp_control.specs.Phases.{failed_phase}
-use Rattle.ncp_control.specs.declared.phase.Phase.{Phase}
-use Rattle.ncp_control.specs.declared.phase.Phase.TheVariants.{Closed, Want, Gone, Heard, Ready}
-use Rattle.reset_law.specs.Events.{Message, Reset, Reply, Other, Event, Contact, Out, In, Told, Down, Up, Idle, Call, Send, Take, Hear, Begin, when, are}
-use Rattle.reset_law.specs.Boxes.{Box, Empty, Waiting, Taken, WaitsWith, boxes}
-use Rattle.reset_law.specs.Pairs.{MaySend, pair_moved, pair}
+use Rattle.ncp_control.specs.declared.phase.Phase.TheVariants.{Closed}
+use Rattle.reset_law.specs.Events.{Reset, Reply, Call}
+use Rattle.reset_law.specs.Boxes.{Box, Empty, Waiting, Taken, WaitsWith}
 use Rattle.reset_law.specs.Pairs as law
 use Rattle.reset_law.specs.Runs.{IsRun}
-use Rattle.ncp_control.specs.Phases.{is_ready}
-use Rattle.reset_law.specs.Stays.{ready, takes_reset, stays}
-use Rattle.reset_law.proofs.lemmas.{carry, contradicts, ready_phase}
+use Rattle.reset_law.specs.Stays.{stays}
 use Rattle.pairing_law.proofs.lemmas.{waits_in_stay}
-use Rattle.sockets.specs.Accepting.{accepted, turn_of}
-use Rattle.sockets.specs.Pairs.{opening_state, pair_with}
-use Rattle.sockets.specs.Requests.{served}
-use Rattle.sockets.specs.Sending.{next_in, offered}
-use Rattle.sockets.specs.declared.peer.Peer.{Peer}
-use Rattle.sockets.specs.declared.request.Request.{Request}
-use Rattle.sockets.proofs.lemmas.{answer_leaves, message_leaves}
-use Rattle.net_sim.specs.Projection.{Agrees, message_on}
-use Rattle.net_sim.specs.Story.{Asked, Crossed, IsNext, IsStory, Moment, event_in, events_of, places, program}
-use Rattle.net_sim.proofs.lemmas.{Coupled, program_own, story_agrees}
-use Rattle.world_keeps_pairing.specs.Steps.{keeps}
-use Rattle.world_keeps_pairing.proofs.lemmas.{AText, AnRrp, AnRst, Sort, sort_of}
-use Rattle.world_keeps_lives.proofs.lemmas.{clash}
-use Rattle.world_keeps_streams.specs.Calls.{answer_calls, calls_by, message_calls, next_calls, request_calls}
 use Rattle.world_keeps_streams.proofs.Stays.Calm.{Calm, Calms, answer_calm, offer_calm, reply_calm, request_calm, still}
 use Rattle.world_keeps_streams.proofs.Calls.Chain.{ready_both}
 

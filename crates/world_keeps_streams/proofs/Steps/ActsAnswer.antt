@@ -1,39 +1,18 @@
 -- Moments in which messages of a host are gone: answers about them, and hosts that start.
-use Rattle.std.proofs.Common.{◌≡◌, inl, inr, ℕ, ◌==◌, Bool, true, false, not, ◌&&◌, if◌then◌else◌, List, [], ◌∷◌, ◌++◌, Some, is_some, refl, ap, sym, subst, ◌∙◌, eq-eqb}
-use Rattle.std.proofs.lemmas.Bool.{eqb-true}
-use Rattle.interface.specs.Host.{Host, same_host}
-use Rattle.interface.specs.declared.address.Flow.{Flow}
-use Rattle.interface.specs.declared.crossing.Answer.{Answer}
+use Rattle.world_keeps_streams.proofs.Common.{◌≡◌, inl, inr, ℕ, ◌==◌, Bool, true, false, not, ◌&&◌, if◌then◌else◌, List, [], ◌∷◌, ◌++◌, Some, is_some, refl, ap, sym, subst, ◌∙◌, eq-eqb, eqb-true, Host, same_host, Flow, Answer, same_host-true, Command, Stream, desk_of, settled, is_busy, PairState, TurnState, answered_turn, failed, freed, settled_turn, eqb-sym, put, Answered, IsTelling, is_out, Fetched, Free, Party, Steps, Clear, ClearAll, posted, boxes, Other, Begin, are, place, when, kind_in, is_signal, Plain, Pair, pair_moved, pair, alone_run, stays_ready, turn_of, NcpState, opening_state, pair_with, answer_leaves, Agrees, Moment, Crossed, IsStory, event_in, events_of, places, program, program_own, story_agrees, answer_calls, own_calls}
 use Rattle.interface.specs.declared.crossing.Answer.TheVariants as answer
 use Rattle.interface.specs.declared.crossing.Crossing.TheVariants as crossing
 use Rattle.interface.specs.declared.crossing.Inbound.TheVariants as inbound
-use Rattle.interface.proofs.lemmas.{same_host-true}
-use Rattle.ncp_control.specs.declared.command.Command.{Command}
-use Rattle.stream_law.specs.Streams.{Stream}
-use Rattle.host_pairs.specs.Desk.{desk_of, settled}
-use Rattle.host_pairs.specs.Entries.{is_busy}
-use Rattle.host_pairs.specs.Pair.{PairState}
 use Rattle.ncp_control.specs.Phases as program_phases
-use Rattle.host_pairs.specs.Turn.{TurnState, answered_turn, failed, freed, settled_turn}
 use Rattle.ncp_control.specs.declared.phase.Phase.TheVariants as phase
-use Rattle.host_keeps_pairing.proofs.lemmas.{eqb-sym, put}
 use Rattle.host_keeps_streams.specs.Histories as calls
-use Rattle.host_keeps_streams.specs.Histories.{Answered, IsTelling, is_out}
-use Rattle.pair_keeps_streams.proofs.lemmas.{Fetched, Free, Party, Steps}
-use Rattle.reset_law.specs.Boxes.{Box, Empty, Waiting, Taken, Fits, Clear, ClearAll, posted, boxes}
-use Rattle.reset_law.specs.Events.{Reset, Reply, Other, Begin, are, place, when}
-use Rattle.reset_law.specs.Invariant.{kind_in, is_signal}
-use Rattle.reset_law.specs.Pairs.{Plain, Pair, pair_moved, pair}
+use Rattle.reset_law.specs.Boxes.{Box, Empty, Waiting, Taken, Fits}
+use Rattle.reset_law.specs.Events.{Reset, Reply}
 use Rattle.reset_law.specs.Runs.{IsRun}
 use Rattle.reset_law.specs.Stays as stay
-use Rattle.reset_law.proofs.lemmas.{alone_run, stays_ready}
-use Rattle.sockets.specs.Accepting.{accepted, turn_of}
-use Rattle.sockets.specs.Pairs.{NcpState, opening_state, pair_with}
-use Rattle.sockets.proofs.lemmas.{answer_leaves}
-use Rattle.net_sim.specs.Projection.{Agrees}
-use Rattle.net_sim.specs.Story.{Moment, Crossed, IsStory, event_in, events_of, places, program}
-use Rattle.net_sim.proofs.lemmas.{freed_busy, program_own, story_agrees}
-use Rattle.world_keeps_streams.specs.Calls.{answer_calls, called, own_calls}
+use Rattle.sockets.specs.Accepting.{accepted}
+use Rattle.net_sim.proofs.lemmas.{freed_busy}
+use Rattle.world_keeps_streams.specs.Calls.{called}
 use Rattle.world_keeps_streams.proofs.Steps.Going.{Goes, answered_here, elsewhere_here, stays_as}
 use Rattle.world_keeps_streams.proofs.Steps.GoesOut.{IsCleared, box_is_free, out_cleared, ready_as, ready_phase}
 use Rattle.world_keeps_streams.proofs.Steps.Held.{Acted, Held, HereIn, act_by}
@@ -106,10 +85,6 @@ answered_pair s kind f stamp p is own busy =
     subst (λ (h : Host). pair_with h (accepted s (inbound.Answer kind f) stamp).0.peers ≡ (answered_turn h kind f.link.0 (turn_of s h)).pair) (sym is)
     (answered_there s kind f stamp own (subst (λ (h : Host). is_busy (pair_with h s.peers).busy f.link.0 ≡ true) is busy))
 
-and_first : (s t : Bool) → (s && t) ≡ true → s ≡ true
-and_first true t e = refl
-and_first false t e = absurd (let no : false ≡ true = e in cc)
-
 module _ (number other : ℕ → ℕ → ℕ → ℕ) (tells : IsTelling number) (others : IsTelling other) (link : ℕ) (off : (link == 0) ≡ false) (steps : Steps number other tells others link) (hosts : List Host) (h p : Host) (moments : List Moment) (rest : List Command) (b : Party) (x y : Stream)
     (held : Held number other tells others link h p moments (commands_in (boxes h p (events_of moments) 0)) rest (post_in (boxes h p (events_of moments) link)) b x y) where
   abbrev X : ℕ → Box
@@ -117,9 +92,6 @@ module _ (number other : ℕ → ℕ → ℕ → ℕ) (tells : IsTelling number)
 
   abbrev s : NcpState
   s = program h moments
-
-  abbrev Gone : List calls.Moment → PairState → ℕ → Box → Box → Type 0
-  Gone cs next l zero here = Goes number other tells others link p (cs ++ own_calls h p moments) next (commands_in zero) (post_in here) b x y
 
   -- a host that starts
   pub act_up : (g : Host) → stay.begins h p (event_in (Crossed (crossing.Up g))) (events_of moments) ≡ false
@@ -138,17 +110,11 @@ module _ (number other : ℕ → ℕ → ℕ → ℕ) (tells : IsTelling number)
 
   -- an answer about a message of this host
   module _ (kind : Answer) (f : Flow) (story : IsStory (Crossed (crossing.Answer kind f) ∷ moments)) (run : IsRun hosts (events_of (Crossed (crossing.Answer kind f) ∷ moments))) where
-    abbrev after : List Moment
-    after = Crossed (crossing.Answer kind f) ∷ moments
-
     abbrev k : ℕ
     k = f.link.0
 
     abbrev q : PairState
     q = pair_with p s.peers
-
-    abbrev told : NcpState
-    told = (accepted (program h moments) (inbound.Answer kind f) (places moments)).0
 
     module _ (mine : same_host h f.source ≡ true) (theirs : same_host p f.destination ≡ true) (stays : stay.stays h p (events_of moments) ≡ true) (still : stay.stays h p (events_of (Crossed (crossing.Answer kind f) ∷ moments)) ≡ true)
         (here : HereIn number other tells others link h p moments (commands_in (X 0)) (post_in (X link)) b x y) where

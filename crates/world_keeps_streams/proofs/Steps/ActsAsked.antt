@@ -1,24 +1,10 @@
 -- Moments in which a host's boxes stay as they are: what a user asks for, and hosts that stop.
-use Rattle.std.proofs.Common.{◌≡◌, ℕ, Bool, true, false, not, ◌&&◌, if◌then◌else◌, List, [], ◌∷◌, ◌++◌, refl, subst}
-use Rattle.interface.specs.Host.{Host, same_host}
+use Rattle.world_keeps_streams.proofs.Common.{◌≡◌, ℕ, Bool, true, false, not, ◌&&◌, if◌then◌else◌, List, [], ◌∷◌, ◌++◌, refl, subst, Host, same_host, Command, Stream, is_busy, IsTelling, Free, Party, Post, Steps, Event, Contact, Begin, when, Pair, pair_moved, pair, pair_with, opening_state, served, Request, event_by, Moment, Crossed, Asked, event_in, events_of, program, keeps, calls_by, own_calls, request_calls}
 use Rattle.interface.specs.declared.crossing.Crossing.TheVariants as crossing
-use Rattle.ncp_control.specs.declared.command.Command.{Command}
-use Rattle.stream_law.specs.Streams.{Stream}
-use Rattle.host_pairs.specs.Entries.{is_busy}
-use Rattle.host_keeps_streams.specs.Histories.{IsTelling}
-use Rattle.pair_keeps_streams.proofs.lemmas.{Free, Party, Post, Steps}
-use Rattle.reset_law.specs.Events.{Event, Contact, Call, Begin, when}
-use Rattle.reset_law.specs.Pairs.{Pair, pair_moved, pair}
+use Rattle.reset_law.specs.Events.{Call}
 use Rattle.ncp_control.specs.Phases as phases
 use Rattle.reset_law.specs.Stays as stay
-use Rattle.sockets.specs.Pairs.{pair_with, opening_state}
-use Rattle.sockets.specs.Requests.{served}
-use Rattle.sockets.specs.declared.request.Request.{Request}
 use Rattle.sockets.specs.declared.request.Request.TheVariants as request
-use Rattle.net_sim.specs.Projection.{event_by}
-use Rattle.net_sim.specs.Story.{Moment, Crossed, Asked, event_in, events_of, program}
-use Rattle.world_keeps_pairing.specs.Steps.{keeps}
-use Rattle.world_keeps_streams.specs.Calls.{calls_by, own_calls, request_calls}
 use Rattle.world_keeps_streams.proofs.Steps.Going.{Goes, stays_as}
 use Rattle.world_keeps_streams.proofs.Steps.GoesAsked.{request_goes}
 use Rattle.world_keeps_streams.proofs.Steps.Held.{Acted, Held, HereIn, act}

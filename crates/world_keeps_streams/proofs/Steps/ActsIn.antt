@@ -1,44 +1,19 @@
 -- A host takes a message of its peer.
-use Rattle.std.proofs.Common.{◌≡◌, ℕ, ◌==◌, Bool, true, false, not, ◌&&◌, if◌then◌else◌, List, [], ◌∷◌, ◌++◌, length, Option, Some, None, refl, ap, sym, subst, ◌∙◌, append-nil}
-use Rattle.std.proofs.lemmas.Bool.{eqb-true}
-use Rattle.interface.specs.Host.{Host, same_host}
+use Rattle.world_keeps_streams.proofs.Common.{◌≡◌, ℕ, ◌==◌, Bool, true, false, not, ◌&&◌, if◌then◌else◌, List, [], ◌∷◌, ◌++◌, length, Option, Some, None, refl, ap, sym, subst, ◌∙◌, eqb-true, Host, same_host, HostMessage, same_host-true, Command, covers, for, is_size, Stream, Legal, orders_of, data_taken, desk_of, is_busy, PairState, TurnState, message_taken, orders_taken, with_desk, AreJoint, eqb-sym, IsTelling, Fetched, Free, Joint, Lies, Party, Post, Steps, Fetch, posted, boxes, In, Message, Other, are, place, when, stays_ready, accepted, turn_of, pair_with, message_leaves, IsApart, message_on, Moment, Crossed, IsStory, event_in, events_of, places, program, program_own, keeps, AText, AnRrp, AnRst, Sort, message_pair, plain_joint, sort_of, waiting, message_calls, orders_heard, own_calls}
+use Rattle.std.proofs.Common.{append-nil}
 use Rattle.interface.specs.declared.crossing.Crossing.TheVariants as crossing
 use Rattle.interface.specs.declared.crossing.Inbound.TheVariants as inbound
-use Rattle.interface.specs.declared.message.HostMessage.{HostMessage}
-use Rattle.interface.proofs.lemmas.{same_host-true}
-use Rattle.ncp_control.specs.declared.command.Command.{Command}
 use Rattle.ncp_control.specs.declared.command.Command.TheVariants as command
 use Rattle.ncp_control.specs.Allocation as counters
-use Rattle.stream_law.specs.Words.{covers, for, is_size}
 use Rattle.stream_law.specs.Receivers as receivers
 use Rattle.stream_law.specs.Receivers.{Receiver}
-use Rattle.stream_law.specs.Streams.{Stream}
 use Rattle.stream_law.specs.Within.{IsPrefix}
-use Rattle.host_pairs.specs.Control.{Legal, orders_of}
-use Rattle.host_pairs.specs.Data.{data_taken}
-use Rattle.host_pairs.specs.Desk.{desk_of}
-use Rattle.host_pairs.specs.Entries.{is_busy}
-use Rattle.host_pairs.specs.Pair.{PairState}
 use Rattle.ncp_control.specs.Phases as program_phases
-use Rattle.host_pairs.specs.Turn.{TurnState, message_taken, orders_taken, with_desk}
-use Rattle.host_keeps_pairing.specs.Hearing.{AreJoint}
-use Rattle.host_keeps_pairing.proofs.lemmas.{eqb-sym}
-use Rattle.host_keeps_streams.specs.Histories.{IsTelling}
-use Rattle.pair_keeps_streams.proofs.lemmas.{Fetched, Free, Joint, Lies, Party, Post, Steps, receives}
-use Rattle.reset_law.specs.Boxes.{Box, Waiting, Taken, Fetch, WaitsWith, fetched, posted, boxes}
-use Rattle.reset_law.specs.Events.{In, Message, Reset, Reply, Other, are, place, when}
+use Rattle.pair_keeps_streams.proofs.lemmas.{receives}
+use Rattle.reset_law.specs.Boxes.{Box, Waiting, Taken, WaitsWith, fetched}
+use Rattle.reset_law.specs.Events.{Reset, Reply}
 use Rattle.reset_law.specs.Runs.{IsRun}
 use Rattle.reset_law.specs.Stays as stay
-use Rattle.reset_law.proofs.lemmas.{stays_ready}
-use Rattle.sockets.specs.Accepting.{accepted, turn_of}
-use Rattle.sockets.specs.Pairs.{pair_with}
-use Rattle.sockets.proofs.lemmas.{message_leaves}
-use Rattle.net_sim.specs.Projection.{IsApart, message_on}
-use Rattle.net_sim.specs.Story.{Moment, Crossed, IsStory, event_in, events_of, places, program}
-use Rattle.net_sim.proofs.lemmas.{program_own}
-use Rattle.world_keeps_pairing.specs.Steps.{keeps}
-use Rattle.world_keeps_pairing.proofs.lemmas.{AText, AnRrp, AnRst, Sort, message_pair, plain_joint, sort_of, waiting}
-use Rattle.world_keeps_streams.specs.Calls.{message_calls, orders_heard, own_calls}
 use Rattle.world_keeps_streams.proofs.Steps.Going.{Goes, Here, passes_here, stays_as, takes_here}
 use Rattle.world_keeps_streams.proofs.Steps.GoesHeard.{blind, deaf, heard_run, reply_heard}
 use Rattle.world_keeps_streams.proofs.Steps.GoesOut.{ready_as}
@@ -100,12 +75,6 @@ module _ (number other : ℕ → ℕ → ℕ → ℕ) (tells : IsTelling number)
       (room : stay.stays h p (events_of moments) ≡ true → is_busy (pair_with p (program h moments).peers).busy link ≡ false → post ≡ Free) where
     abbrev Y : ℕ → Box
     Y = boxes p h (events_of moments)
-
-    abbrev q : PairState
-    q = pair_with p (program h moments).peers
-
-    abbrev t : TurnState
-    t = turn_of (program h moments) p
 
     abbrev Got : Bool → ℕ → Box
     Got v = posted (place (events_of moments)) (when v (Fetch m.flow.link.0)) (boxes p h (events_of moments))

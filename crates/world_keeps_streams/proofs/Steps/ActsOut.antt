@@ -1,38 +1,12 @@
 -- A message goes out of a host.
-use Rattle.std.proofs.Common.{◌≡◌, ℕ, ◌==◌, Bool, true, false, not, ◌&&◌, if◌then◌else◌, List, [], ◌∷◌, ◌++◌, Some, refl, ap, sym, subst, ◌∙◌}
-use Rattle.std.proofs.lemmas.Bool.{eqb-true}
-use Rattle.interface.specs.Host.{Host, same_host}
+use Rattle.world_keeps_streams.proofs.Common.{◌≡◌, ℕ, ◌==◌, Bool, true, false, not, ◌&&◌, if◌then◌else◌, List, [], ◌∷◌, ◌++◌, Some, refl, ap, sym, subst, ◌∙◌, eqb-true, Host, same_host, HostMessage, same_host-true, Command, Stream, desk_of, PairState, link_for, next_of, pair_after, parcel_gone, text_for, eqb-sym, IsRanged, IsReadBack, offer_read, IsTelling, gone_now, name_of, Joint, NotTaken, Party, Steps, Put, posted, boxes, Message, Other, Out, Send, are, place, when, Pair, pair_moved, pair, stays_ready, NcpState, pair_with, next_in, offered, next_is, next_pair, offer_leaves, message_on, Moment, Crossed, IsNext, IsStory, event_in, events_of, places, program, story_agrees, keeps, AText, AnRrp, AnRst, Sort, offered_pair, sort_of, next_calls, own_calls, parcel_calls}
 use Rattle.interface.specs.declared.crossing.Crossing.TheVariants as crossing
-use Rattle.interface.specs.declared.message.HostMessage.{HostMessage}
-use Rattle.interface.proofs.lemmas.{same_host-true}
-use Rattle.ncp_control.specs.declared.command.Command.{Command}
-use Rattle.stream_law.specs.Streams.{Stream}
-use Rattle.host_pairs.specs.Desk.{desk_of}
-use Rattle.host_pairs.specs.Pair.{PairState}
-use Rattle.host_pairs.specs.Parcels.{link_for, next_of, pair_after, parcel_gone, text_for}
 use Rattle.ncp_control.specs.declared.phase.Phase.TheVariants as phase
-use Rattle.host_keeps_pairing.proofs.lemmas.{eqb-sym}
-use Rattle.host_keeps_ranges.specs.Ranges.{IsRanged, IsReadBack}
-use Rattle.host_keeps_ranges.proofs.lemmas.{offer_read}
-use Rattle.host_keeps_streams.specs.Histories.{IsTelling, gone_now}
-use Rattle.host_keeps_streams.proofs.lemmas.{name_of}
-use Rattle.pair_keeps_streams.proofs.lemmas.{Joint, NotTaken, Party, Steps}
-use Rattle.reset_law.specs.Boxes.{Box, Empty, Waiting, Put, posted, boxes}
-use Rattle.reset_law.specs.Events.{Message, Reset, Reply, Other, Out, Send, are, place, when}
-use Rattle.reset_law.specs.Pairs.{Pair, pair_moved, pair}
+use Rattle.reset_law.specs.Boxes.{Box, Empty, Waiting}
+use Rattle.reset_law.specs.Events.{Reset, Reply}
 use Rattle.reset_law.specs.Runs.{IsRun}
 use Rattle.ncp_control.specs.Phases as phases
 use Rattle.reset_law.specs.Stays as stay
-use Rattle.reset_law.proofs.lemmas.{stays_ready}
-use Rattle.sockets.specs.Pairs.{NcpState, pair_with}
-use Rattle.sockets.specs.Sending.{next_in, offered}
-use Rattle.sockets.proofs.lemmas.{next_is, next_pair, offer_leaves}
-use Rattle.net_sim.specs.Projection.{message_on}
-use Rattle.net_sim.specs.Story.{Moment, Crossed, IsNext, IsStory, event_in, events_of, places, program}
-use Rattle.net_sim.proofs.lemmas.{story_agrees}
-use Rattle.world_keeps_pairing.specs.Steps.{keeps}
-use Rattle.world_keeps_pairing.proofs.lemmas.{AText, AnRrp, AnRst, Sort, offered_pair, sort_of}
-use Rattle.world_keeps_streams.specs.Calls.{next_calls, own_calls, parcel_calls}
 use Rattle.world_keeps_streams.proofs.Steps.Going.{Goes, stays_as}
 use Rattle.world_keeps_streams.proofs.Steps.GoesOut.{box_is_free, ready_as, ready_phase}
 use Rattle.world_keeps_streams.proofs.Steps.GoesSaid.{parcel_goes}
@@ -81,9 +55,6 @@ module _ (number other : ℕ → ℕ → ℕ → ℕ) (tells : IsTelling number)
 
     abbrev s : NcpState
     s = program h moments
-
-    abbrev after : List Moment
-    after = Crossed (crossing.Out m) ∷ moments
 
     abbrev Sent : Bool → ℕ → Box
     Sent t = posted (place (events_of moments)) (when t (Put m.flow.link.0 (message_on m.flow.link.0 m.text))) (boxes h p (events_of moments))

@@ -1,17 +1,11 @@
 -- A connection that the law's sender has closed stays closed, and nothing is sent in it any more.
-use Rattle.std.proofs.Common.{◌≡◌, ℕ, ◌==◌, ◌&&◌, not, Bool, true, false, if◌then◌else◌, List, [], ◌∷◌, ◌++◌, Option, Some, None, refl, ap, sym, subst, ◌∙◌}
-use Rattle.std.proofs.lemmas.Bool.{eqb-true}
-use Rattle.interface.specs.Host.{Host}
+use Rattle.world_keeps_streams.proofs.Common.{◌≡◌, ℕ, ◌==◌, ◌&&◌, not, Bool, true, false, if◌then◌else◌, List, [], ◌∷◌, ◌++◌, Option, Some, None, refl, ap, sym, subst, ◌∙◌, eqb-true, Host, Allocation, Word, Rts, All, Gvb, Cls, for, Entry, all_sent, AreAllowed, IsHistory, IsTelling, gone_now, name_now, receiver_now, sender_now, sent_at, holds_now}
 use Rattle.ncp_control.specs.Allocation as counters
-use Rattle.ncp_control.specs.declared.allocation.Allocation.{Allocation}
-use Rattle.stream_law.specs.Words.{Word, Rts, All, Gvb, Cls, for}
 use Rattle.stream_law.specs.Senders as senders
 use Rattle.stream_law.specs.Senders.{Sender}
-use Rattle.host_pairs.specs.declared.entry.Entry.{Entry}
-use Rattle.host_keeps_streams.specs.Closings.{MayAllSend, all_sent}
+use Rattle.host_keeps_streams.specs.Closings.{MayAllSend}
 use Rattle.host_keeps_streams.specs.Histories as calls
-use Rattle.host_keeps_streams.specs.Histories.{AreAllowed, IsHistory, IsTelling, gone_now, name_now, receiver_now, sender_now, sent_at}
-use Rattle.host_keeps_streams.proofs.lemmas.{Holds, holds_now, step_sent}
+use Rattle.host_keeps_streams.proofs.lemmas.{Holds, step_sent}
 
 pub record Kept (old new : Sender) (c : ℕ) : Type 0 where
   pub closed : new.closed c ≡ true

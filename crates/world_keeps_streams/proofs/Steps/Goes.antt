@@ -1,30 +1,10 @@
 -- A moment in which no stay begins keeps two programs beside two streams of a link; and so they are at all lawful moments.
-use Rattle.std.proofs.Common.{◌≡◌, ℕ, ◌==◌, Bool, true, false, if◌then◌else◌, List, [], ◌∷◌, ◌++◌, refl, ap, sym, subst, ◌∙◌}
-use Rattle.std.proofs.lemmas.Bool.{eqb-true}
-use Rattle.interface.specs.Host.{Host}
+use Rattle.world_keeps_streams.proofs.Common.{◌≡◌, ℕ, ◌==◌, Bool, true, false, if◌then◌else◌, List, [], ◌∷◌, ◌++◌, refl, ap, sym, subst, ◌∙◌, eqb-true, Host, HostMessage, Command, Stream, opening_stream, IsRanged, AreAllowed, IsTelling, gone_now, numbered, name_of, numbered_tells, Joint, NotTaken, Party, Steps, Fetch, posted, boxes, Event, Message, Other, Out, are, place, when, begins_either, carry, pair_with, Request, HaveAddresses, event_by, message_on, Moment, Crossed, Asked, IsStory, event_in, events_of, program, IsTimeline, crossings_of, Coupled, by_request, coupled, mail_below, programs_ranged, served_in, calls_by, own_calls}
 use Rattle.interface.specs.Mailboxes as mail
 use Rattle.interface.specs.declared.crossing.Crossing.TheVariants as crossing
-use Rattle.interface.specs.declared.message.HostMessage.{HostMessage}
-use Rattle.ncp_control.specs.declared.command.Command.{Command}
-use Rattle.stream_law.specs.Streams.{Stream, opening_stream}
-use Rattle.host_keeps_ranges.specs.Ranges.{IsRanged}
-use Rattle.host_keeps_streams.specs.Histories.{AreAllowed, IsTelling, gone_now, numbered}
-use Rattle.host_keeps_streams.proofs.lemmas.{name_of, numbered_tells}
-use Rattle.pair_keeps_streams.proofs.lemmas.{Joint, NotTaken, Party, Steps}
-use Rattle.reset_law.specs.Boxes.{Box, Empty, Fetch, fetched, posted, boxes}
-use Rattle.reset_law.specs.Events.{Event, Message, Other, Out, are, place, when}
+use Rattle.reset_law.specs.Boxes.{Box, Empty, fetched}
 use Rattle.reset_law.specs.Runs.{IsRun}
 use Rattle.reset_law.specs.Stays as stay
-use Rattle.reset_law.proofs.lemmas.{begins_either, carry}
-use Rattle.sockets.specs.Pairs.{pair_with}
-use Rattle.sockets.specs.declared.request.Request.{Request}
-use Rattle.net_sim.specs.Clean.{HaveAddresses}
-use Rattle.net_sim.specs.Projection.{event_by, message_on}
-use Rattle.net_sim.specs.Story.{Moment, Crossed, Asked, IsStory, event_in, events_of, program}
-use Rattle.net_sim.specs.Timeline.{IsTimeline, crossings_of}
-use Rattle.net_sim.proofs.lemmas.{Coupled, by_request, coupled}
-use Rattle.world_keeps_pairing.proofs.lemmas.{mail_below, programs_ranged, served_in}
-use Rattle.world_keeps_streams.specs.Calls.{calls_by, own_calls}
 use Rattle.world_keeps_streams.proofs.Steps.ActsAnswer.{act_answer, act_up}
 use Rattle.world_keeps_streams.proofs.Steps.ActsAsked.{act_asked, act_down}
 use Rattle.world_keeps_streams.proofs.Steps.ActsIn.{act_in}

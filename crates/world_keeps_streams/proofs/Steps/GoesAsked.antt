@@ -1,27 +1,14 @@
 -- What a user asks for keeps two streams of a link beside the program.
-use Rattle.std.proofs.Common.{◌≡◌, ℕ, Bool, true, false, cond, List, [], ◌∷◌, ◌++◌, Option, Some, None, refl, ap, sym, subst, ◌∙◌, if◌then◌else◌}
-use Rattle.interface.specs.Host.{Host, same_host}
-use Rattle.interface.proofs.lemmas.{same_host-true}
-use Rattle.ncp_control.specs.declared.command.Command.{Command}
+use Rattle.world_keeps_streams.proofs.Common.{◌≡◌, ℕ, Bool, true, false, cond, List, [], ◌∷◌, ◌++◌, Option, Some, None, refl, ap, sym, subst, ◌∙◌, if◌then◌else◌, Host, same_host, same_host-true, Command, Stream, closed_end, commanded, contacted, interrupt_of, receiver_requested, requested, with_end, with_more_bits, listens_on, free_link, is_busy, is_receiving, sending_end, PairState, Entry, Hears, Takes, Says, Sends, Answered, OpensReceiver, OpensSender, Grants, AsksBack, Gives, Closes, IsAllowed, IsTelling, ends_by, is_out, Free, IsAsking, IsPairedCall, IsWordless, Party, Post, Steps, queue_by, NcpState, owner_of, pair_with, at_owner, closed_socket, with_peer, Request, pair_changed, owner_calls, request_calls}
 use Rattle.ncp_control.specs.declared.command.Command.TheVariants as command
 use Rattle.stream_law.specs.Senders.{Sender}
-use Rattle.stream_law.specs.Streams.{Stream}
-use Rattle.host_pairs.specs.Asked.{closed_end, commanded, contacted, interrupt_of, receiver_requested, requested, with_end, with_more_bits}
 use Rattle.host_pairs.specs.Commands.{granted}
-use Rattle.host_pairs.specs.Desk.{listens_on}
-use Rattle.host_pairs.specs.Entries.{free_link, is_busy, is_receiving, sending_end}
-use Rattle.host_pairs.specs.Pair.{PairState}
 use Rattle.host_pairs.specs.Parcels.{link_of}
-use Rattle.host_pairs.specs.declared.entry.Entry.{Entry}
 use Rattle.host_keeps_streams.specs.Histories as calls
-use Rattle.host_keeps_streams.specs.Histories.{Call, Hears, Takes, Says, Sends, Answered, OpensReceiver, OpensSender, Grants, AsksBack, Gives, Closes, IsAllowed, IsTelling, ends_by, is_out}
-use Rattle.pair_keeps_streams.proofs.lemmas.{Free, IsAsking, IsPairedCall, IsWordless, Party, Post, Steps, queue_by}
-use Rattle.sockets.specs.Pairs.{NcpState, owner_of, pair_with}
-use Rattle.sockets.specs.Requests.{at_owner, closed_socket, served, with_peer}
-use Rattle.sockets.specs.declared.request.Request.{Request}
+use Rattle.host_keeps_streams.specs.Histories.{Call}
+use Rattle.sockets.specs.Requests.{served}
 use Rattle.sockets.specs.declared.request.Request.TheVariants as request
-use Rattle.sockets.proofs.lemmas.{pair_changed}
-use Rattle.world_keeps_streams.specs.Calls.{called, owner_calls, request_calls}
+use Rattle.world_keeps_streams.specs.Calls.{called}
 use Rattle.world_keeps_streams.proofs.Steps.Going.{Goes, Here, asks_here, stays_as, wordless_here}
 use Rattle.world_keeps_streams.proofs.Calls.MayCalls.{MayCalls}
 

@@ -1,22 +1,8 @@
 -- What a host that stays takes of its peer; and what one takes that has left.
-use Rattle.std.proofs.Common.{◌≡◌, ℕ, Bool, true, false, List, [], ◌∷◌, ◌++◌, refl, ap, sym, ◌∙◌}
-use Rattle.interface.specs.Host.{Host}
-use Rattle.ncp_control.specs.declared.command.Command.{Command}
+use Rattle.world_keeps_streams.proofs.Common.{◌≡◌, ℕ, Bool, true, false, List, [], ◌∷◌, ◌++◌, refl, ap, sym, ◌∙◌, Host, Command, Stream, desk_taken, Order, Legal, Wrong, error, desk_of, command_queued, is_busy, PairState, is_ready, TurnState, order_taken, orders_taken, with_desk, AreJoint, ready_when, Hears, IsTelling, Free, Joint, Party, Post, Steps, orders_heard}
 use Rattle.ncp_control.specs.declared.command.Command.TheVariants as command
-use Rattle.stream_law.specs.Streams.{Stream}
-use Rattle.host_pairs.specs.Commands.{desk_taken}
-use Rattle.host_pairs.specs.Control.{Order, Legal, Wrong, error}
-use Rattle.host_pairs.specs.Desk.{desk_of, command_queued}
-use Rattle.host_pairs.specs.Entries.{is_busy}
-use Rattle.host_pairs.specs.Pair.{PairState}
-use Rattle.ncp_control.specs.Phases.{is_ready}
-use Rattle.host_pairs.specs.Turn.{TurnState, order_taken, orders_taken, with_desk}
-use Rattle.host_keeps_pairing.specs.Hearing.{AreJoint}
-use Rattle.host_keeps_pairing.proofs.lemmas.{ready_when}
 use Rattle.host_keeps_streams.specs.Histories as calls
-use Rattle.host_keeps_streams.specs.Histories.{Hears, IsTelling}
-use Rattle.pair_keeps_streams.proofs.lemmas.{Free, Joint, Party, Post, Steps}
-use Rattle.world_keeps_streams.specs.Calls.{called, orders_heard}
+use Rattle.world_keeps_streams.specs.Calls.{called}
 use Rattle.world_keeps_streams.proofs.Steps.Going.{Goes, Here, hears_here, standing, stays_as, then_goes, wordless_here}
 use Rattle.world_keeps_streams.proofs.Steps.Joined.{legal_in}
 use Rattle.world_keeps_streams.proofs.Calls.MayCalls.{MayCalls}
@@ -91,9 +77,6 @@ module _ (number other : ℕ → ℕ → ℕ → ℕ) (tells : IsTelling number)
     heard_under [] t older m = m
     heard_under (Legal c ∷ orders) t older m = (heard_under orders (order_taken p stamp (Legal c) t) (called (Hears stamp 0 c) t.pair t.listening ∷ older) m).1
     heard_under (Wrong code octets ∷ orders) t older m = heard_under orders (order_taken p stamp (Wrong code octets) t) older m
-
-    abbrev Hearing : List Command → Party
-    Hearing pending = record b { pending = pending }
 
     pub heard_run : (orders : List Order) (t : TurnState) (older : List calls.Moment) (rest : List Command) (x y : Stream) → AreJoint orders → is_ready t.pair.phase ≡ true → (is_busy t.pair.busy link ≡ false → post ≡ Free)
         → MayCalls (orders_heard p stamp orders t older) → Here number other tells others link p (older ++ own) t.pair front post (record b { pending = legal_in orders ++ rest }) x y

@@ -1,23 +1,11 @@
 -- What a host that doesn't stay leaves in its boxes; and what a host that stays knows of them.
-use Rattle.std.proofs.Common.{◌≡◌, ◌⊎◌, inl, inr, ℕ, Bool, true, false, ◌&&◌, List, ◌++◌, refl, ap, sym, subst, ◌∙◌}
-use Rattle.interface.specs.Host.{Host}
-use Rattle.ncp_control.specs.declared.command.Command.{Command}
-use Rattle.stream_law.specs.Streams.{Stream}
-use Rattle.host_pairs.specs.Entries.{is_busy}
+use Rattle.world_keeps_streams.proofs.Common.{◌≡◌, ◌⊎◌, inl, inr, ℕ, Bool, true, false, ◌&&◌, List, ◌++◌, refl, ap, sym, subst, ◌∙◌, Host, Command, Stream, is_busy, IsTelling, boxes, pair, stays_ready, pair_with, Agrees, Moment, IsStory, events_of, program, story_agrees, Free, Joint, Lies, Party, Post, Steps}
 use Rattle.ncp_control.specs.Phases as program_phases
 use Rattle.ncp_control.specs.declared.phase.Phase as host
 use Rattle.ncp_control.specs.declared.phase.Phase.TheVariants as phase
-use Rattle.host_keeps_streams.specs.Histories.{IsTelling}
-use Rattle.reset_law.specs.Boxes.{Box, Empty, boxes}
-use Rattle.reset_law.specs.Pairs.{pair}
+use Rattle.reset_law.specs.Boxes.{Box, Empty}
 use Rattle.reset_law.specs.Runs.{IsRun}
 use Rattle.reset_law.specs.Stays as stay
-use Rattle.reset_law.proofs.lemmas.{stays_ready}
-use Rattle.sockets.specs.Pairs.{pair_with}
-use Rattle.net_sim.specs.Projection.{Agrees}
-use Rattle.net_sim.specs.Story.{Moment, IsStory, events_of, program}
-use Rattle.net_sim.proofs.lemmas.{story_agrees}
-use Rattle.pair_keeps_streams.proofs.lemmas.{Free, Joint, Lies, Party, Post, Steps}
 use Rattle.world_keeps_streams.proofs.Steps.Held.{Acted, acted_out, side}
 use Rattle.world_keeps_streams.proofs.Steps.Joined.{commands_in, post_in}
 use Rattle.world_keeps_streams.proofs.Stays.Resets.{box_busy, up_ready}
@@ -32,10 +20,6 @@ ready_as h p moments story =
 pub ready_phase : (ph : host.Phase) → program_phases.is_ready ph ≡ true → ph ≡ phase.Ready
 ready_phase phase.Ready e = refl
 ready_phase ph e = absurd (let no : false ≡ true = e in cc)
-
-and_first : (s t : Bool) → (s && t) ≡ true → s ≡ true
-and_first true t e = refl
-and_first false t e = absurd (let no : false ≡ true = e in cc)
 
 -- where a link is free by the program nothing is outstanding
 pub box_is_free : (hosts : List Host) (h p : Host) (moments : List Moment) → IsRun hosts (events_of moments) → IsStory moments → stay.stays h p (events_of moments) ≡ true

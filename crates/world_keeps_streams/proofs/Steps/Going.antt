@@ -1,27 +1,14 @@
 -- One host that stays, beside one peer: its calls one after another, upon two streams of a link.
-use Rattle.std.proofs.Common.{◌≡◌, ℕ, ◌==◌, ◌*◌, Bool, true, false, List, [], ◌∷◌, ◌++◌, take, Some, refl, ap, sym, subst, ◌∙◌}
-use Rattle.std.proofs.lemmas.List.{append_assoc}
-use Rattle.interface.specs.Host.{Host}
-use Rattle.ncp_control.specs.Command.{IsCommand}
-use Rattle.ncp_control.specs.DataHeader.{IsHeader}
-use Rattle.ncp_control.specs.declared.command.Command.{Command}
+use Rattle.world_keeps_streams.proofs.Common.{◌≡◌, ℕ, ◌==◌, ◌*◌, Bool, true, false, List, [], ◌∷◌, ◌++◌, take, Some, refl, ap, sym, subst, ◌∙◌, append_assoc, Host, IsCommand, IsHeader, Command, Stream, is_busy, sends_on, PairState, Bytes, next_of, Entry, Listener, all_received, all_sent, HasSaid, Hears, Takes, Says, Answered, AreAllowed, IsAllowed, IsTelling, ends_by, gone_by, gone_now, is_out, received_at, receiver_now, sender_now, sent_at, name_of, Fetched, Free, IsAsking, IsFirst, IsHeard, IsPaired, IsPairedCall, IsWordless, Joint, Lies, NotTaken, Party, Post, Stepped, Steps, queue_by, receives_receiver, receives_sender, sends_receiver, sends_sender, x_after, y_after}
 use Rattle.stream_law.specs.Receivers as receivers
 use Rattle.stream_law.specs.Receivers.{Receiver}
 use Rattle.stream_law.specs.Senders as senders
 use Rattle.stream_law.specs.Senders.{Sender}
-use Rattle.stream_law.specs.Streams.{Stream}
 use Rattle.host_pairs.specs.Data.{data_text}
-use Rattle.host_pairs.specs.Entries.{is_busy, sends_on}
-use Rattle.host_pairs.specs.Pair.{PairState}
-use Rattle.host_pairs.specs.Parcels.{Bytes, next_of}
-use Rattle.host_pairs.specs.declared.entry.Entry.{Entry}
-use Rattle.host_pairs.specs.declared.listener.Listener.{Listener}
-use Rattle.host_keeps_streams.specs.Closings.{all_received, all_sent}
-use Rattle.host_keeps_streams.specs.Formed.{FindsFree, HasSaid}
+use Rattle.host_keeps_streams.specs.Formed.{FindsFree}
 use Rattle.host_keeps_streams.specs.Histories as calls
-use Rattle.host_keeps_streams.specs.Histories.{Call, Hears, Takes, Says, Answered, AreAllowed, IsAllowed, IsTelling, ends_by, gone_by, gone_now, is_out, received_at, receiver_now, sender_now, sent_at}
-use Rattle.host_keeps_streams.proofs.lemmas.{name_of}
-use Rattle.pair_keeps_streams.proofs.lemmas.{Fetched, Free, IsAsking, IsFirst, IsHeard, IsPaired, IsPairedCall, IsRequest, IsWordless, Joint, Lies, NotTaken, Party, Post, Stepped, Steps, finds_free, queue_by, receives, receives_receiver, receives_sender, sends, sends_receiver, sends_sender, x_after, y_after}
+use Rattle.host_keeps_streams.specs.Histories.{Call}
+use Rattle.pair_keeps_streams.proofs.lemmas.{IsRequest, finds_free, receives, sends}
 use Rattle.world_keeps_streams.specs.Calls.{called}
 
 -- a host that stays with a peer: what waits to be taken of it, and after that what waits in its program

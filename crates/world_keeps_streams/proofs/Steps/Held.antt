@@ -1,18 +1,9 @@
 -- One host of a world beside one peer of it, upon two streams of a link; and what one moment more makes of it.
-use Rattle.std.proofs.Common.{◌≡◌, ℕ, Bool, true, false, if◌then◌else◌, List, [], ◌∷◌, ◌++◌, refl, sym, subst}
+use Rattle.world_keeps_streams.proofs.Common.{◌≡◌, ℕ, Bool, true, false, if◌then◌else◌, List, [], ◌∷◌, ◌++◌, refl, sym, subst, Host, Command, Stream, AreAllowed, IsTelling, gone_now, receiver_now, sender_now, pair_with, Moment, event_in, events_of, program, Joint, Party, Post, Steps, keeps, calls_by, own_calls}
 use Rattle.std.proofs.lemmas.List.{append-nil}
-use Rattle.interface.specs.Host.{Host}
-use Rattle.ncp_control.specs.declared.command.Command.{Command}
-use Rattle.stream_law.specs.Streams.{Stream}
 use Rattle.stream_law.specs.Within.{IsPrefix}
 use Rattle.host_keeps_streams.specs.Histories as calls
-use Rattle.host_keeps_streams.specs.Histories.{AreAllowed, IsTelling, gone_now, receiver_now, sender_now}
 use Rattle.reset_law.specs.Stays as stay
-use Rattle.sockets.specs.Pairs.{pair_with}
-use Rattle.net_sim.specs.Story.{Moment, event_in, events_of, program}
-use Rattle.pair_keeps_streams.proofs.lemmas.{Joint, Party, Post, Steps}
-use Rattle.world_keeps_pairing.specs.Steps.{keeps}
-use Rattle.world_keeps_streams.specs.Calls.{calls_by, own_calls}
 use Rattle.world_keeps_streams.proofs.Steps.Going.{Goes, Here, standing}
 use Rattle.world_keeps_streams.proofs.Steps.Joined.{IsSettled}
 use Rattle.world_keeps_streams.proofs.Stays.Resets.{stays_on}

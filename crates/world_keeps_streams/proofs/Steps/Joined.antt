@@ -1,21 +1,10 @@
 -- The two programs of a pair of hosts of a world on one link, beside two runs of the law of streams.
-use Rattle.std.proofs.Common.{◌≡◌, ℕ, Bool, true, false, List, [], ◌∷◌, ◌++◌}
-use Rattle.interface.specs.Host.{Host}
-use Rattle.ncp_control.specs.declared.command.Command.{Command}
+use Rattle.world_keeps_streams.proofs.Common.{◌≡◌, ℕ, Bool, true, false, List, [], ◌∷◌, ◌++◌, Host, Command, boxes, Message, Other, Stream, Order, Legal, Wrong, orders_of, AreAllowed, IsTelling, gone_now, numbered, receiver_now, sender_now, numbered_tells, pair_with, Moment, events_of, program, Fetched, Free, Joint, Lies, Party, Post, own_calls}
 use Rattle.reset_law.specs.Boxes as reset
-use Rattle.reset_law.specs.Boxes.{boxes}
-use Rattle.reset_law.specs.Events.{Message, Other, Reset, Reply}
+use Rattle.reset_law.specs.Events.{Reset, Reply}
 use Rattle.reset_law.specs.Stays as stay
 use Rattle.stream_law.specs.Receivers.{Receiver}
-use Rattle.stream_law.specs.Streams.{Stream}
 use Rattle.stream_law.specs.Within.{IsPrefix}
-use Rattle.host_pairs.specs.Control.{Order, Legal, Wrong, orders_of}
-use Rattle.host_keeps_streams.specs.Histories.{AreAllowed, IsTelling, gone_now, numbered, receiver_now, sender_now}
-use Rattle.host_keeps_streams.proofs.lemmas.{numbered_tells}
-use Rattle.sockets.specs.Pairs.{pair_with}
-use Rattle.net_sim.specs.Story.{Moment, events_of, program}
-use Rattle.pair_keeps_streams.proofs.lemmas.{Fetched, Free, Joint, Lies, Party, Post}
-use Rattle.world_keeps_streams.specs.Calls.{own_calls}
 pub use Rattle.world_keeps_streams.specs.Calls.{numbered_by_peer}
 
 pub turned_tells : IsTelling numbered_by_peer

@@ -1,15 +1,7 @@
 -- Two programs of a world are beside two streams of each link at all lawful moments.
-use Rattle.std.proofs.Common.{◌≡◌, ℕ, ◌==◌, false, List, [], ◌∷◌, refl}
-use Rattle.interface.specs.Host.{Host}
+use Rattle.world_keeps_streams.proofs.Common.{◌≡◌, ℕ, ◌==◌, false, List, [], ◌∷◌, refl, Host, opening_stream, numbered, numbered_tells, Joint, Steps, all_steps, mirror, opened, HaveAddresses, Moment, event_in, events_of, IsTimeline, crossings_of}
 use Rattle.interface.specs.Mailboxes as mail
-use Rattle.stream_law.specs.Streams.{opening_stream}
-use Rattle.host_keeps_streams.specs.Histories.{numbered}
-use Rattle.host_keeps_streams.proofs.lemmas.{numbered_tells}
-use Rattle.pair_keeps_streams.proofs.lemmas.{Joint, Steps, all_steps, mirror, opened}
 use Rattle.reset_law.specs.Stays as stay
-use Rattle.net_sim.specs.Clean.{HaveAddresses}
-use Rattle.net_sim.specs.Story.{Moment, event_in, events_of}
-use Rattle.net_sim.specs.Timeline.{IsTimeline, crossings_of}
 use Rattle.world_keeps_streams.proofs.Steps.Goes as going
 use Rattle.world_keeps_streams.proofs.Steps.Joined.{Joined, party, numbered_by_peer, turned_tells}
 use Rattle.world_keeps_streams.proofs.Steps.Joining.{Goes, Mirrors}

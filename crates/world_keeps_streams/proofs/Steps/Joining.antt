@@ -1,18 +1,10 @@
 -- The two halves of a moment, one after the other: what each of two hosts does by it.
-use Rattle.std.proofs.Common.{◌≡◌, ℕ, true, List, ◌∷◌, ◌++◌, ap, sym, subst, ◌∙◌}
-use Rattle.interface.specs.Host.{Host}
-use Rattle.ncp_control.specs.declared.command.Command.{Command}
+use Rattle.world_keeps_streams.proofs.Common.{◌≡◌, ℕ, true, List, ◌∷◌, ◌++◌, ap, sym, subst, ◌∙◌, Host, Command, Stream, AreAllowed, numbered, numbered_tells, Joint, Party, boxes, Moment, events_of, own_calls}
 use Rattle.stream_law.specs.Receivers.{Receiver}
 use Rattle.stream_law.specs.Senders.{Sender}
-use Rattle.stream_law.specs.Streams.{Stream}
 use Rattle.stream_law.specs.Within.{IsPrefix}
-use Rattle.host_keeps_streams.specs.Histories.{AreAllowed, numbered}
-use Rattle.host_keeps_streams.proofs.lemmas.{numbered_tells}
-use Rattle.pair_keeps_streams.proofs.lemmas.{Joint, Party}
-use Rattle.reset_law.specs.Boxes.{Box, boxes}
+use Rattle.reset_law.specs.Boxes.{Box}
 use Rattle.reset_law.specs.Stays as stay
-use Rattle.net_sim.specs.Story.{Moment, events_of}
-use Rattle.world_keeps_streams.specs.Calls.{own_calls}
 use Rattle.world_keeps_streams.proofs.Steps.Held.{Acted, Held, side}
 use Rattle.world_keeps_streams.proofs.Steps.Joined.{IsSettled, Joined, Keeps, commands_in, party, post_in, numbered_by_peer, turned_tells}
 

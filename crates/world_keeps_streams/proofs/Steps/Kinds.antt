@@ -1,35 +1,12 @@
 -- What the calls of one moment do to a receiving end: a user closes it, commands are heard, or neither.
-use Rattle.std.proofs.Common.{◌≡◌, ◌⊎◌, inl, inr, ℕ, ◌==◌, ◌&&◌, Bool, true, false, if◌then◌else◌, List, [], ◌∷◌, ◌++◌, take, find, Option, Some, None, refl, sym, subst, ◌∙◌, eq-eqb}
-use Rattle.std.proofs.lemmas.Bool.{eqb-true}
-use Rattle.interface.specs.Host.{Host, same_host}
-use Rattle.interface.specs.declared.crossing.Crossing.{Crossing}
+use Rattle.world_keeps_streams.proofs.Common.{◌≡◌, ◌⊎◌, inl, inr, ℕ, ◌==◌, ◌&&◌, Bool, true, false, if◌then◌else◌, List, [], ◌∷◌, ◌++◌, take, find, Option, Some, None, refl, sym, subst, ◌∙◌, eq-eqb, eqb-true, Host, same_host, Crossing, same_host-refl, same_host-true, Command, Order, Legal, Wrong, orders_of, desk_of, listens_on, is_busy, is_mine_on, PairState, Parcel, command_gone, with_connections, TurnState, order_taken, Entry, Listener, both, is_ready, AreAllowed, Closes, HasClosed, Hears, Says, gone_now, name_now, numbered, find_passes, numbered_tells, turn_of, NcpState, owner_of, pair_with, next_in, Peer, Request, lives_at, Asked, Crossed, Moment, places, program, answer_calls, calls_by, commands_said, message_calls, next_calls, orders_heard, own_calls, owner_calls, parcel_calls, request_calls}
 use Rattle.interface.specs.declared.crossing.Crossing.TheVariants as crossing
-use Rattle.interface.proofs.lemmas.{same_host-refl, same_host-true}
-use Rattle.ncp_control.specs.declared.command.Command.{Command}
-use Rattle.host_pairs.specs.Control.{Order, Legal, Wrong, orders_of}
-use Rattle.host_pairs.specs.Desk.{desk_of, listens_on}
-use Rattle.host_pairs.specs.Entries.{is_busy, is_mine_on}
-use Rattle.host_pairs.specs.Pair.{PairState}
 use Rattle.host_pairs.specs.Parcels as parcel
-use Rattle.host_pairs.specs.Parcels.{Parcel, command_gone, with_connections}
-use Rattle.host_pairs.specs.Turn.{TurnState, order_taken}
-use Rattle.host_pairs.specs.declared.entry.Entry.{Entry}
-use Rattle.host_pairs.specs.declared.listener.Listener.{Listener}
-use Rattle.host_pairs.proofs.lemmas.{both}
-use Rattle.ncp_control.specs.Phases.{is_ready}
 use Rattle.host_keeps_streams.specs.Histories as calls
-use Rattle.host_keeps_streams.specs.Histories.{AreAllowed, Call, Closes, HasClosed, Hears, Says, gone_now, name_now, numbered}
-use Rattle.host_keeps_streams.proofs.lemmas.{find_passes, numbered_tells}
-use Rattle.sockets.specs.Accepting.{turn_of}
-use Rattle.sockets.specs.Pairs.{NcpState, owner_of, pair_with}
-use Rattle.sockets.specs.Sending.{next_in}
-use Rattle.sockets.specs.declared.peer.Peer.{Peer}
-use Rattle.sockets.specs.declared.request.Request.{Request}
+use Rattle.host_keeps_streams.specs.Histories.{Call}
 use Rattle.sockets.specs.declared.request.Request.TheVariants as request
 use Rattle.promise.specs.declared.life.Life.{Life}
-use Rattle.net_sim.specs.Book.{lives_at}
-use Rattle.net_sim.specs.Story.{Asked, Crossed, Moment, places, program}
-use Rattle.world_keeps_streams.specs.Calls.{answer_calls, called, calls_by, commands_said, message_calls, next_calls, orders_heard, own_calls, owner_calls, parcel_calls, request_calls}
+use Rattle.world_keeps_streams.specs.Calls.{called}
 use Rattle.world_keeps_streams.proofs.Lives.Fates.{IsClose}
 use Rattle.world_keeps_streams.proofs.Steps.Overs.{AllHearNone, HearsNone}
 use Rattle.world_keeps_streams.proofs.Steps.Unsaid.{AllHear}

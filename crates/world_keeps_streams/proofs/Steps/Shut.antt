@@ -1,20 +1,13 @@
 -- A receiving end that a user closed has said its CLS, by what the law's receiver has of its connection; and an end that is there later was there already,
 -- where its connection had been asked for.
-use Rattle.std.proofs.Common.{◌≡◌, inl, inr, ℕ, ◌==◌, ◌&&◌, Bool, true, false, if◌then◌else◌, List, [], ◌∷◌, ◌++◌, length, Option, Some, None, refl, ap, sym, subst, ◌∙◌}
-use Rattle.interface.specs.Host.{Host}
-use Rattle.stream_law.specs.Words.{Str, Ret, Cls, covers, for, holds, is_size}
+use Rattle.world_keeps_streams.proofs.Common.{◌≡◌, inl, inr, ℕ, ◌==◌, ◌&&◌, Bool, true, false, if◌then◌else◌, List, [], ◌∷◌, ◌++◌, length, Option, Some, None, refl, ap, sym, subst, ◌∙◌, Host, Str, Ret, Cls, covers, for, is_size, for_here, some_is, receives_on, PairState, Entry, Listener, MayAllReceive, all_received, AreAllowed, Closes, HasClosed, IsHistory, IsTelling, gone_now, name_now, received_at, receiver_now, sender_now, holds_now, step_received}
+use Rattle.stream_law.specs.Words.{holds}
 use Rattle.stream_law.specs.Receivers as receivers
 use Rattle.stream_law.specs.Receivers.{Receiver}
-use Rattle.stream_law.proofs.lemmas.{for_here, some_is}
-use Rattle.host_pairs.specs.Entries.{receives_on}
-use Rattle.host_pairs.specs.Pair.{PairState}
-use Rattle.host_pairs.specs.declared.entry.Entry.{Entry}
-use Rattle.host_pairs.specs.declared.listener.Listener.{Listener}
-use Rattle.host_keeps_streams.specs.Closings.{MayAllReceive, all_received}
 use Rattle.host_keeps_streams.specs.Histories as calls
-use Rattle.host_keeps_streams.specs.Histories.{AreAllowed, Call, Closes, HasClosed, IsClosing, IsHistory, IsTelling, gone_now, name_now, received_at, receiver_now, sender_now}
+use Rattle.host_keeps_streams.specs.Histories.{Call, IsClosing}
 use Rattle.host_keeps_streams.specs.Names.{named}
-use Rattle.host_keeps_streams.proofs.lemmas.{Holds, holds_now, step_received}
+use Rattle.host_keeps_streams.proofs.lemmas.{Holds}
 
 -- ---- a connection that was asked for
 

@@ -1,22 +1,11 @@
 -- What two programs of a world that stay together have of each link, as the law of streams has it.
-use Rattle.std.proofs.Common.{◌≡◌, ℕ, ◌==◌, Bool, true, false, List, refl, ap, sym, subst, ◌∙◌}
-use Rattle.interface.specs.Host.{Host}
+use Rattle.world_keeps_streams.proofs.Common.{◌≡◌, ℕ, ◌==◌, Bool, true, false, List, refl, ap, sym, subst, ◌∙◌, Host, Entry, HasReceiver, AreAllowed, HasClosed, gone_now, name_now, numbered, receiver_now, sender_now, IsSending, closed_first, holds_now, numbered_tells, IsSafe, safe_inv, pair_with, HaveAddresses, Moment, events_of, program, IsTimeline, crossings_of, own_calls, numbered_by_peer}
 use Rattle.interface.specs.Mailboxes as mail
-use Rattle.host_pairs.specs.declared.entry.Entry.{Entry}
-use Rattle.host_keeps_streams.specs.Ends.{HasReceiver}
-use Rattle.host_keeps_streams.specs.Histories.{AreAllowed, HasClosed, gone_now, name_now, numbered, receiver_now, sender_now}
-use Rattle.host_keeps_streams.specs.Names.{IsSending}
-use Rattle.host_keeps_streams.proofs.lemmas.{Holds, closed_first, holds_now, numbered_tells}
+use Rattle.host_keeps_streams.proofs.lemmas.{Holds}
 use Rattle.stream_law.specs.Receivers.{Receiver}
 use Rattle.stream_law.specs.Senders.{Sender}
-use Rattle.stream_law.specs.Within.{AreGranted, IsPrefix, IsSafe}
-use Rattle.stream_law.proofs.lemmas.{safe_inv}
+use Rattle.stream_law.specs.Within.{AreGranted, IsPrefix}
 use Rattle.reset_law.specs.Stays as stay
-use Rattle.sockets.specs.Pairs.{pair_with}
-use Rattle.net_sim.specs.Clean.{HaveAddresses}
-use Rattle.net_sim.specs.Story.{Moment, events_of, program}
-use Rattle.net_sim.specs.Timeline.{IsTimeline, crossings_of}
-use Rattle.world_keeps_streams.specs.Calls.{own_calls, numbered_by_peer}
 use Rattle.world_keeps_streams.proofs.Calls.Allowed.{may_calls}
 use Rattle.world_keeps_streams.proofs.Calls.Chain.{Chained, chain}
 use Rattle.world_keeps_streams.proofs.Steps.Joined.{Joined}
@@ -47,9 +36,6 @@ module _ (hosts : List Host) (addresses : HaveAddresses hosts) (link : ℕ) (off
   -- ---- while both stay
 
   module _ (moments : List Moment) (run : mail.IsRun hosts (crossings_of moments)) (time : IsTimeline hosts moments) (mine : stay.stays a b (events_of moments) ≡ true) (theirs : stay.stays b a (events_of moments) ≡ true) (c : ℕ) where
-    j : Joined a b link moments
-    j = joined link off hosts addresses a b moments run time
-
     received : (joined link off hosts addresses a b moments run time).x.receiver ≡ receiver_now numbered b link (own_calls a b moments)
     received = (joined link off hosts addresses a b moments run time).received_a mine
 

@@ -1,19 +1,11 @@
 -- A pair that has nothing to say where each of its messages was answered: no command waits, and no end may send.
-use Rattle.std.proofs.Common.{◌≡◌, inl, inr, ℕ, suc, ◌≤◌, ◌==◌, ◌&&◌, ◌||◌, not, min, nat_lt, Bool, true, false, List, [], ◌∷◌, filter, find, length, Option, Some, None, is_some, refl, ap, sym, subst, ◌∙◌, arith, eq-eqb, lt-ltb}
-use Rattle.std.proofs.lemmas.Bool.{eqb-false, eqb-true, ltb-false}
-use Rattle.interface.specs.Host.{Host, same_host}
+use Rattle.world_keeps_streams.proofs.Common.{◌≡◌, inl, inr, ℕ, suc, ◌≤◌, ◌==◌, ◌&&◌, ◌||◌, not, nat_lt, Bool, true, false, List, [], ◌∷◌, filter, find, length, Option, Some, is_some, refl, ap, sym, subst, ◌∙◌, arith, eq-eqb, eqb-true, Host, same_host, Command, is_answered, is_busy, is_open, is_receiving, PairState, Commands, Parcel, may_send, may_send_on, next_of, sendable, Entry, both, find_passes, unlike, pair_with, message_of, next_in, Peer}
+use Rattle.std.proofs.Common.{min, None, lt-ltb}
+use Rattle.std.proofs.lemmas.Bool.{eqb-false, ltb-false}
 use Rattle.ncp_control.specs.Packing.{packed_count}
-use Rattle.ncp_control.specs.declared.command.Command.{Command}
 use Rattle.ncp_control.specs.declared.phase.Phase.TheVariants as phase
-use Rattle.host_pairs.specs.Entries.{is_answered, is_busy, is_open, is_receiving}
-use Rattle.host_pairs.specs.Pair.{PairState}
-use Rattle.host_pairs.specs.Parcels.{Commands, Parcel, Reply, bytes_by, bytes_of, bytes_on, link_of, lower, lowest_link, may_send, may_send_on, next_bytes, next_of, next_of_ready, sendable, sendable_by}
-use Rattle.host_pairs.specs.declared.entry.Entry.{Entry}
-use Rattle.host_pairs.proofs.lemmas.{both}
-use Rattle.host_keeps_streams.proofs.lemmas.{find_passes, unlike}
-use Rattle.sockets.specs.Pairs.{pair_with}
-use Rattle.sockets.specs.Sending.{message_for, message_of, next_in, parcel_for}
-use Rattle.sockets.specs.declared.peer.Peer.{Peer}
+use Rattle.host_pairs.specs.Parcels.{Reply, bytes_by, bytes_of, bytes_on, link_of, lower, lowest_link, next_bytes, next_of_ready, sendable_by}
+use Rattle.sockets.specs.Sending.{message_for, parcel_for}
 use Rattle.world_keeps_streams.proofs.Deeds.Effects.{Among}
 
 -- ---- a program

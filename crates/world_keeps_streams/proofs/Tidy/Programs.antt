@@ -1,40 +1,15 @@
 -- No end of a host has to close, at any moment: each that is drained has queued its CLS.
-use Rattle.std.proofs.Common.{◌≡◌, ℕ, ◌&&◌, not, Bool, true, false, if◌then◌else◌, cond, List, [], ◌∷◌, length, Option, Some, None, refl, sym, subst}
-use Rattle.interface.specs.Host.{Host, same_host}
+use Rattle.world_keeps_streams.proofs.Common.{◌≡◌, ℕ, ◌&&◌, not, Bool, true, false, if◌then◌else◌, cond, List, [], ◌∷◌, length, Option, Some, None, refl, sym, subst, Host, same_host, Flow, Answer, HostMessage, not_false, same_host-true, is_receive_socket, is_send_socket, is_ready, closed_end, commanded, contacted, interrupt_of, receiver_requested, requested, with_end, with_more_bits, desk_of, listens_on, free_link, is_busy, is_open, sending_end, PairState, Parcel, pair_after, parcel_gone, answered_turn, message_taken, Entry, both, after_turn, turn_of, NcpState, opening_state, owner_of, pair_with, with_pair, AreInOrder, at_owner, closed_socket, on_open, next_in, offered_by, Peer, Request, next_pair, not_first, pair_changed, HaveAddresses, Asked, Crossed, Moment, places, program, Happens, IsTimeline, crossings_of, coupled, owner_found, mail_below}
 use Rattle.interface.specs.Mailboxes as mail
-use Rattle.interface.specs.declared.address.Flow.{Flow}
-use Rattle.interface.specs.declared.crossing.Answer.{Answer}
 use Rattle.interface.specs.declared.crossing.Crossing.TheVariants as crossing
 use Rattle.interface.specs.declared.crossing.Inbound.TheVariants as inbound
-use Rattle.interface.specs.declared.message.HostMessage.{HostMessage}
-use Rattle.interface.proofs.lemmas.{not_false, same_host-true}
-use Rattle.ncp_control.specs.Numbers.{is_receive_socket, is_send_socket}
-use Rattle.ncp_control.specs.Phases.{is_ready}
 use Rattle.ncp_control.specs.declared.command.Command.TheVariants as command
-use Rattle.host_pairs.specs.Asked.{closed_end, commanded, contacted, interrupt_of, receiver_requested, requested, with_end, with_more_bits}
 use Rattle.host_pairs.specs.Commands.{granted}
-use Rattle.host_pairs.specs.Desk.{desk_of, listens_on}
-use Rattle.host_pairs.specs.Entries.{free_link, is_busy, is_open, sending_end}
-use Rattle.host_pairs.specs.Pair.{PairState}
-use Rattle.host_pairs.specs.Parcels.{Parcel, link_of, pair_after, parcel_gone}
-use Rattle.host_pairs.specs.Turn.{answered_turn, message_taken}
-use Rattle.host_pairs.specs.declared.entry.Entry.{Entry}
-use Rattle.host_pairs.proofs.lemmas.{both}
-use Rattle.sockets.specs.Accepting.{accepted, after_turn, turn_of}
-use Rattle.sockets.specs.Pairs.{NcpState, opening_state, owner_of, pair_with, with_pair}
-use Rattle.sockets.specs.Peers.{AreInOrder}
-use Rattle.sockets.specs.Requests.{at_owner, closed_socket, on_open, refusal, send_fault, served}
-use Rattle.sockets.specs.Sending.{next_in, offered, offered_by}
-use Rattle.sockets.specs.declared.peer.Peer.{Peer}
-use Rattle.sockets.specs.declared.request.Request.{Request}
+use Rattle.host_pairs.specs.Parcels.{link_of}
+use Rattle.sockets.specs.Accepting.{accepted}
+use Rattle.sockets.specs.Requests.{refusal, send_fault, served}
+use Rattle.sockets.specs.Sending.{offered}
 use Rattle.sockets.specs.declared.request.Request.TheVariants as request
-use Rattle.sockets.proofs.lemmas.{next_pair, not_first, pair_changed}
-use Rattle.net_sim.specs.Clean.{HaveAddresses}
-use Rattle.net_sim.specs.Story.{Asked, Crossed, Moment, places, program}
-use Rattle.net_sim.specs.Timeline.{Happens, IsTimeline, crossings_of}
-use Rattle.net_sim.proofs.lemmas.{coupled}
-use Rattle.world_keeps_lives.proofs.lemmas.{owner_found}
-use Rattle.world_keeps_pairing.proofs.lemmas.{mail_below}
 use Rattle.world_keeps_streams.proofs.Calls.Chain.{idle}
 use Rattle.world_keeps_streams.proofs.Tidy.Pairs.{IsTidyPair, asks_receive, asks_send, closes_end, gives, grants, turn_answer, turn_message, turn_parcel}
 

@@ -1,11 +1,7 @@
 -- Two ends of one connection, each of which has heard what the other said: nobody has closed them, but for a sender that drains.
-use Rattle.std.proofs.Common.{◌≡◌, ℕ, ◌==◌, ◌&&◌, ◌||◌, Bool, true, false, List, [], length, is_some, refl, ap, sym, ◌∙◌}
-use Rattle.host_pairs.specs.Entries.{has_cls, is_answered, is_called_off, is_due, is_open, is_over, is_receiving, was_closed}
-use Rattle.host_pairs.specs.declared.entry.Closing.{Closing}
+use Rattle.world_keeps_streams.proofs.Common.{◌≡◌, ℕ, ◌==◌, ◌&&◌, ◌||◌, Bool, true, false, List, [], length, is_some, refl, ap, sym, ◌∙◌, has_cls, is_answered, is_called_off, is_due, is_open, is_receiving, was_closed, Closing, Entry, has_opened, unlike}
+use Rattle.host_pairs.specs.Entries.{is_over}
 use Rattle.host_pairs.specs.declared.entry.Closing.TheVariants as closing
-use Rattle.host_pairs.specs.declared.entry.Entry.{Entry}
-use Rattle.host_keeps_streams.specs.Ends.{has_opened}
-use Rattle.host_keeps_streams.proofs.lemmas.{unlike}
 use Rattle.world_keeps_streams.proofs.Tidy.Pairs.{IsTidy}
 
 undue : (u v w : Bool) → v ≡ true → (u && (v || w)) ≡ false → u ≡ false

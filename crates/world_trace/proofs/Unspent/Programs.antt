@@ -1,43 +1,33 @@
 -- Calls of a program leave it its host's, and memory lasts in it; so do its services.
-use Rattle.std.proofs.Common.{◌≡◌, ◌&&◌, ℕ, Bool, true, false, if◌then◌else◌, List, [], ◌∷◌, ◌++◌, length, nat_lt, take, Option, Some, None, refl, ◌∙◌}
-use Rattle.std.proofs.lemmas.List.Elements.{All-append, All-cons, All-head, All-nil, All-tail}
-use Rattle.std.specs.List.{All}
+use Rattle.world_trace.proofs.Common.{◌≡◌, ℕ, Bool, true, false, if◌then◌else◌, List, [], ◌∷◌, ◌++◌, length, nat_lt, take, Option, Some, None, refl, ◌∙◌, All-append, All-cons, All-head, All-nil, All-tail, All, PairState, Entry, Notice, ServiceDeskState, ServicesState, Service, ServerState, UserState, Host, same_host, NcpState, refusal, NcpFault, Peer, Request, EchoState, TerminalState, ProgramLasts, ServiceLasts}
+use Rattle.std.proofs.Common.{◌&&◌}
 use Rattle.host_pairs.specs.Desk.{listens_on}
 use Rattle.host_pairs.specs.Entries.{is_busy}
-use Rattle.host_pairs.specs.Pair.{PairState}
 use Rattle.host_pairs.specs.Parcels.{Parcel}
-use Rattle.host_pairs.specs.declared.entry.Entry.{Entry}
-use Rattle.host_pairs.specs.declared.notice.Notice.{Notice}
-use Rattle.host_services.specs.Services.{ServiceDeskState, ServicesState, noticing, reporting, serving, typing_on}
+use Rattle.host_services.specs.Services.{noticing, reporting, serving, typing_on}
 use Rattle.host_services.specs.Turns as turns
 use Rattle.host_services.specs.Turns.{Turned, all_heard, asked_by, asks, heard_by, line_told, lines_told, notice_heard, server_asked, server_asks, server_begins, server_begun, server_ends, services_told, tried, tried_by, tries, user_asked, user_asks, user_begins, user_begun, user_ends}
 use Rattle.host_services.specs.declared.report.Report.TheVariants as report
-use Rattle.host_services.specs.declared.service.Service.{Service}
 use Rattle.host_services.specs.declared.service.Service.TheVariants as service
 use Rattle.icp.specs.Notices.{arrived_on, is_opened}
 use Rattle.icp.specs.Outcomes.{IcpTurn}
-use Rattle.icp.specs.Server.{ServerState, opening_server, server_by, server_failure, server_requests, server_turn}
+use Rattle.icp.specs.Server.{opening_server, server_by, server_failure, server_requests, server_turn}
 use Rattle.icp.specs.Sockets.{server_fault, socket_of, user_fault}
-use Rattle.icp.specs.User.{UserState, opening_user, user_by, user_failure, user_heard, user_met, user_requests, user_stage, user_turn}
+use Rattle.icp.specs.User.{opening_user, user_by, user_failure, user_heard, user_met, user_requests, user_stage, user_turn}
 use Rattle.icp.specs.declared.fault.StartFault.{StartFault}
 use Rattle.icp.specs.declared.outcome.Failure.{Failure}
 use Rattle.icp.specs.declared.outcome.Outcome.{Outcome}
 use Rattle.icp.specs.declared.outcome.Outcome.TheVariants as outcome
-use Rattle.interface.specs.Host.{Host, same_host}
 use Rattle.interface.specs.declared.Inbound.{Inbound}
 use Rattle.interface.specs.declared.Inbound.TheVariants as inbound
 use Rattle.ncp_control.specs.Numbers.{is_receive_socket}
 use Rattle.sockets.specs.Accepting.{accepted}
-use Rattle.sockets.specs.Pairs.{NcpState, owner_of, pair_with}
-use Rattle.sockets.specs.Requests.{at_owner, refusal, served}
+use Rattle.sockets.specs.Pairs.{owner_of, pair_with}
+use Rattle.sockets.specs.Requests.{at_owner, served}
 use Rattle.sockets.specs.Sending.{next_in, offered, offered_by}
-use Rattle.sockets.specs.declared.fault.NcpFault.{NcpFault}
-use Rattle.sockets.specs.declared.peer.Peer.{Peer}
-use Rattle.sockets.specs.declared.request.Request.{Request}
 use Rattle.sockets.specs.declared.request.Request.TheVariants as request
 use Rattle.terminal.specs.Ends as ends
-use Rattle.terminal.specs.Machines.{EchoState, TerminalState, echo_by, echo_turn, terminal_by, terminal_heard, terminal_turn}
-use Rattle.world_trace.specs.Lasting.{ProgramLasts, ServiceLasts}
+use Rattle.terminal.specs.Machines.{echo_by, echo_turn, terminal_by, terminal_heard, terminal_turn}
 
 -- ---- programs
 

@@ -1,20 +1,9 @@
 -- Rows of worlds in which memory lasts, or not.
-use Rattle.std.proofs.Common.{◌≡◌, ◌^◌, ◌≤◌, true, [], ◌∷◌, replicate, Option, Some, None, ap, sym, subst, arith}
-use Rattle.std.proofs.lemmas.Bool.{false≢true}
+use Rattle.world_trace.proofs.Common.{◌≡◌, ◌≤◌, true, [], ◌∷◌, Option, Some, None, ap, sym, subst, arith, false≢true, All-head, Calls, Host, shown, WorldState, opening_state, first, second, IsShort, Lasts, SeatLasts, ServiceLasts, ServicesLast, IsReached, IsSaid, AreNumbersTold, IsListenerTold, IsSeatTold, IsServed, IsWorldTold}
+use Rattle.std.proofs.Common.{◌^◌, replicate}
 use Rattle.std.proofs.lemmas.List.{length-replicate}
-use Rattle.std.proofs.lemmas.List.Elements.{All-head}
-use Rattle.interface.specs.Calls.{Calls}
-use Rattle.interface.specs.Host.{Host}
 use Rattle.interface.specs.declared.crossing.Crossing.TheVariants as crossing
-use Rattle.net_sim.specs.Carriers.{shown}
-use Rattle.net_sim.specs.World.{WorldState}
-use Rattle.sockets.specs.Pairs.{opening_state}
-use Rattle.sockets.specs.Worked.{first, second}
-use Rattle.trace.specs.Named.{IsShort}
-use Rattle.world_trace.specs.Lasting.{Lasts, SeatLasts, ServiceLasts, ServicesLast}
 use Rattle.world_trace.specs.Laws.WorkedLasting.{long_seat, long_services, spent_echo, spent_seat, spent_services}
-use Rattle.world_trace.specs.Reached.{IsReached, IsSaid}
-use Rattle.world_trace.specs.Told.{AreNumbersTold, IsListenerTold, IsSeatTold, IsServed, IsWorldTold}
 use Rattle.world_trace.proofs.Whole.{reached_told}
 
 pub spent_refused : SeatLasts spent_seat → ⊥

@@ -1,45 +1,24 @@
 -- Each event of a world that has not stopped leaves memory lasting in all programs and services.
-use Rattle.std.proofs.Common.{◌≡◌, inl, inr, ℕ, zero, suc, Bool, true, false, List, [], ◌∷◌, if◌then◌else◌, find, length, nat_lt, Option, Some, None, IfSome, Result, Ok, Err, refl, ap, sym, subst, ◌∙◌}
-use Rattle.std.proofs.lemmas.Bool.{false≢true}
-use Rattle.std.proofs.lemmas.List.Elements.{All-cons, All-head, All-nil, All-tail}
+use Rattle.world_trace.proofs.Common.{◌≡◌, inr, ℕ, zero, suc, Bool, true, false, List, [], ◌∷◌, if◌then◌else◌, length, nat_lt, Option, Some, None, IfSome, Result, Ok, Err, refl, ap, sym, subst, ◌∙◌, false≢true, All-cons, All-head, All-nil, All-tail, All, Notice, ServiceDeskState, ServicesState, no_services, opening_desk, line_bits, Calls, crossing_of, is_halt, is_memory, Host, same_host, Crossing, same_host-true, all_told, asked, crossed, AskGives, AtSeat, DoesOrHalts, Halts, OfferEnds, OfferGives, QuietEnds, StepGives, TakeEnds, TakeGives, TypeGives, WorldState, noticed, opening_seats, opening_services, opening_world, seat_of, seated, serviced, services_of, stops, tended, up_in, wants_memory, with_program, with_server, with_services, with_user, world_heard, world_moved, Event, Ask, Offer, Quiet, Server, Take, Typed, User, WorldFault, Carrier, Program, Seat, ServiceSeat, accepted, NcpState, opening_state, refusal, served, served_notices, next_out, offered, NcpFault, Request, WorldEvent, Lasts, ProgramLasts, SeatLasts, ServiceLasts, ServicesLast}
+use Rattle.std.proofs.Common.{inl, find}
 use Rattle.std.specs.Bool.{MatchBool}
-use Rattle.std.specs.List.{All}
-use Rattle.host_pairs.specs.declared.notice.Notice.{Notice}
-use Rattle.host_services.specs.Services.{ServiceDeskState, ServicesState, no_services, opening_desk}
 use Rattle.host_services.specs.Turns as services
-use Rattle.host_services.specs.TypedLines.{line_bits}
-use Rattle.interface.specs.Calls.{Calls, Seen, crossing_of, is_halt, is_memory, step_crossings}
-use Rattle.interface.specs.Host.{Host, same_host}
+use Rattle.interface.specs.Calls.{Seen, step_crossings}
 use Rattle.interface.specs.declared.CarrierFault.{CarrierFault}
 use Rattle.interface.specs.declared.CarrierFault.TheVariants as fault
 use Rattle.interface.specs.declared.HostMessage.{HostMessage}
 use Rattle.interface.specs.declared.Inbound.{Inbound}
 use Rattle.interface.specs.declared.NetEvent.{NetEvent}
-use Rattle.interface.specs.declared.crossing.Crossing.{Crossing}
 use Rattle.interface.specs.declared.crossing.Crossing.TheVariants as crossing
-use Rattle.interface.proofs.lemmas.{or_false, same_host-true}
-use Rattle.net_sim.specs.Book.{all_told, asked, crossed}
-use Rattle.net_sim.specs.World.{AskGives, AtProgram, AtSeat, Calms, Does, DoesOrHalts, EventGives, Halts, NetEnds, OfferEnds, OfferGives, Passes, QuietEnds, Refuses, Repeats, StepGives, TakeEnds, TakeGives, TurnsOf, TypeGives, WorldState, all_emptied, all_turned, changed, emptied, noticed, opening_seats, opening_services, opening_world, seat_of, seated, seats_turned, served_at, serviced, services_in, services_of, stops, tended, turn_of, up_in, wants_memory, with_carrier, with_program, with_server, with_services, with_user, world_heard, world_moved}
-use Rattle.net_sim.specs.declared.event.Event.{Event}
-use Rattle.net_sim.specs.declared.event.Event.TheVariants.{Ask, Net, Offer, Quiet, Server, Take, Typed, User}
-use Rattle.net_sim.specs.declared.event.WorldFault.{WorldFault}
-use Rattle.net_sim.specs.declared.event.WorldFault.TheVariants.{Carrier, Program}
-use Rattle.net_sim.specs.declared.seat.Seat.{Seat}
-use Rattle.net_sim.specs.declared.seat.ServiceSeat.{ServiceSeat}
+use Rattle.interface.proofs.lemmas.{or_false}
+use Rattle.net_sim.specs.World.{AtProgram, Calms, Does, EventGives, NetEnds, Passes, Refuses, Repeats, TurnsOf, all_emptied, all_turned, changed, emptied, seats_turned, served_at, services_in, turn_of, with_carrier}
+use Rattle.net_sim.specs.declared.event.Event.TheVariants.{Net}
 use Rattle.net_sim.proofs.lemmas.{calm_keeps}
-use Rattle.sockets.specs.Accepting.{accepted}
-use Rattle.sockets.specs.Pairs.{NcpState, opening_state}
-use Rattle.sockets.specs.Requests.{refusal, served, served_notices}
-use Rattle.sockets.specs.Sending.{next_out, offered}
-use Rattle.sockets.specs.declared.fault.NcpFault.{NcpFault}
-use Rattle.sockets.specs.declared.request.Request.{Request}
 use Rattle.sockets.specs.declared.request.Request.TheVariants as request
 use Rattle.world_replay.specs.Output.{Shown}
 use Rattle.world_replay.specs.Replay.{Happens, Replays}
 use Rattle.world_replay.specs.Replay as replay
-use Rattle.world_script.specs.declared.event.WorldEvent.{WorldEvent}
 use Rattle.world_script.specs.declared.event.WorldEvent.TheVariants as script
-use Rattle.world_trace.specs.Lasting.{Lasts, ProgramLasts, SeatLasts, ServiceLasts, ServicesLast}
 use Rattle.world_trace.proofs.Unspent.Programs.{BothLast, accepted_lasts, offered_lasts, served_lasts, server_last, told_last, user_last}
 
 abbrev Answer : Type 0

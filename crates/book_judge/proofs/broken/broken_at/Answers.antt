@@ -1,5 +1,4 @@
-use Rattle.std.proofs.Common.{length, reverse}
-use Rattle.book_judge.specs.Inside.Asked.{AreNamed}
+use Rattle.book_judge.proofs.Common.{length, reverse, AreNamed}
 use Rattle.book_judge.proofs.Peace.{said_of}
 use Rattle.book_judge.proofs.broken.broken_at.Goals as goal
 

@@ -1,5 +1,4 @@
-use Rattle.std.proofs.Common.{◌≤◌, length}
-use Rattle.book_judge.specs.Inside.Chains.{AreChained}
+use Rattle.book_judge.proofs.Common.{◌≤◌, length, AreChained}
 use Rattle.book_judge.proofs.chains.chained.Given as goal
 
 abbrev pub invariant-loop-place : goal.invariant-loop-place

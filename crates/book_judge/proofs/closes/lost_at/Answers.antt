@@ -1,5 +1,4 @@
-use Rattle.std.proofs.Common.{length, arith}
-use Rattle.book_judge.specs.Inside.Chains.{ClosedAt}
+use Rattle.book_judge.proofs.Common.{length, arith, ClosedAt}
 use Rattle.book_judge.proofs.Elements.{first_all, first_more, when_false, when_true}
 use Rattle.book_judge.proofs.closes.lost_at.Goals as goal
 

@@ -1,5 +1,4 @@
-use Rattle.std.proofs.Common.{◌<◌, ℕ}
-use Rattle.book_judge.specs.Inside.Chains.{ClosedAt}
+use Rattle.book_judge.proofs.Common.{◌<◌, ℕ, ClosedAt}
 use Rattle.book_judge.proofs.closes.lost_at.Given as goal
 
 abbrev pub invariant-loop-place : goal.invariant-loop-place

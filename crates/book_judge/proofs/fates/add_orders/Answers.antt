@@ -1,6 +1,4 @@
-use Rattle.std.proofs.Common.{◌++◌, ◌<◌, length, rules}
-use Rattle.host_pairs.specs.Control.{orders_of}
-use Rattle.book_judge.specs.Inside.Deeds.{deeds_by}
+use Rattle.book_judge.proofs.Common.{◌++◌, ◌<◌, length, rules, orders_of, deeds_by}
 use Rattle.book_judge.proofs.Ends.Suited.{added_next}
 use Rattle.book_judge.proofs.fates.add_orders.Goals as goal
 

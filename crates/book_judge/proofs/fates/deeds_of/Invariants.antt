@@ -1,5 +1,4 @@
-use Rattle.std.proofs.Common.{◌≡◌, reverse, take}
-use Rattle.book_judge.specs.Inside.Deeds.{deeds_in}
+use Rattle.book_judge.proofs.Common.{◌≡◌, reverse, take, deeds_in}
 use Rattle.book_judge.proofs.fates.deeds_of.Given as goal
 
 abbrev pub invariant-loop-place : goal.invariant-loop-place

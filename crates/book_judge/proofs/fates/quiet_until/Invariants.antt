@@ -1,5 +1,4 @@
-use Rattle.std.proofs.Common.{◌-◌, length, take}
-use Rattle.book_judge.specs.Inside.Deeds.{AreQuiet}
+use Rattle.book_judge.proofs.Common.{◌-◌, length, take, AreQuiet}
 use Rattle.book_judge.proofs.fates.quiet_until.Given as goal
 
 abbrev pub invariant-deeds : goal.invariant-deeds

@@ -1,6 +1,4 @@
-use Rattle.std.proofs.Common.{◌+◌, ◌∙◌, ap, drop, sym}
-use Rattle.book_judge.specs.Inside.Deeds.{after, opening}
-use Rattle.book_judge.specs.declared.fates.Standing.{Standing}
+use Rattle.book_judge.proofs.Common.{◌+◌, ◌∙◌, ap, drop, sym, after, opening, Standing}
 use Rattle.book_judge.proofs.Ends.Reached.{all_there, from_start, goes_there, one_deed, over_there}
 use Rattle.book_judge.proofs.fates.reached_after.Goals as goal
 

@@ -1,5 +1,4 @@
-use Rattle.std.proofs.Common.{◌≡◌, drop}
-use Rattle.book_judge.specs.Inside.Deeds.{after, opening}
+use Rattle.book_judge.proofs.Common.{◌≡◌, drop, after, opening}
 use Rattle.book_judge.proofs.fates.reached_after.Given as goal
 
 abbrev pub invariant-loop-place : goal.invariant-loop-place

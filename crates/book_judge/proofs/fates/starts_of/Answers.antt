@@ -1,6 +1,4 @@
-use Rattle.std.proofs.Common.{ℕ, ◌+◌, List, [], ◌∷◌, length, take, ap, subst, sym, ◌∙◌}
-use Rattle.std.proofs.lemmas.List.{length-append}
-use Rattle.book_judge.specs.Inside.Deeds.{AreStarts}
+use Rattle.book_judge.proofs.Common.{ℕ, ◌+◌, List, [], ◌∷◌, length, take, ap, subst, sym, ◌∙◌, length-append, AreStarts}
 use Rattle.book_judge.proofs.Ends.Reached.{quiet_later}
 use Rattle.book_judge.proofs.Ends.Suited.{starts_more}
 use Rattle.book_judge.proofs.fates.starts_of.Goals as goal

@@ -1,5 +1,4 @@
-use Rattle.std.proofs.Common.{◌≡◌, length, take}
-use Rattle.book_judge.specs.Inside.Deeds.{AreQuiet, AreStarts}
+use Rattle.book_judge.proofs.Common.{◌≡◌, length, take, AreQuiet, AreStarts}
 use Rattle.book_judge.proofs.fates.starts_of.Given as goal
 
 abbrev pub invariant-loop-place : goal.invariant-loop-place

@@ -1,5 +1,4 @@
-use Rattle.std.proofs.Common.{◌≤◌, drop, length}
-use Rattle.book_judge.specs.Inside.Deeds.{AreRequests}
+use Rattle.book_judge.proofs.Common.{◌≤◌, drop, length, AreRequests}
 use Rattle.book_judge.proofs.fates.tail_of.Given as goal
 
 abbrev pub invariant-deeds : goal.invariant-deeds

@@ -1,5 +1,4 @@
-use Rattle.std.proofs.Common.{◌≡◌, arith, false, reverse, rules, true}
-use Rattle.book_judge.specs.Inside.Deeds.{deeds_in, suits_after}
+use Rattle.book_judge.proofs.Common.{◌≡◌, arith, false, reverse, rules, true, deeds_in, suits_after}
 use Rattle.book_judge.proofs.Ends.Suited.{all_suited, suited_more, unsuited_here}
 use Rattle.book_judge.proofs.fates.unsuited_at.Goals as goal
 

@@ -1,5 +1,4 @@
-use Rattle.std.proofs.Common.{reverse, take}
-use Rattle.book_judge.specs.Fates.{AreSuited}
+use Rattle.book_judge.proofs.Common.{reverse, take, AreSuited}
 use Rattle.book_judge.proofs.fates.unsuited_at.Given as goal
 
 abbrev pub invariant-loop-place : goal.invariant-loop-place

@@ -1,5 +1,4 @@
-use Rattle.std.proofs.Common.{length, arith}
-use Rattle.book_judge.specs.Inside.Chains.{GrantedAt}
+use Rattle.book_judge.proofs.Common.{length, arith, GrantedAt}
 use Rattle.book_judge.proofs.Elements.{first_all, first_more, when_false, when_true}
 use Rattle.book_judge.proofs.Fed.{excess_here, granted_here}
 use Rattle.book_judge.proofs.Shown.{earlier_all}

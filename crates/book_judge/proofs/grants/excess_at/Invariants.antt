@@ -1,5 +1,4 @@
-use Rattle.std.proofs.Common.{◌<◌, ℕ}
-use Rattle.book_judge.specs.Inside.Chains.{GrantedAt}
+use Rattle.book_judge.proofs.Common.{◌<◌, ℕ, GrantedAt}
 use Rattle.book_judge.proofs.grants.excess_at.Given as goal
 
 abbrev pub invariant-loop-place : goal.invariant-loop-place

@@ -1,5 +1,4 @@
-use Rattle.std.proofs.Common.{take}
-use Rattle.book_judge.specs.Inside.Joined.{AreJoined}
+use Rattle.book_judge.proofs.Common.{take, AreJoined}
 use Rattle.book_judge.proofs.joined.join_data.Given as goal
 
 abbrev pub invariant-loop-place : goal.invariant-loop-place

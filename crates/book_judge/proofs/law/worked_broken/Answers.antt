@@ -1,6 +1,4 @@
-use Rattle.std.proofs.Common.{◌≡◌, [], ◌∷◌, Some, None, refl, arith, inl, inr}
-use Rattle.promise.specs.Safe.{AreTwo}
-use Rattle.promise.specs.declared.life.Life.{Life}
+use Rattle.book_judge.proofs.Common.{◌≡◌, [], ◌∷◌, Some, None, refl, arith, inl, inr, AreTwo, Life}
 use Rattle.book_judge.proofs.Named.{contains_none}
 use Rattle.book_judge.proofs.law.worked_broken.Goals as goal
 

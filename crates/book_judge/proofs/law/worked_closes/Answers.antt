@@ -1,12 +1,6 @@
-use Rattle.std.proofs.Common.{◌≡◌, ◌++◌, ◌∙◌, Bool, true, false, List, [], ◌∷◌, ap, refl, sym, subst, inl, inr, arith}
-use Rattle.std.specs.List.{Contains}
+use Rattle.book_judge.proofs.Common.{◌≡◌, ◌++◌, ◌∙◌, Bool, true, false, List, [], ◌∷◌, ap, refl, sym, subst, inl, inr, arith, Contains, IsBeside, Match, receives, sends, Fate, Life, gave, sent_log, took}
 use Rattle.net_sim.specs.Worked.{eight, four}
-use Rattle.promise.specs.Fates.{IsBeside}
-use Rattle.promise.specs.Safe.{Match, receives, sends}
-use Rattle.promise.specs.declared.life.Fate.{Fate}
 use Rattle.promise.specs.declared.life.Fate.TheVariants as fate
-use Rattle.promise.specs.declared.life.Life.{Life}
-use Rattle.world_keeps_lives.specs.WorkedFormed.{gave, sent_log, took}
 use Rattle.book_judge.proofs.Elements.{place_contains}
 use Rattle.book_judge.proofs.Named.{contains_cases, contains_none}
 use Rattle.book_judge.proofs.law.worked_closes.Goals as goal

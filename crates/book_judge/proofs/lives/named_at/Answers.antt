@@ -1,10 +1,4 @@
-use Rattle.std.proofs.Common.{◌≡◌, ◌==◌, Bool, true, false, List, refl, ap, sym, subst, ◌∙◌}
-use Rattle.interface.specs.Flow.{same_flow}
-use Rattle.interface.specs.Host.{same_host}
-use Rattle.interface.specs.declared.address.Flow.{Flow}
-use Rattle.interface.proofs.lemmas.{same_flow-true}
-use Rattle.host_pairs.specs.Control.{orders_of}
-use Rattle.promise.specs.Formed.{named_in}
+use Rattle.book_judge.proofs.Common.{◌≡◌, ◌==◌, Bool, true, false, List, refl, ap, sym, subst, ◌∙◌, same_flow, same_host, Flow, same_flow-true, orders_of, named_in}
 use Rattle.book_judge.proofs.Crossed.Streamed.{named_message, nested, past_end, piece_there, slice_none, unnamed_flow, unnamed_message, unnamed_place}
 use Rattle.book_judge.proofs.lives.named_at.Goals as goal
 

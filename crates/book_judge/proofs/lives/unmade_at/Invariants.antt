@@ -1,5 +1,4 @@
-use Rattle.std.proofs.Common.{reverse, take}
-use Rattle.promise.specs.Formed.{FormedBook}
+use Rattle.book_judge.proofs.Common.{reverse, take, FormedBook}
 use Rattle.book_judge.proofs.lives.unmade_at.Given as goal
 
 abbrev pub invariant-loop-place : goal.invariant-loop-place

@@ -1,6 +1,5 @@
-use Rattle.std.proofs.Common.{◌≡◌, Some, length, refl, arith}
+use Rattle.book_judge.proofs.Common.{◌≡◌, Some, length, refl, arith, slice_get_read}
 use Rattle.std.specs.List.{slice_get}
-use Rattle.std.proofs.lemmas.Option.{slice_get_read}
 use Rattle.book_judge.proofs.Peace.{with_none, with_some}
 use Rattle.book_judge.proofs.matches.with_match.Goals as goal
 

@@ -1,6 +1,5 @@
-use Rattle.std.proofs.Common.{◌≡◌, Some, length, refl, sym, ◌∙◌, arith}
+use Rattle.book_judge.proofs.Common.{◌≡◌, Some, length, refl, sym, ◌∙◌, arith, slice_get_read}
 use Rattle.std.specs.List.{slice_get}
-use Rattle.std.proofs.lemmas.Option.{slice_get_read}
 use Rattle.book_judge.proofs.Known.{known_next, new_apart}
 use Rattle.book_judge.proofs.partners.takes.Goals as goal
 

@@ -1,5 +1,4 @@
-use Rattle.std.proofs.Common.{◌≡◌, ℕ, List, drop, length, Some, ◌∙◌, ap, arith, rules}
-use Rattle.ncp_control.specs.DataHeader.{header_of}
+use Rattle.book_judge.proofs.Common.{◌≡◌, ℕ, List, drop, length, Some, ◌∙◌, ap, arith, rules, header_of}
 use Rattle.host_pairs.proofs.lemmas.{control_read}
 use Rattle.book_judge.proofs.Named.{HasOctets, octets_there}
 use Rattle.book_judge.proofs.requests.control_octets.Goals as goal

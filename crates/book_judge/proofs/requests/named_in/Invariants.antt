@@ -1,6 +1,4 @@
-use Rattle.std.proofs.Common.{length}
-use Rattle.host_pairs.specs.Control.{orders_of}
-use Rattle.promise.specs.Formed.{named_in}
+use Rattle.book_judge.proofs.Common.{length, orders_of, named_in}
 use Rattle.book_judge.proofs.Named.{IsNamed}
 use Rattle.book_judge.proofs.requests.named_in.Given as goal
 

@@ -1,7 +1,5 @@
-use Rattle.std.proofs.Common.{ℕ, refl, ap, ◌∙◌}
+use Rattle.book_judge.proofs.Common.{ℕ, refl, ap, ◌∙◌, key, SoughtAt}
 use Rattle.std.specs.FinMap as map
-use Rattle.book_judge.specs.Inside.Asked.{key}
-use Rattle.book_judge.specs.Inside.Chains.{SoughtAt}
 use Rattle.book_judge.proofs.Elements.{when_false}
 use Rattle.book_judge.proofs.Walks.{sought_keyed, walk_init, walk_on, walk_over, walk_smaller}
 use Rattle.book_judge.proofs.sought.is_found.Goals as goal

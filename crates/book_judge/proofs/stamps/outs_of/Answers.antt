@@ -1,5 +1,4 @@
-use Rattle.std.proofs.Common.{◌≡◌, ℕ, length, subst, arith}
-use Rattle.book_judge.specs.Inside.Asked.{AreOuts}
+use Rattle.book_judge.proofs.Common.{◌≡◌, ℕ, length, subst, arith, AreOuts}
 use Rattle.book_judge.proofs.Asked.{outs_init, outs_next}
 use Rattle.book_judge.proofs.stamps.outs_of.Goals as goal
 

@@ -1,5 +1,4 @@
-use Rattle.std.proofs.Common.{◌≤◌, length, reverse, take}
-use Rattle.book_judge.specs.Inside.Asked.{AreOuts}
+use Rattle.book_judge.proofs.Common.{◌≤◌, length, reverse, take, AreOuts}
 use Rattle.book_judge.proofs.Asked.{AreLast}
 use Rattle.book_judge.proofs.stamps.outs_of.Given as goal
 

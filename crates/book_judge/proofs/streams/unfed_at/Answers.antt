@@ -1,5 +1,4 @@
-use Rattle.std.proofs.Common.{length, arith}
-use Rattle.book_judge.specs.Inside.Chains.{FedAt}
+use Rattle.book_judge.proofs.Common.{length, arith, FedAt}
 use Rattle.book_judge.proofs.Elements.{first_all, first_more, when_false, when_true}
 use Rattle.book_judge.proofs.Fed.{fed_here, unfed_here, unsourced_here}
 use Rattle.book_judge.proofs.streams.unfed_at.Goals as goal

@@ -1,6 +1,5 @@
-use Rattle.std.proofs.Common.{◌≡◌, ◌<◌, ℕ, List, [], ◌∷◌, Some, None, length, refl, sym, ap, ◌∙◌, arith}
+use Rattle.book_judge.proofs.Common.{◌≡◌, ◌<◌, ℕ, List, [], ◌∷◌, Some, None, length, refl, sym, ap, ◌∙◌, arith, Life}
 use Rattle.std.specs.List.{slice_get}
-use Rattle.promise.specs.declared.life.Life.{Life}
 use Rattle.book_judge.proofs.worked_places.worked_places.Goals as goal
 
 none_past : (xs : List Life) → slice_get xs (length xs) ≡ None

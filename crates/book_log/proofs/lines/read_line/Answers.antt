@@ -1,7 +1,6 @@
-use Rattle.std.proofs.Common.{◌≡◌, ◌∙◌, codes, rules, sym}
+use Rattle.book_log.proofs.Common.{◌≡◌, ◌∙◌, codes, rules, sym, words_left}
 use Rattle.interface.specs.declared.crossing.Crossing.TheVariants as crossing
 use Rattle.script.proofs.lemmas.{differs}
-use Rattle.book_log.specs.Steps.{words_left}
 use Rattle.book_log.specs.declared.lines.Line.TheVariants as line
 use Rattle.book_log.proofs.Keywords.{no_operand, read_as, short_read}
 use Rattle.book_log.proofs.lines.read_line.Goals as goal

@@ -1,5 +1,4 @@
-use Rattle.std.proofs.lemmas.Bool.{false≢true}
-use Rattle.book_log.specs.Steps.{words_left}
+use Rattle.book_log.proofs.Common.{false≢true, words_left}
 use Rattle.book_log.proofs.Reading.{too_long}
 use Rattle.book_log.proofs.lines.read_message.Goals as goal
 

@@ -1,5 +1,4 @@
-use Rattle.std.proofs.Common.{◌≡◌, codes, rules}
-use Rattle.book_log.specs.Steps.{words_left}
+use Rattle.book_log.proofs.Common.{◌≡◌, codes, rules, words_left}
 use Rattle.book_log.proofs.Keywords.{no_short_operand}
 use Rattle.book_log.proofs.lines.read_short.Goals as goal
 

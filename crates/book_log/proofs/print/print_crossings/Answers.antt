@@ -1,10 +1,4 @@
-use Rattle.std.proofs.Common.{subst}
-use Rattle.std.proofs.lemmas.List.Elements.{All-more}
-use Rattle.std.specs.Io.KnownBytes.{Appends}
-use Rattle.replay.proofs.lemmas.{text_more}
-use Rattle.script.specs.Input.{ended_line}
-use Rattle.interface.specs.declared.crossing.Crossing.{Crossing}
-use Rattle.book_log.specs.Log.{IsCrossing, logged_line}
+use Rattle.book_log.proofs.Common.{subst, All-more, Appends, text_more, ended_line, Crossing, IsCrossing, logged_line}
 use Rattle.book_log.proofs.print.print_crossings.Goals as goal
 
 pub loop-crossing-preserved : goal.loop-crossing-preserved

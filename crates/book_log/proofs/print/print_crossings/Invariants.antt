@@ -1,8 +1,4 @@
-use Rattle.std.proofs.Common.{◌≡◌, false, take}
-use Rattle.std.specs.List.{All}
-use Rattle.std.specs.Io.KnownBytes.{Appends}
-use Rattle.replay.specs.InTurn.{text_of}
-use Rattle.book_log.specs.Log.{IsCrossing, logged_line}
+use Rattle.book_log.proofs.Common.{◌≡◌, false, take, All, Appends, text_of, IsCrossing, logged_line}
 use Rattle.book_log.proofs.print.print_crossings.Given as goal
 
 abbrev pub invariant-loop-crossing : goal.invariant-loop-crossing

@@ -1,10 +1,4 @@
-use Rattle.std.proofs.Common.{subst}
-use Rattle.std.proofs.lemmas.List.Elements.{All-more}
-use Rattle.std.specs.Io.KnownBytes.{Appends}
-use Rattle.replay.proofs.lemmas.{text_more}
-use Rattle.script.specs.Input.{ended_line}
-use Rattle.std.proofs.Common.{List, Bool}
-use Rattle.book_log.specs.Log.{IsHanded, handed_line}
+use Rattle.book_log.proofs.Common.{subst, All-more, Appends, text_more, ended_line, List, Bool, IsHanded, handed_line}
 use Rattle.book_log.proofs.print.print_lists.Goals as goal
 
 pub loop-bits-preserved : goal.loop-bits-preserved

@@ -1,10 +1,4 @@
-use Rattle.std.proofs.Common.{◌≡◌, false, take}
-use Rattle.std.specs.List.{All, zip}
-use Rattle.std.specs.Io.KnownBytes.{Appends}
-use Rattle.promise.specs.declared.life.Fate.{Fate}
-use Rattle.promise.specs.declared.life.Life.{Life}
-use Rattle.replay.specs.InTurn.{text_of}
-use Rattle.book_log.specs.Log.{IsLife, life_line}
+use Rattle.book_log.proofs.Common.{◌≡◌, false, take, All, zip, Appends, Fate, Life, text_of, IsLife, life_line}
 use Rattle.book_log.proofs.print.print_lives.Given as goal
 
 abbrev pub invariant-loop-place : goal.invariant-loop-place

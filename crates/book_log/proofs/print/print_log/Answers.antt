@@ -1,8 +1,5 @@
-use Rattle.std.proofs.Common.{List, ℕ, subst}
-use Rattle.std.specs.Io.KnownBytes.{Appends}
-use Rattle.replay.proofs.lemmas.{on_ok}
-use Rattle.promise.specs.Fates.{AreFated}
-use Rattle.book_log.specs.Log.{IsBook, logged_book}
+use Rattle.book_log.proofs.Common.{List, ℕ, subst, Appends, on_ok, AreFated, IsBook}
+use Rattle.book_log.specs.Log.{logged_book}
 use Rattle.book_log.proofs.Printed.{lives_valid, log_written, logged_lives}
 use Rattle.book_log.proofs.print.print_log.Goals as goal
 

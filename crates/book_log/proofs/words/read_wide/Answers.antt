@@ -1,7 +1,5 @@
 use Rattle.book_log.proofs.Numbers.{no_text_is_none, parsed_as, wrong_is_none}
-use Rattle.std.proofs.Common.{◌≡◌, ◌∙◌, sym, false, subst}
-use Rattle.std.specs.Str.Parse.{ParsesUnsigned}
-use Rattle.book_log.specs.Steps.{begins_wrong}
+use Rattle.book_log.proofs.Common.{◌≡◌, ◌∙◌, sym, false, subst, ParsesUnsigned, begins_wrong}
 use Rattle.book_log.proofs.words.read_wide.Goals as goal
 
 pub returns-then-begins_wrong : goal.returns-then-begins_wrong

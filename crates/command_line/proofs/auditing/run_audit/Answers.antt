@@ -1,7 +1,4 @@
-use Rattle.std.proofs.Common.{◌≡◌, ℕ, List, Err, ap, rules, subst}
-use Rattle.book_log.specs.Log.{IsLog}
-use Rattle.command_line.specs.Audits.{IsBookFault, SaysOf}
-use Rattle.command_line.specs.declared.verdict.Verdict.{Verdict}
+use Rattle.command_line.proofs.Common.{◌≡◌, ℕ, List, Err, ap, rules, subst, IsLog, IsBookFault, SaysOf, Verdict}
 use Rattle.command_line.proofs.Joined.{ends_faulty, ends_kept}
 use Rattle.command_line.proofs.Judged.{audited, audits, known_audited, says_of, some_log, unlogged, unread, unwritten}
 use Rattle.command_line.specs.declared.auditing.AuditFault.TheVariants as fault

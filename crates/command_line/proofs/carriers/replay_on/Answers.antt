@@ -1,10 +1,7 @@
-use Rattle.std.proofs.Common.{◌≡◌, ◌⊎◌, OnOk, rules, subst}
-use Rattle.std.specs.Io.KnownBytes.{Keeps}
+use Rattle.command_line.proofs.Common.{◌≡◌, ◌⊎◌, OnOk, rules, subst, Keeps, subnet_calls, asked_of, ReplaysFrom}
 use Rattle.subnet.specs.Calls.{Kept}
 use Rattle.topology.specs.declared.network.CarrierKind.TheVariants as kind
-use Rattle.subnet.specs.Working.{subnet_calls}
-use Rattle.command_line.specs.Events.{asked_of}
-use Rattle.command_line.specs.Replayed.{EndsFrom, ReplaysFrom}
+use Rattle.command_line.specs.Replayed.{EndsFrom}
 use Rattle.command_line.proofs.Written.{over_all, over_part}
 use Rattle.command_line.proofs.carriers.replay_on.Goals as goal
 

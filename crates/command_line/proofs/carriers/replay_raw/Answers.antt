@@ -1,5 +1,4 @@
-use Rattle.std.proofs.Common.{Err, ap}
-use Rattle.interface.specs.Calls.{Calls}
+use Rattle.command_line.proofs.Common.{Err, ap, Calls}
 use Rattle.command_line.proofs.Faults.{told_memory, told_write}
 use Rattle.command_line.proofs.Written.{writes_all, writes_part}
 use Rattle.command_line.proofs.carriers.replay_raw.Goals as goal

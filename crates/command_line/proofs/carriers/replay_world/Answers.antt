@@ -1,7 +1,5 @@
-use Rattle.std.proofs.Common.{Err, ap, inr, ◌∙◌}
+use Rattle.command_line.proofs.Common.{Err, ap, inr, ◌∙◌, Calls, given}
 use Rattle.net_sim.specs.Book.{Kept}
-use Rattle.interface.specs.Calls.{Calls}
-use Rattle.headline.proofs.lemmas.{given}
 use Rattle.command_line.proofs.Faults.{told_memory, told_write}
 use Rattle.command_line.proofs.Written.{world_writes_all, world_writes_part}
 use Rattle.command_line.proofs.carriers.replay_world.Goals as goal

@@ -1,6 +1,5 @@
-use Rattle.std.proofs.Common.{◌<◌, ◌+◌, ◌≡◌, length, arith}
-use Rattle.std.proofs.lemmas.List.{length-map}
-use Rattle.book_log.specs.Log.{lives_of}
+use Rattle.command_line.proofs.Common.{◌<◌, ◌+◌, ◌≡◌, arith, length-map, lives_of}
+use Rattle.std.proofs.Common.{length}
 use Rattle.command_line.proofs.law.worked_judged.Goals as goal
 
 pub returns-clause-one : goal.returns-clause-one

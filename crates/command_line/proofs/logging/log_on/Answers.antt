@@ -1,9 +1,6 @@
-use Rattle.std.proofs.Common.{◌≡◌, OnOk, rules, subst}
+use Rattle.command_line.proofs.Common.{◌≡◌, OnOk, rules, subst, subnet_calls, asked_of, LogsFrom}
 use Rattle.subnet.specs.Calls.{Kept}
 use Rattle.topology.specs.declared.network.CarrierKind.TheVariants as kind
-use Rattle.subnet.specs.Working.{subnet_calls}
-use Rattle.command_line.specs.Events.{asked_of}
-use Rattle.command_line.specs.Logs.{LogsFrom}
 use Rattle.command_line.proofs.Written.{logged_over}
 use Rattle.command_line.proofs.logging.log_on.Goals as goal
 

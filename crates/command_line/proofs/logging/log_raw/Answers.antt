@@ -1,6 +1,4 @@
-use Rattle.interface.specs.Calls.{Calls}
-use Rattle.replay.specs.declared.print.Detail.TheVariants.{Sizes}
-use Rattle.std.proofs.Common.{None}
+use Rattle.command_line.proofs.Common.{Calls, Sizes, None}
 use Rattle.command_line.proofs.Logs.{logs_raw}
 use Rattle.command_line.proofs.logging.log_raw.Goals as goal
 

@@ -1,10 +1,5 @@
-use Rattle.interface.specs.Calls.{Calls}
+use Rattle.command_line.proofs.Common.{Calls, Sizes, None, ap, subst, ◌∙◌, reverse, given, ClosesWhole, AreSuited}
 use Rattle.net_sim.specs.Book.{Kept}
-use Rattle.replay.specs.declared.print.Detail.TheVariants.{Sizes}
-use Rattle.std.proofs.Common.{None, ap, subst, ◌∙◌, reverse}
-use Rattle.headline.proofs.lemmas.{given}
-use Rattle.promise.specs.Fates.{ClosesWhole}
-use Rattle.book_judge.specs.Fates.{AreSuited}
 use Rattle.book_judge.proofs.lemmas.{suited_with}
 use Rattle.command_line.proofs.Logs.{logs_world}
 use Rattle.command_line.proofs.logging.log_world.Goals as goal

@@ -1,7 +1,4 @@
-use Rattle.std.proofs.Common.{◌≡◌, Err, ap, rules, subst}
-use Rattle.replay.proofs.lemmas.{on_ok}
-use Rattle.command_line.specs.Events.{asked_of}
-use Rattle.command_line.specs.Input.{IsInput}
+use Rattle.command_line.proofs.Common.{◌≡◌, Err, ap, rules, subst, on_ok, asked_of, IsInput}
 use Rattle.command_line.proofs.Faults.{known_read, unread, unwritten}
 use Rattle.command_line.proofs.Logs.{known_logged, logged}
 use Rattle.command_line.proofs.logging.run_log.Goals as goal

@@ -1,6 +1,5 @@
-use Rattle.std.proofs.Common.{ap, length, ◌∙◌}
-use Rattle.command_line.specs.Events.{asked_of}
-use Rattle.command_line.specs.Traced.{IsScriptOf}
+use Rattle.command_line.proofs.Common.{ap, ◌∙◌, asked_of, IsScriptOf}
+use Rattle.std.proofs.Common.{length}
 use Rattle.command_line.proofs.Traced.{lines_fit}
 use Rattle.command_line.proofs.tracing.read_scripted.Goals as goal
 

@@ -1,9 +1,5 @@
-use Rattle.std.proofs.Common.{◌≡◌, ◌⊎◌, Err, OnOk, ap, rules, subst}
-use Rattle.std.specs.Io.KnownBytes.{Keeps}
-use Rattle.replay.proofs.lemmas.{on_ok}
-use Rattle.command_line.specs.Events.{asked_of}
-use Rattle.command_line.specs.Input.{IsInput}
-use Rattle.command_line.specs.Traced.{EndsOn, IsScripted, TracesOn}
+use Rattle.command_line.proofs.Common.{◌≡◌, ◌⊎◌, Err, OnOk, ap, rules, subst, Keeps, on_ok, asked_of, IsInput, IsScripted, TracesOn}
+use Rattle.command_line.specs.Traced.{EndsOn}
 use Rattle.command_line.proofs.Faults.{known_read, unread, unwritten}
 use Rattle.command_line.proofs.Traced.{known_ends, known_traced, only_replayed, traced, traced_in_part}
 use Rattle.command_line.proofs.tracing.run_trace.Goals as goal

@@ -1,6 +1,4 @@
-use Rattle.std.proofs.Common.{Err, ap}
-use Rattle.interface.specs.Calls.{Calls}
-use Rattle.trace.specs.Traces.{Inside}
+use Rattle.command_line.proofs.Common.{Err, ap, Calls, Inside}
 use Rattle.command_line.proofs.Faults.{told_memory, told_write}
 use Rattle.command_line.proofs.Traced.{flushed_trace}
 use Rattle.command_line.proofs.tracing.trace_from.Goals as goal

@@ -1,6 +1,4 @@
-use Rattle.std.proofs.Common.{Err, ap, inr}
-use Rattle.net_sim.specs.Carriers.{shown}
-use Rattle.interface.specs.Calls.{Calls}
+use Rattle.command_line.proofs.Common.{Err, ap, inr, shown, Calls}
 use Rattle.command_line.proofs.Faults.{told_memory, told_write}
 use Rattle.command_line.proofs.Traced.{flushed_world, world_ends}
 use Rattle.command_line.proofs.tracing.trace_hosts.Goals as goal

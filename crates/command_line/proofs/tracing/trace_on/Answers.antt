@@ -1,12 +1,6 @@
-use Rattle.std.proofs.Common.{◌≡◌, ◌⊎◌, ◌∙◌, OnOk, rules, subst}
-use Rattle.std.specs.Io.KnownBytes.{Keeps}
+use Rattle.command_line.proofs.Common.{◌≡◌, ◌⊎◌, ◌∙◌, OnOk, rules, subst, Keeps, subnet_calls, subnet_of, asked_of, subnet_inside, EndsAll, TracesAll}
 use Rattle.subnet.specs.Calls.{Kept}
 use Rattle.topology.specs.declared.network.CarrierKind.TheVariants as kind
-use Rattle.subnet.specs.Working.{subnet_calls}
-use Rattle.command_line.specs.Carriers.{subnet_of}
-use Rattle.command_line.specs.Events.{asked_of}
-use Rattle.subnet_trace.specs.Traced.{subnet_inside}
-use Rattle.command_line.specs.Traced.{EndsAll, TracesAll}
 use Rattle.command_line.proofs.Traced.{ends_over, traced_over}
 use Rattle.command_line.proofs.tracing.trace_on.Goals as goal
 

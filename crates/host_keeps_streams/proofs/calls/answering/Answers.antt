@@ -1,9 +1,6 @@
+use Rattle.host_keeps_streams.proofs.Common.{◌++◌, freed, desk_of, closes, told_on}
 use Rattle.host_pairs.specs.Turn.{answered_turn}
 use Rattle.interface.specs.declared.crossing.Answer.TheVariants as answer
-use Rattle.std.proofs.Common.{◌++◌}
-use Rattle.host_pairs.specs.Turn.{freed}
-use Rattle.host_pairs.specs.Desk.{desk_of}
-use Rattle.host_keeps_streams.specs.Moves.{closes, told_on}
 use Rattle.host_keeps_streams.proofs.Asks.{settled_received, settled_sound, told_sent}
 use Rattle.host_keeps_streams.proofs.Known.{Sent}
 use Rattle.host_keeps_streams.proofs.calls.answering.Goals as goal

@@ -1,6 +1,4 @@
-use Rattle.host_pairs.specs.Asked.{closed_end, with_end}
-use Rattle.host_pairs.specs.Entries.{called_off}
-use Rattle.host_keeps_streams.specs.Moves.{closes}
+use Rattle.host_keeps_streams.proofs.Common.{closed_end, with_end, called_off, closes}
 use Rattle.host_keeps_streams.proofs.Known.{Sent}
 use Rattle.host_keeps_streams.proofs.Requests.{closes_received, closes_sent, closes_sound}
 use Rattle.host_keeps_streams.proofs.calls.closing_ends.Goals as goal

@@ -2,8 +2,7 @@ use Rattle.host_keeps_streams.proofs.Known.{Sent}
 use Rattle.host_keeps_streams.proofs.ReceiverHears.{hears_all}
 use Rattle.host_keeps_streams.proofs.SenderTakes.{takes_all}
 use Rattle.host_keeps_streams.proofs.Sound.{sound_taken}
-use Rattle.host_keeps_streams.specs.Moves.{sent_by}
-use Rattle.host_pairs.specs.Commands.{desk_taken}
+use Rattle.host_keeps_streams.proofs.Common.{sent_by, desk_taken}
 use Rattle.host_keeps_streams.proofs.calls.commands.Goals as goal
 
 pub returns : goal.returns

@@ -1,5 +1,4 @@
-use Rattle.std.proofs.Common.{[]}
-use Rattle.host_pairs.specs.Data.{data_taken}
+use Rattle.host_keeps_streams.proofs.Common.{[], data_taken}
 use Rattle.host_keeps_streams.proofs.Asks.{data_sent, data_sound, takes_data}
 use Rattle.host_keeps_streams.proofs.Known.{Sent}
 use Rattle.host_keeps_streams.proofs.calls.data.Goals as goal

@@ -1,6 +1,4 @@
-use Rattle.host_pairs.specs.Desk.{desk_of}
-use Rattle.host_pairs.specs.Parcels.{Bytes, command_gone, parcel_gone}
-use Rattle.host_keeps_streams.specs.Moves.{bytes_sent, sent_out}
+use Rattle.host_keeps_streams.proofs.Common.{desk_of, Bytes, command_gone, parcel_gone, bytes_sent, sent_out}
 use Rattle.host_keeps_streams.proofs.Asks.{bytes_out, bytes_received, bytes_sound}
 use Rattle.host_keeps_streams.proofs.GoesOut.{out_received, out_sent, out_sound}
 use Rattle.host_keeps_streams.proofs.Known.{Sent}

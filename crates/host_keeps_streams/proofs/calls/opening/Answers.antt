@@ -1,7 +1,5 @@
-use Rattle.host_pairs.specs.Asked.{receiver_requested, requested}
-use Rattle.host_pairs.specs.Entries.{free_link, sending_end}
+use Rattle.host_keeps_streams.proofs.Common.{receiver_requested, requested, free_link, sending_end, [], ◌∷◌}
 use Rattle.ncp_control.specs.declared.command.Command.TheVariants as command
-use Rattle.std.proofs.Common.{[], ◌∷◌}
 use Rattle.stream_law.specs.Senders as senders
 use Rattle.host_keeps_streams.proofs.Known.{Sent}
 use Rattle.host_keeps_streams.proofs.Requests.{receives_asked, receives_sent, receives_sound, sends_asked, sends_received, sends_sound}

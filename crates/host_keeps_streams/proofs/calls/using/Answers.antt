@@ -1,6 +1,4 @@
-use Rattle.host_pairs.specs.Asked.{with_end, with_more_bits}
-use Rattle.host_pairs.specs.Commands.{granted}
-use Rattle.std.proofs.Common.{[]}
+use Rattle.host_keeps_streams.proofs.Common.{with_end, with_more_bits, granted, []}
 use Rattle.host_keeps_streams.proofs.Known.{Sent}
 use Rattle.host_keeps_streams.proofs.Requests.{asks_back, grants, grants_sent, grants_sound, more_received, more_sent, more_sound}
 use Rattle.host_keeps_streams.proofs.calls.using.Goals as goal

@@ -1,7 +1,6 @@
-use Rattle.std.proofs.Common.{rules, arith, ◌≡◌, ℕ, true, false, Some, refl, ap, sym}
-use Rattle.host_pairs.specs.Entries.{has_cls}
+use Rattle.host_keeps_streams.proofs.Common.{arith, ◌≡◌, ℕ, true, false, Some, refl, ap, sym, has_cls, Entry}
+use Rattle.std.proofs.Common.{rules}
 use Rattle.host_pairs.specs.declared.entry.Closing.TheVariants as closing
-use Rattle.host_pairs.specs.declared.entry.Entry.{Entry}
 use Rattle.host_pairs.proofs.lemmas.{some_is}
 use Rattle.host_keeps_streams.specs.Histories.{opened_end, waiting}
 use Rattle.host_keeps_streams.proofs.histories.worked_histories.Goals as goal

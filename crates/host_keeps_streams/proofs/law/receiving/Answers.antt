@@ -1,6 +1,4 @@
-use Rattle.std.proofs.Common.{List, sym, subst}
-use Rattle.host_pairs.specs.declared.entry.Entry.{Entry}
-use Rattle.host_keeps_streams.specs.Ends.{AreReceiver}
+use Rattle.host_keeps_streams.proofs.Common.{List, sym, subst, Entry, AreReceiver}
 use Rattle.host_keeps_streams.proofs.Quiet.{receiver_leaves, receiver_elsewhere}
 use Rattle.host_keeps_streams.proofs.Receivers.{data_receives, data_told, ret_receives}
 use Rattle.host_keeps_streams.proofs.law.receiving.Goals as goal

@@ -1,6 +1,4 @@
-use Rattle.std.proofs.Common.{List, sym, subst}
-use Rattle.host_pairs.specs.declared.entry.Entry.{Entry}
-use Rattle.host_keeps_streams.specs.Ends.{AreSender}
+use Rattle.host_keeps_streams.proofs.Common.{List, sym, subst, Entry, AreSender}
 use Rattle.host_keeps_streams.proofs.Quiet.{sender_leaves, sender_hears_data}
 use Rattle.host_keeps_streams.proofs.Senders.{all_sends, gvb_sends, gvb_answers, bytes_may, bytes_send}
 use Rattle.host_keeps_streams.proofs.law.sending.Goals as goal

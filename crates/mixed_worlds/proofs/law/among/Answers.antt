@@ -1,5 +1,4 @@
-use Rattle.masked_worlds.proofs.lemmas.{Orders}
-use Rattle.masked_worlds.specs.Mixed.{masked_moments}
+use Rattle.mixed_worlds.proofs.Common.{Orders, masked_moments}
 use Rattle.mixed_worlds.proofs.Books.{SameBook, same_book}
 use Rattle.mixed_worlds.proofs.Joined.{joins}
 use Rattle.mixed_worlds.proofs.Promised.{promised}

@@ -1,15 +1,6 @@
-use Rattle.std.proofs.Common.{◌≡◌, Bool, true, false, if◌then◌else◌, refl}
-use Rattle.interface.specs.Host.{same_host}
+use Rattle.mixed_worlds.proofs.Common.{◌≡◌, Bool, true, false, if◌then◌else◌, refl, same_host, safe_messages, accepted, pair_with, message_about, message_leaves, places, program, crossings_of, Orders, mixed_kept}
 use Rattle.interface.specs.declared.crossing.Inbound.TheVariants as inbound
-use Rattle.interface.proofs.lemmas.{safe_messages}
-use Rattle.sockets.specs.Accepting.{accepted}
-use Rattle.sockets.specs.Pairs.{pair_with}
-use Rattle.sockets.proofs.lemmas.{message_about, message_leaves}
-use Rattle.net_sim.specs.Story.{places, program}
-use Rattle.net_sim.specs.Timeline.{crossings_of}
-use Rattle.masked_worlds.proofs.lemmas.{Orders}
 use Rattle.world_keeps_lives.proofs.lemmas.{live_end, safe_life}
-use Rattle.mixed_worlds.specs.Book.{mixed_kept}
 use Rattle.mixed_worlds.proofs.AskedLives.{data_reported, has_asked, plain_owner}
 use Rattle.mixed_worlds.proofs.CarriedLives.{is_carried}
 use Rattle.mixed_worlds.proofs.Ends.{any_message}

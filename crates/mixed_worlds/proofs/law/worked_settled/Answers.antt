@@ -1,20 +1,13 @@
-use Rattle.std.proofs.Common.{◌≡◌, Bool, true, false, None, refl, sym, subst, ◌∙◌}
+use Rattle.mixed_worlds.proofs.Common.{◌≡◌, Bool, true, false, None, refl, sym, subst, ◌∙◌, Host, same_host, same_flow, Flow, same_host-true, on_link, second, third, program, crossings_of, same_host-sym, without_strangers}
 use Rattle.bit_messages.specs.Octets.{octets_of}
-use Rattle.interface.specs.Host.{Host, same_host}
-use Rattle.interface.specs.Mailboxes.{Empty, box_of, same_flow}
-use Rattle.interface.specs.declared.address.Flow.{Flow}
-use Rattle.interface.proofs.lemmas.{same_host-true}
+use Rattle.interface.specs.Mailboxes.{Empty, box_of}
 use Rattle.ncp_control.specs.Packing.{packed_count}
 use Rattle.ncp_control.specs.Reading.{command_of, read_of}
 use Rattle.host_pairs.specs.Control.{orders_of}
 use Rattle.sockets.specs.Accepting.{accepted}
 use Rattle.sockets.specs.Requests.{refusal, served, served_notices}
 use Rattle.sockets.specs.Sending.{next_out, offered}
-use Rattle.sockets.specs.Worked.{first, on_link, second, third}
-use Rattle.net_sim.specs.Story.{program}
-use Rattle.net_sim.specs.Timeline.{crossings_of}
-use Rattle.net_sim.proofs.lemmas.{same_host-sym}
-use Rattle.masked_worlds.specs.Among.{without_strangers}
+use Rattle.sockets.specs.Worked.{first}
 use Rattle.masked_worlds.specs.Worked.{is_third, listener_taken}
 use Rattle.mixed_worlds.proofs.RealLogs.{flow_off}
 use Rattle.mixed_worlds.proofs.law.worked_settled.Goals as goal

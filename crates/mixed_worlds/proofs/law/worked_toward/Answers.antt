@@ -1,4 +1,5 @@
-use Rattle.std.proofs.Common.{◌≡◌, inl, inr, ◌<◌, [], Some, refl, replicate, false, true, arith}
+use Rattle.mixed_worlds.proofs.Common.{◌≡◌, inl, inr, ◌<◌, [], Some, refl, false, true, arith, on_link, second, third, crossings_of}
+use Rattle.std.proofs.Common.{replicate}
 use Rattle.bit_messages.specs.Octets.{octets_of}
 use Rattle.ncp_control.specs.Packing.{packed_count}
 use Rattle.ncp_control.specs.Reading.{command_of, read_of}
@@ -6,9 +7,7 @@ use Rattle.host_pairs.specs.Control.{orders_of}
 use Rattle.sockets.specs.Accepting.{accepted}
 use Rattle.sockets.specs.Requests.{refusal, served, served_notices}
 use Rattle.sockets.specs.Sending.{next_out, offered}
-use Rattle.sockets.specs.Worked.{on_link, second, third}
 use Rattle.net_sim.specs.Worked.{eight}
-use Rattle.net_sim.specs.Timeline.{crossings_of}
 use Rattle.mixed_worlds.specs.Worked.{eight_waits}
 use Rattle.mixed_worlds.proofs.Carried.{none_of}
 use Rattle.mixed_worlds.proofs.law.worked_toward.Goals as goal

@@ -1,6 +1,4 @@
-use Rattle.std.proofs.Common.{◌≡◌, ◌++◌, drop}
-use Rattle.std.specs.List.{flat_map}
-use Rattle.net_sim.specs.Book.{contacts_asked}
+use Rattle.net_sim.proofs.Common.{◌≡◌, ◌++◌, drop, flat_map, contacts_asked}
 use Rattle.net_sim.proofs.asking.called_in.Given as goal
 
 abbrev pub invariant-loop-request : goal.invariant-loop-request

@@ -1,9 +1,4 @@
-use Rattle.std.proofs.Common.{rules, ◌≡◌, ℕ, ◌++◌, List, [], Some, OnOk, length, ap, subst, ◌∙◌}
-use Rattle.std.specs.List.{flat_map}
-use Rattle.std.proofs.lemmas.List.{length-reverse}
-use Rattle.promise.specs.declared.book.Called.{Called}
-use Rattle.net_sim.specs.Book.{Kept, all_asked, all_reported, all_told, asked, contacts_asked}
-use Rattle.net_sim.specs.Inside.Lives.{entered}
+use Rattle.net_sim.proofs.Common.{rules, ◌≡◌, ℕ, ◌++◌, List, [], Some, OnOk, length, ap, subst, ◌∙◌, flat_map, length-reverse, Called, Kept, all_asked, all_reported, all_told, asked, contacts_asked, entered}
 use Rattle.net_sim.proofs.Books.InOrder.{entered_asked}
 use Rattle.net_sim.proofs.asking.write_asked.Goals as goal
 

@@ -1,7 +1,5 @@
-use Rattle.std.proofs.Common.{◌≡◌, sym, subst, reverse}
-use Rattle.std.specs.Prelude.{◌↔◌}
-use Rattle.net_sim.specs.Audit.{Says}
-use Rattle.net_sim.specs.declared.auditing.said.Audit.{Audit}
+use Rattle.net_sim.proofs.Common.{◌≡◌, sym, subst, ◌↔◌, Says, Audit}
+use Rattle.std.proofs.Common.{reverse}
 use Rattle.net_sim.proofs.Audits.Judged.{judged_says}
 use Rattle.net_sim.proofs.auditing.audit.Goals as goal
 

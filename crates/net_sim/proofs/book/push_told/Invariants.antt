@@ -1,5 +1,4 @@
-use Rattle.std.proofs.Common.{◌≡◌, ◌++◌, map}
-use Rattle.net_sim.specs.Inside.Lives.{told_at}
+use Rattle.net_sim.proofs.Common.{◌≡◌, ◌++◌, map, told_at}
 use Rattle.net_sim.proofs.book.push_told.Given as goal
 
 abbrev pub invariant-loop-notice : goal.invariant-loop-notice

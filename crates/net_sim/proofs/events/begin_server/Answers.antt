@@ -1,5 +1,4 @@
-use Rattle.net_sim.specs.Inside.Parts.{Serves}
-use Rattle.net_sim.specs.World.{services_of}
+use Rattle.net_sim.proofs.Common.{Serves, services_of}
 use Rattle.net_sim.proofs.Hosts.Serving.{serves}
 use Rattle.net_sim.proofs.Hosts.Ends.{server_ends}
 use Rattle.net_sim.proofs.events.begin_server.Goals as goal

@@ -1,9 +1,5 @@
-use Rattle.std.proofs.Common.{rules, [], ◌∷◌, ap, ◌-◌, take, drop, length, sym, ◌∙◌}
-use Rattle.interface.specs.Calls.{Calls, Seen}
+use Rattle.net_sim.proofs.Common.{rules, [], ◌∷◌, ap, ◌-◌, take, drop, length, sym, ◌∙◌, Calls, Seen, shown, Serves, services_of}
 use Rattle.interface.specs.declared.crossing.Crossing.TheVariants as crossing
-use Rattle.net_sim.specs.Carriers.{shown}
-use Rattle.net_sim.specs.Inside.Parts.{Serves}
-use Rattle.net_sim.specs.World.{services_of}
 use Rattle.net_sim.proofs.Hosts.Serving.{serves}
 use Rattle.net_sim.proofs.Hosts.Ends.{offer_ends, offer_halts, newest}
 use Rattle.net_sim.proofs.events.offer.Goals as goal

@@ -1,8 +1,4 @@
-use Rattle.std.proofs.Common.{rules, [], ◌∷◌, ◌-◌, take, drop, length}
-use Rattle.interface.specs.Calls.{Calls, crossing_of}
-use Rattle.net_sim.specs.Carriers.{shown}
-use Rattle.net_sim.specs.Inside.Parts.{Serves}
-use Rattle.net_sim.specs.World.{services_of}
+use Rattle.net_sim.proofs.Common.{rules, [], ◌∷◌, ◌-◌, take, drop, length, Calls, crossing_of, shown, Serves, services_of}
 use Rattle.net_sim.proofs.Hosts.Serving.{serves}
 use Rattle.net_sim.proofs.Hosts.Ends.{take_ends, take_shown, newest}
 use Rattle.net_sim.proofs.events.take.Goals as goal

@@ -1,8 +1,5 @@
-use Rattle.std.proofs.Common.{rules, ◌≡◌, ℕ, ◌+◌, List, None, OnOk, reverse, length, ap, subst, ◌∙◌}
-use Rattle.std.specs.List.{flat_map}
-use Rattle.promise.specs.declared.book.Called.{Called}
-use Rattle.net_sim.specs.Book.{Kept, contacts_asked, all_asked, all_reported, all_told, all_crossed}
-use Rattle.net_sim.specs.Inside.Lives.{entered}
+use Rattle.net_sim.proofs.Common.{rules, ◌≡◌, ℕ, ◌+◌, List, None, OnOk, length, ap, subst, ◌∙◌, flat_map, Called, Kept, contacts_asked, all_asked, all_reported, all_told, all_crossed, entered}
+use Rattle.std.proofs.Common.{reverse}
 use Rattle.net_sim.proofs.Books.InOrder.{entered_crossed}
 use Rattle.net_sim.proofs.hosting.write_crossing.Goals as goal
 

@@ -1,5 +1,4 @@
-use Rattle.net_sim.specs.Carriers.{shown}
-use Rattle.interface.specs.Calls.{Calls}
+use Rattle.net_sim.proofs.Common.{shown, Calls}
 use Rattle.net_sim.proofs.Books.Booked.{step_books, run_books, calm_books, booked_messages}
 use Rattle.net_sim.proofs.Books.Refusals.{step_stands}
 use Rattle.net_sim.proofs.law.books.Goals as goal

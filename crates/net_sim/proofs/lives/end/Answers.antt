@@ -1,6 +1,5 @@
-use Rattle.std.proofs.Common.{refl, rules, arith, ◌<◌, length, slice_index_or, ◌∙◌}
-use Rattle.net_sim.specs.Book.{life_ended}
-use Rattle.net_sim.specs.Inside.Endings.{ends}
+use Rattle.net_sim.proofs.Common.{refl, rules, arith, ◌<◌, length, ◌∙◌, life_ended, ends}
+use Rattle.std.proofs.Common.{slice_index_or}
 use Rattle.net_sim.proofs.Books.Counts.{counts_set}
 use Rattle.net_sim.proofs.Books.Marks.{all_changed, ended_kept, kept_same, kept_set, within}
 use Rattle.net_sim.proofs.Books.Places.{where_here, next_changed}

@@ -1,10 +1,4 @@
-use Rattle.std.proofs.Common.{◌≡◌, ℕ, Bool, List, drop}
-use Rattle.promise.specs.declared.life.Fate.{Fate}
-use Rattle.net_sim.specs.Book.{life_ended}
-use Rattle.net_sim.specs.Inside.Counts.{AreWithin}
-use Rattle.net_sim.specs.Inside.Endings.{ends}
-use Rattle.net_sim.specs.Inside.Open.{AreKept}
-use Rattle.net_sim.specs.Inside.Undo.{GoesBack}
+use Rattle.net_sim.proofs.Common.{◌≡◌, ℕ, Bool, List, drop, Fate, life_ended, AreWithin, ends, AreKept, GoesBack}
 use Rattle.net_sim.proofs.Books.Places.{changed_at, where_here}
 use Rattle.net_sim.proofs.Books.Undoing.{state}
 use Rattle.net_sim.proofs.lives.end.Given as goal

@@ -1,6 +1,5 @@
-use Rattle.std.proofs.Common.{refl, rules, ◌<◌, length, slice_index_or, ◌∙◌}
-use Rattle.net_sim.specs.Book.{lives_at}
-use Rattle.net_sim.specs.Inside.Growing.{grown}
+use Rattle.net_sim.proofs.Common.{refl, rules, ◌<◌, length, ◌∙◌, lives_at, grown}
+use Rattle.std.proofs.Common.{slice_index_or}
 use Rattle.net_sim.proofs.Books.Counts.{counts_set}
 use Rattle.net_sim.proofs.Books.Marks.{all_changed, kept_same, kept_set, noted_kept, within}
 use Rattle.net_sim.proofs.Books.Places.{where_here, next_changed}

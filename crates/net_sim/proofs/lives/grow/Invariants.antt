@@ -1,10 +1,4 @@
-use Rattle.std.proofs.Common.{◌≡◌, Bool, List, drop}
-use Rattle.promise.specs.declared.life.Fate.{Fate}
-use Rattle.net_sim.specs.Book.{lives_at}
-use Rattle.net_sim.specs.Inside.Growing.{grown}
-use Rattle.net_sim.specs.Inside.Counts.{AreWithin}
-use Rattle.net_sim.specs.Inside.Open.{AreKept}
-use Rattle.net_sim.specs.Inside.Undo.{GoesBack}
+use Rattle.net_sim.proofs.Common.{◌≡◌, Bool, List, drop, Fate, lives_at, grown, AreWithin, AreKept, GoesBack}
 use Rattle.net_sim.proofs.Books.Places.{changed_at, where_here}
 use Rattle.net_sim.proofs.Books.Undoing.{state}
 use Rattle.net_sim.proofs.lives.grow.Given as goal

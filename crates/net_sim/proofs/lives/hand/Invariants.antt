@@ -1,7 +1,4 @@
-use Rattle.std.proofs.Common.{◌≡◌, List, drop}
-use Rattle.promise.specs.declared.life.Fate.{Fate}
-use Rattle.net_sim.specs.Book.{lives_at}
-use Rattle.net_sim.specs.Inside.Undo.{GoesBack}
+use Rattle.net_sim.proofs.Common.{◌≡◌, List, drop, Fate, lives_at, GoesBack}
 use Rattle.net_sim.proofs.Books.Places.{handed_at}
 use Rattle.net_sim.proofs.Books.Undoing.{state}
 use Rattle.net_sim.proofs.lives.hand.Given as goal

@@ -1,6 +1,5 @@
-use Rattle.std.proofs.Common.{◌≡◌, drop}
+use Rattle.net_sim.proofs.Common.{◌≡◌, drop, LivesState}
 use Rattle.net_sim.specs.Inside.Lives as all
-use Rattle.net_sim.specs.Inside.Lives.{LivesState}
 use Rattle.net_sim.proofs.lives.none_stops.Given as goal
 
 -- what is left decides

@@ -1,6 +1,5 @@
-use Rattle.std.proofs.Common.{◌≡◌, Bool, List, drop}
-use Rattle.net_sim.specs.Inside.Endings.{turned, turns}
-use Rattle.net_sim.specs.Inside.Undo.{GoesBack}
+use Rattle.net_sim.proofs.Common.{◌≡◌, Bool, List, drop, turns, GoesBack}
+use Rattle.net_sim.specs.Inside.Endings.{turned}
 use Rattle.net_sim.proofs.Books.Turned.{fates_at}
 use Rattle.net_sim.proofs.Books.Undoing.{state}
 use Rattle.net_sim.proofs.lives.turn.Given as goal

@@ -1,6 +1,5 @@
-use Rattle.std.proofs.Common.{rules}
+use Rattle.net_sim.proofs.Common.{rules, is_open_at}
 use Rattle.std.proofs.lemmas.Fn.{filter_same}
-use Rattle.net_sim.specs.Inside.Places.{is_open_at}
 use Rattle.net_sim.proofs.open.forget_ended.Goals as goal
 
 pub returns : goal.returns

@@ -1,9 +1,6 @@
-use Rattle.std.proofs.Common.{rules, ◌≡◌, Some, refl, ap, ◌∙◌}
-use Rattle.host_pairs.proofs.lemmas.{none_found, one_found}
-use Rattle.sockets.specs.Pairs.{NcpState}
-use Rattle.interface.specs.Host.{same_host}
+use Rattle.net_sim.proofs.Common.{rules, ◌≡◌, Some, refl, ap, ◌∙◌, one_found, NcpState, same_host, Seat}
+use Rattle.host_pairs.proofs.lemmas.{none_found}
 use Rattle.net_sim.specs.Inside.Parts.{NoSeat, NoProgram}
-use Rattle.net_sim.specs.World.{Seat}
 use Rattle.net_sim.proofs.Hosts.SeatLemmas.{sits, some_program, no_program}
 use Rattle.net_sim.proofs.parts.up_near.Goals as goal
 

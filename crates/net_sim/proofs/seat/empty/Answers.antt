@@ -1,7 +1,4 @@
-use Rattle.std.proofs.Common.{rules}
-use Rattle.interface.specs.Host.{same_host}
-use Rattle.host_services.specs.Services.{no_services}
-use Rattle.net_sim.specs.World.{ServiceSeat, with_services}
+use Rattle.net_sim.proofs.Common.{rules, same_host, no_services, ServiceSeat, with_services}
 use Rattle.net_sim.proofs.Books.LifeLoops.{one_changed}
 use Rattle.net_sim.proofs.seat.empty.Goals as goal
 

@@ -1,6 +1,4 @@
-use Rattle.std.proofs.Common.{◌≡◌, ◌++◌, take, drop}
-use Rattle.host_services.specs.Services.{no_services}
-use Rattle.net_sim.specs.World.{serviced}
+use Rattle.net_sim.proofs.Common.{◌≡◌, ◌++◌, take, drop, no_services, serviced}
 use Rattle.net_sim.proofs.seat.empty.Given as goal
 
 abbrev pub invariant-loop-services : goal.invariant-loop-services

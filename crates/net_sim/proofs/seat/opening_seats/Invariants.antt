@@ -1,5 +1,4 @@
-use Rattle.std.proofs.Common.{◌≡◌, take}
-use Rattle.net_sim.specs.World.{opening_seats}
+use Rattle.net_sim.proofs.Common.{◌≡◌, take, opening_seats}
 use Rattle.net_sim.proofs.seat.opening_seats.Given as goal
 
 abbrev pub invariant-loop-host : goal.invariant-loop-host

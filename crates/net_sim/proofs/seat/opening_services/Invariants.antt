@@ -1,5 +1,4 @@
-use Rattle.std.proofs.Common.{◌≡◌, take}
-use Rattle.net_sim.specs.World.{opening_services}
+use Rattle.net_sim.proofs.Common.{◌≡◌, take, opening_services}
 use Rattle.net_sim.proofs.seat.opening_services.Given as goal
 
 abbrev pub invariant-loop-host : goal.invariant-loop-host

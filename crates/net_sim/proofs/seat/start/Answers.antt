@@ -1,8 +1,5 @@
-use Rattle.std.proofs.Common.{rules, Some}
-use Rattle.interface.specs.Host.{same_host}
-use Rattle.net_sim.specs.World.{Seat, with_program}
+use Rattle.net_sim.proofs.Common.{rules, Some, same_host, Seat, with_program, opening_state}
 use Rattle.net_sim.proofs.Books.LifeLoops.{one_changed}
-use Rattle.sockets.specs.Pairs.{opening_state}
 use Rattle.net_sim.proofs.seat.start.Goals as goal
 
 pub loop-seat-preserved : goal.loop-seat-preserved

@@ -1,6 +1,4 @@
-use Rattle.std.proofs.Common.{◌≡◌, ◌++◌, take, drop, Some}
-use Rattle.net_sim.specs.World.{seated}
-use Rattle.sockets.specs.Pairs.{opening_state}
+use Rattle.net_sim.proofs.Common.{◌≡◌, ◌++◌, take, drop, Some, seated, opening_state}
 use Rattle.net_sim.proofs.seat.start.Given as goal
 
 abbrev pub invariant-loop-seat : goal.invariant-loop-seat

@@ -1,6 +1,4 @@
-use Rattle.std.proofs.Common.{rules, None}
-use Rattle.interface.specs.Host.{same_host}
-use Rattle.net_sim.specs.World.{Seat, with_program}
+use Rattle.net_sim.proofs.Common.{rules, None, same_host, Seat, with_program}
 use Rattle.net_sim.proofs.Books.LifeLoops.{one_changed}
 use Rattle.net_sim.proofs.seat.stop.Goals as goal
 

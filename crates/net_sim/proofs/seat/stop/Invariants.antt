@@ -1,5 +1,4 @@
-use Rattle.std.proofs.Common.{◌≡◌, ◌++◌, take, drop, None}
-use Rattle.net_sim.specs.World.{seated}
+use Rattle.net_sim.proofs.Common.{◌≡◌, ◌++◌, take, drop, None, seated}
 use Rattle.net_sim.proofs.seat.stop.Given as goal
 
 abbrev pub invariant-loop-seat : goal.invariant-loop-seat

@@ -1,5 +1,4 @@
-use Rattle.std.proofs.Common.{◌≡◌, drop}
-use Rattle.net_sim.specs.Inside.Seats.{turned_in_order}
+use Rattle.net_sim.proofs.Common.{◌≡◌, drop, turned_in_order}
 use Rattle.net_sim.proofs.seat.turn_all.Given as goal
 
 abbrev pub invariant-loop-crossing : goal.invariant-loop-crossing

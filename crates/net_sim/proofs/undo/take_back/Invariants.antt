@@ -1,5 +1,4 @@
-use Rattle.std.proofs.Common.{◌≡◌, length}
-use Rattle.net_sim.specs.Inside.Undo.{all_undone}
+use Rattle.net_sim.proofs.Common.{◌≡◌, length, all_undone}
 use Rattle.net_sim.proofs.Books.Undoing.{state}
 use Rattle.net_sim.proofs.undo.take_back.Given as goal
 

@@ -1,7 +1,5 @@
-use Rattle.std.proofs.Common.{◌≡◌, rules, Bool, List, slice_index_or, ap, sym, ◌∙◌}
-use Rattle.promise.specs.declared.life.Fate.{Fate}
-use Rattle.promise.specs.declared.life.Life.{Life}
-use Rattle.net_sim.specs.Inside.Undo.{Undo, life_back, reopened, undone}
+use Rattle.net_sim.proofs.Common.{◌≡◌, rules, Bool, List, ap, sym, ◌∙◌, Fate, Life, Undo, life_back, reopened, undone}
+use Rattle.std.proofs.Common.{slice_index_or}
 use Rattle.net_sim.proofs.Books.Places.{set_here}
 use Rattle.net_sim.proofs.Books.Undoing.{state, cut_past, cut_set, fate_past, fate_set, here_past}
 use Rattle.net_sim.proofs.undo.take_one_back.Goals as goal

@@ -1,13 +1,8 @@
-use Rattle.std.proofs.Common.{◌≡◌, true, false, List, [], ◌∷◌, ◌++◌, refl, ap, sym, subst}
-use Rattle.interface.specs.declared.crossing.Crossing.{Crossing}
+use Rattle.net_sim.proofs.Common.{◌≡◌, true, false, List, [], ◌∷◌, ◌++◌, refl, ap, sym, subst, Crossing, HostMessage, first, second, AreOfOneEvent, AreStops, message}
 use Rattle.interface.specs.declared.crossing.Crossing.TheVariants as crossing
-use Rattle.interface.specs.declared.message.HostMessage.{HostMessage}
 use Rattle.host_services.specs.Turns as turns
 use Rattle.sockets.specs.Requests.{refusal, served_notices}
 use Rattle.sockets.specs.Sending.{next_out}
-use Rattle.sockets.specs.Worked.{first, second}
-use Rattle.net_sim.specs.Carriers.{AreOfOneEvent, AreStops}
-use Rattle.net_sim.specs.Worked.{message}
 use Rattle.net_sim.proofs.worked.worked_worlds.Goals as goal
 
 pub returns-clause-refused : goal.returns-clause-refused

@@ -1,8 +1,6 @@
-use Rattle.std.proofs.Common.{◌≡◌, inl, inr, Bool, List, [], ◌++◌, length, refl, ap, sym, ◌∙◌, arith}
-use Rattle.ncp_control.specs.Numbers.{is_send_socket}
+use Rattle.net_sim.proofs.Common.{◌≡◌, inl, inr, Bool, List, [], ◌++◌, length, refl, ap, sym, ◌∙◌, arith, is_send_socket, Life, eight, four, giver, over, taker}
 use Rattle.promise.specs.declared.life.Fate.TheVariants as fate
-use Rattle.promise.specs.declared.life.Life.{Life}
-use Rattle.net_sim.specs.Worked.{eight, four, giver, giver_of_nothing, over, taker, taker_of_nothing}
+use Rattle.net_sim.specs.Worked.{giver_of_nothing, taker_of_nothing}
 use Rattle.net_sim.proofs.Books.Unsafe.{not_sending, two_there}
 use Rattle.net_sim.proofs.worked_closes.whole_closes.Goals as goal
 

@@ -1,4 +1,4 @@
-use Rattle.std.proofs.Common.{◌≡◌, true, false, [], ◌∷◌, refl, ap}
+use Rattle.net_sim.proofs.Common.{◌≡◌, true, false, [], ◌∷◌, refl, ap, first}
 use Rattle.bit_messages.specs.Octets.{octets_of}
 use Rattle.ncp_control.specs.Packing.{packed_count}
 use Rattle.ncp_control.specs.Reading.{read_of, command_of}
@@ -7,7 +7,6 @@ use Rattle.ncp_control.specs.Phases.{is_closed}
 use Rattle.sockets.specs.Accepting.{accepted}
 use Rattle.sockets.specs.Requests.{refusal, served, served_notices}
 use Rattle.sockets.specs.Sending.{next_out, offered}
-use Rattle.sockets.specs.Worked.{first}
 use Rattle.net_sim.proofs.worked_moments.worked_takings.Goals as goal
 
 pub returns-clause-told : goal.returns-clause-told

@@ -1,4 +1,4 @@
-use Rattle.std.proofs.Common.{◌≡◌, [], ◌∷◌, true, false, Some, None, refl, arith}
+use Rattle.net_sim.proofs.Common.{◌≡◌, [], ◌∷◌, true, false, Some, None, refl, arith, IsAddress, first, second, IsTimeline}
 use Rattle.bit_messages.specs.Octets.{octets_of}
 use Rattle.ncp_control.specs.Packing.{packed_count}
 use Rattle.ncp_control.specs.Reading.{read_of, command_of}
@@ -6,9 +6,6 @@ use Rattle.host_pairs.specs.Control.{orders_of}
 use Rattle.sockets.specs.Accepting.{accepted}
 use Rattle.sockets.specs.Requests.{refusal, served, served_notices}
 use Rattle.sockets.specs.Sending.{next_out, offered}
-use Rattle.interface.specs.Host.{IsAddress}
-use Rattle.sockets.specs.Worked.{first, second}
-use Rattle.net_sim.specs.Timeline.{IsTimeline}
 use Rattle.net_sim.specs.WorkedMoments.{connected, contacted}
 use Rattle.net_sim.proofs.worked_moments.worked_timelines.Goals as goal
 

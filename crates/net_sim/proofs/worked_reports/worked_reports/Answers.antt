@@ -1,17 +1,10 @@
-use Rattle.std.proofs.Common.{◌≡◌, ℕ, ◌+◌, Bool, true, false, ◌&&◌, ◌||◌, if◌then◌else◌, nat_le, List, [], ◌∷◌, ◌++◌, Option, Some, None, refl, ap, sym, subst, ◌∙◌, arith}
-use Rattle.std.specs.List.{list_any}
-use Rattle.std.specs.Option.{option_or}
+use Rattle.net_sim.proofs.Common.{◌≡◌, ℕ, ◌+◌, Bool, true, false, ◌&&◌, ◌||◌, if◌then◌else◌, List, [], ◌∷◌, ◌++◌, Option, Some, None, refl, ap, sym, subst, ◌∙◌, arith, list_any, option_or, Host, Notice, is_receive_socket, is_send_socket, StartFault, ServerIsDone, UserIsDone, first, second}
+use Rattle.std.proofs.Common.{nat_le}
 use Rattle.bit_messages.specs.Octets.{octets_of}
-use Rattle.interface.specs.Host.{Host}
-use Rattle.host_pairs.specs.declared.notice.Notice.{Notice}
-use Rattle.ncp_control.specs.Numbers.{is_receive_socket, is_send_socket}
 use Rattle.icp.specs.Notices.{is_opened, opened_on}
 use Rattle.icp.specs.Played.{above, opened_in}
-use Rattle.icp.specs.declared.fault.StartFault.{StartFault}
 use Rattle.icp.specs.declared.fault.StartFault.TheVariants as fault
 use Rattle.icp.specs.declared.notices.Partner.{Partner}
-use Rattle.net_sim.specs.Reports.{ServerIsDone, UserIsDone}
-use Rattle.sockets.specs.Worked.{first, second}
 use Rattle.net_sim.proofs.worked_reports.worked_reports.Goals as goal
 
 -- ---- an end that was never opened

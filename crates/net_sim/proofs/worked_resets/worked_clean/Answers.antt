@@ -1,10 +1,8 @@
-use Rattle.std.proofs.Common.{◌≡◌, ℕ, ◌<◌, [], ◌∷◌, Option, Some, None, refl, ap, arith}
+use Rattle.net_sim.proofs.Common.{◌≡◌, ℕ, ◌<◌, [], ◌∷◌, Option, Some, None, refl, ap, arith, first, second, IsFresh}
 use Rattle.bit_messages.specs.Octets.{octets_of}
 use Rattle.interface.specs.declared.crossing.Crossing.TheVariants as crossing
 use Rattle.ncp_control.specs.Reading.{command_of, read_of}
 use Rattle.host_pairs.specs.Control.{orders_of}
-use Rattle.sockets.specs.Worked.{first, second}
-use Rattle.net_sim.specs.Clean.{IsFresh}
 use Rattle.net_sim.specs.WorkedResets.{call, reset_on, text}
 use Rattle.net_sim.proofs.worked_resets.worked_clean.Goals as goal
 

@@ -1,17 +1,10 @@
-use Rattle.std.proofs.Common.{◌≡◌, ℕ, zero, suc, ◌<◌, true, false, Option, Some, None, Result, Ok, Err, IfSome, slice_get, arith, ap, refl, sym, subst, ◌∙◌}
-use Rattle.interface.specs.Calls.{Seen}
-use Rattle.interface.specs.Host.{Host}
-use Rattle.interface.specs.Rest.{RefusesOffer, Rests}
-use Rattle.interface.specs.declared.carrier.CarrierFault.{CarrierFault}
+use Rattle.net_sim.proofs.Common.{◌≡◌, ℕ, zero, suc, ◌<◌, true, false, Option, Some, None, Ok, Err, IfSome, arith, ap, refl, sym, subst, ◌∙◌, Seen, Host, RefusesOffer, Rests, CarrierFault, HostMessage, NcpState, opening_state, first, second, QuietEnds, Seat, WorldFault, stops}
+use Rattle.std.proofs.Common.{Result, slice_get}
 use Rattle.interface.specs.declared.carrier.CarrierFault.TheVariants as fault
-use Rattle.interface.specs.declared.message.HostMessage.{HostMessage}
 use Rattle.host_services.specs.Turns as turns
-use Rattle.sockets.specs.Pairs.{NcpState, opening_state}
 use Rattle.sockets.specs.Requests.{served, served_notices}
 use Rattle.sockets.specs.Sending.{next_out}
-use Rattle.sockets.specs.Worked.{first, second}
 use Rattle.sockets.specs.declared.request.Request.TheVariants as request
-use Rattle.net_sim.specs.World.{QuietEnds, Seat, WorldFault, stops}
 use Rattle.net_sim.specs.Worked.{accepting_carrier, any_carrier, busy, fresh, giving_carrier}
 use Rattle.net_sim.proofs.Hosts.Resting.{rests_by}
 use Rattle.net_sim.proofs.Hosts.Unresting.{given_moves, taken_moves}

@@ -1,7 +1,5 @@
-use Rattle.std.proofs.Common.{rules, ◌≡◌, ◌+◌, ◌++◌, [], ◌∷◌, take, sym, ap, ◌∙◌}
-use Rattle.std.proofs.lemmas.List.{take_all, take_more}
-use Rattle.std.proofs.lemmas.List.Elements.{All-push, All-same}
-use Rattle.interface.specs.Host.{Host, IsAddress}
+use Rattle.net_sim.proofs.Common.{rules, ◌≡◌, ◌+◌, ◌++◌, [], ◌∷◌, take, sym, ap, ◌∙◌, take_all, take_more, All-push, Host, IsAddress}
+use Rattle.std.proofs.lemmas.List.Elements.{All-same}
 use Rattle.net_sim.proofs.world.are_addresses.Goals as goal
 
 pub loop-host-preserved : goal.loop-host-preserved

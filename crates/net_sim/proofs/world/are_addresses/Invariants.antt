@@ -1,6 +1,5 @@
-use Rattle.std.proofs.Common.{take}
+use Rattle.net_sim.proofs.Common.{take, IsAddress}
 use Rattle.std.specs.List.{All}
-use Rattle.interface.specs.Host.{IsAddress}
 use Rattle.net_sim.proofs.world.are_addresses.Given as goal
 
 abbrev pub invariant-loop-host : goal.invariant-loop-host

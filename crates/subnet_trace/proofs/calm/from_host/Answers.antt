@@ -1,8 +1,5 @@
-use Rattle.std.proofs.Common.{◌≡◌, ◌<◌, ◌-◌, ◌≤◌, ℕ, suc, false, true, List, Some, arith, get_or, length, refl, subst, sym, ◌∙◌}
-use Rattle.interface.specs.Host.{Host}
+use Rattle.subnet_trace.proofs.Common.{◌≡◌, ◌<◌, ◌-◌, ◌≤◌, ℕ, suc, false, true, List, Some, arith, get_or, length, refl, subst, sym, ◌∙◌, Host, gives, Net}
 use Rattle.script.specs.declared.event.RawEvent.TheVariants as event
-use Rattle.subnet.specs.Events.{gives}
-use Rattle.subnet.specs.Net.{Net}
 use Rattle.subnet_trace.specs.declared.place.Stage.TheVariants as stage
 use Rattle.subnet_trace.proofs.Stages.{hosts_over, next_as, taking_next, taking_passed}
 use Rattle.subnet_trace.proofs.calm.from_host.Goals.{else-times-gt0-via-then-times-gt0+else-gives, else-times-gt0-via-else-times-gt0}

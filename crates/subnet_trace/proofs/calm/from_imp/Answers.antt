@@ -1,6 +1,4 @@
-use Rattle.std.proofs.Common.{◌≡◌, ◌<◌, ℕ, Some, None, length, arith, sym, ◌∙◌}
-use Rattle.subnet.specs.Net.{Net}
-use Rattle.subnet_trace.specs.Steps.{call_of}
+use Rattle.subnet_trace.proofs.Common.{◌≡◌, ◌<◌, ℕ, Some, None, length, arith, sym, ◌∙◌, Net, call_of}
 use Rattle.subnet_trace.proofs.Stages.{imp_next, imp_passed, next_as}
 use Rattle.subnet_trace.proofs.calm.from_imp.Goals as goal
 

@@ -1,8 +1,4 @@
-use Rattle.std.proofs.Common.{Some, sym, subst}
-use Rattle.subnet_trace.specs.Elements.{calm_left, round_left}
-use Rattle.subnet.specs.Working.{subnet_calls}
-use Rattle.subnet_trace.specs.Steps.{IsNext}
-use Rattle.trace.specs.Traces.{GoesOnWith}
+use Rattle.subnet_trace.proofs.Common.{Some, sym, subst, calm_left, round_left, subnet_calls, IsNext, GoesOnWith}
 use Rattle.subnet_trace.proofs.Onward.{calm_idle, goes_on_with, in_next_round}
 use Rattle.subnet_trace.proofs.calm.next_in_calm.Goals as goal
 

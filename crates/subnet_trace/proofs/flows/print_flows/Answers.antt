@@ -1,9 +1,4 @@
-use Rattle.std.proofs.Common.{ℕ, List, subst, ◌∙◌}
-use Rattle.std.specs.Io.KnownBytes.{Appends}
-use Rattle.interface.specs.declared.address.Flow.{Flow}
-use Rattle.replay.proofs.lemmas.{on_ok}
-use Rattle.subnet_trace.specs.Texts.{flow_object}
-use Rattle.trace.proofs.lemmas.{Remains}
+use Rattle.subnet_trace.proofs.Common.{ℕ, List, subst, ◌∙◌, Appends, Flow, on_ok, flow_object, Remains}
 use Rattle.subnet_trace.proofs.Printing.{flow_printed, flows_left, flows_printed}
 use Rattle.subnet_trace.proofs.flows.print_flows.Goals as goal
 

@@ -1,5 +1,4 @@
-use Rattle.std.proofs.Common.{◌≡◌, false}
-use Rattle.trace.proofs.lemmas.{Remains}
+use Rattle.subnet_trace.proofs.Common.{◌≡◌, false, Remains}
 use Rattle.subnet_trace.proofs.Printing.{flows_left}
 use Rattle.subnet_trace.proofs.flows.print_flows.Given as goal
 

@@ -1,5 +1,4 @@
-use Rattle.std.proofs.Common.{◌∙◌}
-use Rattle.replay.proofs.lemmas.{on_ok}
+use Rattle.subnet_trace.proofs.Common.{◌∙◌, on_ok}
 use Rattle.subnet_trace.proofs.Printing.{known_printed}
 use Rattle.subnet_trace.proofs.flows.print_known.Goals as goal
 

@@ -1,13 +1,5 @@
-use Rattle.std.proofs.Common.{◌++◌, codes, map, subst}
-use Rattle.std.specs.Io.KnownBytes.{Appends}
-use Rattle.std.proofs.KnownBytes.{Appends-trans}
-use Rattle.replay.proofs.lemmas.{on_ok}
-use Rattle.routing.specs.RouteTable.{Table}
-use Rattle.subnet_trace.specs.Printing.{heard_list}
-use Rattle.subnet_trace.specs.Texts.{host_object, port_object}
-use Rattle.trace.proofs.lemmas.{five}
+use Rattle.subnet_trace.proofs.Common.{◌++◌, codes, map, subst, Appends, Appends-trans, on_ok, Table, heard_list, host_object, port_object, five, array}
 use Rattle.subnet_trace.proofs.imp.print_ends.Goals as goal
-use Rattle.trace.specs.Texts.{array}
 
 pub returns-clause-written : goal.returns-clause-written
 returns-clause-written g c =

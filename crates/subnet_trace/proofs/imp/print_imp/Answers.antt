@@ -1,13 +1,7 @@
-use Rattle.std.proofs.Common.{map, subst}
+use Rattle.subnet_trace.proofs.Common.{map, subst, Appends, on_ok, Table, vector_of, concluded_text, distances_text, heard_text, host_object, kept_text, next_text, packet_text, port_object, slot_text, source_text, array}
 use Rattle.std.specs.FinMap as fin
-use Rattle.std.specs.Io.KnownBytes.{Appends}
-use Rattle.replay.proofs.lemmas.{on_ok}
-use Rattle.routing.specs.RouteTable.{Table, vector_of}
-use Rattle.subnet_trace.specs.Printing.{concluded_text}
-use Rattle.subnet_trace.specs.Texts.{distances_text, heard_text, host_object, kept_text, next_text, packet_text, port_object, slot_text, source_text}
 use Rattle.subnet_trace.proofs.Members.{imp_printed}
 use Rattle.subnet_trace.proofs.imp.print_imp.Goals as goal
-use Rattle.trace.specs.Texts.{array}
 
 pub returns-clause-written : goal.returns-clause-written
 returns-clause-written g c =

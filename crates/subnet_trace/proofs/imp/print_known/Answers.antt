@@ -1,12 +1,6 @@
-use Rattle.std.proofs.Common.{◌≡◌, ◌++◌, ap, codes, map, subst, ◌∙◌}
+use Rattle.subnet_trace.proofs.Common.{◌≡◌, ◌++◌, ap, codes, map, subst, ◌∙◌, Appends, Appends-trans, on_ok, kept_text, source_text, three, array}
 use Rattle.std.specs.FinMap as fin
-use Rattle.std.specs.Io.KnownBytes.{Appends}
-use Rattle.std.proofs.KnownBytes.{Appends-trans}
-use Rattle.replay.proofs.lemmas.{on_ok}
-use Rattle.subnet_trace.specs.Texts.{kept_text, source_text}
 use Rattle.subnet_trace.proofs.imp.print_known.Goals as goal
-use Rattle.trace.proofs.lemmas.{three}
-use Rattle.trace.specs.Texts.{array}
 
 pub returns-clause-written : goal.returns-clause-written
 returns-clause-written g c =

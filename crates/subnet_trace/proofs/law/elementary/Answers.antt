@@ -1,8 +1,4 @@
-use Rattle.std.proofs.Common.{◌≡◌, ◌-◌, ap, arith}
-use Rattle.subnet_trace.specs.Elements.{round_of}
-use Rattle.trace.specs.Elements.{rounds_from}
-use Rattle.subnet.specs.Calls.{running}
-use Rattle.subnet.specs.Opening.{opening_subnet}
+use Rattle.subnet_trace.proofs.Common.{◌≡◌, ◌-◌, ap, arith, round_of, rounds_from, running, opening_subnet}
 use Rattle.subnet_trace.proofs.Calms.{all_one_call, elementary, placed_after, placed_later}
 use Rattle.subnet_trace.proofs.Rest.{opening}
 use Rattle.subnet_trace.proofs.law.elementary.Goals as goal

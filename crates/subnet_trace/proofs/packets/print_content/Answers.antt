@@ -1,9 +1,4 @@
-use Rattle.std.proofs.Common.{◌≡◌, ◌++◌, codes, subst}
-use Rattle.std.specs.Fmt.{decimal}
-use Rattle.std.specs.Io.KnownBytes.{Appends}
-use Rattle.imp_channel.specs.Carriage.{Carriage}
-use Rattle.replay.proofs.lemmas.{on_ok}
-use Rattle.subnet_trace.specs.Texts.{bit_text, packet_text}
+use Rattle.subnet_trace.proofs.Common.{◌≡◌, ◌++◌, codes, subst, decimal, Appends, Carriage, on_ok, bit_text, packet_text}
 use Rattle.subnet_trace.proofs.Printing.{carried_printed, routes_printed}
 use Rattle.subnet_trace.proofs.packets.print_content.Goals as goal
 

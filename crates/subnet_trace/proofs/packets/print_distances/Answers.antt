@@ -1,7 +1,4 @@
-use Rattle.std.proofs.Common.{◌+◌, ℕ, List, subst, sym, ◌∙◌}
-use Rattle.std.specs.Io.KnownBytes.{Appends}
-use Rattle.replay.proofs.lemmas.{on_ok}
-use Rattle.trace.proofs.lemmas.{Remains}
+use Rattle.subnet_trace.proofs.Common.{◌+◌, ℕ, List, subst, sym, ◌∙◌, Appends, on_ok, Remains}
 use Rattle.subnet_trace.proofs.Printing.{distance_printed, distances_left, distances_printed}
 use Rattle.subnet_trace.proofs.packets.print_distances.Goals as goal
 

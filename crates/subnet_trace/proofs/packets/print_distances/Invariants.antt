@@ -1,5 +1,4 @@
-use Rattle.std.proofs.Common.{◌≡◌, false, length}
-use Rattle.trace.proofs.lemmas.{Remains}
+use Rattle.subnet_trace.proofs.Common.{◌≡◌, false, length, Remains}
 use Rattle.subnet_trace.proofs.Printing.{distances_left}
 use Rattle.subnet_trace.proofs.packets.print_distances.Given as goal
 

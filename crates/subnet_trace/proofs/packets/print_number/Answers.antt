@@ -1,6 +1,4 @@
-use Rattle.std.proofs.Common.{[], ◌∷◌, arith, subst}
-use Rattle.std.specs.Io.KnownBytes.{Appends}
-use Rattle.replay.proofs.lemmas.{on_ok}
+use Rattle.subnet_trace.proofs.Common.{[], ◌∷◌, arith, subst, Appends, on_ok}
 use Rattle.subnet_trace.proofs.Printing.{digits_printed, one_digit, two_digits}
 use Rattle.subnet_trace.proofs.packets.print_number.Goals as goal
 

@@ -1,11 +1,6 @@
-use Rattle.std.proofs.Common.{◌+◌, ℕ, Option, ap, arith, subst, sym, ◌∙◌}
-use Rattle.std.specs.Io.KnownBytes.{Appends}
-use Rattle.replay.proofs.lemmas.{on_ok}
-use Rattle.subnet_trace.specs.Printing.{next_behind, place_after}
-use Rattle.subnet_trace.specs.Texts.{next_text}
+use Rattle.subnet_trace.proofs.Common.{◌+◌, ℕ, Option, ap, arith, subst, sym, ◌∙◌, Appends, on_ok, next_behind, place_after, next_text, Remains}
 use Rattle.subnet_trace.proofs.Printing.{next_printed, ports_left, ports_printed}
 use Rattle.subnet_trace.proofs.packets.print_ports.Goals as goal
-use Rattle.trace.proofs.lemmas.{Remains}
 
 pub loop-index-preserved : goal.loop-index-preserved
 loop-index-preserved g c =

@@ -1,8 +1,6 @@
-use Rattle.std.proofs.Common.{◌≡◌, false}
-use Rattle.subnet_trace.specs.Texts.{next_text}
+use Rattle.subnet_trace.proofs.Common.{◌≡◌, false, next_text, Remains}
 use Rattle.subnet_trace.proofs.Printing.{ports_left}
 use Rattle.subnet_trace.proofs.packets.print_ports.Given as goal
-use Rattle.trace.proofs.lemmas.{Remains}
 
 abbrev pub invariant-loop-index : goal.invariant-loop-index
 invariant-loop-index g l =

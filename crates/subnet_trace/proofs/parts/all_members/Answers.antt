@@ -1,11 +1,6 @@
-use Rattle.std.proofs.Common.{◌≡◌, ◌<◌, ◌≤◌, ◌∙◌, ◌++◌, [], ◌∷◌, List, ℕ, ap, arith, length}
-use Rattle.std.proofs.lemmas.List.{get_or_read}
-use Rattle.subnet.specs.Net.{Net, Wire, no_wire, wire_at}
-use Rattle.subnet_trace.specs.Parts.{Line, all_parts, part_name, parts_members}
-use Rattle.subnet_trace.specs.Texts.{line_text}
+use Rattle.subnet_trace.proofs.Common.{◌≡◌, ◌<◌, ◌≤◌, ◌∙◌, ◌++◌, [], ◌∷◌, List, ℕ, ap, arith, length, get_or_read, Net, Wire, no_wire, wire_at, Line, all_parts, part_name, parts_members, line_text, member}
 use Rattle.subnet_trace.proofs.AllMembers.{all_listed, imp_listed, imps_left, imps_listed, line_listed, none_listed}
 use Rattle.subnet_trace.proofs.parts.all_members.Goals as goal
-use Rattle.trace.specs.Texts.{member}
 
 pub loop-imp-init : goal.loop-imp-init
 loop-imp-init c = (c.imp_places-imp-end.ensures, ap (λ (xs : List (List ℕ)). xs ++ imps_left c.args.subnet.now.net 0) c.new-members.ensures ∙ none_listed c.args.subnet.now.net)

@@ -1,5 +1,4 @@
-use Rattle.std.proofs.Common.{◌≡◌, ◌++◌, length}
-use Rattle.subnet_trace.specs.Parts.{all_parts, parts_members}
+use Rattle.subnet_trace.proofs.Common.{◌≡◌, ◌++◌, length, all_parts, parts_members}
 use Rattle.subnet_trace.proofs.AllMembers.{imps_left, lines_left}
 use Rattle.subnet_trace.proofs.parts.all_members.Given as goal
 

@@ -1,19 +1,9 @@
-use Rattle.std.proofs.Common.{◌≡◌, ◌∙◌, ◌++◌, ◌+◌, ◌<◌, ◌≤◌, ℕ, List, ap, arith, codes, length, rules, subst, sym}
-use Rattle.std.proofs.lemmas.List.{get_or_read}
-use Rattle.std.proofs.lemmas.Result.{IfOk-weaker}
-use Rattle.subnet.specs.Net.{Net, Wire, no_wire, wire_at}
-use Rattle.subnet_trace.specs.Parts.{Line, all_parts, part_name, parts_members}
-use Rattle.subnet_trace.specs.Scopes.{OnlyIn, has_imp, has_line, scope_of}
-use Rattle.subnet_trace.specs.Texts.{line_text}
-use Rattle.subnet_trace.specs.declared.parts.Scope.{Scope}
+use Rattle.subnet_trace.proofs.Common.{◌≡◌, ◌∙◌, ◌++◌, ◌+◌, ◌<◌, ◌≤◌, ℕ, List, ap, arith, codes, length, rules, subst, sym, get_or_read, IfOk-weaker, Net, Wire, no_wire, wire_at, Line, all_parts, part_name, parts_members, OnlyIn, has_imp, has_line, scope_of, line_text, Scope, changed, put_at, put_text, mark, member, object, PutSoFar}
 use Rattle.subnet_trace.proofs.AllMembers.{imps_left, lines_left, lines_over}
 use Rattle.subnet_trace.proofs.Scopes.{imp_put, imp_there, imps_put, line_put, line_there, none_are, none_there}
 use Rattle.subnet_trace.proofs.parts.change.Goals.{then-is_imp+in_ok-text, else-is_imp}
 use Rattle.subnet_trace.proofs.parts.change.Goals as goal
-use Rattle.trace.specs.Changes.{changed, put_at, put_text}
-use Rattle.trace.specs.Joined.{mark}
-use Rattle.trace.specs.Texts.{member, object}
-use Rattle.trace.proofs.lemmas.{AllPut, PutSoFar, all_put}
+use Rattle.trace.proofs.lemmas.{AllPut, all_put}
 
 pub loop-number-init : goal.loop-number-init
 loop-number-init c =

@@ -1,9 +1,6 @@
-use Rattle.std.proofs.Common.{◌≡◌, ◌≤◌, ◌+◌, length}
-use Rattle.subnet_trace.specs.Parts.{all_parts, parts_members}
-use Rattle.subnet_trace.specs.Scopes.{OnlyIn, scope_of}
+use Rattle.subnet_trace.proofs.Common.{◌≡◌, ◌≤◌, ◌+◌, length, all_parts, parts_members, OnlyIn, scope_of, PutSoFar}
 use Rattle.subnet_trace.proofs.AllMembers.{imps_left, lines_left}
 use Rattle.subnet_trace.proofs.parts.change.Given as goal
-use Rattle.trace.proofs.lemmas.{PutSoFar}
 
 -- the IMPs so far are put in their places
 abbrev pub invariant-loop-number : goal.invariant-loop-number

@@ -1,17 +1,6 @@
-use Rattle.std.proofs.Common.{◌≡◌, ◌<◌, ◌+◌, ℕ, ap, arith, codes, length, subst, sym, ◌∙◌}
-use Rattle.std.proofs.lemmas.List.{get_or_read}
-use Rattle.std.specs.Io.KnownBytes.{Appends}
-use Rattle.std.proofs.KnownBytes.{Appends-trans}
-use Rattle.replay.proofs.lemmas.{on_ok}
-use Rattle.subnet.specs.Net.{Net, no_wire, wire_at}
-use Rattle.subnet_trace.specs.Parts.{Line, all_parts, part_name, parts_text}
-use Rattle.subnet_trace.specs.Printing.{named}
-use Rattle.subnet_trace.specs.Texts.{line_text}
+use Rattle.subnet_trace.proofs.Common.{◌≡◌, ◌<◌, ◌+◌, ℕ, ap, arith, codes, length, subst, sym, ◌∙◌, get_or_read, Appends, Appends-trans, on_ok, Net, no_wire, wire_at, Line, all_parts, part_name, parts_text, named, line_text, Remains, mark, member}
 use Rattle.subnet_trace.proofs.PrintedParts.{imp_printed, imps_done, rest_printed, whole_begins, whole_left, whole_printed}
 use Rattle.subnet_trace.proofs.parts.print_whole.Goals as goal
-use Rattle.trace.proofs.lemmas.{Remains}
-use Rattle.trace.specs.Joined.{mark}
-use Rattle.trace.specs.Texts.{member}
 
 pub loop-imp-init : goal.loop-imp-init
 loop-imp-init g c = (c.imp_places-imp-end.ensures, c.requires, whole_begins c.args.subnet.now.net (g.W.Output.contents c.args.writer.now))

@@ -1,8 +1,6 @@
-use Rattle.std.proofs.Common.{◌≡◌, false, length}
-use Rattle.subnet_trace.specs.Parts.{all_parts, parts_text}
+use Rattle.subnet_trace.proofs.Common.{◌≡◌, false, length, all_parts, parts_text, Remains}
 use Rattle.subnet_trace.proofs.PrintedParts.{rest_left, whole_left}
 use Rattle.subnet_trace.proofs.parts.print_whole.Given as goal
-use Rattle.trace.proofs.lemmas.{Remains}
 
 -- the IMPs so far are printed
 abbrev pub invariant-loop-imp : goal.invariant-loop-imp

@@ -1,5 +1,4 @@
-use Rattle.std.proofs.Common.{◌≡◌, ◌<◌, ◌+◌, ◌++◌, [], ◌∷◌, ◌∙◌, List, Option, ℕ, ap, arith, length, rules, sym, take}
-use Rattle.std.proofs.lemmas.List.{take_all, take_more}
+use Rattle.subnet_trace.proofs.Common.{◌≡◌, ◌<◌, ◌+◌, ◌++◌, [], ◌∷◌, ◌∙◌, List, Option, ℕ, ap, arith, length, rules, sym, take, take_all, take_more}
 use Rattle.subnet_trace.proofs.ways.copies_of.Goals as goal
 
 pub loop-port-preserved : goal.loop-port-preserved

@@ -1,7 +1,4 @@
-use Rattle.std.proofs.Common.{◌∙◌, ap, subst}
-use Rattle.std.specs.Io.KnownBytes.{Appends}
-use Rattle.replay.proofs.lemmas.{on_ok}
-use Rattle.subnet_trace.specs.Printing.{concluded_text}
+use Rattle.subnet_trace.proofs.Common.{◌∙◌, ap, subst, Appends, on_ok, concluded_text}
 use Rattle.subnet_trace.proofs.ways.print_concluded.Goals as goal
 
 pub returns-clause-written : goal.returns-clause-written

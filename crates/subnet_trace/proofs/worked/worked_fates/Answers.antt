@@ -1,14 +1,8 @@
-use Rattle.std.proofs.Common.{◌≡◌, Option, Some, ap, refl, ◌∙◌}
-use Rattle.std.specs.FinMap.{empty, get, get-empty, insert}
-use Rattle.link_table.specs.Keys.{flow_cmp}
+use Rattle.subnet_trace.proofs.Common.{◌≡◌, Option, Some, ap, refl, ◌∙◌, empty, get, get-empty, flow_cmp, begun, number_in, Fate, Noted, Standing, get_begun, get_put}
+use Rattle.std.specs.FinMap.{insert}
 use Rattle.subnet.specs.Examples.{ours}
-use Rattle.link_table.specs.Flows.{begun, number_in}
-use Rattle.link_table.specs.declared.destination.Fate.{Fate}
 use Rattle.link_table.specs.declared.destination.Fate.TheVariants as fate
-use Rattle.link_table.specs.declared.destination.Noted.{Noted}
-use Rattle.link_table.specs.declared.source.Standing.{Standing}
 use Rattle.link_table.specs.declared.source.Standing.TheVariants as standing
-use Rattle.link_table.proofs.lemmas.{get_begun, get_put}
 use Rattle.link_table.specs.Numbers.{is_new, oldest, modulus, window}
 use Rattle.routing.specs.RouteTable.{next_of, distance_to, vector_of}
 use Rattle.subnet_trace.proofs.worked.worked_fates.Goals as goal

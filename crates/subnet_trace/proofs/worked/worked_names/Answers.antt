@@ -1,8 +1,6 @@
-use Rattle.std.proofs.Common.{◌≡◌, ℕ, List, [], ◌∷◌, None, Some, length, ap, refl, arith}
+use Rattle.subnet_trace.proofs.Common.{◌≡◌, ℕ, List, [], ◌∷◌, None, Some, length, ap, refl, arith, Wire, Line}
 use Rattle.imp_node.specs.Examples.{ack_frame}
 use Rattle.subnet.specs.Examples.{imp_1}
-use Rattle.subnet.specs.Net.{Wire}
-use Rattle.subnet_trace.specs.Parts.{Line}
 use Rattle.subnet_trace.proofs.worked.worked_names.Goals as goal
 
 -- two lists of other lengths

@@ -1,8 +1,5 @@
-use Rattle.std.proofs.Common.{◌≡◌, List, [], ◌∷◌, length, refl, sym, ◌∙◌, arith}
+use Rattle.subnet_trace.proofs.Common.{◌≡◌, List, [], ◌∷◌, length, refl, sym, ◌∙◌, arith, flow_cmp, Noted, Standing}
 use Rattle.std.specs.FinMap as fin
-use Rattle.link_table.specs.Keys.{flow_cmp}
-use Rattle.link_table.specs.declared.destination.Noted.{Noted}
-use Rattle.link_table.specs.declared.source.Standing.{Standing}
 use Rattle.routing.specs.RouteTable.{distance_to, next_of, vector_of}
 use Rattle.std.specs.Fmt.{digits}
 use Rattle.hex.specs.Hex.{encode_with}

@@ -1,10 +1,8 @@
-use Rattle.std.proofs.Common.{◌≡◌, zero, suc, false, List, Option, refl, arith}
-use Rattle.std.proofs.lemmas.Bool.Decides.{nat_tests}
+use Rattle.subnet_trace.proofs.Common.{◌≡◌, zero, suc, false, List, Option, refl, arith, nat_tests, State, Imp, Line, is_part}
 use Rattle.std.specs.Fmt.{digits}
 use Rattle.hex.specs.Hex.{encode_with}
 use Rattle.bit_messages.specs.Octets.{octets_of}
-use Rattle.imp_node.specs.State.{State}
-use Rattle.subnet_trace.specs.Parts.{Part, Imp, Line, is_part}
+use Rattle.subnet_trace.specs.Parts.{Part}
 use Rattle.subnet_trace.specs.Worked.{nowhere}
 use Rattle.subnet_trace.proofs.worked.worked_untold.Goals as goal
 

@@ -1,12 +1,10 @@
-use Rattle.std.proofs.Common.{◌≡◌, true, false, List, [], ◌∷◌, Some, None, refl, sym, ◌∙◌, arith}
+use Rattle.world_keeps_connections.proofs.Common.{◌≡◌, true, false, List, [], ◌∷◌, Some, None, refl, sym, ◌∙◌, arith, IsBacked, own_request}
 use Rattle.std.proofs.lemmas.List.Elements.{All-cons, All-nil}
 use Rattle.bit_messages.specs.Octets.{octets_of}
 use Rattle.host_services.specs.declared.report.Report.TheVariants as report
 use Rattle.host_services.specs.declared.report.Reported.{Reported}
 use Rattle.icp.specs.declared.outcome.Outcome.TheVariants as outcome
 use Rattle.promise.specs.declared.book.Told.{Told}
-use Rattle.net_sim.specs.Reports.{IsBacked}
-use Rattle.promise.specs.Safe.{own_request}
 use Rattle.sockets.specs.Worked.{first, second}
 use Rattle.world_keeps_connections.specs.WorkedConnections.{joined_kept, older, older_at_server, server_receives, server_sends, user_receives, user_sends}
 use Rattle.world_keeps_connections.proofs.connections.worked_connections.Goals as goal

@@ -1,22 +1,11 @@
-use Rattle.std.proofs.Common.{◌≡◌, zero, suc, Bool, true, false, List, [], ◌∷◌, ◌++◌, if◌then◌else◌, refl, ap, sym, subst, ◌∙◌, arith}
-use Rattle.std.specs.List.{Contains}
+use Rattle.world_keeps_lives.proofs.Common.{◌≡◌, zero, suc, Bool, true, false, List, [], ◌∷◌, ◌++◌, if◌then◌else◌, refl, ap, sym, subst, ◌∙◌, arith, Contains, is_send_socket, has_cls, Entry, pair_with, sends, Moment, program, kept_in, Life, mine_on, ClosedFirst, ClosesFirst}
 use Rattle.bit_messages.specs.Octets.{octets_of}
-use Rattle.ncp_control.specs.Numbers.{is_send_socket}
 use Rattle.ncp_control.specs.Packing.{packed_count}
 use Rattle.ncp_control.specs.Reading.{read_of, command_of}
 use Rattle.host_pairs.specs.Control.{orders_of}
-use Rattle.host_pairs.specs.Entries.{has_cls}
-use Rattle.host_pairs.specs.declared.entry.Entry.{Entry}
 use Rattle.sockets.specs.Accepting.{accepted}
-use Rattle.sockets.specs.Pairs.{pair_with}
 use Rattle.sockets.specs.Requests.{refusal, served, served_notices}
 use Rattle.sockets.specs.Sending.{next_out, offered}
-use Rattle.promise.specs.Safe.{sends}
-use Rattle.net_sim.specs.Story.{Moment, program}
-use Rattle.net_sim.specs.Told.{kept_in}
-use Rattle.promise.specs.declared.life.Life.{Life}
-use Rattle.world_keeps_lives.specs.Lives.{mine_on}
-use Rattle.world_keeps_lives.specs.Drained.{ClosedFirst, ClosesFirst}
 use Rattle.world_keeps_lives.specs.WorkedFormed.{closing_moments, taken_moments}
 use Rattle.world_keeps_lives.proofs.law.worked_not_first.Goals as goal
 

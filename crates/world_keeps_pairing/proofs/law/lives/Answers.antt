@@ -1,7 +1,4 @@
-use Rattle.std.proofs.Common.{[], refl}
-use Rattle.net_sim.specs.Timeline.{crossings_of}
-use Rattle.net_sim.proofs.lemmas.{Coupled, coupled}
-use Rattle.world_keeps_pairing.specs.Free.{origin_in}
+use Rattle.world_keeps_pairing.proofs.Common.{[], refl, crossings_of, Coupled, coupled, origin_in}
 use Rattle.world_keeps_pairing.proofs.BookPartners.{life_alone, life_in, life_matches, life_paired, partner_named, safe_partners}
 use Rattle.world_keeps_pairing.proofs.LivesAmong.{lives_among}
 use Rattle.world_keeps_pairing.proofs.Origins.{are_origins}

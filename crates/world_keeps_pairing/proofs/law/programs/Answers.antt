@@ -1,17 +1,5 @@
-use Rattle.std.proofs.Common.{List, [], refl, sym, subst}
-use Rattle.interface.specs.Host.{Host}
+use Rattle.world_keeps_pairing.proofs.Common.{List, [], refl, sym, subst, Host, HaveAddresses, Moment, program, IsTimeline, crossings_of, Coupled, coupled, pair_with, HasEnd, Side, events_at, run_at, safe_run, steps, law_events, origin_in}
 use Rattle.interface.specs.Mailboxes as mail
-use Rattle.net_sim.specs.Clean.{HaveAddresses}
-use Rattle.net_sim.specs.Story.{Moment, program}
-use Rattle.net_sim.specs.Timeline.{IsTimeline, crossings_of}
-use Rattle.net_sim.proofs.lemmas.{Coupled, coupled}
-use Rattle.sockets.specs.Pairs.{pair_with}
-use Rattle.host_keeps_pairing.specs.Ends.{HasEnd}
-use Rattle.pairing_law.specs.Sides.{Side}
-use Rattle.pairing_law.specs.Links.{events_at}
-use Rattle.pairing_law.proofs.lemmas.{run_at, safe_run}
-use Rattle.world_keeps_pairing.specs.Steps.{steps}
-use Rattle.world_keeps_pairing.specs.Free.{law_events, origin_in}
 use Rattle.world_keeps_pairing.proofs.Served.{served_in}
 use Rattle.world_keeps_pairing.proofs.LinkRun.{all_tied}
 use Rattle.world_keeps_pairing.proofs.Origins.{are_origins}

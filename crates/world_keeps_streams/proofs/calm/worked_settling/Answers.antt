@@ -1,17 +1,11 @@
-use Rattle.std.proofs.Common.{◌≡◌, zero, suc, ◌==◌, ◌&&◌, Bool, true, false, if◌then◌else◌, [], ◌∷◌, Option, Some, None, is_some, refl, ap, subst, ◌∙◌, arith}
-use Rattle.interface.specs.Host.{Host, same_host}
-use Rattle.interface.specs.Mailboxes.{Box, Empty, Taken, Waiting, box_of, is_up}
-use Rattle.interface.specs.declared.address.Flow.{Flow}
+use Rattle.world_keeps_streams.proofs.Common.{◌≡◌, zero, suc, ◌==◌, ◌&&◌, Bool, true, false, if◌then◌else◌, [], ◌∷◌, Option, Some, None, is_some, refl, ap, subst, ◌∙◌, arith, Host, same_host, box_of, Flow, HostMessage, NcpState, opening_state, first, second, Seat}
+use Rattle.interface.specs.Mailboxes.{Box, Empty, Taken, Waiting, is_up}
 use Rattle.interface.specs.declared.crossing.Crossing.TheVariants as crossing
-use Rattle.interface.specs.declared.message.HostMessage.{HostMessage}
 use Rattle.sockets.specs.Sending.{next_out}
-use Rattle.sockets.specs.Pairs.{NcpState, opening_state}
 use Rattle.sockets.specs.Requests.{served}
 use Rattle.sockets.specs.declared.request.Request.TheVariants as request
-use Rattle.sockets.specs.Worked.{first, second}
 use Rattle.net_sim.specs.Silent.{AllSilent}
 use Rattle.net_sim.specs.WorkedResets.{rst}
-use Rattle.net_sim.specs.declared.seat.Seat.{Seat}
 use Rattle.world_keeps_streams.proofs.calm.worked_settling.Goals as goal
 
 is_empty : Box → Bool

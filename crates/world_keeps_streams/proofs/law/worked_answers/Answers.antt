@@ -1,25 +1,17 @@
-use Rattle.std.proofs.Common.{◌≡◌, ◌||◌, inl, inr, Bool, true, false, List, [], ◌∷◌, ◌++◌, drop, refl, ap, sym, subst, ◌∙◌}
+use Rattle.world_keeps_streams.proofs.Common.{◌≡◌, ◌||◌, inl, inr, Bool, true, false, List, [], ◌∷◌, ◌++◌, drop, refl, ap, sym, subst, ◌∙◌, taken_in, went_out, Flow, Crossing, HostMessage, first, second, Crossed, crossings_of, bits_sent, eight_sent, sent_moments, Arrives, ComesFor}
 use Rattle.bit_messages.specs.Octets.{octets_of}
 use Rattle.interface.specs.Mailboxes.{same_flow}
-use Rattle.interface.specs.Messages.{taken_in, went_out}
-use Rattle.interface.specs.declared.address.Flow.{Flow}
-use Rattle.interface.specs.declared.crossing.Crossing.{Crossing}
 use Rattle.interface.specs.declared.crossing.Crossing.TheVariants as crossing
-use Rattle.interface.specs.declared.message.HostMessage.{HostMessage}
 use Rattle.ncp_control.specs.Packing.{packed_count}
 use Rattle.ncp_control.specs.Reading.{read_of, command_of}
 use Rattle.host_pairs.specs.Control.{orders_of}
 use Rattle.sockets.specs.Accepting.{accepted}
 use Rattle.sockets.specs.Requests.{refusal, served, served_notices}
 use Rattle.sockets.specs.Sending.{next_out, offered}
-use Rattle.sockets.specs.Worked.{first, on_link, second}
-use Rattle.net_sim.specs.Story.{Crossed}
-use Rattle.net_sim.specs.Timeline.{crossings_of}
+use Rattle.sockets.specs.Worked.{on_link}
 use Rattle.net_sim.specs.Told.{kept_in}
-use Rattle.net_sim.specs.WorkedMoments.{bits_sent, eight_sent, sent_moments}
 use Rattle.promise.specs.declared.life.Life.{Life}
 use Rattle.promise.specs.Safe.{receives}
-use Rattle.world_keeps_streams.specs.Arrivals.{Arrives, ComesFor}
 use Rattle.world_keeps_streams.specs.Worked.{took}
 use Rattle.world_keeps_streams.proofs.Books.Ended.{all_crossings}
 use Rattle.world_keeps_streams.proofs.Lives.Lists.{IsOf, is_of}

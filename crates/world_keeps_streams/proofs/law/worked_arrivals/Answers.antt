@@ -1,22 +1,12 @@
-use Rattle.std.proofs.Common.{◌≡◌, inl, inr, ℕ, Bool, true, false, List, [], ◌∷◌, Option, None, refl, ap, ◌∙◌, arith}
+use Rattle.world_keeps_streams.proofs.Common.{◌≡◌, inl, inr, ℕ, Bool, true, false, List, [], ◌∷◌, Option, None, refl, ap, ◌∙◌, arith, Host, same_host, some_is, asked_on_link, asked_with_size, spent, is_open, receiving_end, sending_end, asked_at, Entry, first, second, program, bits_sent, none_there}
 use Rattle.bit_messages.specs.Octets.{octets_of}
-use Rattle.interface.specs.Host.{Host, same_host}
 use Rattle.ncp_control.specs.Packing.{packed_count}
 use Rattle.ncp_control.specs.Reading.{read_of, command_of}
-use Rattle.stream_law.proofs.lemmas.{some_is}
 use Rattle.host_pairs.specs.Control.{orders_of}
-use Rattle.host_pairs.specs.Commands.{asked_on_link, asked_with_size, granted}
-use Rattle.host_pairs.specs.Data.{spent}
-use Rattle.host_pairs.specs.Entries.{is_open, receiving_end, sending_end}
-use Rattle.host_pairs.specs.Parcels.{asked_at}
-use Rattle.host_pairs.specs.declared.entry.Entry.{Entry}
+use Rattle.host_pairs.specs.Commands.{granted}
 use Rattle.sockets.specs.Accepting.{accepted}
 use Rattle.sockets.specs.Requests.{refusal, served, served_notices}
 use Rattle.sockets.specs.Sending.{next_out, offered}
-use Rattle.sockets.specs.Worked.{first, second}
-use Rattle.net_sim.specs.Story.{program}
-use Rattle.net_sim.specs.WorkedMoments.{bits_sent}
-use Rattle.world_keeps_lives.proofs.lemmas.{none_there}
 use Rattle.world_keeps_streams.proofs.law.worked_arrivals.Goals as goal
 
 first_link : List Entry → Option ℕ

@@ -1,23 +1,13 @@
-use Rattle.std.proofs.Common.{◌≡◌, ℕ, zero, suc, ◌==◌, Bool, true, false, Option, is_some, refl, ap, arith}
-use Rattle.std.proofs.lemmas.Bool.{ne_eqb}
+use Rattle.world_keeps_streams.proofs.Common.{◌≡◌, ℕ, zero, suc, ◌==◌, Bool, true, false, Option, is_some, refl, ap, arith, ne_eqb, HostMessage, asked_on_link, asked_with_size, spent, receiving_end, sending_end, asked_at, first, second, program, crossings_of, none_there, NoneOut}
 use Rattle.bit_messages.specs.Octets.{octets_of}
 use Rattle.interface.specs.Mailboxes.{Box, Empty, Taken, Waiting}
-use Rattle.interface.specs.declared.message.HostMessage.{HostMessage}
 use Rattle.ncp_control.specs.Packing.{packed_count}
 use Rattle.ncp_control.specs.Reading.{read_of, command_of}
 use Rattle.host_pairs.specs.Control.{orders_of}
-use Rattle.host_pairs.specs.Commands.{asked_on_link, asked_with_size, granted}
-use Rattle.host_pairs.specs.Data.{spent}
-use Rattle.host_pairs.specs.Entries.{receiving_end, sending_end}
-use Rattle.host_pairs.specs.Parcels.{asked_at}
+use Rattle.host_pairs.specs.Commands.{granted}
 use Rattle.sockets.specs.Accepting.{accepted}
 use Rattle.sockets.specs.Requests.{refusal, served, served_notices}
 use Rattle.sockets.specs.Sending.{next_out, offered}
-use Rattle.sockets.specs.Worked.{first, second}
-use Rattle.net_sim.specs.Story.{program}
-use Rattle.net_sim.specs.Timeline.{crossings_of}
-use Rattle.world_keeps_lives.proofs.lemmas.{none_there}
-use Rattle.world_keeps_streams.specs.Rests.{NoneOut}
 use Rattle.world_keeps_streams.specs.Worked.{calm_moments}
 use Rattle.world_keeps_streams.proofs.law.worked_calm.Goals as goal
 

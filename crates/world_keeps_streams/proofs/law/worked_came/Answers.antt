@@ -1,30 +1,18 @@
-use Rattle.std.proofs.Common.{◌≡◌, ◌⊎◌, inl, inr, ℕ, zero, suc, ◌<◌, Bool, true, false, List, [], ◌∷◌, length, slice_index_or, refl, ap, sym, subst, ◌∙◌, arith}
-use Rattle.std.specs.List.{Contains}
+use Rattle.world_keeps_streams.proofs.Common.{◌≡◌, ◌⊎◌, inl, inr, ℕ, zero, suc, ◌<◌, Bool, true, false, List, [], ◌∷◌, length, slice_index_or, refl, ap, sym, subst, ◌∙◌, arith, Contains, asked_with_size, spent, receiving_end, asked_at, Entry, first, second, Match, Crossed, program, crossings_of, texts_for, gave, none_there, HasTakenCls, ended_moments, quit_moments}
 use Rattle.bit_messages.specs.Octets.{octets_of}
 use Rattle.ncp_control.specs.Packing.{packed_count}
 use Rattle.ncp_control.specs.Reading.{read_of, command_of}
 use Rattle.host_pairs.specs.Control.{orders_of}
-use Rattle.host_pairs.specs.Commands.{asked_with_size, granted}
-use Rattle.host_pairs.specs.Data.{spent}
-use Rattle.host_pairs.specs.Entries.{receiving_end}
-use Rattle.host_pairs.specs.Parcels.{asked_at}
+use Rattle.host_pairs.specs.Commands.{granted}
 use Rattle.host_pairs.specs.declared.entry.Closing.TheVariants as closing
-use Rattle.host_pairs.specs.declared.entry.Entry.{Entry}
 use Rattle.sockets.specs.Accepting.{accepted}
 use Rattle.sockets.specs.Requests.{refusal, served, served_notices}
 use Rattle.sockets.specs.Sending.{next_out, offered}
-use Rattle.sockets.specs.Worked.{first, second}
 use Rattle.interface.specs.declared.crossing.Crossing.TheVariants as crossing
-use Rattle.promise.specs.Safe.{Match, sends}
+use Rattle.promise.specs.Safe.{sends}
 use Rattle.promise.specs.declared.life.Life.{Life}
-use Rattle.net_sim.specs.Story.{Crossed, program}
-use Rattle.net_sim.specs.Timeline.{crossings_of}
 use Rattle.net_sim.specs.Told.{kept_in}
-use Rattle.promise.specs.Formed.{texts_for}
-use Rattle.world_keeps_lives.specs.WorkedFormed.{gave}
-use Rattle.world_keeps_lives.proofs.lemmas.{none_there}
-use Rattle.world_keeps_streams.specs.Came.{HasTakenCls}
-use Rattle.world_keeps_streams.specs.Worked.{ended_moments, quit_moments, took}
+use Rattle.world_keeps_streams.specs.Worked.{took}
 use Rattle.world_keeps_streams.proofs.law.worked_came.Goals as goal
 
 first_closed : List Entry → Bool

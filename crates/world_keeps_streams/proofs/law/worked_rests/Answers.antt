@@ -1,23 +1,13 @@
-use Rattle.std.proofs.Common.{◌≡◌, ℕ, Bool, true, false, List, [], ◌∷◌, Option, None, refl, ap, subst, ◌∙◌, arith}
+use Rattle.world_keeps_streams.proofs.Common.{◌≡◌, ℕ, Bool, true, false, List, [], ◌∷◌, Option, None, refl, ap, subst, ◌∙◌, arith, box_of, some_is, asked_with_size, spent, is_open, receiving_end, asked_at, Entry, first, second, program, crossings_of, bits_sent, eight_sent, sent_moments, none_there}
 use Rattle.bit_messages.specs.Octets.{octets_of}
-use Rattle.interface.specs.Mailboxes.{Waiting, box_of}
+use Rattle.interface.specs.Mailboxes.{Waiting}
 use Rattle.ncp_control.specs.Packing.{packed_count}
 use Rattle.ncp_control.specs.Reading.{read_of, command_of}
-use Rattle.stream_law.proofs.lemmas.{some_is}
 use Rattle.host_pairs.specs.Control.{orders_of}
-use Rattle.host_pairs.specs.Commands.{asked_with_size, granted}
-use Rattle.host_pairs.specs.Data.{spent}
-use Rattle.host_pairs.specs.Entries.{is_open, receiving_end}
-use Rattle.host_pairs.specs.Parcels.{asked_at}
-use Rattle.host_pairs.specs.declared.entry.Entry.{Entry}
+use Rattle.host_pairs.specs.Commands.{granted}
 use Rattle.sockets.specs.Accepting.{accepted}
 use Rattle.sockets.specs.Requests.{refusal, served, served_notices}
 use Rattle.sockets.specs.Sending.{next_out, offered}
-use Rattle.sockets.specs.Worked.{first, second}
-use Rattle.net_sim.specs.Story.{program}
-use Rattle.net_sim.specs.Timeline.{crossings_of}
-use Rattle.net_sim.specs.WorkedMoments.{bits_sent, eight_sent, sent_moments}
-use Rattle.world_keeps_lives.proofs.lemmas.{none_there}
 use Rattle.world_keeps_streams.proofs.law.worked_rests.Goals as goal
 
 first_link : List Entry → Option ℕ

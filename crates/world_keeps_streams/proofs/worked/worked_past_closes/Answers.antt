@@ -1,28 +1,17 @@
-use Rattle.std.proofs.Common.{◌≡◌, ◌⊎◌, inl, inr, ◌<◌, ℕ, zero, suc, Bool, true, false, List, [], ◌∷◌, ◌++◌, if◌then◌else◌, Option, None, drop, length, slice_index_or, refl, ap, sym, subst, ◌∙◌, arith}
-use Rattle.std.specs.List.{Contains}
+use Rattle.world_keeps_streams.proofs.Common.{◌≡◌, ◌⊎◌, inl, inr, ◌<◌, ℕ, suc, Bool, true, false, List, [], ◌∷◌, ◌++◌, if◌then◌else◌, Option, None, drop, length, slice_index_or, refl, ap, sym, subst, ◌∙◌, arith, Contains, is_receive_socket, some_is, Entry, HasClosed, name_now, numbered, pair_with, first, second, Crossed, Moment, program, sent_moments, mine_on, own_calls, IsClosedByPartner, WasClosedByPartner, quit_moments}
+use Rattle.std.proofs.Common.{zero}
 use Rattle.bit_messages.specs.Octets.{octets_of}
 use Rattle.interface.specs.declared.crossing.Crossing.TheVariants as crossing
-use Rattle.ncp_control.specs.Numbers.{is_receive_socket}
 use Rattle.ncp_control.specs.Packing.{packed_count}
 use Rattle.ncp_control.specs.Reading.{read_of, command_of}
-use Rattle.stream_law.proofs.lemmas.{some_is}
 use Rattle.host_pairs.specs.Control.{orders_of}
-use Rattle.host_pairs.specs.declared.entry.Entry.{Entry}
-use Rattle.host_keeps_streams.specs.Histories.{HasClosed, name_now, numbered}
 use Rattle.sockets.specs.Accepting.{accepted}
-use Rattle.sockets.specs.Pairs.{pair_with}
 use Rattle.sockets.specs.Requests.{refusal, served, served_notices}
 use Rattle.sockets.specs.Sending.{next_out, offered}
-use Rattle.sockets.specs.Worked.{first, second}
 use Rattle.promise.specs.Safe.{receives}
-use Rattle.net_sim.specs.Story.{Crossed, Moment, program}
 use Rattle.net_sim.specs.Told.{kept_in}
-use Rattle.net_sim.specs.WorkedMoments.{sent_moments}
 use Rattle.promise.specs.declared.life.Life.{Life}
-use Rattle.world_keeps_lives.specs.Lives.{mine_on}
-use Rattle.world_keeps_streams.specs.Calls.{own_calls}
-use Rattle.world_keeps_streams.specs.Closes.{IsClosedByPartner, WasClosedByPartner}
-use Rattle.world_keeps_streams.specs.Worked.{close_sent, quit_moments, took}
+use Rattle.world_keeps_streams.specs.Worked.{close_sent, took}
 use Rattle.world_keeps_streams.proofs.worked.worked_past_closes.Goals as goal
 
 -- ---- whether the partner of a life has closed its end

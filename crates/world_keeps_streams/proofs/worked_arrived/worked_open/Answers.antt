@@ -1,21 +1,15 @@
-use Rattle.std.proofs.Common.{◌≡◌, inl, inr, ℕ, Bool, true, false, List, [], ◌∷◌, ◌++◌, length, if◌then◌else◌, Option, Some, refl, ap, sym, subst, ◌∙◌, arith}
-use Rattle.std.specs.List.{Contains}
+use Rattle.world_keeps_streams.proofs.Common.{◌≡◌, inl, inr, ℕ, Bool, false, List, ◌∷◌, ◌++◌, length, if◌then◌else◌, Option, Some, refl, ap, sym, subst, ◌∙◌, arith, Contains, Flow, Crossing, Going, stage, IsBeside, texts_on, Match, sent_log, each_in, took_nothing}
+use Rattle.std.proofs.Common.{true, []}
 use Rattle.bit_messages.specs.Octets.{octets_of}
-use Rattle.interface.specs.declared.address.Flow.{Flow}
 use Rattle.interface.specs.declared.crossing.Answer.TheVariants as answer
-use Rattle.interface.specs.declared.crossing.Crossing.{Crossing}
 use Rattle.interface.specs.declared.crossing.Crossing.TheVariants as crossing
 use Rattle.ncp_control.specs.Reading.{command_of, read_of}
 use Rattle.host_pairs.specs.Control.{orders_of}
-use Rattle.promise.specs.Ends.{Going, stage}
-use Rattle.promise.specs.Fates.{IsBeside}
-use Rattle.promise.specs.Formed.{link_of, texts_on}
-use Rattle.promise.specs.Safe.{Match, receives}
+use Rattle.promise.specs.Formed.{link_of}
+use Rattle.promise.specs.Safe.{receives}
 use Rattle.promise.specs.declared.life.Fate.TheVariants as fate
 use Rattle.promise.specs.declared.life.Life.{Life}
-use Rattle.world_keeps_lives.specs.WorkedFormed.{sent_log}
-use Rattle.world_keeps_lives.proofs.lemmas.{each_in}
-use Rattle.world_keeps_streams.specs.WorkedArrived.{closed_log, closed_receiver, closed_sender, sent_more, took_nothing}
+use Rattle.world_keeps_streams.specs.WorkedArrived.{closed_log, closed_receiver, closed_sender, sent_more}
 use Rattle.world_keeps_streams.proofs.worked_arrived.worked_open.Goals as goal
 
 -- ---- a log without answers

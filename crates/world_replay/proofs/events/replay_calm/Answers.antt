@@ -1,8 +1,5 @@
-use Rattle.std.proofs.Common.{◌≡◌, ◌+◌, ◌-◌, Err, inl, inr, refl, rules, subst, sym, arith}
-use Rattle.net_sim.specs.Carriers.{shown}
-use Rattle.interface.specs.Calls.{Calls}
+use Rattle.world_replay.proofs.Common.{◌≡◌, ◌+◌, ◌-◌, Err, inl, inr, refl, rules, subst, sym, arith, shown, Calls, EventEnds}
 use Rattle.world_script.specs.declared.event.WorldEvent.TheVariants as event
-use Rattle.world_replay.specs.Steps.{EventEnds}
 use Rattle.world_replay.proofs.Rounds.{no_rounds, one_is_event, rest_left, round_ends_so, round_more, rounds_end, some_passed}
 use Rattle.world_replay.proofs.SeenEvents.{whether_ok}
 use Rattle.world_replay.proofs.events.replay_calm.Goals as goal

@@ -1,6 +1,4 @@
-use Rattle.std.proofs.Common.{◌≡◌, ◌<◌, ◌≤◌, false, true}
-use Rattle.net_sim.specs.Carriers.{shown}
-use Rattle.interface.specs.Calls.{Calls}
+use Rattle.world_replay.proofs.Common.{◌≡◌, ◌<◌, ◌≤◌, false, true, shown, Calls}
 use Rattle.world_replay.proofs.Rounds.{HaveRounds}
 use Rattle.world_replay.proofs.events.replay_calm.Given as goal
 

@@ -1,11 +1,5 @@
-use Rattle.std.proofs.Common.{◌≡◌, ◌≤◌, true, length, ap, rules, subst, ◌∙◌, arith}
-use Rattle.std.proofs.lemmas.List.{length-reverse}
-use Rattle.net_sim.specs.Book.{Kept}
-use Rattle.net_sim.specs.Carriers.{shown}
-use Rattle.net_sim.specs.World.{stops}
-use Rattle.interface.specs.Calls.{Calls}
+use Rattle.world_replay.proofs.Common.{◌≡◌, ◌≤◌, true, length, ap, rules, subst, ◌∙◌, arith, length-reverse, Kept, shown, stops, Calls, Gains}
 use Rattle.replay.proofs.lemmas.{on_ok}
-use Rattle.world_replay.specs.Gains.{Gains}
 use Rattle.world_replay.proofs.Grown.{longer, more_notices, more_reports, step_gains}
 use Rattle.world_replay.proofs.Replays.{News, calm_shown, calm_stopped}
 use Rattle.world_replay.proofs.events.replay_in_calm.Goals as goal

@@ -1,12 +1,8 @@
-use Rattle.std.proofs.Common.{◌≡◌, ◌∷◌, [], ◌++◌, Err, rules, ap, sym, subst, ◌∙◌}
+use Rattle.world_replay.proofs.Common.{◌≡◌, ◌∷◌, [], ◌++◌, Err, rules, ap, sym, subst, ◌∙◌, shown, Calls, shown_text, MayDo, StopsIn, EventEnds}
 use Rattle.std.proofs.lemmas.List.{append_assoc}
-use Rattle.net_sim.specs.Carriers.{shown}
-use Rattle.interface.specs.Calls.{Calls}
 use Rattle.replay.proofs.lemmas.{last_shown, last_written, one_written}
 use Rattle.replay.specs.declared.events.ReplayFault.TheVariants as fault
-use Rattle.world_replay.specs.Output.{shown_text}
-use Rattle.world_replay.specs.Replay.{Happens, MayDo, StopsIn}
-use Rattle.world_replay.specs.Steps.{EventEnds}
+use Rattle.world_replay.specs.Replay.{Happens}
 use Rattle.world_replay.proofs.SeenEvents.{last_seen}
 use Rattle.world_replay.proofs.events.replay_in_turn.Goals as goal
 

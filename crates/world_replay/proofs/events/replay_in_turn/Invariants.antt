@@ -1,9 +1,4 @@
-use Rattle.std.proofs.Common.{◌≡◌, ◌++◌, false}
-use Rattle.net_sim.specs.Carriers.{shown}
-use Rattle.interface.specs.Calls.{Calls}
-use Rattle.world_replay.specs.Output.{Writes}
-use Rattle.world_replay.specs.Replay.{Replays}
-use Rattle.world_replay.specs.Seen.{EndsSeen}
+use Rattle.world_replay.proofs.Common.{◌≡◌, ◌++◌, false, shown, Calls, Writes, Replays, EndsSeen}
 use Rattle.world_replay.proofs.events.replay_in_turn.Given as goal
 
 -- the events so far are replayed, and what they showed is written, and handed on where they end with a long calm; no write has failed

@@ -1,9 +1,4 @@
-use Rattle.std.proofs.Common.{◌≡◌, ◌≤◌, length, ap, subst, ◌∙◌, arith}
-use Rattle.std.proofs.lemmas.List.{length-reverse}
-use Rattle.net_sim.specs.Book.{Kept}
-use Rattle.net_sim.specs.Carriers.{shown}
-use Rattle.interface.specs.Calls.{Calls}
-use Rattle.world_replay.specs.Gains.{Gains}
+use Rattle.world_replay.proofs.Common.{◌≡◌, ◌≤◌, length, ap, subst, ◌∙◌, arith, length-reverse, Kept, shown, Calls, Gains}
 use Rattle.world_replay.proofs.Grown.{longer, more_notices, more_reports}
 use Rattle.world_replay.proofs.Replays.{News, event_ends, event_gains}
 use Rattle.world_replay.proofs.events.replay_one.Goals as goal

@@ -1,5 +1,4 @@
-use Rattle.interface.specs.Calls.{Calls}
-use Rattle.net_sim.specs.Carriers.{shown}
+use Rattle.world_replay.proofs.Common.{Calls, shown}
 use Rattle.world_replay.proofs.CalmEvents.{calm_events}
 use Rattle.world_replay.proofs.CalmRounds.{calm_rounds, rounds_calm}
 use Rattle.world_replay.proofs.Turns.{calm_round, round_calm}

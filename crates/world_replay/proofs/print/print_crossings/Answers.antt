@@ -1,8 +1,4 @@
-use Rattle.std.proofs.Common.{sym, subst, ◌∙◌, ap}
-use Rattle.std.proofs.lemmas.List.{take_all}
-use Rattle.std.specs.Io.KnownBytes.{Appends}
-use Rattle.replay.specs.InTurn.{text_of}
-use Rattle.replay.specs.Output.{crossing_line}
+use Rattle.world_replay.proofs.Common.{sym, subst, ◌∙◌, ap, take_all, Appends, text_of, crossing_line}
 use Rattle.world_replay.proofs.News.{crossings_text}
 use Rattle.world_replay.proofs.print.print_crossings.Goals as goal
 

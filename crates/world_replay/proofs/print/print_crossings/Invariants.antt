@@ -1,7 +1,4 @@
-use Rattle.std.proofs.Common.{◌≡◌, false, take}
-use Rattle.std.specs.Io.KnownBytes.{Appends}
-use Rattle.replay.specs.InTurn.{text_of}
-use Rattle.replay.specs.Output.{crossing_line}
+use Rattle.world_replay.proofs.Common.{◌≡◌, false, take, Appends, text_of, crossing_line}
 use Rattle.world_replay.proofs.print.print_crossings.Given as goal
 
 abbrev pub invariant-loop-crossing : goal.invariant-loop-crossing

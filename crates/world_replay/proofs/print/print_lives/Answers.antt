@@ -1,8 +1,6 @@
-use Rattle.std.proofs.Common.{subst}
-use Rattle.std.specs.Io.KnownBytes.{Appends}
+use Rattle.world_replay.proofs.Common.{subst, Appends, ended_line}
 use Rattle.promise.specs.declared.life.Life.{Life}
 use Rattle.replay.proofs.lemmas.{text_more}
-use Rattle.script.specs.Input.{ended_line}
 use Rattle.world_replay.specs.Printed.{life_text}
 use Rattle.world_replay.proofs.print.print_lives.Goals as goal
 

@@ -1,5 +1,4 @@
-use Rattle.std.proofs.Common.{◌≡◌, false, take}
-use Rattle.std.specs.Io.KnownBytes.{Appends}
+use Rattle.world_replay.proofs.Common.{◌≡◌, false, take, Appends}
 use Rattle.world_replay.specs.Output.{lives_output}
 use Rattle.world_replay.proofs.print.print_lives.Given as goal
 

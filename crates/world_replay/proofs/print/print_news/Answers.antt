@@ -1,7 +1,4 @@
-use Rattle.std.proofs.Common.{◌≡◌, ap, drop, reverse, subst, ◌∙◌}
-use Rattle.std.specs.Io.KnownBytes.{Appends}
-use Rattle.world_replay.specs.Output.{output, shown_in_turn, told_in_turn}
-use Rattle.std.proofs.lemmas.Result.{on_ok_weaker}
+use Rattle.world_replay.proofs.Common.{◌≡◌, ap, drop, reverse, subst, ◌∙◌, Appends, output, shown_in_turn, told_in_turn, on_ok_weaker}
 use Rattle.world_replay.proofs.News.{all_fronts}
 use Rattle.world_replay.proofs.print.print_news.Goals as goal
 

@@ -1,7 +1,4 @@
-use Rattle.std.proofs.Common.{subst}
-use Rattle.std.proofs.lemmas.List.{take_all}
-use Rattle.world_replay.specs.Output.{shown_notices}
-use Rattle.world_replay.specs.Steps.{Fronts}
+use Rattle.world_replay.proofs.Common.{subst, take_all, shown_notices, Fronts}
 use Rattle.world_replay.proofs.News.{fronts_none, notice_front}
 use Rattle.world_replay.proofs.print.print_notices.Goals as goal
 

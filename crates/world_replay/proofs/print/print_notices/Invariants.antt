@@ -1,6 +1,4 @@
-use Rattle.std.proofs.Common.{◌≡◌, false, take}
-use Rattle.world_replay.specs.Output.{shown_notices}
-use Rattle.world_replay.specs.Steps.{Fronts}
+use Rattle.world_replay.proofs.Common.{◌≡◌, false, take, shown_notices, Fronts}
 use Rattle.world_replay.proofs.print.print_notices.Given as goal
 
 abbrev pub invariant-loop-told : goal.invariant-loop-told

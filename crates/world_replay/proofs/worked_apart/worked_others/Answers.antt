@@ -1,16 +1,11 @@
-use Rattle.std.proofs.Common.{◌≡◌, ℕ, Bool, true, false, length, Option, Some, None, arith, is_some, refl, ap}
-use Rattle.std.proofs.lemmas.Bool.{false≢true}
+use Rattle.world_replay.proofs.Common.{◌≡◌, ℕ, Bool, true, false, length, Option, Some, None, arith, refl, ap, false≢true, fresh, with_carrier, Seat, ServiceSeat, NcpState, first, second, booked}
+use Rattle.std.proofs.Common.{is_some}
 use Rattle.host_services.specs.Services.{no_services}
 use Rattle.host_services.specs.Turns as turns
-use Rattle.net_sim.specs.Worked.{down, fresh}
-use Rattle.net_sim.specs.World.{with_carrier}
-use Rattle.net_sim.specs.declared.seat.Seat.{Seat}
-use Rattle.net_sim.specs.declared.seat.ServiceSeat.{ServiceSeat}
-use Rattle.sockets.specs.Pairs.{NcpState, opening_state}
+use Rattle.net_sim.specs.Worked.{down}
+use Rattle.sockets.specs.Pairs.{opening_state}
 use Rattle.sockets.specs.Requests.{served, served_notices}
-use Rattle.sockets.specs.Worked.{first, second}
 use Rattle.sockets.specs.declared.request.Request.TheVariants as request
-use Rattle.world_replay.specs.Worked.{booked}
 use Rattle.world_replay.proofs.AtHosts.{others_same, others_served, serviced_elsewhere}
 use Rattle.world_replay.proofs.worked_apart.worked_others.Goals as goal
 

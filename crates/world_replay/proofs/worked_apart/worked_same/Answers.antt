@@ -1,9 +1,5 @@
-use Rattle.std.proofs.Common.{◌≡◌, ℕ, List, [], ◌∷◌, length, Option, Some, None, arith, refl, ap}
+use Rattle.world_replay.proofs.Common.{◌≡◌, ℕ, List, [], ◌∷◌, length, Option, Some, None, arith, refl, ap, Seat, ServiceSeat, Kept, NcpState}
 use Rattle.host_services.specs.Turns as turns
-use Rattle.net_sim.specs.declared.seat.Seat.{Seat}
-use Rattle.net_sim.specs.declared.seat.ServiceSeat.{ServiceSeat}
-use Rattle.net_sim.specs.Book.{Kept}
-use Rattle.sockets.specs.Pairs.{NcpState}
 use Rattle.sockets.specs.Requests.{served, served_notices}
 use Rattle.world_replay.proofs.worked_apart.worked_same.Goals as goal
 

@@ -1,8 +1,6 @@
-use Rattle.std.proofs.Common.{◌≡◌, arith, inl, inr, length, refl, ap}
+use Rattle.world_replay.proofs.Common.{◌≡◌, arith, inl, inr, length, refl, ap, message, first, second}
 use Rattle.interface.specs.declared.crossing.Inbound.TheVariants as inbound
 use Rattle.interface.specs.declared.carrier.CarrierFault.TheVariants as fault
-use Rattle.net_sim.specs.Worked.{message}
-use Rattle.sockets.specs.Worked.{first, second}
 use Rattle.world_replay.proofs.Driving.{another, for_another, one_line, two_taken, went_out}
 use Rattle.world_replay.proofs.worked_drives.worked_brings.Goals as goal
 

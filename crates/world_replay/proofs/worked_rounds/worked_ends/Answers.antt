@@ -1,6 +1,4 @@
-use Rattle.std.proofs.Common.{arith, inl, refl}
-use Rattle.net_sim.specs.declared.event.Event.TheVariants.{Quiet}
-use Rattle.world_replay.specs.Worked.{tally}
+use Rattle.world_replay.proofs.Common.{arith, inl, refl, Quiet, tally}
 use Rattle.world_replay.proofs.Ticking.{fails_at_once, in_a_taking, in_an_offer, not_whole, second, skipped, too_many}
 use Rattle.world_replay.proofs.worked_rounds.worked_ends.Goals as goal
 

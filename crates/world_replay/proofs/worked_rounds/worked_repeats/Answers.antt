@@ -1,5 +1,4 @@
-use Rattle.std.proofs.Common.{arith}
-use Rattle.world_replay.specs.Worked.{tally}
+use Rattle.world_replay.proofs.Common.{arith, tally}
 use Rattle.world_replay.proofs.Counting.{again_once, again_twice}
 use Rattle.world_replay.proofs.Ticking.{only_twice, only_until, twice, until}
 use Rattle.world_replay.proofs.worked_rounds.worked_repeats.Goals as goal

@@ -1,5 +1,4 @@
-use Rattle.std.proofs.Common.{ap, arith, length}
-use Rattle.world_replay.specs.Worked.{tally}
+use Rattle.world_replay.proofs.Common.{ap, arith, length, tally}
 use Rattle.world_replay.proofs.Ticking.{only_round, round}
 use Rattle.world_replay.proofs.worked_rounds.worked_rounds.Goals as goal
 

@@ -1,8 +1,4 @@
-use Rattle.std.proofs.Common.{[], subst}
-use Rattle.net_sim.specs.Carriers.{shown}
-use Rattle.net_sim.specs.declared.event.Event.{Event}
-use Rattle.interface.specs.Calls.{Calls}
-use Rattle.world_trace.specs.Traces.{MayTell}
+use Rattle.world_trace.proofs.Common.{[], subst, shown, Event, Calls, MayTell}
 use Rattle.world_trace.proofs.Telling.{ended_in_calm}
 use Rattle.world_trace.proofs.calm.happen_in_calm.Goals as goal
 

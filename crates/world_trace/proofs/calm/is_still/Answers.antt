@@ -1,9 +1,4 @@
-use Rattle.std.proofs.Common.{◌≡◌, List, None, Ok, ℕ, subst, sym}
-use Rattle.net_sim.specs.Carriers.{shown}
-use Rattle.net_sim.specs.World.{WorldState}
-use Rattle.interface.specs.Calls.{Calls}
-use Rattle.world_trace.specs.Steps.{IsStill, event_of}
-use Rattle.world_trace.specs.declared.calm.CalmEvent.{CalmEvent}
+use Rattle.world_trace.proofs.Common.{◌≡◌, List, None, Ok, ℕ, subst, sym, shown, WorldState, Calls, IsStill, event_of, CalmEvent}
 use Rattle.world_trace.proofs.Stays.{offer_still, take_still}
 use Rattle.world_trace.proofs.calm.is_still.Goals as goal
 

@@ -1,8 +1,4 @@
-use Rattle.std.proofs.Common.{◌≡◌, ◌<◌, ◌≤◌, Err, false, true, length, le-ltb, lt-ltb, arith, rules, subst, sym}
-use Rattle.net_sim.specs.Carriers.{shown}
-use Rattle.interface.specs.Calls.{Calls}
-use Rattle.world_replay.specs.Rounds.{crosses}
-use Rattle.world_trace.specs.Steps.{AgainEnds, event_of}
+use Rattle.world_trace.proofs.Common.{◌≡◌, ◌<◌, ◌≤◌, Err, false, true, length, le-ltb, lt-ltb, arith, rules, subst, sym, shown, Calls, crosses, AgainEnds, event_of}
 use Rattle.world_trace.proofs.Calms.{all_steps, last_step, no_steps, one_step, step_ends}
 use Rattle.world_trace.proofs.calm.trace_again.Goals as goal
 

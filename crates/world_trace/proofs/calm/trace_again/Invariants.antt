@@ -1,7 +1,4 @@
-use Rattle.std.proofs.Common.{◌≡◌, ◌≤◌, false}
-use Rattle.net_sim.specs.Carriers.{shown}
-use Rattle.interface.specs.Calls.{Calls}
-use Rattle.world_trace.specs.Steps.{AreTextsOf, event_of}
+use Rattle.world_trace.proofs.Common.{◌≡◌, ◌≤◌, false, shown, Calls, AreTextsOf, event_of}
 use Rattle.world_trace.proofs.Calms.{HaveSteps}
 use Rattle.world_trace.proofs.calm.trace_again.Given as goal
 

@@ -1,9 +1,6 @@
-use Rattle.std.proofs.Common.{◌≡◌, ◌+◌, ◌<◌, Err, arith, rules, subst, sym}
-use Rattle.net_sim.specs.Carriers.{shown}
-use Rattle.interface.specs.Calls.{Calls}
+use Rattle.world_trace.proofs.Common.{◌≡◌, ◌+◌, ◌<◌, Err, arith, rules, subst, sym, shown, Calls, EventEnds}
 use Rattle.replay.specs.declared.events.ReplayFault.TheVariants as fault
 use Rattle.world_script.specs.declared.event.WorldEvent.TheVariants as event
-use Rattle.world_trace.specs.Steps.{EventEnds}
 use Rattle.world_trace.proofs.Calms.{calm_early, calm_passed, calm_rests, calm_unbegun, none_passed, one_passed}
 use Rattle.world_trace.proofs.calm.trace_calm.Goals as goal
 

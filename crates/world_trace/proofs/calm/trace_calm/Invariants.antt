@@ -1,7 +1,4 @@
-use Rattle.std.proofs.Common.{◌≡◌, ◌≤◌, false}
-use Rattle.net_sim.specs.Carriers.{shown}
-use Rattle.interface.specs.Calls.{Calls}
-use Rattle.world_trace.specs.Steps.{AreTextsOf}
+use Rattle.world_trace.proofs.Common.{◌≡◌, ◌≤◌, false, shown, Calls, AreTextsOf}
 use Rattle.world_trace.proofs.Calms.{Passed}
 use Rattle.world_trace.proofs.calm.trace_calm.Given as goal
 

@@ -1,12 +1,5 @@
-use Rattle.std.proofs.Common.{◌≡◌, ◌∷◌, ◌∙◌, [], Err, List, ℕ, ap, length, map, rules, subst, sym}
-use Rattle.net_sim.specs.Carriers.{shown}
-use Rattle.net_sim.specs.declared.event.Event.{Event}
-use Rattle.net_sim.specs.declared.seat.Seat.{Seat}
-use Rattle.interface.specs.Calls.{Calls}
+use Rattle.world_trace.proofs.Common.{◌≡◌, ◌∷◌, ◌∙◌, [], Err, List, ℕ, ap, length, map, rules, subst, sym, shown, Event, Seat, Calls, Again, turns_in, RoundEnds, turn, TellsInCalm}
 use Rattle.replay.specs.declared.events.ReplayFault.TheVariants as fault
-use Rattle.world_replay.specs.Rounds.{Again, turns_in}
-use Rattle.world_trace.specs.Steps.{RoundEnds, turn}
-use Rattle.world_trace.specs.Traces.{TellsInCalm}
 use Rattle.world_trace.proofs.Calms.{InRound, round_done, round_early, round_unbegun}
 use Rattle.world_trace.proofs.Telling.{none_left, none_yet, one_more}
 use Rattle.world_trace.proofs.calm.trace_round.Goals as goal

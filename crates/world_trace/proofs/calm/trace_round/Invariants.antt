@@ -1,7 +1,4 @@
-use Rattle.std.proofs.Common.{◌≡◌, false, map}
-use Rattle.net_sim.specs.Carriers.{shown}
-use Rattle.interface.specs.Calls.{Calls}
-use Rattle.world_trace.specs.Steps.{AreTextsOf, turn}
+use Rattle.world_trace.proofs.Common.{◌≡◌, false, map, shown, Calls, AreTextsOf, turn}
 use Rattle.world_trace.proofs.Calms.{InRound}
 use Rattle.world_trace.proofs.calm.trace_round.Given as goal
 

@@ -1,16 +1,7 @@
-use Rattle.std.proofs.Common.{◌≡◌, ◌<◌, ◌≤◌, ◌⊎◌, ◌∙◌, [], inl, inr, Err, List, Option, length, ℕ, ap, ap₂, arith, map, rules, subst, sym}
-use Rattle.interface.specs.Host.{Host}
-use Rattle.net_sim.specs.Carriers.{shown}
-use Rattle.net_sim.specs.World.{WorldState}
-use Rattle.net_sim.specs.declared.event.Event.{Event}
-use Rattle.interface.specs.Calls.{Calls}
+use Rattle.world_trace.proofs.Common.{◌≡◌, ◌<◌, ◌≤◌, ◌⊎◌, ◌∙◌, [], inl, inr, Err, List, Option, length, ℕ, ap, ap₂, arith, map, rules, subst, sym, Host, shown, WorldState, Event, Calls, AreOthers, AreTextsOf, StepEnds, at_host, event_of, seat_place, service_place, event_text, seat_member, services_member, StopsOne, Texts}
 use Rattle.replay.specs.declared.events.ReplayFault.TheVariants as fault
 use Rattle.trace.specs.Changes.{changed}
 use Rattle.world_script.specs.declared.event.WorldEvent.TheVariants as world
-use Rattle.world_trace.specs.Steps.{AreOthers, AreTextsOf, StepEnds, at_host, event_of, seat_place, service_place}
-use Rattle.world_trace.specs.Texts.{event_text, seat_member, services_member}
-use Rattle.world_trace.specs.Traces.{StopsOne}
-use Rattle.world_trace.specs.declared.texts.Texts.{Texts}
 use Rattle.world_trace.proofs.Stays.{others_by, quiet_by}
 use Rattle.world_trace.proofs.Telling.{changes_are, is_changed, none_changed_by, no_line, step_heard, step_may, step_quiet, step_still, texts_quiet, texts_still}
 use Rattle.world_trace.proofs.calm.trace_step.Goals as goal

@@ -1,5 +1,4 @@
-use Rattle.std.proofs.Common.{◌∷◌, ◌++◌, [], ap, map, ◌∙◌}
-use Rattle.world_trace.specs.Steps.{turn}
+use Rattle.world_trace.proofs.Common.{◌∷◌, ◌++◌, [], ap, map, ◌∙◌, turn}
 use Rattle.world_trace.proofs.Turns.{all_turns, next_turn, turns_at_all}
 use Rattle.world_trace.proofs.calm.turns_in.Goals as goal
 

@@ -1,5 +1,4 @@
-use Rattle.std.proofs.Common.{take}
-use Rattle.std.specs.List.{All}
+use Rattle.world_trace.proofs.Common.{take, All}
 use Rattle.world_trace.proofs.lasting.all_numbers.Given as goal
 
 -- texts say the numbers of those so far

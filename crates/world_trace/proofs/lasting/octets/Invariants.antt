@@ -1,5 +1,4 @@
-use Rattle.std.proofs.Common.{◌<◌, take}
-use Rattle.std.specs.List.{All}
+use Rattle.world_trace.proofs.Common.{◌<◌, take, All}
 use Rattle.world_trace.proofs.lasting.octets.Given as goal
 
 abbrev pub invariant-loop-byte : goal.invariant-loop-byte

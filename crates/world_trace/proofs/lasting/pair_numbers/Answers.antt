@@ -1,8 +1,4 @@
-use Rattle.std.proofs.Common.{List, subst}
-use Rattle.std.specs.List.{All}
-use Rattle.host_pairs.specs.Pair.{PairState}
-use Rattle.ncp_control.specs.declared.command.Command.{Command}
-use Rattle.world_trace.specs.Told.{IsCommandTold}
+use Rattle.world_trace.proofs.Common.{List, subst, All, PairState, Command, IsCommandTold}
 use Rattle.world_trace.proofs.lasting.pair_numbers.Goals as goal
 
 pub returns-clause-commands : goal.returns-clause-commands

@@ -1,9 +1,5 @@
-use Rattle.std.proofs.Common.{reverse, subst, ◌∙◌, ap}
-use Rattle.std.specs.List.{All}
+use Rattle.world_trace.proofs.Common.{reverse, subst, ◌∙◌, ap, All, shown, IsSaid, IsSeatTold, IsServed}
 use Rattle.net_sim.specs.Book.{Kept}
-use Rattle.net_sim.specs.Carriers.{shown}
-use Rattle.world_trace.specs.Reached.{IsSaid}
-use Rattle.world_trace.specs.Told.{IsSeatTold, IsServed}
 use Rattle.world_trace.proofs.States.{in_order}
 use Rattle.world_trace.proofs.Whole.{reached_told}
 use Rattle.world_trace.proofs.lasting.says_all.Goals as goal

@@ -1,5 +1,4 @@
-use Rattle.net_sim.specs.Carriers.{shown}
-use Rattle.interface.specs.Calls.{Calls}
+use Rattle.world_trace.proofs.Common.{shown, Calls}
 use Rattle.world_trace.proofs.Passing.{round_passes}
 use Rattle.world_trace.proofs.law.calm.Goals as goal
 

@@ -1,14 +1,8 @@
-use Rattle.std.proofs.Common.{◌≡◌, ◌∙◌, List, ap, drop, map, reverse, subst, ℕ}
-use Rattle.std.specs.Fmt.{decimal}
-use Rattle.interface.specs.declared.crossing.Crossing.{Crossing}
+use Rattle.world_trace.proofs.Common.{◌≡◌, ◌∙◌, List, ap, drop, map, reverse, subst, ℕ, decimal, Crossing, on_ok, Appends, ended_line, array, line_of, state_objects}
 use Rattle.net_sim.specs.Book.{Kept}
-use Rattle.replay.proofs.lemmas.{on_ok}
-use Rattle.std.specs.Io.KnownBytes.{Appends}
-use Rattle.script.specs.Input.{ended_line}
-use Rattle.trace.specs.Texts.{array, crossing_object}
-use Rattle.world_trace.specs.Texts.{line_of, lines_text}
+use Rattle.trace.specs.Texts.{crossing_object}
+use Rattle.world_trace.specs.Texts.{lines_text}
 use Rattle.world_trace.proofs.Lines.{line_printed}
-use Rattle.world_trace.specs.Steps.{state_objects}
 use Rattle.world_trace.proofs.line.print_line.Goals as goal
 
 pub returns-clause-written : goal.returns-clause-written

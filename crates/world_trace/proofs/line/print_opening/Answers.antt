@@ -1,7 +1,5 @@
-use Rattle.std.proofs.Common.{map}
-use Rattle.replay.proofs.lemmas.{on_ok}
-use Rattle.trace.specs.Texts.{array, bool_text, carrier_word, ends_text, object, site_text}
-use Rattle.world_trace.specs.Texts.{seat_member, services_member}
+use Rattle.world_trace.proofs.Common.{map, on_ok, array, bool_text, object, seat_member, services_member}
+use Rattle.trace.specs.Texts.{carrier_word, ends_text, site_text}
 use Rattle.world_trace.proofs.Lines.{first_printed}
 use Rattle.world_trace.proofs.line.print_opening.Goals as goal
 

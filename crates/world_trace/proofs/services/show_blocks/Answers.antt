@@ -1,9 +1,4 @@
-use Rattle.std.proofs.Common.{◌≡◌, ◌+◌, List, ℕ, [], ◌++◌, ap, map, rules, sym, take, ◌∙◌}
-use Rattle.std.proofs.Output.{has_written_append, has_written_of_eq}
-use Rattle.host_services.specs.Ears.{all_in}
-use Rattle.host_services.specs.declared.service.Service.{Service}
-use Rattle.world_trace.specs.Steps.{mark_after, marked}
-use Rattle.world_trace.specs.Texts.{service_object}
+use Rattle.world_trace.proofs.Common.{◌≡◌, ◌+◌, List, ℕ, [], ◌++◌, ap, map, rules, sym, take, ◌∙◌, has_written_append, has_written_of_eq, all_in, Service, mark_after, marked, service_object}
 use Rattle.world_trace.proofs.Lists.{blocks_more, mark_after_append, marked_append}
 use Rattle.world_trace.proofs.services.show_blocks.Goals as goal
 

@@ -1,8 +1,4 @@
-use Rattle.std.proofs.Common.{◌≡◌, [], map, take}
-use Rattle.std.specs.Fmt.{HasWritten, IsPlainFormatter}
-use Rattle.host_services.specs.Ears.{all_in}
-use Rattle.world_trace.specs.Steps.{mark_after, marked}
-use Rattle.world_trace.specs.Texts.{service_object}
+use Rattle.world_trace.proofs.Common.{◌≡◌, [], map, take, HasWritten, IsPlainFormatter, all_in, mark_after, marked, service_object}
 use Rattle.world_trace.proofs.services.show_blocks.Given as goal
 
 -- the services of the blocks so far are shown

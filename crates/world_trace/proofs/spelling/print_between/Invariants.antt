@@ -1,6 +1,4 @@
-use Rattle.std.proofs.Common.{◌≡◌, false, take}
-use Rattle.std.specs.Io.KnownBytes.{Appends}
-use Rattle.std.specs.List.{flat_map}
+use Rattle.world_trace.proofs.Common.{◌≡◌, false, take, Appends, flat_map}
 use Rattle.world_trace.specs.Texts.{lines_octet}
 use Rattle.world_trace.proofs.spelling.print_between.Given as goal
 

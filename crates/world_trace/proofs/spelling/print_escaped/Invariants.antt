@@ -1,5 +1,4 @@
-use Rattle.std.proofs.Common.{◌≡◌, false, take}
-use Rattle.std.specs.Io.KnownBytes.{Appends}
+use Rattle.world_trace.proofs.Common.{◌≡◌, false, take, Appends}
 use Rattle.world_trace.specs.Texts.{escaped}
 use Rattle.world_trace.proofs.spelling.print_escaped.Given as goal
 

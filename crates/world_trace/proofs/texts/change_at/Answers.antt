@@ -1,10 +1,7 @@
-use Rattle.std.proofs.Common.{◌≡◌, ◌++◌, ◌≤◌, ◌∙◌, Bool, ap, arith, codes, length, map, rules}
+use Rattle.world_trace.proofs.Common.{◌≡◌, ◌++◌, ◌≤◌, ◌∙◌, Bool, ap, arith, codes, length, map, rules, put_at, put_text, object, AllPut, at_host}
 use Rattle.std.proofs.lemmas.Result.{IfOk-weaker}
-use Rattle.trace.specs.Changes.{changed, put_at, put_text}
+use Rattle.trace.specs.Changes.{changed}
 use Rattle.trace.specs.Joined.{mark}
-use Rattle.trace.specs.Texts.{object}
-use Rattle.trace.proofs.lemmas.{AllPut}
-use Rattle.world_trace.specs.Steps.{at_host}
 use Rattle.world_trace.proofs.Changing.{all_changed, next_changed, none_changed_yet, within}
 use Rattle.world_trace.proofs.texts.change_at.Goals as goal
 

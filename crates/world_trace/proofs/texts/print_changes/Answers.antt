@@ -1,6 +1,4 @@
-use Rattle.std.proofs.Common.{List, subst, ℕ}
-use Rattle.std.specs.Io.KnownBytes.{Appends}
-use Rattle.replay.proofs.lemmas.{on_ok}
+use Rattle.world_trace.proofs.Common.{List, subst, ℕ, Appends, on_ok}
 use Rattle.world_trace.proofs.Lines.{objects_printed}
 use Rattle.world_trace.proofs.texts.print_changes.Goals as goal
 

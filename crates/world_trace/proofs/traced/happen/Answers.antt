@@ -1,9 +1,6 @@
-use Rattle.std.proofs.Common.{List, subst}
-use Rattle.net_sim.specs.Carriers.{shown}
-use Rattle.interface.specs.Calls.{Calls}
+use Rattle.world_trace.proofs.Common.{List, subst, shown, Calls, MayDo, StopsIn, WorldEvent}
 use Rattle.world_replay.specs.Output.{Shown}
-use Rattle.world_replay.specs.Replay.{EndsIn, MayDo, StopsIn}
-use Rattle.world_script.specs.declared.event.WorldEvent.{WorldEvent}
+use Rattle.world_replay.specs.Replay.{EndsIn}
 use Rattle.world_trace.proofs.Telling.{ended}
 use Rattle.world_trace.proofs.traced.happen.Goals as goal
 

@@ -1,12 +1,6 @@
-use Rattle.std.proofs.Common.{◌≡◌, ◌+◌, ◌∷◌, [], Err, List, ℕ, arith, ap, length, rules, subst, sym}
-use Rattle.net_sim.specs.Carriers.{shown}
-use Rattle.interface.specs.Calls.{Calls}
+use Rattle.world_trace.proofs.Common.{◌≡◌, ◌+◌, ◌∷◌, [], Err, List, ℕ, arith, ap, length, rules, subst, sym, shown, Calls, Spot, WorldEvent, EventEnds, numbered_from, MayTell, StopsOne, TellsIn}
 use Rattle.replay.specs.declared.events.ReplayFault.TheVariants as fault
-use Rattle.trace.specs.declared.element.Spot.{Spot}
-use Rattle.world_script.specs.declared.event.WorldEvent.{WorldEvent}
-use Rattle.world_trace.specs.Steps.{EventEnds}
-use Rattle.trace.specs.Traces.{numbered_from}
-use Rattle.world_trace.specs.Traces.{EndsIn, MayTell, StopsOne, TellsIn}
+use Rattle.world_trace.specs.Traces.{EndsIn}
 use Rattle.world_trace.proofs.Telling.{SoFar, all_done, at_place, ends_so, fails_so, next_at, none_left, none_yet, one_more}
 use Rattle.world_trace.proofs.traced.trace_all.Goals as goal
 

@@ -1,10 +1,4 @@
-use Rattle.std.proofs.Common.{◌≡◌, ◌+◌, ℕ, List, IfSome, false, length}
-use Rattle.net_sim.specs.Carriers.{shown}
-use Rattle.interface.specs.Calls.{Calls}
-use Rattle.world_script.specs.declared.event.WorldEvent.{WorldEvent}
-use Rattle.trace.specs.Traces.{numbered_from}
-use Rattle.world_trace.specs.Steps.{AreTextsOf}
-use Rattle.world_trace.specs.Traces.{TellsIn}
+use Rattle.world_trace.proofs.Common.{◌≡◌, ◌+◌, ℕ, List, IfSome, false, length, shown, Calls, WorldEvent, numbered_from, AreTextsOf, TellsIn}
 use Rattle.world_trace.proofs.Telling.{SoFar}
 use Rattle.world_trace.proofs.traced.trace_all.Given as goal
 

@@ -1,8 +1,4 @@
-use Rattle.std.proofs.Common.{subst, sym}
-use Rattle.net_sim.specs.Carriers.{shown}
-use Rattle.interface.specs.Calls.{Calls}
-use Rattle.world_script.specs.declared.event.WorldEvent.{WorldEvent}
-use Rattle.world_trace.specs.Steps.{EventEnds}
+use Rattle.world_trace.proofs.Common.{subst, sym, shown, Calls, WorldEvent, EventEnds}
 use Rattle.world_trace.proofs.Telling.{happen_ends}
 use Rattle.world_trace.proofs.traced.trace_event.Goals as goal
 

@@ -1,5 +1,4 @@
-use Rattle.net_sim.specs.Carriers.{shown}
-use Rattle.interface.specs.Calls.{Calls}
+use Rattle.world_trace.proofs.Common.{shown, Calls}
 use Rattle.world_trace.proofs.Telling.{tells}
 use Rattle.world_trace.proofs.traced.trace_one.Goals as goal
 

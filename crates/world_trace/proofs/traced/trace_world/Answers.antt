@@ -1,7 +1,5 @@
-use Rattle.net_sim.specs.Carriers.{shown}
-use Rattle.interface.specs.Calls.{Calls}
-use Rattle.replay.proofs.lemmas.{on_ok}
-use Rattle.world_trace.specs.Traces.{StopsOne, TracesWorld, WorldTraceEnds}
+use Rattle.world_trace.proofs.Common.{shown, Calls, on_ok, StopsOne, TracesWorld}
+use Rattle.world_trace.specs.Traces.{WorldTraceEnds}
 use Rattle.world_trace.proofs.Telling.{after_opening}
 use Rattle.world_trace.proofs.traced.trace_world.Goals as goal
 

@@ -1,6 +1,4 @@
-use Rattle.std.proofs.Common.{◌≡◌, ◌+◌, List, ℕ, [], ◌∷◌, ◌++◌, ap, map, rules, sym, take, ◌∙◌}
-use Rattle.std.proofs.Output.{has_written_append, has_written_of_eq}
-use Rattle.world_trace.specs.Steps.{mark_after, marked}
+use Rattle.world_trace.proofs.Common.{◌≡◌, ◌+◌, List, ℕ, [], ◌∷◌, ◌++◌, ap, map, rules, sym, take, ◌∙◌, has_written_append, has_written_of_eq, mark_after, marked}
 use Rattle.world_trace.proofs.Lists.{map_take, mark_more, marked_more}
 use Rattle.world_trace.proofs.values.show_each.Goals as goal
 

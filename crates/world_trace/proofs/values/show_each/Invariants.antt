@@ -1,6 +1,4 @@
-use Rattle.std.proofs.Common.{◌≡◌, map, take}
-use Rattle.std.specs.Fmt.{HasWritten, IsPlainFormatter}
-use Rattle.world_trace.specs.Steps.{mark_after, marked}
+use Rattle.world_trace.proofs.Common.{◌≡◌, map, take, HasWritten, IsPlainFormatter, mark_after, marked}
 use Rattle.world_trace.proofs.values.show_each.Given as goal
 
 -- the items so far are shown

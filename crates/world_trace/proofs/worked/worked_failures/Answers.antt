@@ -1,5 +1,4 @@
-use Rattle.net_sim.specs.Carriers.{shown}
-use Rattle.interface.specs.Calls.{Calls}
+use Rattle.world_trace.proofs.Common.{shown, Calls}
 use Rattle.world_trace.proofs.Failures.{row_no_line, row_nothing}
 use Rattle.world_trace.proofs.worked.worked_failures.Goals as goal
 

@@ -1,6 +1,5 @@
-use Rattle.std.proofs.Common.{ap, sym, ◌∙◌}
-use Rattle.std.proofs.lemmas.Slice.Zip.{seconds-zip}
-use Rattle.book_log.specs.Log.{Book, fates_of}
+use Rattle.book_log.proofs.Common.{ap, sym, ◌∙◌, seconds-zip, Book}
+use Rattle.book_log.specs.Log.{fates_of}
 use Rattle.book_log.proofs.book.LoggedBook.fates.Goals as goal
 
 pub returns : goal.returns

@@ -1,5 +1,4 @@
-use Rattle.std.proofs.Common.{ℕ, ◌==◌, List, ap, length, ◌∙◌}
-use Rattle.promise.specs.declared.life.Life.{Life}
+use Rattle.book_log.proofs.Common.{ℕ, ◌==◌, List, ap, length, ◌∙◌, Life}
 use Rattle.book_log.proofs.Books.{bare_lives}
 use Rattle.book_log.proofs.book.LoggedBook.has_no_life.Goals as goal
 

@@ -1,6 +1,5 @@
-use Rattle.std.proofs.Common.{ap, sym, ◌∙◌}
-use Rattle.std.proofs.lemmas.Slice.Zip.{firsts-zip}
-use Rattle.book_log.specs.Log.{Book, lives_of}
+use Rattle.book_log.proofs.Common.{ap, sym, ◌∙◌, firsts-zip, Book}
+use Rattle.book_log.specs.Log.{lives_of}
 use Rattle.book_log.proofs.book.LoggedBook.lives.Goals as goal
 
 pub returns : goal.returns

@@ -1,7 +1,5 @@
-use Rattle.std.proofs.Common.{◌≡◌, MatchOption, reverse, rules, subst, sym}
-use Rattle.net_sim.specs.Audit.{Says}
-use Rattle.net_sim.specs.Findings.{Shows}
-use Rattle.net_sim.specs.declared.auditing.said.Audit.{Audit}
+use Rattle.net_sim.proofs.Common.{◌≡◌, MatchOption, rules, subst, sym, Says, Shows, Audit}
+use Rattle.std.proofs.Common.{reverse}
 use Rattle.net_sim.specs.declared.auditing.said.Audit.TheVariants as audit
 use Rattle.net_sim.specs.declared.auditing.said.Part.TheVariants as part
 use Rattle.net_sim.proofs.Audits.Shown.{shown_streams}

@@ -1,6 +1,5 @@
-use Rattle.std.proofs.Common.{◌≡◌, true, take, reverse}
-use Rattle.std.specs.List.{list_all}
-use Rattle.net_sim.specs.Inside.Audit.{may_both}
+use Rattle.net_sim.proofs.Common.{◌≡◌, true, take, list_all, may_both}
+use Rattle.std.proofs.Common.{reverse}
 use Rattle.net_sim.proofs.auditing.partners.odds_with.Given as goal
 
 abbrev pub invariant-loop-first : goal.invariant-loop-first

@@ -1,6 +1,5 @@
-use Rattle.std.proofs.Common.{◌≡◌, true, take, reverse}
-use Rattle.std.specs.List.{list_all}
-use Rattle.net_sim.specs.Inside.Audit.{is_unmatched}
+use Rattle.net_sim.proofs.Common.{◌≡◌, true, take, list_all, is_unmatched}
+use Rattle.std.proofs.Common.{reverse}
 use Rattle.net_sim.proofs.auditing.requests.match_at.Given as goal
 
 abbrev pub invariant-loop-place : goal.invariant-loop-place

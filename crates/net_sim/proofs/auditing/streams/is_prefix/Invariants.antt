@@ -1,5 +1,4 @@
-use Rattle.std.proofs.Common.{◌≡◌, drop}
-use Rattle.net_sim.specs.Inside.Audit.{is_prefix}
+use Rattle.net_sim.proofs.Common.{◌≡◌, drop, is_prefix}
 use Rattle.net_sim.proofs.auditing.streams.is_prefix.Given as goal
 
 abbrev pub invariant-loop-i : goal.invariant-loop-i

@@ -1,6 +1,5 @@
-use Rattle.std.proofs.Common.{◌≡◌, drop}
+use Rattle.net_sim.proofs.Common.{◌≡◌, drop, GoesBack}
 use Rattle.net_sim.specs.Inside.Lives as all
-use Rattle.net_sim.specs.Inside.Undo.{GoesBack}
 use Rattle.net_sim.proofs.lives.Lives.ask_all.Given as goal
 
 abbrev pub invariant-loop-request : goal.invariant-loop-request

@@ -1,8 +1,5 @@
-use Rattle.std.proofs.Common.{◌≡◌, arith, rules, List, [], ◌∷◌, ◌++◌, refl, ap, sym, subst, ◌∙◌}
-use Rattle.std.proofs.lemmas.List.Elements.{All-push}
+use Rattle.net_sim.proofs.Common.{◌≡◌, arith, rules, List, [], ◌∷◌, ◌++◌, refl, ap, sym, subst, ◌∙◌, All-push, Life, AreWithin, IsWithin}
 use Rattle.promise.specs.declared.life.Fate.TheVariants as fate
-use Rattle.promise.specs.declared.life.Life.{Life}
-use Rattle.net_sim.specs.Inside.Counts.{AreWithin, IsWithin}
 use Rattle.net_sim.specs.Inside.Open.{AreKnown}
 use Rattle.net_sim.specs.declared.undo.Undo.TheVariants as undo
 use Rattle.net_sim.proofs.Books.Counts.{counts_later}

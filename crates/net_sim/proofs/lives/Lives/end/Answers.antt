@@ -1,8 +1,4 @@
-use Rattle.std.proofs.Common.{◌≡◌, rules, ℕ, List, ◌++◌, take, drop, length, sym, subst}
-use Rattle.promise.specs.declared.life.Life.{Life}
-use Rattle.net_sim.specs.Inside.Counts.{AreWithin}
-use Rattle.net_sim.specs.Inside.Endings.{ends}
-use Rattle.net_sim.specs.Inside.Open.{AreKept, Covers, Holds}
+use Rattle.net_sim.proofs.Common.{◌≡◌, rules, ℕ, List, ◌++◌, take, drop, length, sym, subst, Life, AreWithin, ends, AreKept, Covers, Holds}
 use Rattle.net_sim.proofs.Books.Counts.{counts_put}
 use Rattle.net_sim.proofs.Books.Marks.{covers_kept, kept_put, look_of}
 use Rattle.net_sim.proofs.lives.Lives.end.Goals as goal

@@ -1,8 +1,4 @@
-use Rattle.std.proofs.Common.{◌≡◌, ◌∙◌, true, false, List, ap, sym, subst}
-use Rattle.promise.specs.declared.life.Life.{Life}
-use Rattle.net_sim.specs.Inside.Counts.{AreWithin}
-use Rattle.net_sim.specs.Inside.Lives.{LivesState}
-use Rattle.net_sim.specs.Inside.Undo.{all_undone}
+use Rattle.net_sim.proofs.Common.{◌≡◌, ◌∙◌, true, false, List, ap, sym, subst, Life, AreWithin, LivesState, all_undone}
 use Rattle.net_sim.proofs.Books.Counts.{counts_undone}
 use Rattle.net_sim.proofs.Books.Undoing.{state}
 use Rattle.net_sim.proofs.lives.Lives.go_back.Goals as goal

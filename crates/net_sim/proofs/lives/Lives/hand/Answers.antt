@@ -1,7 +1,4 @@
-use Rattle.std.proofs.Common.{◌≡◌, rules, ℕ, List, sym, subst}
-use Rattle.promise.specs.declared.life.Life.{Life}
-use Rattle.net_sim.specs.Book.{lives_at}
-use Rattle.net_sim.specs.Inside.Open.{Covers, Holds}
+use Rattle.net_sim.proofs.Common.{◌≡◌, rules, ℕ, List, sym, subst, Life, lives_at, Covers, Holds}
 use Rattle.net_sim.proofs.Books.Marks.{look_at}
 use Rattle.net_sim.proofs.lives.Lives.hand.Goals as goal
 

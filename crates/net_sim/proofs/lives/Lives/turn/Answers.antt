@@ -1,7 +1,4 @@
-use Rattle.std.proofs.Common.{◌≡◌, rules, ℕ, List, sym, subst}
-use Rattle.promise.specs.declared.life.Life.{Life}
-use Rattle.net_sim.specs.Inside.Endings.{turns}
-use Rattle.net_sim.specs.Inside.Open.{Covers, Holds}
+use Rattle.net_sim.proofs.Common.{◌≡◌, rules, ℕ, List, sym, subst, Life, turns, Covers, Holds}
 use Rattle.net_sim.proofs.Books.Turned.{look_by}
 use Rattle.net_sim.proofs.lives.Lives.turn.Goals as goal
 

@@ -1,5 +1,4 @@
-use Rattle.std.proofs.Common.{◌≡◌, false, take}
-use Rattle.net_sim.specs.Inside.Open.{Covers}
+use Rattle.net_sim.proofs.Common.{◌≡◌, false, take, Covers}
 use Rattle.net_sim.proofs.open.Open.know.Given as goal
 
 -- the places of the lives so far are known

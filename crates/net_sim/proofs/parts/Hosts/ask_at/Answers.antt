@@ -1,5 +1,4 @@
-use Rattle.std.proofs.Common.{Err, ap, ◌∙◌}
-use Rattle.net_sim.specs.World.{Seat, Program}
+use Rattle.net_sim.proofs.Common.{Err, ap, ◌∙◌, Seat, Program}
 use Rattle.net_sim.proofs.Hosts.Doing.{refused_at}
 use Rattle.net_sim.proofs.parts.Hosts.ask_at.Goals as goal
 

@@ -1,5 +1,4 @@
-use Rattle.std.proofs.Common.{rules, ℕ, ◌++◌, take, drop, length, ap, ◌∙◌}
-use Rattle.std.proofs.Math.Seq.{take-append_seam}
+use Rattle.net_sim.proofs.Common.{rules, ℕ, ◌++◌, take, drop, length, ap, ◌∙◌, take-append_seam}
 use Rattle.net_sim.proofs.Books.InOrder.{turned_reversed, emptied_reversed}
 use Rattle.net_sim.proofs.parts.Hosts.change.Goals as goal
 

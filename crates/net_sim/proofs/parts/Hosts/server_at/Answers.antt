@@ -1,9 +1,4 @@
-use Rattle.std.proofs.Common.{rules, length}
-use Rattle.interface.specs.Host.{Host}
-use Rattle.sockets.specs.Pairs.{NcpState}
-use Rattle.host_services.specs.Services.{ServicesState}
-use Rattle.host_services.specs.Services.{opening_desk}
-use Rattle.host_services.specs.Turns.{server_begun}
+use Rattle.net_sim.proofs.Common.{rules, length, Host, NcpState, ServicesState, opening_desk, server_begun}
 use Rattle.net_sim.proofs.Hosts.Doing.{call_done}
 use Rattle.net_sim.proofs.parts.Hosts.server_at.Goals as goal
 

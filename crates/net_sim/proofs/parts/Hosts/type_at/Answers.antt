@@ -1,10 +1,7 @@
-use Rattle.std.proofs.Common.{rules, ◌≡◌, ℕ, Some, slice_index_or, ap, sym, subst, ◌∙◌}
-use Rattle.host_services.specs.TypedLines.{line_bits}
-use Rattle.net_sim.specs.World.{ServiceSeat}
+use Rattle.net_sim.proofs.Common.{rules, ◌≡◌, ℕ, Some, ap, sym, subst, ◌∙◌, line_bits, ServiceSeat, refusal, Request}
+use Rattle.std.proofs.Common.{slice_index_or}
 use Rattle.net_sim.proofs.Hosts.Doing.{same_number}
 use Rattle.net_sim.proofs.Hosts.Ends.{IsAnswered}
-use Rattle.sockets.specs.Requests.{refusal}
-use Rattle.sockets.specs.declared.request.Request.{Request}
 use Rattle.sockets.specs.declared.request.Request.TheVariants as requests
 use Rattle.net_sim.proofs.parts.Hosts.type_at.Goals as goal
 

@@ -1,6 +1,4 @@
-use Rattle.std.proofs.Common.{rules, refl, length}
-use Rattle.std.proofs.lemmas.List.{nil_from_length}
-use Rattle.net_sim.specs.Book.{all_told, asked}
+use Rattle.net_sim.proofs.Common.{rules, refl, length, nil_from_length, all_told, asked}
 use Rattle.net_sim.proofs.Hosts.Doing.{nothing_settled, tended_settled}
 use Rattle.net_sim.proofs.seat.ServiceSeat.answer.Goals as goal
 

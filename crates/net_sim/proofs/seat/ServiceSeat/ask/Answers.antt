@@ -1,8 +1,6 @@
-use Rattle.std.proofs.Common.{rules, length}
-use Rattle.net_sim.specs.Book.{asked}
+use Rattle.net_sim.proofs.Common.{rules, length, asked, served, served_notices}
 use Rattle.net_sim.proofs.Hosts.Doing.{answered_so}
 use Rattle.net_sim.proofs.seat.ServiceSeat.ask.Goals as goal
-use Rattle.sockets.specs.Requests.{served, served_notices}
 
 pub returns-clause-served : goal.returns-clause-served
 returns-clause-served c = λ s had none.

@@ -1,5 +1,4 @@
-use Rattle.std.proofs.Common.{rules, length}
-use Rattle.net_sim.specs.Book.{all_told, asked}
+use Rattle.net_sim.proofs.Common.{rules, length, all_told, asked}
 use Rattle.net_sim.specs.World.{turn_of}
 use Rattle.net_sim.proofs.Hosts.Doing.{done_of}
 use Rattle.net_sim.proofs.seat.ServiceSeat.attend.Goals as goal

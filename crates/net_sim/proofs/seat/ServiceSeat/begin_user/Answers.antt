@@ -1,6 +1,4 @@
-use Rattle.std.proofs.Common.{rules, length}
-use Rattle.host_services.specs.Services.{opening_desk}
-use Rattle.host_services.specs.Turns.{user_begun}
+use Rattle.net_sim.proofs.Common.{rules, length, opening_desk, user_begun}
 use Rattle.net_sim.proofs.Hosts.Doing.{done_of}
 use Rattle.net_sim.proofs.seat.ServiceSeat.begin_user.Goals as goal
 

@@ -1,8 +1,5 @@
-use Rattle.std.proofs.Common.{◌≡◌, ℕ, rules, length, reverse, Some, ap, sym, ◌∙◌}
-use Rattle.std.proofs.lemmas.List.{length-reverse}
-use Rattle.sockets.specs.Sending.{offered}
-use Rattle.sockets.specs.Pairs.{NcpState}
-use Rattle.net_sim.specs.Book.{all_crossed}
+use Rattle.net_sim.proofs.Common.{◌≡◌, ℕ, rules, length, Some, ap, sym, ◌∙◌, length-reverse, offered, NcpState, all_crossed}
+use Rattle.std.proofs.Common.{reverse}
 use Rattle.net_sim.proofs.Hosts.Doing.{given_by, turned_so}
 use Rattle.net_sim.proofs.seat.ServiceSeat.go_out.Goals as goal
 

@@ -1,6 +1,5 @@
-use Rattle.std.proofs.Common.{rules, refl, length, reverse}
-use Rattle.std.proofs.lemmas.List.{nil_from_length}
-use Rattle.net_sim.specs.Book.{all_crossed, all_told}
+use Rattle.net_sim.proofs.Common.{rules, refl, length, nil_from_length, all_crossed, all_told}
+use Rattle.std.proofs.Common.{reverse}
 use Rattle.net_sim.proofs.Hosts.Doing.{deaf_settled, nothing_settled, tended_settled}
 use Rattle.net_sim.proofs.seat.ServiceSeat.settle.Goals as goal
 

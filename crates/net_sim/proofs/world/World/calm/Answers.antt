@@ -1,7 +1,4 @@
-use Rattle.std.proofs.Common.{◌≡◌, ◌+◌, true, false, Ok, sym, ◌∙◌}
-use Rattle.net_sim.specs.Carriers.{shown}
-use Rattle.net_sim.specs.World.{stops}
-use Rattle.interface.specs.Calls.{Calls}
+use Rattle.net_sim.proofs.Common.{◌≡◌, ◌+◌, true, false, Ok, sym, ◌∙◌, shown, stops, Calls}
 use Rattle.net_sim.proofs.Hosts.Calming.{begun, none_passed, one_passed, stop_passed, all_passed}
 use Rattle.net_sim.proofs.Hosts.Resting.{rest_passed}
 use Rattle.net_sim.proofs.world.World.calm.Goals as goal

@@ -1,5 +1,4 @@
-use Rattle.net_sim.specs.Carriers.{shown}
-use Rattle.interface.specs.Calls.{Calls}
+use Rattle.net_sim.proofs.Common.{shown, Calls}
 use Rattle.net_sim.proofs.Hosts.Calming.{Passed}
 use Rattle.net_sim.proofs.world.World.calm.Given as goal
 

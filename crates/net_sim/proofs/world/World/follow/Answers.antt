@@ -1,9 +1,4 @@
-use Rattle.std.proofs.Common.{rules, ◌≡◌, List, sym, subst, ap, ◌∙◌}
-use Rattle.net_sim.specs.Carriers.{shown}
-use Rattle.net_sim.specs.Inside.Held.{IsHeld}
-use Rattle.net_sim.specs.Inside.Parts.{AreLive, IsOnce, world_ended, hosts_of, hosts_served, running, runs_out}
-use Rattle.net_sim.specs.World.{EventGives, ServiceSeat, Seat}
-use Rattle.interface.specs.Calls.{Calls}
+use Rattle.net_sim.proofs.Common.{rules, ◌≡◌, List, sym, subst, ap, ◌∙◌, shown, IsHeld, AreLive, IsOnce, world_ended, hosts_of, hosts_served, running, runs_out, EventGives, ServiceSeat, Seat, Calls}
 use Rattle.net_sim.proofs.Books.Held.{followed_held, held_live, held_once, held_order}
 use Rattle.net_sim.proofs.world.World.follow.Goals as goal
 

@@ -1,7 +1,4 @@
-use Rattle.std.proofs.Common.{◌≡◌, false, subst, sym, ◌∙◌}
-use Rattle.interface.specs.Calls.{Calls}
-use Rattle.interface.specs.Rest.{Rests}
-use Rattle.net_sim.specs.World.{WorldState}
+use Rattle.net_sim.proofs.Common.{◌≡◌, false, subst, sym, ◌∙◌, Calls, Rests, WorldState}
 use Rattle.net_sim.proofs.Hosts.Resting.{at_rest}
 use Rattle.net_sim.proofs.world.World.has_calmed.Goals as goal
 

@@ -1,9 +1,6 @@
-use Rattle.std.proofs.Common.{rules, ◌≡◌, List, subst}
-use Rattle.interface.specs.Calls.{Calls, InOrder}
-use Rattle.interface.specs.Host.{Host, IsAddress}
+use Rattle.net_sim.proofs.Common.{rules, ◌≡◌, List, subst, Calls, InOrder, Host, IsAddress, opening_seats, opening_services}
 use Rattle.std.specs.List.{All}
 use Rattle.net_sim.specs.Book.{opening_kept}
-use Rattle.net_sim.specs.World.{opening_seats, opening_services}
 use Rattle.net_sim.proofs.Books.Held.{opening_held}
 use Rattle.net_sim.proofs.world.World.new.Goals as goal
 

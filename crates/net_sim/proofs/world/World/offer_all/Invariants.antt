@@ -1,6 +1,4 @@
-use Rattle.net_sim.specs.Carriers.{shown}
-use Rattle.net_sim.specs.World.{Offer}
-use Rattle.interface.specs.Calls.{Calls}
+use Rattle.net_sim.proofs.Common.{shown, Offer, Calls}
 use Rattle.net_sim.proofs.Hosts.Calming.{Repeated}
 use Rattle.net_sim.proofs.world.World.offer_all.Given as goal
 

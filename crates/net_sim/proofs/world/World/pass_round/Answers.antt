@@ -1,7 +1,4 @@
-use Rattle.std.proofs.Common.{◌≡◌, ◌+◌, ◌<◌, ◌≤◌, true, false, List, length, Some, None, Ok, ap, sym, subst, ◌∙◌, arith}
-use Rattle.net_sim.specs.Carriers.{shown}
-use Rattle.net_sim.specs.World.{WorldState, Seat, stops}
-use Rattle.interface.specs.Calls.{Calls}
+use Rattle.net_sim.proofs.Common.{◌≡◌, ◌+◌, ◌<◌, ◌≤◌, true, false, List, length, Some, None, Ok, ap, sym, subst, ◌∙◌, arith, shown, WorldState, Seat, stops, Calls}
 use Rattle.net_sim.proofs.Hosts.Calming.{Found, Turned, rest_runs, none_turned, one_turned, none_here, stop_turned, all_turned, as_many, stop_round, whole_round}
 use Rattle.net_sim.proofs.world.World.pass_round.Goals as goal
 use Rattle.net_sim.proofs.world.World.pass_round.Goals.{in-Some+else-stops-2, in_default}

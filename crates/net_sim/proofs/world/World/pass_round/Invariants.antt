@@ -1,5 +1,4 @@
-use Rattle.net_sim.specs.Carriers.{shown}
-use Rattle.interface.specs.Calls.{Calls}
+use Rattle.net_sim.proofs.Common.{shown, Calls}
 use Rattle.net_sim.proofs.Hosts.Calming.{Turned}
 use Rattle.net_sim.proofs.world.World.pass_round.Given as goal
 

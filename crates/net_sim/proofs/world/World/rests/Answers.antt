@@ -1,7 +1,4 @@
-use Rattle.std.proofs.Common.{Ok}
-use Rattle.net_sim.specs.Carriers.{shown}
-use Rattle.net_sim.specs.World.{WorldState}
-use Rattle.interface.specs.Calls.{Calls}
+use Rattle.net_sim.proofs.Common.{Ok, shown, WorldState, Calls}
 use Rattle.net_sim.proofs.Hosts.Calming.{begun, none_passed}
 use Rattle.net_sim.proofs.Hosts.Resting.{rest_passed}
 use Rattle.net_sim.proofs.world.World.rests.Goals as goal

@@ -1,8 +1,5 @@
-use Rattle.std.proofs.Common.{rules, ◌≡◌, ◌+◌, ◌∷◌, drop, true, false, ap, ◌∙◌}
-use Rattle.std.proofs.lemmas.List.{drop_more}
-use Rattle.net_sim.specs.Carriers.{shown}
-use Rattle.net_sim.specs.World.{Event, stops}
-use Rattle.interface.specs.Calls.{Calls}
+use Rattle.net_sim.proofs.Common.{rules, ◌≡◌, ◌+◌, ◌∷◌, drop, true, false, ap, ◌∙◌, drop_more, shown, stops, Calls}
+use Rattle.net_sim.specs.World.{Event}
 use Rattle.net_sim.proofs.Books.RunLoop.{run_more, run_stops, runs_on}
 use Rattle.net_sim.proofs.world.World.run.Goals as goal
 

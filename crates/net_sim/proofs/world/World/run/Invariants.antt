@@ -1,8 +1,5 @@
-use Rattle.std.proofs.Common.{drop}
+use Rattle.net_sim.proofs.Common.{drop, shown, Runs, WorldFault, WorldState, Calls}
 use Rattle.std.specs.Prelude.{Result}
-use Rattle.net_sim.specs.Carriers.{shown}
-use Rattle.net_sim.specs.World.{Runs, WorldFault, WorldState}
-use Rattle.interface.specs.Calls.{Calls}
 use Rattle.net_sim.proofs.world.World.run.Given as goal
 
 -- what comes of the events that are left comes of all

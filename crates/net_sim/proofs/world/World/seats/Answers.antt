@@ -1,5 +1,4 @@
-use Rattle.std.proofs.Common.{rules}
-use Rattle.net_sim.specs.Inside.Held.{IsHeld}
+use Rattle.net_sim.proofs.Common.{rules, IsHeld}
 use Rattle.net_sim.proofs.Books.Held.{held_once}
 use Rattle.net_sim.proofs.world.World.seats.Goals as goal
 

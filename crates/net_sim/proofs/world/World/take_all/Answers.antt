@@ -1,7 +1,5 @@
-use Rattle.std.proofs.Common.{◌≡◌, ◌<◌, ◌≤◌, true, false, length, sym, ◌∙◌, arith}
-use Rattle.net_sim.specs.Carriers.{shown}
-use Rattle.net_sim.specs.World.{Take, stops}
-use Rattle.interface.specs.Calls.{Calls}
+use Rattle.net_sim.proofs.Common.{◌≡◌, ◌<◌, ◌≤◌, true, false, length, sym, ◌∙◌, arith, shown, stops, Calls}
+use Rattle.net_sim.specs.World.{Take}
 use Rattle.net_sim.proofs.Hosts.Calming.{shown_count, one_repeated, none_repeated, stop_repeated, all_repeated}
 use Rattle.net_sim.proofs.world.World.take_all.Goals as goal
 

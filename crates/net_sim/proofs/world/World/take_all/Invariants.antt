@@ -1,6 +1,5 @@
-use Rattle.net_sim.specs.Carriers.{shown}
+use Rattle.net_sim.proofs.Common.{shown, Calls}
 use Rattle.net_sim.specs.World.{Take}
-use Rattle.interface.specs.Calls.{Calls}
 use Rattle.net_sim.proofs.Hosts.Calming.{Repeated}
 use Rattle.net_sim.proofs.world.World.take_all.Given as goal
 

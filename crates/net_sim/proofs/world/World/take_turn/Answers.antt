@@ -1,7 +1,4 @@
-use Rattle.std.proofs.Common.{◌≡◌, true, false, sym, ◌∙◌}
-use Rattle.net_sim.specs.Carriers.{shown}
-use Rattle.net_sim.specs.World.{stops}
-use Rattle.interface.specs.Calls.{Calls}
+use Rattle.net_sim.proofs.Common.{◌≡◌, true, false, sym, ◌∙◌, shown, stops, Calls}
 use Rattle.net_sim.proofs.Hosts.Calming.{stop_turn, whole_turn}
 use Rattle.net_sim.proofs.world.World.take_turn.Goals as goal
 

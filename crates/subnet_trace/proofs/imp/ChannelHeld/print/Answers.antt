@@ -1,10 +1,6 @@
-use Rattle.std.proofs.Common.{◌++◌, ◌∷◌, ap, codes, subst, sym}
-use Rattle.std.specs.Io.KnownBytes.{Appends}
-use Rattle.replay.proofs.lemmas.{on_ok}
-use Rattle.subnet_trace.specs.Texts.{bit_text, held_members, packet_text}
+use Rattle.subnet_trace.proofs.Common.{◌++◌, ◌∷◌, ap, codes, subst, sym, Appends, on_ok, bit_text, held_members, packet_text, member, object}
 use Rattle.subnet_trace.proofs.Members.{channel_printed}
 use Rattle.subnet_trace.proofs.imp.ChannelHeld.print.Goals as goal
-use Rattle.trace.specs.Texts.{member, object}
 
 pub returns-clause-written : goal.returns-clause-written
 returns-clause-written g c =

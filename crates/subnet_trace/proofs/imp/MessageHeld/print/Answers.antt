@@ -1,11 +1,4 @@
-use Rattle.std.proofs.Common.{◌≡◌, ℕ, ap, length, subst, ◌∙◌}
-use Rattle.std.specs.Fmt.{decimal}
-use Rattle.std.specs.Io.KnownBytes.{Appends}
-use Rattle.hex.specs.Hex.{encode_upper}
-use Rattle.bit_messages.specs.Octets.{octets_of}
-use Rattle.interface.specs.Printed.{host_text}
-use Rattle.replay.proofs.lemmas.{on_ok}
-use Rattle.trace.specs.Texts.{quoted}
+use Rattle.subnet_trace.proofs.Common.{◌≡◌, ℕ, ap, length, subst, ◌∙◌, decimal, Appends, encode_upper, octets_of, host_text, on_ok, quoted}
 use Rattle.subnet_trace.proofs.Members.{message_front, message_printed}
 use Rattle.subnet_trace.proofs.imp.MessageHeld.print.Goals as goal
 

@@ -1,10 +1,6 @@
-use Rattle.std.proofs.Common.{◌≡◌, ◌++◌, ap, codes, map, subst, ◌∙◌}
-use Rattle.std.specs.Io.KnownBytes.{Appends}
-use Rattle.replay.proofs.lemmas.{on_ok}
-use Rattle.subnet_trace.specs.Texts.{bits_text, channel_text}
+use Rattle.subnet_trace.proofs.Common.{◌≡◌, ◌++◌, ap, codes, map, subst, ◌∙◌, Appends, on_ok, bits_text, channel_text, array, bool_text}
 use Rattle.subnet_trace.proofs.Members.{port_printed}
 use Rattle.subnet_trace.proofs.imp.PortHeld.print.Goals as goal
-use Rattle.trace.specs.Texts.{array, bool_text}
 
 pub returns-clause-written : goal.returns-clause-written
 returns-clause-written g c =

@@ -1,14 +1,4 @@
-use Rattle.std.proofs.Common.{◌≡◌, ◌∙◌, ℕ, List, Bool, ap, length, subst}
-use Rattle.std.specs.Fmt.{decimal}
-use Rattle.std.specs.Io.KnownBytes.{Appends}
-use Rattle.hex.specs.Hex.{encode_upper}
-use Rattle.bit_messages.specs.Octets.{octets_of}
-use Rattle.interface.specs.Printed.{host_text}
-use Rattle.interface.specs.declared.address.Flow.{Flow}
-use Rattle.packetiser.specs.PacketFields.{flow_of}
-use Rattle.replay.proofs.lemmas.{on_ok}
-use Rattle.trace.specs.Texts.{bool_text, quoted}
-use Rattle.subnet_trace.specs.Texts.{kind_word}
+use Rattle.subnet_trace.proofs.Common.{◌≡◌, ◌∙◌, ℕ, List, Bool, ap, length, subst, decimal, Appends, encode_upper, octets_of, host_text, Flow, flow_of, on_ok, bool_text, quoted, kind_word}
 use Rattle.subnet_trace.proofs.Members.{packet_four, packet_one, packet_printed, packet_three, packet_two}
 use Rattle.subnet_trace.proofs.packets.PacketHeld.print.Goals as goal
 

@@ -1,15 +1,6 @@
-use Rattle.std.proofs.Common.{◌≡◌, ◌∙◌, ◌++◌, List, ℕ, codes, length, rules, subst, sym}
-use Rattle.std.proofs.lemmas.Result.{IfOk-weaker}
-use Rattle.subnet.specs.Calls.{Kept}
-use Rattle.subnet.specs.Working.{subnet_calls}
-use Rattle.subnet_trace.specs.Parts.{all_parts, parts_members}
-use Rattle.subnet_trace.specs.Scopes.{OnlyIn, scope_of}
+use Rattle.subnet_trace.proofs.Common.{◌≡◌, ◌∙◌, ◌++◌, List, ℕ, codes, length, rules, subst, sym, IfOk-weaker, Kept, subnet_calls, all_parts, parts_members, OnlyIn, scope_of, changed, mark, object, HasHappened}
 use Rattle.subnet_trace.proofs.Scopes.{only_in, refused_texts}
 use Rattle.subnet_trace.proofs.traced.TracedSubnetInspect.change.Goals as goal
-use Rattle.trace.specs.Changes.{changed}
-use Rattle.trace.specs.Joined.{mark}
-use Rattle.trace.specs.Texts.{object}
-use Rattle.trace.specs.Traces.{HasHappened}
 use Rattle.trace.proofs.lemmas.{none_more}
 
 abbrev members_of : Kept → List (List ℕ)

@@ -1,6 +1,4 @@
-use Rattle.std.proofs.Common.{◌≡◌, ℕ, IfSome, length, subst}
-use Rattle.subnet.specs.Calls.{Kept}
-use Rattle.subnet.specs.Net.{imp_at}
+use Rattle.subnet_trace.proofs.Common.{◌≡◌, ℕ, IfSome, length, subst, Kept, imp_at}
 use Rattle.subnet_trace.proofs.Silent.{still_taken}
 use Rattle.subnet_trace.proofs.traced.TracedSubnetInspect.is_still.Goals as goal
 

@@ -1,10 +1,5 @@
-use Rattle.std.proofs.Common.{codes, subst}
-use Rattle.std.specs.Io.KnownBytes.{Appends}
-use Rattle.replay.proofs.lemmas.{on_ok}
-use Rattle.routing.specs.RouteTable.{vector_of}
-use Rattle.subnet_trace.specs.Texts.{distances_text, next_text}
+use Rattle.subnet_trace.proofs.Common.{codes, subst, Appends, on_ok, vector_of, distances_text, next_text, five}
 use Rattle.subnet_trace.proofs.ways.ConcludedItem.print.Goals as goal
-use Rattle.trace.proofs.lemmas.{five}
 
 pub returns-clause-written : goal.returns-clause-written
 returns-clause-written g c =

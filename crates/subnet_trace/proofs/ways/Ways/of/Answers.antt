@@ -1,6 +1,4 @@
-use Rattle.std.proofs.Common.{◌≡◌, ◌∙◌, List, Option, ℕ, ap, ap₂, sym}
-use Rattle.routing.specs.RouteTable.{Table}
-use Rattle.subnet_trace.specs.Printing.{concluded_text, heard_list}
+use Rattle.subnet_trace.proofs.Common.{◌≡◌, ◌∙◌, List, Option, ℕ, ap, ap₂, sym, Table, concluded_text, heard_list}
 use Rattle.subnet_trace.proofs.ways.Ways.of.Goals as goal
 
 pub invariant_of-result : goal.invariant_of-result

@@ -1,6 +1,4 @@
-use Rattle.std.proofs.Common.{subst}
-use Rattle.sockets.specs.declared.peer.Peer.{Peer}
-use Rattle.world_trace.specs.Told.{IsPairTold}
+use Rattle.world_trace.proofs.Common.{subst, Peer, IsPairTold}
 use Rattle.world_trace.proofs.lasting.PeerNumbered.numbers.Goals as goal
 
 pub returns : goal.returns

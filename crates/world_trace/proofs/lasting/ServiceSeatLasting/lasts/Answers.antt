@@ -1,8 +1,4 @@
-use Rattle.std.proofs.Common.{◌++◌, List, sym}
-use Rattle.std.proofs.lemmas.List.Elements.{All-append, All-same}
-use Rattle.host_services.specs.Ears.{all_in}
-use Rattle.host_services.specs.declared.service.Service.{Service}
-use Rattle.world_trace.specs.Lasting.{ServiceLasts}
+use Rattle.world_trace.proofs.Common.{◌++◌, List, sym, All-append, All-same, all_in, Service, ServiceLasts}
 use Rattle.world_trace.proofs.Blocks.{both_parts, each_block, in_blocks}
 use Rattle.world_trace.proofs.lasting.ServiceSeatLasting.lasts.Goals as goal
 

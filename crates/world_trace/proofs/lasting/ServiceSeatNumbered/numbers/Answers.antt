@@ -1,9 +1,4 @@
-use Rattle.std.proofs.Common.{◌++◌, IfSome, List, Option, ℕ, subst, sym}
-use Rattle.std.proofs.lemmas.List.Elements.{All-append, All-same}
-use Rattle.host_services.specs.Ears.{all_in}
-use Rattle.host_services.specs.declared.service.Service.{Service}
-use Rattle.trace.specs.Named.{IsShort}
-use Rattle.world_trace.specs.Told.{IsServiceTold}
+use Rattle.world_trace.proofs.Common.{◌++◌, IfSome, List, Option, ℕ, subst, sym, All-append, All-same, all_in, Service, IsShort, IsServiceTold}
 use Rattle.world_trace.proofs.Blocks.{in_blocks}
 use Rattle.world_trace.proofs.lasting.ServiceSeatNumbered.numbers.Goals as goal
 

@@ -1,9 +1,4 @@
-use Rattle.std.proofs.Common.{rules}
-use Rattle.std.specs.Fmt.{decimal}
-use Rattle.std.proofs.Output.{has_written_append, has_written_of_eq}
-use Rattle.trace.specs.Texts.{bits_members, bool_text, object, quoted}
-use Rattle.world_replay.specs.Printed.{kind_text}
-use Rattle.world_trace.specs.Texts.{allocation_object, closings_object, number_text, requests_object}
+use Rattle.world_trace.proofs.Common.{rules, decimal, has_written_append, has_written_of_eq, bits_members, bool_text, object, quoted, kind_text, allocation_object, closings_object, number_text, requests_object}
 use Rattle.world_trace.proofs.Ends.{end_is}
 use Rattle.world_trace.proofs.pairs.EntryJson.show.Goals as goal
 

@@ -1,8 +1,4 @@
-use Rattle.std.proofs.Common.{List, ℕ, [], ◌++◌, ap, codes, map, rules, ◌∙◌}
-use Rattle.std.proofs.Output.{has_written_append, has_written_of_eq}
-use Rattle.host_services.specs.Ears.{all_in}
-use Rattle.world_trace.specs.Steps.{marked}
-use Rattle.world_trace.specs.Texts.{service_object}
+use Rattle.world_trace.proofs.Common.{List, ℕ, [], ◌++◌, ap, codes, map, rules, ◌∙◌, has_written_append, has_written_of_eq, all_in, marked, service_object}
 use Rattle.world_trace.proofs.Lists.{running_is}
 use Rattle.world_trace.proofs.services.RunningDisplay.fmt.Goals as goal
 

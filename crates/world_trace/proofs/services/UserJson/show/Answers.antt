@@ -1,7 +1,4 @@
-use Rattle.std.proofs.Common.{rules}
-use Rattle.std.proofs.Output.{has_written_append, has_written_of_eq}
-use Rattle.trace.specs.Texts.{bits_members, bool_text, object}
-use Rattle.world_trace.specs.Texts.{asked_object, ends_object, number_text, sockets_object}
+use Rattle.world_trace.proofs.Common.{rules, has_written_append, has_written_of_eq, bits_members, bool_text, object, asked_object, ends_object, number_text, sockets_object}
 use Rattle.world_trace.proofs.Ends.{user_is}
 use Rattle.world_trace.proofs.services.UserJson.show.Goals as goal
 

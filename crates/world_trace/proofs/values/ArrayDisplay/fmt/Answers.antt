@@ -1,5 +1,4 @@
-use Rattle.std.proofs.Common.{◌++◌, ap, codes, map, rules}
-use Rattle.std.proofs.Output.{has_written_append, has_written_of_eq}
+use Rattle.world_trace.proofs.Common.{◌++◌, ap, codes, map, rules, has_written_append, has_written_of_eq}
 use Rattle.world_trace.proofs.Lists.{marked_is}
 use Rattle.world_trace.proofs.values.ArrayDisplay.fmt.Goals as goal
 

@@ -1,6 +1,4 @@
-use Rattle.std.proofs.Common.{◌++◌, ◌+◌, ap₂, drop, rules, ◌∙◌}
-use Rattle.std.proofs.Output.{has_written_append, has_written_of_eq}
-use Rattle.hex.specs.Hex.{encode_upper}
+use Rattle.world_trace.proofs.Common.{◌++◌, ◌+◌, ap₂, drop, rules, ◌∙◌, has_written_append, has_written_of_eq, encode_upper}
 use Rattle.world_trace.proofs.Lists.{hex_all, hex_more}
 use Rattle.world_trace.proofs.values.HexDisplay.fmt.Goals as goal
 

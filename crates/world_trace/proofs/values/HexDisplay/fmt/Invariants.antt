@@ -1,6 +1,4 @@
-use Rattle.std.proofs.Common.{◌≡◌, List, ℕ, ◌++◌, drop}
-use Rattle.std.specs.Fmt.{HasWritten, IsPlainFormatter}
-use Rattle.hex.specs.Hex.{encode_upper}
+use Rattle.world_trace.proofs.Common.{◌≡◌, List, ℕ, ◌++◌, drop, HasWritten, IsPlainFormatter, encode_upper}
 use Rattle.world_trace.proofs.values.HexDisplay.fmt.Given as goal
 
 -- with what the octets that are left come to, what is shown is the whole
