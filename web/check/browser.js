@@ -6,7 +6,7 @@
  */
 
 import { spawn } from "node:child_process";
-import { existsSync, mkdtempSync, readFileSync, rmSync, writeFileSync } from "node:fs";
+import { existsSync, mkdirSync, mkdtempSync, readFileSync, rmSync, writeFileSync } from "node:fs";
 import { connect } from "node:net";
 import { tmpdir } from "node:os";
 
@@ -168,8 +168,11 @@ export async function firefox(program) {
     const profile = mkdtempSync(`${tmpdir()}/firefox-`);
     writeFileSync(
         `${profile}/user.js`,
-        'user_pref("marionette.port", 0);\nuser_pref("datareporting.policy.dataSubmissionEnabled", false);\n',
+        'user_pref("marionette.port", 0);\nuser_pref("datareporting.policy.dataSubmissionEnabled", false);\n'
+            + 'user_pref("toolkit.legacyUserProfileCustomizations.stylesheets", true);\n',
     );
+    mkdirSync(`${profile}/chrome`); // windows may be as narrow as a telephone
+    writeFileSync(`${profile}/chrome/userChrome.css`, ":root { min-width: 0 !important; min-height: 0 !important; }\n");
     const child = spawn(
         program,
         ["--headless", "--marionette", "--no-remote", "--profile", profile],
@@ -212,6 +215,10 @@ export async function firefox(program) {
         },
         async resize(width, height) {
             await ask("WebDriver:SetWindowRect", { width, height });
+            // the window is larger than its page
+            const script = "return [outerWidth - innerWidth, outerHeight - innerHeight];";
+            const { value: [beside, above] } = await ask("WebDriver:ExecuteScript", { script, args: [] });
+            await ask("WebDriver:SetWindowRect", { width: width + beside, height: height + above });
         },
         look: async () => false,
         async shoot(file) {

@@ -47,6 +47,7 @@ declare module "node:fs" {
     export function readdirSync(path: string | URL): string[];
     export function writeFileSync(path: string, text: string, encoding?: string): void;
     export function mkdtempSync(prefix: string): string;
+    export function mkdirSync(path: string): void;
     export function rmSync(path: string, options: { recursive: boolean; force: boolean }): void;
     export function existsSync(path: string | URL): boolean;
 }
