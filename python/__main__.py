@@ -13,6 +13,7 @@ COMMANDS = {
     "caught": "workshop.wasm.caught:main",
     "check": "workshop.commands:check",
     "check-one": "workshop.builds.one:main",
+    "common": "workshop.documents.common:main",
     "dead": "workshop.documents.dead:main",
     "explain": "dorydate.explain.command:main",
     "explore": "dorydate.explore.command:main",

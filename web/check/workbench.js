@@ -122,7 +122,7 @@ const PLANTED = /** @type {Planted[]} */ ([
         to: `:root[data-low] body { display: block !important; height: auto !important }${STYLE}`,
         by: "reached",
         size: [740, 360],
-        words: "out of reach",
+        words: "high at 360",
     },
     {
         what: "an address that is cut off is opened as none",
@@ -130,6 +130,56 @@ const PLANTED = /** @type {Planted[]} */ ([
         to: 'if (place === "cut") return false;',
         by: "unopened",
         words: "why nothing is opened",
+    },
+    {
+        what: "a sentence with another host's name",
+        from: 'hostName(network, words[place] ?? "")',
+        to: 'hostName(network, words[name === "source" ? 1 : place] ?? "")',
+        by: "named",
+        words: "who sends and takes",
+    },
+    {
+        what: "a step that is skipped",
+        from: "next: () => this.step(1),",
+        to: "next: () => this.step(2),",
+        by: "stepped",
+        words: "next goes one step",
+    },
+    {
+        what: "a refused event among those that are possible",
+        from: 'if (!printed.some((line) => line.startsWith("refused ")))',
+        to: "if (true)",
+        by: "happening",
+        words: "refused: ",
+    },
+    {
+        what: "a goal that is judged by its first part",
+        from: "readPattern(goal.pattern)",
+        to: 'readPattern(goal.pattern.split(" then ")[0])',
+        by: "judged",
+        words: "too early",
+    },
+    {
+        what: "a zoom that loses labels",
+        from: 'element.classList.toggle("folded", !shown[place]);',
+        to: 'element.classList.toggle("folded", !shown[place] || this.port.scale > 1.5);',
+        by: "large",
+        words: "labels are left out from near",
+    },
+    {
+        what: "a row that is looked for once, where heights are not known yet",
+        from: 'classList.contains("many") ? 3 : 0',
+        to: 'classList.contains("many") ? 0 : 0',
+        by: "followed",
+        size: [360, 740],
+        words: "the present row is not seen",
+    },
+    {
+        what: "lines side by side that are not folded",
+        from: "const NEAR = 24;",
+        to: "const NEAR = 0;",
+        by: "bundles",
+        words: "lines are folded",
     },
     {
         what: "labels that shrink with the map",
@@ -269,14 +319,14 @@ async function whole(browser, address) {
         steps += await browser.evaluate('return Number(document.getElementById("slider").max);');
     }
     const { keys, tapped, holding, distances, compared, printed, hidden, typed, measured, contrast } = trials;
-    const { happening, judged, large, reached, unopened } = trials;
+    const { bundles, followed, happening, judged, large, named, reached, unopened } = trials;
     for (const size of LARGE) {
         await browser.resize(...size);
-        wrong.push(...(await trial(browser, [large, largeNetwork()])));
+        wrong.push(...(await trial(browser, [large, largeNetwork()], [followed])));
         console.log(`63 IMPs: ${await browser.evaluate("return document.documentElement.dataset.measured;")}`);
     }
     await browser.resize(...WIDE);
-    for (const body of [unopened, happening, judged, keys, tapped, holding, distances, compared, printed, hidden, typed]) {
+    for (const body of [named, bundles, unopened, happening, judged, keys, tapped, holding, distances, compared, printed, hidden, typed]) {
         wrong.push(...(await trial(browser, [body])));
     }
     let places = 0;

@@ -37,7 +37,7 @@ import unittest
 from collections.abc import Iterator
 
 from workshop.checks import release
-from workshop.documents import anchors, believed, budget, crates_page, dead, dialect, figures, named_crates, notebook, paragraphs, planted, reference, rules, tags, tests, versions
+from workshop.documents import anchors, believed, budget, common, crates_page, dead, dialect, figures, named_crates, notebook, paragraphs, planted, reference, rules, tags, tests, versions
 from workshop.drawings import pictures
 from workshop.parts import ROOT
 
@@ -46,7 +46,7 @@ MOST_DEAD = 200  # declarations of proofs/ that nothing leads to that is proved;
 MOST_ENTRIES = 40  # of a folder of proofs/
 DECLARED = re.compile(
     r"\bimpl(?:<[^>]*>)? +(?:\w+::)*(\w+)"
-    r"|\b(?:fn|struct|enum|trait|const|ensures|requires|ghost|abbrev pub|record|data|pub(?= \w+ :)) +(\w+)"
+    r"|\b(?:fn|struct|enum|trait|const|ensures|requires|ghost|abbrev pub|record|data|pub(?= «?\w+»? :)) +«?(\w+)"
     r"|^ +([A-Z]\w*)[,({ ]",
     re.MULTILINE,
 )
@@ -197,7 +197,7 @@ def reaching() -> Iterator[str]:
 def crowded() -> Iterator[str]:
     """The folders of proofs/ with too many entries."""
     for folder in {part for path in sources("crates/*/proofs") for part in parents(path)}:
-        if (count := len(os.listdir(folder))) > MOST_ENTRIES:
+        if (count := len({*os.listdir(folder)} - {"Common.antt"})) > MOST_ENTRIES:
             yield f"{os.path.relpath(folder, ROOT)}: {count} entries, of at most {MOST_ENTRIES}"
 
 
@@ -226,7 +226,7 @@ def made() -> list[str]:
     """What isn't as it is made, and what the drawings and the words of the documents have that they shouldn't."""
     print("check docs:", dialect.summary())
     print("check docs:", budget.summary())
-    return [*failed_tests(), *paragraphs.faults(), *anchors.faults(), *pictures.faults(), *crates_page.faults(), *planted.faults(), *rules.faults(), *believed.faults(), *notebook.faults(), *reference.faults(), *figures.faults(), *budget.faults(), *dialect.faults(), *named_crates.faults(), *versions.faults(), *release.faults()]
+    return [*failed_tests(), *paragraphs.faults(), *anchors.faults(), *pictures.faults(), *crates_page.faults(), *planted.faults(), *rules.faults(), *believed.faults(), *notebook.faults(), *reference.faults(), *figures.faults(), *budget.faults(), *common.faults(), *dialect.faults(), *named_crates.faults(), *versions.faults(), *release.faults()]
 
 
 def write() -> int:

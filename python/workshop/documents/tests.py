@@ -3,12 +3,13 @@
 from __future__ import annotations
 
 import os
+import pathlib
 import subprocess
 import tempfile
 import unittest
 from unittest import mock
 
-from workshop.documents import anchors, believed, believed_words, budget, crates_page, dialect, figures, named_crates, paragraphs, rules, tags
+from workshop.documents import anchors, believed, believed_words, budget, common, crates_page, dead, dialect, figures, named_crates, paragraphs, rules, tags
 from workshop.drawings import facts, formats, hosts, network, pictures, repository
 from workshop.drawings.svg import Drawing
 from workshop.parts import ROOT
@@ -136,6 +137,31 @@ SOURCE = """impl Shown for Store {
 """
 
 
+LAWS = """use Rattle.a.specs.A.{IsBare, count}
+
+-- what is sent
+pub record Sending : Type 0 where
+  -- as many as nobody counted
+  pub granted : (n : ℕ) → n ≡ count
+  pub «data» :
+      IsBare →
+      IsBare × IsBare
+  pub last : IsLast
+
+pub record Books {C : Type 0} (calls : Calls C) : Type 0 where
+  pub kept : IsKept calls
+"""
+OF_LAWS = """pub fn sending()
+    ensures { Sending }
+{}
+
+pub fn books<C: Carrier>()
+    ensures { Books C.calls }
+    ensures other { Other → Sending }
+{}
+"""
+
+
 class Rules(unittest.TestCase):
     def test_a_definition_has_the_comment_above_it_and_its_line(self) -> None:
         found, bare = rules.definitions_in("crates/a/specs/A.antt", SPECS)
@@ -151,6 +177,20 @@ class Rules(unittest.TestCase):
         self.assertTrue(count.text.endswith("self.len\n    }"))
         self.assertEqual((other.place.line, other.text, other.cites), (11, "    fn other(&self)\n        ensures { IsBare };", frozenset({"IsBare"})))
         self.assertEqual((shows.name, shows.place.line, shows.cites), ("Store::shows", 2, frozenset({"count"})))
+
+    def test_a_clause_that_is_a_record_of_laws_has_its_fields_for_clauses(self) -> None:
+        found = rules.laws_in("crates/a/specs/Laws.antt", LAWS)
+        places = [(it.name, it.place.line, it.words) for it in found]
+        self.assertEqual(places, [("Sending", 4, "what is sent"), ("Books", 12, "books")])
+        fields = {"granted": "(n : ℕ) → n ≡ count", "data": "IsBare → IsBare × IsBare", "last": "IsLast"}
+        self.assertEqual(found[0].fields, fields)
+        sending, books = rules.functions_in("crates/a/src/law.rt", OF_LAWS, [], {it.name: it for it in found})
+        self.assertEqual(([it.name for it in sending.laws], [it.name for it in books.laws]), (["Sending"], ["Books"]))
+        self.assertEqual((sending.cites, books.names() & {"IsKept", "IsBare"}), (frozenset({"Sending"}), {"IsKept"}))
+        self.assertLess({"Sending", "count", "IsBare", "IsLast"}, sending.names())
+        self.assertNotIn("nobody", sending.names())
+        shown = rules.shown(rules.definitions_in("crates/a/specs/A.antt", SPECS)[0], [], [sending], "")
+        self.assertTrue(shown.endswith(f"specs/Laws.antt:4\n{found[0].text}\n\n"))
 
     def test_a_rule_leads_to_the_lines_of_its_names(self) -> None:
         definition, _ = rules.definitions_in("crates/a/specs/A.antt", SPECS)
@@ -241,6 +281,69 @@ class Budget(unittest.TestCase):
 
     def test_what_is_not_used_is_taken_off(self) -> None:
         self.assertEqual(budget.lowered({"a": 9, "b": 4, "c": 3}, {"a": [(10, "what it had"), (2, "a law")], "b": [(4, "what it had")]}), {"a": [(7, "what it had"), (2, "a law")], "b": [(4, "what it had")], "c": [(3, "what the crate had when it got a budget")]})
+
+
+class Dead(unittest.TestCase):
+    def test_what_is_deleted_leaves_no_part_of_it(self) -> None:
+        text = "one : A\none = refl\n\nmodule _ (a : A) where\n"
+        text += "  -- said of it\n  gone : A\n  unfolding one\n  gone = elim a [\n    | b ↦ b\n  ]\n\n"
+        text += "module _ where\n  two : A\n  two = one\n"
+        found = dead.without(text, dead.parsed("one.antt", text), ["gone"])
+        self.assertEqual(found, "one : A\none = refl\n\nmodule _ where\n  two : A\n  two = one\n")
+
+    def test_what_is_deleted_is_taken_by_no_file(self) -> None:
+        text = "use Rattle.a.proofs.B.{gone, kept}\nuse Rattle.a.proofs.B.{gone}\nuse Rattle.a.proofs.C.{gone}\n"
+        found = dead.without_imports(text, {"Rattle.a.proofs.B": ["gone"]})
+        self.assertEqual(found, "use Rattle.a.proofs.B.{kept}\nuse Rattle.a.proofs.C.{gone}\n")
+
+
+class Common(unittest.TestCase):
+    STD = "use Rattle.std.proofs.Common.{refl, ap}\n"
+    ONE = STD + "use Rattle.interface.specs.Host.{Host}\n\nuse Rattle.c.proofs.Other.{x}\none : Host\n"
+    OTHER = "use Rattle.std.proofs.Common.{refl, sym}\nuse Rattle.interface.specs.Host.{Host}\nother : Host\n"
+
+    def setUp(self) -> None:
+        folder = tempfile.TemporaryDirectory()
+        self.addCleanup(folder.cleanup)
+        self.folder = pathlib.Path(folder.name, "crates/c/proofs")
+        self.folder.mkdir(parents=True)
+        self.proofs = common.Proofs("c", folder.name)
+        self.given(Lib="-- all\npub mod One\npub mod Other\n", One=self.ONE, Other=self.OTHER)
+
+    def given(self, **texts: str) -> None:
+        for name, text in texts.items():
+            (self.folder / f"{name}.antt").write_text(text, encoding="utf-8")
+
+    def written(self) -> dict[str, list[str]]:
+        """What the files have after the module was written."""
+        for path, text in common.written(self.proofs).items():
+            pathlib.Path(path).write_text(text, encoding="utf-8")
+        return {it.stem: it.read_text(encoding="utf-8").split("\n") for it in self.folder.iterdir()}
+
+    def test_what_two_files_take_comes_through_one_module(self) -> None:
+        self.given(Third=self.OTHER.replace("sym", "ap"))
+        found = self.written()
+        line = "use Rattle.c.proofs.Common.{refl, ap, Host}"
+        self.assertEqual(found["Third"], [line, "other : Host", ""])
+        self.assertEqual(found["One"], [line, "", "use Rattle.c.proofs.Other.{x}", "one : Host", ""])
+        self.assertEqual(found["Common"][1], "pub use Rattle.interface.specs.Host.{Host}")
+        self.assertEqual(found["Common"][2], "pub use Rattle.std.proofs.Common.{ap, refl}")
+        self.assertIn("pub mod Common", found["Lib"])
+        self.assertEqual(self.written(), found)  # and a second time changes nothing
+
+    def test_a_file_that_saves_one_line_keeps_its_own(self) -> None:
+        self.assertEqual(self.written()["Other"], self.OTHER.split("\n"))
+
+    def test_what_a_file_declares_or_unfolds_isnt_taken_through_it(self) -> None:
+        self.given(One=self.ONE + "  unfolding refl ap\n", Other=self.OTHER + "pub Host : Type 0\n")
+        self.assertEqual(self.written()["One"], self.ONE.split("\n")[:-1] + ["  unfolding refl ap", ""])
+
+    def test_a_name_that_fewer_than_two_files_take_is_a_fault(self) -> None:
+        self.given(Third=self.OTHER.replace("sym", "ap"))
+        self.written()
+        self.assertEqual(self.proofs.faults(), [])
+        self.given(Third="")
+        self.assertEqual(len(self.proofs.faults()), 3)
 
 
 class Tags(unittest.TestCase):
