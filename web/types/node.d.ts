@@ -24,6 +24,7 @@ declare module "node:child_process" {
 
 declare module "node:test" {
     export function test(name: string, body: () => void | Promise<void>): void;
+    export function test(name: string, options: {skip: string | false}, body: () => void | Promise<void>): void;
 }
 
 declare module "node:assert/strict" {
