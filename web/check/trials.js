@@ -11,7 +11,7 @@
  * @property {(selector: string) => any[]} all
  * @property {() => any} focused the element that has the focus
  * @property {(milliseconds: number) => Promise<void>} pause
- * @property {(holds: () => unknown, what: string) => Promise<void>} until
+ * @property {(holds: () => unknown, what: string, seconds?: number) => Promise<void>} until
  * @property {() => Promise<void>} ready waits until the page is ready
  * @property {(does: () => void) => Promise<void>} changed does something, and waits until the script is replayed
  * @property {(id: string) => void} press
@@ -38,8 +38,8 @@ export function makePage() {
         all: (selector) => [...document.querySelectorAll(selector)],
         focused: () => document.activeElement,
         pause: (milliseconds) => new Promise((go) => setTimeout(() => go(), milliseconds)),
-        async until(holds, what) {
-            for (let at = 0; at < 600; at += 1) {
+        async until(holds, what, seconds = 15) {
+            for (let at = 0; at < 40 * seconds; at += 1) {
                 if (holds()) return;
                 await page.pause(25);
             }
@@ -356,8 +356,8 @@ export async function happening({ $, one, all, until, changed, press, slide, loa
     want(!all(".row.added").some((it) => it.classList.contains("refused")), "a surprise is refused");
     press("play");
     $("search").value = "taken-and-incomplete";
-    await changed(() => press("search-go"));
-    await until(() => $("label").textContent === "A script", "a search finds a script");
+    press("search-go");
+    await until(() => $("label").textContent === "A script", "a search finds a script", 90);
     want(all(".row.event").length < 14, "what is found is long");
     press("tab-waits");
 }
