@@ -120,6 +120,135 @@ all_fronts detail first crossings news later left a b c h crossed =
     let all : shown_in_turn first crossings news ≡ h.shown ++ shown_crossings left = ap (shown_in_turn first crossings) (sym (append-nil news)) ∙ h.whole [] in
     subst (Appends a c) (sym (ap (output detail) all ∙ output-append detail h.shown (shown_crossings left))) (Appends-trans a b c (output detail h.shown) (output detail (shown_crossings left)) h.written crossed)
 
+-- ---- all crossings are shown, and no others
+
+pub crossings_of-append : (xs ys : List Shown) → crossings_of (xs ++ ys) ≡ crossings_of xs ++ crossings_of ys
+crossings_of-append [] ys = refl
+crossings_of-append (Crossed c ∷ xs) ys = ap (λ cs. c ∷ cs) (crossings_of-append xs ys)
+crossings_of-append (Noticed t ∷ xs) ys = crossings_of-append xs ys
+crossings_of-append (Said r ∷ xs) ys = crossings_of-append xs ys
+crossings_of-append (Refused f ∷ xs) ys = crossings_of-append xs ys
+
+crossings_again : (cs : List Crossing) → crossings_of (shown_crossings cs) ≡ cs
+crossings_again [] = refl
+crossings_again (c ∷ cs) = ap (λ xs. c ∷ xs) (crossings_again cs)
+
+-- news are no crossings
+abbrev AreNews : List Shown → Type 0
+AreNews [] = Unit {0}
+AreNews (Crossed c ∷ xs) = ⊥
+AreNews (Noticed t ∷ xs) = AreNews xs
+AreNews (Said r ∷ xs) = AreNews xs
+AreNews (Refused f ∷ xs) = AreNews xs
+
+news_behind : (ts : List Told) (xs : List Shown) → AreNews xs → AreNews (shown_notices ts ++ xs)
+news_behind [] xs h = h
+news_behind (t ∷ ts) xs h = news_behind ts xs h
+
+notices_news : (ts : List Told) → AreNews (shown_notices ts)
+notices_news [] = tt
+notices_news (t ∷ ts) = notices_news ts
+
+told_news : (n : ℕ) (ts : List Told) (rs : List Reported) → AreNews (told_in_turn n ts rs)
+told_news n ts [] = notices_news ts
+told_news n ts (r ∷ rs) = news_behind (take (r.notices - n) ts) (Said r ∷ told_in_turn (max n r.notices) (drop (r.notices - n) ts) rs) (told_news (max n r.notices) (drop (r.notices - n) ts) rs)
+
+news_first : (s : Shown) (xs ys : List Shown) → AreNews (s ∷ xs) → crossings_of (s ∷ ys) ≡ crossings_of ys
+news_first (Crossed c) xs ys h = absurd h
+news_first s xs ys h = refl
+
+news_rest : (s : Shown) (xs : List Shown) → AreNews (s ∷ xs) → AreNews xs
+news_rest (Crossed c) xs h = absurd h
+news_rest s xs h = h
+
+among_news : (before : ℕ) (cs : List Crossing) (xs : List Shown) → AreNews xs → crossings_of (shown_in_turn before cs xs) ≡ cs
+among_news before cs [] h = crossings_again cs
+among_news before cs (s ∷ xs) h =
+    let later : List Shown = shown_in_turn (max before (place_of s)) (drop (place_of s - before) cs) xs in
+    crossings_of-append (shown_crossings (take (place_of s - before) cs)) (s ∷ later)
+    ∙ ap (λ ys. ys ++ crossings_of (s ∷ later)) (crossings_again (take (place_of s - before) cs))
+    ∙ ap (λ ys. take (place_of s - before) cs ++ ys) (news_first s xs later h ∙ among_news (max before (place_of s)) (drop (place_of s - before) cs) xs (news_rest s xs h))
+    ∙ take-append-drop (place_of s - before) cs
+
+pub crossings_in_turn : (before n : ℕ) (cs : List Crossing) (ts : List Told) (rs : List Reported) → crossings_of (shown_in_turn before cs (told_in_turn n ts rs)) ≡ cs
+crossings_in_turn before n cs ts rs = among_news before cs (told_in_turn n ts rs) (told_news n ts rs)
+
+-- ---- so are all notices and all reports
+
+pub notices_of-append : (xs ys : List Shown) → notices_of (xs ++ ys) ≡ notices_of xs ++ notices_of ys
+notices_of-append [] ys = refl
+notices_of-append (Crossed c ∷ xs) ys = notices_of-append xs ys
+notices_of-append (Noticed t ∷ xs) ys = ap (λ ts. t ∷ ts) (notices_of-append xs ys)
+notices_of-append (Said r ∷ xs) ys = notices_of-append xs ys
+notices_of-append (Refused f ∷ xs) ys = notices_of-append xs ys
+
+pub reports_of-append : (xs ys : List Shown) → reports_of (xs ++ ys) ≡ reports_of xs ++ reports_of ys
+reports_of-append [] ys = refl
+reports_of-append (Crossed c ∷ xs) ys = reports_of-append xs ys
+reports_of-append (Noticed t ∷ xs) ys = reports_of-append xs ys
+reports_of-append (Said r ∷ xs) ys = ap (λ rs. r ∷ rs) (reports_of-append xs ys)
+reports_of-append (Refused f ∷ xs) ys = reports_of-append xs ys
+
+notices_again : (ts : List Told) → notices_of (shown_notices ts) ≡ ts
+notices_again [] = refl
+notices_again (t ∷ ts) = ap (λ xs. t ∷ xs) (notices_again ts)
+
+no_report : (ts : List Told) → reports_of (shown_notices ts) ≡ []
+no_report [] = refl
+no_report (t ∷ ts) = no_report ts
+
+-- crossings have neither
+crossings_silent : (cs : List Crossing) → (notices_of (shown_crossings cs) ≡ []) × (reports_of (shown_crossings cs) ≡ [])
+crossings_silent [] = (refl, refl)
+crossings_silent (c ∷ cs) = crossings_silent cs
+
+notices_told : (n : ℕ) (ts : List Told) (rs : List Reported) → notices_of (told_in_turn n ts rs) ≡ ts
+notices_told n ts [] = notices_again ts
+notices_told n ts (r ∷ rs) =
+    let later : List Shown = told_in_turn (max n r.notices) (drop (r.notices - n) ts) rs in
+    notices_of-append (shown_notices (take (r.notices - n) ts)) (Said r ∷ later)
+    ∙ ap (λ xs. xs ++ notices_of later) (notices_again (take (r.notices - n) ts))
+    ∙ ap (λ xs. take (r.notices - n) ts ++ xs) (notices_told (max n r.notices) (drop (r.notices - n) ts) rs)
+    ∙ take-append-drop (r.notices - n) ts
+
+reports_told : (n : ℕ) (ts : List Told) (rs : List Reported) → reports_of (told_in_turn n ts rs) ≡ rs
+reports_told n ts [] = no_report ts
+reports_told n ts (r ∷ rs) =
+    let later : List Shown = told_in_turn (max n r.notices) (drop (r.notices - n) ts) rs in
+    reports_of-append (shown_notices (take (r.notices - n) ts)) (Said r ∷ later)
+    ∙ ap (λ xs. xs ++ r ∷ reports_of later) (no_report (take (r.notices - n) ts))
+    ∙ ap (λ xs. r ∷ xs) (reports_told (max n r.notices) (drop (r.notices - n) ts) rs)
+
+notices_behind : (s : Shown) (xs ys : List Shown) → notices_of xs ≡ notices_of ys → notices_of (s ∷ xs) ≡ notices_of (s ∷ ys)
+notices_behind (Noticed t) xs ys e = ap (λ ts. t ∷ ts) e
+notices_behind s xs ys e = e
+
+reports_behind : (s : Shown) (xs ys : List Shown) → reports_of xs ≡ reports_of ys → reports_of (s ∷ xs) ≡ reports_of (s ∷ ys)
+reports_behind (Said r) xs ys e = ap (λ rs. r ∷ rs) e
+reports_behind s xs ys e = e
+
+notices_among : (before : ℕ) (cs : List Crossing) (xs : List Shown) → notices_of (shown_in_turn before cs xs) ≡ notices_of xs
+notices_among before cs [] = (crossings_silent cs).0
+notices_among before cs (s ∷ xs) =
+    let later : List Shown = shown_in_turn (max before (place_of s)) (drop (place_of s - before) cs) xs in
+    notices_of-append (shown_crossings (take (place_of s - before) cs)) (s ∷ later)
+    ∙ ap (λ ts. ts ++ notices_of (s ∷ later)) (crossings_silent (take (place_of s - before) cs)).0
+    ∙ notices_behind s later xs (notices_among (max before (place_of s)) (drop (place_of s - before) cs) xs)
+
+reports_among : (before : ℕ) (cs : List Crossing) (xs : List Shown) → reports_of (shown_in_turn before cs xs) ≡ reports_of xs
+reports_among before cs [] = (crossings_silent cs).1
+reports_among before cs (s ∷ xs) =
+    let later : List Shown = shown_in_turn (max before (place_of s)) (drop (place_of s - before) cs) xs in
+    reports_of-append (shown_crossings (take (place_of s - before) cs)) (s ∷ later)
+    ∙ ap (λ rs. rs ++ reports_of (s ∷ later)) (crossings_silent (take (place_of s - before) cs)).1
+    ∙ reports_behind s later xs (reports_among (max before (place_of s)) (drop (place_of s - before) cs) xs)
+
+pub notices_in_turn : (before n : ℕ) (cs : List Crossing) (ts : List Told) (rs : List Reported) → notices_of (shown_in_turn before cs (told_in_turn n ts rs)) ≡ ts
+notices_in_turn before n cs ts rs = notices_among before cs (told_in_turn n ts rs) ∙ notices_told n ts rs
+
+pub reports_in_turn : (before n : ℕ) (cs : List Crossing) (ts : List Told) (rs : List Reported) → reports_of (shown_in_turn before cs (told_in_turn n ts rs)) ≡ rs
+reports_in_turn before n cs ts rs = reports_among before cs (told_in_turn n ts rs) ∙ reports_told n ts rs
+
 -- ---- what a book gains later is shown later
 
 -- no news want more crossings than these

@@ -42,7 +42,7 @@ from workshop.drawings import pictures
 from workshop.parts import ROOT
 
 MOST_REACHING = 0  # imports into another crate's proofs/ beside lemmas
-MOST_DEAD = 200  # declarations of proofs/ that nothing leads to that is proved; `python3 python dead` names them
+MOST_DEAD = 50  # declarations of proofs/ that nothing leads to that is proved; `python3 python dead` names them
 MOST_ENTRIES = 40  # of a folder of proofs/
 DECLARED = re.compile(
     r"\bimpl(?:<[^>]*>)? +(?:\w+::)*(\w+)"

@@ -126,8 +126,17 @@ def sources() -> dict[str, Source]:
     return found
 
 
+def passed_on(every: dict[str, Source], module: str) -> str:
+    """The module itself, or where another passes it on, as `lemmas` does, the one that is meant."""
+    above, _, last = module.rpartition(".")
+    if module in every or not above:
+        return module
+    return every[above].aliases.get(last, module) if above in every else module
+
+
 def declared(every: dict[str, Source], module: str, name: str) -> Iterator[Name]:
     """Where a name that a file uses may be declared: here, or by way of imports."""
+    module = passed_on(every, module)
     source = every.get(module)
     if source is None:
         return

@@ -291,6 +291,12 @@ class Dead(unittest.TestCase):
         found = dead.without(text, dead.parsed("one.antt", text), ["gone"])
         self.assertEqual(found, "one : A\none = refl\n\nmodule _ where\n  two : A\n  two = one\n")
 
+    def test_a_module_that_another_passes_on_is_found(self) -> None:
+        lemmas = dead.parsed("lemmas.antt", "pub use Rattle.a.B\n")
+        every = {"a.lemmas": lemmas, "Rattle.a.B": dead.parsed("B.antt", "")}
+        self.assertEqual(dead.passed_on(every, "a.lemmas.B"), "Rattle.a.B")
+        self.assertEqual(dead.passed_on(every, "a.other.B"), "a.other.B")
+
     def test_what_is_deleted_is_taken_by_no_file(self) -> None:
         text = "use Rattle.a.proofs.B.{gone, kept}\nuse Rattle.a.proofs.B.{gone}\nuse Rattle.a.proofs.C.{gone}\n"
         found = dead.without_imports(text, {"Rattle.a.proofs.B": ["gone"]})
