@@ -11,6 +11,7 @@ import subprocess
 import threading
 import time
 from collections.abc import Sequence
+from contextlib import suppress
 from dataclasses import dataclass
 from pathlib import Path
 from typing import IO
@@ -27,7 +28,8 @@ class Served:
         node = shutil.which("node")
         if node is None:
             raise NoProgram("there is no Node to run the released module: apt-get install nodejs, or nodejs.org")
-        self.process = subprocess.Popen([node, path, "--many"], stdin=subprocess.PIPE, stdout=subprocess.PIPE)
+        pipe = subprocess.PIPE
+        self.process = subprocess.Popen([node, path, "--many"], stdin=pipe, stdout=pipe, stderr=pipe)
         self.of = os.getpid()
         self.left = b""
         atexit.register(self.end)
@@ -37,6 +39,13 @@ class Served:
         assert self.process.stdin and self.process.stdout
         return self.process.stdin, self.process.stdout
 
+    def ended(self) -> NoProgram:
+        """Why the process has ended by itself: what it has said."""
+        assert self.process.stderr
+        said = self.process.stderr.read().decode(errors="replace").strip()
+        own = [it for it in said.splitlines() if it.startswith("arpasim: ")]
+        return NoProgram(own[0].removeprefix("arpasim: ") if own else f"Node has ended: {said}")
+
     def read(self, last: float) -> None:
         """Reads more of the answer, until a time."""
         _, answers = self.pipes()
@@ -44,7 +53,7 @@ class Served:
             raise TookTooLong("the program ran longer than it may")
         piece = os.read(answers.fileno(), PIECE)
         if not piece:
-            raise NoProgram("Node has ended: see what it says above")
+            raise self.ended()
         self.left += piece
 
     def octets(self, count: int, last: float) -> bytes:
@@ -68,7 +77,7 @@ class Served:
             requests.write(json.dumps({"words": [*options], "octets": len(octets)}).encode() + b"\n" + octets)
             requests.flush()
         except BrokenPipeError:
-            raise NoProgram("Node has ended: see what it says above") from None
+            raise self.ended() from None
         told = json.loads(self.line(last))
         output, said = self.octets(told["stdout"], last), self.octets(told["stderr"], last)
         return Ran(told["status"], output.decode("latin-1"), said.decode("latin-1"))
@@ -79,8 +88,10 @@ class Served:
         if self.of == os.getpid():
             self.process.kill()
             self.process.wait()
-        for pipe in self.pipes():
-            pipe.close()
+        assert self.process.stderr
+        for pipe in (*self.pipes(), self.process.stderr):
+            with suppress(BrokenPipeError):  # (what was not read any more)
+                pipe.close()
 
 
 SERVED: dict[str, Served] = {}  # by the path of what Node runs

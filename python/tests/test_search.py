@@ -16,7 +16,7 @@ from typing import TypeVar
 from dorydate.explore import fast, without
 from dorydate.explore.breadth import Asked, Lists, Walk
 from dorydate.explore.campaign import BadTable, Campaign, seeds_of
-from dorydate.explore.engine import CHUNK, Local, NoCluster, Ordered
+from dorydate.explore.engine import CHUNK, Local, NoCluster, Ordered, OtherProgram, made
 from dorydate.explore.kinds import pools
 from dorydate.explore.pattern import read
 from dorydate.explore.search import Job, Progress
@@ -92,6 +92,11 @@ class Executors(unittest.TestCase):
         with self.assertRaisesRegex(NoCluster, "a worker has no package dorydate"):
             next(Ordered(Bare(), squares).since(0))
 
+    def test_a_worker_with_another_program_is_told(self) -> None:
+        says = "a worker has another program: .* begins with .*, and not with 000000000000$"
+        with self.assertRaisesRegex(OtherProgram, says):
+            made(JOB, 64 * "0", 0, 1)
+
 
 class States(unittest.TestCase):
     def kept(self, room: str) -> State:
@@ -114,10 +119,23 @@ class States(unittest.TestCase):
                     state.resumed("", job)
             with self.assertRaisesRegex(OtherState, "another program"):
                 State(f"{room}/state", "other")
-            for text in "no JSON", "[]", json.dumps({"format": 9}):
+            wrong = {"format": 1, "program": "hash", "searches": 5}
+            for text in "no JSON", "[]", json.dumps({"format": 9}), json.dumps(wrong):
                 Path(f"{room}/wrong").write_text(text, encoding="utf-8")
                 with self.assertRaisesRegex(OtherState, "no state of a search"):
                     State(f"{room}/wrong", "hash")
+
+
+    def test_a_refused_state_stays_as_it_was(self) -> None:
+        with tempfile.TemporaryDirectory() as room:
+            path = self.kept(room).path
+            before = path.read_text(encoding="utf-8")
+            for word in "job", "progress", "schedules":
+                wrong = before.replace(f'"{word}"', '"other"')
+                path.write_text(wrong, encoding="utf-8")
+                with self.assertRaisesRegex(OtherState, "no state of a search", msg=word):
+                    State(str(path), "hash").resumed("", JOB)
+                self.assertEqual(path.read_text(encoding="utf-8"), wrong)
 
 
 class Campaigns(unittest.TestCase):
@@ -211,6 +229,18 @@ class Without(unittest.TestCase):
 
     def test_events_of_the_model_alone(self) -> None:
         self.assertEqual([str(without.event_of(it)) for it in ("hold 0/2 0/1 2", "free 0/2 0/1 2", "take 0/1")], ["hold 0/2 0/1 2", "free 0/2 0/1 2", "take 0/1"])
+
+    def test_a_plan_says_what_crosses_and_what_is_left(self) -> None:
+        plan = without.COMES_ROUND
+        place = without.Lacking(None, without.sought_for("a window"))
+        for script, is_followed in {
+            ("calm 1", "out 0/1 0/2 0 0 -", "deliver 0 + 0"): True,
+            ("calm 1", "out 0/1 0/2 0 0 -", "calm 2"): True,
+            # nothing of the first message is alive
+            ("calm 1", "out 0/1 0/2 0 0 -", "calm 4", "out 0/1 0/2 0 0 -"): False,
+            ("out 0/1 0/2 0 0 -", "take 0/1"): False,  # its answer is Dead
+        }.items():
+            self.assertEqual(plan.is_followed(place.after(map(read_event, script))), is_followed, script)
 
     def test_each_stored_script_names_a_rule(self) -> None:
         for rule in without.rules():

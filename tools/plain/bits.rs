@@ -1,5 +1,7 @@
 //! Lists of bits, kept eight an octet, the first bit the most significant one.
 
+use crate::spelling::Spell;
+
 /// A list of bits. What is left of the last octet is zero.
 #[derive(Clone, Default, PartialEq, Eq, Debug)]
 pub struct Bits {
@@ -115,6 +117,18 @@ impl BitQueue {
     /// Appends a copy of the first bits to a list.
     pub fn copy_front(&self, count: usize, to: &mut Bits) {
         to.append(&self.bits.octets, self.start, count);
+    }
+
+    /// Appends how many bits wait, and these as octets.
+    pub fn spell(&self, to: &mut Vec<u8>) {
+        self.len().spell(to);
+        if self.start % 8 == 0 {
+            to.extend_from_slice(&self.bits.octets[self.start / 8..]);
+        } else {
+            let mut left = Bits::default();
+            self.copy_front(self.len(), &mut left);
+            to.extend_from_slice(left.octets());
+        }
     }
 
     /// Takes the first bits away. Their octets are given up once they are more than half of all.

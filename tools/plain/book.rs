@@ -5,6 +5,7 @@ use crate::names::{Host, Text};
 use crate::printing::Printer;
 use crate::spelling::Spell;
 use std::collections::BTreeMap;
+use std::rc::Rc;
 
 /// What a program tells the user of its host.
 #[derive(Clone, Debug)]
@@ -92,20 +93,21 @@ impl Life {
 }
 
 /// What is kept of all hosts. Notices and contacts are with the number of crossings before them, reports with that of notices.
+/// Copies share the lives.
 #[derive(Clone, Default)]
 pub struct Book {
     notices: Vec<(Host, usize, Notice)>,
     contacts: Vec<(Host, Host, usize)>,
     reports: Vec<(Host, usize, Report)>,
-    lives: Vec<Life>,
+    lives: Rc<Vec<Life>>,
     /// The lives that haven't ended: a socket has at most one.
-    open: BTreeMap<(Host, u32), usize>,
+    open: Rc<BTreeMap<(Host, u32), usize>>,
 }
 
 impl Book {
     /// The life of a host's socket that hasn't ended.
     fn life(&mut self, host: Host, socket: u32) -> Option<&mut Life> {
-        self.open.get(&(host, socket)).map(|at| &mut self.lives[*at])
+        self.open.get(&(host, socket)).map(|at| &mut Rc::make_mut(&mut self.lives)[*at])
     }
 
     /// A user asked for a contact.
@@ -157,18 +159,19 @@ impl Book {
 
     /// A life begins.
     fn open(&mut self, host: Host, socket: u32, peer: Host, foreign: u32, own: usize, partner: usize) {
-        self.open.insert((host, socket), self.lives.len());
+        Rc::make_mut(&mut self.open).insert((host, socket), self.lives.len());
         let (bits, handed) = Default::default();
         let (granted, returned) = ((0, 0), (0, 0));
         let life =
             Life { host, socket, peer, foreign, own, partner, bits, messages: 0, granted, returned, has_ended: false, handed };
-        self.lives.push(life);
+        Rc::make_mut(&mut self.lives).push(life);
     }
 
     /// Ends the life of a socket, if it has one.
     fn end(&mut self, key: (Host, u32)) {
-        if let Some(at) = self.open.remove(&key) {
-            self.lives[at].has_ended = true;
+        if let Some(life) = self.life(key.0, key.1) {
+            life.has_ended = true;
+            Rc::make_mut(&mut self.open).remove(&key);
         }
     }
 
@@ -186,7 +189,7 @@ impl Book {
 
     /// Prints all lives, in the order of their opening.
     pub fn print_lives(&self, printer: &mut Printer) {
-        for life in &self.lives {
+        for life in self.lives.iter() {
             printer.word(b"life").host(life.host).number(life.socket.into()).host(life.peer).number(life.foreign.into());
             printer.number(life.own as u64).number(life.partner as u64);
             printer.word(if life.socket % 2 == 0 { b"receive" } else { b"send" });
@@ -203,9 +206,8 @@ impl Book {
         self.notices.clear();
         self.contacts.clear();
         self.reports.clear();
-        if forgets_lives {
-            self.lives.clear();
-            self.open.clear();
+        if forgets_lives && !self.lives.is_empty() {
+            (self.lives, self.open) = Default::default();
         }
     }
 
@@ -218,7 +220,7 @@ impl Book {
     pub fn spell(&self, stamps: &[usize], to: &mut Vec<u8>) {
         let place = |stamp: usize| stamps.partition_point(|it| *it < stamp) as u8;
         self.lives.len().spell(to);
-        for life in &self.lives {
+        for life in self.lives.iter() {
             to.extend([life.host.address(), life.peer.address(), life.has_ended as u8, place(life.own), place(life.partner)]);
             (life.socket, life.foreign).spell(to);
             life.bits.spell(to);

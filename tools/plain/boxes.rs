@@ -30,12 +30,12 @@ struct HostBox {
     outstanding: usize,
 }
 
-/// All hosts and what waits for them.
+/// All hosts and what waits for them. Copies share what is the same.
 #[derive(Clone)]
 pub struct Boxes {
-    boxes: Vec<Option<HostBox>>,
+    boxes: Vec<Option<Rc<HostBox>>>,
     hosts: Rc<[Host]>,
-    waiting: HashMap<Flow, Waiting>,
+    waiting: Rc<HashMap<Flow, Waiting>>,
     next_id: u64,
     log: Vec<Crossing>,
 }
@@ -43,21 +43,21 @@ pub struct Boxes {
 impl Boxes {
     /// The mailboxes of these hosts, all of them up.
     pub fn new(hosts: Vec<Host>) -> Boxes {
-        let mut boxes: Vec<Option<HostBox>> = (0..places_of(&hosts)).map(|_| None).collect();
+        let mut boxes = vec![None; places_of(&hosts)];
         for host in &hosts {
-            boxes[host.index()] =
-                Some(HostBox { is_up: true, messages: VecDeque::new(), answers: VecDeque::new(), outstanding: 0 });
+            let new = HostBox { is_up: true, messages: VecDeque::new(), answers: VecDeque::new(), outstanding: 0 };
+            boxes[host.index()] = Some(Rc::new(new));
         }
-        Boxes { boxes, hosts: hosts.into(), waiting: HashMap::new(), next_id: 0, log: Vec::new() }
+        Boxes { boxes, hosts: hosts.into(), waiting: Rc::default(), next_id: 0, log: Vec::new() }
     }
 
     /// The box of a host, which has to be there.
-    fn host(&mut self, host: Host) -> Result<&mut HostBox, Refusal> {
-        self.boxes.get_mut(host.index()).and_then(Option::as_mut).ok_or(Refusal::NoSuch)
+    fn host(&self, host: Host) -> Result<&HostBox, Refusal> {
+        self.boxes.get(host.index()).and_then(Option::as_deref).ok_or(Refusal::NoSuch)
     }
 
     /// The box of a host, which has to be there and up.
-    fn up(&mut self, host: Host) -> Result<&mut HostBox, Refusal> {
+    fn up(&self, host: Host) -> Result<&HostBox, Refusal> {
         let found = self.host(host)?;
         if found.is_up {
             Ok(found)
@@ -66,9 +66,14 @@ impl Boxes {
         }
     }
 
-    /// The box of a host of which it is known that it is there.
+    /// The box of a host of which it is known that it is there, to be changed.
     fn known(&mut self, host: Host) -> &mut HostBox {
-        self.boxes[host.index()].as_mut().expect("a host of the network")
+        Rc::make_mut(self.boxes[host.index()].as_mut().expect("a host of the network"))
+    }
+
+    /// What waits of each flow, to be changed.
+    fn waiting(&mut self) -> &mut HashMap<Flow, Waiting> {
+        Rc::make_mut(&mut self.waiting)
     }
 
     /// A number that is greater than all before.
@@ -83,9 +88,9 @@ impl Boxes {
         let source = self.known(flow.source);
         if source.is_up {
             source.answers.push_back((id, answer, flow));
-            self.waiting.insert(flow, Waiting { what: What::Answer(answer), id });
+            self.waiting().insert(flow, Waiting { what: What::Answer(answer), id });
         } else {
-            self.waiting.remove(&flow);
+            self.waiting().remove(&flow);
         }
     }
 
@@ -115,12 +120,13 @@ impl Boxes {
 
     /// A host stops: what waits for it is lost, and its messages give their sources Dead.
     fn host_down(&mut self, host: Host) -> Result<(), Refusal> {
-        let found = self.up(host)?;
+        self.up(host)?;
+        let found = self.known(host);
         found.is_up = false;
         let answers = std::mem::take(&mut found.answers);
         let messages = std::mem::take(&mut found.messages);
         for (_, _, flow) in answers {
-            self.waiting.remove(&flow);
+            self.waiting().remove(&flow);
         }
         for (_, flow, _) in messages {
             self.known(flow.source).outstanding -= 1;
@@ -139,7 +145,7 @@ impl Boxes {
         if found.outstanding > 0 {
             return Err(Refusal::Unsettled);
         }
-        found.is_up = true;
+        self.known(host).is_up = true;
         self.log.push(Crossing::Up(host));
         Ok(())
     }
@@ -151,7 +157,7 @@ impl Carrier for Boxes {
     }
 
     fn is_up(&self, host: Host) -> bool {
-        self.boxes.get(host.index()).is_some_and(|it| it.as_ref().is_some_and(|it| it.is_up))
+        self.up(host).is_ok()
     }
 
     fn log(&self) -> &[Crossing] {
@@ -176,7 +182,7 @@ impl Carrier for Boxes {
             let id = self.new_id();
             self.known(flow.source).outstanding += 1;
             self.known(flow.destination).messages.push_back((id, flow, text));
-            self.waiting.insert(flow, Waiting { what: What::Message, id });
+            self.waiting().insert(flow, Waiting { what: What::Message, id });
         } else {
             self.tell(Answer::Dead, flow);
         }
@@ -184,9 +190,13 @@ impl Carrier for Boxes {
     }
 
     fn take(&mut self, host: Host) -> Result<Option<Inbound>, Refusal> {
-        let found = self.up(host)?;
+        let waits = self.up(host)?;
+        if waits.answers.is_empty() && waits.messages.is_empty() {
+            return Ok(None);
+        }
+        let found = self.known(host);
         if let Some((_, answer, flow)) = found.answers.pop_front() {
-            self.waiting.remove(&flow);
+            self.waiting().remove(&flow);
             self.log.push(Crossing::Answer(answer, flow));
             return Ok(Some(Inbound::Answer(answer, flow)));
         }

@@ -6,9 +6,10 @@ const SECOND: u64 = 0x4cf5_ad43_2745_937f;
 /// The hash of octets.
 pub fn hash_of(octets: &[u8]) -> u128 {
     let (mut one, mut two) = (0_u64, 0_u64);
-    for chunk in octets.chunks(16) {
-        let mut block = [0; 16];
-        block[..chunk.len()].copy_from_slice(chunk);
+    let blocks = octets.chunks_exact(16);
+    let mut last = [0; 16];
+    last[..blocks.remainder().len()].copy_from_slice(blocks.remainder());
+    for block in blocks.chain((octets.len() % 16 > 0).then_some(&last[..])) {
         let (low, high) = (word(&block[..8]), word(&block[8..]));
         one ^= low.wrapping_mul(FIRST).rotate_left(31).wrapping_mul(SECOND);
         one = one.rotate_left(27).wrapping_add(two).wrapping_mul(5).wrapping_add(0x52dc_e729);

@@ -141,6 +141,11 @@ impl Pair {
         self.ends.contains_key(&key)
     }
 
+    /// Whether the end with these sockets is there and open.
+    pub fn has_open(&self, key: Key) -> bool {
+        self.ends.get(&key).is_some_and(End::is_open)
+    }
+
     /// Adds an end.
     pub fn add(&mut self, key: Key, end: End) {
         self.ends.insert(key, end);
@@ -327,9 +332,7 @@ impl Spell for End {
         to.push(self.size);
         self.messages.spell(to);
         self.bits.spell(to);
-        let mut waiting = Bits::default();
-        self.waiting.copy_front(self.waiting.len(), &mut waiting);
-        waiting.spell(to);
+        self.waiting.spell(to);
     }
 }
 

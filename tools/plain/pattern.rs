@@ -10,6 +10,7 @@
 
 use crate::spelling::Spell;
 use std::collections::BTreeSet;
+use std::rc::Rc;
 
 /// A word of a part.
 #[derive(Clone)]
@@ -49,18 +50,18 @@ impl Part {
         if line.len() < count || (line.len() > count && !self.has_rest) {
             return None;
         }
+        let ends = &line[line.len() - self.ending.len()..];
+        let pairs = || self.words.iter().zip(line).chain(self.ending.iter().zip(ends));
+        if pairs().any(|(wanted, word)| matches!(wanted, Word::Is(octets) if octets != word)) {
+            return None;
+        }
         let mut bound = names.clone();
-        let ends = self.ending.iter().zip(&line[line.len() - self.ending.len()..]);
-        for (wanted, word) in self.words.iter().zip(line).chain(ends) {
-            match wanted {
-                Word::Any => (),
-                Word::Is(octets) if octets == word => (),
-                Word::Is(_) => return None,
-                Word::Name(name) => match bound.binary_search_by_key(name, |it| it.0) {
-                    Ok(at) if bound[at].1 == *word => (),
-                    Ok(_) => return None,
-                    Err(at) => bound.insert(at, (*name, word.to_vec())),
-                },
+        for (wanted, word) in pairs() {
+            let Word::Name(name) = wanted else { continue };
+            match bound.binary_search_by_key(name, |it| it.0) {
+                Ok(at) if bound[at].1 == *word => (),
+                Ok(_) => return None,
+                Err(at) => bound.insert(at, (*name, word.to_vec())),
             }
         }
         Some(bound)
@@ -133,11 +134,11 @@ pub struct Pattern {
 }
 
 /// How far a pattern has come: for each of its sequels how many parts have come, with which names; and which packets have
-/// arrived.
+/// arrived. Copies share both.
 #[derive(Clone)]
 pub struct Reached {
-    states: Vec<Vec<(usize, Names)>>,
-    arrived: BTreeSet<Vec<u8>>,
+    states: Rc<Vec<Vec<(usize, Names)>>>,
+    arrived: Rc<BTreeSet<Vec<u8>>>,
 }
 
 impl Pattern {
@@ -180,22 +181,27 @@ impl Pattern {
 
     /// Where it begins.
     pub fn start(&self) -> Reached {
-        Reached { states: vec![vec![(0, Names::new())]; self.sequels.len()], arrived: BTreeSet::new() }
+        Reached { states: Rc::new(vec![vec![(0, Names::new())]; self.sequels.len()]), arrived: Rc::default() }
     }
 
     /// Goes on by printed lines.
     pub fn advance(&self, reached: &mut Reached, lines: &[u8]) {
         for line in lines.split(|it| *it == b'\n').filter(|it| !it.is_empty()) {
+            let head = line.split(|it| *it == b' ').next().unwrap_or_default();
+            if head != b"arrives" && !self.sequels.iter().any(|it| it.is_about(head)) {
+                continue;
+            }
             let mut words: Vec<&[u8]> = line.split(|it| *it == b' ').collect();
-            if words[0] == b"arrives" {
+            if head == b"arrives" {
                 let packet = words.pop().unwrap_or_default();
-                if !reached.arrived.insert(packet.to_vec()) {
+                if !Rc::make_mut(&mut reached.arrived).insert(packet.to_vec()) {
                     continue;
                 }
             }
-            for (sequel, states) in self.sequels.iter().zip(&mut reached.states) {
-                if sequel.is_about(words[0]) {
-                    *states = step(sequel, states, &words);
+            for (at, sequel) in self.sequels.iter().enumerate().filter(|it| it.1.is_about(head)) {
+                let next = step(sequel, &reached.states[at], &words);
+                if next != reached.states[at] {
+                    Rc::make_mut(&mut reached.states)[at] = next;
                 }
             }
         }
@@ -209,7 +215,7 @@ impl Pattern {
     /// Whether it has come to its end, with names that fit together.
     pub fn is_met(&self, reached: &Reached) -> bool {
         let mut found = vec![Names::new()];
-        for (sequel, states) in self.sequels.iter().zip(&reached.states) {
+        for (sequel, states) in self.sequels.iter().zip(reached.states.iter()) {
             let ends = || states.iter().filter(|it| it.0 == sequel.parts.len());
             found = found.iter().flat_map(|one| ends().filter_map(|other| joined(one, &other.1))).collect();
         }
@@ -219,14 +225,14 @@ impl Pattern {
 
 impl Spell for Reached {
     fn spell(&self, to: &mut Vec<u8>) {
-        for states in &self.states {
+        for states in self.states.iter() {
             states.len().spell(to);
             for (at, names) in states {
                 at.spell(to);
                 names.spell(to);
             }
         }
-        for packet in &self.arrived {
+        for packet in self.arrived.iter() {
             packet.spell(to);
         }
     }

@@ -21,11 +21,11 @@ pub struct Outgoing {
     parcel: Parcel,
 }
 
-/// What a host's program keeps: its peers in order of their addresses, and its sockets.
+/// What a host's program keeps: its peers in order of their addresses, and its sockets. Copies share the pairs that are the same.
 #[derive(Clone)]
 pub struct Program {
     own: Host,
-    pairs: BTreeMap<u8, (Host, Pair)>,
+    pairs: BTreeMap<u8, (Host, Rc<Pair>)>,
     sockets: Sockets,
 }
 
@@ -47,8 +47,8 @@ impl Program {
 
     /// A turn with a peer, which may be unknown so far.
     fn turn(&mut self, peer: Host, stamp: usize) -> Turn<'_> {
-        let (_, pair) = self.pairs.entry(peer.address()).or_insert_with(|| (peer, Pair::new()));
-        Turn { peer, pair, sockets: &mut self.sockets, stamp, notices: Vec::new() }
+        let (_, pair) = self.pairs.entry(peer.address()).or_insert_with(|| (peer, Rc::new(Pair::new())));
+        Turn { peer, pair: Rc::make_mut(pair), sockets: &mut self.sockets, stamp, notices: Vec::new() }
     }
 
     // What a user asks for.
@@ -90,7 +90,7 @@ impl Program {
     /// The pair with a peer, which has to be through a reset.
     fn ready(&mut self, peer: Host) -> Result<&mut Pair, Refusal> {
         let pair = self.pairs.get_mut(&peer.address()).map(|it| &mut it.1);
-        pair.filter(|it| it.phase == Phase::Ready).ok_or(Refusal::NotContacted)
+        pair.filter(|it| it.phase == Phase::Ready).map(Rc::make_mut).ok_or(Refusal::NotContacted)
     }
 
     /// A socket listens.
@@ -142,8 +142,8 @@ impl Program {
         let Some(&Use::End(peer, foreign)) = self.sockets.get(&socket) else { return Err(Refusal::NoSuchSocket) };
         let (_, pair) = self.pairs.get_mut(&peer.address()).ok_or(Refusal::NoSuchSocket)?;
         let key = (socket, foreign);
-        if pair.end(key).is_some_and(|it| it.is_open()) {
-            Ok((pair, key))
+        if pair.has_open(key) {
+            Ok((Rc::make_mut(pair), key))
         } else {
             Err(Refusal::NotOpen)
         }
@@ -608,6 +608,6 @@ impl Spell for Program {
 impl Program {
     /// Its pairs, in order of their addresses.
     pub fn pairs(&self) -> impl Iterator<Item = (Host, &Pair)> {
-        self.pairs.values().map(|it| (it.0, &it.1))
+        self.pairs.values().map(|it| (it.0, &*it.1))
     }
 }

@@ -147,7 +147,13 @@ impl<C: Carrier> Replay<'_, C> {
         Rc::make_mut(self.world.seats[host.index()].as_mut().expect("a host of the network"))
     }
 
-    /// The program of a host, which has to be there and up.
+    /// The program of a host, which has to be there and up, as it is.
+    fn running(&self, host: Host) -> Result<&Program, Refusal> {
+        let seat = self.world.seats.get(host.index()).and_then(Option::as_deref).ok_or(Refusal::NoSuch)?;
+        seat.program.as_ref().ok_or(Refusal::IsDown)
+    }
+
+    /// The program of a host, which has to be there and up, to be changed.
     fn program(&mut self, host: Host) -> Result<&mut Program, Refusal> {
         let seat = self.world.seats.get_mut(host.index()).and_then(Option::as_mut).ok_or(Refusal::NoSuch)?;
         Rc::make_mut(seat).program.as_mut().ok_or(Refusal::IsDown)
@@ -173,7 +179,7 @@ impl<C: Carrier> Replay<'_, C> {
 
     /// A host's next message goes out. Answers whether there was one.
     fn offer(&mut self, host: Host) -> Result<bool, Refusal> {
-        let Some(mut next) = self.program(host)?.next() else { return Ok(false) };
+        let Some(mut next) = self.running(host)?.next() else { return Ok(false) };
         let (flow, text) = (next.flow, Text::new(std::mem::take(&mut next.text)));
         let place = self.world.place();
         self.carry(|carrier| carrier.offer(flow, text))?;
@@ -184,7 +190,7 @@ impl<C: Carrier> Replay<'_, C> {
 
     /// A host takes what waits for it. Answers whether there was something.
     fn take(&mut self, host: Host) -> Result<bool, Refusal> {
-        self.program(host)?;
+        self.running(host)?;
         let place = self.world.place();
         let Some(inbound) = self.carry(|carrier| carrier.take(host))? else { return Ok(false) };
         let notices = self.program(host)?.accept(&inbound, place);
@@ -239,7 +245,7 @@ impl<C: Carrier> Replay<'_, C> {
 
     /// A line is typed at the terminal of a host.
     fn typed(&mut self, host: Host, text: Text) -> Result<(), Refusal> {
-        self.program(host)?;
+        self.running(host)?;
         let socket = self.seat(host).terminal.ok_or(Refusal::NotOpen)?;
         self.request(host, &Request::Send(socket, text)).map(|_| ())
     }
@@ -248,7 +254,7 @@ impl<C: Carrier> Replay<'_, C> {
 
     /// A service begins.
     fn start(&mut self, host: Host, service: Service) -> Result<(), Refusal> {
-        self.program(host)?;
+        self.running(host)?;
         let place = self.seat(host).services.add(service);
         let requests = self.seat(host).services.at(place).start();
         self.run(host, place, requests);

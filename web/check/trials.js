@@ -272,6 +272,49 @@ export async function large({ $, one, all, changed, pause, press, key, want, wro
 }
 
 /**
+ * At a distance lines that run side by side are one, with their number, and each is back from near.
+ *
+ * @param {Page} page
+ */
+export async function bundles({ $, all, pause, press, load, key, want }) {
+    await load("arpanet-of-july-1977");
+    const folded = () => all("#network .line.folded").length;
+    const far = folded();
+    const counts = all("#network .line.bundle .many").map((it) => Number(it.textContent.slice(1)));
+    want(far > 5, `only ${far} lines are folded`);
+    want(counts.reduce((sum, it) => sum + it - 1, 0) === far, `${far} lines are folded, in bundles of ${counts}`);
+    for (let at = 0; at < 9; at += 1) press("nearer");
+    await pause(60);
+    want(folded() === 0, `${folded()} lines stay folded from near`);
+    want(all("#network .many").every((it) => !it.textContent), "a bundle has its number from near");
+    key("0", $("network"));
+    await pause(60);
+    want(folded() === far, `${folded()} lines are folded again, and not ${far}`);
+}
+
+/**
+ * Sentences name the hosts that send and take.
+ *
+ * @param {Page} page
+ */
+export async function named({ $, load, slide, want }) {
+    await load("arpanet-of-december-1969");
+    const said = [];
+    for (let at = 1; at <= Number($("slider").max); at += 1) {
+        slide(at);
+        said.push($("sentence").textContent);
+    }
+    const found = said.flatMap((it) => {
+        const [, source, destination] = /(\w+) hands its IMP a message for (\w+)/.exec(it) ?? [];
+        const [, taker, sender] = /(\w+) takes (\w+)'s message/.exec(it) ?? [];
+        return source ? [`${source} to ${destination}`] : taker ? [`${taker} from ${sender}`] : [];
+    });
+    const first = ["UTAH to UCLA", "UCLA from UTAH", "UTAH to UCLA", "UCLA from UTAH", "UTAH to UCLA"];
+    const whole = [...first, "UCLA to UTAH", "UCLA to UTAH"].join(", ");
+    want(found.join(", ") === whole, `who sends and takes: ${found.join(", ")}`);
+}
+
+/**
  * What can happen now is listed by the program, and a tap on it does it; a surprise is played, and a search finds.
  *
  * @param {Page} page
@@ -309,7 +352,7 @@ export async function happening({ $, one, all, until, changed, press, slide, loa
  *
  * @param {Page} page
  */
-export async function judged({ $, one, all, until, changed, press, load, want }) {
+export async function judged({ $, one, all, until, changed, pause, press, load, want }) {
     await load("exercise-an-rfnm");
     const goal = () => $("goal").textContent;
     await until(() => goal(), "the goal");
@@ -317,7 +360,11 @@ export async function judged({ $, one, all, until, changed, press, load, want })
     want(!/Goal:/.test($("sentence").textContent), "the pattern is in the introduction");
     press("edit");
     const area = one("textarea");
-    area.value += "calm 1\nout 0/1 0/2 5 8 41\ncalm 2\n";
+    area.value += "calm 1\nout 0/1 0/2 5 8 41\n";
+    await changed(() => area.dispatchEvent(new Event("input")));
+    await pause(1500);
+    want(/not reached yet/.test(goal()), "too early: " + goal());
+    area.value += "calm 2\n";
     await changed(() => area.dispatchEvent(new Event("input")));
     await until(() => /is reached, with 3 events/.test(goal()), "that the goal is reached: " + goal());
     want($("goal").classList.contains("reached"), "a reached goal looks as others");

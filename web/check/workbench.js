@@ -132,6 +132,48 @@ const PLANTED = /** @type {Planted[]} */ ([
         words: "why nothing is opened",
     },
     {
+        what: "a sentence with another host's name",
+        from: 'hostName(network, words[place] ?? "")',
+        to: 'hostName(network, words[name === "source" ? 1 : place] ?? "")',
+        by: "named",
+        words: "who sends and takes",
+    },
+    {
+        what: "a step that is skipped",
+        from: "next: () => this.step(1),",
+        to: "next: () => this.step(2),",
+        by: "stepped",
+        words: "next goes one step",
+    },
+    {
+        what: "a refused event among those that are possible",
+        from: 'if (!printed.some((line) => line.startsWith("refused ")))',
+        to: "if (true)",
+        by: "happening",
+        words: "refused: ",
+    },
+    {
+        what: "a goal that is judged by its first part",
+        from: "readPattern(goal.pattern)",
+        to: 'readPattern(goal.pattern.split(" then ")[0])',
+        by: "judged",
+        words: "too early",
+    },
+    {
+        what: "a zoom that loses labels",
+        from: 'element.classList.toggle("folded", !shown[place]);',
+        to: 'element.classList.toggle("folded", !shown[place] || this.port.scale > 1.5);',
+        by: "large",
+        words: "labels are left out from near",
+    },
+    {
+        what: "lines side by side that are not folded",
+        from: "const NEAR = 24;",
+        to: "const NEAR = 0;",
+        by: "bundles",
+        words: "lines are folded",
+    },
+    {
         what: "labels that shrink with the map",
         from: "Math.max(1, LEAST_LETTERS / letters)",
         to: "1",
@@ -269,14 +311,14 @@ async function whole(browser, address) {
         steps += await browser.evaluate('return Number(document.getElementById("slider").max);');
     }
     const { keys, tapped, holding, distances, compared, printed, hidden, typed, measured, contrast } = trials;
-    const { happening, judged, large, reached, unopened } = trials;
+    const { bundles, happening, judged, large, named, reached, unopened } = trials;
     for (const size of LARGE) {
         await browser.resize(...size);
         wrong.push(...(await trial(browser, [large, largeNetwork()])));
         console.log(`63 IMPs: ${await browser.evaluate("return document.documentElement.dataset.measured;")}`);
     }
     await browser.resize(...WIDE);
-    for (const body of [unopened, happening, judged, keys, tapped, holding, distances, compared, printed, hidden, typed]) {
+    for (const body of [named, bundles, unopened, happening, judged, keys, tapped, holding, distances, compared, printed, hidden, typed]) {
         wrong.push(...(await trial(browser, [body])));
     }
     let places = 0;

@@ -10,11 +10,6 @@ export const COMMANDS = TABLE.commands
 const HEADER = 5; // octets
 
 /**
- * @typedef {{name: "RTS", own: number, foreign: number, link: number}} Rts a receiver asks for a connection on a link
- * @typedef {{name: "ALL" | "RET", link: number, messages: number, bits: number}} Counts a grant, or what is given back
- */
-
-/**
  * A number of four octets.
  *
  * @param {number[]} octets
@@ -35,26 +30,17 @@ export function short(octets, at) {
 }
 
 /**
- * The requests of receivers and the counts in a message on link 0. A message that isn't whole has those before its
- * fault.
+ * The links for which a message on link 0 grants. One that isn't whole has those before its fault.
  *
  * @param {number[]} message its octets
- * @returns {(Rts | Counts)[]}
  */
-export function countsIn(message) {
-    /** @type {(Rts | Counts)[]} */
+export function linksGranted(message) {
     const found = [];
     const octets = message.slice(HEADER, HEADER + short(message, 2));
     for (let at = 0; at < octets.length; ) {
         const command = COMMANDS[octets[at]];
         if (!command || octets.length - at < command.length) break;
-        const { name } = command;
-        if (name === "RTS") {
-            found.push({ name, own: wide(octets, at + 1), foreign: wide(octets, at + 5), link: octets[at + 9] });
-        }
-        if (name === "ALL" || name === "RET") {
-            found.push({ name, link: octets[at + 1], messages: short(octets, at + 2), bits: wide(octets, at + 4) });
-        }
+        if (command.name === "ALL") found.push(octets[at + 1]);
         at += command.length;
     }
     return found;

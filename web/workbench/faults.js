@@ -1,15 +1,16 @@
 /** What is wrong with an input that the program refuses: the line, and why. By the forms of docs/program.md. */
 
 import { TABLE } from "../../python/dorydate/sentences/table.mjs";
+import { wordsOf } from "./script.js";
 import { readDocument, tables, Unreadable } from "./topology.js";
 import { filled, joinedWords } from "./words.js";
 
 /** @typedef {import("./runs.js").Refusal} Refusal */
 /** @typedef {import("./script.js").Input} Input */
 
-const MOST_OCTETS = 1_048_576;
-const FAULTS = TABLE.faults;
-const TOPOLOGIES = TABLE.topologies;
+const [MOST_OCTETS, MOST_IMPS, MOST_LINES] = [1_048_576, 63, 5];
+const FAULTS = /** @type {{[name: string]: string}} */ (TABLE.faults);
+const TOPOLOGIES = /** @type {{[name: string]: string}} */ (TABLE.topologies);
 
 /** The words after each event of a raw network, and of one whose hosts have programs. */
 const RAW = formsOf(TABLE.forms);
@@ -18,7 +19,10 @@ const OF_PROGRAMS = formsOf(TABLE["forms of programs"]);
 const WORLD = { ...EVENTS, ...OF_PROGRAMS };
 
 /** What a number is, the least and the greatest. */
-const RANGES = /** @type {{[name: string]: (string | number)[]}} */ (TABLE.ranges);
+const RANGES = /** @type {{[name: string]: [string, number, number]}} */ (/** @type {unknown} */ (TABLE.ranges));
+
+/** A host whose two numbers change places. */
+const SWAPPED = new RegExp(TABLE.swapped);
 
 /**
  * @param {{[name: string]: string}} forms
@@ -44,7 +48,7 @@ export function faultOf({ input, said, status }) {
             line: input.head.length + 1 + number,
         };
     }
-    if (said.includes("bad topology")) return wrongTopology(input);
+    if (said.includes("bad topology")) return wrongTopology(input) ?? NOT_FOUND;
     return {
         text: said.trim().replace(/^arpasim: /, "The program says: ") || `The program ended with status ${status}.`,
         line: 0,
@@ -59,27 +63,22 @@ function isRaw(input) {
 /**
  * Why a script line is not an event, null where no cause is found.
  *
- * @param {string} text
+ * @param {string} line
  * @param {boolean} raw
  * @returns {string | null}
  */
-export function wrongLine(text, raw) {
-    if (text.includes("\r")) return FAULTS["carriage return"];
-    if (/[^ -~]/.test(text)) return FAULTS["not ASCII"];
-    const isTyped = !raw && text.split(" ")[0] === "type";
-    const words = isTyped ? typedWords(text) : text.split(" ");
-    if (!isTyped && words.includes("")) return FAULTS.spaces;
-    const events = raw ? RAW : WORLD;
-    const form = events[words[0]];
-    if (!form) return unknownEvent(words[0], raw, Object.keys(events));
-    const mistake = knownMistake(words, text);
+export function wrongLine(line, raw) {
+    const why = byRules(TABLE["rules of lines"], line, raw);
+    if (why) return why;
+    const words = raw ? line.split(" ") : wordsOf(line);
+    const form = (raw ? RAW : WORLD)[words[0]];
+    if (!form) return unknownEvent(words[0], raw);
+    const mistake = byRules(TABLE["rules of events"], line, raw);
     if (mistake) return mistake;
     const parts = words.slice(1);
     if (parts.length !== form.length) {
-        return filled(
-            FAULTS.words,
-            { word: words[0], needed: form.length, form: [words[0], ...form].join(" "), found: parts.length },
-        );
+        const holes = { word: words[0], needed: form.length, form: [words[0], ...form].join(" "), found: parts.length };
+        return filled(FAULTS.words, holes);
     }
     for (const [place, name] of form.entries()) {
         const why = name === "OCTETS"
@@ -91,48 +90,31 @@ export function wrongLine(text, raw) {
 }
 
 /**
- * The words of a line at a terminal: its text is one of them.
+ * The first rule that a line of this kind of network breaks, in words.
  *
- * @param {string} text
- */
-function typedWords(text) {
-    const [kind, host, ...rest] = text.split(" ");
-    return host === undefined ? [kind] : rest.length ? [kind, host, rest.join(" ")] : [kind, host];
-}
-
-/**
- * What is meant where a line has a comment after it, an empty line at a terminal without its space, or octets in
- * another spelling.
- *
- * @param {string[]} words
+ * @param {string[][]} rules
  * @param {string} line
- * @returns {string | null}
+ * @param {boolean} raw
  */
-function knownMistake(words, line) {
-    if (words[0] === "type") return words.length === 2 ? filled(FAULTS["empty line"], { line }) : null;
-    if (words.slice(1).some((it) => it.startsWith("#"))) {
-        return filled(FAULTS.comment, { comment: line.slice(line.indexOf(" #") + 1) });
+function byRules(rules, line, raw) {
+    for (const [of, pattern, name] of rules) {
+        const found = !of || of === (raw ? "raw" : "programs") ? new RegExp(pattern).exec(line) : null;
+        if (!found) continue;
+        const { text = "", digits = "", ...holes } = found.groups ?? {};
+        const octets = [...text].map((it) => it.charCodeAt(0).toString(16).padStart(2, "0")).join("").toUpperCase();
+        const spelled = `${4 * octets.length} ${octets || "-"}`;
+        return filled(FAULTS[name], { ...holes, text, spelled, upper: digits.toUpperCase() });
     }
-    if (words[0] !== "out" && words[0] !== "send") return null;
-    const quoted = /"([^"]*)"/.exec(line);
-    if (quoted) {
-        const digits = (/** @type {string} */ letter) => letter.charCodeAt(0).toString(16).padStart(2, "0");
-        const octets = [...quoted[1]].map(digits).join("").toUpperCase();
-        return filled(FAULTS.text, { text: quoted[0], spelled: `${4 * octets.length} ${octets || "-"}` });
-    }
-    const last = words[words.length - 1];
-    return /^0[xX]/.test(last) ? filled(FAULTS["0x"], { digits: last.slice(2).toUpperCase() }) : null;
+    return null;
 }
 
 /**
  * @param {string} word
  * @param {boolean} raw
- * @param {string[]} events
  */
-function unknownEvent(word, raw, events) {
-    if (word === "%") return FAULTS["second marker"];
+function unknownEvent(word, raw) {
     if (raw && word in OF_PROGRAMS) return filled(FAULTS["of programs"], { word });
-    if (!raw && word === "out") return FAULTS["of raw"];
+    const events = Object.keys(raw ? RAW : WORLD);
     const meant = nearest(word.toLowerCase(), events);
     const help = meant ? filled(FAULTS.meant, { meant }) : filled(FAULTS.events, { events: events.join(", ") });
     return `${filled(FAULTS.unknown, { word: word.slice(0, 40) })} ${help}`;
@@ -181,30 +163,24 @@ function distance(a, b) {
  * @returns {string | null}
  */
 function wrongWord(name, word) {
-    if (name === "TEXT") return null;
-    if (["S", "D", "H", "P"].includes(name)) {
-        const parts = word.split("/");
-        if (parts.length !== 2) return filled(FAULTS["not a host"], { word });
-        const swapped = /^[1-9]\d*\/[0-3]$/.test(word) && (Number(parts[0]) > 3 || parts[1] === "0")
-            ? ` ${filled(FAULTS.meant, { meant: `${parts[1]}/${parts[0]}` })}`
-            : "";
-        const why = wrongNumber(parts[0], "the host's number", 0, 3) ?? wrongNumber(parts[1], ...rangeFor("I"));
-        return why && why + swapped;
-    }
-    if (name === "+|-") return word === "+" || word === "-" ? null : filled(FAULTS["not a direction"], { word });
-    if (name === "OCTET" && /^0x/.test(word)) {
-        return `\`${word}\`: octets are decimal numbers here, as in ${parseInt(word, 16) || 65}.`;
-    }
-    return Object.hasOwn(RANGES, name) ? wrongNumber(word, ...rangeFor(name)) : null;
+    const rule = TABLE["rules of words"].find(
+        ([names, pattern]) => names.split(" ").includes(name) && !new RegExp(pattern).test(word),
+    );
+    if (rule) return filled(FAULTS[rule[2]], { word });
+    if (Object.hasOwn(RANGES, name)) return wrongNumber(word, ...RANGES[name]);
+    return ["S", "D", "H", "P"].includes(name) ? wrongHost(word) : null;
 }
 
 /**
- * @param {string} name
- * @returns {[string, number, number]}
+ * Why a word with its slash names no host.
+ *
+ * @param {string} word
  */
-function rangeFor(name) {
-    const [what, least, most] = RANGES[name];
-    return [String(what), Number(least), Number(most)];
+function wrongHost(word) {
+    const [host, imp] = word.split("/");
+    const why = wrongNumber(host, "the host's number", 0, 3) ?? wrongNumber(imp, ...RANGES.I);
+    const swapped = SWAPPED.exec(word);
+    return why && swapped ? `${why} ${filled(FAULTS.meant, { meant: `${swapped[2]}/${swapped[1]}` })}` : why;
 }
 
 /**
@@ -245,23 +221,21 @@ function wrongOctets(bits, octets) {
     return unused && parseInt(octets.slice(-2), 16) % (1 << unused) ? filled(FAULTS.unused, { bits, unused }) : null;
 }
 
+const NOT_FOUND = { text: "The network is refused. docs/program.md has the form of networks.", line: 0 };
+
 /**
- * Why a topology is refused.
+ * Why a topology is refused, null where no cause is found.
  *
  * @param {Input} input
- * @returns {{text: string, line: number}}
+ * @returns {{text: string, line: number} | null}
  */
-function wrongTopology(input) {
-    const { text, head, marked } = input;
-    if (new TextEncoder().encode(text).length > MOST_OCTETS) {
+export function wrongTopology(input) {
+    if (new TextEncoder().encode(input.text).length > MOST_OCTETS) {
         return { text: filled(TOPOLOGIES.octets, { most: MOST_OCTETS }), line: 0 };
     }
-    if (!marked) {
-        const line = head.findIndex((it) => it.trim() === "%");
-        return { text: `${TOPOLOGIES.marker}${line >= 0 ? ` ${TOPOLOGIES["marker alone"]}` : ""}`, line: line + 1 };
-    }
+    if (!input.marked) return wrongMarker(input);
     try {
-        return wrongNetwork(readDocument(head.join("\n")));
+        return wrongNetwork(readDocument(input.head.join("\n")));
     } catch (why) {
         if (why instanceof Unreadable) {
             return { text: `Line ${why.line} of the network: ${why.message}.`, line: why.line };
@@ -271,100 +245,117 @@ function wrongTopology(input) {
 }
 
 /**
+ * Why an input has no marker line.
+ *
+ * @param {Input} input
+ */
+function wrongMarker({ text, head }) {
+    if (!text.trim()) return { text: TOPOLOGIES.empty, line: 0 };
+    if (/^(?:in|answer|life|handed) /m.test(text) || text.endsWith("\nend\n")) return { text: TOPOLOGIES.log, line: 0 };
+    const events = Object.keys({ ...RAW, ...OF_PROGRAMS }).join("|");
+    for (const [at, line] of head.entries()) {
+        for (const [pattern, ...names] of TABLE["rules of markers"]) {
+            if (new RegExp(pattern.replace("{events}", events)).test(line)) {
+                return { text: joinedWords(names.map((name) => TOPOLOGIES[name])), line: at + 1 };
+            }
+        }
+    }
+    return { text: TOPOLOGIES.marker, line: 0 };
+}
+
+/**
  * Which rule of networks a document breaks.
  *
  * @param {import("./topology.js").Document} document
- * @returns {{text: string, line: number}}
+ * @returns {{text: string, line: number} | null}
  */
-function wrongNetwork(document) {
-    const { values, places } = document;
+function wrongNetwork({ values, places }) {
     const at = (/** @type {object} */ table, /** @type {string} */ key) => (
         places.get(table)?.get(key) ?? places.get(table)?.get("") ?? 0
     );
     const keys = ["carrier", "raw", "imp", "line"];
     const further = Object.keys(values).find((key) => !keys.includes(key));
     if (further) {
-        const meant = nearest(further, keys);
-        return {
-            text: joinedWords([filled(TOPOLOGIES.key, { key: further }), meant && filled(FAULTS.meant, { meant })]),
-            line: at(values, further),
-        };
+        const meant = nearest(further.toLowerCase(), keys);
+        const told = [filled(TOPOLOGIES.key, { key: further }), meant && filled(FAULTS.meant, { meant })];
+        return { text: joinedWords(told), line: at(values, further) };
     }
     if (!["plain", "subnet"].includes(values.carrier ?? "subnet")) {
         return { text: TOPOLOGIES.carrier, line: at(values, "carrier") };
     }
     if (typeof (values.raw ?? false) !== "boolean") return { text: TOPOLOGIES.raw, line: at(values, "raw") };
-    const imps = tables(values.imp);
-    if (imps.length < 1 || imps.length > 63) return { text: TOPOLOGIES.imps, line: 0 };
-    for (const imp of imps) {
-        const why = wrongTable("imp", imp, { id: [1, 63], hosts: [0, 4] });
-        if (why) return { text: why.text, line: at(imp, why.key) };
-    }
-    const numbers = imps.map((imp) => imp.id);
-    const double = imps.find((imp, place) => numbers.indexOf(imp.id) < place);
-    if (double) return { text: filled(TOPOLOGIES["two imps"], { number: double.id }), line: at(double, "id") };
-    return wrongLines(tables(values.line), numbers, at);
+    const [imps, lines] = [tables(values.imp), values.line ?? []];
+    if (imps.length < 1 || imps.length > MOST_IMPS) return { text: TOPOLOGIES.imps, line: 0 };
+    if (!Array.isArray(lines)) return { text: TOPOLOGIES.lines, line: 0 };
+    /** @type {Set<number>} */
+    const numbers = new Set();
+    const broken = wrongRows("imp", "id", imps, ({ id }) => {
+        if (numbers.has(id)) return filled(TOPOLOGIES["two imps"], { number: id });
+        numbers.add(id);
+        return "";
+    }) ?? wrongRows("line", "", tables(lines), lineRule(numbers));
+    return broken && { text: broken.text, line: at(broken.table, broken.key) };
 }
 
 /**
- * @param {{[key: string]: any}[]} lines
- * @param {number[]} numbers
- * @param {(table: object, key: string) => number} at
+ * The first table that has not its keys in their ranges, or breaks a rule of its own.
+ *
+ * @param {string} name
+ * @param {string} key the one that the rule is about
+ * @param {{[key: string]: any}[]} rows
+ * @param {(table: {[key: string]: any}) => string} rule
  */
-function wrongLines(lines, numbers, at) {
-    /** @type {Map<number, number>} */
-    const counts = new Map();
-    /** @type {Set<string>} */
-    const joined = new Set();
-    for (const line of lines) {
-        const why = wrongTable("line", line, { a: [1, 63], b: [1, 63] });
-        if (why) return { text: why.text, line: at(line, why.key) };
-        const { a, b } = line;
-        if (a === b || !numbers.includes(a) || !numbers.includes(b)) {
-            return { text: filled(TOPOLOGIES.joins, { a, b }), line: at(line, "") };
-        }
-        const pair = `${Math.min(a, b)} ${Math.max(a, b)}`;
-        if (joined.has(pair)) {
-            return {
-                text: filled(TOPOLOGIES["two lines"], { a: Math.min(a, b), b: Math.max(a, b) }),
-                line: at(line, ""),
-            };
-        }
-        joined.add(pair);
-        for (const imp of [a, b]) {
-            counts.set(imp, (counts.get(imp) ?? 0) + 1);
-            if ((counts.get(imp) ?? 0) > 5) {
-                return { text: filled(TOPOLOGIES["five lines"], { number: imp }), line: at(line, "") };
-            }
-        }
+function wrongRows(name, key, rows, rule) {
+    for (const table of rows) {
+        const why = wrongTable(name, table) ?? { text: rule(table), key };
+        if (why.text) return { ...why, table };
     }
-    return { text: "The network is refused. docs/program.md has the form of networks.", line: 0 };
+    return null;
 }
 
 /**
+ * Which rule a line breaks beside those before it.
+ *
+ * @param {Set<number>} numbers of the IMPs
+ */
+function lineRule(numbers) {
+    /** @type {Map<number, number>} */
+    const ends = new Map();
+    /** @type {Set<string>} */
+    const pairs = new Set();
+    return (/** @type {{[key: string]: any}} */ line) => {
+        const [a, b] = [Math.min(line.a, line.b), Math.max(line.a, line.b)];
+        if (a === b || !numbers.has(a) || !numbers.has(b)) return filled(TOPOLOGIES.joins, { a: line.a, b: line.b });
+        if (pairs.has(`${a} ${b}`)) return filled(TOPOLOGIES["two lines"], { a, b });
+        pairs.add(`${a} ${b}`);
+        for (const imp of [a, b]) ends.set(imp, (ends.get(imp) ?? 0) + 1);
+        const full = [a, b].find((imp) => (ends.get(imp) ?? 0) > MOST_LINES);
+        return full ? filled(TOPOLOGIES["five lines"], { number: full }) : "";
+    };
+}
+
+/**
+ * Why a table has not exactly its keys with whole numbers in their ranges.
+ *
  * @param {string} name
  * @param {{[key: string]: any}} table
- * @param {{[key: string]: [number, number]}} ranges
  * @returns {{text: string, key: string} | null}
  */
-function wrongTable(name, table, ranges) {
-    const keys = Object.keys(ranges);
-    const wrong = Object.keys(table).find((key) => !keys.includes(key));
-    if (wrong === "raw" || wrong === "carrier") {
-        return { text: filled(TOPOLOGIES.displaced, { key: wrong, table: name }), key: wrong };
+function wrongTable(name, table) {
+    const ranges = TABLE.tables.filter(([of]) => of === name);
+    const keys = ranges.map(([, key]) => String(key));
+    const found = Object.keys(table);
+    const displaced = found.find((key) => key === "raw" || key === "carrier");
+    if (displaced) return { text: filled(TOPOLOGIES.displaced, { key: displaced, table: name }), key: displaced };
+    const other = found.find((key) => !keys.includes(key));
+    if (other || found.length !== keys.length) {
+        const holes = { table: name, keys: keys.join(" and "), found: found.join(", ") || "none" };
+        return { text: filled(TOPOLOGIES.keys, holes), key: other ?? "" };
     }
-    if (wrong || Object.keys(table).length !== keys.length) {
-        return {
-            text: filled(
-                TOPOLOGIES.keys,
-                { table: name, keys: keys.join(" and "), found: Object.keys(table).join(", ") || "none" },
-            ),
-            key: wrong ?? "",
-        };
-    }
-    for (const [key, [least, most]] of Object.entries(ranges)) {
-        if (!Number.isInteger(table[key]) || table[key] < least || table[key] > most) {
-            return { text: filled(TOPOLOGIES.number, { key, table: name, least, most }), key };
+    for (const [, key, least, most] of ranges) {
+        const value = table[key];
+        if (!Number.isInteger(value) || value < least || value > most) {
+            return { text: filled(TOPOLOGIES.number, { key, table: name, least, most }), key: String(key) };
         }
     }
     return null;

@@ -40,14 +40,15 @@ export function placed(network) {
     const step = small ? 74 : 172;
     const places = network.sites.map((site) => site.place);
     const isKnown = areFarApart(places);
-    const wide = small ? 820 : 1000;
+    const isCrowded = numbers.length > CROWDED;
+    const wide = isCrowded ? 1400 : small ? 820 : 1000;
     let points = isKnown
         ? places.map((it) => placeOn(it ?? { north: 0, east: 0 }, wide))
         : fitted(turned(spread(numbers.length, hopCounts(network, numbers), step)));
     const outline = isKnown ? OUTLINE.map(([north, east]) => placeOn({ north, east }, wide)) : [];
     const widths = numbers.map((number) => boxes.get(number)?.w ?? box.w);
-    const room = isKnown ? 28 : 0; // between sites of one town
-    points = apart(points, widths, room + (small ? 12 : 46), room + 2 * box.h + (small ? 15 : 52));
+    const room = !isKnown ? 0 : isCrowded ? 10 : 28; // between sites of one town
+    points = apart(points, widths, room + (small ? 12 : 46), room + 2 * box.h + (small ? 15 : 52), isCrowded && isKnown);
     const imps = new Map(numbers.map((number, place) => [number, points[place]]));
     const hosts = hostsAround(network, imps, boxes, radius, small);
     const margin = small ? 12 : 26;
@@ -82,17 +83,19 @@ export function placed(network) {
 }
 
 /**
- * Whether sites are all on the map of the United States, and from coast to coast: on it a few of one coast would be a
- * heap.
+ * Whether it is known where all sites are, and those on the map of the United States are from coast to coast: on it a
+ * few of one coast would be a heap. Sites abroad are at its edge.
  *
  * @param {(import("./states.js").Place | null)[]} places
  */
 function areFarApart(places) {
     const known = places.flatMap((it) => (it && isInStates(it) ? [it.east] : []));
-    return known.length === places.length && Math.max(...known) - Math.min(...known) > COAST_TO_COAST;
+    return places.every((it) => it) && Math.max(...known) - Math.min(...known) > COAST_TO_COAST;
 }
 
 const COAST_TO_COAST = 30; // degrees
+
+const CROWDED = 20; // sites, beyond which the country is drawn larger, so that a town does not become a coast
 
 /**
  * Over how many lines each IMP is from each other, by their places; those that no route joins are far.
@@ -196,8 +199,9 @@ function fitted(points) {
  * @param {number[]} widths half the width of each
  * @param {number} gap between two beside each other
  * @param {number} h the distance that two need in height
+ * @param {boolean} isCrowded whether they are to spread in both directions, and not where the way is shortest
  */
-function apart(points, widths, gap, h) {
+function apart(points, widths, gap, h, isCrowded) {
     for (let turn = 0; turn < 200; turn += 1) {
         let moved = false;
         for (let a = 0; a < points.length; a += 1) {
@@ -207,7 +211,8 @@ function apart(points, widths, gap, h) {
                 const [over, under] = [widths[a] + widths[b] + gap - Math.abs(dx), h - Math.abs(dy)];
                 if (over <= 0 || under <= 0) continue;
                 moved = true;
-                const push = over < under
+                const isBeside = isCrowded ? over / (over + Math.abs(dx)) < under / h : over < under;
+                const push = isBeside
                     ? { x: ((dx < 0 ? -1 : 1) * over) / 2 + 0.1, y: 0 }
                     : { x: 0, y: ((dy < 0 ? -1 : 1) * under) / 2 + 0.1 };
                 points[a] = { x: points[a].x - push.x, y: points[a].y - push.y };

@@ -30,7 +30,13 @@ const HOURS = /** @type {[string, string[]][]} */ ([
     ],
     [
         "The years",
-        ["arpanet-of-december-1970", "arpanet-of-april-1971"],
+        [
+            "arpanet-of-december-1970",
+            "arpanet-of-april-1971",
+            "arpanet-of-august-1972",
+            "arpanet-of-september-1973",
+            "arpanet-of-july-1977",
+        ],
     ],
     [
         "Exercises, solved",

@@ -220,6 +220,27 @@ const SUBNET = {
             "Over SDC, RAND and BBN.",
         ],
     ],
+    "arpanet-of-august-1972": [
+        [
+            10,
+            "The line from UTAH to ILLINOIS is cut while a message is on its way from UCLA. How does it come to MIT?",
+            "After some rounds to and fro in the west it goes from UTAH over BOULDER, GWC, CASE, RADC and LINCOLN.",
+        ],
+    ],
+    "arpanet-of-september-1973": [
+        [
+            10,
+            "NORSAR and LONDON are an island now. What becomes of LONDON's message for HAWAII?",
+            "It goes to and fro between the two, which count to infinity, and LONDON gets no answer.",
+        ],
+    ],
+    "arpanet-of-july-1977": [
+        [
+            13,
+            "Two ways across the country are cut. How does UCLA's next message come to MIT44?",
+            "By the south, over NOSC, AFWL, TEXAS and SCOTT, and then over GWC, ARGONNE and ILLINOIS.",
+        ],
+    ],
     "how-long-until-utah-is-gone": [
         [
             12,

@@ -30,13 +30,20 @@ export function isInStates({ north, east }) {
     return north > SOUTH && north < NORTH && east > WEST && east < EAST;
 }
 
+const [SEA, CORNER] = [4, 7]; // degrees by which places abroad are off the coast, and below the corner
+
+/** @type {(value: number, least: number, most: number) => number} */
+const within = (value, least, most) => Math.min(most, Math.max(least, value));
+
 /**
- * Where a place is on a map of a width.
+ * Where a place is on a map of a width. One that isn't on this map is at the edge that is nearest to it.
  *
  * @param {Place} place
  * @param {number} width
  */
 export function placeOn({ north, east }, width) {
     const degree = width / ((EAST - WEST) * NARROW);
-    return { x: (east - WEST) * NARROW * degree, y: (NORTH - north) * degree };
+    const isHere = isInStates({ north, east });
+    const [x, y] = isHere ? [east, north] : [within(east, WEST, EAST + SEA), within(north, SOUTH, NORTH - CORNER)];
+    return { x: (x - WEST) * NARROW * degree, y: (NORTH - y) * degree };
 }

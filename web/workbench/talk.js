@@ -6,8 +6,6 @@
  * terminal hands over is what is typed, and what an echo service hands over is what it took.
  */
 
-import { countsIn } from "./commands.js";
-import { octetValues } from "./texts.js";
 import { impOf } from "./topology.js";
 
 /** @typedef {import("./runs.js").Replay} Replay */
@@ -18,6 +16,7 @@ import { impOf } from "./topology.js";
  * @property {string} flow
  * @property {number} since the moment at which it went out
  * @property {number} bits
+ * @property {string} octets
  * @property {boolean} taken
  */
 
@@ -30,13 +29,8 @@ import { impOf } from "./topology.js";
  * @property {"listens" | "asked" | "open" | "closing" | "over"} state
  * @property {number} size bits a byte, 0 where it isn't known
  * @property {boolean} service whether a service uses it
- * @property {number} link by the request of the end that receives, 0 where it isn't known
  * @property {number} grantedMessages by this end's user, where it receives
  * @property {number} grantedBits
- * @property {number} heardMessages where it sends, by all grants that have come to it
- * @property {number} heardBits
- * @property {number} backMessages where it sends, what it gave back
- * @property {number} backBits
  * @property {number} handed bits that its user or its service handed over, where it sends
  * @property {number} echoes the socket whose bits its service sends back, -1 for none
  * @property {number} messages that it sent or took
@@ -46,8 +40,6 @@ import { impOf } from "./topology.js";
  */
 
 /** @typedef {{host: string, peer: string, state: "asked" | "ready" | "failed"}} Contact */
-
-/** @typedef {{host: string, peer: string, socket: number}} User a user, and the server's host and socket */
 
 /** The bits of the number that a server sends its first user: the base of its two sockets. */
 const BASE = 32;
@@ -70,10 +62,6 @@ export class Talk {
         this.terminals = new Map();
         /** @type {Set<string>} hosts and sockets on which servers wait for a first user */
         this.doors = new Set();
-        /** @type {Map<string, number>} by host and socket the link of the last request */
-        this.links = new Map();
-        /** @type {Map<string, User>} by host the user whose initial connection isn't complete */
-        this.users = new Map();
         this.reset();
     }
 
@@ -85,8 +73,6 @@ export class Talk {
         this.ends = [];
         this.terminals = new Map();
         this.doors = new Set();
-        this.links = new Map();
-        this.users = new Map();
     }
 
     /**
@@ -141,9 +127,6 @@ export class Talk {
             case "server":
                 this.doors.add(`${host} ${rest[0]}`);
                 break;
-            case "user":
-                this.users.set(host, { host, peer: rest[0], socket: Number(rest[1]) });
-                break;
             case "impdown":
                 for (const flow of [...this.messages.keys()]) {
                     if (impOf(flow.split(" ")[0]) === Number(host)) this.messages.delete(flow);
@@ -174,52 +157,12 @@ export class Talk {
      */
     line([kind, ...words], at) {
         const flow = words.slice(0, 3).join(" ");
-        if ((kind === "out" || kind === "in") && !this.replay.network.raw && words[2] === "0") {
-            this.commands(kind, words);
-        }
-        if (kind === "out") this.messages.set(flow, { flow, since: at, bits: Number(words[3]), taken: false });
+        const message = { flow, since: at, bits: Number(words[3]), octets: words[4] ?? "", taken: false };
+        if (kind === "out") this.messages.set(flow, message);
         else if (kind === "in") this.take(flow);
         else if (kind === "answer") this.messages.delete(words.slice(1, 4).join(" "));
         else if (kind === "down" || kind === "up") this.turn(words[0], kind === "up");
         else this.notice(kind, words);
-    }
-
-    /**
-     * What the commands of a message grant or give back, and which link a connection has.
-     *
-     * @param {string} kind whether it went out or came in
-     * @param {string[]} words
-     */
-    commands(kind, [source, destination, , , octets]) {
-        if (!octets) return;
-        for (const it of countsIn(octetValues(octets))) {
-            if (it.name === "RTS") {
-                this.links.set(`${source} ${it.own}`, it.link);
-                this.links.set(`${destination} ${it.foreign}`, it.link);
-            } else if ((it.name === "ALL") === (kind === "in")) {
-                const [host, peer] = kind === "in" ? [destination, source] : [source, destination];
-                const end = this.sender(host, peer, it.link);
-                if (end && kind === "in") {
-                    end.heardMessages += it.messages;
-                    end.heardBits += it.bits;
-                } else if (end) {
-                    end.backMessages += it.messages;
-                    end.backBits += it.bits;
-                }
-            }
-        }
-    }
-
-    /**
-     * The end of a host that sends to another one on a link.
-     *
-     * @param {string} host
-     * @param {string} peer
-     * @param {number} link
-     */
-    sender(host, peer, link) {
-        const live = this.ends.filter((it) => it.host === host && it.peer === peer && it.state !== "over");
-        return live.find((it) => it.link === link && sends(it.socket));
     }
 
     /**
@@ -263,7 +206,6 @@ export class Talk {
             for (const flow of [...this.messages.keys()]) if (flow.startsWith(`${host} `)) this.messages.delete(flow);
             return;
         }
-        this.users.delete(host);
         this.contacts = this.contacts.filter((it) => it.host !== host);
         for (const end of this.ends) if (end.host === host) end.state = "over";
     }
@@ -279,7 +221,6 @@ export class Talk {
         switch (kind) {
             case "done":
             case "failed":
-                if (host === "user") this.users.delete(words[0]);
                 if (kind === "done") this.begin(host, words[0], Number(words[1]), Number(words[2]));
                 return;
             case "ready":
@@ -335,7 +276,7 @@ export class Talk {
         const known = this.live(host, socket);
         const end = known ?? { ...newEnd(host, socket, peer, foreign, "open", 0), service: true };
         if (!known) this.ends.push(end);
-        Object.assign(end, { peer, foreign, state: "open", link: this.links.get(`${host} ${socket}`) ?? 0 });
+        Object.assign(end, { peer, foreign, state: "open" });
         if (this.doors.delete(`${host} ${socket}`)) end.handed += BASE;
     }
 
@@ -358,21 +299,6 @@ export class Talk {
     live(host, socket) {
         return this.ends.find((it) => it.host === host && it.socket === socket && it.state !== "over");
     }
-
-    /**
-     * The other end of a connection, if it is there.
-     *
-     * @param {End} end
-     */
-    mate(end) {
-        return this.ends.find(
-            (it) => it.host === end.peer
-                && it.socket === end.foreign
-                && it.peer === end.host
-                && it.foreign === end.socket
-                && (it.state === "over") === (end.state === "over"),
-        );
-    }
 }
 
 /**
@@ -386,7 +312,6 @@ export class Talk {
  */
 function newEnd(host, socket, peer, foreign, state, size) {
     const granted = { grantedMessages: 0, grantedBits: 0, returnedMessages: 0, returnedBits: 0 };
-    const heard = { heardMessages: 0, heardBits: 0, backMessages: 0, backBits: 0 };
     const used = { handed: 0, messages: 0, bits: 0 };
     return {
         host,
@@ -396,10 +321,8 @@ function newEnd(host, socket, peer, foreign, state, size) {
         state,
         size,
         service: false,
-        link: 0,
         echoes: -1,
         ...granted,
-        ...heard,
         ...used,
     };
 }

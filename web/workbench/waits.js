@@ -3,13 +3,14 @@
  */
 
 import { TABLE } from "../../python/dorydate/sentences/table.mjs";
+import { linksGranted } from "./commands.js";
 import { State } from "./state.js";
-import { sends } from "./talk.js";
-import { farEnd, hostName, impName, impOf, siteName } from "./topology.js";
-import { count, filled, listed, possessive } from "./words.js";
+import { octetValues } from "./texts.js";
+import { farEnd, hostName, impName, impOf, linesOf, siteName } from "./topology.js";
+import { filled, listed, possessive } from "./words.js";
 
 /** @typedef {import("./talk.js").Talk} Talk */
-/** @typedef {import("./talk.js").End} End */
+/** @typedef {import("./trace.js").HostEnd} HostEnd */
 /** @typedef {import("./state.js").Held} Held */
 /** @typedef {import("./topology.js").Network} Network */
 
@@ -24,6 +25,49 @@ import { count, filled, listed, possessive } from "./words.js";
  * @property {string} flow of a message, "" otherwise
  */
 
+/** @typedef {{[hole: string]: string | number}} Holes */
+
+/** Of each thing that waits: facts, and what is said where they hold. The first row that holds counts. */
+const RULES = TABLE["rules of waits"];
+const [WHAT, AT, FOR] = /** @type {{[name: string]: string}[]} */ ([
+    TABLE.waits,
+    TABLE["waits at"],
+    TABLE["waits for"],
+]);
+
+/** The names of answers, and of packets where they are. */
+export const ANSWERS = TABLE.answers;
+const PACKETS = /** @type {{[kind: string]: string}} */ (TABLE.packets);
+
+/** How much each copy of a message matters, by its kind and its place. */
+const FURTHEST = /** @type {{[name: string]: number}} */ (Object.fromEntries(TABLE.furthest));
+
+/** How many messages an IMP reassembles at a time, and how many packets it stores. */
+const [SLOTS, PLACES] = [8, 32];
+
+/**
+ * What waits, by the rules.
+ *
+ * @param {string} thing
+ * @param {{[fact: string]: boolean | undefined}} facts
+ * @param {Holes} holes
+ * @returns {Wait}
+ */
+function wait(thing, facts, holes) {
+    const row = RULES.find(([name, needed]) => name === thing && needed.split(", ").every((it) => !it || facts[it]));
+    if (!row) throw new RangeError(`no rule for ${thing}`);
+    const [, , what, where, why, bad, cures] = row;
+    return {
+        what: filled(WHAT[what], holes),
+        where: filled(AT[where], holes),
+        for: filled(FOR[why], holes),
+        bad: bad === "bad",
+        cures: filled(cures, holes).split(";").filter(Boolean),
+        copies: "",
+        flow: String(holes.flow ?? ""),
+    };
+}
+
 /**
  * All that waits.
  *
@@ -32,7 +76,9 @@ import { count, filled, listed, possessive } from "./words.js";
  * @returns {Wait[]}
  */
 export function waitsOf(state, talk) {
-    return [...messageWaits(state), ...connectionWaits(state, talk), ...deadNeighbours(state)];
+    const { network } = state;
+    const inside = network.plain ? network.hosts.flatMap((host) => mailWaits(state, host)) : messageWaits(state);
+    return [...inside, ...network.hosts.flatMap((host) => connectionWaits(state, talk, host)), ...unseen(state)];
 }
 
 /**
@@ -41,80 +87,57 @@ export function waitsOf(state, talk) {
  */
 function messageWaits(state) {
     const { network } = state;
-    if (network.plain) return plainWaits(state);
     const everything = state.everything();
-    /** @type {Wait[]} */
-    const found = [];
-    for (const site of network.sites) {
-        const imp = state.imp(site.number);
-        for (const it of imp?.sources ?? []) {
-            if (it.state === "outstanding") found.push(outstanding(state, it.flow, it.number, everything));
-        }
-        for (const { flow } of imp?.hosts.flatMap((box) => box.answers) ?? []) {
-            found.push({
-                ...wait(filled(WHAT.answer, { message: messageName(network, flow) })),
-                where: impName(network, site.number),
-                for: filled(FOR.take, { host: hostName(network, flow.split(" ")[0]) }),
-                flow,
-            });
-        }
-    }
-    return found;
-}
-
-/**
- * @param {State} state
- * @returns {Wait[]}
- */
-function plainWaits(state) {
-    const { network } = state;
-    return network.hosts.flatMap((host) => {
-        const box = state.box(host);
-        if (!box) return [];
+    return network.sites.flatMap(({ number }) => {
+        const it = state.imp(number);
+        const imp = impName(network, number);
         return [
-            ...box.messages.map(
-                (it) => (
-                    {
-                        ...wait(messageName(network, it.flow)),
-                        where: filled(AT.mailbox, { host: hostName(network, host) }),
-                        for: filled(FOR.take, { host: hostName(network, host) }),
-                        flow: it.flow,
-                    }
-                ),
+            ...(it?.sources ?? []).filter((source) => source.state === "outstanding").map(
+                (source) => outstanding(state, source.flow, source.number, everything),
             ),
-            ...box.answers.map(
-                (it) => (
-                    {
-                        ...wait(
-                            filled(
-                                WHAT["answer of a kind"],
-                                { answer: ANSWERS[it.kind], message: messageName(network, it.flow) },
-                            ),
-                        ),
-                        where: filled(AT.mailbox, { host: hostName(network, host) }),
-                        for: filled(FOR.take, { host: hostName(network, host) }),
-                        flow: it.flow,
-                    }
-                ),
+            ...(it?.hosts.flatMap((box) => box.answers) ?? []).map(
+                ({ flow }) => wait("answer", {}, { ...messageHoles(network, flow), imp, host: sourceName(network, flow) }),
             ),
         ];
     });
 }
 
-/** What waits, where it is, and what it waits for. */
-const [WHAT, AT, FOR] = [TABLE.waits, TABLE["waits at"], TABLE["waits for"]];
+/**
+ * What waits in the mailbox of a host.
+ *
+ * @param {State} state
+ * @param {string} host
+ */
+function mailWaits(state, host) {
+    const { network } = state;
+    const holes = { host: hostName(network, host) };
+    const it = state.box(host);
+    return [
+        ...(it?.messages ?? []).map(({ flow }) => wait("mail", {}, { ...messageHoles(network, flow), ...holes })),
+        ...(it?.answers ?? []).map(
+            ({ flow, kind }) => (
+                wait("mail answer", {}, { ...messageHoles(network, flow), ...holes, answer: ANSWERS[kind] })
+            ),
+        ),
+    ];
+}
 
-/** The names of answers. */
-export const ANSWERS = TABLE.answers;
+/**
+ * @param {Network} network
+ * @param {string} flow
+ * @param {number} [number]
+ */
+function messageHoles(network, flow, number) {
+    return { flow, message: messageName(network, flow, number) };
+}
 
-/** What the packets that answer a message are called. */
-export const PACKETS = {
-    data: "the message",
-    rfnm: "its RFNM",
-    dead: "its Dead",
-    ask: "the question about it",
-    never: "the answer that it never came",
-};
+/**
+ * @param {Network} network
+ * @param {string} flow
+ */
+function sourceName(network, flow) {
+    return hostName(network, flow.split(" ")[0]);
+}
 
 /**
  * A message by its source, destination and link, and by its number where two messages of its flow are alive at once.
@@ -131,14 +154,6 @@ export function messageName(network, flow, number) {
 }
 
 /**
- * @param {string} what
- * @returns {Wait}
- */
-function wait(what) {
-    return { what, where: "", copies: "", for: "", bad: false, cures: [], flow: "" };
-}
-
-/**
  * A message that is outstanding: all that is alive of it, and what the one that is furthest waits for.
  *
  * @param {State} state
@@ -148,41 +163,32 @@ function wait(what) {
  * @returns {Wait}
  */
 function outstanding(state, flow, number, everything) {
-    const { network } = state;
-    const told = { ...wait(messageName(network, flow, number)), flow };
+    const holes = messageHoles(state.network, flow, number);
     const copies = everything.filter((it) => it.flow === flow && it.number === number);
-    const far = impOf(flow.split(" ")[1]);
     if (copies.length === 0) {
-        const canAsk = far !== impOf(flow.split(" ")[0]) && state.way(impOf(flow.split(" ")[0]), far).line >= 0;
-        return {
-            ...told,
-            for: FOR["nothing alive"],
-            bad: true,
-            cures: [...(canAsk ? [`ask ${flow}`] : []), `giveup ${flow}`],
-        };
+        const [source, destination] = flow.split(" ").map(impOf);
+        return wait("gone", { route: state.way(source, destination).line >= 0 }, holes);
     }
-    const best = furthest(state, copies);
     const held = copies.filter((it) => it.place.at !== "line").length;
     const places = [held ? `${held} held` : "", copies.length > held ? `${copies.length - held} on lines` : ""];
     const others = copies.length > 1 ? `(${listed(places.filter(Boolean))})` : "";
-    return { ...told, ...placeOf(state, best), copies: others };
+    return { ...heldWait(state, furthest(state, copies), holes), copies: others };
 }
 
+/** What the rules call the places of copies. */
+const PLACE = /** @type {const} */ ({ host: "whole", slot: "slot", store: "store", channel: "channel", line: "frame" });
+
 /**
- * The copy that matters: an answer before a question before the message, and of each kind the one that is nearest to
+ * The copy that matters: an answer before the message before a question, and of each kind the one that is nearest to
  * its end.
  *
  * @param {State} state
  * @param {Held[]} copies
  */
 function furthest(state, copies) {
-    const rank = { rfnm: 4, dead: 4, never: 4, ask: 2, data: 3 };
-    const at = { host: 100, slot: 90, line: 0.2, channel: 0.1, store: 0 };
-    const score = (/** @type {Held} */ it) => {
-        const to = target(it);
-        const distance = it.place.at === "host" || it.place.at === "slot" ? 0 : state.way(it.place.imp, to).distance;
-        return 1000 * rank[it.kind] + at[it.place.at] - distance;
-    };
+    const score = (/** @type {Held} */ it) => (
+        FURTHEST[it.kind] + FURTHEST[PLACE[it.place.at]] - state.way(it.place.imp, target(it)).distance
+    );
     return copies.reduce((best, it) => (score(it) > score(best) ? it : best));
 }
 
@@ -191,9 +197,8 @@ function furthest(state, copies) {
  *
  * @param {Held} held
  */
-function target(held) {
-    const [source, destination] = held.flow.split(" ");
-    return impOf(held.kind === "data" || held.kind === "ask" ? destination : source);
+function target({ flow, kind }) {
+    return impOf(flow.split(" ")[kind === "data" || kind === "ask" ? 1 : 0]);
 }
 
 /**
@@ -201,177 +206,137 @@ function target(held) {
  *
  * @param {State} state
  * @param {Held} held
- * @returns {{where: string, for: string, bad: boolean, cures: string[]}}
+ * @param {Holes} message
  */
-function placeOf(state, held) {
+function heldWait(state, held, message) {
     const { network } = state;
-    const { imp, line, place, channel } = held.place;
-    const what = held.kind === "data" ? "" : `${PACKETS[held.kind]}: `;
-    const far = line >= 0 ? farEnd(network, line, imp) : 0;
-    const room = line >= 0 && state.isEndUp(far, line) ? wantOfRoom(state, far, held) : "";
-    switch (held.place.at) {
-        case "host": {
-            const host = held.flow.split(" ")[1];
-            return {
-                where: `${impName(network, imp)}`,
-                for: filled(FOR.take, { host: hostName(network, host) }),
-                bad: !state.isUp(host),
-                cures: [`take ${host}`],
-            };
-        }
-        case "slot":
-            return {
-                where: filled(AT.slot, { imp: impName(network, imp), pieces: place }),
-                for: FOR.pieces,
-                bad: false,
-                cures: [],
-            };
-        case "store":
-            return {
-                where: `${what}${filled(AT.store, { imp: impName(network, imp) })}`,
-                for: filled(FOR.channel, { to: siteName(network, target(held)) }),
-                bad: false,
-                cures: [],
-            };
-        case "line":
-            return {
-                where: what + filled(AT.line, { from: siteName(network, imp), to: siteName(network, far) }),
-                for: room || FOR.arrival,
-                bad: false,
-                cures: ["calm 1"],
-            };
-    }
-    const isDown = !state.isEndUp(far, line);
-    return {
-        where: what + filled(AT.channel, { imp: impName(network, imp), channel, to: siteName(network, far) }),
-        for: isDown
-            ? filled(FOR["acknowledgement, down"], { imp: siteName(network, far), line })
-            : room || filled(FOR.acknowledgement, { imp: siteName(network, far) }),
-        bad: isDown,
-        cures: isDown ? [`enddown ${imp} ${line}`] : [],
+    const { at, imp, line, place, channel } = held.place;
+    const next = line >= 0 ? farEnd(network, line, imp) : 0;
+    const own = held.flow.split(" ")[1];
+    const isEndUp = line >= 0 && state.isEndUp(next, line);
+    const facts = {
+        "end down": !isEndUp,
+        "no slot": isEndUp && wantsSlot(state, next, held),
+        "no room": isEndUp && wantsRoom(state, next, held),
     };
+    const names = {
+        imp: impName(network, imp),
+        from: siteName(network, imp),
+        far: siteName(network, next),
+        next: impName(network, next),
+        to: siteName(network, target(held)),
+        host: hostName(network, own),
+        packet: PACKETS[held.kind],
+    };
+    const numbers = { own, number: imp, line, channel, pieces: place, slots: SLOTS, places: PLACES };
+    return wait(PLACE[at], facts, { ...message, ...names, ...numbers });
 }
 
 /**
- * For what room a packet waits at the IMP to which it comes next, "" if there is room.
+ * Whether a packet needs a slot at the IMP to which it comes next, and there is none.
  *
  * @param {State} state
  * @param {number} imp
  * @param {Held} held
  */
-function wantOfRoom(state, imp, { packet, flow, kind }) {
-    const it = state.imp(imp);
-    if (!it || !packet) return "";
-    const to = impOf(flow.split(" ")[kind === "data" || kind === "ask" ? 1 : 0]);
-    const isPiece = to === imp && kind === "data" && !(packet.last && packet.place === 0);
-    const hasSlot = it.slots.length < SLOTS || it.slots.some((pieces) => pieces[0].flow === flow);
-    if (isPiece && !hasSlot) {
-        return filled(FOR.slot, { imp: impName(state.network, imp), slots: SLOTS });
-    }
-    const stored = it.store.length + it.ports.reduce(
-        (sum, port) => sum + port.sending.filter((channel) => channel.packet).length,
-        0,
-    );
-    return to !== imp && stored >= PLACES
-        ? filled(FOR.room, { imp: impName(state.network, imp), places: PLACES })
-        : "";
+function wantsSlot(state, imp, { packet, flow, kind }) {
+    const slots = state.imp(imp)?.slots ?? [];
+    const isPiece = kind === "data" && impOf(flow.split(" ")[1]) === imp && !(packet?.last && packet.place === 0);
+    return isPiece && slots.length >= SLOTS && !slots.some((pieces) => pieces[0].flow === flow);
 }
 
-/** How many messages an IMP reassembles at a time, and how many packets it stores. */
-const [SLOTS, PLACES] = [8, 32];
+/**
+ * Whether a packet travels on from the IMP to which it comes next, and there is no room for it.
+ *
+ * @param {State} state
+ * @param {number} imp
+ * @param {Held} held
+ */
+function wantsRoom(state, imp, held) {
+    return target(held) !== imp
+        && state.heldBy(imp).filter(({ place: { at } }) => at === "store" || at === "channel").length >= PLACES;
+}
 
 /**
- * What connections and contacts wait for.
+ * What connections and contacts of a host wait for.
  *
  * @param {State} state
  * @param {Talk} talk
+ * @param {string} host
  * @returns {Wait[]}
  */
-function connectionWaits(state, talk) {
+function connectionWaits(state, talk, host) {
     const { network } = state;
-    /** @type {Wait[]} */
-    const found = [];
-    for (const { host, peer, state: phase } of talk.contacts) {
-        if (phase === "asked") {
-            found.push({
-                ...wait(filled(WHAT.contact, { host: hostName(network, host), peer: hostName(network, peer) })),
-                for: filled(FOR.RRP, { peer: hostName(network, peer) }),
-                bad: !talk.up.get(peer),
-            });
-        }
-    }
-    for (const { host, peer, socket } of talk.users.values()) {
-        const what = filled(WHAT.initial, { host: hostName(network, host), peer: hostName(network, peer) });
-        found.push({
-            ...wait(what),
-            for: filled(FOR.server, { socket, peer: hostName(network, peer) }),
-            bad: !talk.up.get(peer),
-        });
-    }
-    for (const end of talk.ends) found.push(...endWaits(network, talk, end));
-    return found;
-}
-
-/**
- * @param {Network} network
- * @param {Talk} talk
- * @param {End} end
- * @returns {Wait[]}
- */
-function endWaits(network, talk, end) {
-    const at = `socket ${end.socket} of ${hostName(network, end.host)}`;
-    if (end.state === "asked") {
-        return [
-            {
-                ...wait(filled(WHAT.request, { end: at })),
-                for: filled(FOR.request, { peer: hostName(network, end.peer), socket: end.foreign }),
-            },
-        ];
-    }
-    if (end.state === "closing") {
-        const peer = hostName(network, end.peer);
-        return [{ ...wait(filled(WHAT.close, { end: at })), for: filled(FOR.CLS, { peer }) }];
-    }
-    if (!sends(end.socket) || end.state !== "open" || end.handed <= end.bits) return [];
-    return [bitsThatWait(network, talk, end, at)];
+    const running = state.services(host)?.running ?? [];
+    const users = running.filter((it) => it.kind === "user" && !it.over).map((it) => it.asked);
+    const holes = (/** @type {string} */ peer) => ({ host: hostName(network, host), peer: hostName(network, peer) });
+    const facts = (/** @type {string} */ peer) => ({ "peer down": !state.program(peer) });
+    return [
+        ...(state.program(host)?.pairs ?? []).flatMap(({ peer, phase, ends, busy }) => [
+            ...(phase === "closed" || phase === "ready" ? [] : [wait("contact", facts(peer), holes(peer))]),
+            ...ends.flatMap((end) => {
+                const at = `socket ${end.socket} of ${hostName(network, host)}`;
+                const named = { ...holes(peer), end: at, socket: end.foreign };
+                if (end.waiting.bits) return [bitsThatWait(state, talk, { host, peer, busy, end }, named)];
+                const { own, peer: isClosed } = end.closing;
+                if (!end.mine || isClosed) return [];
+                if (own !== "no") return [wait("close", {}, named)];
+                const isAsked = end.requests.peer === null && !users.some((it) => it.own === end.socket);
+                return isAsked ? [wait("request", {}, named)] : [];
+            }),
+        ]),
+        ...users.map((it) => wait("initial", facts(it.host), { ...holes(it.host), socket: it.listen })),
+    ];
 }
 
 /**
  * Bits that were handed over and have not gone out: they wait for a grant, or for their host to offer.
  *
- * @param {Network} network
+ * @param {State} state
  * @param {Talk} talk
- * @param {End} end
- * @param {string} at
- * @returns {Wait}
+ * @param {{host: string, peer: string, busy: number[], end: HostEnd}} held
+ * @param {Holes} holes
  */
-function bitsThatWait(network, talk, end, at) {
-    const mate = talk.mate(end);
-    const left = end.handed - end.bits;
-    const messages = Math.max(end.heardMessages - end.backMessages - end.messages, 0);
-    const bits = Math.max(end.heardBits - end.backBits - end.bits, 0);
-    const isShort = messages < 1 || bits < (end.size || 1);
-    const whose = end.service ? "service" : "program";
-    const granted = { messages: count(messages, "message"), bits: count(bits, "bit") };
-    const [host, peer] = [hostName(network, end.host), hostName(network, end.peer)];
-    const waiting = {
-        ...wait(filled(WHAT.bits, { bits: left, end: at })),
-        where: filled(AT.program, { host, whose, ...granted }),
+function bitsThatWait(state, talk, { host, peer, busy, end }, holes) {
+    const { link, allocation: { messages, bits: allowed } } = end;
+    const facts = {
+        "enough": messages >= 1 && allowed >= (end.size || 1),
+        "busy": link !== null && busy.includes(link),
+        "grant on its way": link !== null && isOnItsWay(state, talk, `${peer} ${host} 0`, link),
+        "service": isOfService(state, peer, end.foreign),
     };
-    if (!isShort) return { ...waiting, for: filled(FOR.offer, { host }), cures: [`offer ${end.host}`] };
-    if (mate && isOnItsWay(end, mate)) return { ...waiting, for: filled(FOR.ALL, { peer }), cures: ["calm 1"] };
-    if (mate?.service) return { ...waiting, for: filled(FOR.service, { peer }), cures: ["calm 1"] };
-    return { ...waiting, for: filled(FOR.grant, { peer }), bad: true, cures: [`grant ${end.peer} ${end.foreign} 1 ${left}`] };
+    const whose = isOfService(state, host, end.socket) ? "service" : "program";
+    const numbers = { bits: end.waiting.bits, messages, allowed, link: link ?? 0, foreign: end.foreign };
+    return wait("bits", facts, { ...holes, ...numbers, whose, own: host, other: peer });
 }
 
 /**
- * Whether more was granted by a connection's receiver than has come to its sender.
+ * Whether a grant for a link has not come from a peer yet: it waits there to go out, or is in a message on its way.
  *
- * @param {End} end
- * @param {End} mate
+ * @param {State} state
+ * @param {Talk} talk
+ * @param {string} flow that of the peer's commands
+ * @param {number} link
  */
-function isOnItsWay(end, mate) {
-    return mate.grantedMessages > end.heardMessages || mate.grantedBits > end.heardBits;
+function isOnItsWay(state, talk, flow, link) {
+    const [peer, host] = flow.split(" ");
+    const queued = state.program(peer)?.pairs.find((it) => it.peer === host)?.commands ?? [];
+    const message = talk.messages.get(flow);
+    const sent = message && !message.taken ? linksGranted(octetValues(message.octets)) : [];
+    return queued.some((it) => it.kind === "all" && it.link === link)
+        || sent.includes(link);
+}
+
+/**
+ * Whether a service on a host uses a socket.
+ *
+ * @param {State} state
+ * @param {string} host
+ * @param {number} socket
+ */
+function isOfService(state, host, socket) {
+    const services = state.services(host)?.running.filter((it) => it.kind === "echo" || it.kind === "terminal") ?? [];
+    return services.some(({ sockets }) => sockets.receive === socket || sockets.send === socket);
 }
 
 /**
@@ -380,27 +345,15 @@ function isOnItsWay(end, mate) {
  * @param {State} state
  * @returns {Wait[]}
  */
-function deadNeighbours(state) {
+function unseen(state) {
     const { network } = state;
     if (network.plain) return [];
-    return network.sites.flatMap(({ number }) => {
-        if (state.imp(number)) return [];
-        const ends = network.lines.flatMap(
-            (ends, line) => (
-                ends.includes(number) && state.isEndUp(farEnd(network, line, number), line)
-                    ? [`enddown ${farEnd(network, line, number)} ${line}`]
-                    : []
-            ),
+    return network.sites.filter(({ number }) => !state.imp(number)).flatMap(({ number }) => {
+        const ends = linesOf(network, number).map((line) => ({ line, near: farEnd(network, line, number) })).filter(
+            ({ line, near }) => state.isEndUp(near, line),
         );
-        if (ends.length === 0) return [];
-        return [
-            {
-                ...wait(filled(WHAT.unseen, { imp: impName(network, number) })),
-                for: FOR.ends,
-                bad: true,
-                cures: ends,
-            },
-        ];
+        const cures = ends.map(({ line, near }) => `enddown ${near} ${line}`).join(";");
+        return cures ? [wait("unseen", {}, { imp: impName(network, number), ends: cures })] : [];
     });
 }
 

@@ -1,9 +1,10 @@
 -- Ends of programs in a dialogue, computed.
-use Rattle.std.proofs.Common.{◌≡◌, ℕ, ◌==◌, if◌then◌else◌, true, false, List, [], ◌∷◌, ◌++◌, map, filter, Some, refl, sym, subst, ◌∙◌}
+use Rattle.std.proofs.Common.{◌≡◌, ℕ, ◌==◌, if◌then◌else◌, true, false, List, [], ◌∷◌, ◌++◌, map, filter, Some, refl, ap, sym, subst, ◌∙◌, inl, inr, arith}
 use Rattle.bit_messages.specs.Octets.{octets_of}
 use Rattle.ncp_control.specs.Packing.{packed_count}
 use Rattle.ncp_control.specs.Reading.{command_of, read_of}
 use Rattle.pairing_law.specs.Ends.{nothing}
+use Rattle.pairing_law.specs.Sides.{Life}
 use Rattle.sockets.specs.Accepting.{accepted}
 use Rattle.host_pairs.specs.Control.{orders_of}
 use Rattle.sockets.specs.Dialogue.{state_of}
@@ -16,7 +17,7 @@ use Rattle.sockets.specs.Worked.{first, second, talk, reset, opening_connection,
 use Rattle.host_pairs.specs.declared.entry.Closing.TheVariants as closing
 use Rattle.interface.specs.Host.{same_host}
 use Rattle.host_keeps_pairing.specs.Known.{all_known}
-use Rattle.host_keeps_pairing.specs.Openings.{with_openings}
+use Rattle.host_keeps_pairing.specs.Openings.{AreAmong, with_openings}
 use Rattle.host_keeps_pairing.specs.Words.{marks}
 use Rattle.host_keeps_pairing.specs.Ends.{HasEnd, IsSound, Stand, Standing, at, due, end_of}
 
@@ -68,3 +69,18 @@ dialogue_over = refl
 pub dialogue_peer : all_known (λ p. if p == 7 then 6 else 0) first 33 16 (map (λ n. n.1) (filter (λ n. same_host second n.0) (talk (reset ++ opening_connection)).notices)) [] ≡ record { own = 8; partner = 6 } ∷ []
 unfolding octets_of orders_of read_of command_of packed_count accepted refusal served served_notices next_out offered
 dialogue_peer = refl
+
+pub some_among : AreAmong (record { own = 1; partner = 2 } ∷ record { own = 5; partner = 6 } ∷ [])
+    (record { own = 1; partner = 2 } ∷ record { own = 3; partner = 4 } ∷ record { own = 5; partner = 6 } ∷ [])
+some_among = inl (refl, inr (inl (refl, tt)))
+
+pub none_turned : AreAmong (record { own = 5; partner = 6 } ∷ record { own = 1; partner = 2 } ∷ [])
+    (record { own = 1; partner = 2 } ∷ record { own = 5; partner = 6 } ∷ []) → ⊥
+none_turned (inl h) = let e : 5 ≡ 1 = ap (λ (x : Life). x.own) h.0 in omega (arith, e)
+none_turned (inr (inl h)) = h.1
+none_turned (inr (inr h)) = h
+
+pub none_twice : AreAmong (record { own = 1; partner = 2 } ∷ record { own = 1; partner = 2 } ∷ [])
+    (record { own = 1; partner = 2 } ∷ []) → ⊥
+none_twice (inl h) = h.1
+none_twice (inr h) = h

@@ -1,12 +1,3 @@
--- Statements and rows that are too long for a line in src/, each named after its function and clause.
-pub mod Saying
-pub mod Hearing
-pub mod Openings
-pub mod Endings
-pub mod KnownPartners
-pub mod WorkedOpenings
-pub mod WorkedEndings
-pub mod WorkedWords
-pub mod WorkedEnds
-pub mod WorkedFinding
-pub mod WorkedPrograms
+-- The laws of src/ that are longer than a line: each is a record, and its fields are the clauses.
+pub mod Calls
+pub mod Worked

@@ -9,7 +9,7 @@ use Rattle.stream_law.specs.Senders.{Sender}
 use Rattle.stream_law.specs.Receivers.{Receiver}
 use Rattle.stream_law.proofs.lemmas.{some_is}
 use Rattle.host_pairs.specs.Desk.{DeskState}
-use Rattle.host_pairs.specs.Entries.{changed_first, entry_at, has_cls, is_at, is_link, is_over, is_receiving, receives_on, sends_on}
+use Rattle.host_pairs.specs.Entries.{changed_first, entry_at, has_cls, is_at, is_link, is_over, is_receiving, receives_on, receiving_end, sends_on}
 use Rattle.host_pairs.specs.Parcels.{asked_at, cls_sent, command_gone, request_gone}
 use Rattle.host_pairs.specs.declared.entry.Entry.{Entry}
 use Rattle.host_pairs.proofs.lemmas.{both, not_is}
@@ -31,6 +31,10 @@ use Rattle.host_keeps_streams.proofs.ReceiverHears.{Received}
 use Rattle.host_keeps_streams.proofs.Senders.{own_sender}
 use Rattle.host_keeps_streams.proofs.SenderHears.{opened_size, opened_closed}
 use Rattle.host_keeps_streams.proofs.Sound.{sound_some}
+
+-- an end that didn't close has said no CLS
+pub unsaid : HasSaid (command.Cls 16 33) (receiving_end 16 33 5 ∷ []) → ⊥
+unsaid said = let both : false ≡ true = said (receiving_end 16 33 5) refl in absurd (cc)
 
 -- ---- receivers
 

@@ -1,20 +1,5 @@
--- Statements and rows that are too long for a line in src/, each named after its function and clause.
-pub mod Commands
-pub mod Naming
-pub mod Data
-pub mod GoingOut
-pub mod Answering
-pub mod CallsOpening
-pub mod Using
-pub mod ClosingEnds
-pub mod WorkedCommands
-pub mod WorkedMoves
+-- The laws of src/ that are longer than a line: each is a record, and its fields are the clauses.
+pub mod Ends
+pub mod Calls
 pub mod Histories
-pub mod Receiving
-pub mod Sending
-pub mod Asking
-pub mod WorkedSaid
-pub mod ReceiverCloses
-pub mod SenderCloses
-pub mod WorkedClosings
-pub mod LawOpening
+pub mod Worked

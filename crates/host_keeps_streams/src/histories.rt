@@ -1,33 +1,20 @@
 //! What all that a host's program does with one peer in a stay is on each link: a run of the law's receiver, and one of its sender. The functions here do
 //! nothing: each clause is a law.
 
-ghost use Rattle.std.specs.Prelude.{◌≡◌, ℕ, true, false, List, [], ◌∷◌, Some, None};
+ghost use Rattle.std.specs.Prelude.{◌≡◌, true, false, [], ◌∷◌, Some, None};
 ghost use Rattle.interface.specs.Host.{Host};
 ghost use Rattle.ncp_control.specs.declared.command.Command.TheVariants as command;
 ghost use Rattle.stream_law.specs.Senders as senders;
 ghost use Rattle.host_pairs.specs.Entries.{sending_end};
-ghost use Rattle.host_keeps_streams.specs.Histories.{Closes, HasClosed, IsHistory, IsTelling, KeepBox, AreAllowed, MayReceiveAll, MaySendAll, Moment, OpensReceiver, OpensSender, Says};
-ghost use Rattle.host_keeps_streams.specs.Histories.{closing_moments, ended_moments, gone_now, moment, name_now, numbered, numbered_by_gone, numbered_by_own, opening_moments, receiver_now};
+ghost use Rattle.host_keeps_streams.specs.Histories.{Closes, HasClosed, IsHistory, IsTelling, KeepBox, AreAllowed, MayReceiveAll, MaySendAll, OpensReceiver, OpensSender, Says};
+ghost use Rattle.host_keeps_streams.specs.Histories.{closing_moments, ended_moments, gone_now, moment, name_now, numbered_by_gone, numbered_by_own, opening_moments, receiver_now};
 ghost use Rattle.host_keeps_streams.specs.Histories.{sender_now, waiting};
-ghost use Rattle.host_keeps_streams.specs.Laws.Histories.{HistoriesOneMessage, HistoriesReceived, HistoriesReceiver, HistoriesSender, HistoriesSent, HistoriesSound};
+ghost use Rattle.host_keeps_streams.specs.Laws.Histories.{Histories};
 
 /// Whatever happens to the ends of a host with one peer while the two stay together, call after call, from where there were none. What is
 /// assumed of the calls is in `AreAllowed`.
 pub fn histories()
-    ensures received { HistoriesReceived }
-    ensures sent { HistoriesSent }
-
-    ensures one_message { HistoriesOneMessage }
-
-    ensures receiver { HistoriesReceiver }
-    ensures sender { HistoriesSender }
-    ensures sound { HistoriesSound }
-
-    // the law's receiver says the CLS of a connection before it hears the sender's only where a user closed its end
-    ensures closed { (number : ℕ → ℕ → ℕ → ℕ) (peer : Host) (link c : ℕ) (moments : List Moment) → (receiver_now number peer link moments).first c ≡ true → HasClosed number peer link c moments }
-
-    // there are such numbers of connections
-    ensures telling { IsTelling numbered }
+    ensures { Histories }
 {}
 
 /// An end that opens, closes both ways, and is asked for again.

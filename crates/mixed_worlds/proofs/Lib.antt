@@ -5,3 +5,17 @@ pub mod Apart
 pub mod Among
 pub mod SameBooks
 pub mod Books
+pub mod RealLogs
+pub mod RealFormed
+pub mod RealBooks
+pub mod Settled
+pub mod RealAmong
+pub mod Joined
+pub mod Quiet
+pub mod Asked
+pub mod AskedLives
+pub mod Handed
+pub mod Bound
+pub mod Carried
+pub mod DataNotices
+pub mod CarriedLives

@@ -8,14 +8,15 @@ use Rattle.interface.proofs.lemmas.{safe_messages}
 use Rattle.net_sim.specs.Clean.{HaveAddresses}
 use Rattle.net_sim.specs.Story.{Asked, Crossed, Moment}
 use Rattle.net_sim.specs.Timeline.{IsTimeline, crossings_of}
-use Rattle.world_keeps_pairing.specs.Laws.Lives.{LivesOne, LivesPartners}
+use Rattle.world_keeps_pairing.specs.Laws.Worlds.{Lives}
 use Rattle.world_keeps_lives.specs.Laws.Programs.{ProgramsDrained, ProgramsHanded, ProgramsTaken}
 use Rattle.world_keeps_lives.specs.Laws.Programs.{ProgramsTold}
 use Rattle.world_keeps_streams.specs.Arrivals.{AllCome}
 use Rattle.world_keeps_streams.specs.Came.{AllCame}
 use Rattle.world_keeps_streams.specs.Closes.{EachHanded}
 use Rattle.world_keeps_streams.specs.Rests.{AllCalm}
-use Rattle.world_keeps_streams.specs.Laws.Lives.{LivesAgree, LivesAnswered, LivesArrives, LivesCloses, LivesFirsts, LivesFormed}
+use Rattle.world_keeps_streams.specs.Laws.Lives.{LivesAgree, LivesAnswered, LivesArrives, LivesCloses, LivesFirsts}
+use Rattle.world_keeps_streams.specs.Laws.Lives.{LivesFormed}
 use Rattle.world_keeps_streams.specs.Laws.Lives.{LivesRests, LivesSent, LivesSource, LivesWhole}
 use Rattle.mixed_worlds.specs.Promised.{Promises}
 
@@ -26,8 +27,7 @@ Always Clause = (hosts : List Host) (moments : List Moment) → HaveAddresses ho
 
 -- what is proved of the lives of a book
 pub record Known : Type 0 where
-  pub partners : LivesPartners
-  pub one : LivesOne
+  pub pairing : Lives
   pub formed : LivesFormed
   pub told : ProgramsTold
   pub taken : ProgramsTaken
@@ -66,9 +66,9 @@ promised known hosts moments addresses run time = record {
   told = known.told hosts moments addresses run time;
   safe = record {
     messages = safe_messages hosts (crossings_of moments) run;
-    partners = known.partners hosts moments addresses run time;
+    partners = known.pairing.partners hosts moments addresses run time;
     streams = record {
-      one = λ receiver x y there two mx my. known.one hosts moments addresses run time receiver x y two mx my;
+      one = λ receiver x y there two mx my. known.pairing.one hosts moments addresses run time receiver x y two mx my;
       source = λ receiver there kind some. known.source hosts moments addresses run time receiver there kind some;
       sent = known.handed hosts moments addresses run time;
     };

@@ -1,6 +1,8 @@
 -- The book of a network with strangers: only hosts with programs have users, notices and lives (NIC 8246).
 use Rattle.std.specs.Prelude.{◌&&◌, Bool, not, if◌then◌else◌, List, [], ◌∷◌, filter}
 use Rattle.interface.specs.Host.{Host}
+use Rattle.host_services.specs.declared.report.Reported.{Reported}
+use Rattle.promise.specs.Book.{Book}
 use Rattle.promise.specs.declared.life.Life.{Life}
 use Rattle.net_sim.specs.Book.{Kept, all_told, crossed, opening_kept}
 use Rattle.net_sim.specs.Story.{Moment, Crossed, Asked}
@@ -27,6 +29,13 @@ is_among strange x = not (strange x.host) && not (strange x.peer)
 
 abbrev pub lives_among : (Host → Bool) → List Life → List Life
 lives_among strange lives = filter (is_among strange) lives
+
+-- the book with these lives only, and with what services reported
+abbrev pub book_among : (Host → Bool) → List Moment → List Reported → Book
+book_among strange moments reports = record (mixed_kept strange moments).book {
+  reports = reports;
+  lives = lives_among strange (mixed_kept strange moments).book.lives;
+}
 
 -- what another list has beside these lives
 abbrev pub beside_among : {A : Type 0} → (Host → Bool) → List Life → List A → List A

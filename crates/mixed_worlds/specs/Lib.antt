@@ -3,3 +3,4 @@ pub mod Ends
 pub mod Book
 pub mod Laws
 pub mod Worked
+pub mod Toward

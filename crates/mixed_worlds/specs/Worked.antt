@@ -2,6 +2,7 @@
 use Rattle.std.specs.Prelude.{List, [], ◌∷◌}
 use Rattle.interface.specs.declared.crossing.Answer.TheVariants as answer
 use Rattle.interface.specs.declared.crossing.Crossing.TheVariants as crossing
+use Rattle.interface.specs.declared.message.HostMessage.{HostMessage}
 use Rattle.promise.specs.declared.life.Life.{Life}
 use Rattle.sockets.specs.Worked.{RTS, STR, control, first, message, on_link, second, third}
 use Rattle.sockets.specs.declared.request.Request.TheVariants as request
@@ -20,6 +21,10 @@ abbrev pub stranger_contacted : List Moment
 stranger_contacted = Crossed (crossing.In (rst second third)) ∷ Crossed (crossing.Out (rst second third)) ∷ Asked
     second (request.Contact third) ∷ []
 
+-- the first host contacts the second
+abbrev pub contacts : List Moment
+contacts = Asked first (request.Contact second) ∷ []
+
 -- the stranger sends to a socket that listens at the second host, with bytes of eight bits, and the second grants two
 -- messages and 16 bits
 abbrev pub stranger_granted : List Moment
@@ -29,13 +34,21 @@ stranger_granted =
     ∷ Crossed (crossing.Out (control third second (STR 33 16 8))) ∷ Asked second (request.Listen 16 8) ∷ stranger_ready
 
 -- then it sends one byte of seven bits, and after that one of eight
-abbrev pub odd_size : List Moment
-odd_size =
-    Crossed (crossing.In (message third second 2 (0 ∷ 8 ∷ 0 ∷ 1 ∷ 0 ∷ 255 ∷ []))) ∷ Crossed
-    (crossing.Out (message third second 2 (0 ∷ 8 ∷ 0 ∷ 1 ∷ 0 ∷ 255 ∷ [])))
-    ∷ Crossed (crossing.Answer answer.Rfnm (on_link third second 2)) ∷ Crossed
+abbrev pub eight_bits : HostMessage
+eight_bits = message third second 2 (0 ∷ 8 ∷ 0 ∷ 1 ∷ 0 ∷ 255 ∷ [])
+
+abbrev pub eight_waits : List Moment
+eight_waits =
+    Crossed (crossing.Out eight_bits) ∷ Crossed (crossing.Answer answer.Rfnm (on_link third second 2)) ∷ Crossed
     (crossing.In (message third second 2 (0 ∷ 7 ∷ 0 ∷ 1 ∷ 0 ∷ 254 ∷ [])))
     ∷ Crossed (crossing.Out (message third second 2 (0 ∷ 7 ∷ 0 ∷ 1 ∷ 0 ∷ 254 ∷ []))) ∷ stranger_granted
+
+-- and the second host takes both
+abbrev pub eight_taken : Moment
+eight_taken = Crossed (crossing.In eight_bits)
+
+abbrev pub odd_size : List Moment
+odd_size = eight_taken ∷ eight_waits
 
 -- the life of the end that receives, before anything is taken
 abbrev pub granting_life : Life

@@ -1,22 +1,34 @@
 //! Networks with strangers. The functions here do nothing: each clause is a law.
 
-ghost use Rattle.std.specs.Prelude.{◌≡◌, true, false, [], ◌∷◌, length};
+ghost use Rattle.std.specs.Prelude.{◌≡◌, true, false, [], ◌∷◌, Some, length, replicate};
+ghost use Rattle.host_pairs.specs.declared.notice.Notice.TheVariants as notice;
 ghost use Rattle.promise.specs.Safe.{IsGranted};
-ghost use Rattle.sockets.specs.Worked.{second, third};
+ghost use Rattle.sockets.specs.Sending.{next_out};
+ghost use Rattle.sockets.specs.Worked.{STR, control, first, on_link, second, third};
+ghost use Rattle.interface.specs.declared.crossing.Crossing.TheVariants as crossing;
 ghost use Rattle.net_sim.specs.Book.{new_life};
+ghost use Rattle.net_sim.specs.Story.{Crossed, program};
 ghost use Rattle.net_sim.specs.Timeline.{crossings_of};
 ghost use Rattle.net_sim.specs.Told.{kept_in};
+ghost use Rattle.net_sim.specs.Worked.{eight};
+ghost use Rattle.net_sim.specs.WorkedResets.{rst};
 ghost use Rattle.masked_worlds.specs.Mixed.{AreMixed};
-ghost use Rattle.masked_worlds.specs.Worked.{is_third, three};
+ghost use Rattle.masked_worlds.specs.Worked.{is_third, listener_taken, three};
 ghost use Rattle.promise.specs.Formed.{IsFormed};
 ghost use Rattle.mixed_worlds.specs.Book.{beside_among, lives_among, mixed_kept};
-ghost use Rattle.mixed_worlds.specs.Laws.Among.{AmongLives, AmongPromise};
-ghost use Rattle.mixed_worlds.specs.Laws.Toward.{TowardBounded, TowardEnds, TowardLive, TowardSockets, TowardTaken};
-ghost use Rattle.mixed_worlds.specs.Worked.{granting_life, odd_life, odd_size, plain_life};
+ghost use Rattle.mixed_worlds.specs.Laws.Among.{AmongFormed, AmongJoined, AmongLives, AmongPromise, AmongSafe};
+ghost use Rattle.mixed_worlds.specs.Laws.Among.{AmongSettled, AmongWhole, HaveSettled};
+ghost use Rattle.mixed_worlds.specs.Laws.Toward.{TowardAsked, TowardBounded, TowardCarried, TowardEnds, TowardHanded};
+ghost use Rattle.mixed_worlds.specs.Laws.Toward.{TowardLive, TowardMessages, TowardOthers, TowardOwner, TowardReported};
+ghost use Rattle.mixed_worlds.specs.Laws.Toward.{TowardSender, TowardSockets, TowardTaken};
+ghost use Rattle.mixed_worlds.specs.Toward.{AreOf, HasAsked, IsCarried, ReportsData};
+ghost use Rattle.mixed_worlds.specs.Worked.{contacts, eight_bits, eight_taken, granting_life, odd_life, odd_size};
+ghost use Rattle.mixed_worlds.specs.Worked.{plain_life};
 ghost use Rattle.mixed_worlds.specs.Worked.{stranger_contacted, stranger_granted, stranger_opened};
 
-use masked_worlds::law::masked;
+use masked_worlds::law::{masked, masked_logs};
 use net_sim::law::orders;
+use world_keeps_connections::law as connections;
 use world_keeps_lives::law::programs;
 use world_keeps_pairing::law as pairing;
 use world_keeps_streams::law as streams;
@@ -28,12 +40,24 @@ pub fn among()
 
     // the lives among these hosts, with what was handed over in them and their fates, are those of the masked moments
     ensures lives { AmongLives }
+
+    // so over all that really crossed these are formed and safe, and an orderly close among them loses nothing
+    ensures formed { AmongFormed }
+    ensures safe { AmongSafe }
+    ensures whole { AmongWhole }
+
+    // a finished initial connection among them pairs the right four sockets, and where they have nothing left to do all
+    // lives that match agree
+    ensures joined { AmongJoined }
+    ensures settled { AmongSettled }
 {
+    masked_logs();
     masked();
     orders();
     pairing::lives();
     programs();
     streams::lives();
+    connections::lives();
 }
 
 /// A host with a program, toward strangers and all others.
@@ -48,6 +72,26 @@ pub fn toward()
     ensures live { TowardLive }
     ensures taken { TowardTaken }
     ensures bounded { TowardBounded }
+
+    // what a sending life sent is a prefix of what was handed over in it
+    ensures handed { TowardHanded }
+
+    // each life is of such a host, and both its requests crossed at its stamps
+    ensures owner { TowardOwner }
+    ensures asked { TowardAsked }
+
+    // and its bits are those of messages on one link, in their order
+    ensures carried { TowardCarried }
+
+    // what a user hears of data has just crossed
+    ensures reported { TowardReported }
+
+    // a message that is taken reports of its sender only, and leaves what its host has with all others
+    ensures sender { TowardSender }
+    ensures others { TowardOthers }
+
+    // and RFNM says that the interface of its destination took the message, once, whoever that is
+    ensures messages { TowardMessages }
 {
     orders();
 }
@@ -77,4 +121,31 @@ pub fn worked_toward()
     ensures life { (mixed_kept is_third odd_size).book.lives ≡ odd_life ∷ [] }
     ensures unfirst { IsFormed (crossings_of odd_size) odd_life → ⊥ }
     ensures granted { IsGranted odd_life 1 (length odd_life.bits) }
+
+    // its requests crossed at its stamps, and at no other two
+    ensures asked { HasAsked (crossings_of odd_size) odd_life }
+    ensures turned { HasAsked (crossings_of odd_size) (new_life second 16 third 33 7 8) → ⊥ }
+
+    // its bits are those of one message on link 2. What comes in there before its requests isn't counted, nor may a
+    // message be counted that didn't come
+    ensures carried { IsCarried (crossings_of odd_size) odd_life }
+    ensures early { AreOf true (on_link third second 2) 8 7 (crossing.In eight_bits ∷ []) 1 eight → ⊥ }
+    ensures uncounted { AreOf true (on_link third second 2) 0 0 [] 1 eight → ⊥ }
+
+    // where the second message is taken its eight bits may be reported as arrived, not the seven of the first one, and
+    // nothing as sent
+    ensures arrived { ReportsData eight_taken (notice.Arrived 16 eight) }
+    ensures others { ReportsData eight_taken (notice.Arrived 16 (replicate 7 true)) → ⊥ }
+    ensures unsent { ReportsData eight_taken (notice.Sent 16 eight) → ⊥ }
+{}
+
+/// Where hosts with programs have nothing left to do: a stranger has taken a listening socket of the second host, which
+/// still has its STR to say to the stranger, and to no other.
+pub fn worked_settled()
+    ensures waits { next_out (program second listener_taken) ≡ Some (control second third (STR 33 16 8)) }
+    ensures settled { HaveSettled is_third three listener_taken }
+
+    // not while the first host has an RST to say to the second, nor until that is answered
+    ensures unsaid { HaveSettled is_third three contacts → ⊥ }
+    ensures unanswered { HaveSettled is_third three (Crossed (crossing.Out (rst first second)) ∷ contacts) → ⊥ }
 {}

@@ -1,71 +1,30 @@
 //! What becomes of a stream. The functions here do nothing: each clause is the law.
 
-ghost use Rattle.std.specs.Prelude.{◌≡◌, ℕ, true, false, List, [], ◌∷◌, ◌++◌, length, Some, None};
-ghost use Rattle.ncp_control.specs.Allocation as counters;
+ghost use Rattle.std.specs.Prelude.{◌≡◌, true, [], ◌∷◌, ◌++◌, Some, None};
 ghost use Rattle.stream_law.specs.Words.{Rts, Str, All, Gvb, Ret, Cls};
 ghost use Rattle.stream_law.specs.Receivers as receivers;
 ghost use Rattle.stream_law.specs.Senders as senders;
-ghost use Rattle.stream_law.specs.Streams.{Event, Receives, Sends, stream, IsRun};
+ghost use Rattle.stream_law.specs.Streams.{Receives, Sends, stream, IsRun};
 ghost use Rattle.stream_law.specs.Within.{IsPrefix, message_bits, AreGranted, IsSafe, NoneReturned, NothingLeft};
 ghost use Rattle.stream_law.specs.Agreed.{ArePrompt, IsAtRest, AreAgreed};
 ghost use Rattle.stream_law.specs.Example.{two, three, opened_events, granted_events, sent_events, taken_events, returned_events, closed_events, ended_events, quit_events, rested_events, late_events};
 ghost use Rattle.stream_law.specs.Example.{next, hasty, early};
-ghost use Rattle.stream_law.specs.Laws.Streams.{StreamsAccepted, StreamsCaughtUp};
-ghost use Rattle.stream_law.specs.Laws.Owners.{OwnersData};
-ghost use Rattle.stream_law.specs.Laws.WorkedStream.{WorkedStreamCame, WorkedStreamOpened, WorkedStreamReturned, WorkedStreamSent, WorkedStreamSettled, WorkedStreamTaken};
+ghost use Rattle.stream_law.specs.Laws.{Owners, Streams, WorkedStream};
 
 /// Whatever the two hosts of a link do while they stay together, connection after connection. What is assumed of them is in
 /// `IsRun`: their own rules, and that what one said is heard in order.
 pub fn streams()
-    // in each connection what was taken is a prefix of what was sent, and all of it where the sender's CLS was heard and the own wasn't said
-    // before. What was taken and what was returned are granted, and so are what was sent and what was returned
-    ensures safe { (events : List Event) (c : ℕ) → IsRun events → IsSafe (stream events) c }
-
-    // where the link is asked for, nothing of a connection before is left over
-    ensures fresh { (events : List Event) (c : ℕ) → IsRun (Receives (receivers.Ask c) ∷ events) → NothingLeft (stream events) }
-
-    ensures accepted { StreamsAccepted }
-
-    ensures caught_up { StreamsCaughtUp }
-
-    // once a receiver has heard the sender's CLS, all messages that were sent in the connection have come, whether it took them or dropped them
-    ensures came { (events : List Event) (c : ℕ) → IsRun events → (stream events).receiver.over c ≡ true → length ((stream events).sender.sent c) ≡ (stream events).receiver.came c }
-
-    // where nothing is in transit the two open ends of a connection agree, if no ALL was heard before the sender's end opened
-    ensures agreed { (events : List Event) (c : ℕ) → IsRun events → ArePrompt events → IsAtRest (stream events) c → AreAgreed (stream events) c }
+    ensures { Streams }
 {}
 
 /// Data, ALL, GVB and RET name the link only. Whoever takes one has on that link the end of the connection in which it was said.
 pub fn owners()
-    ensures data { OwnersData }
-    ensures returned { (events : List Event) (c messages bits : ℕ) → IsRun (Receives (receivers.Hear (Ret c messages bits)) ∷ events) → (stream events).receiver.end ≡ Some c }
-    ensures granted { (events : List Event) (c messages bits : ℕ) → IsRun (Sends (senders.Hear (All c messages bits)) ∷ events) → (stream events).sender.end ≡ Some c }
-    ensures asked_back { (events : List Event) (c messages bits : ℕ) → IsRun (Sends (senders.Hear (Gvb c messages bits)) ∷ events) → (stream events).sender.end ≡ Some c }
-
-    // a request finds the link free: it is never refused for it
-    ensures asked { (events : List Event) (c : ℕ) → IsRun (Sends (senders.Hear (Rts c)) ∷ events) → (stream events).sender.end ≡ None }
+    ensures { Owners }
 {}
 
 /// A stream from its request to its end, and the next one on its link.
 pub fn worked_stream()
-    ensures opened { WorkedStreamOpened }
-
-    ensures sent { WorkedStreamSent }
-    ensures taken { WorkedStreamTaken }
-
-    ensures returned { WorkedStreamReturned }
-    ensures left { ((stream returned_events).sender.allocation ≡ record { messages = 1; bits = 4 }) × ((stream returned_events).to_sender ≡ All 1 1 3 ∷ []) }
-
-    // the link is free at the receiver, and the sender hasn't heard of it yet
-    ensures closed { ((stream closed_events).receiver.end ≡ None) × ((stream closed_events).sender.end ≡ Some 1) × ((stream closed_events).to_sender ≡ All 1 1 3 ∷ Cls 1 ∷ []) }
-
-    ensures settled { WorkedStreamSettled }
-    ensures quit { ((stream quit_events).receiver.first 1 ≡ true) × ((stream quit_events).receiver.over 1 ≡ true) }
-    ensures quit_came { WorkedStreamCame }
-    ensures quit_drops { (stream quit_events).receiver.taken 1 ≡ (stream quit_events).sender.sent 1 → ⊥ }
-
-    // the late grant is nobody's, and the next end doesn't open, since it was closed before its request was heard
-    ensures next { ((stream next).sender.end ≡ Some 2) × ((stream next).sender.allocation ≡ counters.nothing) × (senders.is_open 2 (stream next).sender ≡ false) }
+    ensures { WorkedStream }
 {}
 
 /// Lists of events that may be, so the laws don't speak of nothing; and two that may not, which would break them.

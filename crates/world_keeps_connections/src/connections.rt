@@ -1,17 +1,15 @@
 //! What a finished initial connection has joined. The functions here do nothing: each clause is a law.
 
-ghost use Rattle.std.specs.Prelude.{◌≡◌, ℕ, true, List, All};
+ghost use Rattle.std.specs.Prelude.{◌≡◌, ℕ, true, All};
 ghost use Rattle.interface.specs.Host.{Host};
 ghost use Rattle.promise.specs.Book.{Book};
-ghost use Rattle.net_sim.specs.Clean.{IsLawful};
 ghost use Rattle.promise.specs.declared.life.Life.{Life};
 ghost use Rattle.net_sim.specs.Reports.{IsBacked};
 ghost use Rattle.promise.specs.Safe.{Match};
-ghost use Rattle.net_sim.specs.World.{WorldState};
 ghost use Rattle.sockets.specs.Worked.{first, second};
 ghost use Rattle.world_keeps_connections.specs.WorkedConnections as worked;
 ghost use Rattle.promise.specs.Connections.{IsConnected, IsEnd, JoinedBook};
-ghost use Rattle.world_keeps_connections.specs.Laws.InitialConnections.{InitialConnectionsEven, InitialConnectionsToServer, InitialConnectionsToUser};
+ghost use Rattle.world_keeps_connections.specs.Laws.{InitialConnections};
 
 use interface::Carrier;
 
@@ -22,13 +20,7 @@ use interface::Carrier;
 /// Each report in such a book is so at its place (`AreReported`, which is part of `IsLawful`): a machine that reported Done began with
 /// sockets of the right parity, and its host was notified of the openings that make it done.
 pub fn initial_connections<C: Carrier>()
-    ensures even { InitialConnectionsEven C.calls }
-
-    ensures to_user { InitialConnectionsToUser C.calls }
-    ensures to_server { InitialConnectionsToServer C.calls }
-
-    // in one word
-    ensures joined { (hosts : List Host) (w : WorldState C) → IsLawful C.calls.seen hosts w → JoinedBook w.kept.book }
+    ensures { InitialConnections C.calls }
 {}
 
 /// Ends of an initial connection.

@@ -1,7 +1,3 @@
--- Statements and rows that are too long for a line in src/, each named after its function and clause.
-pub mod Dialogues
-pub mod Programs
-pub mod Lives
-pub mod WorkedLives
-pub mod WorkedSteps
-pub mod Books
+-- The laws of src/ that are longer than a line: each is a record, and its fields are the clauses.
+pub mod Worlds
+pub mod Worked

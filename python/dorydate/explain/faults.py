@@ -1,7 +1,7 @@
 """What is wrong with an input that the program refuses: the line of the file, and why it is refused.
 
 The program names the first bad script line, but not the fault in it, and of a topology it says only that it is bad. Both are
-looked for here, by the forms of docs/program.md.
+looked for here, by the rules that the workbench reads too (sentences/table.mjs).
 """
 
 from __future__ import annotations
@@ -11,9 +11,11 @@ import re
 
 from dorydate.given import Input, shown
 from dorydate.explain.topologies import wrong_with_topology
-from dorydate.sentences.table import TABLE, filled, sentences
+from dorydate.sentences.table import TABLE, filled, pattern, sentences
 
 FAULTS = sentences("faults")
+LINES, EVENTS, WORDS = ([(of, pattern(it), name) for of, it, name in TABLE[group]] for group in ("rules of lines", "rules of events", "rules of words"))
+SWAPPED = pattern(TABLE["swapped"])  # a host whose two numbers change places
 
 RAW_EVENTS = {name: form.split(" ") for name, form in sentences("forms").items()}
 ASKED = {name: form.split(" ") for name, form in sentences("forms of programs").items()}
@@ -39,22 +41,16 @@ def diagnose(given: Input, said: str, raw: bool) -> str:
     return "docs/program.md has a table of the program's faults."
 
 
-def wrong_with_line(line: bytes, raw: bool = True) -> str | None:
+def wrong_with_line(octets: bytes, raw: bool = True) -> str | None:
     """Why a script line is not an event, None where no cause is found."""
-    if b"\r" in line:
-        return FAULTS["carriage return"]
-    if any(it < 32 or it > 126 for it in line):
-        return FAULTS["not ASCII"]
-    text = line.decode("ascii")
-    words = text.split(" ")
-    if words[0] == "type" and not raw:
-        words = text.split(" ", 2)
-    elif "" in words:
-        return FAULTS["spaces"]
+    line = octets.decode("latin-1")
+    if why := by_rules(LINES, line, raw):
+        return why
+    words = line.split(" ", 2 if line.startswith("type ") and not raw else -1)
     form = (RAW_EVENTS if raw else WORLD_EVENTS).get(words[0])
     if form is None:
         return unknown_event(words[0], raw)
-    if why := known_mistake(words, text):
+    if why := by_rules(EVENTS, line, raw):
         return why
     if len(words) != 1 + len(form):
         return filled(FAULTS["words"], word=words[0], needed=len(form), form=" ".join([words[0], *form]), found=len(words) - 1)
@@ -64,30 +60,20 @@ def wrong_with_line(line: bytes, raw: bool = True) -> str | None:
     return next((it for it in causes if it), None)
 
 
-def known_mistake(words: list[str], line: str) -> str | None:
-    """What is meant where a line has a comment after it, an empty line at a terminal without its space, or octets in another spelling."""
-    if words[0] == "type":
-        return filled(FAULTS["empty line"], line=line) if len(words) == 2 else None
-    if any(it.startswith("#") for it in words[1:]):
-        return filled(FAULTS["comment"], comment=line[line.index(" #") + 1 :])
-    if words[0] not in ("out", "send"):
-        return None
-    if quoted := re.search('"([^"]*)"', line):
-        octets = quoted[1].encode()
-        return filled(FAULTS["text"], text=quoted[0], spelled=f"{8 * len(octets)} {octets.hex().upper() or '-'}")
-    if words[-1][:2] in ("0x", "0X"):
-        return filled(FAULTS["0x"], digits=words[-1][2:].upper())
+def by_rules(rules: list[tuple[str, re.Pattern[str], str]], line: str, raw: bool) -> str | None:
+    """The first rule that a line of this kind of network breaks, in words."""
+    for of, it, name in rules:
+        if of in ("", "raw" if raw else "programs") and (found := it.search(line)):
+            holes = found.groupdict()
+            octets = holes.get("text", "").encode().hex().upper()
+            return filled(FAULTS[name], holes, spelled=f"{4 * len(octets)} {octets or '-'}", upper=holes.get("digits", "").upper())
     return None
 
 
 def unknown_event(word: str, raw: bool = True) -> str:
     """Why a word begins no event of this network, and which it may have meant."""
-    if word == "%":
-        return FAULTS["second marker"]
-    if raw and word in WORLD_EVENTS:
+    if raw and word in ASKED:
         return filled(FAULTS["of programs"], word=word)
-    if word == "out":
-        return FAULTS["of raw"]
     events = RAW_EVENTS if raw else WORLD_EVENTS
     hint = meant(word.lower(), [*events]) or filled(FAULTS["events"], events=", ".join(events))
     return f"{filled(FAULTS['unknown'], word=shown(word.encode()))} {hint}"
@@ -101,24 +87,20 @@ def meant(word: str, known: list[str]) -> str:
 
 def wrong_with_word(name: str, word: str) -> str | None:
     """Why a word cannot be in its place, None where it can. OCTETS are judged with their number of bits."""
-    match name:
-        case "S" | "D" | "H" | "P":
-            return wrong_with_host(word)
-        case "+|-" if word not in ("+", "-"):
-            return filled(FAULTS["not a direction"], word=word)
-        case _ if name in RANGES:
-            return wrong_number(word, *RANGES[name])
-    return None
+    for names, it, fault in WORDS:
+        if name in names.split(" ") and not it.search(word):
+            return filled(FAULTS[fault], word=word)
+    if name in RANGES:
+        return wrong_number(word, *RANGES[name])
+    return wrong_with_host(word) if name in "SDHP" else None
 
 
 def wrong_with_host(word: str) -> str | None:
-    """Why a word names no host."""
-    host, slash, imp = word.partition("/")
-    if not slash:
-        return filled(FAULTS["not a host"], word=word)
-    hint = f" {filled(FAULTS['meant'], meant=f'0/{host}')}" if imp == "0" and not wrong_number(host, *RANGES["I"]) else ""
+    """Why a word with its slash names no host."""
+    host, imp = word.split("/")
     why = wrong_number(host, "the host's number", 0, 3) or wrong_number(imp, *RANGES["I"])
-    return f"{why}{hint}" if why else None
+    swapped = SWAPPED.search(word)
+    return f"{why} {filled(FAULTS['meant'], meant=f'{swapped[2]}/{swapped[1]}')}" if why and swapped else why
 
 
 def wrong_number(word: str, what: str, least: int, most: int) -> str | None:

@@ -4,19 +4,22 @@ from __future__ import annotations
 
 import difflib
 import re
+from collections import Counter
 from collections.abc import Mapping, Sequence
 from typing import Any
 
 from dorydate.given import Input, shown
 from dorydate.network import MOST_IMPS, MOST_LINES
 from dorydate.program import MOST_OCTETS
-from dorydate.sentences.table import filled, sentences
+from dorydate.sentences.table import TABLE, filled, pattern, sentences
 from dorydate.toml import Beyond, Fault, document_of, line_in_table, line_of_key, line_of_table
 from dorydate.where import here
 
 TOPOLOGIES = sentences("topologies")
-EVENTS = {*sentences("forms"), *sentences("forms of programs")}
-KEYS = ("carrier", "raw", "imp", "line")
+EVENTS = "|".join([*sentences("forms"), *sentences("forms of programs")])
+MARKERS = [(pattern(it.replace("{events}", EVENTS)), *names) for it, *names in TABLE["rules of markers"]]
+RANGES = {name: {key: (least, most) for of, key, least, most in TABLE["tables"] if of == name} for name in ("imp", "line")}
+KEYS = ("carrier", "raw", *RANGES)
 Table = Mapping[str, Any]
 
 
@@ -54,18 +57,16 @@ def at_line(given: Input, fault: Fault) -> str:
 
 def wrong_with_marker(given: Input) -> Fault:
     """Why an input has no marker line."""
-    if not given.octets.strip():
-        return Fault(None, "The input is empty.")
     if given.octets[:2] in (b"\xff\xfe", b"\xfe\xff"):
         return Fault(None, "The file is UTF-16, as some editors and shells of Windows write it. Save it as UTF-8 or ASCII.")
+    if not given.octets.strip():
+        return Fault(None, TOPOLOGIES["empty"])
     if is_log(given.lines):
-        return Fault(None, here("This is a log and not an input. `./explain --audit < FILE` says whether the book in it is safe, and why not."))
+        return Fault(None, here(TOPOLOGIES["log"]))
     for number, line in enumerate(given.lines, 1):
-        if line.strip() == b"%":
-            beside = "It ends in a carriage return. Save the file with line feeds only." if line == b"%\r" else TOPOLOGIES["marker alone"]
-            return Fault(number, f"{TOPOLOGIES['marker']} {beside}")
-        if line.split(b" ")[0].decode("latin-1") in EVENTS:
-            return Fault(number, f"{TOPOLOGIES['marker']} Does the script begin here? Then put a line `%` before it.")
+        for it, *names in MARKERS:
+            if it.search(line.decode("latin-1")):
+                return Fault(number, " ".join(TOPOLOGIES[name] for name in names))
     return Fault(None, TOPOLOGIES["marker"])
 
 
@@ -79,8 +80,11 @@ def is_log(lines: list[bytes]) -> bool:
 
 def wrong_with_network(document: Table, lines: Sequence[str]) -> Fault | None:
     """Which rule of networks a document breaks; None where it breaks none."""
-    if further := sorted({*document} - {*KEYS}):
-        return wrong_key(further[0], lines)
+    if further := [it for it in document if it not in KEYS]:
+        near = difflib.get_close_matches(further[0].lower(), KEYS, 1)
+        hint = f" {filled(sentences('faults')['meant'], meant=near[0])}" if near else ""
+        line = line_of_table(lines, further[0], 0) or line_of_key(lines, further[0])
+        return Fault(line, f"{filled(TOPOLOGIES['key'], key=further[0])}{hint}")
     if document.get("carrier", "subnet") not in ("plain", "subnet"):
         return Fault(line_of_key(lines, "carrier"), TOPOLOGIES["carrier"])
     if not isinstance(document.get("raw", False), bool):
@@ -90,43 +94,41 @@ def wrong_with_network(document: Table, lines: Sequence[str]) -> Fault | None:
     if not is_tables(imps) or not 1 <= len(imps) <= MOST_IMPS:
         return Fault(None, TOPOLOGIES["imps"])
     if not is_tables(joined):
-        return Fault(None, "Each line is a table `[[line]]`.")
+        return Fault(None, TOPOLOGIES["lines"])
     return wrong_with_imps(imps, lines) or wrong_with_lines(joined, [imp["id"] for imp in imps], lines)
-
-
-def wrong_key(key: str, lines: Sequence[str]) -> Fault:
-    """A key that no topology has, and which it may have meant."""
-    near = difflib.get_close_matches(key.lower(), KEYS, 1)
-    hint = f" {filled(sentences('faults')['meant'], meant=near[0])}" if near else ""
-    return Fault(line_of_table(lines, key, 0) or line_of_key(lines, key), f"{filled(TOPOLOGIES['key'], key=key)}{hint}")
 
 
 def wrong_with_imps(imps: Sequence[Table], lines: Sequence[str]) -> Fault | None:
     """The same of the tables of IMPs."""
+    numbers: list[int] = []
     for place, imp in enumerate(imps):
-        if found := wrong_with_table("imp", place, imp, {"id": (1, MOST_IMPS), "hosts": (0, 4)}, lines):
+        if found := wrong_with_table("imp", place, imp, lines):
             return found
-    numbers = [imp["id"] for imp in imps]
-    for place, number in enumerate(numbers):
-        if number in numbers[:place]:
-            return Fault(line_of_table(lines, "imp", place), filled(TOPOLOGIES["two imps"], number=number))
+        if imp["id"] in numbers:
+            return Fault(line_of_table(lines, "imp", place), filled(TOPOLOGIES["two imps"], number=imp["id"]))
+        numbers.append(imp["id"])
     return None
 
 
 def wrong_with_lines(joined: Sequence[Table], numbers: list[int], lines: Sequence[str]) -> Fault | None:
     """The same of the tables of lines, between IMPs of these numbers."""
+    ends: Counter[int] = Counter()
+    pairs: set[tuple[int, int]] = set()
     for place, line in enumerate(joined):
-        if found := wrong_with_table("line", place, line, {"a": (1, MOST_IMPS), "b": (1, MOST_IMPS)}, lines):
+        if found := wrong_with_table("line", place, line, lines):
             return found
-        if line["a"] == line["b"] or not {line["a"], line["b"]} <= {*numbers}:
-            return Fault(line_of_table(lines, "line", place), filled(TOPOLOGIES["joins"], line))
-    ends = [{line["a"], line["b"]} for line in joined]
-    for place, pair in enumerate(ends):
-        if pair in ends[:place]:
-            return Fault(line_of_table(lines, "line", place), filled(TOPOLOGIES["two lines"], a=min(pair), b=max(pair)))
-        for number in sorted(pair):
-            if sum(number in it for it in ends[: place + 1]) > MOST_LINES:
-                return Fault(line_of_table(lines, "line", place), filled(TOPOLOGIES["five lines"], number=number))
+        a, b = sorted((line["a"], line["b"]))
+        ends.update((a, b))
+        full = [it for it in (a, b) if ends[it] > MOST_LINES]
+        why = (
+            filled(TOPOLOGIES["joins"], line) if a == b or not {a, b} <= {*numbers}
+            else filled(TOPOLOGIES["two lines"], a=a, b=b) if (a, b) in pairs
+            else filled(TOPOLOGIES["five lines"], number=full[0]) if full
+            else ""
+        )  # fmt: skip
+        if why:
+            return Fault(line_of_table(lines, "line", place), why)
+        pairs.add((a, b))
     return None
 
 
@@ -134,12 +136,13 @@ def is_tables(value: object) -> bool:
     return isinstance(value, list) and all(isinstance(it, dict) for it in value)
 
 
-def wrong_with_table(name: str, place: int, table: Table, ranges: Mapping[str, tuple[int, int]], lines: Sequence[str]) -> Fault | None:
-    """Why a table has not exactly these keys with whole numbers in these ranges; None where it has."""
-    if displaced := [it for it in ("raw", "carrier") if it in table]:
+def wrong_with_table(name: str, place: int, table: Table, lines: Sequence[str]) -> Fault | None:
+    """Why a table has not exactly its keys with whole numbers in their ranges; None where it has."""
+    ranges = RANGES[name]
+    if displaced := [it for it in table if it in ("raw", "carrier")]:
         return Fault(line_in_table(lines, name, place, displaced[0]), filled(TOPOLOGIES["displaced"], key=displaced[0], table=name))
     if {*table} != {*ranges}:
-        found = ", ".join(sorted(table)) or "none"
+        found = ", ".join(table) or "none"
         return Fault(line_of_table(lines, name, place), filled(TOPOLOGIES["keys"], table=name, keys=" and ".join(ranges), found=found))
     for key, (least, most) in ranges.items():
         if type(table[key]) is not int or not least <= table[key] <= most:

@@ -1,36 +1,73 @@
-"""What waits in a network that has come to rest, and for what: said after a calm from which nothing more comes.
+"""What waits, where it is, and for what: by the rules that the workbench reads too (sentences/table.mjs).
 
-It reads the state of the independent model, and lets a copy of it have some more rounds, to see that nothing comes of them.
+It reads the state of the independent model. After a calm from which nothing more comes it says what waits in the network that has come
+to rest: it lets a copy of the model have some more rounds, to see that nothing comes of them.
 """
 
 from __future__ import annotations
 
-from collections.abc import Iterator
+from collections.abc import Iterator, Mapping
+from dataclasses import dataclass
 
-from dorydate.explain.in_the_way import InTheWay
+from dorydate.explain.view import host_in_words, imp_in_words
+from dorydate.model.alive import Held, everything
 from dorydate.model.boxes import Boxes
-from dorydate.model.crossings import Carrier
-from dorydate.model.forks import forked
-from dorydate.model.host import Host
-from dorydate.model.imp import Imp
-from dorydate.model.names import Flow, HostName, in_order, spell_flow, spell_host
+from dorydate.model.commands import ALL
 from dorydate.model.connections import CLOSED, READY, End, Pair
+from dorydate.model.crossings import Carrier, Passed
+from dorydate.model.firsts import Firsts
+from dorydate.model.forks import forked
+from dorydate.model.imp import Imp
+from dorydate.model.imp_state import SLOTS, STORE
+from dorydate.model.names import Flow, HostName, in_order, spell_flow, spell_host
+from dorydate.model.packets import ASK, DATA, DEAD, NEVER, RFNM, Carried, Packet
 from dorydate.model.runs import Place
+from dorydate.model.services import Service, User
 from dorydate.model.subnet import Subnet
 from dorydate.model.world import World
-from dorydate.sentences.table import count, filled, listed, sentences
+from dorydate.sentences.table import TABLE, filled, sentences
 
-WHAT, FOR = sentences("waits"), sentences("waits for")
+RULES: list[list[str]] = TABLE["rules of waits"]  # of each thing that waits: facts, and what is said where they hold
+WHAT, AT, FOR, PACKETS, ANSWERS = (sentences(it) for it in ("waits", "waits at", "waits for", "packets", "answers"))
+FURTHEST: dict[str, float] = dict(TABLE["furthest"])  # how much each copy of a message matters
+KINDS = {DATA: "data", RFNM: "rfnm", DEAD: "dead", ASK: "ask", NEVER: "never"}
+PLACES = {"queue": "whole", "slot": "slot", "store": "store", "channel": "channel", "frame": "frame"}
 LOOKED = 4  # rounds after which a network that printed nothing is said to be at rest
 MOST = 4  # things that wait are listed at most
 MOST_IMPS = 12  # of a network whose rest is looked at: each look costs rounds of the model
+
+Holes = dict[str, object]
+
+
+@dataclass(frozen=True)
+class Wait:
+    """What waits, where it is, what it waits for, whether it does so for ever, and script lines that help."""
+
+    what: str
+    where: str
+    reason: str
+    is_bad: bool
+    cures: tuple[str, ...]
+
+    def __str__(self) -> str:
+        is_helped = self.is_bad or self.cures[:1] and self.cures[0].startswith("take")
+        cure = f" ({', '.join(f'`{it}`' for it in self.cures)})" if is_helped and self.cures else ""
+        link = ": " if self.reason == FOR["nothing alive"] else ", for "
+        return f"{self.what}{', ' if self.where else ''}{self.where}{link}{self.reason}{cure}"
+
+
+def by_rules(thing: str, facts: Mapping[str, bool], holes: Holes) -> Wait:
+    """What waits: the first of the thing's rules whose facts all hold says it."""
+    what, where, reason, bad, cures = next(row[2:] for row in RULES if row[0] == thing and all(facts[it] for it in row[1].split(", ") if it))
+    lines = filled(cures, holes).split(";")
+    return Wait(filled(WHAT[what], holes), filled(AT[where], holes), filled(FOR[reason], holes), bad == "bad", tuple(it for it in lines if it))
 
 
 def at_rest(place: Place, carrier: Carrier) -> list[str]:
     """Sentences about what waits where nothing more comes of some rounds; none where nothing waits or something moves."""
     if isinstance(carrier, Subnet) and len(carrier.imps) > MOST_IMPS:
         return []
-    found = [*waiting(place, carrier)]
+    found = [str(it) for it in waiting(place, carrier)]
     if not found or moves(place):
         return []
     more = len(found) - MOST
@@ -45,59 +82,170 @@ def moves(place: Place) -> bool:
     return len(ahead.printed) > before
 
 
-def waiting(place: Place, carrier: Carrier) -> Iterator[str]:
-    """What waits: bits of programs, contacts, requests, and messages without an answer."""
+def waiting(place: Place, carrier: Carrier) -> Iterator[Wait]:
+    """All that waits."""
+    if isinstance(carrier, Subnet):
+        yield from InSubnet(carrier).waiting()
+    elif isinstance(carrier, Boxes):
+        for flow, _ in carrier.messages:
+            yield by_rules("mail", {}, {**message(flow), "host": host_in_words(flow.destination)})
+        for answer in carrier.answers:
+            holes = {"host": host_in_words(answer.flow.source), "answer": ANSWERS[answer.kind]}
+            yield by_rules("mail answer", {}, {**message(answer.flow), **holes})
     if isinstance(place, World):
         for host, program in place.hosts.items():
             if program is not None:
-                yield from of_program(host, program)
-    if isinstance(carrier, Subnet):
-        for imp in carrier.imps.values():
-            if imp is not None:
-                for flow in in_order(imp.outstanding):
-                    yield of_flow(carrier, imp, flow)
-    elif isinstance(carrier, Boxes):
-        for flow, _ in carrier.messages:
-            yield f"the message of flow {spell_flow(flow)}, for {filled(FOR['take'], host=f'host {spell_host(flow.destination)}')}"
+                yield from of_program(place, host, program.pairs)
 
 
-def of_flow(subnet: Subnet, imp: Imp, flow: Flow) -> str:
-    """Where a message that is outstanding is, and what moves it on."""
-    settling = InTheWay(subnet).settling(flow).removesuffix(".")
-    return f"message {imp.outstanding[flow]} of flow {spell_flow(flow)}, for its answer ({settling[0].lower()}{settling[1:]}{unnoticed(subnet, flow.destination.imp)})"
+def message(flow: Flow, number: int | None = None) -> Holes:
+    """The holes that name a message."""
+    return {"flow": spell_flow(flow), "message": f"{'the message' if number is None else f'message {number}'} of flow {spell_flow(flow)}"}
 
 
-def unnoticed(subnet: Subnet, number: int) -> str:
-    """That an IMP is down whose neighbours don't know; nothing where they do."""
-    if subnet.imps.get(number) is not None or number not in subnet.sites:
-        return ""
-    ends = [(near, line) for line, ends in enumerate(subnet.ends) if number in ends for near in ends if near != number]
-    up = [(near, line) for near, line in ends if (node := subnet.imps[near]) is not None and node.ports[subnet.port_of(near, line)].is_up]
-    cure = listed([f"`enddown {near} {line}`" for near, line in up])
-    return f"; {filled(WHAT['unseen'], imp=f'IMP {number}')}: {cure}" if up else ""
+# ---- messages
 
 
-def of_program(host: HostName, program: Host) -> Iterator[str]:
+class InSubnet:
+    """What waits in a subnet."""
+
+    def __init__(self, subnet: Subnet) -> None:
+        self.subnet = subnet
+        self.alive = [*everything(subnet)]
+
+    def waiting(self) -> Iterator[Wait]:
+        for number, imp in self.subnet.imps.items():
+            if imp is None:
+                yield from self.unseen(number)
+                continue
+            for flow in in_order(imp.outstanding):
+                yield self.outstanding(imp, flow)
+            for it in (answer for host in imp.hosts for answer in host.answers):
+                yield by_rules("answer", {}, {**message(it.flow), "imp": imp_in_words(number), "host": host_in_words(it.flow.source)})
+
+    def unseen(self, number: int) -> Iterator[Wait]:
+        """That an IMP is down whose neighbours don't know."""
+        ends = [(sum(ends) - number, line) for line, ends in enumerate(self.subnet.ends) if number in ends]
+        cures = ";".join(f"enddown {near} {line}" for near, line in ends if self.is_end_up(near, line))
+        if cures:
+            yield by_rules("unseen", {}, {"imp": imp_in_words(number), "ends": cures})
+
+    def is_end_up(self, number: int, line: int) -> bool:
+        node = self.subnet.imps[number]
+        return node is not None and node.ports[self.subnet.port_of(number, line)].is_up
+
+    def outstanding(self, imp: Imp, flow: Flow) -> Wait:
+        """A message without an answer: where the copy of it is that is furthest, and what that waits for."""
+        number = imp.outstanding[flow]
+        holes = message(flow, number)
+        copies = [it for it in self.alive if (it.flow, it.number) == (flow, number)]
+        if not copies:
+            return by_rules("gone", {"route": imp.route(flow.destination.imp) is not None}, holes)
+        return self.held(max(copies, key=self.score), holes)
+
+    def score(self, held: Held) -> float:
+        """How far a copy is: an answer before the message before a question, and of each kind the one nearest to its end."""
+        at, to = self.subnet.imps[self.imp_of(held)], target(held)
+        distance = 0 if at is None or at.number == to else at.vector()[to - 1]
+        return FURTHEST[KINDS[held.kind]] + FURTHEST[PLACES[held.place[0]]] - distance
+
+    def imp_of(self, held: Held) -> int:
+        """The IMP that holds something, on a line the one that it comes from."""
+        match held.place:
+            case ["queue", host]:
+                return int(host.imp)
+            case ["frame", line, way, _]:
+                return self.subnet.ends[line][0 if way == "+" else 1]
+        return int(held.place[1])
+
+    def held(self, held: Held, holes: Holes) -> Wait:
+        """Where a copy is and what it waits for."""
+        number, own = self.imp_of(held), held.flow.destination
+        line, channel, packet = self.on_line(held)
+        far = sum(self.subnet.ends[line]) - number if line is not None else number
+        node = self.subnet.imps[far] if line is not None and self.is_end_up(far, line) else None
+        host = self.subnet.imps[number]
+        facts = {
+            "end down": node is None,
+            "no slot": node is not None and wants_slot(node, held, packet),
+            "no room": node is not None and target(held) != far and not node.room(1),
+        }
+        pieces = len(host.slots[held.flow][1]) if held.place[0] == "slot" and host is not None else 0
+        names = {"imp": number, "from": number, "far": far, "next": far, "to": target(held)}
+        numbers = {"number": number, "line": line, "channel": channel, "pieces": pieces, "slots": SLOTS, "places": STORE}
+        words = {"own": spell_host(own), "host": host_in_words(own), "packet": PACKETS[KINDS[held.kind]]}
+        return by_rules(PLACES[held.place[0]], facts, {**holes, **numbers, **words, **{name: imp_in_words(it) for name, it in names.items()}})
+
+    def on_line(self, held: Held) -> tuple[int | None, int, Packet | None]:
+        """The line on which something is or has to go, its channel there, and the packet; no line where it is in a store, a slot or a queue."""
+        match held.place:
+            case ["channel", imp, port, channel]:
+                return self.subnet.lines_of(imp)[port], channel, self.subnet.up(imp).ports[port].line.busy[channel]
+            case ["frame", line, way, at]:
+                content = self.subnet.live[line][way][at][1]
+                assert isinstance(content, Carried)
+                return line, content.channel, content.packet
+        return None, 0, None
+
+
+def target(held: Held) -> int:
+    """The IMP to which something travels."""
+    return held.flow.destination.imp if held.is_request() else held.flow.source.imp
+
+
+def wants_slot(imp: Imp, held: Held, packet: Packet | None) -> bool:
+    """Whether a packet needs a slot at the IMP to which it comes next, and there is none."""
+    is_piece = held.kind == DATA and held.flow.destination.imp == imp.number and not (packet and packet.last and packet.place == 0)
+    return is_piece and len(imp.slots) >= SLOTS and held.flow not in imp.slots
+
+
+# ---- programs of hosts
+
+
+def of_program(world: World, host: HostName, pairs: Mapping[HostName, Pair]) -> Iterator[Wait]:
     """What a host's program waits for."""
-    for peer, pair in program.pairs.items():
-        hosts = {"host": f"host {spell_host(host)}", "peer": f"host {spell_host(peer)}"}
+    for peer, pair in pairs.items():
+        hosts: Holes = {"host": host_in_words(host), "peer": host_in_words(peer)}
         if pair.phase not in (CLOSED, READY):
-            yield f"{filled(WHAT['contact'], hosts)}, for {filled(FOR['RRP'], hosts)}"
+            yield by_rules("contact", {"peer down": world.hosts.get(peer) is None}, hosts)
         for end in pair.ends:
-            at = f"socket {end.own} of host {spell_host(host)}"
-            if end.waiting:
-                yield f"{filled(WHAT['bits'], bits=len(end.waiting), end=at)}, for {what_bits_wait_for(hosts, peer, pair, end)}"
-            elif end.mine and end.partner_stamp is None and end.own_stamp is not None and not end.is_closing():
-                yield f"{filled(WHAT['request'], end=at)}, for {filled(FOR['request'], hosts, socket=end.foreign)}"
+            yield from of_end(world, (host, peer), pair, end)
+    for it in world.programs[host]:
+        if isinstance(it, User) and it.outcome is None:
+            hosts = {"host": host_in_words(host), "peer": host_in_words(it.peer), "socket": it.server}
+            yield by_rules("initial", {"peer down": world.hosts.get(it.peer) is None}, hosts)
 
 
-def what_bits_wait_for(hosts: dict[str, str], peer: HostName, pair: Pair, end: End) -> str:
-    """Why what was handed over doesn't go out."""
-    if not end.is_open():
-        return FOR["open"]
-    if end.link in pair.busy:
-        return filled(FOR["answer"], link=end.link)
-    if end.messages == 0 or end.bits < end.size:
-        left = f": {count(end.messages, 'message')} and {count(end.bits, 'bit')} are granted, and a byte has {count(end.size, 'bit')}"
-        return f"{filled(FOR['grant'], hosts)}{left if end.messages or end.bits else ''} (`grant {spell_host(peer)} {end.foreign} MESSAGES BITS`)"
-    return filled(FOR["offer"], hosts)
+def of_end(world: World, hosts: tuple[HostName, HostName], pair: Pair, end: End) -> Iterator[Wait]:
+    """What an end of a connection waits for."""
+    host, peer = hosts
+    holes: Holes = {"host": host_in_words(host), "peer": host_in_words(peer), "end": f"socket {end.own} of {host_in_words(host)}", "socket": end.foreign}
+    if end.waiting:
+        facts = {
+            "enough": end.messages > 0 and end.bits >= end.size,
+            "busy": end.link in pair.busy,
+            "grant on its way": is_on_its_way(world, peer, host, end.link),
+            "service": is_of_service(world, peer, end.foreign),
+        }
+        numbers = {"bits": len(end.waiting), "messages": end.messages, "allowed": end.bits, "link": end.link, "foreign": end.foreign}
+        words = {"whose": "service" if is_of_service(world, host, end.own) else "program", "own": spell_host(host), "other": spell_host(peer)}
+        yield by_rules("bits", facts, {**holes, **numbers, **words})
+    elif end.mine and end.partner_stamp is None and not end.is_closing():
+        if not any(isinstance(it, User) and it.own == end.own for it in world.programs[host]):  # its initial connection waits
+            yield by_rules("request", {}, holes)
+    elif end.mine and (end.close_asked or end.close_queued) and not end.close_taken:
+        yield by_rules("close", {}, holes)
+
+
+def is_on_its_way(world: World, peer: HostName, host: HostName, link: int | None) -> bool:
+    """Whether a grant for a link has not come from a peer yet: it waits there to go out, or is in the message that went out last."""
+    program = world.hosts.get(peer)
+    queued = program.pairs[host].queue if program is not None and host in program.pairs else []
+    last = next((it for it in reversed(world.carrier.log) if isinstance(it, Passed) and it.flow == (peer, host, 0)), None)
+    sent = Firsts().commands(last.text) if last is not None and last.kind == "out" else ()
+    return any(it[0] == ALL and it[1] == link for it in (*queued, *sent))
+
+
+def is_of_service(world: World, host: HostName, socket: int) -> bool:
+    """Whether a service on a host uses a socket."""
+    return any(isinstance(it, Service) and socket in (it.receives, it.sends) for it in world.programs.get(host, []))

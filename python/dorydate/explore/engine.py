@@ -7,6 +7,7 @@ a worker makes depends on the words of its task only. So a task whose worker was
 from __future__ import annotations
 
 import hashlib
+import logging
 import multiprocessing
 import os
 import signal
@@ -17,6 +18,7 @@ from collections import deque
 from collections.abc import Callable, Iterator
 from concurrent.futures import CancelledError, Future, ProcessPoolExecutor
 from concurrent.futures.process import BrokenProcessPool
+from contextlib import suppress
 from dataclasses import dataclass
 from functools import lru_cache
 from importlib import import_module
@@ -127,7 +129,8 @@ class Local:
         self.pool = self.made()
 
     def close(self) -> None:
-        self.pool.shutdown(wait=False, cancel_futures=True)
+        # (Python waits for what is under way at its own end, too, and races with the pool where that goes on by then)
+        self.pool.shutdown(wait=True, cancel_futures=True)
 
 
 class Cluster:
@@ -142,19 +145,26 @@ class Cluster:
             self.client: Any = distributed.Client(address, timeout=WAITING, set_as_default=False)
         except (OSError, ValueError, TimeoutError) as fault:
             raise NoCluster(f"the cluster at {address} doesn't answer: {str(fault).splitlines()[0] if str(fault) else type(fault).__name__}") from None
+        self.address = address
+        logging.getLogger("distributed.client").setLevel(logging.CRITICAL)  # what is wrong is said here
 
     def submit(self, call: Callable[..., list[Made]], *words: object) -> Future[list[Made]]:
+        self.renew()
         given: Future[list[Made]] = self.client.submit(call, *words, pure=False, retries=0)
         return given
 
     def count(self) -> int:
+        self.renew()
         return max(len(self.client.scheduler_info()["workers"]), 1)
 
     def renew(self) -> None:
-        """The scheduler gives tasks to other workers by itself."""
+        """The scheduler gives tasks to other workers by itself, as long as it is there."""
+        if self.client.status != "running":
+            raise NoCluster(f"the cluster at {self.address} doesn't answer any more")
 
     def close(self) -> None:
-        self.client.close()
+        with suppress(Exception):  # it may be gone
+            self.client.close(timeout=1)
 
 
 # ---- in their order
@@ -192,7 +202,8 @@ class Ordered(Generic[Made]):
                 yield from made
         finally:
             for task in self.out:
-                task.future.cancel()
+                with suppress(Exception):  # whoever has it may be gone
+                    task.future.cancel()
 
     def taken(self) -> list[Made]:
         """What the first task made. Where its process was killed, all that are out and not done are given out again."""
@@ -203,8 +214,8 @@ class Ordered(Generic[Made]):
             except Exception as fault:
                 if not is_of_a_kill(fault) or task.tries >= TRIES:
                     raise in_words(fault) from None
-                print(f"explore: a worker ended ({type(fault).__name__}); what it had is given out again", file=sys.stderr)
                 self.workers.renew()
+                print(f"explore: a worker ended ({type(fault).__name__}); what it had is given out again", file=sys.stderr)
                 for it in self.out:
                     if not it.future.done() or it.future.cancelled() or it.future.exception() is not None:
                         it.future, it.tries = self.begun(it.first), it.tries + 1

@@ -24,6 +24,15 @@ class OtherState(Exception):
     """Why a file is not the state of this search."""
 
 
+def progress_of(kept: dict[str, Any]) -> Progress:
+    """How far a search has come, as a file has it."""
+    counts = dict(kept)
+    best, spent = counts.pop("best"), counts.pop("spent")
+    progress = Progress(**counts, begun=time.monotonic() - spent)
+    progress.best = None if best is None else tuple(map(read_event, best))
+    return progress
+
+
 class State:
     """The file of a search, or of a campaign's searches one after another."""
 
@@ -40,10 +49,11 @@ class State:
             return {"format": FORMAT, "program": self.program, "searches": {}}
         except (ValueError, UnicodeDecodeError):
             raise OtherState(f"{self.path} is no state of a search") from None
-        if not isinstance(read, dict) or read.get("format") != FORMAT or "searches" not in read:
+        if not isinstance(read, dict) or read.get("format") != FORMAT or not isinstance(read.get("searches"), dict):
             raise OtherState(f"{self.path} is no state of a search")
-        if read["program"] != self.program:
-            raise OtherState(f"{self.path} is of another program, whose hash begins with {str(read['program'])[:12]}")
+        if read.get("program") != self.program:
+            begins = str(read.get("program"))[:12]
+            raise OtherState(f"{self.path} is of another program, whose hash begins with {begins}")
         return read
 
     def resumed(self, name: str, job: Job) -> Progress | None:
@@ -53,14 +63,13 @@ class State:
             if name == "" and self.kept["searches"]:
                 raise OtherState(f"{self.path} is the state of a campaign")
             return None
-        for word, value in asdict(job).items():
-            if kept["job"].get(word) != json.loads(json.dumps(value)):
-                raise OtherState(f"{self.path} is of a search with another {word}")
-        counts = dict(kept["progress"])
-        best, spent = counts.pop("best"), counts.pop("spent")
-        progress = Progress(**counts, begun=time.monotonic() - spent)
-        progress.best = None if best is None else tuple(map(read_event, best))
-        return progress
+        try:
+            for word, value in asdict(job).items():
+                if kept["job"].get(word) != json.loads(json.dumps(value)):
+                    raise OtherState(f"{self.path} is of a search with another {word}")
+            return progress_of(kept["progress"])
+        except (KeyError, TypeError, ValueError, AttributeError):
+            raise OtherState(f"{self.path} is no state of a search") from None
 
     def keep(self, name: str, job: Job, progress: Progress, now: bool = False) -> None:
         """Notes how far a search has come, and writes that from time to time."""

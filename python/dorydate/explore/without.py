@@ -2,8 +2,8 @@
 
 The program has all its rules. So this runs in the model in Python, some hundred schedules a second. Of a raw network what crossed is checked
 against the table of the mailboxes, and of hosts with programs the book against the model's audit. Scripts come from random schedules;
-for rules about numbers that wrap around from a search that climbs (`oldest`), in a model with few numbers; and from the folder
-`without`, where it is there, whose script for the rule is shortened.
+for rules about numbers that wrap around from a search that climbs by a plan (`oldest`), in a model with few numbers;
+and from the folder `without`, where it is there, whose script for the rule is shortened.
 """
 
 from __future__ import annotations
@@ -11,17 +11,18 @@ from __future__ import annotations
 import random
 import sys
 import time
-from collections.abc import Sequence
+from collections.abc import Iterable, Sequence
 from dataclasses import dataclass
 from functools import partial
 from pathlib import Path
 from typing import ClassVar
 
 from dorydate.explore.kinds import Maker, chosen, pools
-from dorydate.explore.oldest import climbed
+from dorydate.explore.oldest import Plan, climbed
 from dorydate.explore.shrink import Script as Events
 from dorydate.explore.shrink import Shrinker, cost
 from dorydate.model.imp_state import NUMBERS, Numbers
+from dorydate.model.runs import Place
 from dorydate.model.script import Event as ModelEvent
 from dorydate.model.topology import Topology
 from dorydate.model.without import HARMLESS, LACKING, broken, opened_without, read_line
@@ -38,6 +39,9 @@ STOPPING = ("out", "deliver", "impdown", "impup", "hostup")
 # of one flow, what the two rules about numbers that wrap around are about
 ONE_FLOW = ("calm 1", "out 0/1 0/2 0 0 -", "ask 0/1 0/2 0")
 FRAMES = tuple(f"deliver 0 {way} {place}" for way in "+-" for place in range(6))
+LOSSES = ("giveup 0/1 0/2 0", "drop 0 + 0", "enddown 1 0", "endup 1 0")
+COMES_ROUND = Plan(("out", "in", "rfnm", "out", "in", "rfnm", "out"))
+BEGUN_AGAIN = Plan(("out", "in", "rfnm", "out", "incomplete", "out", "incomplete", "out"), is_kept=True)
 
 
 @dataclass(frozen=True)
@@ -56,25 +60,25 @@ class Free(GiveUp):
 
 @dataclass(frozen=True)
 class Sought:
-    """Where a rule is sought: the network, the kinds of events that matter, all where none are named, the model's numbers, and the lines of
-    which lists are made where the search climbs."""
+    """Where a rule is sought: the network, the kinds of events that matter, all where none are named, the model's
+    numbers, and where the search climbs the lines of which lists are made, and its plan."""
 
     network: Network = PROGRAMS
     kinds: tuple[str, ...] = ()
     numbers: Numbers = NUMBERS
     lines: tuple[str, ...] = ()
-    is_kept: bool = False  # whether it climbs there by what is kept, and not by what is alive
+    plan: Plan | None = None
 
 
 # words of the rules of the network below hosts; all others are of hosts' programs
 OF_NETWORK = {
     "whole message": Sought(RAW, SENDING),
-    "a window": Sought(RAW, SENDING, FEW, (*ONE_FLOW, "take 0/1", "take 0/2", *FRAMES)),
+    "a window": Sought(RAW, SENDING, FEW, (*ONE_FLOW, "take 0/1", "take 0/2", *FRAMES), COMES_ROUND),
     "an IMP comes up": Sought(RAW, STOPPING),
     "given up": Sought(RAW, SENDING),
     "it is asked about": Sought(RAW, SENDING),
     "a question": Sought(RAW, SENDING),
-    "IMP keeps": Sought(RAW, SENDING, FEW, (*ONE_FLOW, "giveup 0/1 0/2 0", "drop 0 + 0", "enddown 1 0", "endup 1 0"), True),
+    "IMP keeps": Sought(RAW, SENDING, FEW, (*ONE_FLOW, *LOSSES), BEGUN_AGAIN),
 }
 LENGTH = 16  # events of a schedule: the model is slow
 MOST_STEPS = 200_000  # of a search that climbs
@@ -106,14 +110,18 @@ class Lacking:
         self.read: dict[Event, ModelEvent] = {}
         self.as_model = Topology(network.carrier, network.raw, [(it.number, it.hosts) for it in network.imps], [(it.a, it.b) for it in network.lines])
 
-    def breaks(self, script: Sequence[Event]) -> str | None:
-        """The first part of the promise that breaks."""
+    def after(self, script: Iterable[Event]) -> Place:
+        """The network after a script."""
         place = opened_without(self.rule, self.as_model, self.sought.numbers)
         for event in script:
             if event not in self.read:
                 self.read[event] = self.of_model(event)
             place.happen(*self.read[event])
-        return broken(place)
+        return place
+
+    def breaks(self, script: Sequence[Event]) -> str | None:
+        """The first part of the promise that breaks."""
+        return broken(self.after(script))
 
     def of_model(self, event: Event) -> ModelEvent:
         """An event as the model has it."""
@@ -150,7 +158,7 @@ class Search:
     def run(self, seconds: float, runs: int, matches: int = MATCHES) -> Broke | None:
         """The shortest script of some that break something, each shrunk; None where none was found."""
         begun = time.monotonic()
-        if self.sought.lines:
+        if self.sought.plan:
             self.climb(seconds)
         else:
             self.schedule(begun, seconds, runs, matches)
@@ -159,10 +167,11 @@ class Search:
         return self.best
 
     def climb(self, seconds: float) -> None:
-        """Climbs by the age of what is left."""
+        """Climbs by the plan of the rule."""
+        assert self.sought.plan is not None
         events = [(it, self.lacking.of_model(it)) for it in map(read_event, self.sought.lines)]
         place = opened_without(self.rule, self.lacking.as_model, self.sought.numbers)
-        script, self.steps = climbed(place, events, seconds, MOST_STEPS, self.sought.is_kept)
+        script, self.steps = climbed(place, events, self.sought.plan, seconds, MOST_STEPS)
         if script:
             self.take(script, self.lacking, f"after {self.steps} steps")
 
@@ -229,7 +238,7 @@ def command(words: str, seed: int, seconds: float, runs: int, file: str | None =
     print(f"explore: without the rule: {rule}", file=sys.stderr)
     search = Search(rule, seed)
     broke = search.run(seconds, runs)
-    looked = f"{search.steps} steps" if search.sought.lines else f"{search.schedules} schedules"
+    looked = f"{search.steps} steps" if search.sought.plan else f"{search.schedules} schedules"
     if broke is None:
         print(f"explore: nothing broke in {looked}", file=sys.stderr)
         return 1

@@ -117,7 +117,56 @@ export const TABLE = {
 "ask": "The IMP of {source} asks that of {destination} what became of the message on link {link}, if a route leads there.",
 "other": "Nothing crosses a host's interface."
 },
+"rules of waits": [
+["answer", "", "answer", "imp", "take", "", ""],
+["mail", "", "message", "mailbox", "take", "", ""],
+["mail answer", "", "answer of a kind", "mailbox", "take", "", ""],
+["gone", "route", "message", "", "nothing alive", "bad", "ask {flow};giveup {flow}"],
+["gone", "", "message", "", "nothing alive", "bad", "giveup {flow}"],
+["whole", "", "message", "imp", "take", "", "take {own}"],
+["slot", "", "message", "slot", "pieces", "", ""],
+["store", "", "message", "store", "channel", "", ""],
+["frame", "no slot", "message", "line", "slot", "", "calm 1"],
+["frame", "no room", "message", "line", "room", "", "calm 1"],
+["frame", "", "message", "line", "arrival", "", "calm 1"],
+["channel", "end down", "message", "channel", "acknowledgement, down", "bad", "enddown {number} {line}"],
+["channel", "no slot", "message", "channel", "slot", "", ""],
+["channel", "no room", "message", "channel", "room", "", ""],
+["channel", "", "message", "channel", "acknowledgement", "", ""],
+["contact", "peer down", "contact", "", "RRP", "bad", ""],
+["contact", "", "contact", "", "RRP", "", ""],
+["initial", "peer down", "initial", "", "server", "bad", ""],
+["initial", "", "initial", "", "server", "", ""],
+["request", "", "request", "", "request", "", ""],
+["close", "", "close", "", "CLS", "", ""],
+["bits", "enough, busy", "bits", "program", "answer about link", "", ""],
+["bits", "enough", "bits", "program", "offer", "", "offer {own}"],
+["bits", "grant on its way", "bits", "program", "ALL", "", "calm 1"],
+["bits", "service", "bits", "program", "service", "", "calm 1"],
+["bits", "", "bits", "program", "grant", "bad", "grant {other} {foreign} 1 {bits}"],
+["unseen", "", "unseen", "", "ends", "bad", "{ends}"]
+],
+"furthest": [
+["rfnm", 4000],
+["dead", 4000],
+["never", 4000],
+["data", 3000],
+["ask", 2000],
+["whole", 100],
+["slot", 90],
+["frame", 0.2],
+["channel", 0.1],
+["store", 0]
+],
+"packets": {
+"data": "",
+"rfnm": "its RFNM: ",
+"dead": "its Dead: ",
+"ask": "the question about it: ",
+"never": "the answer that it never came: "
+},
 "waits": {
+"message": "{message}",
 "answer": "the answer to {message}",
 "answer of a kind": "{answer} for {message}",
 "contact": "{host's} contact with {peer}",
@@ -128,12 +177,14 @@ export const TABLE = {
 "unseen": "{imp} is down, and its neighbours don't see it"
 },
 "waits at": {
+"": "",
+"imp": "{imp}",
 "mailbox": "the mailbox of {host}",
 "slot": "{imp}, a slot with {pieces piece}",
-"store": "{imp}, in the store",
-"line": "on the line from {from} to {to}",
-"channel": "{imp}, channel {channel} to {to}",
-"program": "{host's} {whose}; {messages} and {bits} are left of the grant"
+"store": "{packet}{imp}, in the store",
+"line": "{packet}on the line from {from} to {far}",
+"channel": "{packet}{imp}, channel {channel} to {far}",
+"program": "{host's} {whose}; {messages message} and {allowed bit} are left of the grant"
 },
 "waits for": {
 "take": "{host} to take it",
@@ -141,16 +192,15 @@ export const TABLE = {
 "pieces": "its other pieces",
 "channel": "a free channel towards {to}",
 "arrival": "the frame to arrive",
-"acknowledgement": "the acknowledgement of {imp}",
-"acknowledgement, down": "the acknowledgement of {imp}, whose end of line {line} is down",
-"slot": "a free slot at {imp}: all {slots} are held",
-"room": "room at {imp}: its {places} places are taken",
+"acknowledgement": "the acknowledgement of {far}",
+"acknowledgement, down": "the acknowledgement of {far}, whose end of line {line} is down",
+"slot": "a free slot at {next}: all {slots} are held",
+"room": "room at {next}: its {places} places are taken",
 "RRP": "the RRP of {peer}, after the RFNM for its own RST",
 "server": "its server on socket {socket} of {peer}",
 "request": "{peer} to ask for the same connection, or to listen on socket {socket}",
 "CLS": "the CLS of {peer}",
-"open": "its connection to be open",
-"answer": "the answer to the message on link {link} that is out",
+"answer about link": "the answer to the message on link {link} that is out",
 "offer": "{host} to offer",
 "ALL": "the grant of {peer} to come (ALL)",
 "service": "a grant of {peer's} service",
@@ -311,6 +361,37 @@ export const TABLE = {
 "MESSAGES": ["the number of messages", 0, 65535],
 "ALLOWED": ["the number of bits", 0, 4294967295]
 },
+"rules of lines": [
+["", "\\r", "carriage return"],
+["", "[^ -~]", "not ASCII"],
+["raw", "^ |  | $", "spaces"],
+["programs", "^ |^(?!type(?: |$)).*(?:  | $)", "spaces"],
+["", "^%(?: |$)", "second marker"],
+["programs", "^out(?: |$)", "of raw"]
+],
+"rules of events": [
+["programs", "^(?<line>type [^ ]*)$", "empty line"],
+["", "^(?!type ).*? (?<comment>#.*)$", "comment"],
+["", "^(?:out|send) .*?\"(?<text>[^\"]*)\"", "text"],
+["", "^(?:out|send) .* 0[xX](?<digits>[^ ]*)$", "0x"]
+],
+"rules of words": [
+["S D H P", "^[^/]*/[^/]*$", "not a host"],
+["+|-", "^[+-]$", "not a direction"],
+["OCTET", "^(?!0x)", "hexadecimal"]
+],
+"rules of markers": [
+["^[ \\t]*%\\r$", "marker", "marker and return"],
+["^\\s*%\\s*$", "marker", "marker alone"],
+["^(?:{events})(?: |$)", "marker", "begins here"]
+],
+"swapped": "^([1-9]|[1-5][0-9]|6[0-3])/([0-3])$",
+"tables": [
+["imp", "id", 1, 63],
+["imp", "hosts", 0, 4],
+["line", "a", 1, 63],
+["line", "b", 1, 63]
+],
 "faults": {
 "carriage return": "It has a carriage return, as files from Windows have at each line's end. Save the file with line feeds only.",
 "not ASCII": "It has a character that is not printable ASCII, perhaps a tab. Only comments may have such characters.",
@@ -328,10 +409,11 @@ export const TABLE = {
 "not a direction": "`{word}` is not a direction. `+` is from a line's first IMP to its second, and `-` the other way.",
 "not a number": "`{word}` can't be read as {what}: numbers are decimal, without a sign and without leading zeros.",
 "range": "`{word}` is out of range: {what} is {least} to {most}.",
+"hexadecimal": "`{word}` is hexadecimal, and octets are decimal numbers here.",
 "no bits": "A text of no bits is written `0 -`.",
 "no octets": "`-` is for no octets, but {bits bit} are asked for.",
-"text": "A text is written in hexadecimal, with the number of its bits before it: {text} is `{spelled}`.",
-"0x": "The octets are hexadecimal digits without `0x`: `{digits}`.",
+"text": "A text is written in hexadecimal, with the number of its bits before it: \"{text}\" is `{spelled}`.",
+"0x": "The octets are hexadecimal digits without `0x`: `{upper}`.",
 "digits": "The octets are hexadecimal digits, 0 to 9 and A to F; lower-case letters are not accepted.",
 "length": "{bits bit} fill {octets octet}, which are {digits} hexadecimal digits. This line has {found}, for {for bit}.",
 "unused": "A text of {bits bit} has {unused bit} of its last octet unused: zero is needed there."
@@ -340,6 +422,11 @@ export const TABLE = {
 "octets": "The input is too long: at most {most} octets are read.",
 "marker": "No line is exactly `%`, which separates the topology from the script.",
 "marker alone": "Nothing else may be on that line, not even a space.",
+"marker and return": "It ends in a carriage return. Save the file with line feeds only.",
+"begins here": "Does the script begin here? Then put a line `%` before it.",
+"empty": "The input is empty.",
+"log": "This is a log and not an input. `./explain --audit < FILE` says whether the book in it is safe, and why not.",
+"lines": "Each line is a table `[[line]]`.",
 "key": "There is no key `{key}` in a topology. Its keys are carrier, raw, imp and line.",
 "carrier": "There are two carriers: write `carrier = \"plain\"` or `carrier = \"subnet\"`. Without this key it is \"subnet\".",
 "raw": "`raw` is `true` or `false`, without quotation marks.",

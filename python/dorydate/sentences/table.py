@@ -26,6 +26,11 @@ def sentences(group: str) -> Sentences:
     return cast(Sentences, TABLE[group])
 
 
+def pattern(rule: str) -> re.Pattern[str]:
+    """A pattern of the table, whose groups have names as in JavaScript."""
+    return re.compile(rule.replace("(?<", "(?P<"))
+
+
 def filled(sentence: str, holes: Mapping[str, object] | None = None, **further: object) -> str:
     """A sentence with its holes filled: `{Name}` begins with a capital, `{name's}` is possessive, and `{name bit}` is a number with its noun."""
     values = {**(holes or {}), **further}

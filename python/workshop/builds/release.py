@@ -184,12 +184,17 @@ def kept_program() -> str:
     return kept
 
 
-def write_packages(folder: str, note: dict[str, object]) -> str:
-    """Packs what is in the folder for those who install it. The name of the wheel."""
+def noted(folder: str, note: dict[str, object]) -> Release:
+    """What packages are made of, from a folder into which the note is written."""
     native, page, module = (read_octets(f"{folder}/{it}") for it in ("arpasim", "dorydate.html", "arpasim.wasm"))
     files = {"arpasim": {"is": STATIC, "sha256": sha256(native)}, "dorydate.html": {"is": PAGE, "sha256": sha256(page)}}
     release = Release(version(), native, page, module, packages.released_note(note, files))
     write(f"{folder}/note.json", release.note)
+    return release
+
+
+def write_packages(folder: str, release: Release) -> str:
+    """Packs what is in the folder for those who install it. The name of the wheel."""
     write(f"{folder}/dorydate-{release.version}.tgz", packages.npm_package(release))
     write(f"{folder}/arpasim-{release.version}-c.tar.gz", packages.c_of_module(release))
     write(f"{folder}/arpasim.1", manual(release.version).encode())
@@ -197,19 +202,24 @@ def write_packages(folder: str, note: dict[str, object]) -> str:
     return packages.wheel(release, folder)
 
 
-def make(folder: str) -> None:
-    """Makes the release."""
-    kept = kept_program()
+def put_programs(kept: str, folder: str) -> dict[str, object]:
+    """Puts each form of a proved program, the page and the licences into a folder. What a note says of them."""
     page = printed("tools/keep-wasm")
-    empty(folder)
     static_program(kept, f"{folder}/arpasim")
     shutil.copy2(kept, f"{folder}/arpasim-dynamic")
     for name, path in {"arpasim.wasm": f"{kept}.wasm", "arpasim64.wasm": f"{kept}64.wasm", "dorydate.html": page, **{it: f"{ROOT}/{it}" for it in LICENCES}}.items():
         shutil.copyfile(path, f"{folder}/{name}")
-    note = facts(kept)
+    return facts(kept)
+
+
+def make(folder: str) -> None:
+    """Makes the release."""
+    kept = kept_program()
+    empty(folder)
+    note = put_programs(kept, folder)
     count = write_lessons(f"{folder}/lessons")
     site.made(f"{folder}/site", f"{folder}/dorydate.html", kept)
-    wheel = write_packages(folder, note)
+    wheel = write_packages(folder, noted(folder, note))
     write(f"{folder}/TAG.txt", tag().encode())
     write(f"{folder}/NOTE.txt", note_of(note, read_octets(kept), count).encode())
     write(f"{folder}/SHA256SUMS", sums_of(folder).encode())

@@ -1,31 +1,38 @@
 """Searches by several processes and a cluster, killed workers and killed searches: the same answer, octet for octet (two minutes): ./check campaigns
 
 A search with a fixed seed runs by 1, 2 and 4 processes, with a worker that is killed, and once killed itself and continued from its state.
-Where dask.distributed is installed it also runs over a cluster of this machine's processes, one of which is killed. So does a campaign, whose
-table of results has to be the same. Bad inputs have to be refused in one line each.
+Where dask.distributed is installed it also runs over a cluster of this machine's processes, one of which is killed. So
+does a campaign, whose table of results has to be the same. Bad inputs, and workers without the package or with another
+program, have to be refused in one line each, and the state of a search stays as it was.
 """
 
 from __future__ import annotations
 
 import importlib.util
 import os
+import shutil
 import signal
 import socket
 import subprocess
 import sys
 import tempfile
 import time
-from collections.abc import Sequence
+from collections.abc import Iterator, Sequence
+from contextlib import contextmanager
 from pathlib import Path
 
 from workshop.parts import ROOT, any_program
 
 SEARCH = ["half-open", "--seed", "3", "--matches", "2", "--quiet"]
 TABLE = "search,network,raw,pattern,seeds,runs,matches,audit\nresets-in-step,,,,1-2,2000,1,\n,A-B,yes,out A B N .. then not out A B N .. then in A B N .. then not out A B N .. then in A B N ..,1,400,,yes\n"
+SCHEDULER = ["-m", "distributed.cli.dask_scheduler", "--no-dashboard", "--no-show"]
+GONE = "doesn't answer any more"
 WAITS = 60.0  # seconds for a cluster to begin
 BAD = {
     "another network": (["resets-in-step", "--state", "STATE"], "is of a search with another network"),
+    "another program": (["half-open", "--state", "STATE"], "is of another program"),
     "no state": (["half-open", "--state", "TABLE"], "is no state of a search"),
+    "half of a state": (["half-open", "--state", "HALF"], "is no state of a search"),
     "no cluster": (["half-open", "--cluster", "tcp://127.0.0.1:9"], "doesn't answer"),
     "a column that isn't there": (["--campaign", "COLUMN", "--out", "out.csv"], "is no column of a campaign"),
     "a seed that is none": (["--campaign", "SEED", "--out", "out.csv"], "is no seed"),
@@ -48,6 +55,12 @@ class Runs:
         running = self.begun(*words)
         output, said = running.communicate()
         return running.returncode, output, said
+
+    def in_one_line(self, *words: str) -> str:
+        """The one line that a search is refused with; where it isn't, its status and all that it says."""
+        status, _, said = self.run(*words, "--quiet")
+        lines = [it for it in said.splitlines() if it.startswith("explore: ")]
+        return lines[0] if status == 2 and len(lines) == 1 else f"status {status}, {said!r}"
 
     def with_a_kill(self, *words: str) -> tuple[str, bool]:
         """What a search prints, one of whose workers is killed, and whether it had to give out schedules again."""
@@ -120,57 +133,87 @@ def campaign(runs: Runs) -> list[str]:
     return [] if same else ["a campaign's tables differ"]
 
 
-def refused(runs: Runs) -> list[str]:
-    """What isn't refused in one line."""
+def refused(runs: Runs, other: Runs) -> list[str]:
+    """What isn't refused in one line, or leaves the state of a search as it was."""
     files = {
         "STATE": runs.folder / "state",
         "TABLE": runs.folder / "table.csv",
         "COLUMN": runs.folder / "column.csv",
         "SEED": runs.folder / "seed.csv",
+        "HALF": runs.folder / "half",
     }
     files["COLUMN"].write_text("search,speed\nhalf-open,9\n", encoding="utf-8")
     files["SEED"].write_text("search,seeds\nhalf-open,x\n", encoding="utf-8")
+    before = files["STATE"].read_bytes()
+    files["HALF"].write_bytes(before[: len(before) // 2])
     wrong = []
     for name, (words, says) in BAD.items():
         if name == "no cluster" and not importlib.util.find_spec("distributed"):
             says = "needs the package distributed"
-        status, _, said = runs.run(*(str(files.get(it, it)) for it in words), "--cores", "1", "--quiet")
-        lines = [it for it in said.splitlines() if it.startswith("explore: ")]
-        if status != 2 or len(lines) != 1 or says not in lines[0]:
-            wrong.append(f"{name}: status {status}, {said!r}")
-    print(f"check campaigns: {len(BAD)} bad inputs: {'; '.join(wrong) or 'each refused in one line'}", flush=True)
+        whose = other if name == "another program" else runs
+        said = whose.in_one_line(*(str(files.get(it, it)) for it in words), "--cores", "1")
+        wrong += [] if says in said else [f"{name}: {said}"]
+    wrong += [] if files["STATE"].read_bytes() == before else ["the state of a search is another one now"]
+    right = "each refused in one line, and the state of a search is as it was"
+    print(f"check campaigns: {len(BAD)} bad inputs: {'; '.join(wrong) or right}", flush=True)
     return wrong
 
 
-def cluster(runs: Runs) -> list[str]:
-    """What is wrong with searches over a cluster."""
-    if not importlib.util.find_spec("distributed"):
-        print("check campaigns: distributed is not installed, so nothing ran over a cluster (apt-get install python3-distributed)")
-        return []
+@contextmanager
+def cluster_of(runs: Runs, workers: Sequence[Runs]) -> Iterator[tuple[str, list[subprocess.Popen[bytes]]]]:
+    """A scheduler on this machine with these workers: its address, its process, and theirs."""
     with socket.socket() as free:
         free.bind(("127.0.0.1", 0))
-        address = f"127.0.0.1:{free.getsockname()[1]}"
-    host, port = address.split(":")
-    begun = [
-        began(runs, ["-m", "distributed.cli.dask_scheduler", "--host", host, "--port", port, "--no-dashboard", "--no-show"]),
-        *(began(runs, ["-m", "distributed.cli.dask_worker", f"tcp://{address}", "--nthreads", "1", "--no-dashboard", "--no-nanny"]) for _ in range(3)),
-    ]
-    wrong = []
+        host, port = "127.0.0.1", str(free.getsockname()[1])
+    address = f"tcp://{host}:{port}"
+    words = ["-m", "distributed.cli.dask_worker", address, "--nthreads", "1", "--no-dashboard", "--no-nanny"]
+    begun = [began(runs, [*SCHEDULER, "--host", host, "--port", port]), *(began(it, words) for it in workers)]
     try:
-        wanted = runs.run(*SEARCH, "--cores", "1")[1]
-        wait_for(address)
-        first = runs.run(*SEARCH, "--cluster", f"tcp://{address}")[1]
-        wrong += [] if first == wanted else ["a cluster finds something else"]
-        running = runs.begun(*SEARCH, "--cluster", f"tcp://{address}")
-        time.sleep(4)
-        begun[1].kill()
-        wrong += [] if running.communicate()[0] == wanted else ["a cluster with a worker that is killed finds something else"]
+        wait_for(host, int(port))
+        yield address, begun
     finally:
-        for it in begun:
+        for it in reversed(begun):
             it.kill()
             it.wait()
-    print(f"check campaigns: a cluster of three workers, and with one that is killed: {'; '.join(wrong) or 'the same octets'}", flush=True)
+
+
+def cluster(runs: Runs, other: Runs) -> list[str]:
+    """What is wrong with searches over a cluster."""
+    if not importlib.util.find_spec("distributed"):
+        print("check campaigns: without Debian's python3-distributed nothing ran over a cluster")
+        return []
+    wrong, wanted = [], runs.run(*SEARCH, "--cores", "1")[1]
+    with cluster_of(runs, [runs] * 3) as (address, processes):
+        wrong += [] if runs.run(*SEARCH, "--cluster", address)[1] == wanted else ["a cluster finds something else"]
+        running = runs.begun(*SEARCH, "--cluster", address)
+        time.sleep(4)
+        processes[1].kill()
+        found = running.communicate()[0]
+        wrong += [] if found == wanted else ["a cluster with a worker that is killed finds something else"]
+    wrong += without_its_scheduler(runs, wanted)
+    bare = Runs(str(runs.folder), runs.env["DORYDATE_PROGRAM"])
+    del bare.env["PYTHONPATH"]
+    for worker, says in (other, "a worker has another program"), (bare, "a worker has no package dorydate"):
+        with cluster_of(runs, [worker]) as (address, _):
+            said = runs.in_one_line(*SEARCH[:-1], "--cluster", address)
+            wrong += [] if says in said else [f"not `{says}`: {said}"]
+    right = "the same octets, with one that is killed, too; no scheduler, no package, another program in one line each"
+    print(f"check campaigns: a cluster of three workers: {'; '.join(wrong) or right}", flush=True)
     return wrong
+
+
+def without_its_scheduler(runs: Runs, wanted: str) -> list[str]:
+    """What is wrong with a search whose scheduler is killed, and which continues from its state by itself."""
+    state, wrong = runs.folder / "cluster-state", []
+    with cluster_of(runs, [runs]) as (address, processes):
+        running = runs.begun(*SEARCH, "--cluster", address, "--state", str(state))
+        while running.poll() is None and not state.is_file():
+            time.sleep(0.05)
+        processes[0].kill()
+        said = running.communicate()[1]
+        wrong += [] if running.returncode == 2 and said.count("\n") == 1 and GONE in said else [f"not `{GONE}`: {said}"]
+    found = runs.run(*SEARCH, "--cores", "1", "--state", str(state))[1]
+    return wrong if found == wanted else [*wrong, "a search whose scheduler was killed finds something else when it continues"]
 
 
 def began(runs: Runs, words: Sequence[str]) -> subprocess.Popen[bytes]:
@@ -178,13 +221,12 @@ def began(runs: Runs, words: Sequence[str]) -> subprocess.Popen[bytes]:
     return subprocess.Popen([sys.executable, *words], stdout=subprocess.DEVNULL, stderr=subprocess.DEVNULL, env=runs.env, cwd=runs.folder)
 
 
-def wait_for(address: str) -> None:
+def wait_for(host: str, port: int) -> None:
     """Waits until somebody listens."""
-    host, _, port = address.partition(":")
     until = time.monotonic() + WAITS
     while time.monotonic() < until:
         try:
-            socket.create_connection((host, int(port)), 1.0).close()
+            socket.create_connection((host, port), 1.0).close()
             return
         except OSError:
             time.sleep(0.2)
@@ -199,7 +241,10 @@ def main() -> int:
         print("check campaigns: the program without proofs is too slow for searches, so none is run: ./build makes the fast one")
         return 0
     with tempfile.TemporaryDirectory() as folder:
-        runs = Runs(folder, os.path.abspath(program))
-        wrong = [*local(runs), *campaign(runs), *refused(runs), *cluster(runs)]
+        runs, other = Runs(folder, os.path.abspath(program)), Runs(folder, f"{folder}/other")
+        shutil.copy(program, f"{folder}/other")
+        with open(f"{folder}/other", "ab") as file:
+            file.write(b"\0")  # it does the same, and has another hash
+        wrong = [*local(runs), *campaign(runs), *refused(runs, other), *cluster(runs, other)]
     print(f"check campaigns: {len(wrong)} faults")
     return 1 if wrong else 0

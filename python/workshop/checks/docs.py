@@ -46,7 +46,7 @@ MOST_DEAD = 200  # declarations of proofs/ that nothing leads to that is proved;
 MOST_ENTRIES = 40  # of a folder of proofs/
 DECLARED = re.compile(
     r"\bimpl(?:<[^>]*>)? +(?:\w+::)*(\w+)"
-    r"|\b(?:fn|struct|enum|trait|const|ensures|requires|ghost|abbrev pub|record|data|pub(?= \w+ :)) +(\w+)"
+    r"|\b(?:fn|struct|enum|trait|const|ensures|requires|ghost|abbrev pub|record|data|pub(?= «?\w+»? :)) +«?(\w+)"
     r"|^ +([A-Z]\w*)[,({ ]",
     re.MULTILINE,
 )

@@ -116,11 +116,11 @@ DIALOGUE = "from-a-terminal-to-a-server"
 
 # a script of two hosts at one IMP over plain mailboxes, or of two IMPs with a line, and what is said to wait at its last calm
 STALLS: list[tuple[str, list[str], str | None]] = [
-    ("plain", ["send 1/1 33 8 41", "calm 5"], "8 bits on socket 33 of host 1/1, for a grant of host 0/1 (`grant 0/1 16 MESSAGES BITS`)"),
-    ("plain", ["grant 0/1 16 1 4", "send 1/1 33 8 41", "calm 5"], "1 message and 4 bits are granted"),
+    ("plain", ["send 1/1 33 8 41", "calm 5"], "8 bits on socket 33 of host 1/1, host 1/1's program; 0 messages and 0 bits are left of the grant, for a grant of host 0/1 (`grant 0/1 16 1 8`)"),
+    ("plain", ["grant 0/1 16 1 4", "send 1/1 33 8 41", "calm 5"], "1 message and 4 bits are left of the grant"),
     ("plain", ["grant 0/1 16 1 8", "send 1/1 33 8 41", "calm 5"], None),
-    ("raw", ["out 0/1 0/2 5 8 41", "drop 0 + 0", "impdown 2", "enddown 1 0", "calm 9"], "message 0 of flow 0/1 0/2 5, for its answer (nothing of it is alive: `giveup 0/1 0/2 5` ends it)"),
-    ("raw", ["impdown 2", "out 0/1 0/2 5 8 41", "calm 9"], "IMP 2 is down, and its neighbours don't see it: `enddown 1 0`"),
+    ("raw", ["out 0/1 0/2 5 8 41", "drop 0 + 0", "impdown 2", "enddown 1 0", "calm 9"], "message 0 of flow 0/1 0/2 5: nothing of it is alive: ask, or give it up (`giveup 0/1 0/2 5`)"),
+    ("raw", ["impdown 2", "out 0/1 0/2 5 8 41", "calm 9"], "IMP 2 is down, and its neighbours don't see it, for its neighbours' ends of its lines to go down (`enddown 1 0`)"),
     ("raw", ["out 0/1 0/2 5 8 41", "calm 9"], None),
     ("raw", ["calm 9"], None),
 ]

@@ -8,7 +8,8 @@ promise broken; in the model with all its rules, where nothing may break; and on
 nothing may break either: so no line could be left out, but for one that a file may name as being there for the reader. With a
 FILE it prints both outputs, without the rule and with it.
 
-`without/shortest` has the shortest script for each rule that `./explore --without RULE` has found, and no longer one than `without`.
+`without/shortest` has the shortest script for each rule that `./explore --without RULE` has found, and no longer one
+than `without`. Those of the two rules about numbers that wrap around are found again, by the search's plans.
 
 What comes of numbers that wrap around is the same whatever their number, as long as it is more than twice the window
 (docs/numbers.md). So a file may have a line `# numbers: N W`: there the model has N numbers and a window of W, and few messages
@@ -24,12 +25,16 @@ import glob
 import os
 import random
 import sys
+from collections.abc import Iterator
 
+from dorydate.explore.without import Search, event_of, rules, sought_for
 from dorydate.model.chance.worlds import Script, some_world
 from dorydate.model.without import HARMLESS, LACKING, broken, opened_without
 from dorydate.model.without.stored import Lesson, unrolled
 from dorydate.model.world import World
 from workshop.parts import ROOT
+
+SECONDS = 600.0  # at most, of a search with a plan
 
 
 def check(path: str) -> str | None:
@@ -59,6 +64,17 @@ def longer(path: str) -> str | None:
         return None
     short, long = (sum(bool(line) and not line.startswith("#") for line in unrolled(Lesson(it).script)) for it in (path, other))
     return f"it has {short} events, and {os.path.relpath(other, ROOT)} has {long}" if short > long else None
+
+
+def unfound() -> Iterator[str]:
+    """The scripts that the searches with a plan don't find again."""
+    paths = {Lesson(it).rule: it for it in stored() if "/shortest/" in it}
+    for rule in filter(lambda it: sought_for(it).plan, rules()):
+        search = Search(rule, 1)
+        search.climb(SECONDS)
+        found = [*map(str, search.best.script)] if search.best else []
+        if found != [str(event_of(it)) for it in Lesson(paths[rule]).script if it]:
+            yield f"{os.path.basename(paths[rule])}: the search finds {'; '.join(found) or 'nothing'}"
 
 
 def harmless(runs: int) -> int:
@@ -99,6 +115,9 @@ def main() -> int:
         if cause := check(path) or longer(path):
             wrong += 1
             print(f"check headline: {os.path.basename(path)}: {cause}")
+    for cause in unfound():
+        wrong += 1
+        print(f"check headline: {cause}")
     rules = {Lesson(it).rule for it in paths if os.path.dirname(it).endswith("shortest")}
     if missing := [it for it in LACKING if it not in rules and it not in HARMLESS]:
         print(f"check headline: no shortest script without the rule: {missing[0]}")

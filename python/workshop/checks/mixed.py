@@ -1,10 +1,13 @@
-"""Random worlds with strangers in the model: whether the hosts with programs keep the promise among each other.
+"""Random worlds with strangers in the model: what hosts with programs keep among each other, and toward strangers.
 
 Each world is judged in two ways. The lives between hosts with programs are judged as they are, at the end of each run
 and after each event of some. And the same moments happen again without the strangers, in a world all of whose hosts run
 the program: there the same has to cross, each program has to be the same but for its pairs with strangers, the lives
 have to be the same, and the book has to keep everything that is promised of any book. Programs that mix up their peers
 have to be found by this, and one that does so without any harm must not break the promise.
+
+Beside that each world has to keep what is promised toward a stranger (`workshop.checks.toward`); what is promised among
+programs only, some world has to break there.
 """
 
 from __future__ import annotations
@@ -13,6 +16,7 @@ from collections import Counter
 from typing import NamedTuple
 
 from workshop.checks.broken import broken, pairs_that_differ
+from workshop.checks.toward import CLAUSES, STRONGER, Clause, Watching, broken_toward
 from dorydate.model.audit import audit
 from dorydate.model.chance.strangers import mixed_script
 from dorydate.model.crossings import Passed
@@ -86,13 +90,14 @@ def counted(world: MixedWorld) -> Counter[str]:
 def run(seed: int, host_program: type[Host] = Host) -> Ran:
     """A random run, of which some are judged after each event."""
     network, script, world = mixed_script(seed, host_program)
-    ran = Ran(broken_among(world) or broken_masked(world), network, script.lines, counted(world) + world.tried)
+    part = broken_among(world) or broken_toward(world) or broken_masked(world)
+    ran = Ran(part, network, script.lines, counted(world) + world.tried)
     if ran.part or seed % CLOSELY or host_program is not Host:
         return ran
-    again = MixedWorld(opened_carrier(network), world.strangers, world.takes)
+    again = Watching(opened_carrier(network), world.strangers, world.takes)
     for at, event in enumerate(script.events):
         again.happen(*event)
-        if part := broken_among(again):
+        if part := broken_among(again) or again.spread or broken_toward(again):
             return ran._replace(part=part, lines=script.lines[: at + 1])
     return ran
 
@@ -107,6 +112,11 @@ def is_harmful(leak: type[Host]) -> bool:
     return any(broken_among(mixed_script(seed, leak)[2]) for seed in range(TRIES))
 
 
+def is_needless(stronger: Clause) -> bool:
+    """Whether no world shows that this isn't promised toward a stranger."""
+    return all(stronger.keeps(mixed_script(seed)[2]) for seed in range(TRIES))
+
+
 def check(runs: int) -> int:
     """The exit status."""
     if missed := [it.__doc__ for it in LEAKS if not is_found(it)]:
@@ -114,6 +124,9 @@ def check(runs: int) -> int:
         return 1
     if is_harmful(HARMLESS):
         print(f"check worlds: a program that should do no harm breaks the promise: {HARMLESS.__doc__}")
+        return 1
+    if held := [it.name for it in STRONGER if is_needless(it)]:
+        print("check worlds: no mixed world breaks toward a stranger what isn't promised there:", *held, sep="\n")
         return 1
     came_to: Counter[str] = Counter()
     for seed in range(runs):
@@ -125,5 +138,6 @@ def check(runs: int) -> int:
     print(f"check worlds: {len(LEAKS)} programs that mix up their peers, each found, and one that does no harm")
     for kind, count in sorted(came_to.items()):
         print(f"check worlds: {kind}: {count}")
+    print(f"check worlds: {len(CLAUSES)} clauses toward strangers, all kept; {len(STRONGER)} others, each broken")
     print(f"check worlds: {runs} mixed runs, and hosts with programs keep the promise among each other")
     return 0

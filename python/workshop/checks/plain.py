@@ -11,10 +11,10 @@ from __future__ import annotations
 
 import subprocess
 import sys
-import tempfile
 from collections import Counter
 from collections.abc import Iterable, Iterator, Sequence
 
+from dorydate.explore import fast
 from workshop.checks.cases import cases_below
 from workshop.parts import ROOT
 
@@ -51,12 +51,10 @@ def beside(program: str, other: str, paths: Sequence[str]) -> Iterator[tuple[str
 
 def main() -> int:
     words = sys.argv[1:]
-    with tempfile.TemporaryDirectory() as folder:
-        program = f"{folder}/plain"
-        subprocess.run(["rustc", "-O", "--edition", "2021", f"{ROOT}/tools/plain/main.rs", "-o", program], check=True)
-        told = [*stored(program)]
-        if words[:1] == ["--beside"]:
-            told += beside(program, words[1], words[2:])
+    program = fast.finder()
+    told = [*stored(program)]
+    if words[:1] == ["--beside"]:
+        told += beside(program, words[1], words[2:])
     for name, how in told:
         if how == "differs":
             print(f"differs: {name}")

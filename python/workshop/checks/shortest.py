@@ -182,7 +182,11 @@ PLANTED = {
     ),
     "a place in the log is part of a state": ("world.rs", "        self.carrier.spell(to);\n", "        self.carrier.spell(to);\n        self.past.spell(to);\n"),
     "a close that is refused changes the byte size": ("program.rs", "        if end.close_asked || end.close_taken {\n", "        if end.close_asked || end.close_taken {\n            end.size ^= 1;\n"),
-    "a start of a host that is up is refused, and loses its answers": ("boxes.rs", "        if found.is_up {\n            return Err(Refusal::IsUp);", "        if found.is_up {\n            found.answers.clear();\n            return Err(Refusal::IsUp);"),
+    "a start of a host that is up is refused, and loses its answers": (
+        "boxes.rs",
+        "            return Err(Refusal::IsUp);",
+        "            self.known(host).answers.clear();\n            return Err(Refusal::IsUp);",
+    ),
 }
 
 

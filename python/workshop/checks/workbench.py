@@ -22,6 +22,7 @@ import shutil
 import subprocess
 import sys
 import tempfile
+from collections.abc import Callable
 from typing import Any
 
 from dorydate.model.runs import opened
@@ -30,7 +31,8 @@ from dorydate.explain.inside import Inside
 from dorydate.explain.topology import of_model
 from dorydate.explore.named import SEARCHES
 from dorydate.explore.pattern import read
-from dorydate.explain import faults
+from dorydate.explain import faults, topologies, waits
+from dorydate.given import Input
 from dorydate.network import Network
 from dorydate.model.subnet import Subnet
 from dorydate.model.trace_subnet import every_name, part
@@ -38,9 +40,23 @@ from dorydate.model.trace_world import program_of
 from dorydate.model.names import spell_host
 from dorydate.model.world import World
 from dorydate.sentences import DEEDS, silence
-from workshop.parts import ROOT, any_program
+from workshop.parts import ROOT, any_program, read_octets, text_of
 
 MOST_ROUNDS = 400  # of calm in an example that the model follows
+# scripts in which things wait that wait in no example: without room at the next IMP, for a host that is down, with a message out, for a service
+CHAIN = "raw = true\n" + "".join(f"[[imp]]\nid = {it}\nhosts = 1\n" for it in (1, 2, 3)) + "[[line]]\na = 1\nb = 2\n[[line]]\na = 2\nb = 3\n%\ncalm 3\n"
+PAIR = 'carrier = "plain"\n[[imp]]\nid = 1\nhosts = 2\n%\ncontact 0/1 1/1\ncalm 3\n'
+LINKED = f"{PAIR}listen 1/1 33 8\nopenrecv 0/1 1/1 16 33\ncalm 2\n"
+FULL = "".join(f"out 0/2 0/3 {link} 8063 {'00' * 1008}\n" for link in range(4))
+WAITING = [
+    f"{CHAIN}{FULL}out 0/1 0/3 5 8 41\ndrop 0 + 0\n",
+    "raw = true\n[[imp]]\nid = 1\nhosts = 2\n%\nout 0/1 1/1 5 8 41\nhostdown 1/1\n",
+    f"{PAIR}contact 0/1 1/1\nhostdown 1/1\n",
+    f"{PAIR}user 0/1 1/1 7 16\nhostdown 1/1\n",
+    f"{LINKED}grant 0/1 16 9 99\ncalm 2\nsend 1/1 33 8 41\noffer 1/1\nsend 1/1 33 8 42\n",
+    f"{LINKED}send 1/1 33 8 41\nclose 1/1 33\ncalm 2\nclose 0/1 16\noffer 0/1\ntake 1/1\ncalm 1\n",
+    f"{PAIR}server 1/1 7 100\nuser 0/1 1/1 7 16\ncalm 30\n" + "type 0/1 {}\n".format("A" * 100) * 6 + "offer 0/1\ntake 1/1\n",
+]
 
 
 class Wrong(Exception):
@@ -54,11 +70,8 @@ def node() -> str | None:
 def states_of(text: bytes) -> list[dict[str, dict[str, Any] | None]] | None:
     """The parts of a subnet, and the programs of its hosts, after each event of an input, by the independent model; None for plain
     mailboxes and long calms."""
-    head, _, script = text.decode().partition("\n%\n")
-    network = Network.read(head)
-    lines = [it for it in script.split("\n") if it and not it.startswith("#")]
-    rounds = sum(int(it.split(" ")[1]) for it in lines if it.startswith("calm "))
-    if network.carrier == "plain" or rounds > MOST_ROUNDS or len(network.imps) > 16:
+    network, lines = input_of(text)
+    if network.carrier == "plain" or is_long(network, lines):
         return None
     place = opened(of_model(network))
     subnet = getattr(place, "carrier", place)
@@ -69,6 +82,32 @@ def states_of(text: bytes) -> list[dict[str, dict[str, Any] | None]] | None:
         place.happen(*read_event(line, network.raw))
         states.append({name: part(subnet, name) for name in every_name(subnet)} | programs_of(place))
     return states
+
+
+def input_of(text: bytes) -> tuple[Network, list[str]]:
+    """The network of an input, and the lines of its events."""
+    head, _, script = text.decode().partition("\n%\n")
+    return Network.read(head), [it for it in script.split("\n") if it and not it.startswith("#")]
+
+
+def is_long(network: Network, lines: list[str]) -> bool:
+    """Whether the model would be long at an input."""
+    return sum(int(it.split(" ")[1]) for it in lines if it.startswith("calm ")) > MOST_ROUNDS or len(network.imps) > 16
+
+
+def waits_of(text: bytes) -> list[list[str]] | None:
+    """What waits after each event of an input, by ./explain, in one order; None where sites have names, and for long calms."""
+    network, lines = input_of(text)
+    if is_long(network, lines) or any(it.name for it in network.imps):
+        return None
+    place = opened(of_model(network))
+    carrier = place.carrier if isinstance(place, World) else place
+    found = []
+    for line in lines:
+        place.happen(*read_event(line, network.raw))
+        told = [[it.what, it.where, it.reason, str(it.is_bad).lower(), *it.cures] for it in waits.waiting(place, carrier)]
+        found.append(sorted(re.sub(r"(?:the )?message(?: \d+)? of flow", "message", "|".join(it)) for it in told))
+    return found
 
 
 def programs_of(place: object) -> dict[str, dict[str, Any] | None]:
@@ -100,21 +139,15 @@ def told_of_deeds() -> dict[str, dict[str, str]]:
     return found
 
 
-def model_states() -> dict[str, object]:
-    """Those of each example that the program replays."""
-    found: dict[str, object] = {}
-    for name in sorted(os.listdir(f"{ROOT}/examples")):
-        if "." in name or os.path.exists(f"{ROOT}/examples/{name}.status"):
-            continue
-        with open(f"{ROOT}/examples/{name}", "rb") as file:
-            states = states_of(file.read())
-        if states is not None:
-            found[name] = states
-    return found
+def of_examples(look: Callable[[bytes], object]) -> dict[str, object]:
+    """What is seen in each example that the program replays, where anything is."""
+    names = [it for it in sorted(os.listdir(f"{ROOT}/examples")) if "." not in it and not os.path.exists(f"{ROOT}/examples/{it}.status")]
+    found = {name: look(read_octets(f"{ROOT}/examples/{name}")) for name in names}
+    return {name: it for name, it in found.items() if it is not None}
 
 
-def lines_by_chance(count: int) -> list[tuple[str, bool, bool]]:
-    """Lines of scripts, most of them changed at one place; whether the network is raw, and whether the line is bad."""
+def lines_by_chance(count: int) -> list[tuple[str, bool, str]]:
+    """Lines of scripts, most of them changed at one place; whether the network is raw, and what ./explain says is wrong with each."""
     chance = random.Random(59)
     known = []
     for name in sorted(os.listdir(f"{ROOT}/examples")):
@@ -129,7 +162,23 @@ def lines_by_chance(count: int) -> list[tuple[str, bool, bool]]:
         changes = [line, line[:at] + chance.choice("0123456789/+-ABf ") + line[at:], line[:at] + line[at + 1 :], line[:at], chance.choice(known)[0]]
         line = chance.choice(changes)
         if line and not line.startswith("#"):
-            found.append((line, raw, faults.wrong_with_line(line.encode(), raw) is not None))
+            found.append((line, raw, faults.wrong_with_line(line.encode(), raw) or ""))
+    return found
+
+
+def topologies_by_chance(count: int) -> list[tuple[str, str]]:
+    """Inputs with a topology of an example that was changed in a line or two, and what ./explain says is wrong with each."""
+    chance = random.Random(17)
+    known = [text.partition("\n%\n")[0].split("\n") for it in sorted(os.listdir(f"{ROOT}/examples")) if "." not in it and len(text := text_of(f"{ROOT}/examples/{it}")) < 5000]
+    written = ["raw = 1", 'carrier = "Plain"', "imps = 3", "[[imp]]", "[[line]]", "id = 1", "id = 64", "hosts = 5", "hosts = true", "a = 2", "b = 2", "b = 0", "c = 1", "take 0/1", "line = 3", "% ", "in 0/1 0/2 5 0 -"]
+    found = []
+    for _ in range(count):
+        lines = [it for it in chance.choice(known) if not it.startswith("#")]
+        for _ in range(chance.choice([1, 1, 2])):
+            at = chance.randrange(len(lines))
+            lines[at : at + chance.randrange(2)] = [chance.choice([*written, chance.choice(lines)])] * chance.randrange(2)
+        text = "\n".join([*lines, *["%"] * (chance.random() < 0.9), ""])
+        found.append((text, topologies.wrong_with_topology(Input(text.encode())) or ""))
     return found
 
 
@@ -174,7 +223,7 @@ def fastest(program: str) -> str:
 def check_modules(command: str, program: str) -> None:
     """The tests in Node, with the states of the independent model in a file."""
     with tempfile.NamedTemporaryFile("w", suffix=".json") as states:
-        json.dump({"states": model_states(), "lines": lines_by_chance(4000), "deeds": told_of_deeds(), "patterns": patterns_by_chance(400)}, states)
+        json.dump({"states": of_examples(states_of), "waits": {**of_examples(waits_of), **{it: waits_of(it.encode()) for it in WAITING}}, "lines": lines_by_chance(4000), "topologies": topologies_by_chance(2000), "deeds": told_of_deeds(), "patterns": patterns_by_chance(400)}, states)
         states.flush()
         folder = f"{ROOT}/web/workbench/tests"
         tests = [f"{folder}/{it}" for it in sorted(os.listdir(folder)) if it.endswith(".test.js")]

@@ -87,7 +87,7 @@ def parsed(path: str, text: str) -> Source:
             current = None
             indents.append(depth + 2)
             continue
-        if depth > indents[-1]:
+        if depth > indents[-1] or re.match(r" *([\])}]|unfolding )", line):
             if current:
                 current.last = at
             (current.words if current else source.heads).update(TOKEN.findall(line))
@@ -197,7 +197,33 @@ def without(text: str, source: Source, names: list[str]) -> str:
     gone = {at for name in names for block in source.blocks[name] for at in range(block.first, block.last + 1)}
     kept = "\n".join(line for at, line in enumerate(lines) if at not in gone)
     kept = re.sub(r"\n *-- ----[^\n]*\n(?=\s*(?:-- ----|$))", "\n", kept)
-    return re.sub(r"\n{3,}", "\n\n", kept).rstrip("\n") + "\n"
+    return re.sub(r"\n{3,}", "\n\n", without_empty(kept)).rstrip("\n") + "\n"
+
+
+def without_empty(text: str) -> str:
+    """A file without the sections that declare nothing."""
+    lines = text.split("\n")
+    for at, line in enumerate(lines):
+        if SECTION.match(line) and line.endswith("where"):
+            after = next((it for it in lines[at + 1 :] if it.strip()), "")
+            if len(after) - len(after.lstrip()) <= len(line) - len(line.lstrip()):
+                return without_empty("\n".join(lines[:at] + lines[at + 1 :]))
+    return text
+
+
+def without_imports(text: str, gone: dict[str, list[str]]) -> str:
+    """A file that takes none of these names from their modules."""
+    lines = []
+    for line in text.split("\n"):
+        found = USE.match(line)
+        if found and found[3] is not None and found[2] in gone:
+            taken = [it.strip() for it in found[3].split(",")]
+            left = [it for it in taken if it.partition(" as ")[0] not in gone[found[2]]]
+            if left:
+                lines.append(line.replace(f"{{{found[3]}}}", f"{{{', '.join(left)}}}"))
+        else:
+            lines.append(line)
+    return "\n".join(lines)
 
 
 def main() -> int:
@@ -205,11 +231,14 @@ def main() -> int:
     if words[:1] != ["--delete"]:
         print(*faults(), sep="\n")
         return 0
-    for module, names in dead().items():
-        if module.split(".")[1] in words[1:]:
-            source = sources()[module]
-            text = without(text_of(source.path), source, names)
+    gone = {module: names for module, names in dead().items() if module.split(".")[1] in words[1:]}
+    for module, source in sources().items():
+        names = gone.get(module, [])
+        before = text_of(source.path)
+        text = without_imports(without(before, source, names) if names else before, gone)
+        if text != before:
             with open(source.path, "w", encoding="utf-8") as file:
                 file.write(text)
+        if names:
             print(f"{os.path.relpath(source.path, ROOT)}: {', '.join(names)}")
     return 0

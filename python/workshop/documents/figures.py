@@ -81,6 +81,16 @@ def last_gate(column: int) -> str:
     return [it for it in rows("gate.md", 5) if "whole" in it[4] and "edits" not in it[4]][-1][column]
 
 
+def searches() -> list[Row]:
+    """The searches of all states that took both programs long enough. Steps a second are the columns 5 and 9."""
+    return [it for it in rows("search.md", 10) if it[5] and it[9]]
+
+
+def by_the_plain_program() -> list[float]:
+    """The steps a second of each search by the plain program that took long enough."""
+    return [number(it[-1]) for width in (10, 6) for it in rows("search.md", width) if it[-1]]
+
+
 FIGURES: dict[str, Callable[[], str]] = {
     "times, median": lambda: f"{statistics.median(times()):.1f}",
     "times, most": lambda: f"{max(times()):.2f}",
@@ -95,6 +105,8 @@ FIGURES: dict[str, Callable[[], str]] = {
     "audit, most seconds": lambda: f"{max(audited()):.1f}",
     "gate, minutes": lambda: last_gate(2),
     "gate, processor minutes": lambda: last_gate(3),
+    "searches, times": lambda: f"{statistics.median(number(it[9]) / number(it[5]) for it in searches()):.0f}",
+    "searches, least steps": lambda: f"{min(by_the_plain_program()) // 10_000 * 10_000:,.0f}",
     "planted bugs": lambda: f"{bugs():,}",
     "files with Interrupt": lambda: f"{naming('Interrupt')}",
 }

@@ -1,8 +1,8 @@
 """docs/measured/rules.md: from each definition that a contract cites to the function, the rows and the planted bugs, each with its place.
 
-Read from the sources: definitions of specs/ with the comment above them, the clauses `ensures` of functions in src/, the tables of rows in
-CLAIMS.md, and the edits of must-fail/ and wrong-bodies/ by the function that they change. `./check docs --rule WORD..` prints the rules that
-have these words, each with its definition and its functions; of a definition that no contract cites, the functions whose contracts
+Read from the sources: definitions of specs/ with the comment above them, the clauses `ensures` of functions in src/ and the
+fields of those that are records of specs/Laws, the tables of rows in CLAIMS.md, and the edits of must-fail/ and wrong-bodies/ by
+the function that they change. `./check docs --rule WORD..` prints the rules that have these words, each with its definition and its functions; of a definition that no contract cites, the functions whose contracts
 cite one that uses it, by the shortest way.
 """
 
@@ -28,6 +28,8 @@ FUNCTION = re.compile(r"^( *)(?:pub(?:\(\w+\))? )?(?:const )?fn (\w+)", re.MULTI
 CLAUSE = re.compile(r"^ *ensures (?:\w+ )?\{(.*)\};?$", re.MULTILINE)
 MEMBER = re.compile(r"^    ghost (\w+) = \{(.*)\};$", re.MULTILINE)
 IMPORT = re.compile(r"use Rattle\.(\w+)\.specs\.[\w.]+\.\{([^}]*)\}")
+WORD = re.compile(r"[\w'-]+")
+FIELD = re.compile(r"^  pub «?(\w+)»? :((?:.*)(?:\n {4,}.*)*)", re.MULTILINE)
 SHOWN = 3  # functions and bugs of a rule that are named, the others counted
 
 
@@ -60,6 +62,17 @@ class Definition(Text):
 
 
 @dataclass(frozen=True)
+class Law(Definition):
+    """A record of specs/Laws, whose fields are the clauses of a function: what each of them says, by its name."""
+
+    fields: dict[str, str]
+
+    def names(self) -> set[str]:
+        """The names that its fields cite."""
+        return {it for field in self.fields.values() for it in WORD.findall(field)}
+
+
+@dataclass(frozen=True)
 class Bug:
     """A planted bug: its name and file, the file that it changes, and the first text that it replaces."""
 
@@ -71,10 +84,15 @@ class Bug:
 
 @dataclass(frozen=True)
 class Function(Text):
-    """A function of src/: its name with its type, the names that its contract cites, and the planted bugs in it."""
+    """A function of src/: its name with its type, the names that its clauses cite, its planted bugs, and the laws that it ensures."""
 
     cites: frozenset[str]
     bugs: tuple[Bug, ...]
+    laws: tuple[Law, ...] = ()
+
+    def names(self) -> frozenset[str]:
+        """The names that its contract cites, in its clauses or in the fields of its laws."""
+        return self.cites.union(*(it.names() for it in self.laws))
 
 
 @dataclass(frozen=True)
@@ -131,9 +149,26 @@ def definitions(crate: str) -> dict[str, Definition]:
     found: dict[str, Definition] = {}
     for file in files(crate, "specs/*.antt"):
         stem = os.path.basename(file).removesuffix(".antt")
-        if stem not in ("Lib", "Examples", "Counterexamples", "Inside") and not stem.startswith("Worked"):
+        if stem not in ("Lib", "Laws", "Examples", "Counterexamples", "Inside") and not stem.startswith("Worked"):
             found |= {it.name: it for it in definitions_in(file, read(f"{ROOT}/{file}"))}
     return found
+
+
+def laws_in(file: str, text: str) -> list[Law]:
+    """The laws of a file of specs/Laws."""
+    found = []
+    for it in definitions_in(file, text):
+        if re.search(rf"^pub record {it.name}\b", it.text, re.MULTILINE):
+            fields = {name: " ".join(said.split()) for name, said in FIELD.findall(it.text)}
+            found.append(Law(it.name, it.place, it.text, it.words, fields))
+    return found
+
+
+@functools.cache
+def laws(crate: str) -> dict[str, Law]:
+    """The laws of a crate that are records, by their names."""
+    found = [*files(crate, "specs/Laws.antt"), *files(crate, "specs/Laws/*.antt")]
+    return {it.name: it for file in found for it in laws_in(file, read(f"{ROOT}/{file}"))}
 
 
 def bugs(crate: str) -> list[Bug]:
@@ -153,8 +188,11 @@ def owner_at(text: str, place: int) -> str:
     return f"{owners[-1]}::" if owners else ""
 
 
-def functions_in(file: str, text: str, planted: list[Bug]) -> list[Function]:
-    """The functions of a file of src/, and then what its types say of themselves as traits ask for it (`ghost calls = { plain_calls };`)."""
+def functions_in(file: str, text: str, planted: list[Bug], known: dict[str, Law] | None = None) -> list[Function]:
+    """The functions of a file of src/, and then what its types say of themselves as traits ask for it (`ghost calls = { ..};`).
+
+    A clause that is a known law, of whatever values, has the law's fields for its clauses.
+    """
     found, starts = [], list(FUNCTION.finditer(text))
     for at, start in enumerate(starts):
         end = starts[at + 1].start() if at + 1 < len(starts) else len(text)
@@ -162,11 +200,15 @@ def functions_in(file: str, text: str, planted: list[Bug]) -> list[Function]:
         name = (owner_at(text, start.start()) if start[1] else "") + start[2]
         place = Place(file, text.count("\n", 0, start.start()) + 1)
         own = re.match(rf".*[;}}]$|[\s\S]*?^{start[1]}(?:}}|{{}})$|[\s\S]*?\}};$", whole, re.MULTILINE)
-        cited = frozenset(re.findall(r"[\w'-]+", "\n".join(CLAUSE.findall(whole))))
-        found.append(Function(name, place, own[0] if own else whole, cited, tuple(it for it in planted if it.file == file and it.old in whole)))
+        clauses = CLAUSE.findall(whole)
+        cited = frozenset(WORD.findall("\n".join(clauses)))
+        inside = tuple(it for it in planted if it.file == file and it.old in whole)
+        ensured = [(known or {}).get(clause.split()[0]) for clause in clauses if re.fullmatch(r"[\w. ]+", clause)]
+        laws_of = tuple(it for it in ensured if it)
+        found.append(Function(name, place, own[0] if own else whole, cited, inside, laws_of))
     for it in MEMBER.finditer(text):
         place = Place(file, text.count("\n", 0, it.start()) + 1)
-        found.append(Function(owner_at(text, it.start()) + it[1], place, it[0], frozenset(re.findall(r"[\w'-]+", it[2])), ()))
+        found.append(Function(owner_at(text, it.start()) + it[1], place, it[0], frozenset(WORD.findall(it[2])), ()))
     return found
 
 
@@ -174,7 +216,7 @@ def functions(crate: str) -> list[Function]:
     """The functions of a crate's src/, but for laws and rows."""
     planted = bugs(crate)
     named = [it for it in files(crate, "src/**/*.rt") if not it.removeprefix(f"crates/{crate}/src/").startswith(("law", "worked"))]
-    return [it for file in named for it in functions_in(file, read(f"{ROOT}/{file}"), planted)]
+    return [it for file in named for it in functions_in(file, read(f"{ROOT}/{file}"), planted, laws(crate))]
 
 
 @functools.cache
@@ -204,7 +246,8 @@ def rows(crate: str) -> dict[str, str]:
 def rules(crate: str) -> list[Rule]:
     """The definitions of a crate that contracts of its functions cite."""
     calls, guarded = functions(crate), rows(crate)
-    found = [Rule(it, [call for call in calls if name in call.cites], guarded.get(name, "")) for name, it in definitions(crate).items()]
+    known = definitions(crate).items()
+    found = [Rule(it, [call for call in calls if name in call.names()], guarded.get(name, "")) for name, it in known]
     return [it for it in found if it.functions]
 
 
@@ -269,11 +312,13 @@ class Ways:
         self.calls: dict[tuple[str, str], list[Function]] = {}
         for crate in crates():
             for call in functions(crate):
-                for it in named(crate, call.place.file, call.cites):
+                of_laws = (named(crate, law.place.file, law.names()) for law in call.laws)
+                for it in named(crate, call.place.file, call.cites).union(*of_laws):
                     self.calls.setdefault(it, []).append(call)
             for name, definition in definitions(crate).items():
                 self.found[crate, name] = definition
-                for it in named(crate, definition.place.file, re.findall(r"[\w'-]+", re.sub(r"--.*", "", definition.text))) - {(crate, name)}:
+                used = WORD.findall(re.sub(r"--.*", "", definition.text))
+                for it in named(crate, definition.place.file, used) - {(crate, name)}:
                     self.users.setdefault(it, []).append((crate, name))
 
     def shortest(self, start: tuple[str, str]) -> tuple[list[str], list[Function]]:
@@ -297,7 +342,8 @@ def has_words(crate: str, definition: Definition, calls: list[Function], words: 
 
 def shown(definition: Definition, way: list[str], calls: list[Function], guarded: str) -> str:
     """A rule with the text of its definition and of its functions, its rows and its planted bugs."""
-    texts = [f"{it.place.file}:{it.place.line}\n{it.text}\n" for it in (definition, *calls[:SHOWN])]
+    parts: list[Text] = [definition, *(it for call in calls[:SHOWN] for it in (call, *call.laws))]
+    texts = [f"{it.place.file}:{it.place.line}\n{it.text}\n" for it in parts]
     if way:
         texts.insert(1, f"used by {', and that by '.join(way)}, which is cited by\n")
     rows_of = [f"rows: {guarded}"] if guarded else []

@@ -9,7 +9,7 @@ import tempfile
 import unittest
 from unittest import mock
 
-from workshop.documents import anchors, believed, believed_words, budget, common, crates_page, dialect, figures, named_crates, paragraphs, rules, tags
+from workshop.documents import anchors, believed, believed_words, budget, common, crates_page, dead, dialect, figures, named_crates, paragraphs, rules, tags
 from workshop.drawings import facts, formats, hosts, network, pictures, repository
 from workshop.drawings.svg import Drawing
 from workshop.parts import ROOT
@@ -137,6 +137,31 @@ SOURCE = """impl Shown for Store {
 """
 
 
+LAWS = """use Rattle.a.specs.A.{IsBare, count}
+
+-- what is sent
+pub record Sending : Type 0 where
+  -- as many as nobody counted
+  pub granted : (n : ℕ) → n ≡ count
+  pub «data» :
+      IsBare →
+      IsBare × IsBare
+  pub last : IsLast
+
+pub record Books {C : Type 0} (calls : Calls C) : Type 0 where
+  pub kept : IsKept calls
+"""
+OF_LAWS = """pub fn sending()
+    ensures { Sending }
+{}
+
+pub fn books<C: Carrier>()
+    ensures { Books C.calls }
+    ensures other { Other → Sending }
+{}
+"""
+
+
 class Rules(unittest.TestCase):
     def test_a_definition_has_the_comment_above_it_and_its_line(self) -> None:
         found, bare = rules.definitions_in("crates/a/specs/A.antt", SPECS)
@@ -152,6 +177,20 @@ class Rules(unittest.TestCase):
         self.assertTrue(count.text.endswith("self.len\n    }"))
         self.assertEqual((other.place.line, other.text, other.cites), (11, "    fn other(&self)\n        ensures { IsBare };", frozenset({"IsBare"})))
         self.assertEqual((shows.name, shows.place.line, shows.cites), ("Store::shows", 2, frozenset({"count"})))
+
+    def test_a_clause_that_is_a_record_of_laws_has_its_fields_for_clauses(self) -> None:
+        found = rules.laws_in("crates/a/specs/Laws.antt", LAWS)
+        places = [(it.name, it.place.line, it.words) for it in found]
+        self.assertEqual(places, [("Sending", 4, "what is sent"), ("Books", 12, "books")])
+        fields = {"granted": "(n : ℕ) → n ≡ count", "data": "IsBare → IsBare × IsBare", "last": "IsLast"}
+        self.assertEqual(found[0].fields, fields)
+        sending, books = rules.functions_in("crates/a/src/law.rt", OF_LAWS, [], {it.name: it for it in found})
+        self.assertEqual(([it.name for it in sending.laws], [it.name for it in books.laws]), (["Sending"], ["Books"]))
+        self.assertEqual((sending.cites, books.names() & {"IsKept", "IsBare"}), (frozenset({"Sending"}), {"IsKept"}))
+        self.assertLess({"Sending", "count", "IsBare", "IsLast"}, sending.names())
+        self.assertNotIn("nobody", sending.names())
+        shown = rules.shown(rules.definitions_in("crates/a/specs/A.antt", SPECS)[0], [], [sending], "")
+        self.assertTrue(shown.endswith(f"specs/Laws.antt:4\n{found[0].text}\n\n"))
 
     def test_a_rule_leads_to_the_lines_of_its_names(self) -> None:
         definition, _ = rules.definitions_in("crates/a/specs/A.antt", SPECS)
@@ -242,6 +281,20 @@ class Budget(unittest.TestCase):
 
     def test_what_is_not_used_is_taken_off(self) -> None:
         self.assertEqual(budget.lowered({"a": 9, "b": 4, "c": 3}, {"a": [(10, "what it had"), (2, "a law")], "b": [(4, "what it had")]}), {"a": [(7, "what it had"), (2, "a law")], "b": [(4, "what it had")], "c": [(3, "what the crate had when it got a budget")]})
+
+
+class Dead(unittest.TestCase):
+    def test_what_is_deleted_leaves_no_part_of_it(self) -> None:
+        text = "one : A\none = refl\n\nmodule _ (a : A) where\n"
+        text += "  -- said of it\n  gone : A\n  unfolding one\n  gone = elim a [\n    | b ↦ b\n  ]\n\n"
+        text += "module _ where\n  two : A\n  two = one\n"
+        found = dead.without(text, dead.parsed("one.antt", text), ["gone"])
+        self.assertEqual(found, "one : A\none = refl\n\nmodule _ where\n  two : A\n  two = one\n")
+
+    def test_what_is_deleted_is_taken_by_no_file(self) -> None:
+        text = "use Rattle.a.proofs.B.{gone, kept}\nuse Rattle.a.proofs.B.{gone}\nuse Rattle.a.proofs.C.{gone}\n"
+        found = dead.without_imports(text, {"Rattle.a.proofs.B": ["gone"]})
+        self.assertEqual(found, "use Rattle.a.proofs.B.{kept}\nuse Rattle.a.proofs.C.{gone}\n")
 
 
 class Common(unittest.TestCase):

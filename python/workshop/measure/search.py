@@ -1,7 +1,8 @@
 """States and steps a second of searches of all states, by the program's trace and by the plain program (minutes): ./measure search [SECONDS] [--write]
 
-Both walk through all lists of all events of five networks, with calms of one round, for SECONDS of one processor (60). Printed are the greatest
-length of which all lists were looked at, and the states and steps to there. With --write docs/measured/search.md has them.
+Both walk through all lists of all events of five networks, with calms of one round, for SECONDS of one processor (60).
+Printed are the greatest length of which all lists were looked at, and the states and steps to there; and what the
+searches with names take, by the plain program. With --write docs/measured/search.md has them.
 """
 
 from __future__ import annotations
@@ -12,20 +13,24 @@ import subprocess
 import sys
 import tempfile
 import time
-from collections.abc import Callable
+from collections.abc import Callable, Iterator
 from dataclasses import replace
 from functools import partial
 from pathlib import Path
 
 from dorydate.explore import fast
 from dorydate.explore.breadth import Asked, Walk
+from dorydate.explore.named import SEARCHES
+from dorydate.explore.pattern import read
 from dorydate.program import Program
-from workshop.checks.shortest import BESIDE
+from workshop.checks.shortest import BESIDE, CLAIMS, asked
 from workshop.parts import ROOT, any_program
 
 PAGE = f"{ROOT}/docs/measured/search.md"
 DEEPEST = 40
 MEGABYTES = 3000
+NAMED_HEAD = "| Search | Network | States | Steps | Seconds | Steps a second |\n|---|---|---|---|---|---|\n"
+FEW = 100_000  # steps: a search with fewer ends too soon to be measured
 
 
 def spent() -> float:
@@ -70,6 +75,17 @@ def time_of(output: str) -> float:
     return float(levels[-1].split(" ")[6]) if levels else 0.0
 
 
+def of_names(finder: str) -> Iterator[str]:
+    """Rows of what the searches with names take, by the plain program."""
+    for claim in CLAIMS:
+        before = spent()
+        answer = fast.searched(asked(claim.network, read(SEARCHES[claim.name].pattern), claim.depth), program=finder)
+        seconds, steps = spent() - before, sum(it.steps for it in answer.levels)
+        if steps >= FEW:
+            states = answer.levels[-1].states
+            yield f"| {claim.name} | {claim.where} | {states:,} | {steps:,} | {seconds:.1f} | {steps / seconds:,.0f} |"
+
+
 def cells(depth: int, is_all: bool, states: int, steps: int, seconds: float) -> str:
     rate = f"{steps / seconds:,.0f}" if seconds >= 0.01 else ""
     return f"{'all' if is_all else depth} | {states:,} | {steps:,} | {rate}"
@@ -89,8 +105,14 @@ def main() -> int:
         deep = replace(asked, depth=DEEPEST)
         rows.append(f"| {where} | {len(asked.events)} | {by_trace(deep, program, seconds)} | {by_plain(deep, finder, seconds)} |")
         print(rows[-1], flush=True)
+    names = []
+    for row in of_names(finder):
+        names.append(row)
+        print(row, flush=True)
     head = "| Network | Events | Length, by the program | States | Steps | Steps a second | Length, by the plain program | States | Steps | Steps a second |"
     text = f"# What searches of all states cost\n\n`./measure search --write` has written this page on {day}: all lists of these events, for {seconds:.0f} seconds of one processor each, by the trace of the program{' without proofs' if 'unproved' in path else ''} and by the plain program. *All*: there are no further states. Seconds are those of the processor up to that length. What it means: [the explorer](../python.md#all-states).\n\n{head}\n{'|---' * 10}|\n" + "\n".join(rows) + "\n"
+    text += f"\nSearches with names, by the plain program with all events ([the table](shortest.md)):\n\n{NAMED_HEAD}"
+    text += "\n".join(names) + "\n"
     if "--write" in sys.argv:
         Path(PAGE).write_text(text, encoding="utf-8")
     return 0

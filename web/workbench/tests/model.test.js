@@ -7,13 +7,18 @@ import assert from "node:assert/strict";
 import { readFileSync } from "node:fs";
 import { test } from "node:test";
 
-import { wrongLine } from "../faults.js";
+import { wrongLine, wrongTopology } from "../faults.js";
+import { readInput } from "../script.js";
 import { partIn } from "../trace.js";
 import { historyOf } from "./examples.js";
 
 const file = process.env.STATES ?? "";
-/** @type {{states: {[name: string]: {[part: string]: any}[]}, lines: [string, boolean, boolean][]}} */
-const given = file ? JSON.parse(readFileSync(file, "utf8")) : { states: {}, lines: [] };
+/**
+ * States of the model, and lines and topologies by chance, each with what ./explain says is wrong with it.
+ *
+ * @type {{states: {[name: string]: {[part: string]: any}[]}, lines: [string, boolean, string][], topologies: [string, string][]}}
+ */
+const given = file ? JSON.parse(readFileSync(file, "utf8")) : { states: {}, lines: [], topologies: [] };
 const model = given.states;
 
 /**
@@ -60,11 +65,25 @@ for (const [name, states] of Object.entries(model)) {
 }
 
 if (file) {
-    test("lines have a fault exactly where the reader in Python finds one", () => {
+    // which word is meant that is near to one in no list each finds in its own way
+    const plain = (/** @type {string} */ text) => text.replace(/ (?:Is `[^`]*` meant\?|Its events are .*)$/, "");
+
+    test("lines have the fault that ./explain finds in them", () => {
         assert(given.lines.length > 1000);
-        for (const [line, raw, isBad] of given.lines) {
-            assert.equal(wrongLine(line, raw) !== null, isBad, `${raw ? "raw" : "programs"}: ${line}`);
+        for (const [line, raw, why] of given.lines) {
+            assert.equal(plain(wrongLine(line, raw) ?? ""), plain(why), `${raw ? "raw" : "programs"}: ${line}`);
         }
+    });
+
+    test("topologies have the fault that ./explain finds in them", () => {
+        const found = new Set();
+        for (const [text, told] of given.topologies) {
+            const why = told.replace(/^Line \d+ of the file:\n.*\n/, "");
+            found.add(why.replace(/[\d`]+/g, ""));
+            if (/TOML/.test(why)) continue;
+            assert.equal(plain(wrongTopology(readInput(text))?.text ?? ""), plain(why), text);
+        }
+        assert(found.size > 20, [...found].join("\n"));
     });
 
     test("a fold that forgets a part is found", async () => {

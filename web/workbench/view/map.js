@@ -1,5 +1,6 @@
 /** Draws the map: IMPs, hosts, lines, the frames on them, arcs of messages. Elements are changed, not drawn anew. */
 
+import { bundled } from "../bundles.js";
 import { partTitle } from "../choices.js";
 import { leaving, placed } from "../layout.js";
 import { FAR } from "../state.js";
@@ -31,6 +32,7 @@ import { keep, s, say, set } from "./dom.js";
 const [LETTERS, SMALL_LETTERS, DETAIL_LETTERS, LEAST_LETTERS] = [10, 8.5, 4.6, 9.5];
 
 const MOST_LARGER = 1.12;
+const DOT = 0.5; // of its size at a distance, an IMP whose label has no room
 const MOST_FRAMES = 7;
 const MOST_ARCS = 6;
 
@@ -110,13 +112,19 @@ export class MapView {
                 letters + 6,
             )
             : this.network.sites.map(() => true);
+        const { x: left, width } = this.port.view;
         this.network.sites.forEach(({ number }, place) => {
             const { x, y } = this.imp(number);
-            const by = shown[place] ? factor : Math.min(factor, 1.25);
             const element = this.imps.children[place];
+            const isMarked = element.querySelector(".badge.shown") || element.classList.contains("down");
+            const by = shown[place] ? factor : isMarked ? Math.min(factor, 1.25) : DOT;
+            const half = by * this.box(number).w;
+            const over = shown[place] ? Math.max(0, left + half - x) - Math.max(0, x + half - left - width) : 0;
             element.classList.toggle("folded", !shown[place]);
             set(element, {
-                transform: by > 1.02 ? `translate(${x} ${y}) scale(${by.toFixed(3)}) translate(${-x} ${-y})` : null,
+                transform: by === 1 || (by > 1 && by <= 1.02)
+                    ? null
+                    : `translate(${x + over} ${y}) scale(${by.toFixed(3)}) translate(${-x} ${-y})`,
             });
         });
         this.network.hosts.forEach((host, place) => {
@@ -126,6 +134,41 @@ export class MapView {
             element.classList.toggle("folded", isFolded);
             this.spokes.children[place].classList.toggle("folded", isFolded);
         });
+        if (this.layout.small) this.foldLines();
+    }
+
+    /** At a distance, draws lines that run side by side as one, with their number; one that is down or has a packet by itself. */
+    foldLines() {
+        const isFar = this.layout.small && this.factor > 1.02;
+        const courses = this.network.lines.map((imps, line) => ({
+            ends: /** @type {[Point, Point]} */ (imps.map((imp) => this.imp(imp))),
+            isBusy: !isFar || this.isBusyLine(line),
+        }));
+        const drawn = bundled(courses, this.port.scale);
+        [...this.lines.children].forEach((element, line) => {
+            const count = drawn.filter((it) => it === line).length;
+            element.classList.toggle("folded", drawn[line] !== line);
+            element.classList.toggle("bundle", count > 1);
+            const label = element.querySelector(".many");
+            if (!label) return;
+            const [a, b] = courses[line].ends;
+            const { x, y } = between(a, b, 0.5);
+            set(label, { transform: `translate(${x} ${y}) scale(${this.factor.toFixed(2)})` });
+            say(label, count > 1 ? `×${count}` : "");
+        });
+    }
+
+    /**
+     * Whether a line is down at an end, or has a packet.
+     *
+     * @param {number} line
+     */
+    isBusyLine(line) {
+        const state = this.scene?.state;
+        if (!state) return false;
+        const frames = state.line(line);
+        return this.network.lines[line].some((imp) => !state.isEndUp(imp, line))
+            || [...frames["+"], ...frames["-"]].some((it) => it.packet);
     }
 
     /**
@@ -259,7 +302,10 @@ export class MapView {
             const crosses = [a, b].map((end) => cross(between(end, middle, 0.55), this.layout.small ? 3 : 5));
             const hit = s("line", { class: "hit", x1: a.x, y1: a.y, x2: b.x, y2: b.y });
             const label = this.layout.small
-                ? [s("text", { class: "detail", x: middle.x, y: middle.y + 2 }, String(line))]
+                ? [
+                    s("text", { class: "detail", x: middle.x, y: middle.y + 2 }, String(line)),
+                    s("text", { class: "many", y: 3 }),
+                ]
                 : [
                     s("rect", { class: "plate", x: middle.x - 7, y: middle.y - 7, width: 14, height: 14, rx: 3 }),
                     s("text", { class: "number", x: middle.x, y: middle.y + 3.5 }, String(line)),

@@ -8,13 +8,11 @@ use Rattle.host_keeps_streams.proofs.Asks.{settled_received, settled_sound, told
 use Rattle.host_keeps_streams.proofs.Known.{Sent}
 use Rattle.host_keeps_streams.proofs.calls.answering.Goals as goal
 
-pub returns-clause-received : goal.returns-clause-received
-returns-clause-received c name link l peer t r h = settled_received name link (freed l t.pair).busy (desk_of t.pair t.listening) r h
-
-pub returns-clause-sent : goal.returns-clause-sent
-returns-clause-sent c name link l peer t s sound h =
-    let done : Sent name link (told_on link l ++ closes name (freed l t.pair).busy t.pair.entries) (answered_turn peer answer.Rfnm l t).pair.entries s = told_sent name link (freed l t.pair).busy (desk_of t.pair t.listening) l s h.here h.known sound in
-    (done.may, record { here = done.has; known = done.known })
-
-pub returns-clause-sound : goal.returns-clause-sound
-returns-clause-sound c name l peer t sound = settled_sound name l (freed l t.pair).busy (desk_of t.pair t.listening) sound
+pub returns : goal.returns
+returns c = record {
+  received = λ name link l peer t r h. settled_received name link (freed l t.pair).busy (desk_of t.pair t.listening) r h;
+  sent = λ name link l peer t s sound h.
+      let done : Sent name link (told_on link l ++ closes name (freed l t.pair).busy t.pair.entries) (answered_turn peer answer.Rfnm l t).pair.entries s = told_sent name link (freed l t.pair).busy (desk_of t.pair t.listening) l s h.here h.known sound in
+      (done.may, record { here = done.has; known = done.known });
+  sound = λ name l peer t sound. settled_sound name l (freed l t.pair).busy (desk_of t.pair t.listening) sound;
+}

@@ -5,13 +5,11 @@ use Rattle.host_keeps_streams.proofs.Known.{Sent}
 use Rattle.host_keeps_streams.proofs.Requests.{closes_received, closes_sent, closes_sound}
 use Rattle.host_keeps_streams.proofs.calls.closing_ends.Goals as goal
 
-pub returns-clause-received : goal.returns-clause-received
-returns-clause-received c name link socket q e r found live h = closes_received name link socket q e found r live h
-
-pub returns-clause-sent : goal.returns-clause-sent
-returns-clause-sent c name link socket q e s found sound h =
-    let done : Sent name link (closes name q.busy (with_end socket called_off q).entries) (closed_end socket q).entries s = closes_sent name link socket q e found s h.here h.known sound in
-    (done.may, record { here = done.has; known = done.known })
-
-pub returns-clause-sound : goal.returns-clause-sound
-returns-clause-sound c name socket q e found sound = closes_sound name socket socket q e found sound
+pub returns : goal.returns
+returns c = record {
+  received = λ name link socket q e r found live h. closes_received name link socket q e found r live h;
+  sent = λ name link socket q e s found sound h.
+      let done : Sent name link (closes name q.busy (with_end socket called_off q).entries) (closed_end socket q).entries s = closes_sent name link socket q e found s h.here h.known sound in
+      (done.may, record { here = done.has; known = done.known });
+  sound = λ name socket q e found sound. closes_sound name socket socket q e found sound;
+}

@@ -1,4 +1,4 @@
-use Rattle.std.proofs.Common.{◌≡◌, Some, refl, replicate, true, arith}
+use Rattle.std.proofs.Common.{◌≡◌, inl, inr, ◌<◌, [], Some, refl, replicate, false, true, arith}
 use Rattle.bit_messages.specs.Octets.{octets_of}
 use Rattle.ncp_control.specs.Packing.{packed_count}
 use Rattle.ncp_control.specs.Reading.{command_of, read_of}
@@ -6,7 +6,11 @@ use Rattle.host_pairs.specs.Control.{orders_of}
 use Rattle.sockets.specs.Accepting.{accepted}
 use Rattle.sockets.specs.Requests.{refusal, served, served_notices}
 use Rattle.sockets.specs.Sending.{next_out, offered}
+use Rattle.sockets.specs.Worked.{on_link, second, third}
 use Rattle.net_sim.specs.Worked.{eight}
+use Rattle.net_sim.specs.Timeline.{crossings_of}
+use Rattle.mixed_worlds.specs.Worked.{eight_waits}
+use Rattle.mixed_worlds.proofs.Carried.{none_of}
 use Rattle.mixed_worlds.proofs.law.worked_toward.Goals as goal
 
 pub returns-clause-mixed : goal.returns-clause-mixed
@@ -69,3 +73,46 @@ returns-clause-life c = refl
 pub returns-clause-unfirst : goal.returns-clause-unfirst
 unfolding octets_of orders_of read_of command_of packed_count accepted refusal served served_notices next_out offered
 returns-clause-unfirst c f = absurd (let clash : Some (replicate 7 true) ≡ Some eight = f.bits in cc)
+
+pub returns-clause-asked : goal.returns-clause-asked
+unfolding octets_of orders_of read_of command_of packed_count accepted refusal served served_notices next_out offered
+returns-clause-asked c = record { own = refl; partner = refl }
+
+pub returns-clause-turned : goal.returns-clause-turned
+unfolding octets_of orders_of read_of command_of packed_count accepted refusal served served_notices next_out offered
+returns-clause-turned c h = absurd (let clash : false ≡ true = h.own in cc)
+
+pub returns-clause-carried : goal.returns-clause-carried
+unfolding octets_of
+returns-clause-carried c = record {
+  link = 2;
+  messages = inr (
+    0,
+    [],
+    eight,
+    refl,
+    refl,
+    (refl, refl),
+    omega arith,
+    omega arith,
+    none_of true (on_link third second 2) 8 7 (crossings_of eight_waits),
+  );
+}
+
+pub returns-clause-early : goal.returns-clause-early
+returns-clause-early c (inl h) = absurd (let clash : 1 ≡ 0 = h.0 in omega (arith, clash))
+returns-clause-early c (inr h) = absurd (let late : 8 < 0 = h.6 in omega (arith, late))
+
+pub returns-clause-uncounted : goal.returns-clause-uncounted
+returns-clause-uncounted c h = absurd (let clash : 1 ≡ 0 = h.0 in omega (arith, clash))
+
+pub returns-clause-arrived : goal.returns-clause-arrived
+unfolding octets_of
+returns-clause-arrived c = (refl, refl)
+
+pub returns-clause-others : goal.returns-clause-others
+unfolding octets_of
+returns-clause-others c h = absurd (let clash : Some eight ≡ Some (replicate 7 true) = h.1 in cc)
+
+pub returns-clause-unsent : goal.returns-clause-unsent
+returns-clause-unsent c h = absurd h

@@ -24,19 +24,15 @@ tied hosts moments addresses run time a b =
     let c : Coupled hosts moments = coupled hosts addresses moments run time in
     (all_tied hosts (origin_in (crossings_of moments)) moments (are_origins 0 (crossings_of moments) [] moments refl) c.story c.run (served_in hosts moments time)).tied a b
 
-pub returns-clause-steps : goal.returns-clause-steps
-returns-clause-steps c hosts moments addresses run time a b = (tied hosts moments addresses run time a b).steps
-
-pub returns-clause-receiver : goal.returns-clause-receiver
-returns-clause-receiver c hosts moments addresses run time a b s even odd =
-    subst (λ (x : Side). HasEnd (origin_in (crossings_of moments) a b) s.receive s.send (pair_with b (program a moments).peers) x.end) (sym (receiver_half s a b (law_events moments)))
-    ((tied hosts moments addresses run time a b).receiver s (even, odd))
-
-pub returns-clause-sender : goal.returns-clause-sender
-returns-clause-sender c hosts moments addresses run time a b s even odd =
-    subst (λ (x : Side). HasEnd (origin_in (crossings_of moments) b a) s.send s.receive (pair_with a (program b moments).peers) x.end) (sym (sender_half s a b (law_events moments)))
-    ((tied hosts moments addresses run time a b).sender s (even, odd))
-
-pub returns-clause-partners : goal.returns-clause-partners
-returns-clause-partners c hosts moments addresses run time a b s =
-    safe_run (events_at s (steps a b (law_events moments))) (run_at s (steps a b (law_events moments)) (tied hosts moments addresses run time a b).steps)
+pub returns : goal.returns
+returns c = record {
+  steps = λ hosts moments addresses run time a b. (tied hosts moments addresses run time a b).steps;
+  receiver = λ hosts moments addresses run time a b s even odd.
+      subst (λ (x : Side). HasEnd (origin_in (crossings_of moments) a b) s.receive s.send (pair_with b (program a moments).peers) x.end) (sym (receiver_half s a b (law_events moments)))
+      ((tied hosts moments addresses run time a b).receiver s (even, odd));
+  sender = λ hosts moments addresses run time a b s even odd.
+      subst (λ (x : Side). HasEnd (origin_in (crossings_of moments) b a) s.send s.receive (pair_with a (program b moments).peers) x.end) (sym (sender_half s a b (law_events moments)))
+      ((tied hosts moments addresses run time a b).sender s (even, odd));
+  partners = λ hosts moments addresses run time a b s.
+      safe_run (events_at s (steps a b (law_events moments))) (run_at s (steps a b (law_events moments)) (tied hosts moments addresses run time a b).steps);
+}

@@ -1,0 +1,462 @@
+-- Both requests of a life of a host that runs the program crossed at its stamps, and what is reported of data has just
+-- crossed, whatever its peer sends.
+use Rattle.std.proofs.Common.{◌≡◌, inl, inr, ℕ, ◌*◌, ◌<◌, Bool, true, false, if◌then◌else◌, zero, suc, List}
+use Rattle.std.proofs.Common.{[], ◌∷◌, ◌++◌, map, take, drop, length, slice_index_or, Some, None}
+use Rattle.std.proofs.Common.{refl, ap, sym, subst, ◌∙◌, arith}
+use Rattle.std.specs.List.{Contains}
+use Rattle.std.proofs.lemmas.Bool.{eqb-true}
+use Rattle.std.proofs.Math.Seq.{drop-append_seam}
+use Rattle.interface.specs.Host.{Host, same_host}
+use Rattle.interface.specs.declared.address.Flow.{Flow}
+use Rattle.interface.specs.declared.crossing.Answer.{Answer}
+use Rattle.interface.specs.declared.crossing.Crossing.{Crossing}
+use Rattle.interface.specs.declared.crossing.Crossing.TheVariants as crossing
+use Rattle.interface.specs.declared.crossing.Inbound.TheVariants as inbound
+use Rattle.interface.specs.declared.message.HostMessage.{HostMessage}
+use Rattle.interface.proofs.lemmas.{or_false, same_host-true}
+use Rattle.ncp_control.specs.DataHeader.{header_bits}
+use Rattle.ncp_control.specs.Numbers.{is_receive_socket, is_send_socket}
+use Rattle.ncp_control.specs.declared.command.Command.{Command}
+use Rattle.ncp_control.specs.declared.command.Command.TheVariants as command
+use Rattle.host_pairs.specs.Control.{Legal, Order, orders_of}
+use Rattle.host_pairs.specs.Entries.{has_cls, is_ending}
+use Rattle.host_pairs.specs.Pair.{PairState}
+use Rattle.host_pairs.specs.Parcels as parcel
+use Rattle.host_pairs.specs.Parcels.{Parcel}
+use Rattle.host_pairs.specs.declared.entry.Entry.{Entry}
+use Rattle.host_pairs.specs.declared.notice.Notice.{Notice}
+use Rattle.host_pairs.specs.declared.notice.Notice.TheVariants as notice
+use Rattle.promise.specs.Formed.{CrossedAt, HasCrossed, coming, data_by, going, request}
+use Rattle.promise.specs.Safe.{control_flow}
+use Rattle.sockets.specs.Accepting.{accepted}
+use Rattle.sockets.specs.Pairs.{NcpState, opening_state, pair_with}
+use Rattle.sockets.specs.Peers.{AreInOrder}
+use Rattle.sockets.specs.Requests.{served}
+use Rattle.sockets.specs.Sending.{message_for, next_in, offered}
+use Rattle.sockets.proofs.lemmas.{answer_leaves, message_leaves, next_pair, offer_leaves}
+use Rattle.host_keeps_ranges.specs.Ranges.{IsReadBack}
+use Rattle.host_keeps_ranges.proofs.lemmas.{offer_read, pair_range}
+use Rattle.net_sim.specs.Story.{Asked, Crossed, Moment, places, program}
+use Rattle.net_sim.specs.Timeline.{crossings_of}
+use Rattle.net_sim.specs.Told.{host_in, notices_by}
+use Rattle.net_sim.proofs.lemmas.{places_same}
+use Rattle.world_keeps_pairing.proofs.lemmas.{send_odd}
+use Rattle.world_keeps_lives.proofs.lemmas.{Begins, Done, Each, Ends, Goes, Hears, IsOther, MayTell, Quiet, Rules}
+use Rattle.world_keeps_lives.proofs.lemmas.{answer_keeps, each_weaker, message_keeps, offer_keeps, request_told}
+use Rattle.masked_worlds.specs.Mixed.{IsMixed}
+use Rattle.masked_worlds.proofs.lemmas.{Orders, Says, older, ordered, says}
+use Rattle.mixed_worlds.specs.Toward.{ReportsData}
+use Rattle.mixed_worlds.proofs.Quiet.{request_quiet}
+use Rattle.mixed_worlds.proofs.Sockets.{fit}
+
+-- ---- requests as commands
+
+rts_is : (own foreign link : ℕ) → is_receive_socket own ≡ true → request own foreign link ≡ command.Rts own foreign link
+rts_is own foreign link e = ap
+    (λ (b : Bool). if b then command.Rts own foreign link else command.Str own foreign link) e
+
+str_is : (own foreign size : ℕ) → is_send_socket own ≡ true → request own foreign size ≡ command.Str own foreign size
+str_is own foreign size e = ap
+    (λ (b : Bool). if b then command.Rts own foreign size else command.Str own foreign size) (send_odd own e)
+
+request_as : (a b own foreign n : ℕ) → a ≡ own → b ≡ foreign → request a b n ≡ request own foreign n
+request_as a b own foreign n e f = ap (λ (k : ℕ). request k b n) e ∙ ap (λ (k : ℕ). request own k n) f
+
+one_place : (x y : ℕ) → Some x ≡ Some y → x ≡ y
+one_place x y e = cc
+
+read_at : (cs : List Command) (c : Command) (i : ℕ) → i < length cs → slice_index_or cs i c ≡ c
+    → Contains (map Legal cs) (Legal c)
+read_at [] c i less is = absurd (omega (arith, less))
+read_at (d ∷ cs) c zero less is = (0, omega arith, ap Legal is)
+read_at (d ∷ cs) c (suc i) less is = let rest : Contains (map Legal cs) (Legal c) = read_at cs c i
+    (omega (arith, less)) is in (suc rest.0, omega (arith, rest.1), rest.2)
+
+control_is : (f : Flow) (x y : Host) → x ≡ f.source → y ≡ f.destination → f.link.0 ≡ 0 → f ≡ control_flow x y
+control_is f x y s d l =
+    ap (λ (n : ℕ). two f.source f.destination n) l ∙ ap (λ (h : Host). two h f.destination 0) (sym s)
+    ∙ ap (λ (h : Host). two x h 0) (sym d) where
+      two : Host → Host → ℕ → Flow
+      two a b n = record { source = a; destination = b; link = record { 0 = n } }
+
+-- ---- ends
+
+module _ (h p : Host) (log : List Crossing) where
+  pub record Went (own foreign a : ℕ) : Type 0 where
+    pub named : ℕ
+    pub crossed : HasCrossed going h p a (request own foreign named) log
+
+  pub record Came (own foreign b : ℕ) : Type 0 where
+    pub named : ℕ
+    pub crossed : HasCrossed coming p h b (request foreign own named) log
+
+  -- an end of this host's own has asked in a message that went out, and was answered in one that came in
+  pub record Placed (e : Entry) : Type 0 where
+    pub refusing : e.mine ≡ false → has_cls e.closing ≡ true
+    pub asked : e.mine ≡ true → (a : ℕ) → e.asked ≡ Some a → Went e.own e.foreign a
+    pub partner : e.mine ≡ true → (b : ℕ) → e.partner ≡ Some b → Came e.own e.foreign b
+
+  went_as : (e f : Entry) (a : ℕ) → f.own ≡ e.own → f.foreign ≡ e.foreign → Went e.own e.foreign a
+      → Went f.own f.foreign a
+  went_as e f a own foreign w = subst (λ (n : ℕ). Went n f.foreign a) (sym own)
+      (subst (λ (n : ℕ). Went e.own n a) (sym foreign) w)
+
+  came_as : (e f : Entry) (b : ℕ) → f.own ≡ e.own → f.foreign ≡ e.foreign → Came e.own e.foreign b
+      → Came f.own f.foreign b
+  came_as e f b own foreign w = subst (λ (n : ℕ). Came n f.foreign b) (sym own)
+      (subst (λ (n : ℕ). Came e.own n b) (sym foreign) w)
+
+  pub placed_quiet : (e f : Entry) → Quiet e f → Placed e → Placed f
+  placed_quiet e f q i = record {
+    refusing = λ m. q.closing (i.refusing (sym q.mine ∙ m));
+    asked = λ m a is. went_as e f a q.own q.foreign (i.asked (sym q.mine ∙ m) a (sym q.asked ∙ is));
+    partner = λ m b is. came_as e f b q.own q.foreign (i.partner (sym q.mine ∙ m) b (sym q.partner ∙ is));
+  }
+
+  pub placed_fresh : (e : Entry) → e.mine ≡ true → e.asked ≡ None → e.partner ≡ None → Placed e
+  placed_fresh e mine asked partner = record {
+    refusing = λ f. absurd (let clash : false ≡ true = sym f ∙ mine in cc);
+    asked = λ m a is. absurd (let clash : None ≡ Some a = sym asked ∙ is in cc);
+    partner = λ m b is. absurd (let clash : None ≡ Some b = sym partner ∙ is in cc);
+  }
+
+  begins : Begins Placed
+  begins = record {
+    fresh = placed_fresh;
+    refused = λ own foreign stamp. record {
+      refusing = λ f. refl;
+      asked = λ m a is. absurd (let clash : false ≡ true = m in cc);
+      partner = λ m b is. absurd (let clash : false ≡ true = m in cc);
+    };
+  }
+
+  own_end : (e : Entry) → (e.mine ≡ false → has_cls e.closing ≡ true) → is_ending e ≡ false → e.mine ≡ true
+  own_end e r goes = by e.mine refl where
+    by : (b : Bool) → e.mine ≡ b → b ≡ true
+    by true f = refl
+    by false f = absurd (let clash : false ≡ true = sym (or_false (has_cls e.closing) e.partner_closed goes).0
+        ∙ r f in cc)
+
+  -- what is reported at a moment: openings whose requests crossed, and data that crossed just then
+  abbrev pub Tells : Moment → Notice → Type 0
+  Tells x (notice.Opened s q f a b) = (q ≡ p) × Went s f a × Came s f b
+  Tells x n = ReportsData x n
+
+  other_told : (x : Moment) (n : Notice) → IsOther n → Tells x n
+  other_told x (notice.Opened s q f a b) o = absurd o
+  other_told x (notice.Sent s bits) o = absurd o
+  other_told x (notice.Arrived s bits) o = absurd o
+  other_told x n o = tt
+
+  pub rules : (x : Moment) → Rules Placed (Tells x) p
+  rules x = record {
+    quiet = placed_quiet;
+    others = other_told x;
+    opens = λ e a b i asked partner goes.
+        (let mine : e.mine ≡ true = own_end e i.refusing goes in
+        (refl, i.asked mine a asked, i.partner mine b partner));
+    returns = λ e messages bits i o. tt;
+  }
+
+  pub hears : (m : HostMessage) (stamp : ℕ) → m.flow ≡ control_flow p h → CrossedAt stamp (coming m) log
+      → Hears Placed stamp (orders_of m.text)
+  hears m stamp flow crossed = record {
+    begins = begins;
+    rts = λ own foreign link e there even odd o f i. record {
+      refusing = i.refusing;
+      asked = λ mine a is. i.asked mine a is;
+      partner = λ mine b is. came link e.own e.foreign b (one_place stamp b is)
+          (sym (request_as e.foreign e.own foreign own link f o ∙ rts_is foreign own link even)) there;
+    };
+    str = λ own foreign size e there odd even o f i. record {
+      refusing = i.refusing;
+      asked = λ mine a is. i.asked mine a is;
+      partner = λ mine b is. came size e.own e.foreign b (one_place stamp b is)
+          (sym (request_as e.foreign e.own foreign own size f o ∙ str_is foreign own size odd)) there;
+    };
+  } where
+    came : (n own foreign b : ℕ) → stamp ≡ b → {c : Command} → c ≡ request foreign own n
+        → Contains (orders_of m.text) (Legal c) → Came own foreign b
+    came n own foreign b at {c} same there = record {
+      named = n;
+      crossed = subst (λ (place : ℕ). HasCrossed coming p h place (request foreign own n) log) at (record {
+        message = m;
+        flow = flow;
+        crossed = crossed;
+        holds = subst (λ (d : Command). Contains (orders_of m.text) (Legal d)) same there;
+      });
+    }
+
+  pub goes : (m : HostMessage) (stamp n : ℕ) (queue : List Command) → m.flow ≡ control_flow h p
+      → CrossedAt stamp (going m) log → orders_of m.text ≡ map Legal (take n queue)
+      → Goes Placed stamp (take n queue)
+  goes m stamp n queue flow crossed reads = record {
+    rts = λ own foreign link e there even o f i. record {
+      refusing = i.refusing;
+      asked = λ mine a is. went link e.own e.foreign a (one_place stamp a is)
+          (sym (request_as e.own e.foreign own foreign link o f ∙ rts_is own foreign link even)) there;
+      partner = λ mine b is. i.partner mine b is;
+    };
+    str = λ own foreign size e there odd o f i. record {
+      refusing = i.refusing;
+      asked = λ mine a is. went size e.own e.foreign a (one_place stamp a is)
+          (sym (request_as e.own e.foreign own foreign size o f ∙ str_is own foreign size odd)) there;
+      partner = λ mine b is. i.partner mine b is;
+    };
+  } where
+    went : (k own foreign a : ℕ) → stamp ≡ a → {c : Command} → c ≡ request own foreign k
+        → Contains (take n queue) c → Went own foreign a
+    went k own foreign a at {c} same there = record {
+      named = k;
+      crossed = subst (λ (place : ℕ). HasCrossed going h p place (request own foreign k) log) at (record {
+        message = m;
+        flow = flow;
+        crossed = crossed;
+        holds = subst (λ (d : Command). Contains (orders_of m.text) (Legal d)) same
+            (subst (λ (os : List Order). Contains os (Legal c)) (sym reads)
+            (read_at (take n queue) c there.0 there.1 there.2));
+      });
+    }
+
+-- what crossed stays in the log
+pub went_still : (h p : Host) (d : Crossing) (log : List Crossing) (own foreign a : ℕ) → Went h p log own foreign a
+    → Went h p (d ∷ log) own foreign a
+went_still h p d log own foreign a w = record {
+  named = w.named;
+  crossed = record
+      { message = w.crossed.message; flow = w.crossed.flow; crossed = inr w.crossed.crossed; holds = w.crossed.holds };
+}
+
+pub came_still : (h p : Host) (d : Crossing) (log : List Crossing) (own foreign b : ℕ) → Came h p log own foreign b
+    → Came h p (d ∷ log) own foreign b
+came_still h p d log own foreign b w = record {
+  named = w.named;
+  crossed = record
+      { message = w.crossed.message; flow = w.crossed.flow; crossed = inr w.crossed.crossed; holds = w.crossed.holds };
+}
+
+placed_still : (h p : Host) (d : Crossing) (log : List Crossing) (e : Entry) → Placed h p log e → Placed h p (d ∷ log) e
+placed_still h p d log e i = record {
+  refusing = i.refusing;
+  asked = λ m a is. went_still h p d log e.own e.foreign a (i.asked m a is);
+  partner = λ m b is. came_still h p d log e.own e.foreign b (i.partner m b is);
+}
+
+-- ---- one moment
+
+module _ (orders : Orders) (strange : Host → Bool) (hosts : List Host) (a : Host) (off : strange a ≡ false)
+    (moments : List Moment) (below : IsMixed strange hosts moments) where
+  order : AreInOrder (program a moments).peers
+  order = ordered orders strange hosts a moments off below
+
+  -- its own message goes out
+  module _ (m : HostMessage) (from : a ≡ m.flow.source) (out : Says (program a moments) m) (p : Host)
+      (to : out.peer.host ≡ p)
+      (old : Ends (Placed a p (crossing.Out m ∷ crossings_of moments)) p (program a moments)) where
+    destination : p ≡ m.flow.destination
+    destination = sym to ∙ ap (λ (y : HostMessage). y.flow.destination) out.message
+
+    may : (x : Parcel) → next_in (program a moments).peers ≡ Some (out.peer, x)
+        → message_for (program a moments).own out.peer x ≡ m
+        → MayTell (Placed a p (crossing.Out m ∷ crossings_of moments))
+        (Tells a p (crossing.Out m ∷ crossings_of moments) (Crossed (crossing.Out m))) p
+        (rules a p (crossing.Out m ∷ crossings_of moments) (Crossed (crossing.Out m))) (places moments) x
+        (pair_with p (program a moments).peers)
+    may parcel.Reset next is = tt
+    may parcel.Reply next is = tt
+    may (parcel.Commands count) next is =
+        let same : pair_with p (program a moments).peers ≡ out.peer.pair = subst
+        (λ (y : Host). pair_with y (program a moments).peers ≡ out.peer.pair) to
+        (next_pair (program a moments).peers out.peer (parcel.Commands count) order next) in
+        let back : IsReadBack out.peer.pair (parcel.Commands count) = offer_read (program a moments) out.peer
+        (parcel.Commands count) (fit orders strange hosts a off moments below).ranged next in
+        let reads : orders_of m.text ≡ map Legal (take count (pair_with p (program a moments).peers).queue) =
+        ap (λ (y : HostMessage). orders_of y.text) (sym is) ∙ back
+        ∙ ap (λ (q : PairState). map Legal (take count q.queue)) (sym same) in
+        goes a p (crossing.Out m ∷ crossings_of moments) m (places moments) count
+        (pair_with p (program a moments).peers).queue
+        (control_is m.flow a p from destination (sym (ap (λ (y : HostMessage). y.flow.link.0) is)))
+        (inl (refl, places_same moments)) reads
+    may (parcel.Bytes e size count) next is =
+        let four : length (header_bits (record { size = size; count = count })) ≡ 40 = refl in
+        ap (λ (y : HostMessage). drop 40 y.text) (sym is)
+        ∙ ap
+        (λ (k : ℕ). drop k (header_bits (record { size = size; count = count }) ++ take (size * count) e.bits))
+        (sym four)
+        ∙ drop-append_seam (header_bits (record { size = size; count = count })) (take (size * count) e.bits)
+
+    pub out_done : Done (Placed a p (crossing.Out m ∷ crossings_of moments))
+        (Tells a p (crossing.Out m ∷ crossings_of moments) (Crossed (crossing.Out m))) p
+        (rules a p (crossing.Out m ∷ crossings_of moments) (Crossed (crossing.Out m)))
+        (offered (program a moments) (places moments))
+    out_done =
+        offer_keeps (Placed a p (crossing.Out m ∷ crossings_of moments))
+        (Tells a p (crossing.Out m ∷ crossings_of moments) (Crossed (crossing.Out m))) p
+        (rules a p (crossing.Out m ∷ crossings_of moments) (Crossed (crossing.Out m))) (program a moments)
+        (places moments) out.peer out.parcel order out.next to
+        (pair_range p (program a moments).peers (fit orders strange hosts a off moments below).ranged.pairs).commands
+        (may out.parcel out.next out.message) old
+
+  -- a message comes in
+  pub in_done : (m : HostMessage) (p : Host) → a ≡ m.flow.destination → m.flow.source ≡ p
+      → Ends (Placed a p (crossing.In m ∷ crossings_of moments)) p (program a moments)
+      → Done (Placed a p (crossing.In m ∷ crossings_of moments))
+      (Tells a p (crossing.In m ∷ crossings_of moments) (Crossed (crossing.In m))) p
+      (rules a p (crossing.In m ∷ crossings_of moments) (Crossed (crossing.In m)))
+      (accepted (program a moments) (inbound.Message m) (places moments))
+  in_done m p to from old =
+      message_keeps (Placed a p (crossing.In m ∷ crossings_of moments))
+      (Tells a p (crossing.In m ∷ crossings_of moments) (Crossed (crossing.In m))) p
+      (rules a p (crossing.In m ∷ crossings_of moments) (Crossed (crossing.In m))) (program a moments) m
+      (places moments) from (
+        λ zero.
+            hears a p (crossing.In m ∷ crossings_of moments) m (places moments)
+            (control_is m.flow p a (sym from) to (eqb-true m.flow.link.0 0 zero)) (inl (refl, places_same moments)),
+        λ away e k found opened read. (away, ap (data_by m.text) read),
+      ) old
+
+  -- an answer comes in
+  pub answer_done : (kind : Answer) (f : Flow) (p : Host) → f.destination ≡ p
+      → Ends (Placed a p (crossing.Answer kind f ∷ crossings_of moments)) p (program a moments)
+      → Done (Placed a p (crossing.Answer kind f ∷ crossings_of moments))
+      (Tells a p (crossing.Answer kind f ∷ crossings_of moments) (Crossed (crossing.Answer kind f))) p
+      (rules a p (crossing.Answer kind f ∷ crossings_of moments) (Crossed (crossing.Answer kind f)))
+      (accepted (program a moments) (inbound.Answer kind f) (places moments))
+  answer_done kind f p to old =
+      answer_keeps (Placed a p (crossing.Answer kind f ∷ crossings_of moments))
+      (Tells a p (crossing.Answer kind f ∷ crossings_of moments) (Crossed (crossing.Answer kind f))) p
+      (rules a p (crossing.Answer kind f ∷ crossings_of moments) (Crossed (crossing.Answer kind f)))
+      (program a moments) kind f (places moments) to old
+
+-- ---- all moments
+
+pub if_ends : (P : Entry → Type 0) (p : Host) (b : Bool) (t old : NcpState) → (b ≡ true → Ends P p t) → Ends P p old
+    → Ends P p (if b then t else old)
+if_ends P p true t old now k = now refl
+if_ends P p false t old now k = k
+
+module _ (orders : Orders) (strange : Host → Bool) (hosts : List Host) (a : Host) (off : strange a ≡ false) where
+  -- what goes out of this host is what it says
+  pub own_out : (m : HostMessage) (moments : List Moment) → IsMixed strange hosts (Crossed (crossing.Out m) ∷ moments)
+      → a ≡ m.flow.source → Says (program a moments) m
+  own_out m moments mixed from =
+      subst (λ (y : Host). Says (program y moments) m) (sym from)
+      (says (program m.flow.source moments) m (mixed.happen.0 (subst (λ (y : Host). strange y ≡ false) from off)))
+
+  pub placed : (moments : List Moment) → IsMixed strange hosts moments → (p : Host)
+      → Ends (Placed a p (crossings_of moments)) p (program a moments)
+  placed [] mixed p = tt
+  placed (Asked g r ∷ moments) mixed p =
+      let old : Ends (Placed a p (crossings_of moments)) p (program a moments) = placed moments
+      (older orders strange hosts (Asked g r) moments mixed) p in
+      if_ends (Placed a p (crossings_of moments)) p (same_host a g) (served (program a moments) r) (program a moments)
+      (λ e. request_quiet (Placed a p (crossings_of moments)) (placed_quiet a p (crossings_of moments))
+      (placed_fresh a p (crossings_of moments)) p (program a moments) r old) old
+  placed (Crossed c ∷ moments) mixed p = by c mixed
+      (each_weaker (Placed a p (crossings_of moments)) (Placed a p (c ∷ crossings_of moments))
+      (pair_with p (program a moments).peers).entries (placed_still a p c (crossings_of moments))
+      (placed moments below p)) where
+        below : IsMixed strange hosts moments
+        below = older orders strange hosts (Crossed c) moments mixed
+
+        by : (c : Crossing) → IsMixed strange hosts (Crossed c ∷ moments)
+            → Ends (Placed a p (c ∷ crossings_of moments)) p (program a moments)
+            → Ends (Placed a p (c ∷ crossings_of moments)) p (program a (Crossed c ∷ moments))
+        by (crossing.Out m) mixed old = if_ends _ p (same_host a m.flow.source)
+            (offered (program a moments) (places moments)).0 (program a moments) here old where
+              here : same_host a m.flow.source ≡ true
+                  → Ends (Placed a p (crossing.Out m ∷ crossings_of moments)) p
+                  (offered (program a moments) (places moments)).0
+              here e = at (same_host p out.peer.host) refl where
+                from : a ≡ m.flow.source
+                from = same_host-true a m.flow.source e
+
+                out : Says (program a moments) m
+                out = own_out m moments mixed from
+
+                at : (b : Bool) → same_host p out.peer.host ≡ b
+                    → Ends (Placed a p (crossing.Out m ∷ crossings_of moments)) p
+                    (offered (program a moments) (places moments)).0
+                at true f = (out_done orders strange hosts a off moments below m from out p
+                    (sym (same_host-true p out.peer.host f)) old).ends
+                at false f =
+                    subst
+                    (λ (q : PairState). Each (Placed a p (crossing.Out m ∷ crossings_of moments)) q.entries)
+                    (sym (offer_leaves (program a moments) (places moments) out.peer out.parcel p out.next f)) old
+        by (crossing.In m) mixed old = if_ends _ p (same_host a m.flow.destination)
+            (accepted (program a moments) (inbound.Message m) (places moments)).0 (program a moments) here old where
+              here : same_host a m.flow.destination ≡ true
+                  → Ends (Placed a p (crossing.In m ∷ crossings_of moments)) p
+                  (accepted (program a moments) (inbound.Message m) (places moments)).0
+              here e = at (same_host p m.flow.source) refl where
+                at : (b : Bool) → same_host p m.flow.source ≡ b
+                    → Ends (Placed a p (crossing.In m ∷ crossings_of moments)) p
+                    (accepted (program a moments) (inbound.Message m) (places moments)).0
+                at true f = (in_done orders strange hosts a off moments below m p
+                    (same_host-true a m.flow.destination e) (sym (same_host-true p m.flow.source f)) old).ends
+                at false f =
+                    subst
+                    (λ (q : PairState). Each (Placed a p (crossing.In m ∷ crossings_of moments)) q.entries)
+                    (sym (message_leaves (program a moments) m (places moments) p f)) old
+        by (crossing.Answer kind f) mixed old = if_ends _ p (same_host a f.source)
+            (accepted (program a moments) (inbound.Answer kind f) (places moments)).0 (program a moments)
+            (λ e. at (same_host p f.destination) refl) old where
+              at : (b : Bool) → same_host p f.destination ≡ b
+                  → Ends (Placed a p (crossing.Answer kind f ∷ crossings_of moments)) p
+                  (accepted (program a moments) (inbound.Answer kind f) (places moments)).0
+              at true g = (answer_done orders strange hosts a off moments below kind f p
+                  (sym (same_host-true p f.destination g)) old).ends
+              at false g =
+                  subst
+                  (λ (q : PairState). Each (Placed a p (crossing.Answer kind f ∷ crossings_of moments)) q.entries)
+                  (sym (answer_leaves (program a moments) kind f (places moments) p g)) old
+        by (crossing.Down g) mixed old = if_ends _ p (same_host a g) (opening_state a) (program a moments) (λ e. tt) old
+        by (crossing.Up g) mixed old = if_ends _ p (same_host a g) (opening_state a) (program a moments) (λ e. tt) old
+
+-- ---- what a host is notified of at a moment
+
+-- a peer, and what is reported of it
+pub record TellsOfOne (h : Host) (log : List Crossing) (x : Moment) (ns : List Notice) : Type 0 where
+  pub peer : Host
+  pub told : Each (Tells h peer log x) ns
+
+module _ (orders : Orders) (strange : Host → Bool) (hosts : List Host) where
+  pub told : (x : Moment) (moments : List Moment) → IsMixed strange hosts (x ∷ moments)
+      → strange (host_in x) ≡ false
+      → TellsOfOne (host_in x) (crossings_of (x ∷ moments)) x (notices_by x moments)
+  told x moments mixed off = by x mixed off (older orders strange hosts x moments mixed) where
+    grown : (h p : Host) (c : Crossing) → strange h ≡ false → IsMixed strange hosts moments
+        → Ends (Placed h p (c ∷ crossings_of moments)) p (program h moments)
+    grown h p c off below =
+        each_weaker (Placed h p (crossings_of moments)) (Placed h p (c ∷ crossings_of moments))
+        (pair_with p (program h moments).peers).entries (placed_still h p c (crossings_of moments))
+        (placed orders strange hosts h off moments below p)
+
+    by : (x : Moment) → IsMixed strange hosts (x ∷ moments) → strange (host_in x) ≡ false
+        → IsMixed strange hosts moments
+        → TellsOfOne (host_in x) (crossings_of (x ∷ moments)) x (notices_by x moments)
+    by (Crossed (crossing.Out m)) mixed off below =
+        let out : Says (program m.flow.source moments) m = own_out orders strange hosts m.flow.source off m moments
+        mixed refl in
+        record {
+          peer = out.peer.host;
+          told = (out_done orders strange hosts m.flow.source off moments below m refl out out.peer.host refl
+              (grown m.flow.source out.peer.host (crossing.Out m) off below)).told;
+        }
+    by (Crossed (crossing.In m)) mixed off below = record {
+      peer = m.flow.source;
+      told = (in_done orders strange hosts m.flow.destination off moments below m m.flow.source refl refl
+          (grown m.flow.destination m.flow.source (crossing.In m) off below)).told;
+    }
+    by (Crossed (crossing.Answer kind f)) mixed off below = record {
+      peer = f.destination;
+      told = (answer_done orders strange hosts f.source off moments below kind f f.destination refl
+          (grown f.source f.destination (crossing.Answer kind f) off below)).told;
+    }
+    by (Crossed (crossing.Down g)) mixed off below = record { peer = g; told = tt }
+    by (Crossed (crossing.Up g)) mixed off below = record { peer = g; told = tt }
+    by (Asked g r) mixed off below = record {
+      peer = g;
+      told = request_told (Placed g g (crossings_of moments)) (Tells g g (crossings_of moments) (Asked g r)) g
+          (rules g g (crossings_of moments) (Asked g r)) (program g moments) r;
+    }

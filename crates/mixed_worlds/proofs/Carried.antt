@@ -1,0 +1,189 @@
+-- The bits of each life are those of messages on one link, in their order, whatever its peer sends.
+use Rattle.std.proofs.Common.{◌≡◌, ◌⊎◌, inl, inr, ℕ, ◌<◌, ◌==◌, Bool, true, false, if◌then◌else◌}
+use Rattle.std.proofs.Common.{List, [], ◌∷◌, ◌++◌, filter, length, Option}
+use Rattle.std.proofs.Common.{refl, ap, sym, subst, ◌∙◌, arith}
+use Rattle.std.specs.List.{Contains}
+use Rattle.std.proofs.lemmas.Bool.{eqb-true}
+use Rattle.interface.specs.Host.{Host, same_host}
+use Rattle.interface.specs.declared.address.Flow.{Flow}
+use Rattle.interface.specs.declared.crossing.Crossing.{Crossing}
+use Rattle.interface.specs.declared.crossing.Crossing.TheVariants as crossing
+use Rattle.interface.proofs.lemmas.{same_host-true}
+use Rattle.host_pairs.specs.Entries.{is_mine_on}
+use Rattle.host_pairs.specs.Parcels.{link_of}
+use Rattle.host_pairs.specs.declared.entry.Entry.{Entry}
+use Rattle.host_pairs.specs.declared.notice.Notice.{Notice}
+use Rattle.host_pairs.specs.declared.notice.Notice.TheVariants as notice
+use Rattle.host_pairs.proofs.lemmas.{both}
+use Rattle.promise.specs.Formed.{CrossedAt, flow_of}
+use Rattle.promise.specs.Safe.{receives}
+use Rattle.promise.specs.declared.life.Life.{Life}
+use Rattle.sockets.specs.Pairs.{NcpState, pair_with}
+use Rattle.sockets.specs.declared.request.Request.{Request}
+use Rattle.sockets.specs.declared.request.Request.TheVariants as request
+use Rattle.net_sim.specs.Book.{Kept, all_told, book_told, changed_when, granted, life_ended, lives_asked, lives_at}
+use Rattle.net_sim.specs.Book.{lives_between, lives_crossed, lives_on, lives_told, lives_with, new_life, returned}
+use Rattle.net_sim.specs.Book.{where_it}
+use Rattle.world_keeps_lives.specs.Lives.{HasOpenEnd}
+use Rattle.world_keeps_lives.proofs.lemmas.{Each}
+use Rattle.mixed_worlds.specs.Toward.{AreOf}
+use Rattle.mixed_worlds.proofs.AskedLives.{in_each}
+use Rattle.mixed_worlds.proofs.Bound.{Bound}
+
+-- ---- places
+
+pub below_all : (place : ℕ) (c : Crossing) (log : List Crossing) → CrossedAt place c log → place < length log
+below_all place c [] i = absurd i
+below_all place c (d ∷ log) (inl i) = omega (arith, i.1)
+below_all place c (d ∷ log) (inr i) = let below : place < length log = below_all place c log i in omega (arith, below)
+
+-- ---- bits that messages carried
+
+pub none_of : (comes : Bool) (f : Flow) (a b : ℕ) (log : List Crossing) → AreOf comes f a b log 0 []
+none_of comes f a b [] = (refl, refl)
+none_of comes f a b (c ∷ log) = inl (none_of comes f a b log)
+
+-- ---- ends
+
+none_passes : (test : Entry → Bool) (x : Entry) (es : List Entry) → filter test es ≡ []
+    → Each (λ (e : Entry). test e ≡ true → e ≡ x) es
+none_passes test x [] none = tt
+none_passes test x (e ∷ es) none = by (test e) refl none (none_passes test x es) where
+  by : (b : Bool) → test e ≡ b → (if b then e ∷ filter test es else filter test es) ≡ []
+      → (filter test es ≡ [] → Each (λ (y : Entry). test y ≡ true → y ≡ x) es)
+      → Each (λ (y : Entry). test y ≡ true → y ≡ x) (e ∷ es)
+  by true t k rest = absurd (cc)
+  by false t k rest = ((λ u. absurd (let clash : true ≡ false = sym u ∙ t in cc)), rest k)
+
+pub one_passes : (test : Entry → Bool) (x : Entry) (es : List Entry) → filter test es ≡ x ∷ []
+    → Each (λ (e : Entry). test e ≡ true → e ≡ x) es
+one_passes test x [] one = tt
+one_passes test x (e ∷ es) one = by (test e) refl one (one_passes test x es) where
+  by : (b : Bool) → test e ≡ b → (if b then e ∷ filter test es else filter test es) ≡ x ∷ []
+      → (filter test es ≡ x ∷ [] → Each (λ (y : Entry). test y ≡ true → y ≡ x) es)
+      → Each (λ (y : Entry). test y ≡ true → y ≡ x) (e ∷ es)
+  by true t k rest =
+      let same : e ≡ x = cc in
+      let none : filter test es ≡ [] = cc in
+      ((λ u. same), none_passes test x es none)
+  by false t k rest = ((λ u. absurd (let clash : true ≡ false = sym u ∙ t in cc)), rest k)
+
+nobody_passes : (test : Entry → Bool) (es : List Entry) → filter test es ≡ []
+    → Each (λ (e : Entry). test e ≡ true → ⊥) es
+nobody_passes test [] none = tt
+nobody_passes test (e ∷ es) none = by (test e) refl none (nobody_passes test es) where
+  by : (b : Bool) → test e ≡ b → (if b then e ∷ filter test es else filter test es) ≡ []
+      → (filter test es ≡ [] → Each (λ (y : Entry). test y ≡ true → ⊥) es)
+      → Each (λ (y : Entry). test y ≡ true → ⊥) (e ∷ es)
+  by true t k rest = absurd (cc)
+  by false t k rest = ((λ u. absurd (let clash : true ≡ false = sym u ∙ t in cc)), rest k)
+
+-- an open end on the socket of a life that isn't over is its end: it is with its peer, and has its link
+pub record ItsEnd (y : Life) (link : Option ℕ) (p : Host) (e : Entry) : Type 0 where
+  pub peer : p ≡ y.peer
+  pub linked : e.link ≡ link
+
+pub its_end : (s : NcpState) (y : Life) (link : Option ℕ) (p : Host) (e : Entry)
+    → Contains (pair_with p s.peers).entries e → is_mine_on y.socket e ≡ true → HasOpenEnd s y
+    → Each (Bound y link) (pair_with y.peer s.peers).entries → ItsEnd y link p e
+its_end s y link p e there mine o bound = by (same_host p y.peer) refl where
+  by : (b : Bool) → same_host p y.peer ≡ b → ItsEnd y link p e
+  by false off = absurd
+      (in_each (λ (z : Entry). is_mine_on y.socket z ≡ true → ⊥) (pair_with p s.peers).entries e there
+      (nobody_passes (is_mine_on y.socket) (pair_with p s.peers).entries (o.others p off)) mine)
+  by true same =
+      let peer : p ≡ y.peer = same_host-true p y.peer same in
+      let here : Contains (pair_with y.peer s.peers).entries e = subst
+      (λ (h : Host). Contains (pair_with h s.peers).entries e) peer there in
+      let is : e ≡ o.end = in_each (λ (z : Entry). is_mine_on y.socket z ≡ true → z ≡ o.end)
+      (pair_with y.peer s.peers).entries e here
+      (one_passes (is_mine_on y.socket) o.end (pair_with y.peer s.peers).entries o.one) mine in
+      let parts : (e.mine ≡ true) × ((e.own == y.socket) ≡ true) = both e.mine (e.own == y.socket) mine in
+      record {
+        peer = peer;
+        linked = in_each (Bound y link) (pair_with y.peer s.peers).entries e here bound parts.0
+            (eqb-true e.own y.socket parts.1) (ap (λ (z : Entry). z.asked) is ∙ o.own)
+            (ap (λ (z : Entry). z.partner) is ∙ o.partner);
+      }
+
+-- ---- what is known of a life
+
+pub record Counted (log : List Crossing) (s : NcpState) (x : Life) : Type 0 where
+  pub link : Option ℕ
+  pub messages : AreOf (receives x) (flow_of x (link_of link)) x.own_stamp x.partner_stamp log x.messages x.bits
+  pub bound : x.ended ≡ false → Each (Bound x link) (pair_with x.peer s.peers).entries
+
+abbrev pub IsNew : Life → Type 0
+IsNew x = (x.messages ≡ 0) × (x.bits ≡ [])
+
+-- a life that has just begun, or one that is as it was
+abbrev pub Known : (Host → NcpState) → List Crossing → Life → Type 0
+Known programs log x = IsNew x ⊎ Counted log (programs x.host) x
+
+-- a notice that isn't of data
+abbrev pub IsCalm : Notice → Type 0
+IsCalm (notice.Sent socket bits) = ⊥
+IsCalm (notice.Arrived socket bits) = ⊥
+IsCalm n = Unit {0}
+
+-- what such notices do
+module _ (programs : Host → NcpState) (log : List Crossing) where
+  one_more : (lives : List Life) (y : Life) → Each (Known programs log) lives → Known programs log y
+      → Each (Known programs log) (lives ++ y ∷ [])
+  one_more [] y all i = (i, tt)
+  one_more (x ∷ lives) y all i = (all.0, one_more lives y all.1 i)
+
+  known_where : (test : Life → Bool) (change : Life → Life) (lives : List Life)
+      → ((x : Life) → Known programs log x → Known programs log (change x)) → Each (Known programs log) lives
+      → Each (Known programs log) (where_it test change lives)
+  known_where test change [] stays all = tt
+  known_where test change (x ∷ lives) stays all = (by (test x), known_where test change lives stays all.1) where
+    by : (b : Bool) → Known programs log (changed_when b change x)
+    by true = stays x all.0
+    by false = all.0
+
+  over : (x : Life) → Known programs log x → Known programs log (life_ended x)
+  over x (inl i) = inl i
+  over x (inr c) = inr (record {
+    link = c.link;
+    messages = c.messages;
+    bound = λ e. absurd (let clash : true ≡ false = e in cc);
+  })
+
+  gave_back : (messages bits : ℕ) (x : Life) → Known programs log x → Known programs log (returned messages bits x)
+  gave_back messages bits x (inl i) = inl i
+  gave_back messages bits x (inr c) = inr (record { link = c.link; messages = c.messages; bound = c.bound })
+
+  gave : (messages bits : ℕ) (x : Life) → Known programs log x → Known programs log (granted messages bits x)
+  gave messages bits x (inl i) = inl i
+  gave messages bits x (inr c) = inr (record { link = c.link; messages = c.messages; bound = c.bound })
+
+  known_told : (h : Host) (n : Notice) (lives : List Life) → IsCalm n → Each (Known programs log) lives
+      → Each (Known programs log) (lives_told h n lives)
+  known_told h (notice.Opened socket peer foreign own partner) lives calm all = one_more lives
+      (new_life h socket peer foreign own partner) all (inl (refl, refl))
+  known_told h (notice.Ended socket peer foreign) lives calm all = known_where (lives_between h socket peer foreign)
+      life_ended lives over all
+  known_told h (notice.PairReset peer) lives calm all = known_where (lives_with h peer) life_ended lives over all
+  known_told h (notice.Sent socket bits) lives calm all = absurd calm
+  known_told h (notice.Arrived socket bits) lives calm all = absurd calm
+  known_told h (notice.Returned socket messages bits) lives calm all = known_where (lives_at h socket)
+      (returned messages bits) lives (gave_back messages bits) all
+  known_told h n lives calm all = all
+
+  pub known_all : (h : Host) (ns : List Notice) (k : Kept) → Each IsCalm ns → Each (Known programs log) k.book.lives
+      → Each (Known programs log) (all_told h ns k).book.lives
+  known_all h [] k calm all = all
+  known_all h (n ∷ ns) k calm all = known_all h ns (book_told h n k) calm.1
+      (known_told h n k.book.lives calm.0 all)
+
+  pub known_crossed : (c : Crossing) (lives : List Life) → Each (Known programs log) lives
+      → Each (Known programs log) (lives_crossed c lives)
+  known_crossed (crossing.Down h) lives all = known_where (lives_on h) life_ended lives over all
+  known_crossed c lives all = all
+
+  pub known_asked : (h : Host) (r : Request) (lives : List Life) → Each (Known programs log) lives
+      → Each (Known programs log) (lives_asked h r lives)
+  known_asked h (request.Grant socket messages bits) lives all = known_where (lives_at h socket)
+      (granted messages bits) lives (gave messages bits) all
+  known_asked h r lives all = all

@@ -1,0 +1,103 @@
+-- What is reported of data that come in, and that go out.
+use Rattle.std.proofs.Common.{◌≡◌, ◌⊎◌, inl, inr, ℕ, ◌*◌, ◌==◌, Bool, true, false, if◌then◌else◌, List, [], ◌∷◌, ◌++◌}
+use Rattle.std.proofs.Common.{find, take, Option, Some, None, refl, ap, sym, subst, ◌∙◌}
+use Rattle.interface.specs.Host.{same_host}
+use Rattle.interface.specs.declared.crossing.Inbound.TheVariants as inbound
+use Rattle.interface.specs.declared.message.HostMessage.{HostMessage}
+use Rattle.ncp_control.specs.DataHeader.{data_bits, header_of}
+use Rattle.ncp_control.specs.Phases.{is_ready}
+use Rattle.ncp_control.specs.declared.data_header.DataHeader.{DataHeader}
+use Rattle.host_pairs.specs.Commands as commands
+use Rattle.host_pairs.specs.Commands.{Ending, Open, Unconnected}
+use Rattle.host_pairs.specs.Control.{ERRONEOUS}
+use Rattle.host_pairs.specs.Data.{arrived, arrived_if, data_found, data_of, data_taken, is_acceptable, text_faulted}
+use Rattle.host_pairs.specs.Desk.{DeskState, desk_of}
+use Rattle.host_pairs.specs.Entries.{is_ending, is_open, receives_on}
+use Rattle.host_pairs.specs.Parcels as parcel
+use Rattle.host_pairs.specs.Parcels.{Parcel}
+use Rattle.host_pairs.specs.Turn.{TurnState, if_ready, message_taken, with_desk}
+use Rattle.host_pairs.specs.declared.entry.Entry.{Entry}
+use Rattle.host_pairs.specs.declared.notice.Notice.{Notice}
+use Rattle.host_pairs.specs.declared.notice.Notice.TheVariants as notice
+use Rattle.sockets.specs.Accepting.{accepted, after_turn, turn_of}
+use Rattle.sockets.specs.Pairs.{NcpState, pair_with}
+use Rattle.sockets.specs.Sending.{next_in, offered, offered_by}
+use Rattle.sockets.specs.declared.peer.Peer.{Peer}
+
+-- an open end has the link of what came, and one notice is of all its data
+pub record Takes (link : ℕ) (text : List Bool) (es : List Entry) (ns : List Notice) : Type 0 where
+  pub end : Entry
+  pub header : DataHeader
+  pub found : find (receives_on link) es ≡ Some end
+  pub opened : is_open end ≡ true
+  pub read : header_of text ≡ Some header
+  pub is : ns ≡ notice.Arrived end.own (data_of (data_bits header) text) ∷ []
+
+abbrev pub TakesIf : ℕ → List Bool → List Entry → List Notice → Type 0
+TakesIf link text es ns = (ns ≡ []) ⊎ Takes link text es ns
+
+desk_takes : (link : ℕ) (text : List Bool) (d : DeskState) → d.notices ≡ []
+    → TakesIf link text d.entries (data_taken link text d).notices
+desk_takes link text d none = by (find (receives_on link) d.entries) refl where
+  by : (o : Option Entry) → find (receives_on link) d.entries ≡ o
+      → TakesIf link text d.entries (data_found link text (commands.found_in o) d).notices
+  by None f = inl none
+  by (Some e) f = opened (is_open e) (is_ending e) refl where
+    opened : (a b : Bool) → is_open e ≡ a
+        → TakesIf link text d.entries
+        (data_found link text (if a then Open e else (if b then Ending else Unconnected)) d).notices
+    opened false true g = inl none
+    opened false false g = inl none
+    opened true b g = read (header_of text) refl where
+      read : (o : Option DataHeader) → header_of text ≡ o
+          → TakesIf link text d.entries (arrived_if link e text o d).notices
+      read None r = inl none
+      read (Some k) r = fits (is_acceptable e k) where
+        fits : (c : Bool)
+            → TakesIf link text d.entries
+            (if c then arrived link e (data_bits k) text d else text_faulted ERRONEOUS text d).notices
+        fits false = inl none
+        fits true = inr (record {
+          end = e;
+          header = k;
+          found = f;
+          opened = g;
+          read = r;
+          is = ap (λ (ns : List Notice). ns ++ notice.Arrived e.own (data_of (data_bits k) text) ∷ []) none;
+        })
+
+turn_takes : (link : ℕ) (text : List Bool) (t : TurnState) → t.notices ≡ []
+    → TakesIf link text t.pair.entries (if_ready (data_taken link text) t).notices
+turn_takes link text t none = by (is_ready t.pair.phase) where
+  by : (b : Bool)
+      → TakesIf link text t.pair.entries
+      (if b then with_desk t (data_taken link text (desk_of t.pair t.listening)) else t).notices
+  by false = inl none
+  by true =
+      subst
+      (λ (ns : List Notice). TakesIf link text t.pair.entries (ns ++ (data_taken link text
+      (desk_of t.pair t.listening)).notices)) (sym none) (desk_takes link text (desk_of t.pair t.listening) refl)
+
+pub message_takes : (s : NcpState) (m : HostMessage) (stamp : ℕ) → (m.flow.link.0 == 0) ≡ false
+    → TakesIf m.flow.link.0 m.text (pair_with m.flow.source s.peers).entries
+    (accepted s (inbound.Message m) stamp).1
+unfolding accepted
+message_takes s m stamp off = by (same_host s.own m.flow.destination) where
+  turn : (b : Bool) → (m.flow.link.0 == 0) ≡ b
+      → TakesIf m.flow.link.0 m.text (pair_with m.flow.source s.peers).entries
+      (message_taken m.flow.source stamp m.flow.link.0 m.text (turn_of s m.flow.source)).notices
+  turn true e = absurd (let clash : true ≡ false = sym e ∙ off in cc)
+  turn false e = rw e (turn_takes m.flow.link.0 m.text (turn_of s m.flow.source) refl)
+
+  by : (b : Bool)
+      → TakesIf m.flow.link.0 m.text (pair_with m.flow.source s.peers).entries
+      (if b then after_turn s m.flow.source (message_taken m.flow.source stamp m.flow.link.0 m.text
+      (turn_of s m.flow.source)) else (s, [])).1
+  by true = turn (m.flow.link.0 == 0) refl
+  by false = inl refl
+
+pub bytes_told : (s : NcpState) (stamp : ℕ) (g : Peer) (e : Entry) (size count : ℕ)
+    → next_in s.peers ≡ Some (g, parcel.Bytes e size count)
+    → (offered s stamp).1 ≡ notice.Sent e.own (take (size * count) e.bits) ∷ []
+unfolding offered
+bytes_told s stamp g e size count next = ap (λ (o : Option (Peer × Parcel)). (offered_by s stamp o).1) next

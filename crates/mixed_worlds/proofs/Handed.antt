@@ -1,0 +1,35 @@
+-- What each life of a host that runs the program sent is a prefix of what was handed over in it, whatever its peer
+-- sends.
+use Rattle.std.proofs.Common.{◌≡◌, ◌⊎◌, inl, inr, ℕ, Bool, true, List, [], ◌∷◌, refl, ap, sym, subst, ◌∙◌}
+use Rattle.std.proofs.Common.{eq-eqb}
+use Rattle.interface.specs.Host.{Host}
+use Rattle.interface.proofs.lemmas.{same_host-refl}
+use Rattle.promise.specs.Fates.{IsBeside}
+use Rattle.promise.specs.declared.life.Life.{Life}
+use Rattle.sockets.specs.Pairs.{NcpState}
+use Rattle.net_sim.specs.Book.{Kept}
+use Rattle.world_keeps_lives.specs.Lives.{EachOn, IsFreeSocket, IsLifeOf, IsOwned, IsSafe, NoneOf, at_socket}
+use Rattle.world_keeps_lives.proofs.lemmas.{Holds}
+
+-- a life of a socket, and what is beside it
+beside_safe : (a : Host) (k : ℕ) (P : Life → List Bool → Type 0) (lives : List Life) (handed : List (List Bool))
+    → EachOn a k P lives handed → (x : Life) (t : List Bool) → IsBeside x t lives handed → at_socket a k x ≡ true
+    → IsSafe x t
+beside_safe a k P [] [] each x t i is = absurd i
+beside_safe a k P [] (u ∷ handed) each x t i is = absurd i
+beside_safe a k P (y ∷ lives) [] each x t i is = absurd i
+beside_safe a k P (y ∷ lives) (u ∷ handed) each x t (inl (e, f)) is =
+    subst (λ (z : Life). IsSafe z t) (sym e)
+    (subst (λ (v : List Bool). IsSafe y v) (sym f) (each.0 (ap (at_socket a k) (sym e) ∙ is)).0)
+beside_safe a k P (y ∷ lives) (u ∷ handed) each x t (inr i) is = beside_safe a k P lives handed each.1 x t i is
+
+here : (x : Life) → at_socket x.host x.socket x ≡ true
+here x = rw (same_host-refl x.host, eq-eqb x.socket x.socket refl) refl
+
+pub safe_beside : (s : NcpState) (κ : Kept) (x : Life) (t : List Bool) → IsBeside x t κ.book.lives κ.handed
+    → Holds x.host x.socket s κ → IsSafe x t
+safe_beside s κ x t i h = by h.socket where
+  by : IsFreeSocket x.host x.socket s κ ⊎ IsOwned x.host x.socket s κ → IsSafe x t
+  by (inl free) = beside_safe x.host x.socket NoneOf κ.book.lives κ.handed free.lives x t i (here x)
+  by (inr owned) = beside_safe x.host x.socket (IsLifeOf owned.peer owned.end) κ.book.lives κ.handed owned.lives x t i
+      (here x)

@@ -1,0 +1,64 @@
+use Rattle.std.proofs.Common.{◌≡◌, Bool, true, false, None, refl, sym, subst, ◌∙◌}
+use Rattle.bit_messages.specs.Octets.{octets_of}
+use Rattle.interface.specs.Host.{Host, same_host}
+use Rattle.interface.specs.Mailboxes.{Empty, box_of, same_flow}
+use Rattle.interface.specs.declared.address.Flow.{Flow}
+use Rattle.interface.proofs.lemmas.{same_host-true}
+use Rattle.ncp_control.specs.Packing.{packed_count}
+use Rattle.ncp_control.specs.Reading.{command_of, read_of}
+use Rattle.host_pairs.specs.Control.{orders_of}
+use Rattle.sockets.specs.Accepting.{accepted}
+use Rattle.sockets.specs.Requests.{refusal, served, served_notices}
+use Rattle.sockets.specs.Sending.{next_out, offered}
+use Rattle.sockets.specs.Worked.{first, on_link, second, third}
+use Rattle.net_sim.specs.Story.{program}
+use Rattle.net_sim.specs.Timeline.{crossings_of}
+use Rattle.net_sim.proofs.lemmas.{same_host-sym}
+use Rattle.masked_worlds.specs.Among.{without_strangers}
+use Rattle.masked_worlds.specs.Worked.{is_third, listener_taken}
+use Rattle.mixed_worlds.proofs.RealLogs.{flow_off}
+use Rattle.mixed_worlds.proofs.law.worked_settled.Goals as goal
+
+pub returns-clause-waits : goal.returns-clause-waits
+unfolding octets_of orders_of read_of command_of packed_count accepted refusal served served_notices next_out offered
+returns-clause-waits c = refl
+
+of_second : next_out (without_strangers is_third (program second listener_taken)) ≡ None
+unfolding octets_of orders_of read_of command_of packed_count accepted refusal served served_notices next_out offered
+of_second = refl
+
+none_said : (h : Host) → is_third h ≡ false
+    → next_out (without_strangers is_third (program h listener_taken)) ≡ None
+unfolding octets_of orders_of read_of command_of packed_count accepted refusal served served_notices next_out offered
+none_said h off = by (same_host h second) refl where
+  apart : same_host h third ≡ false
+  apart = same_host-sym h third ∙ off
+
+  by : (b : Bool) → same_host h second ≡ b
+      → next_out (without_strangers is_third (program h listener_taken)) ≡ None
+  by true e = subst (λ (g : Host). next_out (without_strangers is_third (program g listener_taken)) ≡ None)
+      (sym (same_host-true h second e)) of_second
+  by false e = rw (e, apart) refl
+
+none_out : (f : Flow) → is_third f.source ≡ false → is_third f.destination ≡ false
+    → box_of f (crossings_of listener_taken) ≡ Empty
+none_out f source destination = rw (to, from) refl where
+  to : same_flow f (on_link second third 0) ≡ false
+  to = flow_off is_third f source destination (on_link second third 0) third refl
+
+  from : same_flow f (on_link third second 0) ≡ false
+  from = flow_off is_third f source destination (on_link third second 0) third refl
+
+pub returns-clause-settled : goal.returns-clause-settled
+returns-clause-settled c = record {
+  silent = λ h off up. none_said h off;
+  answered = λ f source destination up other. none_out f source destination;
+}
+
+pub returns-clause-unsaid : goal.returns-clause-unsaid
+unfolding octets_of orders_of read_of command_of packed_count accepted refusal served served_notices next_out offered
+returns-clause-unsaid c s = absurd (let clash = s.silent first refl refl in cc)
+
+pub returns-clause-unanswered : goal.returns-clause-unanswered
+unfolding octets_of orders_of read_of command_of packed_count accepted refusal served served_notices next_out offered
+returns-clause-unanswered c s = absurd (let clash = s.answered (on_link first second 0) refl refl refl refl in cc)
