@@ -22,6 +22,7 @@ from dorydate.explore.pattern import read
 from dorydate.explore.search import Job, Progress
 from dorydate.explore.sides import batches, calms_of, with_own_places
 from dorydate.explore.state import OtherState, State
+from dorydate.model.subnet import Subnet
 from dorydate.model.without import HARMLESS
 from dorydate.network import Network
 from dorydate.program import Program
@@ -240,7 +241,9 @@ class Without(unittest.TestCase):
             ("calm 1", "out 0/1 0/2 0 0 -", "calm 4", "out 0/1 0/2 0 0 -"): False,
             ("out 0/1 0/2 0 0 -", "take 0/1"): False,  # its answer is Dead
         }.items():
-            self.assertEqual(plan.is_followed(place.after(map(read_event, script))), is_followed, script)
+            after = place.after(map(read_event, script))
+            assert isinstance(after, Subnet)
+            self.assertEqual(plan.is_followed(after), is_followed, script)
 
     def test_each_stored_script_names_a_rule(self) -> None:
         for rule in without.rules():

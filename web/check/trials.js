@@ -100,7 +100,7 @@ export function stepped({ $, one, press, slide, want }, name) {
         want($("sentence").textContent === seen[at], name + ": another sentence on the way back at step " + at * every);
     }
     press("next");
-    want($("count").textContent.startsWith("step 1 "), name + ": next goes one step");
+    want($("count").textContent.startsWith(count ? "step 1 " : "step 0 "), name + ": next goes one step, where there is one");
     press("back");
     want($("count").textContent.startsWith("step 0 "), name + ": back goes one step");
 }
@@ -290,6 +290,21 @@ export async function bundles({ $, all, pause, press, load, key, want }) {
     key("0", $("network"));
     await pause(60);
     want(folded() === far, `${folded()} lines are folded again, and not ${far}`);
+}
+
+/**
+ * In a script of hundreds of rows the present one is seen, wherever the slider goes.
+ *
+ * @param {Page} page
+ */
+export async function followed({ $, one, load, pause, slide, want }) {
+    await load("arpanet-of-september-1973");
+    for (const part of [0.6, 0.3, 0.9]) {
+        slide(Math.floor(part * Number($("slider").max)));
+        await pause(400);
+        const [box, frame] = [".row.current", ".sheet-scroll"].map((it) => one(it).getBoundingClientRect());
+        want(box.top >= frame.top && box.bottom <= frame.bottom + 1, `the present row is not seen at ${part}`);
+    }
 }
 
 /**

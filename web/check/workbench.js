@@ -122,7 +122,7 @@ const PLANTED = /** @type {Planted[]} */ ([
         to: `:root[data-low] body { display: block !important; height: auto !important }${STYLE}`,
         by: "reached",
         size: [740, 360],
-        words: "out of reach",
+        words: "high at 360",
     },
     {
         what: "an address that is cut off is opened as none",
@@ -165,6 +165,14 @@ const PLANTED = /** @type {Planted[]} */ ([
         to: 'element.classList.toggle("folded", !shown[place] || this.port.scale > 1.5);',
         by: "large",
         words: "labels are left out from near",
+    },
+    {
+        what: "a row that is looked for once, where heights are not known yet",
+        from: 'classList.contains("many") ? 3 : 0',
+        to: 'classList.contains("many") ? 0 : 0',
+        by: "followed",
+        size: [360, 740],
+        words: "the present row is not seen",
     },
     {
         what: "lines side by side that are not folded",
@@ -311,10 +319,10 @@ async function whole(browser, address) {
         steps += await browser.evaluate('return Number(document.getElementById("slider").max);');
     }
     const { keys, tapped, holding, distances, compared, printed, hidden, typed, measured, contrast } = trials;
-    const { bundles, happening, judged, large, named, reached, unopened } = trials;
+    const { bundles, followed, happening, judged, large, named, reached, unopened } = trials;
     for (const size of LARGE) {
         await browser.resize(...size);
-        wrong.push(...(await trial(browser, [large, largeNetwork()])));
+        wrong.push(...(await trial(browser, [large, largeNetwork()], [followed])));
         console.log(`63 IMPs: ${await browser.evaluate("return document.documentElement.dataset.measured;")}`);
     }
     await browser.resize(...WIDE);

@@ -184,7 +184,7 @@ export class Workbench {
     arrange() {
         const root = document.documentElement;
         const scale = 16 / parseFloat(getComputedStyle(root).fontSize);
-        const { layout, isLow } = arrangement(root.clientWidth * scale, window.innerHeight * scale);
+        const { layout, isLow } = arrangement(root.clientWidth * scale, root.clientHeight * scale);
         root.dataset.layout = layout;
         root.toggleAttribute("data-low", isLow);
         root.toggleAttribute("data-tight", root.clientWidth * scale < 1340);

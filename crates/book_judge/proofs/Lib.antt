@@ -1,8 +1,6 @@
 pub mod SameText
 pub mod Mailboxes
 pub mod Named
-pub mod TextsBy
-pub mod Made
 pub mod Elements
 pub mod Placed
 pub mod Asked
@@ -12,7 +10,7 @@ pub mod Fed
 pub mod Shown
 pub mod Peace
 pub mod Lost
-pub mod Taken
-pub mod Streamed
 pub mod Worked
+pub mod Crossed
+pub mod Ends
 pub mod lemmas

@@ -10,12 +10,10 @@ use Rattle.host_pairs.proofs.lemmas.{header_covers}
 use Rattle.interface.specs.Flow.{same_flow}
 use Rattle.interface.specs.declared.address.Flow.{Flow}
 use Rattle.interface.specs.declared.crossing.Crossing.{Crossing}
-use Rattle.interface.specs.declared.crossing.Crossing.TheVariants as crossing
 use Rattle.interface.proofs.lemmas.{same_flow-refl}
 use Rattle.ncp_control.specs.DataHeader.{header_of}
 use Rattle.ncp_control.specs.declared.data_header.DataHeader.{DataHeader}
 use Rattle.ncp_control.proofs.lemmas.{octets_enough}
-use Rattle.ncp_control.specs.declared.command.Command.TheVariants as command
 use Rattle.promise.specs.Formed.{CrossedAt, named_at, named_in, named_of, text_of}
 use Rattle.promise.specs.Safe.{control_flow}
 use Rattle.interface.specs.Host.{Host}
@@ -96,7 +94,7 @@ named_here own foreign octets whole named read is some there names = by is.most 
       let one : is.most ≡ 1 + n = omega (arith, m) in
       first named (named_in own foreign (orders_within n (drop read octets))) there ∙ sym (names n) ∙ ap (λ (k : ℕ). named_in own foreign (orders_within k octets)) (sym one) ∙ is.same
 
-none_within : (most : ℕ) → orders_within most [] ≡ []
+pub none_within : (most : ℕ) → orders_within most [] ≡ []
 none_within zero = refl
 none_within (suc most) = refl
 

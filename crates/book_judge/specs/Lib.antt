@@ -1,5 +1,6 @@
 pub mod Runs
 pub mod Lives
+pub mod Fates
 pub mod Broken
 pub mod Inside
 pub mod WorkedPlaces

@@ -1,23 +1,28 @@
 //! Logs that are runs between some hosts, and logs that stop being one; a book that is whole, and one that is malformed; a life that
 //! lost something where it closed, and one that didn't; lives that are made of what crossed, and one that isn't. The functions here do nothing: each clause is a row.
 
-ghost use Rattle.std.specs.Prelude.{ℕ, Bool, List, Some, [], ◌∷◌, ◌++◌};
+ghost use Rattle.std.specs.Prelude.{◌≡◌, ℕ, Bool, false, true, List, Some, [], ◌∷◌, ◌++◌};
 ghost use Rattle.interface.specs.Host.{Host};
 ghost use Rattle.interface.specs.declared.address.Flow.{Flow};
 ghost use Rattle.interface.specs.declared.crossing.Answer.{Answer};
 ghost use Rattle.interface.specs.declared.crossing.Answer.TheVariants as answer;
+ghost use Rattle.interface.specs.declared.crossing.Crossing.{Crossing};
 ghost use Rattle.interface.specs.declared.crossing.Crossing.TheVariants as crossing;
 ghost use Rattle.interface.specs.declared.message.HostMessage.{HostMessage};
 ghost use Rattle.net_sim.specs.declared.auditing.findings.Finding.{Finding};
 ghost use Rattle.net_sim.specs.declared.auditing.findings.Finding.TheVariants as finding;
 ghost use Rattle.net_sim.specs.Findings.{ShowsLife};
 ghost use Rattle.net_sim.specs.Worked.{eight, four};
+ghost use Rattle.promise.specs.Ends.{AreLeft, Closed, Dropped, Going, Over, Stopped};
 ghost use Rattle.promise.specs.Fates.{ClosesWhole};
 ghost use Rattle.promise.specs.Formed.{FormedBook};
+ghost use Rattle.promise.specs.declared.book.Called.{Called};
+ghost use Rattle.promise.specs.declared.life.Fate.{Fate};
 ghost use Rattle.promise.specs.declared.life.Fate.TheVariants as fate;
 ghost use Rattle.promise.specs.declared.life.Life.{Life};
 ghost use Rattle.world_keeps_lives.specs.WorkedFormed.{gave, sent_log, took};
 ghost use Rattle.book_judge.specs.Broken.{IsBroken, first_closed, only_malformed, unbroken};
+ghost use Rattle.book_judge.specs.Fates.{AreSuited, suits};
 ghost use Rattle.book_judge.specs.Lives.{UnmadeAt};
 ghost use Rattle.book_judge.specs.Runs.{IsSomeRun, StraysAt};
 
@@ -61,6 +66,38 @@ pub fn worked_closes()
 
     // its own user closed it, or only the other life was ended: then it need not
     ensures closed { ClosesWhole sent_log (took ∷ gave ∷ []) ([] ∷ (eight ++ four) ∷ []) (fate.Closed ∷ fate.Ended ∷ []) }
+{}
+
+/// Fates of lives, by how far these are by what crossed.
+pub fn worked_fates()
+    // one that continues is open, or a contact has just reset it
+    ensures open { suits (Going false true) fate.Open ≡ true }
+    ensures closing { suits (Going true false) fate.Closing ≡ true }
+    ensures contact { suits (Going false false) fate.Reset ≡ true }
+    ensures not_ended { suits (Going false true) fate.Ended ≡ false }
+    ensures not_closed { suits (Going true false) fate.Closed ≡ false }
+    ensures not_stopped { suits (Going false false) fate.Stopped ≡ false }
+
+    // one that its host's stop ended isn't open, but a contact may have reset it before
+    ensures stopped { suits (Over Stopped 3) fate.Stopped ≡ true }
+    ensures sooner { suits (Over Stopped 3) fate.Reset ≡ true }
+    ensures restarted { suits (Over Stopped 3) fate.Open ≡ false }
+
+    // nor is one whose connections were dropped
+    ensures reset { suits (Over Dropped 3) fate.Reset ≡ true }
+    ensures dropped { suits (Over Dropped 3) fate.Open ≡ false }
+    ensures not_by_cls { suits (Over Dropped 3) fate.Closed ≡ false }
+
+    // whose user closed first isn't said of both CLS
+    ensures ended { suits (Over (Closed false) 3) fate.Ended ≡ true }
+    ensures closed { suits (Over (Closed false) 3) fate.Closed ≡ true }
+    ensures over { suits (Over (Closed true) 3) fate.Open ≡ false }
+
+    // of a life that hasn't begun nothing is said
+    ensures nothing { (x : Life) (f : Fate) → AreSuited [] (x ∷ []) (f ∷ []) }
+
+    // what comes of a contact suits what crossed, whichever contacts there were
+    ensures contacts { (contacts : List Called) (log : List Crossing) (lives : List Life) (fates : List Fate) → AreLeft contacts log lives fates → AreSuited log lives fates }
 {}
 
 /// Lives of small logs, the newest crossing first.

@@ -2,8 +2,9 @@
 //!
 //! A caller may rely on this: what crossed is a run of the mailboxes between some hosts (BBN Report 1822) exactly where
 //! [`stray_at`] finds nothing, and else what it finds is the first crossing with which it is none. The lives are made of what
-//! crossed exactly where [`unmade_at`] finds nothing, messages are kept exactly where [`broken_message`] does, and of
-//! [`broken_at`] each part holds that isn't named.
+//! crossed exactly where [`unmade_at`] finds nothing, messages are kept exactly where [`broken_message`] does, of
+//! [`broken_at`] each part holds that isn't named, and each life has a fate that what crossed leaves it exactly where
+//! [`unsuited_at`] finds nothing.
 //!
 //! Nothing here reads lines: a log is a list of crossings, the oldest first.
 #![tactic(auto)]
@@ -13,6 +14,7 @@ mod broken;
 mod chains;
 mod closes;
 mod data;
+mod fates;
 mod flow_map;
 mod grants;
 mod joined;
@@ -33,6 +35,7 @@ mod texts;
 pub mod worked_places;
 
 pub use broken::{Broken, broken_at};
+pub use fates::unsuited_at;
 pub use lives::unmade_at;
 pub use messages::broken_message;
 pub use runs::stray_at;

@@ -1,8 +1,9 @@
 //! What the requests in a control message name.
 
 ghost use Rattle.std.specs.Option.{option_or};
-ghost use Rattle.std.specs.Prelude.{◌≡◌, ◌+◌, ◌<◌, ◌≤◌, ℕ, MatchOption, None, drop, length};
-ghost use Rattle.host_pairs.specs.Control.{orders_in, orders_of, orders_within};
+ghost use Rattle.std.specs.Prelude.{◌≡◌, ◌∷◌, [], ◌+◌, ◌<◌, ◌≤◌, ℕ, MatchOption, drop, length};
+ghost use Rattle.bit_messages.specs.Octets.{octets_of};
+ghost use Rattle.host_pairs.specs.Control.{ERRONEOUS, Wrong, orders_in, orders_of, orders_within};
 ghost use Rattle.promise.specs.Formed as formed;
 ghost use Rattle.promise.specs.Formed.{named_in};
 
@@ -14,8 +15,8 @@ const OCTET_BITS: u8 = 8;
 
 /// Returns the octets of the commands in a text, of which it has none where it is no control message.
 #[tactic(auto, unfolding(host_pairs::specs::Control::orders_of))]
-fn control_octets(text: &Bits) -> Option<&[u8]>
-    ensures { MatchOption result ((own foreign : ℕ) → named_in own foreign (orders_of text.now) ≡ None) (λ octets. orders_of text.now ≡ orders_in octets.now) }
+pub(crate) fn control_octets(text: &Bits) -> Option<&[u8]>
+    ensures { MatchOption result (orders_of text.now ≡ Wrong ERRONEOUS (octets_of text.now) ∷ []) (λ octets. orders_of text.now ≡ orders_in octets.now) }
 {
     let header = DataHeader::read(text)?;
     let count = header.count as usize;

@@ -1,5 +1,6 @@
 -- What `--log` writes, `--audit` reads and calls kept.
-use Rattle.std.proofs.Common.{◌≡◌, ℕ, Bool, List, [], ◌∷◌, reverse, Option, Some, None, IfSome, Result, Ok, Err, MatchResult, inl, inr, map, refl, sym, subst}
+use Rattle.std.proofs.Common.{◌≡◌, ℕ, Bool, true, List, [], ◌∷◌, reverse, Option, Some, None, IfSome, Result, Ok, Err}
+use Rattle.std.proofs.Common.{MatchResult, inl, inr, map, refl, sym, subst}
 use Rattle.std.proofs.lemmas.List.{reverse-reverse}
 use Rattle.book_log.specs.Log.{Book, fates_of, lives_of, logged_fate}
 use Rattle.book_log.proofs.lemmas.{book_once, fates_back, lives_back}
@@ -12,6 +13,7 @@ use Rattle.net_sim.specs.Audit.{Says}
 use Rattle.net_sim.specs.declared.auditing.said.Audit.{Audit}
 use Rattle.net_sim.specs.declared.auditing.said.Audit.TheVariants as audit
 use Rattle.net_sim.specs.Book.{Kept}
+use Rattle.promise.specs.Ends.{Asking, Closed, Dropped, Going, Over, Stage, Stopped, stage}
 use Rattle.promise.specs.Fates.{AreFated, ClosesWhole, IsBeside}
 use Rattle.promise.specs.declared.life.Fate.{Fate}
 use Rattle.promise.specs.declared.life.Fate.TheVariants as fate
@@ -20,6 +22,7 @@ use Rattle.interface.specs.Calls.{Calls}
 use Rattle.topology.specs.Topology.{TopologyFields}
 use Rattle.topology.specs.declared.network.CarrierKind.{CarrierKind}
 use Rattle.topology.specs.declared.network.CarrierKind.TheVariants as kind
+use Rattle.book_judge.specs.Fates.{AreSuited, suits}
 use Rattle.book_judge.specs.Runs.{IsSomeRun}
 use Rattle.book_judge.proofs.lemmas.{made_twice}
 use Rattle.command_line.specs.Audits.{AuditsLog, IsAuditFault, IsKeptLog, IsSomeLog, Judged, SaysKept, SaysOf, kept}
@@ -37,18 +40,21 @@ use Rattle.command_line.proofs.Printed.{none_there, safe_alone}
 -- ---- the log is kept
 
 -- a log that is turned round twice
-turned : (said : Audit) (log : List Crossing) (lives : List Life) (handed : List (List Bool)) → Says said log lives handed → Says said (reverse (reverse log)) lives handed
+turned : (said : Audit) (log : List Crossing) (lives : List Life) (handed : List (List Bool))
+    → Says said log lives handed → Says said (reverse (reverse log)) lives handed
 turned said log lives handed = subst (λ (cs : List Crossing). Says said cs lives handed) (sym (reverse-reverse log))
 
 run_twice : (hosts : List Host) (log : List Crossing) → IsRun hosts log → IsSomeRun (reverse (reverse log))
 run_twice hosts log run = (hosts, subst (IsRun hosts) (sym (reverse-reverse log)) run)
 
 kept_alone : (log : List Crossing) → SafeMessages log → Says audit.Kept log [] []
-kept_alone log messages = (record { counts = refl; stamped = λ x there. absurd (none_there x there) }, safe_alone log messages)
+kept_alone log messages =
+    (record { counts = refl; stamped = λ x there. absurd (none_there x there) }, safe_alone log messages)
 
 -- where there is no life nothing is lost
 none_closes : (log : List Crossing) → ClosesWhole log [] [] []
-none_closes log = record { took_sent = λ x y beside c m. absurd beside; took_handed = λ x y text beside there m. absurd beside }
+none_closes log =
+    record { took_sent = λ x y beside c m. absurd beside; took_handed = λ x y text beside there m. absurd beside }
 
 ended_logged : (f : Fate) → logged_fate f ≡ fate.Ended → f ≡ fate.Ended
 ended_logged fate.Open e = absurd (cc)
@@ -58,7 +64,8 @@ ended_logged fate.Ended e = refl
 ended_logged fate.Reset e = absurd (cc)
 ended_logged fate.Stopped e = absurd (cc)
 
-beside_logged : (x : Life) (lives : List Life) (fates : List Fate) → IsBeside x fate.Ended lives (map logged_fate fates) → IsBeside x fate.Ended lives fates
+beside_logged : (x : Life) (lives : List Life) (fates : List Fate)
+    → IsBeside x fate.Ended lives (map logged_fate fates) → IsBeside x fate.Ended lives fates
 beside_logged x [] fates h = absurd h
 beside_logged x (y ∷ lives) [] h = absurd h
 beside_logged x (y ∷ lives) (f ∷ fates) h = elim h [
@@ -67,25 +74,60 @@ beside_logged x (y ∷ lives) (f ∷ fates) h = elim h [
 ]
 
 -- what is logged of fates loses nothing where they don't
-closes_logged : (log : List Crossing) (lives : List Life) (handed : List (List Bool)) (fates : List Fate) → ClosesWhole log lives handed fates → ClosesWhole log lives handed (map logged_fate fates)
+closes_logged : (log : List Crossing) (lives : List Life) (handed : List (List Bool)) (fates : List Fate)
+    → ClosesWhole log lives handed fates → ClosesWhole log lives handed (map logged_fate fates)
 closes_logged log lives handed fates w = record {
   took_sent = λ x y beside c m. w.took_sent x y (beside_logged x lives fates beside) c m;
   took_handed = λ x y text beside there m. w.took_handed x y text (beside_logged x lives fates beside) there m;
 }
 
+-- a fate that is logged suits where it does
+suits_logged : (s : Stage) (f : Fate) → suits s f ≡ true → suits s (logged_fate f) ≡ true
+suits_logged s fate.Open e = e
+suits_logged (Asking own partner) fate.Closing e = refl
+suits_logged (Going own partner) fate.Closing e = refl
+suits_logged (Over Dropped place) fate.Closing e = e
+suits_logged (Over Stopped place) fate.Closing e = e
+suits_logged (Over (Closed first) place) fate.Closing e = e
+suits_logged s fate.Closed e = e
+suits_logged s fate.Ended e = e
+suits_logged s fate.Reset e = e
+suits_logged s fate.Stopped e = e
+
+logged_beside : (x : Life) (f : Fate) (lives : List Life) (fates : List Fate)
+    → IsBeside x f lives (map logged_fate fates) → (g : Fate) × IsBeside x g lives fates × (f ≡ logged_fate g)
+logged_beside x f [] fates h = absurd h
+logged_beside x f (y ∷ lives) [] h = absurd h
+logged_beside x f (y ∷ lives) (g ∷ fates) h = elim h [
+  | inl e ↦ (g, inl (e.0, refl), e.1)
+  | inr r ↦ (let b = logged_beside x f lives fates r in (b.0, inr b.1, b.2))
+]
+
+suited_logged : (log : List Crossing) (lives : List Life) (fates : List Fate) → AreSuited log lives fates
+    → AreSuited log lives (map logged_fate fates)
+suited_logged log lives fates all x f h =
+    let b = logged_beside x f lives fates h in
+    subst (λ (g : Fate). suits (stage [] x log) g ≡ true) (sym b.2) (suits_logged (stage [] x log) b.0 (all x b.0 b.1))
+
 -- the lives and fates of the log of a world are those of its book
-says_logged : (k : Kept) → AreFated k.book.lives k.fates → Judged kept (reverse k.book.crossings) k.book.lives k.handed (map logged_fate k.fates) → SaysOf kept (world_book k)
+says_logged : (k : Kept) → AreFated k.book.lives k.fates
+    → Judged kept (reverse k.book.crossings) k.book.lives k.handed (map logged_fate k.fates)
+    → SaysOf kept (world_book k)
 says_logged k are j =
-    subst (λ (xs : List Life). Judged kept (reverse k.book.crossings) xs k.handed (fates_of (world_book k))) (sym (lives_back k.book.lives k.fates are))
+    subst (λ (xs : List Life). Judged kept (reverse k.book.crossings) xs k.handed (fates_of (world_book k)))
+    (sym (lives_back k.book.lives k.fates are))
     (subst (λ (fs : List Fate). Judged kept (reverse k.book.crossings) k.book.lives k.handed fs) (sym (fates_back k.book.lives k.fates are)) j)
 
-kept_from : {C : Type 0} (calls : Calls C) (opening : C) (events : Asked) (octets : List ℕ) → LogsFrom calls opening events (Some []) (Some octets) → IsKeptLog octets
+kept_from : {C : Type 0} (calls : Calls C) (opening : C) (events : Asked) (octets : List ℕ)
+    → LogsFrom calls opening events (Some []) (Some octets) → IsKeptLog octets
 kept_from calls opening (Raw events) octets h = record {
   book = raw_book (calls.seen h.last).log;
   log = record { spelled = h.written; valid = h.valid };
   says =
-      kept_from_safe (reverse (calls.seen h.last).log) [] [] [] (run_twice (calls.seen h.last).hosts (calls.seen h.last).log h.run) (λ x there. absurd (none_there x there))
-      (turned audit.Kept (calls.seen h.last).log [] [] (kept_alone (calls.seen h.last).log h.messages)) (none_closes (reverse (reverse (calls.seen h.last).log)));
+      kept_from_safe (reverse (calls.seen h.last).log) [] [] []
+      (run_twice (calls.seen h.last).hosts (calls.seen h.last).log h.run) (λ x there. absurd (none_there x there))
+      (turned audit.Kept (calls.seen h.last).log [] [] (kept_alone (calls.seen h.last).log h.messages))
+      (none_closes (reverse (reverse (calls.seen h.last).log))) (λ x f beside. absurd beside);
 }
 kept_from calls opening (World events) octets h = record {
   book = world_book h.last.kept;
@@ -93,13 +135,17 @@ kept_from calls opening (World events) octets h = record {
   says =
       says_logged h.last.kept h.fated
       (kept_from_safe (reverse h.last.kept.book.crossings) h.last.kept.book.lives h.last.kept.handed (map logged_fate h.last.kept.fates)
-      (run_twice (calls.seen h.last.carrier).hosts h.last.kept.book.crossings (world_run calls.seen h.last h.promise.lawful)) (made_twice h.last.kept.book.crossings h.last.kept.book.lives h.promise.formed)
+      (run_twice (calls.seen h.last.carrier).hosts h.last.kept.book.crossings (world_run calls.seen h.last h.promise.lawful))
+      (made_twice h.last.kept.book.crossings h.last.kept.book.lives h.promise.formed)
       (turned audit.Kept h.last.kept.book.crossings h.last.kept.book.lives h.last.kept.handed (kept_promise (calls.seen h.last.carrier).hosts h.last.kept.book h.last.kept.handed (parted calls.seen h.last h.promise).0))
       (closes_logged (reverse (reverse h.last.kept.book.crossings)) h.last.kept.book.lives h.last.kept.handed h.last.kept.fates
-      (subst (λ (cs : List Crossing). ClosesWhole cs h.last.kept.book.lives h.last.kept.handed h.last.kept.fates) (sym (reverse-reverse h.last.kept.book.crossings)) h.whole)));
+      (subst (λ (cs : List Crossing). ClosesWhole cs h.last.kept.book.lives h.last.kept.handed h.last.kept.fates) (sym (reverse-reverse h.last.kept.book.crossings)) h.whole))
+      (suited_logged (reverse (reverse h.last.kept.book.crossings)) h.last.kept.book.lives h.last.kept.fates
+      (subst (λ (cs : List Crossing). AreSuited cs h.last.kept.book.lives h.last.kept.fates) (sym (reverse-reverse h.last.kept.book.crossings)) h.suited)));
 }
 
-kept_over : (carrier : CarrierKind) (t : TopologyFields) (events : Asked) (octets : List ℕ) → LogsOver carrier t events (Some []) (Some octets) → IsKeptLog octets
+kept_over : (carrier : CarrierKind) (t : TopologyFields) (events : Asked) (octets : List ℕ)
+    → LogsOver carrier t events (Some []) (Some octets) → IsKeptLog octets
 kept_over kind.Plain t events octets h = kept_from plain_calls (plain_of t) events octets h
 kept_over kind.Subnet t events octets h = kept_from subnet_calls (subnet_of t) events octets h
 
@@ -108,10 +154,12 @@ logged_kept octets h = kept_over h.network.carrier h.network h.events octets h.l
 
 -- ---- and so its audit says
 
-said_kept : (octets : List ℕ) (v : Verdict) (before after : Option (List ℕ)) → AuditsLog octets v before after → IsKeptLog octets → v ≡ kept
+said_kept : (octets : List ℕ) (v : Verdict) (before after : Option (List ℕ)) → AuditsLog octets v before after
+    → IsKeptLog octets → v ≡ kept
 said_kept octets v before after a k =
     let same : a.book ≡ k.book = book_once octets a.book k.book a.log k.log in
-    only_kept v k.book.crossings (lives_of k.book) k.book.handed (fates_of k.book) k.says (subst (λ (b : Book). SaysOf v b) same a.says)
+    only_kept v k.book.crossings (lives_of k.book) k.book.handed (fates_of k.book) k.says
+    (subst (λ (b : Book). SaysOf v b) same a.says)
 
 -- where octets are a log, its lines are not bad
 never_bad : (octets : List ℕ) (f : AuditFault) → IsAuditFault octets f → IsKeptLog octets → SaysKept octets (Err f)
@@ -121,14 +169,18 @@ never_bad octets (fault.BadLog number) h k = absurd (h.none k.book k.log)
 never_bad octets fault.CannotRead h k = absurd h
 
 -- whatever the reader's octets are, as far as they are known
-pub ends_kept : (known : Option (List ℕ)) (said : Verdict) (before after : Option (List ℕ)) → IfSome known (λ octets. AuditsLog octets said before after)
+pub ends_kept : (known : Option (List ℕ)) (said : Verdict) (before after : Option (List ℕ))
+    → IfSome known (λ octets. AuditsLog octets said before after)
     → IfSome known (λ octets. Logged (Some []) (Some octets) → SaysKept octets (Ok said))
 ends_kept None said before after audits = tt
-ends_kept (Some octets) said before after audits = λ logged. said_kept octets said before after audits (logged_kept octets logged)
+ends_kept (Some octets) said before after audits =
+    λ logged. said_kept octets said before after audits (logged_kept octets logged)
 
-pub ends_faulty : (known : Option (List ℕ)) (r : Result Verdict AuditFault) (f : AuditFault) → r ≡ Err f → IfSome known (λ octets. MatchResult r (λ said. IsSomeLog octets) (IsAuditFault octets))
+pub ends_faulty : (known : Option (List ℕ)) (r : Result Verdict AuditFault) (f : AuditFault) → r ≡ Err f
+    → IfSome known (λ octets. MatchResult r (λ said. IsSomeLog octets) (IsAuditFault octets))
     → IfSome known (λ octets. Logged (Some []) (Some octets) → SaysKept octets r)
 ends_faulty None r f is read = tt
 ends_faulty (Some octets) r f is read = λ logged.
     (let fault : IsAuditFault octets f = subst (λ (q : Result Verdict AuditFault). MatchResult q (λ said. IsSomeLog octets) (IsAuditFault octets)) is read in
-    subst (λ (q : Result Verdict AuditFault). SaysKept octets q) (sym is) (never_bad octets f fault (logged_kept octets logged)))
+    subst (λ (q : Result Verdict AuditFault). SaysKept octets q) (sym is)
+    (never_bad octets f fault (logged_kept octets logged)))

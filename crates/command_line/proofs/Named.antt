@@ -1,14 +1,16 @@
 -- What an audit names is broken: a part that holds of all holds of the first of them.
-use Rattle.std.proofs.Common.{◌≡◌, ℕ, zero, suc, ◌+◌, ◌-◌, Bool, List, [], ◌∷◌, ◌++◌, length, reverse, take, drop, Option, Some, None, MatchOption, arith, inl, inr, refl, ap, sym, subst, ◌∙◌}
+use Rattle.std.proofs.Common.{◌≡◌, ℕ, zero, suc, ◌+◌, ◌-◌, Bool, List, [], ◌∷◌, ◌++◌, length, reverse, take, drop}
+use Rattle.std.proofs.Common.{Option, Some, None, MatchOption, arith, inl, inr, refl, ap, sym, subst, ◌∙◌}
 use Rattle.std.specs.List.{Contains}
 use Rattle.std.specs.Prelude.{◌↔◌}
 use Rattle.std.proofs.lemmas.List.{append_assoc, take-append-drop}
 use Rattle.std.proofs.lemmas.List.Elements.{Contains-append_left}
 use Rattle.book_judge.specs.Broken.{IfFormed, first_closed}
+use Rattle.book_judge.specs.Fates.{AreSuited, UnsuitedAt}
 use Rattle.book_judge.specs.Lives.{UnmadeAt}
 use Rattle.promise.specs.Formed.{FormedBook}
 use Rattle.book_judge.specs.Runs.{IsSomeRun, StraysAt}
-use Rattle.book_judge.proofs.lemmas.{closed_front, made_front, run_front}
+use Rattle.book_judge.proofs.lemmas.{closed_front, made_front, run_front, suited_front}
 use Rattle.interface.proofs.lemmas.{safe_messages}
 use Rattle.interface.specs.Messages.{SafeMessages}
 use Rattle.interface.specs.declared.crossing.Answer.TheVariants as answer
@@ -27,22 +29,31 @@ use Rattle.command_line.specs.Audits.{Judged, kept}
 use Rattle.command_line.specs.declared.verdict.Verdict.{Verdict}
 
 contains_front : {X : Type 0} (n : ℕ) (xs : List X) (x : X) → Contains (take n xs) x → Contains xs x
-contains_front {X} n xs x c = subst (λ (zs : List X). Contains zs x) (take-append-drop n xs) (Contains-append_left (take n xs) (drop n xs) x c)
+contains_front {X} n xs x c =
+    subst (λ (zs : List X). Contains zs x) (take-append-drop n xs) (Contains-append_left (take n xs) (drop n xs) x c)
 
 -- ---- messages
 
-longer : (log : List Crossing) (n : ℕ) (newer older : List Crossing) → drop n log ≡ newer ++ older → log ≡ (take n log ++ newer) ++ older
-longer log n newer older e = sym (take-append-drop n log) ∙ ap (λ (cs : List Crossing). take n log ++ cs) e ∙ sym (append_assoc (take n log) newer older)
+longer : (log : List Crossing) (n : ℕ) (newer older : List Crossing) → drop n log ≡ newer ++ older
+    → log ≡ (take n log ++ newer) ++ older
+longer log n newer older e =
+    sym (take-append-drop n log) ∙ ap (λ (cs : List Crossing). take n log ++ cs) e
+    ∙ sym (append_assoc (take n log) newer older)
 
 safe_rest : (log : List Crossing) (n : ℕ) → SafeMessages log → SafeMessages (drop n log)
 safe_rest log n s = record {
-  answered = λ newer older f e. s.answered (take n log ++ newer) older f (longer log n newer (crossing.Answer answer.Rfnm f ∷ older) e);
-  once = λ newer since before m e went. s.once (take n log ++ newer) since before m (longer log n newer (since ++ crossing.Out m ∷ before) e) went;
+  answered =
+      λ newer older f e. s.answered (take n log ++ newer) older f
+      (longer log n newer (crossing.Answer answer.Rfnm f ∷ older) e);
+  once =
+      λ newer since before m e went. s.once (take n log ++ newer) since before m
+      (longer log n newer (since ++ crossing.Out m ∷ before) e) went;
   none_before = λ newer older f e went. s.none_before (take n log ++ newer) older f (longer log n newer older e) went;
 }
 
 -- a run of the mailboxes keeps messages
-pub run_kept : (log : List Crossing) (stray : Option ℕ) → stray ≡ None → MatchOption stray (IsSomeRun (reverse log)) (λ place. StraysAt log place) → SafeMessages (reverse log)
+pub run_kept : (log : List Crossing) (stray : Option ℕ) → stray ≡ None
+    → MatchOption stray (IsSomeRun (reverse log)) (λ place. StraysAt log place) → SafeMessages (reverse log)
 run_kept log None e run = safe_messages run.0 (reverse log) run.1
 run_kept log (Some place) e strays = absurd (cc)
 
@@ -52,7 +63,8 @@ two_front : (lives : List Life) (n : ℕ) (x y : Life) → AreTwo (take n lives)
 two_front lives n x y (front, between, rest, e) =
     (front, between, rest ++ drop n lives, sym (take-append-drop n lives) ∙ ap (λ (zs : List Life). zs ++ drop n lives) e ∙ append_assoc (front ++ x ∷ between) (y ∷ rest) (drop n lives))
 
-partners_front : (log : List Crossing) (lives : List Life) (n : ℕ) → SafePartners log lives → SafePartners log (take n lives)
+partners_front : (log : List Crossing) (lives : List Life) (n : ℕ) → SafePartners log lives
+    → SafePartners log (take n lives)
 partners_front log lives n s = record {
   own_once = λ x y two e. s.own_once x y (two_front lives n x y two) e;
   partner_once = λ x y name two e f. s.partner_once x y name (two_front lives n x y two) e f;
@@ -61,7 +73,8 @@ partners_front log lives n s = record {
   both_ways = λ x y c d e. s.both_ways x y (contains_front n lives x c) (contains_front n lives y d) e;
 }
 
-handed_front : (n : ℕ) (lives : List Life) (handed : List (List Bool)) → AreHanded lives handed → AreHanded (take n lives) (take n handed)
+handed_front : (n : ℕ) (lives : List Life) (handed : List (List Bool)) → AreHanded lives handed
+    → AreHanded (take n lives) (take n handed)
 handed_front zero lives handed h = refl
 handed_front (suc n) [] handed h = ap (λ (hs : List (List Bool)). take (suc n) hs) h
 handed_front (suc n) (x ∷ lives) [] h = absurd h
@@ -69,7 +82,8 @@ handed_front (suc n) (x ∷ lives) (b ∷ handed) (f, rest) = (f, handed_front n
 
 -- ---- what shows where it holds
 
-shown_formed : (found : Finding) (log : List Crossing) (lives : List Life) (handed : List (List Bool)) → IsWellFormed log lives handed → ShowsMalformed found log lives handed → ⊥
+shown_formed : (found : Finding) (log : List Crossing) (lives : List Life) (handed : List (List Bool))
+    → IsWellFormed log lives handed → ShowsMalformed found log lives handed → ⊥
 shown_formed (finding.Crossing place) log lives handed w h = h
 shown_formed (finding.Life place) log lives handed w h =
     let same : length lives ≡ length handed = w.counts in
@@ -78,7 +92,8 @@ shown_formed (finding.Life place) log lives handed w h =
       | inr at ↦ at.1.1 (λ x c. w.stamped x (contains_front (place + 1) lives x c))
     ]
 shown_formed (finding.Lives place other) log lives handed w h = h
-shown_formed (finding.List place) log lives handed w h = let same : length lives ≡ length handed = w.counts in let few = h.0 in omega (arith, same, few)
+shown_formed (finding.List place) log lives handed w h =
+    let same : length lives ≡ length handed = w.counts in let few = h.0 in omega (arith, same, few)
 
 shown_messages : (found : Finding) (log : List Crossing) → SafeMessages log → ShowsCrossing found log → ⊥
 shown_messages (finding.Crossing place) log s h = h.1 (safe_rest log (length log - (place + 1)) s)
@@ -86,13 +101,15 @@ shown_messages (finding.Life place) log s h = h
 shown_messages (finding.Lives place other) log s h = h
 shown_messages (finding.List place) log s h = h
 
-shown_partners : (found : Finding) (log : List Crossing) (lives : List Life) → SafePartners log lives → ShowsTwo found log lives → ⊥
+shown_partners : (found : Finding) (log : List Crossing) (lives : List Life) → SafePartners log lives
+    → ShowsTwo found log lives → ⊥
 shown_partners (finding.Crossing place) log lives s h = h
 shown_partners (finding.Life place) log lives s h = h
 shown_partners (finding.Lives first second) log lives s h = h.0.1 (partners_front log lives (second + 1) s)
 shown_partners (finding.List place) log lives s h = h
 
-shown_streams : (found : Finding) (log : List Crossing) (lives : List Life) (handed : List (List Bool)) → AreFed log lives lives handed → ShowsLife (first_fed log lives handed) found log lives → ⊥
+shown_streams : (found : Finding) (log : List Crossing) (lives : List Life) (handed : List (List Bool))
+    → AreFed log lives lives handed → ShowsLife (first_fed log lives handed) found log lives → ⊥
 shown_streams found log lives handed f h =
     h.first.1
     (record {
@@ -100,7 +117,8 @@ shown_streams found log lives handed f h =
       sent = handed_front (h.place + 1) lives handed f.sent;
     })
 
-shown_grants : (found : Finding) (log : List Crossing) (lives : List Life) → SafeGrants log lives → ShowsLife (first_granted log lives) found log lives → ⊥
+shown_grants : (found : Finding) (log : List Crossing) (lives : List Life) → SafeGrants log lives
+    → ShowsLife (first_granted log lives) found log lives → ⊥
 shown_grants found log lives g h =
     h.first.1
     (record {
@@ -108,64 +126,92 @@ shown_grants found log lives g h =
       sent = λ x y c d m. g.sent x y (contains_front (h.place + 1) lives x c) d m;
     })
 
-shown_closes : (found : Finding) (log : List Crossing) (lives : List Life) (handed : List (List Bool)) (fates : List Fate) → ClosesWhole log lives handed fates → ShowsLife (first_closed log lives handed fates) found log lives → ⊥
+shown_closes : (found : Finding) (log : List Crossing) (lives : List Life) (handed : List (List Bool)) (fates : List Fate)
+    → ClosesWhole log lives handed fates → ShowsLife (first_closed log lives handed fates) found log lives → ⊥
 shown_closes found log lives handed fates w h = h.first.1 (closed_front log lives handed fates (h.place + 1) w)
 
 -- ---- named or not
 
 -- a part isn't named exactly where it holds
-unnamed : {F A : Type 0} (r : Option F) (ShowsAt : F → Type 0) → ((found : F) → A → ShowsAt found → ⊥) → MatchOption r A ShowsAt → (r ≡ None) ↔ A
+unnamed : {F A : Type 0} (r : Option F) (ShowsAt : F → Type 0) → ((found : F) → A → ShowsAt found → ⊥)
+    → MatchOption r A ShowsAt → (r ≡ None) ↔ A
 unnamed None ShowsAt never m = (λ e. m, λ a. refl)
 unnamed (Some found) ShowsAt never m = (λ e. absurd (cc), λ a. absurd (never found a m))
 
 -- where a book is well-formed, the parts that are about its requests are looked at
-looked_at : (malformed found : Option Finding) (A : Type 0) (ShowsAt : Finding → Type 0) → malformed ≡ None → IfFormed malformed found A ShowsAt → MatchOption found A ShowsAt
+looked_at : (malformed found : Option Finding) (A : Type 0) (ShowsAt : Finding → Type 0) → malformed ≡ None
+    → IfFormed malformed found A ShowsAt → MatchOption found A ShowsAt
 looked_at None found A ShowsAt e h = h
 looked_at (Some at) found A ShowsAt e h = absurd (cc)
 
-pub run_named : (v : Verdict) (log : List Crossing) (lives : List Life) (handed : List (List Bool)) (fates : List Fate) → Judged v log lives handed fates → (v.stray ≡ None) ↔ IsSomeRun (reverse log)
-run_named v log lives handed fates j = unnamed v.stray (λ place. StraysAt log place) (λ place run at. at.1 (run_front log (place + 1) run)) j.run
+pub run_named : (v : Verdict) (log : List Crossing) (lives : List Life) (handed : List (List Bool)) (fates : List Fate)
+    → Judged v log lives handed fates → (v.stray ≡ None) ↔ IsSomeRun (reverse log)
+run_named v log lives handed fates j =
+    unnamed v.stray (λ place. StraysAt log place) (λ place run at. at.1 (run_front log (place + 1) run)) j.run
 
-pub lives_named : (v : Verdict) (log : List Crossing) (lives : List Life) (handed : List (List Bool)) (fates : List Fate) → Judged v log lives handed fates → (v.unmade ≡ None) ↔ FormedBook (reverse log) lives
+pub lives_named : (v : Verdict) (log : List Crossing) (lives : List Life) (handed : List (List Bool)) (fates : List Fate)
+    → Judged v log lives handed fates → (v.unmade ≡ None) ↔ FormedBook (reverse log) lives
 lives_named v log lives handed fates j =
-    unnamed v.unmade (λ place. UnmadeAt (reverse log) lives place) (λ place made at. at.1 (made_front (reverse log) lives (place + 1) made)) j.made
+    unnamed v.unmade (λ place. UnmadeAt (reverse log) lives place)
+    (λ place made at. at.1 (made_front (reverse log) lives (place + 1) made)) j.made
 
-pub formed_named : (v : Verdict) (log : List Crossing) (lives : List Life) (handed : List (List Bool)) (fates : List Fate) → Judged v log lives handed fates → (v.malformed ≡ None) ↔ IsWellFormed (reverse log) lives handed
+pub formed_named : (v : Verdict) (log : List Crossing) (lives : List Life) (handed : List (List Bool)) (fates : List Fate)
+    → Judged v log lives handed fates → (v.malformed ≡ None) ↔ IsWellFormed (reverse log) lives handed
 formed_named v log lives handed fates j =
-    unnamed v.malformed (λ found. ShowsMalformed found (reverse log) lives handed) (λ found w h. shown_formed found (reverse log) lives handed w h) j.formed
+    unnamed v.malformed (λ found. ShowsMalformed found (reverse log) lives handed)
+    (λ found w h. shown_formed found (reverse log) lives handed w h) j.formed
 
-pub messages_named : (v : Verdict) (log : List Crossing) (lives : List Life) (handed : List (List Bool)) (fates : List Fate) → Judged v log lives handed fates → (v.messages ≡ None) ↔ SafeMessages (reverse log)
-messages_named v log lives handed fates j = unnamed v.messages (λ found. ShowsCrossing found (reverse log)) (λ found s h. shown_messages found (reverse log) s h) j.messages
+pub messages_named : (v : Verdict) (log : List Crossing) (lives : List Life) (handed : List (List Bool)) (fates : List Fate)
+    → Judged v log lives handed fates → (v.messages ≡ None) ↔ SafeMessages (reverse log)
+messages_named v log lives handed fates j =
+    unnamed v.messages (λ found. ShowsCrossing found (reverse log))
+    (λ found s h. shown_messages found (reverse log) s h) j.messages
 
-pub partners_named : (v : Verdict) (log : List Crossing) (lives : List Life) (handed : List (List Bool)) (fates : List Fate) → Judged v log lives handed fates → v.malformed ≡ None
+pub partners_named : (v : Verdict) (log : List Crossing) (lives : List Life) (handed : List (List Bool)) (fates : List Fate)
+    → Judged v log lives handed fates → v.malformed ≡ None
     → (v.partners ≡ None) ↔ SafePartners (reverse log) lives
 partners_named v log lives handed fates j e =
-    unnamed v.partners (λ found. ShowsTwo found (reverse log) lives) (λ found s h. shown_partners found (reverse log) lives s h)
+    unnamed v.partners (λ found. ShowsTwo found (reverse log) lives)
+    (λ found s h. shown_partners found (reverse log) lives s h)
     (looked_at v.malformed v.partners (SafePartners (reverse log) lives) (λ found. ShowsTwo found (reverse log) lives) e j.partners)
 
-pub streams_named : (v : Verdict) (log : List Crossing) (lives : List Life) (handed : List (List Bool)) (fates : List Fate) → Judged v log lives handed fates → v.malformed ≡ None
+pub streams_named : (v : Verdict) (log : List Crossing) (lives : List Life) (handed : List (List Bool)) (fates : List Fate)
+    → Judged v log lives handed fates → v.malformed ≡ None
     → (v.streams ≡ None) ↔ AreFed (reverse log) lives lives handed
 streams_named v log lives handed fates j e =
-    unnamed v.streams (λ found. ShowsLife (first_fed (reverse log) lives handed) found (reverse log) lives) (λ found f h. shown_streams found (reverse log) lives handed f h)
+    unnamed v.streams (λ found. ShowsLife (first_fed (reverse log) lives handed) found (reverse log) lives)
+    (λ found f h. shown_streams found (reverse log) lives handed f h)
     (looked_at v.malformed v.streams (AreFed (reverse log) lives lives handed) (λ found. ShowsLife (first_fed (reverse log) lives handed) found (reverse log) lives) e j.streams)
 
-pub grants_named : (v : Verdict) (log : List Crossing) (lives : List Life) (handed : List (List Bool)) (fates : List Fate) → Judged v log lives handed fates → v.malformed ≡ None
+pub grants_named : (v : Verdict) (log : List Crossing) (lives : List Life) (handed : List (List Bool)) (fates : List Fate)
+    → Judged v log lives handed fates → v.malformed ≡ None
     → (v.grants ≡ None) ↔ SafeGrants (reverse log) lives
 grants_named v log lives handed fates j e =
-    unnamed v.grants (λ found. ShowsLife (first_granted (reverse log) lives) found (reverse log) lives) (λ found g h. shown_grants found (reverse log) lives g h)
+    unnamed v.grants (λ found. ShowsLife (first_granted (reverse log) lives) found (reverse log) lives)
+    (λ found g h. shown_grants found (reverse log) lives g h)
     (looked_at v.malformed v.grants (SafeGrants (reverse log) lives) (λ found. ShowsLife (first_granted (reverse log) lives) found (reverse log) lives) e j.grants)
 
-pub closes_named : (v : Verdict) (log : List Crossing) (lives : List Life) (handed : List (List Bool)) (fates : List Fate) → Judged v log lives handed fates → v.malformed ≡ None
+pub closes_named : (v : Verdict) (log : List Crossing) (lives : List Life) (handed : List (List Bool)) (fates : List Fate)
+    → Judged v log lives handed fates → v.malformed ≡ None
     → (v.closes ≡ None) ↔ ClosesWhole (reverse log) lives handed fates
 closes_named v log lives handed fates j e =
-    unnamed v.closes (λ found. ShowsLife (first_closed (reverse log) lives handed fates) found (reverse log) lives) (λ found w h. shown_closes found (reverse log) lives handed fates w h)
+    unnamed v.closes (λ found. ShowsLife (first_closed (reverse log) lives handed fates) found (reverse log) lives)
+    (λ found w h. shown_closes found (reverse log) lives handed fates w h)
     (looked_at v.malformed v.closes (ClosesWhole (reverse log) lives handed fates) (λ found. ShowsLife (first_closed (reverse log) lives handed fates) found (reverse log) lives) e j.closes)
+
+pub fates_named : (v : Verdict) (log : List Crossing) (lives : List Life) (handed : List (List Bool)) (fates : List Fate)
+    → Judged v log lives handed fates → (v.unsuited ≡ None) ↔ AreSuited (reverse log) lives fates
+fates_named v log lives handed fates j =
+    unnamed v.unsuited (λ place. UnsuitedAt (reverse log) lives fates place)
+    (λ place suited at. at.1 (suited_front (reverse log) lives fates (place + 1) suited)) j.suited
 
 -- ---- nothing is named exactly of a safe book
 
-pub kept_from_safe : (log : List Crossing) (lives : List Life) (handed : List (List Bool)) (fates : List Fate) → IsSomeRun (reverse log) → FormedBook (reverse log) lives → Says audit.Kept (reverse log) lives handed
-    → ClosesWhole (reverse log) lives handed fates → Judged kept log lives handed fates
-kept_from_safe log lives handed fates run made safe closes = record {
+pub kept_from_safe : (log : List Crossing) (lives : List Life) (handed : List (List Bool)) (fates : List Fate)
+    → IsSomeRun (reverse log) → FormedBook (reverse log) lives → Says audit.Kept (reverse log) lives handed
+    → ClosesWhole (reverse log) lives handed fates → AreSuited (reverse log) lives fates → Judged kept log lives
+    handed fates
+kept_from_safe log lives handed fates run made safe closes suited = record {
   run = run;
   made = made;
   formed = safe.0;
@@ -174,27 +220,32 @@ kept_from_safe log lives handed fates run made safe closes = record {
   streams = record { source = safe.1.streams.source; sent = safe.1.streams.sent };
   grants = safe.1.grants;
   closes = closes;
+  suited = suited;
 }
 
 some_one : (a b : Name) → Some a ≡ Some b → a ≡ b
 some_one a b e = cc
 
 -- the partners are safe, so a receiving life matches one sender
-streams_safe : (log : List Crossing) (lives : List Life) (handed : List (List Bool)) → SafePartners log lives → AreFed log lives lives handed → SafeStreams log lives handed
+streams_safe : (log : List Crossing) (lives : List Life) (handed : List (List Bool)) → SafePartners log lives
+    → AreFed log lives lives handed → SafeStreams log lives handed
 streams_safe log lives handed s f = record {
   one = λ r x y c two m n. s.own_once x y two (some_one (own_request x) (own_request y) (sym m.asked ∙ n.asked));
   source = f.source;
   sent = f.sent;
 }
 
-pub safe_from_kept : (log : List Crossing) (lives : List Life) (handed : List (List Bool)) (fates : List Fate) → Judged kept log lives handed fates → Says audit.Kept (reverse log) lives handed
+pub safe_from_kept : (log : List Crossing) (lives : List Life) (handed : List (List Bool)) (fates : List Fate)
+    → Judged kept log lives handed fates → Says audit.Kept (reverse log) lives handed
 safe_from_kept log lives handed fates j = (
   j.formed,
-  record { messages = j.messages; partners = j.partners; streams = streams_safe (reverse log) lives handed j.partners j.streams; grants = j.grants },
+  record
+      { messages = j.messages; partners = j.partners; streams = streams_safe (reverse log) lives handed j.partners j.streams; grants = j.grants },
 )
 
 -- and of such a log nothing else is said
-pub only_kept : (v : Verdict) (log : List Crossing) (lives : List Life) (handed : List (List Bool)) (fates : List Fate) → Judged kept log lives handed fates → Judged v log lives handed fates → v ≡ kept
+pub only_kept : (v : Verdict) (log : List Crossing) (lives : List Life) (handed : List (List Bool)) (fates : List Fate)
+    → Judged kept log lives handed fates → Judged v log lives handed fates → v ≡ kept
 only_kept v log lives handed fates k j =
     let malformed : v.malformed ≡ None = (formed_named v log lives handed fates j).1 k.formed in
     let stray : v.stray ≡ None = (run_named v log lives handed fates j).1 k.run in
@@ -204,4 +255,5 @@ only_kept v log lives handed fates k j =
     let streams : v.streams ≡ None = (streams_named v log lives handed fates j malformed).1 k.streams in
     let grants : v.grants ≡ None = (grants_named v log lives handed fates j malformed).1 k.grants in
     let closes : v.closes ≡ None = (closes_named v log lives handed fates j malformed).1 k.closes in
-    (λ i. record { stray = stray i; unmade = unmade i; malformed = malformed i; messages = messages i; partners = partners i; streams = streams i; grants = grants i; closes = closes i })
+    let unsuited : v.unsuited ≡ None = (fates_named v log lives handed fates j).1 k.suited in
+    (λ i. record { stray = stray i; unmade = unmade i; malformed = malformed i; messages = messages i; partners = partners i; streams = streams i; grants = grants i; closes = closes i; unsuited = unsuited i })

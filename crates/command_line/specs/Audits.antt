@@ -4,6 +4,7 @@ use Rattle.std.specs.Fmt.{decimal}
 use Rattle.std.specs.Io.KnownBytes.{Appends}
 use Rattle.book_log.specs.Log.{Book, IsBadLine, IsLog, fates_of, lives_of}
 use Rattle.book_judge.specs.Broken.{IfFormed, first_closed}
+use Rattle.book_judge.specs.Fates.{AreSuited, UnsuitedAt}
 use Rattle.book_judge.specs.Lives.{UnmadeAt}
 use Rattle.promise.specs.Formed.{FormedBook}
 use Rattle.book_judge.specs.Runs.{IsSomeRun, StraysAt}
@@ -42,16 +43,18 @@ pub record Judged (v : Verdict) (crossings : List Crossing) (lives : List Life) 
   pub grants : IfFormed v.malformed v.grants (SafeGrants (reverse crossings) lives) (λ found. ShowsLife (first_granted (reverse crossings) lives) found (reverse crossings) lives)
   -- what lives that their partners ended have lost
   pub closes : IfFormed v.malformed v.closes (ClosesWhole (reverse crossings) lives handed fates) (λ found. ShowsLife (first_closed (reverse crossings) lives handed fates) found (reverse crossings) lives)
+  -- each life has a fate that what crossed leaves it
+  pub suited : MatchOption v.unsuited (AreSuited (reverse crossings) lives fates) (λ place. UnsuitedAt (reverse crossings) lives fates place)
 
 abbrev pub SaysOf : Verdict → Book → Type 0
 SaysOf v b = Judged v b.crossings (lives_of b) b.handed (fates_of b)
 
 -- nothing is wrong with it
 abbrev pub kept : Verdict
-kept = record { stray = None; unmade = None; malformed = None; messages = None; partners = None; streams = None; grants = None; closes = None }
+kept = record { stray = None; unmade = None; malformed = None; messages = None; partners = None; streams = None; grants = None; closes = None; unsuited = None }
 
 abbrev pub is_kept : Verdict → Bool
-is_kept v = is_none v.stray && is_none v.unmade && is_none v.malformed && is_none v.messages && is_none v.partners && is_none v.streams && is_none v.grants && is_none v.closes
+is_kept v = is_none v.stray && is_none v.unmade && is_none v.malformed && is_none v.messages && is_none v.partners && is_none v.streams && is_none v.grants && is_none v.closes && is_none v.unsuited
 
 -- ---- what is written
 
@@ -91,6 +94,11 @@ abbrev pub closes_text : Book → Option Finding → List ℕ
 closes_text b None = []
 closes_text b (Some found) = codes "broken closes " ++ (lines_text (lines_of b found) ++ codes "\n")
 
+-- of lives whose fates aren't such that what crossed leaves them, the line of the first
+abbrev pub fates_text : Book → Option ℕ → List ℕ
+fates_text b None = []
+fates_text b (Some place) = codes "broken fates line " ++ (decimal (length b.crossings + place + 1) ++ codes "\n")
+
 abbrev pub parts_text : Book → Verdict → List ℕ
 parts_text b v =
     broken_text b part.Messages v.messages ++ (broken_text b part.Partners v.partners ++ (broken_text b part.Streams v.streams ++ (broken_text b part.Grants v.grants ++ closes_text b v.closes)))
@@ -101,7 +109,7 @@ kept_text v = if is_kept v then codes "kept\n" else []
 
 -- a line for each thing that is wrong, in this order
 abbrev pub verdict_text : Book → Verdict → List ℕ
-verdict_text b v = run_text v.stray ++ (lives_text b v.unmade ++ (malformed_text b v.malformed ++ (parts_text b v ++ kept_text v)))
+verdict_text b v = run_text v.stray ++ (lives_text b v.unmade ++ (malformed_text b v.malformed ++ (parts_text b v ++ (fates_text b v.unsuited ++ kept_text v))))
 
 -- octets are a log, and what is said of its book is written
 pub record AuditsLog (octets : List ℕ) (said : Verdict) (before after : Option (List ℕ)) : Type 0 where

@@ -2,6 +2,7 @@
 use Rattle.std.specs.Prelude.{ℕ, List, [], reverse, Option}
 use Rattle.std.specs.Io.KnownBytes.{Appends}
 use Rattle.book_log.specs.Log.{Book, IsBook, log_text, logged_book}
+use Rattle.book_judge.specs.Fates.{AreSuited}
 use Rattle.headline.specs.Promise.{KeepsPromise}
 use Rattle.interface.specs.Mailboxes.{IsRun}
 use Rattle.interface.specs.Messages.{SafeMessages}
@@ -46,8 +47,8 @@ pub record LogsRaw {C : Type 0} (calls : Calls C) (opening : C) (events : List R
   pub written : Appends before after (log_text (raw_book (calls.seen last).log))
   pub valid : IsBook (raw_book (calls.seen last).log)
 
--- events are replayed in a world over such a carrier, whose book keeps its promise, in which an orderly close loses nothing, and only the log of this book is
--- written. It says all values as they are
+-- events are replayed in a world over such a carrier, whose book keeps its promise, in which an orderly close loses nothing and each life has a
+-- fate that what crossed leaves it, and only the log of this book is written. It says all values as they are
 pub record LogsWorld {C : Type 0} (calls : Calls C) (opening : C) (events : List WorldEvent) (before after : Option (List ℕ)) : Type 0 where
   pub last : WorldState C
   pub shows : List lines.Shown
@@ -55,6 +56,7 @@ pub record LogsWorld {C : Type 0} (calls : Calls C) (opening : C) (events : List
   pub promise : KeepsPromise calls.seen last
   pub fated : AreFated last.kept.book.lives last.kept.fates
   pub whole : ClosesWhole last.kept.book.crossings last.kept.book.lives last.kept.handed last.kept.fates
+  pub suited : AreSuited last.kept.book.crossings last.kept.book.lives last.kept.fates
   pub written : Appends before after (log_text (world_book last.kept))
   pub valid : IsBook (world_book last.kept)
 

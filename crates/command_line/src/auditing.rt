@@ -15,8 +15,8 @@ use std::alloc::{AllocError, AllocFailed, Global};
 use std::fmt;
 use thiserror::Error;
 
-/// Why a log was not audited. Where several apply, the first one of this list is given. Only `OutOfMemory` may come in place of
-/// any other.
+/// Why a log was not audited. Where several apply, the first one of this list is given. Only `OutOfMemory` may come
+/// in place of any other.
 #[derive(Clone, Copy, Debug, Drop, PartialEq, Eq, Error)]
 pub enum AuditFault {
     /// The log could not be read.
@@ -105,16 +105,19 @@ pub fn audit_status(found: Verdict) -> u8
     if found.is_kept() { 0 } else { 4 }
 }
 
-/// Reads a log, and writes `kept` where its book is safe, what crossed is a run of the mailboxes, its lives are made of the messages that
-/// crossed, and those that their partners ended lost nothing. Else it writes all that isn't so, a line each, in this order:
+/// Reads a log, and writes `kept` where its book is safe, what crossed is a run of the mailboxes, its lives are
+/// made of the messages that crossed, those that their partners ended lost nothing, and each has a fate that what
+/// crossed leaves it. Else it writes all that isn't so, a line each, in this order:
 ///
 /// - `broken run line N`, the line of the first crossing that finds no box as it needs it;
 /// - `broken lives line N`, the line of the first life whose messages aren't the first on its link;
 /// - `malformed line N` where line `N` shows that it is no book;
-/// - `broken PART line N` or `broken PART lines M N` for each part of a safe book that fails, with the lines of the crossing or of the one or
-///   two lives that show it: messages, and of a book that isn't malformed partners, streams and grants;
-/// - `broken closes lines N M`, of such a book, with the lines of the first life that its partner ended and that lost anything, and of the one that
-///   it matches.
+/// - `broken PART line N` or `broken PART lines M N` for each part of a safe book that fails, with the lines of the
+///   crossing or of the one or two lives that show it: messages, and of a book that isn't malformed partners, streams
+///   and grants;
+/// - `broken closes lines N M`, of such a book, with the lines of the first life that its partner ended and that
+///   lost anything, and of the one that it matches;
+/// - `broken fates line N`, the line of the first life whose fate isn't one that what crossed leaves it.
 ///
 /// It answers what it found.
 ///

@@ -7,14 +7,14 @@ ghost use Rattle.interface.specs.Messages.{SafeMessages};
 ghost use Rattle.net_sim.specs.Findings.{ShowsCrossing};
 
 use crate::verdict::Verdict;
-use book_judge::{Broken, broken_at, broken_message, stray_at, unmade_at};
+use book_judge::{Broken, broken_at, broken_message, stray_at, unmade_at, unsuited_at};
 use interface::Crossing;
 use net_sim::{BitLog, Finding, Life};
 use promise::Fate;
 use std::alloc::{AllocError, Global};
 
-/// Returns the first crossing with which messages are broken; `None` where they are kept. A run of the mailboxes keeps them, so
-/// they are looked at where what crossed strays from one.
+/// Returns the first crossing with which messages are broken; `None` where they are kept. A run of the mailboxes
+/// keeps them, so they are looked at where what crossed strays from one.
 ///
 /// Errors: `AllocError`.
 fn unkept(
@@ -31,9 +31,11 @@ fn unkept(
     }
 }
 
-/// Returns what is wrong with a log, its lives with their fates, and what was handed over in them. The log is the oldest first.
+/// Returns what is wrong with a log, its lives with their fates, and what was handed over in them. The log is the
+/// oldest first.
 ///
-/// Partners, streams, grants and closes are about the requests that stamps name, so nothing is said of them in a malformed book.
+/// Partners, streams, grants and closes are about the requests that stamps name, so nothing is said of them in a
+/// malformed book.
 ///
 /// Errors: `AllocError`.
 pub(crate) fn judge(
@@ -55,6 +57,7 @@ pub(crate) fn judge(
         grants,
         closes,
     } = broken_at(alloc, log, lives, handed, fates)?;
+    let unsuited = unsuited_at(alloc, log, lives, fates)?;
     Ok(Verdict {
         stray,
         unmade,
@@ -64,5 +67,6 @@ pub(crate) fn judge(
         streams,
         grants,
         closes,
+        unsuited,
     })
 }

@@ -3,6 +3,7 @@
 
 ghost use Rattle.std.specs.Prelude.{◌≡◌, ◌==◌, ◌↔◌, ◌++◌, ◌+◌, ℕ, Bool, true, false, List, [], ◌∷◌, reverse};
 ghost use Rattle.std.specs.Prelude.{Ok, Err, Option, Some, None, codes};
+ghost use Rattle.book_judge.specs.Fates.{AreSuited};
 ghost use Rattle.book_judge.specs.Runs.{IsSomeRun};
 ghost use Rattle.book_log.specs.Log as log;
 ghost use Rattle.host_services.specs.declared.report.Reported.{Reported};
@@ -165,6 +166,7 @@ pub fn named_parts()
     ensures streams { (b : log.Book) (v : Verdict) → SaysOf v b → v.malformed ≡ None → (v.streams ≡ None) ↔ AreFed (reverse b.crossings) (log.lives_of b) (log.lives_of b) b.handed }
     ensures grants { (b : log.Book) (v : Verdict) → SaysOf v b → v.malformed ≡ None → (v.grants ≡ None) ↔ SafeGrants (reverse b.crossings) (log.lives_of b) }
     ensures closes { (b : log.Book) (v : Verdict) → SaysOf v b → v.malformed ≡ None → (v.closes ≡ None) ↔ ClosesWhole (reverse b.crossings) (log.lives_of b) b.handed (log.fates_of b) }
+    ensures fates { (b : log.Book) (v : Verdict) → SaysOf v b → (v.unsuited ≡ None) ↔ AreSuited (reverse b.crossings) (log.lives_of b) (log.fates_of b) }
 
     // where nothing is named the book is safe, and nothing is named of a safe book
     ensures safe { (b : log.Book) → SaysOf kept b → Says audit.Kept (reverse b.crossings) (log.lives_of b) b.handed }

@@ -3,7 +3,7 @@
 ghost use Rattle.std.specs.Prelude.{◌≡◌, OnOk, false, true};
 ghost use Rattle.replay.specs.Failing.{TellsFailure};
 ghost use Rattle.std.specs.Io.KnownBytes.{Appends};
-ghost use Rattle.command_line.specs.Audits.{broken_text, closes_text, is_kept, kept_text, lines_of, lives_text, malformed_text, parts_text, run_text, verdict_text};
+ghost use Rattle.command_line.specs.Audits.{broken_text, closes_text, fates_text, is_kept, kept_text, lines_of, lives_text, malformed_text, parts_text, run_text, verdict_text};
 
 use book_log::LoggedBook;
 use net_sim::{Finding, Part};
@@ -13,7 +13,8 @@ use std::fmt;
 /// What is said of a log: what is wrong, and where it shows. What isn't named holds.
 #[derive(Clone, Copy, Debug, PartialEq, Eq)]
 pub struct Verdict {
-    /// The place of the first crossing with which what crossed is no run of the mailboxes, counted from 0; `None` where it is one.
+    /// The place of the first crossing with which what crossed is no run of the mailboxes, counted from 0; `None`
+    /// where it is one.
     pub stray: Option<usize>,
     /// The place of the first life that isn't made of the messages that crossed, counted from 0; `None` where all are.
     pub unmade: Option<usize>,
@@ -29,6 +30,9 @@ pub struct Verdict {
     pub grants: Option<Finding>,
     /// Where it shows that closes are broken; `None` where they are kept, or the book is malformed.
     pub closes: Option<Finding>,
+    /// The place of the first life whose fate isn't one that what crossed leaves it, counted from 0; `None` where
+    /// each has such a fate.
+    pub unsuited: Option<usize>,
 }
 
 impl Verdict {
@@ -44,6 +48,7 @@ impl Verdict {
             && self.streams.is_none()
             && self.grants.is_none()
             && self.closes.is_none()
+            && self.unsuited.is_none()
     }
 }
 
@@ -105,6 +110,7 @@ pub(crate) fn write_found<W: Output>(
     write_lives(book, found.unmade, writer)?;
     write_malformed(book, found.malformed, writer)?;
     write_parts(book, found, writer)?;
+    write_fates(book, found.unsuited, writer)?;
     write_kept(found, writer)?;
     writer.flush()
 }
@@ -206,6 +212,27 @@ fn write_closes<W: Output>(
         Some(found) => {
             let lines = lines_of(book, found);
             writeln!(writer, "broken closes {lines}")
+        }
+        None => Ok(()),
+    }
+}
+
+/// Writes the line of a life whose fate isn't one that what crossed leaves it, if there is one.
+///
+/// Errors: `WriteFailed`.
+fn write_fates<W: Output>(
+    book: &LoggedBook,
+    unsuited: Option<usize>,
+    writer: &mut W,
+) -> Result<(), WriteFailed>
+    requires whole { W.failed writer.old ≡ false }
+    ensures written { OnOk result (Appends (W.contents writer.old) (W.contents writer.new) (fates_text book.now unsuited)) }
+    ensures failed { TellsFailure result (W.failed writer.new) }
+{
+    match unsuited {
+        Some(place) => {
+            let line = book.crossings().len() as u128 + place as u128 + 1;
+            writeln!(writer, "broken fates line {line}")
         }
         None => Ok(()),
     }

@@ -1,8 +1,8 @@
-//! The promise of the book of a world: the headline.
+//! The promise of the book of a world, on the call by which a program gets the book.
 //!
-//! [`book_of`] ensures it by five clauses. All that a reader must believe of `promise`, `fated`, `whole` and `over` is in the crate
-//! `promise`, with the mailboxes and the reading of texts, to which its first page leads, and one file of `world_keeps_streams`
-//! (`Over`). What `lawful` says beside them needs the rules of a host's program.
+//! [`book_of`] ensures it. All that a reader must believe of it is in the crate `promise`, with the mailboxes and the
+//! reading of texts, to which its first page leads. What the clause `lawful` says beside it needs the rules of a
+//! host's program.
 //!
 //! Each part is proved in a crate of its own: the messages in `net_sim`, the partners in `world_keeps_pairing`, what is about only one host
 //! in `world_keeps_lives`, what is about two programs together in `world_keeps_streams`, and initial connections in

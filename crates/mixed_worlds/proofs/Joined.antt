@@ -23,7 +23,7 @@ use Rattle.net_sim.specs.Reports.{IsBacked, IsSo, ServerIsDone, UserIsDone, told
 use Rattle.net_sim.specs.Story.{Asked, Crossed, Moment}
 use Rattle.net_sim.specs.Timeline.{crossings_of}
 use Rattle.net_sim.specs.Told.{host_in, kept_by, kept_in, notices_by}
-use Rattle.world_keeps_connections.specs.Laws.Lives.{LivesMatches}
+use Rattle.world_keeps_connections.specs.Laws.{Lives}
 use Rattle.world_keeps_connections.specs.Users.{AreOpposite}
 use Rattle.masked_worlds.specs.Mixed.{IsMixed, masked_moments}
 use Rattle.masked_worlds.proofs.lemmas.{Orders, masked_crossings, masked_timeline, moments_run}
@@ -97,7 +97,7 @@ mixed_log strange (x ∷ moments) = by x (strange (host_in x)) (mixed_log strang
 
 -- ---- the four ends
 
-module _ (orders : Orders) (matches : LivesMatches) (strange : Host → Bool) (hosts : List Host)
+module _ (orders : Orders) (connections : Lives) (strange : Host → Bool) (hosts : List Host)
     (moments : List Moment) (mixed : IsMixed strange hosts moments) (reports : List Reported)
     (backed : All (IsBacked (mixed_kept strange moments).book.notices) reports) where
   in_masked : (x : Life) → Contains (lives_among strange (mixed_kept strange moments).book.lives) x
@@ -118,7 +118,7 @@ module _ (orders : Orders) (matches : LivesMatches) (strange : Host → Bool) (h
       let here : Contains (kept_in (masked_moments strange hosts moments)).book.lives x = in_masked x one.there in
       let there : Contains (kept_in (masked_moments strange hosts moments)).book.lives y = in_masked y two.there in
       let m : Match (crossings_of (masked_moments strange hosts moments)) x y =
-      matches hosts (masked_moments strange hosts moments) mixed.addresses
+      connections.matches hosts (masked_moments strange hosts moments) mixed.addresses
       (moments_run orders strange hosts moments mixed) (masked_timeline orders strange hosts moments mixed) x y here
       there one.live two.live o (ap is_receive_socket one.socket ∙ even) (ap is_send_socket two.socket ∙ odd) in
       let plain : (strange x.host ≡ false) × (strange x.peer ≡ false) = plain_life orders strange hosts moments mixed

@@ -2,8 +2,10 @@
 //!
 //! [`masked_worlds`] shows that the hosts with programs have among themselves a timeline of such hosts only. So
 //! they keep the whole promise there ([`law::among`], `promise`), and the lives among them in the real book are the
-//! lives of that timeline (`lives`). Toward a stranger less is promised: of each socket there is one end with one
-//! peer, and no host takes more than it granted, whatever a stranger sends ([`law::toward`]).
+//! lives of that timeline (`lives`). The real book is safe among them, over all that crossed (`safe`). Toward a
+//! stranger less is promised, whatever that sends ([`law::toward`]): of each socket there is one end with one peer; the
+//! requests of a life crossed, and its bits are those of messages on one link; and no host takes more than it granted.
+//! That anything arrives nobody promises.
 //!
 //! There is no code: the laws are the contracts of functions that do nothing.
 #![tactic(auto)]

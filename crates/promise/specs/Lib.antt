@@ -7,3 +7,5 @@ pub mod Notices
 pub mod Connections
 pub mod Fates
 pub mod Ends
+pub mod Over
+pub mod Arrived

@@ -11,19 +11,22 @@ use Rattle.ncp_control.specs.Numbers.{is_receive_socket}
 use Rattle.ncp_control.specs.declared.command.Command.{Command}
 use Rattle.ncp_control.specs.declared.command.Command.TheVariants as command
 use Rattle.host_pairs.specs.Control.{Legal, Order, orders_of}
+use Rattle.host_pairs.specs.declared.entry.Entry.{Entry}
 use Rattle.promise.specs.Formed.{CrossedAt, FormedBook, IsFormed, coming, data_in, first_data, flow_of, going, joined, link_of, named_at, named_in, own_named, partner_named, request, texts_for, texts_on}
 use Rattle.promise.specs.Safe.{before, receives}
-use Rattle.net_sim.specs.Story.{Moment}
+use Rattle.net_sim.specs.Story.{Moment, program}
 use Rattle.net_sim.specs.Timeline.{crossings_of}
 use Rattle.promise.specs.declared.life.Life.{Life}
 use Rattle.world_keeps_lives.specs.Firsts.{AreAfter, AreApart, FirstBook, IsBefore, IsSentIn, begun, flow_on, texts_before}
-use Rattle.world_keeps_lives.proofs.FirstEnds.{Lawful, lives_in, str_foreign}
+use Rattle.world_keeps_lives.specs.Lives.{HasOpenEnd}
+use Rattle.world_keeps_lives.proofs.FirstBooks.{good}
+use Rattle.world_keeps_lives.proofs.FirstEnds.{AtEnd, Good, Lawful, Together, Tracked, at_end, is_end, lives_in, str_foreign}
 use Rattle.world_keeps_lives.proofs.FirstLists.{From, from_map, life_of, mapped}
 use Rattle.world_keeps_lives.proofs.Linked as by_link
 use Rattle.world_keeps_lives.proofs.Linked.{HasRequests, IsFirst, Linked, LinkedBook, all_data}
 use Rattle.world_keeps_lives.proofs.Named.{Names, named_there, names_of}
 use Rattle.world_keeps_lives.proofs.OneRequest.{NamesOnce, in_once, out_once}
-use Rattle.world_keeps_lives.proofs.Requests.{Each, each_of, each_weaker}
+use Rattle.world_keeps_lives.proofs.Requests.{Each, each_in, each_of, each_weaker}
 
 -- ---- data
 
@@ -145,3 +148,22 @@ module _ (hosts : List Host) (ms : List Moment) (l : Lawful hosts ms) where
             sent_one place m s.0 (b.first s.0 s.1).asked s.2,
           ));
     }
+
+  -- ---- the end of a life that isn't over has its link
+
+  module _ (given : Together hosts) where
+    abbrev IsLinked : Life → Type 0
+    IsLinked x = x.ended ≡ false → (o : HasOpenEnd (program x.host ms) x) → link_of (crossings_of ms) x ≡ o.end.link
+
+    pub end_link : (x : Life) → Contains (lives_in ms) x → x.ended ≡ false → (o : HasOpenEnd (program x.host ms) x)
+        → link_of (crossings_of ms) x ≡ o.end.link
+    end_link x there =
+        let g : Good ms = good hosts given ms l in
+        let f : From life_of g.links x =
+        from_map life_of g.links x (subst (λ (ls : List Life). Contains ls x) (sym g.all) there) in
+        let t : Tracked ms f.one = each_in (Tracked ms) g.links f.one f.there g.tracked in
+        subst IsLinked f.is (λ goes o.
+        (let i : AtEnd ms f.one =
+        at_end hosts given ms l f.one (subst (λ (z : Life). Contains (lives_in ms) z) (sym f.is) there) t goes in
+        let same : i.end ≡ o.end = is_end hosts given ms l f.one.life o i.end i.there i.mine i.own in
+        link_is f.one t.first.asked ∙ sym i.link ∙ ap (λ (e : Entry). e.link) same))

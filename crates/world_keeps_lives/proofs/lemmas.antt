@@ -7,7 +7,7 @@ pub use Rattle.world_keeps_lives.proofs.Drained.{drained, world_drained}
 pub use Rattle.world_keeps_lives.proofs.Ends.{IsRefusing, found_changed, none_changed, refusing_found}
 pub use Rattle.world_keeps_lives.proofs.FirstBooks.{WasAt, linked_book, linked_end, was_or_begins}
 pub use Rattle.world_keeps_lives.proofs.FirstEnds.{HasOwner, Together}
-pub use Rattle.world_keeps_lives.proofs.Formed.{first_book, formed_book}
+pub use Rattle.world_keeps_lives.proofs.Formed.{end_link, first_book, formed_book}
 pub use Rattle.world_keeps_lives.proofs.Goes.{IsOfTwo, Waits, all_go, unasked_by}
 pub use Rattle.world_keeps_lives.proofs.Hosts.{HasEnds, Holds, answer_holds, message_holds}
 pub use Rattle.world_keeps_lives.proofs.Hosts.{offer_holds, same_turned, waits}
@@ -21,7 +21,7 @@ pub use Rattle.world_keeps_lives.proofs.Owners.{owner_found}
 pub use Rattle.world_keeps_lives.proofs.RequestCalls.{Done, Ends, answer_keeps, message_keeps}
 pub use Rattle.world_keeps_lives.proofs.RequestCalls.{offer_keeps, request_told}
 pub use Rattle.world_keeps_lives.proofs.Requests.{Begins, Each, Goes, Hears, IsOther, MayTell, Quiet}
-pub use Rattle.world_keeps_lives.proofs.Requests.{Rules, each_of, each_weaker, found_in}
+pub use Rattle.world_keeps_lives.proofs.Requests.{Rules, each_in, each_of, each_weaker, found_in}
 pub use Rattle.world_keeps_lives.proofs.Rows.{none_there}
 pub use Rattle.world_keeps_lives.proofs.Steps.{called_less, closed_less, good_queued, heard_less, sent_less}
 pub use Rattle.world_keeps_lives.proofs.Takes.{G, good_data, good_taken}

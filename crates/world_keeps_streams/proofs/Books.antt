@@ -25,6 +25,7 @@ pub mod Later
 pub mod Lies
 pub mod One
 pub mod Parted
+pub mod Placed
 pub mod Run
 pub mod Settled
 pub mod Silent

@@ -1,4 +1,5 @@
 -- The fate of each life is what its crossings and contacts leave.
+pub mod Arrived
 pub mod Comes
 pub mod Courses
 pub mod Every

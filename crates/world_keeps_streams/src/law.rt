@@ -14,6 +14,7 @@ ghost use Rattle.net_sim.specs.Told.{kept_in, notices_by};
 ghost use Rattle.net_sim.specs.World.{WorldState};
 ghost use Rattle.net_sim.specs.Worked.{eight};
 ghost use Rattle.net_sim.specs.WorkedMoments.{all_given, bits_sent, connected, eight_sent, sent_moments};
+ghost use Rattle.promise.specs.Arrived.{ArrivedBook};
 ghost use Rattle.promise.specs.Fates.{ClosesWhole};
 ghost use Rattle.promise.specs.Formed.{FormedBook, texts_for};
 ghost use Rattle.world_keeps_lives.specs.Firsts.{FirstBook};
@@ -27,10 +28,10 @@ ghost use Rattle.world_keeps_streams.specs.Rests.{Agree, AllAgree, AllCalm, AllR
 ghost use Rattle.world_keeps_streams.specs.Settled.{EachAgrees, HasSettled};
 ghost use Rattle.world_keeps_lives.specs.WorkedFormed.{gave};
 ghost use Rattle.world_keeps_streams.specs.Closes.{AllClose, AllHanded, EachHanded, IsClosedByPartner, TookHanded, WasClosedBy, WasClosedByPartner};
-ghost use Rattle.world_keeps_streams.specs.Over.{AreOver};
+ghost use Rattle.promise.specs.Over.{AreOver};
 ghost use Rattle.world_keeps_streams.specs.Laws.Programs.{ProgramsCalls, ProgramsAllowed, ProgramsReceiver, ProgramsSender};
 ghost use Rattle.world_keeps_streams.specs.Laws.Streams.{StreamsFront, StreamsWhole, StreamsTaken, StreamsSent};
-ghost use Rattle.world_keeps_streams.specs.Laws.Lives.{LivesSource, LivesCloses, LivesFirsts, LivesFormed, LivesArrives, LivesAgree, LivesAnswered, LivesRests, LivesSent, LivesEnded, LivesOver, LivesWhole};
+ghost use Rattle.world_keeps_streams.specs.Laws.Lives.{LivesSource, LivesCloses, LivesFirsts, LivesFormed, LivesArrived, LivesArrives, LivesAgree, LivesAnswered, LivesRests, LivesSent, LivesEnded, LivesOver, LivesWhole};
 ghost use Rattle.world_keeps_streams.specs.Laws.Worlds.{WorldsSource, WorldsSent};
 ghost use Rattle.world_keeps_streams.specs.Laws.WorkedCalls.{WorkedCallsFirst};
 
@@ -84,6 +85,10 @@ pub fn lives()
     // so an orderly close loses nothing: such a life took all that its partner sent, and all that was handed over there
     ensures whole { LivesWhole }
 
+    // an open receiving life counts each message that came in on its link after both of its requests. So data of
+    // which a host got RFNM are among the bits of the life that its own matches, if that is open
+    ensures arrived { LivesArrived }
+
     // each life is over as its fate says, by what its fate says: by both CLS of its sockets, as its connections are dropped, or as its host stops. So one whose fate
     // says that it was closed is over by both CLS, and one that is over by both has such a fate
     ensures over { LivesOver }
@@ -124,6 +129,7 @@ pub fn worlds<C: Carrier>()
     ensures came { (hosts : List Host) (w : WorldState C) → (lawful : IsLawful C.calls.seen hosts w) → AllCame lawful.whole.moments }
     ensures handed { (hosts : List Host) (w : WorldState C) → (lawful : IsLawful C.calls.seen hosts w) → AllHanded lawful.whole.moments }
     ensures whole { (hosts : List Host) (w : WorldState C) → IsLawful C.calls.seen hosts w → ClosesWhole w.kept.book.crossings w.kept.book.lives w.kept.handed w.kept.fates }
+    ensures arrived { (hosts : List Host) (w : WorldState C) → IsLawful C.calls.seen hosts w → ArrivedBook w.kept.book.contacts w.kept.book.crossings w.kept.book.lives w.kept.fates }
     ensures over { (hosts : List Host) (w : WorldState C) → IsLawful C.calls.seen hosts w → AreOver w.kept.book.contacts w.kept.book.crossings w.kept.book.lives w.kept.fates }
     ensures formed { (hosts : List Host) (w : WorldState C) → IsLawful C.calls.seen hosts w → FormedBook w.kept.book.crossings w.kept.book.lives }
     ensures firsts { (hosts : List Host) (w : WorldState C) → IsLawful C.calls.seen hosts w → FirstBook w.kept.book.crossings w.kept.book.lives }

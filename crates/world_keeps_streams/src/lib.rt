@@ -7,4 +7,5 @@
 pub mod calm;
 pub mod law;
 pub mod worked;
+pub mod worked_arrived;
 pub mod worked_ends;

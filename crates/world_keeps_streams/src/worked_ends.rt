@@ -10,7 +10,7 @@ ghost use Rattle.promise.specs.declared.life.Fate.TheVariants as fate;
 ghost use Rattle.net_sim.specs.WorkedMoments.{all_given, rts, str};
 ghost use Rattle.net_sim.specs.WorkedResets.{rrp, rst};
 ghost use Rattle.sockets.specs.Worked.{CLS, RTS, STR, control, first, second, third};
-ghost use Rattle.world_keeps_streams.specs.Over.{IsOverBy};
+ghost use Rattle.promise.specs.Over.{IsOverBy};
 ghost use Rattle.world_keeps_streams.specs.WorkedEnds.{answered_by, answerer, after_rst, asked_later, asker, begun_then, between, both_asked, contact, is_early, late_answer, later_life, other_cls, own_cls, partner_cls, second_life, second_time, stage_by, told};
 
 /// Requests: a life begins with the second of them.

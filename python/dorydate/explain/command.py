@@ -4,7 +4,9 @@ For each line of the script it prints the line's number in the file, what the pr
 also what a message says, and what an event does inside the network. For a refused event it names the cause. For an input
 that the program refuses it says what is probably wrong. With --chart it writes a sequence chart in Mermaid's language
 instead, which GitHub and GitLab draw; with --short it draws one arrow for each message, and leaves out RFNMs and most of
-what users learn. With --page it writes a page for a browser (docs/workbench.md). Its exit status is that of the program.
+what users learn. With --book it says what the promise says of one life or one message: LINE is its line in the log, and
+without it they are listed; FILE is a log, or an input. With --page it writes a page for a browser (docs/workbench.md).
+Its exit status is that of the program.
 
 Which script line printed what the program itself says, in a run with refused events between those of the script (dorydate.marks).
 
@@ -15,23 +17,26 @@ independent model in Python, which replays the script beside the program and has
 from __future__ import annotations
 
 import os
+import re
 import sys
 from collections.abc import Callable, Sequence
 
 from dorydate.expect import command as expect
-from dorydate.explain import faults, page
+from dorydate.explain import book, faults, page
 from dorydate.explain.charts import chart, short_chart
 from dorydate.given import Input
 from dorydate.explain.logs import explained
 from dorydate.explain.runs import CannotTell, Replayed, kept_program, lives, replay
 from dorydate.explain.telling import said_beside, telling
 from dorydate.explain.topology import is_raw, names_of, network_by
+from dorydate.model.log import BadLog, read_log
 from dorydate.program import MOST_OCTETS, UNLIMITED, NoProgram, Program
 from dorydate.where import ROOT, here
 
 MOST_OF_LOG = 268_435_456  # octets of a log that is read here
 USAGE = here("""usage: ./explain [--chart [--short] | --page [OTHER-FILE]] < FILE
 usage: ./explain --audit < LOG
+usage: ./explain --book [LINE] < FILE
 usage: ./explain --expect FILE..""")
 
 
@@ -55,6 +60,26 @@ def audited(words: Sequence[str]) -> int:
     if words == ["--audit"]:
         print(explained(octets, ran.output.strip() or ran.said.strip().removeprefix("arpasim: ")))
     return ran.status
+
+
+def of_book(words: Sequence[str]) -> int:
+    """Prints what the promise says of a life or a message of a log, or of an input's log. The status."""
+    octets = standard_input(MOST_OF_LOG)
+    if b"%" in octets.split(b"\n"):
+        ran = (kept_program() or Program(f"{ROOT}/arpasim")).run(octets, "--log", seconds=UNLIMITED)
+        print(ran.said, end="", file=sys.stderr, flush=True)
+        if ran.status:
+            return ran.status
+        octets = ran.output.encode("latin-1")
+    try:
+        print(*book.said_of(read_log(octets), int(words[0]) if words else None), sep="\n")
+    except BadLog as line:
+        print(f"bad log line {line}", file=sys.stderr)
+        return 2
+    except book.NoSuchLine as line:
+        print(f"explain: line {line} of the log is no life and no message", file=sys.stderr)
+        return 1
+    return 0
 
 
 def drawn(given: Input, found: Replayed, draw: Callable[..., str]) -> str:
@@ -100,6 +125,8 @@ def asked(options: list[str]) -> int:
         return page.main(standard_input(), options)
     if options in (["--log"], ["--audit"]):
         return audited(options)
+    if options[:1] == ["--book"] and len(options) < 3 and all(re.fullmatch("[0-9]{1,19}", it) for it in options[1:]):
+        return of_book(options[1:])
     if options[:1] == ["--expect"]:
         return expect(options[1:])
     if sorted(options) in ([], ["--chart"], ["--chart", "--short"]):

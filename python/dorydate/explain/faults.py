@@ -14,7 +14,7 @@ from dorydate.explain.topologies import wrong_with_topology
 from dorydate.sentences.table import TABLE, filled, pattern, sentences
 
 FAULTS = sentences("faults")
-LINES, EVENTS, WORDS = ([(of, pattern(it), name) for of, it, name in TABLE[group]] for group in ("rules of lines", "rules of events", "rules of words"))
+RULES = {group: [(of, pattern(it), name) for of, it, name in TABLE[f"rules of {group}"]] for group in ("lines", "events", "words")}
 SWAPPED = pattern(TABLE["swapped"])  # a host whose two numbers change places
 
 RAW_EVENTS = {name: form.split(" ") for name, form in sentences("forms").items()}
@@ -44,13 +44,13 @@ def diagnose(given: Input, said: str, raw: bool) -> str:
 def wrong_with_line(octets: bytes, raw: bool = True) -> str | None:
     """Why a script line is not an event, None where no cause is found."""
     line = octets.decode("latin-1")
-    if why := by_rules(LINES, line, raw):
+    if why := by_rules(RULES["lines"], line, raw):
         return why
     words = line.split(" ", 2 if line.startswith("type ") and not raw else -1)
     form = (RAW_EVENTS if raw else WORLD_EVENTS).get(words[0])
     if form is None:
         return unknown_event(words[0], raw)
-    if why := by_rules(EVENTS, line, raw):
+    if why := by_rules(RULES["events"], line, raw):
         return why
     if len(words) != 1 + len(form):
         return filled(FAULTS["words"], word=words[0], needed=len(form), form=" ".join([words[0], *form]), found=len(words) - 1)
@@ -66,7 +66,8 @@ def by_rules(rules: list[tuple[str, re.Pattern[str], str]], line: str, raw: bool
         if of in ("", "raw" if raw else "programs") and (found := it.search(line)):
             holes = found.groupdict()
             octets = holes.get("text", "").encode().hex().upper()
-            return filled(FAULTS[name], holes, spelled=f"{4 * len(octets)} {octets or '-'}", upper=holes.get("digits", "").upper())
+            spelled = f"{4 * len(octets)} {octets or '-'}"
+            return filled(FAULTS[name], holes, spelled=spelled, upper=holes.get("digits", "").upper())
     return None
 
 
@@ -87,7 +88,7 @@ def meant(word: str, known: list[str]) -> str:
 
 def wrong_with_word(name: str, word: str) -> str | None:
     """Why a word cannot be in its place, None where it can. OCTETS are judged with their number of bits."""
-    for names, it, fault in WORDS:
+    for names, it, fault in RULES["words"]:
         if name in names.split(" ") and not it.search(word):
             return filled(FAULTS[fault], word=word)
     if name in RANGES:

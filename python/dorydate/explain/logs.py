@@ -10,12 +10,13 @@ import difflib
 import re
 from collections.abc import Callable
 
-from dorydate.model import firsts
+from dorydate.model import fates, firsts
 from dorydate.model.audit import Log, is_passed, last_out, match, own_request, partner_request
 from dorydate.model.bits import Bits
 from dorydate.model.bits import octets as octets_of
 from dorydate.model.book import Life
 from dorydate.model.crossings import Answered, Passed, Turned
+from dorydate.model.fates import Over
 from dorydate.model.firsts import Data
 from dorydate.model.names import Flow, spell_flow, spell_host
 from dorydate.model.log import BadLog, Book, read_log
@@ -215,6 +216,7 @@ def why_so(book: Book, verdict: str) -> str:
         "broken streams": why_streams,
         "broken grants": why_grants,
         "broken closes": why_closes,
+        "broken fates": why_fates,
     }
     if verdict == "kept":
         return f"The book is safe: {counted(len(book.log), 'crossing')}, a run of the mailboxes, and {counted(len(book.lives), 'life', 'lives')} made of them."
@@ -370,6 +372,43 @@ def why_closes(book: Book, numbers: list[int]) -> str:
     if life.messages != sender.messages:
         return f"{start}, but it counts {counted(life.messages, 'message')}, and line {numbers[-1]} {sender.messages}."
     return f"{start}, and all that was handed over in line {list_line}, but {lost(life.bits, handed, 'what was handed over')}"
+
+
+def why_fates(book: Book, numbers: list[int]) -> str:
+    """Why what crossed doesn't leave a life its fate, and which it leaves."""
+    life, *_ = life_at(book, numbers[0])
+    over = fates.over(book.log, life)
+    if over is None:
+        return "No cause was found."
+    sooner = ", or `reset` if its user contacted the peer before that."
+    left = {"reset": "`reset`.", "stopped": f"`stopped`{sooner}", "closed": f"`closed`, `ended`{sooner}"}
+    may_be = left[over.by] if over.by else "`open`, or `reset` if its user has contacted the peer."
+    return f"It says `{life.fate}`, but {why_over(life, over)} It would be {may_be}"
+
+
+def why_over(life: Life, over: Over) -> str:
+    """By what a life is over, with the line; or what its own fate would need, where it continues."""
+    host, peer = spell_host(life.host), spell_host(life.peer)
+    if over.last is None:
+        is_stop = life.fate == "stopped"
+        stop = f"its host, {host}, hasn't stopped since it began."
+        return stop if is_stop else f"it hasn't ended: {lacking_cls(life, over)}."
+    line = f"line {over.last.place + 1}"
+    if over.by == "stopped":
+        return f"its host, {host}, stopped in {line}."
+    if over.by == "closed":
+        return f"both CLS of sockets {life.socket} and {life.foreign} have crossed, the second in {line}."
+    word, way = over.last.what.split()
+    rst = f"RST {'was taken' if way == 'in' else 'went out'}"
+    what = {"fails": "a message of its host failed", "rst": rst, "rrp": "an RRP went out that wasn't owed"}
+    return f"{host} dropped its connections with {peer} in {line}, where {what[word]}."
+
+
+def lacking_cls(life: Life, over: Over) -> str:
+    """Which CLS of a life that continues hasn't crossed, in words."""
+    own = f"CLS of socket {life.socket} with socket {life.foreign} went out"
+    partner = f"CLS of socket {life.foreign} with socket {life.socket} came in"
+    return " and ".join(f"no {what}" for what, way in ((own, "out"), (partner, "in")) if way not in over.closed)
 
 
 def lost(taken: Bits, given: Bits, what: str) -> str:

@@ -18,7 +18,9 @@ from dorydate.where import here
 TOPOLOGIES = sentences("topologies")
 EVENTS = "|".join([*sentences("forms"), *sentences("forms of programs")])
 MARKERS = [(pattern(it.replace("{events}", EVENTS)), *names) for it, *names in TABLE["rules of markers"]]
-RANGES = {name: {key: (least, most) for of, key, least, most in TABLE["tables"] if of == name} for name in ("imp", "line")}
+RANGES: dict[str, dict[str, tuple[int, int]]] = {"imp": {}, "line": {}}
+for of, key, least, most in TABLE["tables"]:
+    RANGES[of][key] = least, most
 KEYS = ("carrier", "raw", *RANGES)
 Table = Mapping[str, Any]
 
@@ -140,11 +142,14 @@ def wrong_with_table(name: str, place: int, table: Table, lines: Sequence[str]) 
     """Why a table has not exactly its keys with whole numbers in their ranges; None where it has."""
     ranges = RANGES[name]
     if displaced := [it for it in table if it in ("raw", "carrier")]:
-        return Fault(line_in_table(lines, name, place, displaced[0]), filled(TOPOLOGIES["displaced"], key=displaced[0], table=name))
+        why = filled(TOPOLOGIES["displaced"], key=displaced[0], table=name)
+        return Fault(line_in_table(lines, name, place, displaced[0]), why)
     if {*table} != {*ranges}:
         found = ", ".join(table) or "none"
-        return Fault(line_of_table(lines, name, place), filled(TOPOLOGIES["keys"], table=name, keys=" and ".join(ranges), found=found))
+        why = filled(TOPOLOGIES["keys"], table=name, keys=" and ".join(ranges), found=found)
+        return Fault(line_of_table(lines, name, place), why)
     for key, (least, most) in ranges.items():
         if type(table[key]) is not int or not least <= table[key] <= most:
-            return Fault(line_in_table(lines, name, place, key), filled(TOPOLOGIES["number"], key=key, table=name, least=least, most=most))
+            why = filled(TOPOLOGIES["number"], key=key, table=name, least=least, most=most)
+            return Fault(line_in_table(lines, name, place, key), why)
     return None

@@ -1,7 +1,7 @@
 """What waits, where it is, and for what: by the rules that the workbench reads too (sentences/table.mjs).
 
-It reads the state of the independent model. After a calm from which nothing more comes it says what waits in the network that has come
-to rest: it lets a copy of the model have some more rounds, to see that nothing comes of them.
+It reads the state of the independent model. After a calm from which nothing more comes it says what waits in the
+network that has come to rest: it lets a copy of the model have some more rounds, to see that nothing comes of them.
 """
 
 from __future__ import annotations
@@ -58,13 +58,14 @@ class Wait:
 
 def by_rules(thing: str, facts: Mapping[str, bool], holes: Holes) -> Wait:
     """What waits: the first of the thing's rules whose facts all hold says it."""
-    what, where, reason, bad, cures = next(row[2:] for row in RULES if row[0] == thing and all(facts[it] for it in row[1].split(", ") if it))
-    lines = filled(cures, holes).split(";")
-    return Wait(filled(WHAT[what], holes), filled(AT[where], holes), filled(FOR[reason], holes), bad == "bad", tuple(it for it in lines if it))
+    rules = (further for name, needed, *further in RULES if name == thing and all(facts[it] for it in needed.split(", ") if it))
+    what, where, reason, bad, cures = next(rules)
+    lines = tuple(it for it in filled(cures, holes).split(";") if it)
+    return Wait(filled(WHAT[what], holes), filled(AT[where], holes), filled(FOR[reason], holes), bad == "bad", lines)
 
 
 def at_rest(place: Place, carrier: Carrier) -> list[str]:
-    """Sentences about what waits where nothing more comes of some rounds; none where nothing waits or something moves."""
+    """What waits where nothing more comes of some rounds, in a sentence; none where nothing waits or something moves."""
     if isinstance(carrier, Subnet) and len(carrier.imps) > MOST_IMPS:
         return []
     found = [str(it) for it in waiting(place, carrier)]
@@ -100,7 +101,8 @@ def waiting(place: Place, carrier: Carrier) -> Iterator[Wait]:
 
 def message(flow: Flow, number: int | None = None) -> Holes:
     """The holes that name a message."""
-    return {"flow": spell_flow(flow), "message": f"{'the message' if number is None else f'message {number}'} of flow {spell_flow(flow)}"}
+    which = "the message" if number is None else f"message {number}"
+    return {"flow": spell_flow(flow), "message": f"{which} of flow {spell_flow(flow)}"}
 
 
 # ---- messages
@@ -121,7 +123,8 @@ class InSubnet:
             for flow in in_order(imp.outstanding):
                 yield self.outstanding(imp, flow)
             for it in (answer for host in imp.hosts for answer in host.answers):
-                yield by_rules("answer", {}, {**message(it.flow), "imp": imp_in_words(number), "host": host_in_words(it.flow.source)})
+                holes = {"imp": imp_in_words(number), "host": host_in_words(it.flow.source)}
+                yield by_rules("answer", {}, {**message(it.flow), **holes})
 
     def unseen(self, number: int) -> Iterator[Wait]:
         """That an IMP is down whose neighbours don't know."""
@@ -144,7 +147,7 @@ class InSubnet:
         return self.held(max(copies, key=self.score), holes)
 
     def score(self, held: Held) -> float:
-        """How far a copy is: an answer before the message before a question, and of each kind the one nearest to its end."""
+        """How far a copy is: an answer before the message before a question, of each kind the one nearest to its end."""
         at, to = self.subnet.imps[self.imp_of(held)], target(held)
         distance = 0 if at is None or at.number == to else at.vector()[to - 1]
         return FURTHEST[KINDS[held.kind]] + FURTHEST[PLACES[held.place[0]]] - distance
@@ -172,12 +175,13 @@ class InSubnet:
         }
         pieces = len(host.slots[held.flow][1]) if held.place[0] == "slot" and host is not None else 0
         names = {"imp": number, "from": number, "far": far, "next": far, "to": target(held)}
-        numbers = {"number": number, "line": line, "channel": channel, "pieces": pieces, "slots": SLOTS, "places": STORE}
+        numbers = {"number": number, "line": line, "channel": channel, "pieces": pieces}
         words = {"own": spell_host(own), "host": host_in_words(own), "packet": PACKETS[KINDS[held.kind]]}
-        return by_rules(PLACES[held.place[0]], facts, {**holes, **numbers, **words, **{name: imp_in_words(it) for name, it in names.items()}})
+        imps = {name: imp_in_words(it) for name, it in names.items()}
+        return by_rules(PLACES[held.place[0]], facts, {**holes, **numbers, **words, **imps, "slots": SLOTS, "places": STORE})
 
     def on_line(self, held: Held) -> tuple[int | None, int, Packet | None]:
-        """The line on which something is or has to go, its channel there, and the packet; no line where it is in a store, a slot or a queue."""
+        """The line of something in a channel or a frame, its channel there, and the packet; no line for all else."""
         match held.place:
             case ["channel", imp, port, channel]:
                 return self.subnet.lines_of(imp)[port], channel, self.subnet.up(imp).ports[port].line.busy[channel]
@@ -195,7 +199,8 @@ def target(held: Held) -> int:
 
 def wants_slot(imp: Imp, held: Held, packet: Packet | None) -> bool:
     """Whether a packet needs a slot at the IMP to which it comes next, and there is none."""
-    is_piece = held.kind == DATA and held.flow.destination.imp == imp.number and not (packet and packet.last and packet.place == 0)
+    is_whole = packet is not None and packet.last and packet.place == 0
+    is_piece = held.kind == DATA and held.flow.destination.imp == imp.number and not is_whole
     return is_piece and len(imp.slots) >= SLOTS and held.flow not in imp.slots
 
 
@@ -219,7 +224,8 @@ def of_program(world: World, host: HostName, pairs: Mapping[HostName, Pair]) -> 
 def of_end(world: World, hosts: tuple[HostName, HostName], pair: Pair, end: End) -> Iterator[Wait]:
     """What an end of a connection waits for."""
     host, peer = hosts
-    holes: Holes = {"host": host_in_words(host), "peer": host_in_words(peer), "end": f"socket {end.own} of {host_in_words(host)}", "socket": end.foreign}
+    at = f"socket {end.own} of {host_in_words(host)}"
+    holes: Holes = {"host": host_in_words(host), "peer": host_in_words(peer), "end": at, "socket": end.foreign}
     if end.waiting:
         facts = {
             "enough": end.messages > 0 and end.bits >= end.size,
@@ -227,21 +233,24 @@ def of_end(world: World, hosts: tuple[HostName, HostName], pair: Pair, end: End)
             "grant on its way": is_on_its_way(world, peer, host, end.link),
             "service": is_of_service(world, peer, end.foreign),
         }
-        numbers = {"bits": len(end.waiting), "messages": end.messages, "allowed": end.bits, "link": end.link, "foreign": end.foreign}
-        words = {"whose": "service" if is_of_service(world, host, end.own) else "program", "own": spell_host(host), "other": spell_host(peer)}
+        whose = "service" if is_of_service(world, host, end.own) else "program"
+        numbers = {"bits": len(end.waiting), "messages": end.messages, "allowed": end.bits, "link": end.link}
+        words = {"whose": whose, "own": spell_host(host), "other": spell_host(peer), "foreign": end.foreign}
         yield by_rules("bits", facts, {**holes, **numbers, **words})
     elif end.mine and end.partner_stamp is None and not end.is_closing():
-        if not any(isinstance(it, User) and it.own == end.own for it in world.programs[host]):  # its initial connection waits
+        users = [it for it in world.programs[host] if isinstance(it, User)]
+        if not any(it.own == end.own for it in users):  # of those the initial connection waits
             yield by_rules("request", {}, holes)
     elif end.mine and (end.close_asked or end.close_queued) and not end.close_taken:
         yield by_rules("close", {}, holes)
 
 
 def is_on_its_way(world: World, peer: HostName, host: HostName, link: int | None) -> bool:
-    """Whether a grant for a link has not come from a peer yet: it waits there to go out, or is in the message that went out last."""
+    """Whether a grant for a link has not come from a peer yet: it waits there, or is in the message that went out last."""
     program = world.hosts.get(peer)
     queued = program.pairs[host].queue if program is not None and host in program.pairs else []
-    last = next((it for it in reversed(world.carrier.log) if isinstance(it, Passed) and it.flow == (peer, host, 0)), None)
+    passed = (it for it in reversed(world.carrier.log) if isinstance(it, Passed))
+    last = next((it for it in passed if it.flow == (peer, host, 0)), None)
     sent = Firsts().commands(last.text) if last is not None and last.kind == "out" else ()
     return any(it[0] == ALL and it[1] == link for it in (*queued, *sent))
 

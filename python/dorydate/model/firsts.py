@@ -5,7 +5,7 @@ It was written from docs/headline.md and docs/audit.md, in another language and 
 
 from __future__ import annotations
 
-from collections.abc import Iterator, Sequence
+from collections.abc import Iterable, Iterator, Sequence
 from typing import NamedTuple, Optional
 
 from dorydate.model.audit import CONTROL, is_passed
@@ -40,8 +40,12 @@ class Firsts:
 
     def named(self, text: Bits, own: int, foreign: int) -> Iterator[int]:
         """What the requests of two sockets name in a control text: an RTS a link, an STR a byte size."""
+        return self.named_in(self.commands(text), own, foreign)
+
+    def named_in(self, commands: Iterable[bytes], own: int, foreign: int) -> Iterator[int]:
+        """The same of commands."""
         code, may_be = (STR, range(1, 256)) if own % 2 else (RTS, LINKS)
-        for command in self.commands(text) if own % 2 != foreign % 2 else ():
+        for command in commands if own % 2 != foreign % 2 else ():
             if command[0] == code and read_numbers(command, 4, 4) == [own, foreign] and command[9] in may_be:
                 yield command[9]
 

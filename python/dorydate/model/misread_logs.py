@@ -9,12 +9,13 @@ from typing import TypeVar
 from dorydate.model.audit import Lives, Log, match, partners_are_kept
 from dorydate.model.bits import Bits, octets
 from dorydate.model.book import Fate, Life
-from dorydate.model.commands import HEADER, LENGTHS, RTS, STR
+from dorydate.model.commands import CLS, HEADER, LENGTHS, RTS, STR
 from dorydate.model.crossings import Answered, Crossing, Turned
+from dorydate.model.fates import LEAVES, Fates
 from dorydate.model.firsts import Data, Firsts, Placed, on_link
 from dorydate.model.log import BadLog, Book, LogReader
 from dorydate.model.mailboxes import Mailboxes
-from dorydate.model.names import Flow
+from dorydate.model.names import Flow, HostName
 from dorydate.model.verdict import Judge
 
 ANY = 1_000  # bits of a number of any size here
@@ -507,6 +508,178 @@ class RequestsAnywhere(Judge):
     firsts = AnyOctets
 
 
+# ---- judges of fates
+
+
+class NoFates(Judge):
+    """Fates are not looked at."""
+
+    def of_fates(self, book: Book) -> str | None:
+        return None
+
+
+class BelievesOpen(Fates):
+    leaves = {by: {*fates, "open"} for by, fates in LEAVES.items()}
+
+
+class OpenIsBelieved(Judge):
+    """Any life may be open."""
+
+    fates = BelievesOpen
+
+
+class NeverReset(Fates):
+    leaves = {by: fates if by == "reset" else fates - {"reset"} for by, fates in LEAVES.items()}
+
+
+class ResetsCross(Judge):
+    """No life is reset but by what crosses."""
+
+    fates = NeverReset
+
+
+class OneEnd(Fates):
+    leaves = {**LEAVES, "closed": {"closed", "reset"}}
+
+
+class AlwaysClosed(Judge):
+    """Of a life that is over by CLS its own user has closed."""
+
+    fates = OneEnd
+
+
+class NoStops(Fates):
+    def is_turned(self, host: HostName, life: Life) -> bool:
+        return False
+
+
+class StopsEndNothing(Judge):
+    """A host that stops ends no life."""
+
+    fates = NoStops
+
+
+class PeersStop(Fates):
+    def is_turned(self, host: HostName, life: Life) -> bool:
+        return host in (life.host, life.peer)
+
+
+class PeersStopEnds(Judge):
+    """A peer that stops ends a life, too."""
+
+    fates = PeersStop
+
+
+class OwnRstOnly(Fates):
+    def cut(self, word: str, way: str, owes: bool) -> str | None:
+        return None if (word, way) == ("rst", "in") else super().cut(word, way, owes)
+
+
+class RstTakenResetsNothing(Judge):
+    """An RST that is taken resets nothing."""
+
+    fates = OwnRstOnly
+
+
+class PeersRstOnly(Fates):
+    def cut(self, word: str, way: str, owes: bool) -> str | None:
+        return None if (word, way) == ("rst", "out") else super().cut(word, way, owes)
+
+
+class RstSentResetsNothing(Judge):
+    """An RST that is sent resets nothing."""
+
+    fates = PeersRstOnly
+
+
+class RrpTaken(Fates):
+    def cut(self, word: str, way: str, owes: bool) -> str | None:
+        return "reset" if word == "rrp" and way == "in" else super().cut(word, way, owes)
+
+
+class RrpTakenResets(Judge):
+    """An RRP that is taken resets."""
+
+    fates = RrpTaken
+
+
+class AnyRrp(Fates):
+    def cut(self, word: str, way: str, owes: bool) -> str | None:
+        return super().cut(word, way, owes and word != "rrp")
+
+
+class OwedRrpResets(Judge):
+    """An RRP that is owed resets."""
+
+    fates = AnyRrp
+
+
+class NoRrp(Fates):
+    def cut(self, word: str, way: str, owes: bool) -> str | None:
+        return None if word == "rrp" else super().cut(word, way, owes)
+
+
+class RrpResetsNothing(Judge):
+    """No RRP resets anything."""
+
+    fates = NoRrp
+
+
+class Owing(Fates):
+    def owes(self, word: str, way: str, owes: bool) -> bool:
+        return owes if word in ("down", "up") else super().owes(word, way, owes)
+
+
+class OwedAfterStop(Judge):
+    """A host that stopped still owes an RRP."""
+
+    fates = Owing
+
+
+class NoFailures(Fates):
+    def cut(self, word: str, way: str, owes: bool) -> str | None:
+        return None if word == "fails" else super().cut(word, way, owes)
+
+
+class FailuresResetNothing(Judge):
+    """A message that fails resets nothing."""
+
+    fates = NoFailures
+
+
+class AnyFailure(Fates):
+    def cut(self, word: str, way: str, owes: bool) -> str | None:
+        return super().cut(word, way, owes and word != "fails")
+
+
+class FailsWhileOwed(Judge):
+    """A message that fails resets while an RRP is owed, too."""
+
+    fates = AnyFailure
+
+
+class OneCls(Fates):
+    def are_closed(self, closed: frozenset[str]) -> bool:
+        return bool(closed)
+
+
+class OneClsEnds(Judge):
+    """One CLS ends a life."""
+
+    fates = OneCls
+
+
+class AnyCls(Fates):
+    def word(self, command: bytes, own: int, foreign: int, is_stamp: bool) -> str | None:
+        return "closes" if command[0] == CLS else super().word(command, own, foreign, is_stamp)
+
+
+class AnyClsCounts(Judge):
+    """A CLS of other sockets counts."""
+
+    fates = AnyCls
+
+
 READERS: list[type[LogReader]] = [
     GoesOn, NoLineFeed, NoEnd, EndAtLastLine, AnyOrder, AnyText, AnySocket, AnyStamp, ShortStamp, AnyAmount, ShortAmount, AnyKind, TwoFates, AnyFate,
 ]  # fmt: skip
@@ -515,6 +688,9 @@ JUDGES: list[type[Judge]] = [
     SenderOfStream, SenderOfGrant, SenderEnded, AllWhole, WholeWhereClosed, WholeWhereReset, WholeWhereStopped, BitsOnly, MessagesOnly, SentOnly, NothingExcuses,
     LostOfTheFirst, LostWithoutPartner, NoRun, RunAlone, FirstPartOnly, FormAlone, TwoSenders, RunBefore, BoxesStay, BoxesToItGo, BoxesGoAtOnce, NobodyIsDown, AnyAnswer,
     NoLives, CountsAreTrusted, LinkOfTheLastRequest, LastRequestInAMessage, AnyRequestInAMessage, NoSize, AllOnTheLink, LastMessages, RequestsAnywhere,
+    NoFates, OpenIsBelieved, ResetsCross, AlwaysClosed, StopsEndNothing, PeersStopEnds, RstTakenResetsNothing,
+    RstSentResetsNothing, RrpTakenResets, OwedRrpResets, RrpResetsNothing, OwedAfterStop, FailuresResetNothing,
+    FailsWhileOwed, OneClsEnds, AnyClsCounts,
 ]  # fmt: skip
 
 

@@ -12,6 +12,7 @@ from typing import TypeVar
 from dorydate.model.audit import PARTS, Lives, Log, is_granted, is_well_formed, match, messages_are_kept, partners_are_kept
 from dorydate.model.book import Life
 from dorydate.model.crossings import Crossing
+from dorydate.model.fates import Fates
 from dorydate.model.firsts import Firsts
 from dorydate.model.log import BadLog, Book, LogReader
 from dorydate.model.mailboxes import Mailboxes, first_break, hosts_of
@@ -34,6 +35,7 @@ class Judge:
     reader = LogReader()
     mailboxes: type[Mailboxes] = Mailboxes
     firsts: type[Firsts] = Firsts
+    fates: type[Fates] = Fates
 
     def says(self, octets: bytes) -> str:
         """What is to be said of a log, with the lines at which it is bad, malformed or broken."""
@@ -43,8 +45,9 @@ class Judge:
             return f"bad log line {line}"
 
     def verdict(self, book: Book) -> str:
-        """What is to be said of a book, with the lines that show it: all that is wrong with the run of the mailboxes, with lives and with the promise."""
-        return "\n".join(filter(None, [self.of_run(book.log), self.of_lives(book), *self.of_book(book)])) or "kept"
+        """What is to be said of a book, with the lines that show it: all that is wrong with it."""
+        found = [self.of_run(book.log), self.of_lives(book), *self.of_book(book), self.of_fates(book)]
+        return "\n".join(filter(None, found)) or "kept"
 
     def of_run(self, log: Log) -> str | None:
         """What is wrong with what crossed, None where it is a run of the mailboxes between the hosts that it names."""
@@ -57,6 +60,12 @@ class Judge:
         found = (place for place, life in enumerate(book.lives, 1) if firsts.placed(book.log, life) is None)
         place = next(found, None)
         return None if place is None else f"broken lives line {self.line(book.log, place)}"
+
+    def of_fates(self, book: Book) -> str | None:
+        """The first life whose fate isn't one that what crossed leaves it, None where each has such a fate."""
+        fates = self.fates()
+        place = next((place for place, life in enumerate(book.lives, 1) if not fates.suits(book.log, life)), None)
+        return None if place is None else f"broken fates line {self.line(book.log, place)}"
 
     def of_book(self, book: Book) -> list[str | None]:
         """What is wrong with a book. Partners, streams, grants and closes are about requests, so they are judged where each stamp names one."""

@@ -78,7 +78,7 @@ def checks_for(files: list[str]) -> list[str]:
     return [*dict.fromkeys(check for pattern, checks in CHECKS for check in checks if any(re.fullmatch(pattern, it) for it in files))]
 
 
-def told(revision: str) -> Iterator[str]:
+def lines_of(revision: str) -> Iterator[str]:
     """What a change affects, in lines."""
     files = changed(revision)
     if not files:
@@ -102,5 +102,5 @@ def main() -> int:
     if len(words) > 1 or (words and not git("rev-parse", "--verify", "-q", words[0])):
         print(f"check affected: there is no revision {' '.join(words)}", file=sys.stderr)
         return 1
-    print(*told(words[0] if words else base()), sep="\n")
+    print(*lines_of(words[0] if words else base()), sep="\n")
     return 0

@@ -155,7 +155,7 @@ WRONG: dict[str, MakesSubnet] = {
     "a new number that is asked about isn't noted": of_imps(AskedUnnoted),
     "Never is told of a message that was taken": of_imps(TakenIsNever),
     "Dead is told of a message that was taken": of_imps(TakenIsDead),
-    "RFNM is told of a message that never came": of_imps(NeverIsTaken),
+    "RFNM comes for a message that never came": of_imps(NeverIsTaken),
     "a number that is noted keeps the fate of the one before it": of_imps(OldFates),
     "a question is answered by the fate of another number": of_imps(AnyNumber),
     "NotTaken waits for a host that is down": of_imps(ToldWhenDown),

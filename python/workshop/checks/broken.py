@@ -5,6 +5,7 @@ from __future__ import annotations
 from collections.abc import Iterator
 from typing import Any
 
+from dorydate.model import arrived
 from dorydate.model.audit import Lives, Log, audit, match
 from dorydate.model.book import Life
 from dorydate.model.clean import unclean
@@ -62,4 +63,6 @@ def broken(world: World) -> str | None:
         return "an error"
     if not determined(log, lives):
         return "what a log says of the bits of its lives"
+    if part := arrived.broken(log, lives):
+        return part
     return world.judged() if isinstance(world, EndingWorld) else None

@@ -11,6 +11,7 @@ Checks what ./explain says.
 - In subnets the independent model, from which the sentences about the inside are, prints what the program prints, event by
   event; where it knows that an answer was NotTaken, for which `incomplete` is printed too, that is said and drawn; each event that prints nothing has a sentence. What it says of lines written here by hand is what is written beside
   them. Where it names the next event that clears what is in the way of a refused one, these events, one after the other, do.
+- Of a life or a message of a book it says what each clause of the promise says.
 - Of a bad line of a log it says the cause and the form, of a broken book which lines disagree and where, and of a network at rest what waits.
 - Closed and full streams are reported in a line, and status 1.
 - What messages say is what is written here by hand, octets and words.
@@ -51,6 +52,16 @@ from workshop.checks.explain_inside import check_full_store, check_inside, check
 from workshop.checks.explain_pages import check_pages
 from workshop.checks.explain_rows import REFUSALS
 from workshop.parts import ROOT
+
+
+# files, the words after --book, the status, and what is said among others
+BOOKS: list[tuple[str, list[str], int, list[str]]] = [
+    ("logs/two-octets", [], 0, ["line 10: socket 16 of 0/1", "line 7: 56 bits from 0/2 to 0/1 on link 5"]),
+    ("logs/two-octets", ["7"], 0, ["arrived.answered.arrived: It is message 1 of the life of line 10"]),
+    ("logs/two-octets", ["9"], 1, ["line 9 of the log is no life and no message"]),
+    ("logs/two-octets", ["x"], 1, ["usage: ./explain"]),
+    ("examples/a-connection-and-its-book", ["25"], 0, ["Its own request went out in line 9", "It is ended: both CLS"]),
+]
 
 
 def events_by_chance(seed: int) -> tuple[Topology, list[str], list[Event]] | None:
@@ -212,6 +223,16 @@ def seconds_of_children() -> float:
 ENDINGS = [(">&-", "standard output is closed"), ("<&-", "standard input is closed"), ("< /", "standard input is a directory"), ("> /dev/full", "No space left on device")]
 
 
+def check_books() -> None:
+    """Of a life and a message of a log, or of an input's log, each clause says what it says."""
+    for name, line, status, words in BOOKS:
+        with open(f"{ROOT}/{name}", "rb") as file:
+            ran = subprocess.run([f"{ROOT}/explain", "--book", *line], stdin=file, capture_output=True, check=False)
+        found = (ran.returncode, all(it in ran.stdout.decode() + ran.stderr.decode() for it in words))
+        same(found, (status, True), f"./explain --book {' '.join(line)} < {name}")
+    print(f"check explain: {len(BOOKS)} lives, messages and other lines of books")
+
+
 def check_ends() -> None:
     """Where a stream is closed or full, or a name is not UTF-8, a command says so in one line and ends with status 1; long blanks take no time."""
     name = os.fsencode(f"{ROOT}/examples/none-") + b"\xff"
@@ -244,6 +265,7 @@ def main() -> int:
         check_full_store(program)
         check_causes(program, 400)
         check_logs()
+        check_books()
         check_stalls(program)
         check_ends()
         check_worlds(100)

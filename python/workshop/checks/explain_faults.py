@@ -139,6 +139,12 @@ BAD_LOG_LINES = [
 ]
 # ends of that log, in place of its own, and words of the cause
 BAD_LOG_ENDS = [(b"", "Its last line has to be `end`"), (b"end", "It isn't ended by a line feed"), (b"end\nend\n", "It follows `end`")]
+FATES_10, FATES_11 = "broken fates line 10", "broken fates line 11"
+RST = b"out 0/1 0/2 0 48 00080001000C"
+DROPPED = [  # crossings that drop connections, and words of the cause
+    (9, b"rfnm", b"incomplete", "0/2 dropped its connections with 0/1 in line 9, where a message of its host failed."),
+    (9, b"1 5", b"1 5\n" + RST, "0/1 dropped its connections with 0/2 in line 10, where RST went out."),
+]
 # what is changed in a line of that log, the verdict, and words of what is said of the two lines
 BROKEN_LOGS = [
     (10, b"4849", b"4848", "broken lives line 10\nbroken streams lines 10 11", "Line 10 took what line 11 didn't send: at octet 2 what was taken has 48, and what was sent has 49."),
@@ -146,10 +152,10 @@ BROKEN_LOGS = [
     (11, b"0/1 16 3", b"0/1 18 3", "broken lives line 11\nbroken streams line 10", "It took 16 bits, and no life matches it. That would be one of host 0/2, socket 33"),
     (10, b"100", b"15", "broken grants lines 10 11", "at most 1 with 15 bits may pass. But line 10 took 1 message with 16 bits and line 11 sent 1 message with 16 bits."),
     (10, b"0 0 open", b"0 85 open", "broken grants lines 10 11", "had 0 and 85 back: at most 1 with 15 bits may pass"),
-    (10, b"open", b"ended", "broken closes lines 10 11", "all that was handed over in line 13, but octet 3 of what was handed over, 50, was not taken: what was taken has 16 bits, and what was handed over has 24."),
-    (10, b"1 16 1 100 0 0 open 4849", b"1 8 1 100 0 0 ended 48", "broken lives line 10\nbroken closes lines 10 11", "all that line 11 sent, but octet 2 of what was sent, 49, was not taken: what was taken has 8 bits, and what was sent has 16."),
-    (10, b"0 0 open 4849", b"0 0 ended 4841", "broken lives line 10\nbroken streams lines 10 11\nbroken closes lines 10 11", "So it took all that line 11 sent, but at octet 2 what was taken has 41, and what was sent has 49."),
-    (10, b"receive 1 16 1 100 0 0 open", b"receive 0 16 1 100 0 0 ended", "broken lives line 10\nbroken closes lines 10 11", "all that line 11 sent, but it counts 0 messages, and line 11 1."),
+    (10, b"open", b"ended", "broken closes lines 10 11\n" + FATES_10, "all that was handed over in line 13, but octet 3 of what was handed over, 50, was not taken: what was taken has 16 bits, and what was handed over has 24."),
+    (10, b"1 16 1 100 0 0 open 4849", b"1 8 1 100 0 0 ended 48", "broken lives line 10\nbroken closes lines 10 11\n" + FATES_10, "all that line 11 sent, but octet 2 of what was sent, 49, was not taken: what was taken has 8 bits, and what was sent has 16."),
+    (10, b"0 0 open 4849", b"0 0 ended 4841", "broken lives line 10\nbroken streams lines 10 11\nbroken closes lines 10 11\n" + FATES_10, "So it took all that line 11 sent, but at octet 2 what was taken has 41, and what was sent has 49."),
+    (10, b"receive 1 16 1 100 0 0 open", b"receive 0 16 1 100 0 0 ended", "broken lives line 10\nbroken closes lines 10 11\n" + FATES_10, "all that line 11 sent, but it counts 0 messages, and line 11 1."),
     (10, b"33 0 4", b"33 0 3", "broken lives line 10\nmalformed line 10", "Its PARTNER is 3, and at place 3 (line 4) is `out 0/2 0/1 0`."),
     (10, b"33 0 4", b"33 99 4", "broken lives line 10\nmalformed line 10", "Its OWN is 99, and the log has 9 crossings only."),
     (13, b"handed 24 484950\n", b"", "malformed line 11", "There are 2 lives and 1 list of what was handed over: this life has none."),
@@ -158,11 +164,16 @@ BROKEN_LOGS = [
     (9, b"answer", b"in 0/2 0/1 5 56 00080002004849\nanswer", "broken run line 9\nbroken messages line 9", "The message of line 7 was taken already in line 8."),
     (8, b"in 0/2 0/1 5 56 00080002004849\n", b"", "broken run line 8\nbroken lives line 9\nbroken messages line 8", "The last message of the flow 0/2 0/1 5 went out in line 7, and no line since then says that it was taken"),
     (8, b"0/1 5", b"0/1 6", "broken run line 8\nbroken lives line 10\nbroken messages line 8", "No message of the flow 0/2 0/1 6 went out before it."),
-    (9, b"rfnm", b"dead", "broken run line 9", "The message of line 7, of the flow 0/2 0/1 5, was taken already, in line 8."),
-    (9, b"rfnm 0/2 0/1 5", b"dead 0/2 0/1 6", "broken run line 9", "No message of the flow 0/2 0/1 6 is outstanding."),
+    (9, b"rfnm", b"dead", "broken run line 9\n" + FATES_11, "The message of line 7, of the flow 0/2 0/1 5, was taken already, in line 8."),
+    (9, b"rfnm 0/2 0/1 5", b"dead 0/2 0/1 6", "broken run line 9\n" + FATES_11, "No message of the flow 0/2 0/1 6 is outstanding."),
     (8, b"in 0/2 0/1 5 56 00080002004849", b"out 0/2 0/1 5 0 -", "broken run line 8\nbroken lives line 10\nbroken messages line 9", "The last message of the flow 0/2 0/1 5, in line 7, has no answer yet, and one may be outstanding."),
     (9, b"answer rfnm 0/2 0/1 5", b"up 0/1", "broken run line 9", "Host 0/1 is up already."),
-    (7, b"out", b"down 0/2\nout", "broken run line 8", "Host 0/2 is down."),
+    (7, b"out", b"down 0/2\nout", "broken run line 8\nbroken fates line 12", "Host 0/2 is down."),
+    # fates
+    *((line, old, new, FATES_11, f"It says `open`, but {why} It would be `reset`.") for line, old, new, why in DROPPED),
+    (10, b"open", b"closed", FATES_10, "no CLS of socket 16 with socket 33 went out and no CLS of socket 33 with"),
+    (11, b"open", b"stopped", FATES_11, "It says `stopped`, but its host, 0/2, hasn't stopped since it began."),
+    (9, b"answer", b"down 0/2\nanswer", "broken run line 10\nbroken fates line 12", "0/2, stopped in line 9. It would"),
     (11, b"3 1 send", b"3 1 send", "kept", "The book is safe: 9 crossings, a run of the mailboxes, and 2 lives made of them."),
     # lives of the messages that crossed
     (11, b"send 1", b"send 2", "broken lives line 11\nbroken grants lines 10 11", "It isn't made of the messages that crossed: it counts 2 messages, and after its requests 1 went out on 0/2 0/1 5."),

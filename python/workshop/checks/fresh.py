@@ -23,6 +23,7 @@ import time
 from pathlib import Path
 from typing import Any
 
+from workshop.builds.unproved import kept_for_sources
 from workshop.checks.installed import complete, sources_in
 from workshop.checks.wrong import Wrong, call
 from workshop.parts import ROOT
@@ -148,6 +149,8 @@ def run_tests(fresh: Fresh) -> None:
 def released() -> str:
     """The folder of a release of these sources: what ./release has made here, else what lies in the repository."""
     made = f"{ROOT}/out/release"
+    if sources_in(f"{ROOT}/released") != kept_for_sources().split("/")[-2]:
+        raise Wrong("released/ is of other sources, so no clone takes it: ./release makes it of these")
     return made if sources_in(made) == sources_in(f"{ROOT}/released") else f"{ROOT}/released"
 
 

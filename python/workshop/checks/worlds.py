@@ -7,7 +7,9 @@ The model is the independent model of the rules (python/dorydate/model/world.py)
 from the crossings, the lives and the bits that were handed over (python/dorydate/model/audit.py): at the end of each run, and after each
 event of some; in these it is looked at too whether what had an effect on a host went out after that host's last clean point for
 its sender (python/dorydate/model/clean.py). Of each run it is judged too what endings mean, at each moment (python/dorydate/model/endings.py), and
-whether the log determines the bits of its lives (python/dorydate/model/firsts.py). So this script doesn't try the program. It tries the promise itself,
+whether the log determines the bits of its lives (python/dorydate/model/firsts.py), and
+what RFNM of data means (python/dorydate/model/arrived.py). So this script doesn't try the program. It tries the promise
+itself,
 and with it two facts that are stronger: no program is ever notified of an error, and two lives that continue and have each other's hosts and sockets are
 one connection.
 
@@ -26,11 +28,13 @@ from typing import Any, NamedTuple, TypeVar
 
 from workshop.checks import mixed
 from workshop.checks.broken import Watched, broken
+from dorydate.model import arrived
 from dorydate.model.audit import CONTROL, audit, partners_are_kept
 from dorydate.model.book import Life
 from dorydate.model.chance.worlds import reached, some_script
 from dorydate.model.crossings import Answered, Carrier, Crossing, Passed
 from dorydate.model.endings import EndingWorld
+from dorydate.model.misread_arrived import MISREADINGS as MISREAD_ARRIVED
 from dorydate.model.misread_endings import MISREADINGS as MISREAD_ENDINGS
 from dorydate.model.misreadings import MISREADINGS
 from dorydate.model.names import Flow, HostName
@@ -169,6 +173,14 @@ def unnoticed_endings() -> Iterator[str]:
             yield str(kind.__doc__)
 
 
+def unnoticed_arrived() -> Iterator[str]:
+    """The wrong readings of RFNM of data that judge each script by hand as it should be judged."""
+    books = [book_of(lines) for lines in ENDINGS]
+    for kind in MISREAD_ARRIVED:
+        if not any(kind().broken(*book) for book in books):
+            yield str(kind.__doc__)
+
+
 class Ran(NamedTuple):
     """A random run: what breaks, the script as far as it happened, what was reached, and how often each promise on endings was tried."""
 
@@ -206,10 +218,14 @@ def main() -> int:
         print("check worlds: a book with a life that has no partner's request, or one of another host, keeps what is promised of partners")
         return 1
     if missed := [*unnoticed()]:
-        print("check worlds: no book by hand tells these wrong readings of the promise:", *missed, sep="\n")
+        print("check worlds: no book by hand distinguishes these wrong readings of the promise:", *missed, sep="\n")
         return 1
     if any(world_of(lines, EndingWorld).judged() for lines in ENDINGS) or [*unnoticed_endings()]:
         print("check worlds: a script by hand ends wrongly, or none tells these wrong readings of endings:", *unnoticed_endings(), sep="\n")
+        return 1
+    if any(arrived.broken(*book_of(lines)) for lines in ENDINGS) or [*unnoticed_arrived()]:
+        print("check worlds: a script by hand loses data of which RFNM came, or none is unlike these wrong readings:")
+        print(*unnoticed_arrived(), sep="\n")
         return 1
     came_to: Counter[str] = Counter()
     tried: Counter[str] = Counter()
@@ -222,7 +238,8 @@ def main() -> int:
         came_to += ran.reached
         tried += ran.tried
     print(f"check worlds: {len([*wrong_books(), *wrong_partners()])} books written by hand, each judged rightly, and by {len(MISREADINGS)} wrong readings of the promise not all")
-    print(f"check worlds: {len(ENDINGS)} scripts written by hand, each ends rightly, and by {len(MISREAD_ENDINGS)} wrong readings of endings not all")
+    readings = f"{len(MISREAD_ENDINGS)} wrong readings of endings and {len(MISREAD_ARRIVED)} of RFNM"
+    print(f"check worlds: {len(ENDINGS)} scripts written by hand, each ends rightly, and by {readings} not all")
     print("check worlds: the runs came to", ", ".join(f"{count} {name}" for name, count in sorted(came_to.items())))
     for kind, count in sorted(tried.items()):
         print(f"check worlds: {kind}: {count} times")

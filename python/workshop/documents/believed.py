@@ -14,13 +14,13 @@ import re
 from collections.abc import Iterator
 from dataclasses import dataclass, field
 
-from workshop.documents import believed_words
+from workshop.documents import believed_promises, believed_words
 from workshop.documents.rules import Place, read
 from workshop.parts import ROOT
 
 PAGE = f"{ROOT}/docs/measured/promise.md"
 BOOK = f"{ROOT}/crates/headline/src/book.rt"
-MOST_LINES = 520  # without comments, imports and empty lines: what the clauses need, counted
+MOST_LINES = 528  # without comments, imports and empty lines: what the clauses need, counted
 LEFT = ("value", "lawful")  # clauses of `book_of` that speak of the world and its programs
 READING = ("host_pairs", "ncp_control", "bit_messages")  # crates whose definitions say how texts are read
 HEAD = """# What must be believed
@@ -214,7 +214,23 @@ def page() -> str:
     parts += [f"{heading}{listed(definitions)}" for heading, definitions in sections if definitions]
     parts.append("\n## The types\n\nRecords and variants that definitions share with the program. `HostAddr` is a `Host` here, `Bits` and `BitLog` are lists of bits.\n")
     parts += [rust_type(crate, path) for crate, path in sorted(whole.types)]
-    return "".join([*parts, believed_words.key(), believed_words.worked()])
+    return "".join([*parts, believed_words.key(), believed_words.worked(), believed_promises.table()])
+
+
+def field_names() -> set[str]:
+    """The fields of the clauses, and of the records in them, with those before them: promise.safe.messages.answered."""
+
+    def below(path: str, key: Key) -> Iterator[str]:
+        yield path
+        crate, file, name = key
+        definition = module_of(crate, file).definitions.get(name)
+        for line in definition.lines[1:] if definition and definition.lines[0].startswith("pub record") else ():
+            if FIELD.match(line):
+                at = f"{path}.{FIELD.findall(line)[0]}"
+                first = next(iter(WORD.findall(line.partition(":")[2])), "")
+                yield from below(at, next(iter(named(crate, file, first)), ("", "", "")))
+
+    return {it for clause in clauses() for it in below(clause.name, clause.first)}
 
 
 def write() -> None:
@@ -230,4 +246,5 @@ def faults() -> list[str]:
     lines = sum(it.size for it in whole.definitions.values())
     wrong += [f"docs/measured/promise.md: {lines} lines must be believed of the headline, of at most {MOST_LINES}"] if lines > MOST_LINES else []
     known = believed_words.known_words()
+    wrong += believed_promises.faults(field_names())
     return wrong + [f"docs/measured/promise.md: the key has no word `{it}`" for it in sorted(whole.library) if it.strip("◌") not in known and it not in known]

@@ -28,7 +28,7 @@ KEY = (
     ("`take n xs`, `drop n xs`", "the first n members, or all where there are fewer; what is left without them"),
     ("`slice_index xs n`, `slice_index_or xs n d`", "member n, from 0 on; d where there is none"),
     ("`Contains xs x`, `list_any test xs`", "x is a member of xs; whether a member passes the test"),
-    ("`Option A`, `Some x`, `None`, `IsSome`, `option_or`", "an x, or nothing; that there is one; the first where there is one, else the second"),
+    ("`Option A`, `Some x`, `None`, `IsSome`, `option_or`, `option_map f o`", "an x, or nothing; that there is one; the first where there is one, else the second; f of what there is"),
     ("`Result A E`, `Ok x`, `Err e`", "a value, or a fault"),
     ("`Width`, `w16`, `w32`, `byte_len`, `from_be_bytes w xs`", "widths of numbers, of 16 and 32 bits; how many octets one has; the number in these octets, the highest first"),
 )
@@ -42,6 +42,7 @@ WORKED = (
     ("`safe`, partners", "no two lives have one request, and partners name each other", "the own request of 0/1 went out at place 0, that of 0/2 at place 3; what 0/1 took at place 4 is that of place 3, and what 0/2 took at place 1 is that of place 0"),
     ("`safe`, streams", "what was taken is a prefix of what was sent, and that of what was handed over", "`4849` of `4849`, and that of `484950`"),
     ("`safe`, grants", "what was taken and sent is granted", "1 message of 16 bits, where 1 of 100 bits was granted"),
+    ("`arrived`", "an open life counts what came in on its link, and RFNM of data means that they are among its bits", "line 9 is RFNM of the message of line 7, the first one of the life of line 11. Line 8 took it, and it is the first one of the life of line 10, which is open"),
     ("`joined`", "a finished initial connection pairs the right four sockets", "nothing here: no service reports that one is finished"),
 )
 

@@ -23,13 +23,14 @@ from dorydate.explore.breadth import Asked, Walk
 from dorydate.explore.named import SEARCHES
 from dorydate.explore.pattern import read
 from dorydate.program import Program
+from workshop.checks.campaigns import spent as spent_by
 from workshop.checks.shortest import BESIDE, CLAIMS, asked
 from workshop.parts import ROOT, any_program
 
 PAGE = f"{ROOT}/docs/measured/search.md"
 DEEPEST = 40
 MEGABYTES = 3000
-NAMED_HEAD = "| Search | Network | States | Steps | Seconds | Steps a second |\n|---|---|---|---|---|---|\n"
+COUNTED = "States | Steps | Steps a second"
 FEW = 100_000  # steps: a search with fewer ends too soon to be measured
 
 
@@ -52,27 +53,18 @@ def by_trace(asked: Asked, program: Program, seconds: float) -> str:
 
 def by_plain(asked: Asked, finder: str, seconds: float) -> str:
     """What the plain program comes to."""
-    answer = fast.Answer()
+    answer, used = fast.Answer(), 0.0
     limit: Callable[[], None] = partial(resource.setrlimit, resource.RLIMIT_CPU, (int(seconds), int(seconds)))
     words = [finder, "--search", "--depth", str(asked.depth), "--seconds", "1000000", "--megabytes", str(MEGABYTES)]
     with tempfile.TemporaryFile() as given:
         given.write(fast.input_of(asked))
         given.seek(0)
-        before = resource.getrusage(resource.RUSAGE_CHILDREN)
-        ran = subprocess.run(words, stdin=given, stdout=subprocess.PIPE, preexec_fn=limit, text=True, check=False)
-        after = resource.getrusage(resource.RUSAGE_CHILDREN)
-    for line in ran.stdout.splitlines():
-        answer.take(line)
+        with subprocess.Popen(words, stdin=given, stdout=subprocess.PIPE, preexec_fn=limit, text=True) as running:
+            assert running.stdout is not None
+            for line in running.stdout:
+                used = max(used, spent_by(running.pid)) if answer.take(line) else used
     whole = [it for it in answer.levels if it.depth <= answer.whole]
-    used = after.ru_utime + after.ru_stime - before.ru_utime - before.ru_stime
-    share = whole[-1].seconds / max(whole[-1].seconds, time_of(ran.stdout), used, 0.001) if ran.returncode else 1.0
-    return cells(answer.whole, answer.is_all, whole[-1].states, sum(it.steps for it in whole), used * share)
-
-
-def time_of(output: str) -> float:
-    """The seconds by the clock that the last line of levels names."""
-    levels = [it for it in output.splitlines() if it.startswith(("depth", "part"))]
-    return float(levels[-1].split(" ")[6]) if levels else 0.0
+    return cells(answer.whole, answer.is_all, whole[-1].states, sum(it.steps for it in whole), used)
 
 
 def of_names(finder: str) -> Iterator[str]:
@@ -91,6 +83,32 @@ def cells(depth: int, is_all: bool, states: int, steps: int, seconds: float) -> 
     return f"{'all' if is_all else depth} | {states:,} | {steps:,} | {rate}"
 
 
+def page(rows: list[str], names: list[str], seconds: float, path: str) -> str:
+    """The page of both tables."""
+    day, whose = time.strftime("%d %B %Y").lstrip("0"), " without proofs" if "unproved" in path else ""
+    return "\n".join(
+        [
+            "# What searches of all states cost",
+            "",
+            f"`./measure search --write` has written this page on {day}: all lists of these events, for {seconds:.0f} seconds "
+            f"of one processor each, by the trace of the program{whose} and by the plain program. *All*: there are no further "
+            "states. Seconds are those of the processor up to that length. What it means: "
+            "[the explorer](../python.md#all-states).",
+            "",
+            f"| Network | Events | Length, by the program | {COUNTED} | Length, by the plain program | {COUNTED} |",
+            f"{'|---' * 10}|",
+            *rows,
+            "",
+            "Searches with names, by the plain program with all events ([the table](shortest.md)):",
+            "",
+            "| Search | Network | States | Steps | Seconds | Steps a second |",
+            f"{'|---' * 6}|",
+            *names,
+            "",
+        ]
+    )
+
+
 def main() -> int:
     words = [it for it in sys.argv[1:] if it != "--write"]
     seconds = float(words[0]) if words else 60.0
@@ -99,20 +117,15 @@ def main() -> int:
         print("measure search: there is no program of these sources: ./build makes it")
         return 1
     program, finder = Program(path), fast.finder()
-    day = time.strftime("%d %B %Y").lstrip("0")
-    rows = []
-    for where, asked in BESIDE.items():
-        deep = replace(asked, depth=DEEPEST)
-        rows.append(f"| {where} | {len(asked.events)} | {by_trace(deep, program, seconds)} | {by_plain(deep, finder, seconds)} |")
+    rows, names = [], []
+    for where, what in BESIDE.items():
+        deep = replace(what, depth=DEEPEST)
+        both = f"{by_trace(deep, program, seconds)} | {by_plain(deep, finder, seconds)}"
+        rows.append(f"| {where} | {len(what.events)} | {both} |")
         print(rows[-1], flush=True)
-    names = []
     for row in of_names(finder):
         names.append(row)
         print(row, flush=True)
-    head = "| Network | Events | Length, by the program | States | Steps | Steps a second | Length, by the plain program | States | Steps | Steps a second |"
-    text = f"# What searches of all states cost\n\n`./measure search --write` has written this page on {day}: all lists of these events, for {seconds:.0f} seconds of one processor each, by the trace of the program{' without proofs' if 'unproved' in path else ''} and by the plain program. *All*: there are no further states. Seconds are those of the processor up to that length. What it means: [the explorer](../python.md#all-states).\n\n{head}\n{'|---' * 10}|\n" + "\n".join(rows) + "\n"
-    text += f"\nSearches with names, by the plain program with all events ([the table](shortest.md)):\n\n{NAMED_HEAD}"
-    text += "\n".join(names) + "\n"
     if "--write" in sys.argv:
-        Path(PAGE).write_text(text, encoding="utf-8")
+        Path(PAGE).write_text(page(rows, names, seconds, path), encoding="utf-8")
     return 0

@@ -14,7 +14,7 @@ import { historyOf } from "./examples.js";
 
 const file = process.env.STATES ?? "";
 /**
- * States of the model, and lines and topologies by chance, each with what ./explain says is wrong with it.
+ * States of the model, and random lines and topologies, each with what ./explain says is wrong with it.
  *
  * @type {{states: {[name: string]: {[part: string]: any}[]}, lines: [string, boolean, string][], topologies: [string, string][]}}
  */

@@ -54,7 +54,7 @@ test("a search by name finds a short script, and what is left of it is needed", 
         assert(search, name);
         const head = headOf(search.network);
         const network = readTopology(head.join("\n"));
-        const how = { seconds: 100, isOver: () => false, tell: () => {} };
+        const how = { seconds: 300, isOver: () => false, tell: () => {} };
         const { script, count } = await find(program.batch, head, network, search.pattern, chance(3), how);
         assert(script && script.length < 14, `${name}: ${count} schedules, ${script}`);
         const pattern = readPattern(search.pattern);

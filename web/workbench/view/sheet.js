@@ -156,13 +156,28 @@ export class SheetView {
         this.hidden = hidden;
         this.current = current >= 0 ? stops[this.list[current].stop] : null;
         const element = elements[current];
-        if (element) keepInView(this.scroller, element, this.heads.offsetHeight);
+        if (element) this.keep(element);
         else this.scroller.scrollTop = 0;
         const drawn = `${open} ${hidden ? position : ""} ${this.body.clientWidth}`;
         if (drawn !== this.drawn || this.open === -2 || this.isOutside()) this.drawChart();
         this.open = open;
         this.drawn = drawn;
         this.markPast();
+    }
+
+    /**
+     * Keeps the present row in view: of many rows the heights between are known only once they were near, so it is looked
+     * at again.
+     *
+     * @param {HTMLElement} element
+     * @param {number} [times]
+     */
+    keep(element, times = this.rows.classList.contains("many") ? 3 : 0) {
+        keepInView(this.scroller, element, this.heads.offsetHeight);
+        if (times === 0) return;
+        requestAnimationFrame(() => {
+            if (element.classList.contains("current")) this.keep(element, times - 1);
+        });
     }
 
     /**
@@ -411,5 +426,7 @@ function keepInView(scroller, element, head) {
     if (room <= 0) return;
     const margin = Math.min(room / 3, 4 * element.offsetHeight);
     if (top < scroller.scrollTop + margin) scroller.scrollTop = Math.max(0, top - room / 3);
-    else if (top + element.offsetHeight > scroller.scrollTop + room - margin) scroller.scrollTop = top - room / 2;
+    else if (top + element.offsetHeight > scroller.scrollTop + room - margin) {
+        scroller.scrollTop = top - Math.min(room / 2, Math.max(0, room - element.offsetHeight));
+    }
 }

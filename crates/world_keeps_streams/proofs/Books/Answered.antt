@@ -23,10 +23,10 @@ use Rattle.world_keeps_streams.proofs.Requests.Sides.{Lawful}
 -- ---- a message that waits
 
 -- a flow's last message out hasn't been taken, and this is its text
-record Waits (f : Flow) (text : List Bool) (log : List Crossing) : Type 0 where
-  out : SinceLastOut f log
-  text_is : out.message.text ≡ text
-  untaken : taken_in f out.since ≡ []
+pub record Waits (f : Flow) (text : List Bool) (log : List Crossing) : Type 0 where
+  pub out : SinceLastOut f log
+  pub text_is : out.message.text ≡ text
+  pub untaken : taken_in f out.since ≡ []
 
 waits_more : (f : Flow) (text : List Bool) (c : Crossing) (log : List Crossing) → ((since : List Crossing) → went_out f (c ∷ since) ≡ went_out f since)
     → ((since : List Crossing) → taken_in f (c ∷ since) ≡ taken_in f since) → Waits f text log → Waits f text (c ∷ log)
@@ -58,7 +58,7 @@ not_fetched p s Empty e = absurd (cc)
 not_fetched p s (Waiting q t) e = absurd (cc)
 not_fetched p s (Taken q t) e = absurd (cc)
 
-waiting : (f : Flow) (log : List Crossing) (place : ℕ) (text : List Bool) → box_of f log ≡ Waiting place text → Waits f text log
+pub waiting : (f : Flow) (log : List Crossing) (place : ℕ) (text : List Bool) → box_of f log ≡ Waiting place text → Waits f text log
 waiting f [] place text e = absurd (cc)
 waiting f (crossing.Out m ∷ log) place text e = by (same_flow f m.flow) refl (λ now. waiting f log place text now) where
   by : (v : Bool) → same_flow f m.flow ≡ v → (box_of f log ≡ Waiting place text → Waits f text log) → Waits f text (crossing.Out m ∷ log)

@@ -31,7 +31,6 @@ use Rattle.host_pairs.proofs.lemmas.{both}
 use Rattle.host_keeps_streams.specs.Ends.{AreReceiver, HasReceiver, IsReceiver}
 use Rattle.host_keeps_streams.specs.Histories.{HasClosed, name_now, numbered, receiver_now}
 use Rattle.host_keeps_streams.proofs.lemmas.{accept_same, bits_there, closed_first, first_is, open_found, open_same}
-use Rattle.reset_law.specs.Events.{Message}
 use Rattle.reset_law.specs.Stays as stay
 use Rattle.sockets.specs.Accepting.{accepted, turn_of}
 use Rattle.sockets.specs.Pairs.{NcpState, pair_with}
@@ -44,7 +43,7 @@ use Rattle.promise.specs.declared.life.Life.{Life}
 use Rattle.net_sim.proofs.lemmas.{program_own}
 use Rattle.world_keeps_lives.specs.Lives.{HasOpenEnd}
 use Rattle.world_keeps_lives.proofs.lemmas.{held}
-use Rattle.world_keeps_pairing.proofs.lemmas.{book_run, mail_below, waiting}
+use Rattle.world_keeps_pairing.proofs.lemmas.{book_run, mail_below}
 use Rattle.world_keeps_streams.specs.Arrivals.{AllArrive, Arrives, ComesFor, IsUnclosed}
 use Rattle.world_keeps_streams.specs.Calls.{own_calls}
 use Rattle.world_keeps_streams.proofs.Books.Lies.{Boxed, lies_there}

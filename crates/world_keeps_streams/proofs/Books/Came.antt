@@ -1,5 +1,5 @@
 -- Where the end of a receiving life has taken its partner's CLS, all that its partner sent has come in; and it sends nothing more.
-use Rattle.std.proofs.Common.{◌≡◌, ◌⊎◌, inl, inr, ℕ, zero, suc, ◌+◌, ◌≤◌, ◌==◌, Bool, true, false, List, [], ◌∷◌, ◌++◌, length, map, take, Option, Some, None, refl, ap, sym, subst, ◌∙◌, eq-eqb, arith}
+use Rattle.std.proofs.Common.{◌≡◌, ◌⊎◌, inl, inr, ℕ, zero, suc, ◌+◌, ◌≤◌, ◌==◌, Bool, true, false, List, [], ◌∷◌, ◌++◌, length, map, Option, Some, None, refl, ap, sym, subst, ◌∙◌, eq-eqb, arith}
 use Rattle.std.specs.List.{Contains}
 use Rattle.interface.specs.Calls.{Seen}
 use Rattle.interface.specs.Host.{Host}
@@ -18,7 +18,7 @@ use Rattle.promise.specs.declared.life.Life.{Life}
 use Rattle.promise.specs.Formed.{texts_for}
 use Rattle.world_keeps_pairing.proofs.lemmas.{book_run}
 use Rattle.world_keeps_streams.specs.Calls.{own_calls}
-use Rattle.world_keeps_streams.specs.Came.{AllCame, CameAll, HadTakenCls, HasTakenCls}
+use Rattle.world_keeps_streams.specs.Came.{AllCame, CameAll, HasTakenCls}
 use Rattle.world_keeps_streams.proofs.Books.All.{all_given}
 use Rattle.world_keeps_streams.proofs.Books.Arrives.{rest_lawful, unlike}
 use Rattle.world_keeps_streams.proofs.Books.Books.{one_own, same_name}
@@ -29,8 +29,7 @@ use Rattle.world_keeps_streams.proofs.Books.Closes.{AtLink}
 use Rattle.world_keeps_streams.proofs.Books.Later.{Answers, named_request, same_link}
 use Rattle.world_keeps_streams.proofs.Books.Run.{below}
 use Rattle.world_keeps_streams.proofs.Books.Finished.{Done, Fixed, has_sent, has_source, next_is}
-use Rattle.world_keeps_streams.proofs.Books.Whole.{since}
-use Rattle.world_keeps_streams.proofs.Lives.Lists.{Grown, IsOf, Named, contains, grown, is_of, named_itself, of_left, of_map}
+use Rattle.world_keeps_streams.proofs.Lives.Lists.{IsOf, Named, contains, grown, is_of, named_itself, of_left, of_map}
 use Rattle.world_keeps_streams.proofs.Requests.Sides.{Heard, Lawful, Own, lives_in}
 use Rattle.world_keeps_streams.proofs.Steps.Overs.{over_alike}
 
@@ -45,14 +44,14 @@ named_same x t n None = refl
 named_same x t n (Some p) =
     ap (λ (k : ℕ). let r : Name = record { place = p; own = k; foreign = t.socket } in Some r) n.foreign ∙ ap (λ (k : ℕ). let r : Name = record { place = p; own = x.foreign; foreign = k } in Some r) n.socket
 
-partner_named : (log : List Crossing) (x t : Life) → Named x t → partner_request log t ≡ partner_request log x
+pub partner_named : (log : List Crossing) (x t : Life) → Named x t → partner_request log t ≡ partner_request log x
 partner_named log x t n =
     named_same x t n (last_out (control_flow t.peer t.host) (before t.partner_stamp log))
     ∙ ap (λ (h : Host). named x (last_out (control_flow h t.host) (before t.partner_stamp log))) n.peer
     ∙ ap (λ (h : Host). named x (last_out (control_flow x.peer h) (before t.partner_stamp log))) n.host
     ∙ ap (λ (k : ℕ). named x (last_out (control_flow x.peer x.host) (before k log))) n.partner
 
-match_named : (log : List Crossing) (x t s : Life) → Named x t → Match log x s → Match log t s
+pub match_named : (log : List Crossing) (x t s : Life) → Named x t → Match log x s → Match log t s
 match_named log x t s n m = record {
   receiving = ap is_receive_socket n.socket ∙ m.receiving;
   sending = m.sending;

@@ -479,3 +479,14 @@ fated hosts (y ∷ ms) l z g i kind = fated_next hosts y ms l z g i kind (λ x f
 -- a receiving life that ended so was closed by its partner, and by no user of its host
 pub ended_by_partner : (hosts : List Host) (ms : List Moment) → Lawful hosts ms → (x : Life) → IsBeside x fate.Ended (kept_in ms).book.lives (kept_in ms).fates → receives x ≡ true → WasClosedByPartner ms x
 ended_by_partner hosts ms l x i kind = (fated hosts ms l x fate.Ended i kind).ended refl
+
+-- one that is open was closed by no user of its host
+pub never_closed : (hosts : List Host) (ms : List Moment) → Lawful hosts ms → (x : Life)
+    → IsBeside x fate.Open (kept_in ms).book.lives (kept_in ms).fates → receives x ≡ true → (m : ℕ)
+    → (receiver_now numbered x.peer (suc m) (own_calls x.host x.peer ms)).end
+    ≡ Some (name_now numbered x.peer (own_calls x.host x.peer ms) x.socket x.foreign)
+    → HasClosed numbered x.peer (suc m) (name_now numbered x.peer (own_calls x.host x.peer ms) x.socket x.foreign)
+    (own_calls x.host x.peer ms)
+    → ⊥
+unfolding IsOpen
+never_closed hosts ms l x i kind m end closed = (fated hosts ms l x fate.Open i kind).opened refl m end closed

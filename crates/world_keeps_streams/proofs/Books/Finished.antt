@@ -2,7 +2,6 @@
 use Rattle.std.proofs.Common.{◌≡◌, ◌⊎◌, inl, inr, ℕ, suc, ◌+◌, ◌≤◌, ◌==◌, Bool, true, false, if◌then◌else◌, List, [], ◌∷◌, ◌++◌, length, map, take, drop, Some, refl, ap, sym, subst, ◌∙◌, arith}
 use Rattle.std.proofs.lemmas.Bool.{eqb-true}
 use Rattle.interface.specs.Host.{Host}
-use Rattle.ncp_control.specs.Numbers.{is_receive_socket}
 use Rattle.stream_law.specs.Receivers.{Receiver}
 use Rattle.stream_law.specs.Senders.{Sender}
 use Rattle.stream_law.specs.Within.{IsSafe}
@@ -13,7 +12,7 @@ use Rattle.host_keeps_streams.proofs.lemmas.{numbered_tells}
 use Rattle.pairing_law.proofs.lemmas.{Fresh}
 use Rattle.reset_law.specs.Stays as stay
 use Rattle.reset_law.proofs.lemmas.{begins_either}
-use Rattle.promise.specs.Safe.{Match, Name, own_request, receives, sends}
+use Rattle.promise.specs.Safe.{Match, Name, own_request, receives}
 use Rattle.net_sim.specs.Story.{Moment, event_in, events_of}
 use Rattle.net_sim.specs.Timeline.{crossings_of}
 use Rattle.promise.specs.declared.life.Life.{Life}
@@ -21,16 +20,16 @@ use Rattle.world_keeps_pairing.specs.Steps.{keeps}
 use Rattle.world_keeps_streams.specs.Calls.{calls_by, own_calls}
 use Rattle.world_keeps_streams.proofs.Books.All.{all_given}
 use Rattle.world_keeps_streams.proofs.Books.Books.{one_own, one_sender, same_name}
-use Rattle.world_keeps_streams.proofs.Books.Clauses.{OldGranter, match_grows, settled_s, stays_in}
+use Rattle.world_keeps_streams.proofs.Books.Clauses.{match_grows, stays_in}
 use Rattle.world_keeps_streams.proofs.Books.Goes.{since_bound, since_on}
 use Rattle.world_keeps_streams.proofs.Books.Later.{Answers, Before, answers_before, at_now, before, early_on, fresh, named_request, none_on, one_number}
 use Rattle.world_keeps_streams.proofs.Books.Given.{off}
-use Rattle.world_keeps_streams.proofs.Books.Run.{Given, below, whole, whole_keeps}
+use Rattle.world_keeps_streams.proofs.Books.Run.{Given, below, whole_keeps}
 use Rattle.world_keeps_streams.proofs.Books.Source.{one_matches}
 use Rattle.world_keeps_streams.proofs.Books.Whole.{HasR, HasS, PresentR, PresentS, Whole, present_in, since}
 use Rattle.world_keeps_streams.proofs.Calls.Chain.{chain}
 use Rattle.world_keeps_streams.proofs.Carried.Streams.{all_bits}
-use Rattle.world_keeps_streams.proofs.Lives.Lists.{Grown, IsOf, Named, contains, drop_grown, grown, is_of, of_drop, of_left, of_map, of_parts}
+use Rattle.world_keeps_streams.proofs.Lives.Lists.{IsOf, Named, drop_grown, grown, of_drop, of_left, of_map, of_parts}
 use Rattle.world_keeps_streams.proofs.Requests.Sides.{Heard, Lawful, Own, lives_in}
 use Rattle.world_keeps_streams.proofs.Stays.Resets.{stays_on}
 use Rattle.world_keeps_streams.proofs.Steps.Closed as closed

@@ -92,12 +92,12 @@ asked_by k n there (Close ∷ ms) x at a = elim (asked_by k n there ms (says Clo
 
 -- ---- a life's own request went out before
 
-crossed_less : (n : ℕ) (c : Crossing) (log : List Crossing) → CrossedAt n c log → n < length log
+pub crossed_less : (n : ℕ) (c : Crossing) (log : List Crossing) → CrossedAt n c log → n < length log
 crossed_less n c [] h = absurd h
 crossed_less n c (d ∷ log) (inl here) = let e : n ≡ length log = here.1 in omega (arith, e)
 crossed_less n c (d ∷ log) (inr older) = let l : n < length log = crossed_less n c log older in omega (arith, l)
 
-life_of_link : (x : Life) (links : List Linked) → IsOf x (map (λ (p : Linked). p.life) links) → (p : Linked) × Contains links p × (p.life ≡ x)
+pub life_of_link : (x : Life) (links : List Linked) → IsOf x (map (λ (p : Linked). p.life) links) → (p : Linked) × Contains links p × (p.life ≡ x)
 life_of_link x [] i = absurd i
 life_of_link x (p ∷ links) (inl e) = (p, (0, omega arith, refl), sym e)
 life_of_link x (p ∷ links) (inr i) =

@@ -32,7 +32,7 @@ use Rattle.net_sim.proofs.lemmas.{kept_fated}
 use Rattle.world_keeps_lives.specs.Lives.{HasOpenEnd}
 use Rattle.world_keeps_lives.proofs.lemmas.{live, unopened}
 use Rattle.world_keeps_pairing.proofs.lemmas.{book_run}
-use Rattle.world_keeps_streams.specs.Over.{AreOver, IsOverBy}
+use Rattle.promise.specs.Over.{AreOver, IsOverBy}
 use Rattle.world_keeps_streams.proofs.Books.Run.{below}
 use Rattle.world_keeps_streams.proofs.Deeds.Effects.{Among}
 use Rattle.world_keeps_streams.proofs.Ends.Courses.{course_key, course_same, key_named, key_of}

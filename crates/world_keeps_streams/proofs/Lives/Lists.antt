@@ -152,6 +152,7 @@ pub record Grown (old new : List Life) : Type 0 where
   pub is : new ≡ map change old ++ more
   pub names : (x : Life) → Named x (change x)
   pub still : (x : Life) → x.ended ≡ true → change x ≡ x
+  pub counts : (x : Life) → x.messages ≤ (change x).messages
 
 pub map_itself : (xs : List Life) → map (λ (x : Life). x) xs ≡ xs
 map_itself [] = refl
@@ -166,10 +167,10 @@ map_both f g [] = refl
 map_both f g (x ∷ xs) = ap (λ (ys : List Life). g (f x) ∷ ys) (map_both f g xs)
 
 grown_more : (xs ys : List Life) → Grown xs (xs ++ ys)
-grown_more xs ys = record { change = λ x. x; more = ys; is = ap (λ (l : List Life). l ++ ys) (sym (map_itself xs)); names = named_itself; still = λ x e. refl }
+grown_more xs ys = record { change = λ x. x; more = ys; is = ap (λ (l : List Life). l ++ ys) (sym (map_itself xs)); names = named_itself; still = λ x e. refl; counts = λ x. omega arith }
 
 grown_none : (xs : List Life) → Grown xs xs
-grown_none xs = record { change = λ x. x; more = []; is = sym (nil_right (map (λ (x : Life). x) xs) ∙ map_itself xs); names = named_itself; still = λ x e. refl }
+grown_none xs = record { change = λ x. x; more = []; is = sym (nil_right (map (λ (x : Life). x) xs) ∙ map_itself xs); names = named_itself; still = λ x e. refl; counts = λ x. omega arith }
 
 grown_on : (xs ys zs : List Life) → Grown xs ys → Grown ys zs → Grown xs zs
 grown_on xs ys zs g h = record {
@@ -187,20 +188,29 @@ grown_on xs ys zs g h = record {
     partner = (h.names (g.change x)).partner ∙ (g.names x).partner;
   };
   still = λ x e. ap h.change (g.still x e) ∙ h.still x e;
+  counts = λ x.
+      (let first : x.messages ≤ (g.change x).messages = g.counts x in
+      let next : (g.change x).messages ≤ (h.change (g.change x)).messages = h.counts (g.change x) in
+      omega (arith, first, next));
 }
 
 -- a change of those that pass a test, which none that has ended does
-grown_where : (test : Life → Bool) (f : Life → Life) (xs : List Life) → ((x : Life) → Named x (f x)) → ((x : Life) → x.ended ≡ true → test x ≡ false) → Grown xs (where_it test f xs)
-grown_where test f xs names off = record {
+grown_where : (test : Life → Bool) (f : Life → Life) (xs : List Life) → ((x : Life) → Named x (f x)) → ((x : Life) → x.messages ≤ (f x).messages) → ((x : Life) → x.ended ≡ true → test x ≡ false) → Grown xs (where_it test f xs)
+grown_where test f xs names more off = record {
   change = λ x. changed_when (test x) f x;
   more = [];
   is = sym (nil_right (where_it test f xs));
   names = λ x. when x (test x);
   still = λ x e. ap (λ (v : Bool). changed_when v f x) (off x e);
+  counts = λ x. no_less x (test x);
 } where
   when : (x : Life) (v : Bool) → Named x (changed_when v f x)
   when x true = names x
   when x false = named_itself x
+
+  no_less : (x : Life) (v : Bool) → x.messages ≤ (changed_when v f x).messages
+  no_less x true = more x
+  no_less x false = omega arith
 
 and_off : (v w : Bool) → w ≡ true → (v && not w) ≡ false
 and_off true w e = ap not e
@@ -228,11 +238,11 @@ on_off h x e = and_off (same_host h x.host) x.ended e
 
 grown_told : (h : Host) (n : Notice) (xs : List Life) → Grown xs (lives_told h n xs)
 grown_told h (notice.Opened socket peer foreign own partner) xs = grown_more xs (new_life h socket peer foreign own partner ∷ [])
-grown_told h (notice.Ended socket peer foreign) xs = grown_where (lives_between h socket peer foreign) life_ended xs (λ x. record { host = refl; socket = refl; peer = refl; foreign = refl; own = refl; partner = refl }) (between_off h socket peer foreign)
-grown_told h (notice.PairReset peer) xs = grown_where (lives_with h peer) life_ended xs (λ x. record { host = refl; socket = refl; peer = refl; foreign = refl; own = refl; partner = refl }) (with_off h peer)
-grown_told h (notice.Sent socket bits) xs = grown_where (lives_at h socket) (carried bits) xs (λ x. record { host = refl; socket = refl; peer = refl; foreign = refl; own = refl; partner = refl }) (at_off h socket)
-grown_told h (notice.Arrived socket bits) xs = grown_where (lives_at h socket) (carried bits) xs (λ x. record { host = refl; socket = refl; peer = refl; foreign = refl; own = refl; partner = refl }) (at_off h socket)
-grown_told h (notice.Returned socket messages bits) xs = grown_where (lives_at h socket) (returned messages bits) xs (λ x. record { host = refl; socket = refl; peer = refl; foreign = refl; own = refl; partner = refl }) (at_off h socket)
+grown_told h (notice.Ended socket peer foreign) xs = grown_where (lives_between h socket peer foreign) life_ended xs (λ x. record { host = refl; socket = refl; peer = refl; foreign = refl; own = refl; partner = refl }) (λ x. omega arith) (between_off h socket peer foreign)
+grown_told h (notice.PairReset peer) xs = grown_where (lives_with h peer) life_ended xs (λ x. record { host = refl; socket = refl; peer = refl; foreign = refl; own = refl; partner = refl }) (λ x. omega arith) (with_off h peer)
+grown_told h (notice.Sent socket bits) xs = grown_where (lives_at h socket) (carried bits) xs (λ x. record { host = refl; socket = refl; peer = refl; foreign = refl; own = refl; partner = refl }) (λ x. omega arith) (at_off h socket)
+grown_told h (notice.Arrived socket bits) xs = grown_where (lives_at h socket) (carried bits) xs (λ x. record { host = refl; socket = refl; peer = refl; foreign = refl; own = refl; partner = refl }) (λ x. omega arith) (at_off h socket)
+grown_told h (notice.Returned socket messages bits) xs = grown_where (lives_at h socket) (returned messages bits) xs (λ x. record { host = refl; socket = refl; peer = refl; foreign = refl; own = refl; partner = refl }) (λ x. omega arith) (at_off h socket)
 grown_told h n xs = grown_none xs
 
 grown_all_told : (h : Host) (ns : List Notice) (k : Kept) → Grown k.book.lives (all_told h ns k).book.lives
@@ -240,11 +250,11 @@ grown_all_told h [] k = grown_none k.book.lives
 grown_all_told h (n ∷ ns) k = grown_on k.book.lives (lives_told h n k.book.lives) (all_told h ns (book_told h n k)).book.lives (grown_told h n k.book.lives) (grown_all_told h ns (book_told h n k))
 
 grown_crossed : (c : Crossing) (xs : List Life) → Grown xs (lives_crossed c xs)
-grown_crossed (crossing.Down h) xs = grown_where (lives_on h) life_ended xs (λ x. record { host = refl; socket = refl; peer = refl; foreign = refl; own = refl; partner = refl }) (on_off h)
+grown_crossed (crossing.Down h) xs = grown_where (lives_on h) life_ended xs (λ x. record { host = refl; socket = refl; peer = refl; foreign = refl; own = refl; partner = refl }) (λ x. omega arith) (on_off h)
 grown_crossed c xs = grown_none xs
 
 grown_asked : (h : Host) (r : Request) (xs : List Life) → Grown xs (lives_asked h r xs)
-grown_asked h (request.Grant socket messages bits) xs = grown_where (lives_at h socket) (granted messages bits) xs (λ x. record { host = refl; socket = refl; peer = refl; foreign = refl; own = refl; partner = refl }) (at_off h socket)
+grown_asked h (request.Grant socket messages bits) xs = grown_where (lives_at h socket) (granted messages bits) xs (λ x. record { host = refl; socket = refl; peer = refl; foreign = refl; own = refl; partner = refl }) (λ x. omega arith) (at_off h socket)
 grown_asked h r xs = grown_none xs
 
 grown_by : (y : Moment) (k : Kept) → Grown k.book.lives (kept_by y k).book.lives

@@ -4,7 +4,7 @@ use Rattle.std.proofs.lemmas.Bool.{eqb-true}
 use Rattle.interface.specs.Host.{Host}
 use Rattle.ncp_control.specs.Allocation as counters
 use Rattle.ncp_control.specs.declared.allocation.Allocation.{Allocation}
-use Rattle.stream_law.specs.Words.{Word, Rts, Str, All, Gvb, Ret, Cls, for}
+use Rattle.stream_law.specs.Words.{Word, Rts, All, Gvb, Cls, for}
 use Rattle.stream_law.specs.Senders as senders
 use Rattle.stream_law.specs.Senders.{Sender}
 use Rattle.host_pairs.specs.declared.entry.Entry.{Entry}

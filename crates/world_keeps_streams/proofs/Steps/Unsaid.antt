@@ -1,10 +1,10 @@
 -- A receiving end that hasn't said its CLS doesn't go where commands are heard: it says its own first.
-use Rattle.std.proofs.Common.{◌≡◌, ℕ, ◌==◌, ◌&&◌, not, Bool, true, false, if◌then◌else◌, List, [], ◌∷◌, ◌++◌, length, filter, Option, Some, None, is_some, refl, ap, sym, subst, ◌∙◌}
+use Rattle.std.proofs.Common.{◌≡◌, ℕ, ◌==◌, ◌&&◌, not, Bool, true, false, if◌then◌else◌, List, [], ◌∷◌, ◌++◌, filter, Option, Some, None, is_some, refl, ap, sym, subst, ◌∙◌}
 use Rattle.std.proofs.lemmas.Bool.{eqb-true}
 use Rattle.interface.specs.Host.{Host}
 use Rattle.ncp_control.specs.declared.command.Command.{Command}
 use Rattle.ncp_control.specs.declared.command.Command.TheVariants as command
-use Rattle.stream_law.specs.Words.{Word, Rts, Str, All, Gvb, Ret, Cls, for, holds}
+use Rattle.stream_law.specs.Words.{Word, Str, Ret, Cls, for, holds}
 use Rattle.stream_law.specs.Receivers as receivers
 use Rattle.stream_law.specs.Receivers.{Receiver}
 use Rattle.stream_law.proofs.lemmas.{for_here, some_is}

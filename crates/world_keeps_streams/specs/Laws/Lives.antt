@@ -7,6 +7,7 @@ use Rattle.interface.specs.declared.address.Flow.{Flow}
 use Rattle.interface.specs.declared.crossing.Answer.TheVariants as answer
 use Rattle.interface.specs.declared.crossing.Crossing.TheVariants as crossing
 use Rattle.interface.specs.declared.message.HostMessage.{HostMessage}
+use Rattle.promise.specs.Arrived.{ArrivedBook}
 use Rattle.promise.specs.Fates.{ClosesWhole, IsBeside}
 use Rattle.promise.specs.Formed.{FormedBook}
 use Rattle.promise.specs.declared.life.Fate.TheVariants as fate
@@ -19,7 +20,7 @@ use Rattle.net_sim.specs.Told.{kept_in}
 use Rattle.world_keeps_lives.specs.Firsts.{FirstBook}
 use Rattle.world_keeps_streams.specs.Answered.{HasArrived}
 use Rattle.world_keeps_streams.specs.Arrivals.{Arrives, ComesFor}
-use Rattle.world_keeps_streams.specs.Over.{AreOver}
+use Rattle.promise.specs.Over.{AreOver}
 use Rattle.world_keeps_streams.specs.Rests.{Agree, AreAtRest, AreSettled}
 use Rattle.world_keeps_streams.specs.Closes.{TookAll, WasClosedByPartner}
 
@@ -94,6 +95,13 @@ abbrev pub LivesWhole : Type 0
 LivesWhole =
     (hosts : List Host) (moments : List Moment) → HaveAddresses hosts → mail.IsRun hosts (crossings_of moments) → IsTimeline hosts moments →
     ClosesWhole (crossings_of moments) (kept_in moments).book.lives (kept_in moments).handed (kept_in moments).fates
+
+-- an open receiving life counts each message that came in on its link; so RFNM of data means that they are among the
+-- bits of the life that matches, if that is open
+abbrev pub LivesArrived : Type 0
+LivesArrived =
+    (hosts : List Host) (moments : List Moment) → HaveAddresses hosts → mail.IsRun hosts (crossings_of moments) → IsTimeline hosts moments →
+    ArrivedBook (contacts_of moments) (crossings_of moments) (kept_in moments).book.lives (kept_in moments).fates
 
 -- each life is over as its fate says, and by what its fate says
 abbrev pub LivesOver : Type 0

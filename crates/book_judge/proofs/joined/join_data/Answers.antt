@@ -1,5 +1,5 @@
 use Rattle.std.proofs.Common.{arith}
-use Rattle.book_judge.proofs.Streamed.{all_joined}
+use Rattle.book_judge.proofs.Crossed.Streamed.{all_joined}
 use Rattle.book_judge.proofs.joined.join_data.Goals as goal
 
 pub loop-place-init : goal.loop-place-init

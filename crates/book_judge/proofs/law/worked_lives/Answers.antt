@@ -2,7 +2,7 @@ use Rattle.std.proofs.Common.{[], ◌∷◌, inl, inr, subst}
 use Rattle.promise.specs.declared.life.Life.{Life}
 use Rattle.promise.specs.Formed.{IsFormed}
 use Rattle.world_keeps_lives.specs.WorkedFormed.{gave, sent_log, took}
-use Rattle.book_judge.proofs.Made.{none_made}
+use Rattle.book_judge.proofs.Crossed.Made.{none_made}
 use Rattle.book_judge.proofs.Named.{contains_cases, contains_none}
 use Rattle.book_judge.proofs.law.worked_lives.Goals as goal
 

@@ -1,5 +1,5 @@
 use Rattle.std.proofs.Common.{true, false, sym, ◌∙◌}
-use Rattle.book_judge.proofs.Made.{formed_by, partner_unnamed}
+use Rattle.book_judge.proofs.Crossed.Made.{formed_by, partner_unnamed}
 use Rattle.book_judge.proofs.lives.is_made.Goals as goal
 
 pub returns-in_default : goal.returns-in_default

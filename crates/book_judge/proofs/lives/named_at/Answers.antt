@@ -5,7 +5,7 @@ use Rattle.interface.specs.declared.address.Flow.{Flow}
 use Rattle.interface.proofs.lemmas.{same_flow-true}
 use Rattle.host_pairs.specs.Control.{orders_of}
 use Rattle.promise.specs.Formed.{named_in}
-use Rattle.book_judge.proofs.Streamed.{named_message, nested, past_end, piece_there, slice_none, unnamed_flow, unnamed_message, unnamed_place}
+use Rattle.book_judge.proofs.Crossed.Streamed.{named_message, nested, past_end, piece_there, slice_none, unnamed_flow, unnamed_message, unnamed_place}
 use Rattle.book_judge.proofs.lives.named_at.Goals as goal
 
 pub returns-in_err-get : goal.returns-in_err-get

@@ -1,5 +1,5 @@
 use Rattle.std.proofs.Common.{arith}
-use Rattle.book_judge.proofs.Made.{all_made, made_more, none_yet, unmade_here}
+use Rattle.book_judge.proofs.Crossed.Made.{all_made, made_more, none_yet, unmade_here}
 use Rattle.book_judge.proofs.lives.unmade_at.Goals as goal
 
 pub loop-place-init : goal.loop-place-init

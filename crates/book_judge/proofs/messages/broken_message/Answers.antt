@@ -1,5 +1,5 @@
 use Rattle.std.proofs.Common.{sym, ◌∙◌, arith}
-use Rattle.book_judge.proofs.Taken.{none_noted, noted_all, noted_next, noted_stops}
+use Rattle.book_judge.proofs.Crossed.Taken.{none_noted, noted_all, noted_next, noted_stops}
 use Rattle.book_judge.proofs.messages.broken_message.Goals as goal
 
 pub loop-place-init : goal.loop-place-init

@@ -1,6 +1,6 @@
 use Rattle.std.proofs.Common.{reverse, take}
 use Rattle.interface.specs.Messages.{SafeMessages}
-use Rattle.book_judge.proofs.Taken.{AreNoted}
+use Rattle.book_judge.proofs.Crossed.Taken.{AreNoted}
 use Rattle.book_judge.proofs.messages.broken_message.Given as goal
 
 abbrev pub invariant-loop-place : goal.invariant-loop-place

@@ -1,5 +1,5 @@
 use Rattle.book_log.specs.Log.{fates_of, lives_of}
-use Rattle.command_line.proofs.Named.{closes_named, formed_named, grants_named, lives_named, messages_named, only_kept, partners_named, run_named, safe_from_kept, streams_named}
+use Rattle.command_line.proofs.Named.{closes_named, fates_named, formed_named, grants_named, lives_named, messages_named, only_kept, partners_named, run_named, safe_from_kept, streams_named}
 use Rattle.command_line.proofs.law.named_parts.Goals as goal
 
 pub returns-clause-run : goal.returns-clause-run
@@ -25,6 +25,9 @@ returns-clause-grants c = λ b v j. grants_named v b.crossings (lives_of b) b.ha
 
 pub returns-clause-closes : goal.returns-clause-closes
 returns-clause-closes c = λ b v j. closes_named v b.crossings (lives_of b) b.handed (fates_of b) j
+
+pub returns-clause-fates : goal.returns-clause-fates
+returns-clause-fates c = λ b v j. fates_named v b.crossings (lives_of b) b.handed (fates_of b) j
 
 pub returns-clause-safe : goal.returns-clause-safe
 returns-clause-safe c = λ b j. safe_from_kept b.crossings (lives_of b) b.handed (fates_of b) j

@@ -1,5 +1,6 @@
 use Rattle.std.proofs.Common.{◌++◌}
-use Rattle.command_line.specs.Audits.{kept_text, lives_text, malformed_text, parts_text, run_text, verdict_text}
+use Rattle.command_line.specs.Audits.{fates_text, kept_text, lives_text, malformed_text, parts_text, run_text}
+use Rattle.command_line.specs.Audits.{verdict_text}
 use Rattle.command_line.proofs.Judged.{joins, stays, whether_ok}
 use Rattle.command_line.proofs.verdict.write_found.Goals as goal
 
@@ -8,7 +9,8 @@ returns-clause-written g c =
     let b = c.args.book.now in
     let v = c.args.found in
     let last = kept_text v in
-    let parts = parts_text b v ++ last in
+    let fates = fates_text b v.unsuited ++ last in
+    let parts = parts_text b v ++ fates in
     let malformed = malformed_text b v.malformed ++ parts in
     let lives = lives_text b v.unmade ++ malformed in
     let begun = g.W.Output.contents c.args.writer.now in
@@ -16,11 +18,13 @@ returns-clause-written g c =
     let after_lives = g.W.Output.contents c.write_lives.new.writer in
     let after_malformed = g.W.Output.contents c.write_malformed.new.writer in
     let after_parts = g.W.Output.contents c.write_parts.new.writer in
+    let after_fates = g.W.Output.contents c.write_fates.new.writer in
     let after_kept = g.W.Output.contents c.write_kept.new.writer in
     whether_ok c.flush.result
     (stays begun after_kept (g.W.Output.contents c.flush.new.self) (verdict_text b v)
     (joins begun after_run after_kept (run_text v.stray) lives c.in_ok-write_run.ensures.written
     (joins after_run after_lives after_kept (lives_text b v.unmade) malformed c.in_ok-write_lives.ensures.written
     (joins after_lives after_malformed after_kept (malformed_text b v.malformed) parts c.in_ok-write_malformed.ensures.written
-    (joins after_malformed after_parts after_kept (parts_text b v) last c.in_ok-write_parts.ensures.written c.in_ok-write_kept.ensures.written))))
+    (joins after_malformed after_parts after_kept (parts_text b v) fates c.in_ok-write_parts.ensures.written
+    (joins after_parts after_fates after_kept (fates_text b v.unsuited) last c.in_ok-write_fates.ensures.written c.in_ok-write_kept.ensures.written)))))
     c.flush.ensures.kept)

@@ -1,10 +1,11 @@
 use Rattle.std.proofs.Common.{sym, subst}
 use Rattle.net_sim.specs.Book.{Kept}
+use Rattle.promise.specs.Arrived.{ArrivedBook}
 use Rattle.promise.specs.Fates.{AreFated, ClosesWhole}
 use Rattle.promise.specs.Promised.{Promised}
 use Rattle.net_sim.proofs.lemmas.{world_fated}
-use Rattle.world_keeps_streams.proofs.lemmas.{world_ended, world_over}
-use Rattle.world_keeps_streams.specs.Over.{AreOver}
+use Rattle.world_keeps_streams.proofs.lemmas.{world_arrived, world_ended, world_over}
+use Rattle.promise.specs.Over.{AreOver}
 use Rattle.headline.proofs.Promise.{exact, promised}
 use Rattle.headline.proofs.book.book_of.Goals as goal
 
@@ -24,6 +25,11 @@ pub returns-clause-whole : goal.returns-clause-whole
 returns-clause-whole g c =
     subst (λ (k : Kept). ClosesWhole k.book.crossings k.book.lives k.handed k.fates) (sym c.book.ensures.value)
     (world_ended g.C.Carrier.calls.seen (g.C.Carrier.calls.seen c.args.world.now.carrier).hosts c.args.world.now c.book.ensures.lawful)
+
+pub returns-clause-arrived : goal.returns-clause-arrived
+returns-clause-arrived g c =
+    subst (λ (k : Kept). ArrivedBook k.book.contacts k.book.crossings k.book.lives k.fates) (sym c.book.ensures.value)
+    (world_arrived g.C.Carrier.calls.seen (g.C.Carrier.calls.seen c.args.world.now.carrier).hosts c.args.world.now c.book.ensures.lawful)
 
 pub returns-clause-over : goal.returns-clause-over
 returns-clause-over g c =

@@ -81,7 +81,7 @@ returns-clause-joined c strange hosts moments mixed reports backed =
       answer = c.orders.ensures.answer;
       offer = c.orders.ensures.offer;
     } in
-    joins orders c.lives-3.ensures.matches strange hosts moments mixed reports backed
+    joins orders c.lives-3.ensures strange hosts moments mixed reports backed
 
 pub returns-clause-settled : goal.returns-clause-settled
 returns-clause-settled c strange hosts moments mixed settled =

@@ -1,6 +1,7 @@
 use Rattle.world_keeps_streams.proofs.Books.Agree.{settled}
 use Rattle.world_keeps_streams.proofs.Books.All.{sent, source}
 use Rattle.world_keeps_streams.proofs.Books.Answered.{answered}
+use Rattle.world_keeps_streams.proofs.Ends.Arrived.{arrived_book}
 use Rattle.world_keeps_streams.proofs.Books.Arrives.{arrives}
 use Rattle.world_keeps_streams.proofs.Books.Calm.{all_calm}
 use Rattle.world_keeps_streams.proofs.Books.Came.{all_came}
@@ -58,6 +59,9 @@ returns-clause-ended c hosts moments addresses run time receiver there kind = en
 
 pub returns-clause-whole : goal.returns-clause-whole
 returns-clause-whole c hosts moments addresses run time = closes_all hosts moments (addresses, run, time)
+
+pub returns-clause-arrived : goal.returns-clause-arrived
+returns-clause-arrived c hosts moments addresses run time = arrived_book hosts moments (addresses, run, time)
 
 pub returns-clause-over : goal.returns-clause-over
 returns-clause-over c hosts moments addresses run time = over_now hosts moments (addresses, run, time)

@@ -1,6 +1,7 @@
 use Rattle.world_keeps_streams.proofs.Books.Agree.{world_agrees}
 use Rattle.world_keeps_streams.proofs.Books.All.{world_sent, world_source}
 use Rattle.world_keeps_streams.proofs.Books.Answered.{world_answered}
+use Rattle.world_keeps_streams.proofs.Ends.Arrived.{world_arrived}
 use Rattle.world_keeps_streams.proofs.Books.Arrives.{world_arrives}
 use Rattle.world_keeps_streams.proofs.Books.Calm.{world_calms}
 use Rattle.world_keeps_streams.proofs.Books.Came.{world_came}
@@ -58,6 +59,9 @@ returns-clause-whole g c hosts w lawful = world_ended g.C.Carrier.calls.seen hos
 
 pub returns-clause-settled : goal.returns-clause-settled
 returns-clause-settled g c hosts w lawful settled = world_settles g.C.Carrier.calls.seen hosts w lawful settled
+
+pub returns-clause-arrived : goal.returns-clause-arrived
+returns-clause-arrived g c hosts w lawful = world_arrived g.C.Carrier.calls.seen hosts w lawful
 
 pub returns-clause-over : goal.returns-clause-over
 returns-clause-over g c hosts w lawful = world_over g.C.Carrier.calls.seen hosts w lawful

@@ -1,5 +1,5 @@
 use Rattle.std.proofs.Common.{List, Bool, [], ◌∷◌, ap, sym, refl, ◌∙◌, arith}
-use Rattle.book_judge.proofs.Streamed.{added_at, none_at, numbered_at, on_ok}
+use Rattle.book_judge.proofs.Crossed.Streamed.{added_at, none_at, numbered_at, on_ok}
 use Rattle.book_judge.proofs.joined.Joined.add.Goals as goal
 
 pub returns-in_default : goal.returns-in_default

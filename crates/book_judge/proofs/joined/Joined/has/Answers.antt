@@ -1,5 +1,5 @@
 use Rattle.std.proofs.Common.{ℕ, ◌==◌, ap}
-use Rattle.book_judge.proofs.Streamed.{else_counted, none_after, no_stream, nothing_counted, past_end, piece_there, stream_there}
+use Rattle.book_judge.proofs.Crossed.Streamed.{else_counted, none_after, no_stream, nothing_counted, past_end, piece_there, stream_there}
 use Rattle.book_judge.proofs.joined.Joined.has.Goals as goal
 
 pub returns-in-Some-get : goal.returns-in-Some-get

@@ -1,4 +1,4 @@
-use Rattle.book_judge.proofs.Streamed.{joined_none}
+use Rattle.book_judge.proofs.Crossed.Streamed.{joined_none}
 use Rattle.book_judge.proofs.joined.Joined.new.Goals as goal
 
 pub returns : goal.returns

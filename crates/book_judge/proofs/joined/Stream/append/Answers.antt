@@ -3,7 +3,7 @@ use Rattle.std.proofs.lemmas.List.{length-append}
 use Rattle.promise.specs.Formed.{data_in}
 use Rattle.book_judge.specs.Inside.Joined.{bits_in, one_unread}
 use Rattle.book_judge.specs.declared.joined.Piece.{Piece}
-use Rattle.book_judge.proofs.Streamed.{cut_at, data_none, data_some, stream_more}
+use Rattle.book_judge.proofs.Crossed.Streamed.{cut_at, data_none, data_some, stream_more}
 use Rattle.book_judge.proofs.joined.Stream.append.Goals as goal
 
 pub returns-in_default : goal.returns-in_default

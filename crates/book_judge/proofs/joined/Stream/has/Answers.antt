@@ -1,7 +1,7 @@
 use Rattle.std.proofs.Common.{ℕ, ◌+◌, List, take, ap, ◌∙◌, subst, arith}
 use Rattle.book_judge.specs.Inside.Joined.{IsFirstFrom, marked, texts_by}
 use Rattle.book_judge.specs.declared.joined.Piece.{Piece}
-use Rattle.book_judge.proofs.Streamed.{answered, not_below, too_few, unlike}
+use Rattle.book_judge.proofs.Crossed.Streamed.{answered, not_below, too_few, unlike}
 use Rattle.book_judge.proofs.joined.Stream.has.Goals as goal
 
 pub returns-in_default : goal.returns-in_default

@@ -11,7 +11,7 @@ use Rattle.book_judge.specs.Inside.Joined.{texts_by}
 use Rattle.book_judge.specs.Inside.Made.{HasBits, since}
 use Rattle.book_judge.specs.Lives.{UnmadeAt}
 use Rattle.book_judge.proofs.Named.{contains_cases, contains_head, contains_none, contains_tail}
-use Rattle.book_judge.proofs.TextsBy.{texts_same}
+use Rattle.book_judge.proofs.Crossed.TextsBy.{texts_same}
 
 -- ---- one life
 

@@ -25,7 +25,7 @@ use Rattle.book_judge.specs.declared.joined.Stream.{Stream}
 use Rattle.book_judge.proofs.Elements.{read_at}
 use Rattle.book_judge.proofs.Mailboxes.{get_set}
 use Rattle.book_judge.proofs.Named.{get_cases, get_front, get_seam, named_there, same_flow_is, texts_at}
-use Rattle.book_judge.proofs.TextsBy.{AreRead, between, bits_append, data_ends, data_read, read_data, texts_after, texts_append, texts_less, texts_split, texts_within, unread_append, unread_two, within}
+use Rattle.book_judge.proofs.Crossed.TextsBy.{AreRead, between, bits_append, data_ends, data_read, read_data, texts_after, texts_append, texts_less, texts_split, texts_within, unread_append, unread_two, within}
 
 -- ---- one crossing more
 

@@ -1,0 +1,5 @@
+-- The messages that crossed: those of lives, and those that were taken.
+pub mod TextsBy
+pub mod Made
+pub mod Taken
+pub mod Streamed

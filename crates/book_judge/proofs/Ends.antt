@@ -1,0 +1,4 @@
+-- How lives end by what crossed.
+pub mod Reached
+pub mod Suited
+pub mod Contacts

@@ -1,0 +1,6 @@
+use Rattle.std.proofs.Common.{◌≡◌, reverse, take}
+use Rattle.book_judge.specs.Inside.Deeds.{deeds_in}
+use Rattle.book_judge.proofs.fates.deeds_of.Given as goal
+
+abbrev pub invariant-loop-place : goal.invariant-loop-place
+invariant-loop-place l = l.deeds.items ≡ deeds_in (reverse (take l.place l.log))

@@ -1,0 +1,46 @@
+-- Which fates what crossed leaves the lives of a log. How far a life is by that, and how it is over, `Ends` of
+-- `promise` says.
+use Rattle.std.specs.Prelude.{◌≡◌, ℕ, Bool, true, false, List, [], take}
+use Rattle.interface.specs.declared.crossing.Crossing.{Crossing}
+use Rattle.net_sim.specs.Findings.{EndsAt}
+use Rattle.promise.specs.Ends.{Asking, Cause, Closed, Dropped, Going, Over, Stage, Stopped, stage}
+use Rattle.promise.specs.Fates.{IsBeside}
+use Rattle.promise.specs.declared.life.Fate.{Fate}
+use Rattle.promise.specs.declared.life.Fate.TheVariants as fate
+use Rattle.promise.specs.declared.life.Life.{Life}
+
+-- the fates of a life that continues, by what crossed. A contact of its host doesn't cross, so it may have been reset
+-- by one
+abbrev pub suits_going : Fate → Bool
+suits_going fate.Open = true
+suits_going fate.Closing = true
+suits_going fate.Closed = false
+suits_going fate.Ended = false
+suits_going fate.Reset = true
+suits_going fate.Stopped = false
+
+-- and of one that is over by this; a contact may have come before that
+abbrev pub suits_cause : Cause → Fate → Bool
+suits_cause Dropped fate.Reset = true
+suits_cause Dropped f = false
+suits_cause Stopped fate.Stopped = true
+suits_cause Stopped fate.Reset = true
+suits_cause Stopped f = false
+suits_cause (Closed own_first) fate.Closed = true
+suits_cause (Closed own_first) fate.Ended = true
+suits_cause (Closed own_first) fate.Reset = true
+suits_cause (Closed own_first) f = false
+
+-- a stage leaves a fate. Of a life whose requests haven't crossed nothing is said here
+abbrev pub suits : Stage → Fate → Bool
+suits (Asking own partner) f = true
+suits (Going own partner) f = suits_going f
+suits (Over cause place) f = suits_cause cause f
+
+-- each life has a fate that what crossed leaves it
+abbrev pub AreSuited : List Crossing → List Life → List Fate → Type 0
+AreSuited log lives fates = (x : Life) (f : Fate) → IsBeside x f lives fates → suits (stage [] x log) f ≡ true
+
+-- the place of the first life that hasn't
+abbrev pub UnsuitedAt : List Crossing → List Life → List Fate → ℕ → Type 0
+UnsuitedAt log lives fates place = EndsAt (λ n. AreSuited log (take n lives) fates) place

@@ -1,0 +1,113 @@
+use Rattle.std.proofs.Common.{◌≡◌, inl, inr, ℕ, Bool, true, false, List, [], ◌∷◌, ◌++◌, length, if◌then◌else◌, Option, Some, refl, ap, sym, subst, ◌∙◌, arith}
+use Rattle.std.specs.List.{Contains}
+use Rattle.bit_messages.specs.Octets.{octets_of}
+use Rattle.interface.specs.declared.address.Flow.{Flow}
+use Rattle.interface.specs.declared.crossing.Answer.TheVariants as answer
+use Rattle.interface.specs.declared.crossing.Crossing.{Crossing}
+use Rattle.interface.specs.declared.crossing.Crossing.TheVariants as crossing
+use Rattle.ncp_control.specs.Reading.{command_of, read_of}
+use Rattle.host_pairs.specs.Control.{orders_of}
+use Rattle.promise.specs.Ends.{Going, stage}
+use Rattle.promise.specs.Fates.{IsBeside}
+use Rattle.promise.specs.Formed.{link_of, texts_on}
+use Rattle.promise.specs.Safe.{Match, receives}
+use Rattle.promise.specs.declared.life.Fate.TheVariants as fate
+use Rattle.promise.specs.declared.life.Life.{Life}
+use Rattle.world_keeps_lives.specs.WorkedFormed.{sent_log}
+use Rattle.world_keeps_lives.proofs.lemmas.{each_in}
+use Rattle.world_keeps_streams.specs.WorkedArrived.{closed_log, closed_receiver, closed_sender, sent_more, took_nothing}
+use Rattle.world_keeps_streams.proofs.worked_arrived.worked_open.Goals as goal
+
+-- ---- a log without answers
+
+is_answer : Crossing → Bool
+is_answer (crossing.Answer kind f) = true
+is_answer c = false
+
+all_other : List Crossing → Bool
+all_other [] = true
+all_other (c ∷ log) = if is_answer c then false else all_other log
+
+heads : (c d : Crossing) (xs ys : List Crossing) → c ∷ xs ≡ d ∷ ys → (c ≡ d) × (xs ≡ ys)
+heads c d xs ys e = ((let same : c ≡ d = cc in same), (let rest : xs ≡ ys = cc in rest))
+
+none_answered : (log newer older : List Crossing) (f : Flow) → all_other log ≡ true
+    → log ≡ newer ++ crossing.Answer answer.Rfnm f ∷ older → ⊥
+unfolding is_answer all_other
+none_answered [] [] older f o e = let no : [] ≡ crossing.Answer answer.Rfnm f ∷ older = e in cc
+none_answered [] (d ∷ newer) older f o e = let no : [] ≡ d ∷ (newer ++ crossing.Answer answer.Rfnm f ∷ older) = e in cc
+none_answered (c ∷ log) [] older f o e =
+    let is : c ≡ crossing.Answer answer.Rfnm f = (heads c (crossing.Answer answer.Rfnm f) log older e).0 in
+    let no : false ≡ true = ap (λ (d : Crossing). if is_answer d then false else all_other log) (sym is) ∙ o in cc
+none_answered (c ∷ log) (d ∷ newer) older f o e = by (is_answer c) o
+    (λ p. none_answered log newer older f p (heads c d log (newer ++ crossing.Answer answer.Rfnm f ∷ older) e).1) where
+      by : (v : Bool) → (if v then false else all_other log) ≡ true → (all_other log ≡ true → ⊥) → ⊥
+      by true p rest = let no : false ≡ true = p in cc
+      by false p rest = rest p
+
+-- ---- the rows
+
+closed_link : link_of closed_log closed_receiver ≡ Some 2
+unfolding octets_of orders_of read_of command_of
+closed_link = refl
+
+closed_stage : stage [] closed_receiver closed_log ≡ Going false true
+unfolding octets_of orders_of read_of command_of
+closed_stage = refl
+
+pub returns-clause-closed : goal.returns-clause-closed
+unfolding is_answer all_other
+returns-clause-closed c = record {
+  all = λ x i kind. all_of x kind i;
+  closed = λ r s own i is there m. sent_by r s m i there;
+  answered = λ newer older f e off. absurd (none_answered closed_log newer older f refl e);
+} where
+  all_of : (x : Life) → receives x ≡ true → IsBeside x fate.Open (closed_receiver ∷ closed_sender ∷ [])
+      (fate.Open ∷ fate.Open ∷ []) → x.messages ≡ length (texts_on x (link_of closed_log x) closed_log)
+  all_of x kind (inl i) = subst (λ (y : Life). y.messages ≡ length (texts_on y (link_of closed_log y) closed_log))
+      (sym i.0) (ap (λ (o : Option ℕ). length (texts_on closed_receiver o closed_log)) (sym closed_link))
+  all_of x kind (inr (inl i)) = absurd (let no : false ≡ true = ap receives (sym i.0) ∙ kind in cc)
+  all_of x kind (inr (inr i)) = absurd i
+
+  none : (r s : Life) → Match closed_log r s → IsBeside r fate.Open (closed_receiver ∷ closed_sender ∷ [])
+      (fate.Open ∷ fate.Open ∷ []) → (r.bits ≡ []) × (r.messages ≡ 0)
+  none r s m (inl i) = (ap (λ (y : Life). y.bits) i.0, ap (λ (y : Life). y.messages) i.0)
+  none r s m (inr (inl i)) = (ap (λ (y : Life). y.bits) i.0, ap (λ (y : Life). y.messages) i.0)
+  none r s m (inr (inr i)) = absurd i
+
+  sent_by : (r s : Life) → Match closed_log r s → IsBeside r fate.Open (closed_receiver ∷ closed_sender ∷ [])
+      (fate.Open ∷ fate.Open ∷ []) → Contains (closed_receiver ∷ closed_sender ∷ []) s
+      → (r.bits ≡ s.bits) × (r.messages ≡ s.messages)
+  sent_by r s m i there =
+      let k : (r.bits ≡ []) × (r.messages ≡ 0) = none r s m i in
+      let n : (s.bits ≡ []) × (s.messages ≡ 0) = each_in (λ (y : Life). (y.bits ≡ []) × (y.messages ≡ 0))
+      (closed_receiver ∷ closed_sender ∷ []) s there ((refl, refl), ((refl, refl), tt)) in
+      (k.0 ∙ sym n.0, k.1 ∙ sym n.1)
+
+pub returns-clause-lost : goal.returns-clause-lost
+returns-clause-lost c a =
+    let pairs : Match closed_log closed_receiver sent_more =
+    record {
+      receiving = refl;
+      sending = refl;
+      peers = (refl, refl);
+      sockets = (refl, refl);
+      asked =
+          refl;
+      answered = refl;
+    } in
+    let same : 0 ≡ 1 = (a.closed closed_receiver sent_more false (inl (refl, refl)) closed_stage
+    (1, omega arith, refl) pairs).1 in
+    omega (arith, same)
+
+took_link : link_of sent_log took_nothing ≡ Some 2
+unfolding octets_of orders_of read_of command_of
+took_link = refl
+
+pub returns-clause-uncounted : goal.returns-clause-uncounted
+returns-clause-uncounted c a =
+    let same : 0 ≡ length (texts_on took_nothing (Some 2) sent_log) =
+    subst (λ (o : Option ℕ). 0 ≡ length (texts_on took_nothing o sent_log)) took_link
+    (a.all took_nothing (inl (refl, refl)) refl) in
+    let one : length (texts_on took_nothing (Some 2) sent_log) ≡ 1 = refl in
+    omega (arith, same, one)

@@ -1,0 +1,275 @@
+"""What each clause of `headline::book_of` says of a life or a message: `./explain --book [LINE] < FILE`.
+
+FILE is a log, or an input, of whose replay the log is taken. LINE is a line of the log; without it the lives and the
+messages of data are listed. The names before each sentence are those of docs/measured/promise.md. All is worked out by
+the independent model, only from the log.
+"""
+
+from __future__ import annotations
+
+from collections.abc import Iterator
+from typing import NamedTuple
+
+from dorydate.model import firsts
+from dorydate.model.arrived import Arrived
+from dorydate.model.audit import is_passed, last_out, match, own_request, partner_request
+from dorydate.model.bits import Bits
+from dorydate.model.book import Life
+from dorydate.model.crossings import Answered, Crossing, Passed, Turned
+from dorydate.model.log import Book
+from dorydate.model.names import Flow, spell_host
+from dorydate.sentences.table import filled, listed, sentences
+
+SAID = sentences("book")
+TEXTS = sentences("texts")
+ANSWERS = sentences("answers")
+READING = Arrived()
+
+
+class Said(NamedTuple):
+    """A clause, by its names on the page of the promise, and what it says here."""
+
+    clause: str
+    sentence: str
+
+    def line(self) -> str:
+        return f"  {self.clause}: {self.sentence}"
+
+
+class NoSuchLine(Exception):
+    """A line of the log that is neither a life nor a message."""
+
+
+def said_of(book: Book, line: int | None) -> list[str]:
+    """What the clauses say of the life or the message in a line of the log, or the lines that may be asked for."""
+    log, lives, _ = book
+    if line is None:
+        data = [at for at, it in enumerate(log) if is_data(it)]
+        return [*(a_life(book, at) for at in range(len(lives))), *(a_message(book, at) for at in data)]
+    if len(log) < line <= len(log) + len(lives):
+        at = line - len(log) - 1
+        return [a_life(book, at), *(it.line() for it in of_life(book, at))]
+    if 0 < line <= len(log) and isinstance(message := log[line - 1], Passed):
+        out = line - 1 if message.kind == "out" else last_out(log, message.flow, line - 1)
+        if out is not None:
+            return [a_message(book, out), *(it.line() for it in of_message(book, out))]
+    raise NoSuchLine(line)
+
+
+def is_data(crossing: object) -> bool:
+    """Whether a message of data goes out by a crossing."""
+    return isinstance(crossing, Passed) and crossing.kind == "out" and crossing.flow.link != 0
+
+
+def line_of(book: Book, life: Life) -> int:
+    """The line of a life."""
+    return len(book.log) + 1 + next(at for at, it in enumerate(book.lives) if it is life)
+
+
+def a_life(book: Book, at: int) -> str:
+    """A life, in a line."""
+    it = book.lives[at]
+    ends = {"socket": it.socket, "host": spell_host(it.host), "foreign": it.foreign, "peer": spell_host(it.peer)}
+    way = "receives from" if it.receives() else "sends to"
+    line = len(book.log) + at + 1
+    return filled(SAID["a life"], ends, line=line, way=way, messages=it.messages, bits=len(it.bits), word=it.fate)
+
+
+def a_message(book: Book, at: int) -> str:
+    """A message, in a line."""
+    it = book.log[at]
+    assert isinstance(it, Passed)
+    ends = {"source": spell_host(it.flow.source), "destination": spell_host(it.flow.destination), "link": it.flow.link}
+    return filled(SAID["a message"], ends, line=at + 1, bits=len(it.text))
+
+
+# ---- a life
+
+
+def of_life(book: Book, at: int) -> Iterator[Said]:
+    """What each clause says of a life."""
+    life = book.lives[at]
+    others = partners(book, life)
+    yield from formed(book, life)
+    yield Said("promise.safe.partners", paired(book, life))
+    yield stream(book, at, others)
+    yield from grants(book, life, others)
+    yield Said("over", over(life))
+    yield Said("whole", whole(book, life, others))
+    yield Said("arrived.all", all_counted(book, life))
+
+
+def partners(book: Book, life: Life) -> list[Life]:
+    """The lives that a life matches."""
+    return [it for it in book.lives if (match(book.log, life, it) if life.receives() else match(book.log, it, life))]
+
+
+def formed(book: Book, life: Life) -> Iterator[Said]:
+    """Its two requests, and its bits."""
+    log = book.log
+    going, coming = Flow(life.host, life.peer, 0), Flow(life.peer, life.host, 0)
+    own = firsts.RIGHT.named_at(log, life.own, "out", going, life.socket, life.foreign)
+    partner = firsts.RIGHT.named_at(log, life.partner, "in", coming, life.foreign, life.socket)
+    placed = firsts.placed(log, life)
+    if not own or not partner or placed is None:
+        yield Said("promise.formed", SAID["unmade"])
+        return
+    asked, answered = request(life.socket, life.foreign, own[0]), request(life.foreign, life.socket, partner[0])
+    yield Said("promise.formed.own", filled(SAID["own"], line=life.own + 1, request=asked))
+    yield Said("promise.formed.partner", filled(SAID["partner"], line=life.partner + 1, request=answered))
+    counts = {"bits": len(life.bits), "messages": life.messages, "lines": lines(placed.places)}
+    sentence = SAID["link" if placed.places else "link only"]
+    crossed = "came in" if life.receives() else "went out"
+    yield Said("promise.formed.bits", filled(sentence, counts, link=placed.flow.link, crossed=crossed))
+
+
+def request(own: int, foreign: int, named: int) -> str:
+    """A request, as it is spelled."""
+    return filled(TEXTS["STR" if own % 2 else "RTS"], own=own, foreign=foreign, size=named, link=named)
+
+
+def lines(places: list[int]) -> str:
+    """The lines of some places."""
+    return f"line{'s' * (len(places) > 1)} {listed([str(at + 1) for at in places])}"
+
+
+def paired(book: Book, life: Life) -> str:
+    """Whose request its partner's is."""
+    log = book.log
+    asked = partner_request(log, life)
+    place = asked[0]
+    own = [it for it in book.lives if own_request(it) == own_request(life)]
+    same = [it for it in book.lives if partner_request(log, it) == asked]
+    found = [it for it in book.lives if own_request(it) == asked]
+    is_mutual = all(partner_request(log, it) == own_request(life) for it in found)
+    if place is None or len(own) > 1 or len(same) > 1 or not is_mutual:
+        return SAID["unpaired"]
+    if not found:
+        return filled(SAID["single"], line=place + 1)
+    return filled(SAID["partners"], line=place + 1, other=line_of(book, found[0]))
+
+
+def stream(book: Book, at: int, others: list[Life]) -> Said:
+    """What it took of its partner, or sent of what was handed over."""
+    life = book.lives[at]
+    if not life.receives():
+        return Said("promise.safe.streams.sent", handed_over(life, book.handed[at] if at < len(book.handed) else ""))
+    clause = "promise.safe.streams.source"
+    if not life.bits:
+        return Said(clause, SAID["nothing"])
+    if len(others) != 1 or not others[0].bits.startswith(life.bits):
+        return Said(clause, SAID["unsourced"])
+    counts = {"bits": len(life.bits), "sent": len(others[0].bits)}
+    return Said(clause, filled(SAID["source"], counts, other=line_of(book, others[0])))
+
+
+def handed_over(life: Life, handed: Bits) -> str:
+    """What a life sent, of what was handed over in it."""
+    name = "handed" if handed.startswith(life.bits) else "unhanded"
+    return filled(SAID[name], bits=len(life.bits), handed=len(handed))
+
+
+def grants(book: Book, life: Life, others: list[Life]) -> Iterator[Said]:
+    """What was granted to it, or by it."""
+    for receiver in [life] if life.receives() else others:
+        counts, back, most = [life.messages, len(life.bits)], receiver.returned, receiver.granted
+        is_kept = all(it + returned <= granted for it, returned, granted in zip(counts, back, most))
+        messages = {"messages": counts[0], "messages_back": back[0], "messages_granted": most[0]}
+        bits = {"bits": counts[1], "bits_back": back[1], "bits_granted": most[1]}
+        sentence = filled(SAID["granted" if is_kept else "ungranted"], messages | bits, other=line_of(book, receiver))
+        yield Said(f"promise.safe.grants.{'taken' if life.receives() else 'sent'}", sentence)
+
+
+def over(life: Life) -> str:
+    """By what it is over."""
+    names = {"open": "open", "closing": "open", "reset": "reset", "stopped": "stopped"}
+    hosts = {"host": spell_host(life.host), "peer": spell_host(life.peer)}
+    return filled(SAID[names.get(life.fate, "by cls")], hosts, word=life.fate, line=firsts.RIGHT.begun(life) + 1)
+
+
+def whole(book: Book, life: Life, others: list[Life]) -> str:
+    """Whether it has all that its partner sent, where it ended."""
+    if not life.receives() or life.fate != "ended" or not others:
+        return SAID["not ended"]
+    handed = {id(it): bits for it, bits in zip(book.lives, book.handed)}
+    has_all = all((it.bits, it.messages, handed.get(id(it))) == (life.bits, life.messages, life.bits) for it in others)
+    return filled(SAID["whole" if has_all else "lacking"], bits=len(life.bits), other=line_of(book, others[0]))
+
+
+def all_counted(book: Book, life: Life) -> str:
+    """Whether it counts all that came in, where it is open."""
+    if not life.receives() or life.fate != "open":
+        return SAID["not open"]
+    came = len(READING.places(book.log, life))
+    return filled(SAID["all" if came == life.messages else "closing"], messages=life.messages, came=came)
+
+
+# ---- a message
+
+
+def of_message(book: Book, at: int) -> Iterator[Said]:
+    """What each clause says of the message that went out at a place."""
+    log = book.log
+    message = log[at]
+    assert isinstance(message, Passed)
+    flow = message.flow
+    before = last_out(log, flow, at)
+    is_empty = before is None or any(frees(it, flow) for it in log[before:at])
+    yield Said("promise.run", SAID["run"] if is_empty or before is None else filled(SAID["box"], line=before + 1))
+    end = next((place for place in range(at + 1, len(log)) if is_passed(log[place], "out", flow)), len(log))
+    taken = [place for place in range(at + 1, end) if is_passed(log[place], "in", flow)]
+    yield Said("promise.safe.messages.once", filled(SAID["taken"], line=taken[0] + 1) if taken else SAID["untaken"])
+    answer = next((place for place in range(at + 1, end) if is_answer(log[place], flow)), None)
+    yield Said("promise.safe.messages.answered", answer_in_words(book, answer))
+    if flow.link != 0:
+        yield Said("promise.told", SAID["sent"])
+        yield from arrived(book, at, taken, answer)
+
+
+def is_answer(crossing: Crossing, flow: Flow) -> bool:
+    """Whether a crossing says what became of a flow's message."""
+    return isinstance(crossing, Answered) and crossing.flow == flow
+
+
+def frees(crossing: Crossing, flow: Flow) -> bool:
+    """Whether the box of a flow is empty after a crossing."""
+    comes_up = isinstance(crossing, Turned) and (crossing.kind, crossing.host) == ("up", flow.source)
+    return comes_up or is_answer(crossing, flow)
+
+
+def answer_in_words(book: Book, place: int | None) -> str:
+    """What the answer at a place says."""
+    if place is None:
+        return SAID["unanswered"]
+    answer = book.log[place]
+    assert isinstance(answer, Answered)
+    name = "rfnm" if answer.answer == "rfnm" else "other answer"
+    return filled(SAID[name], answer=ANSWERS[answer.answer], line=place + 1)
+
+
+def arrived(book: Book, at: int, taken: list[int], answer: int | None) -> Iterator[Said]:
+    """Which sending life counts it, and whether the receiving one does that this matches."""
+    log = book.log
+    senders = [it for it in book.lives if not it.receives() and at in READING.counted(log, it)]
+    if not senders:
+        yield Said("arrived.answered.sent", SAID["of none"])
+        return
+    number = READING.counted(log, senders[0]).index(at) + 1
+    yield Said("arrived.answered.sent", filled(SAID["of life"], number=number, line=line_of(book, senders[0])))
+    reply = log[answer] if answer is not None else None
+    if not (isinstance(reply, Answered) and reply.answer == "rfnm" and taken):
+        yield Said("arrived.answered.arrived", SAID["no rfnm"])
+        return
+    receivers = partners(book, senders[0])
+    yield from (Said("arrived.answered.arrived", counted_by(book, it, taken[0])) for it in receivers)
+    if not receivers:
+        yield Said("arrived.answered.arrived", SAID["unmatched"])
+
+
+def counted_by(book: Book, life: Life, place: int) -> str:
+    """Whether a receiving life counts the message that came in at a place."""
+    counted = READING.counted(book.log, life)
+    if place in counted:
+        return filled(SAID["counted"], number=counted.index(place) + 1, line=line_of(book, life))
+    name = "may be uncounted" if life.fate == "open" else "uncounted"
+    return filled(SAID[name], line=line_of(book, life), word=life.fate)

@@ -1,0 +1,124 @@
+"""Which fates what crossed leaves a life of a log: where it begins, and by what it is over.
+
+It was written from docs/audit.md, in another language and another form than the definitions.
+"""
+
+from __future__ import annotations
+
+from collections.abc import Iterator, Sequence
+from typing import NamedTuple
+
+from dorydate.model.audit import CONTROL
+from dorydate.model.book import Life
+from dorydate.model.commands import CLS, RRP, RST, RTS, STR, read_numbers
+from dorydate.model.crossings import Answered, Crossing, Passed
+from dorydate.model.firsts import RIGHT
+from dorydate.model.names import Flow, HostName
+
+WAYS = ("out", "in")  # a life's own commands go out, and those of its partner come in
+# by what a life is over, None where it continues: the fates that this leaves. A contact doesn't cross
+LEAVES: dict[str | None, set[str]] = {
+    None: {"open", "closing", "reset"},
+    "reset": {"reset"},
+    "stopped": {"stopped", "reset"},
+    "closed": {"closed", "ended", "reset"},
+}
+
+
+class Deed(NamedTuple):
+    """Something that may begin or end a life: what it is, and the place at which it crossed."""
+
+    what: str
+    place: int
+
+
+class Over(NamedTuple):
+    """By what a life is over, None where it continues; what crossed then, and where; and whose CLS had crossed."""
+
+    by: str | None
+    last: Deed | None
+    closed: frozenset[str]
+
+
+class Fates:
+    """Says of lives how they are over. `misread_logs` has readings that are wrong in one place each."""
+
+    leaves = LEAVES
+
+    def over(self, log: Sequence[Crossing], life: Life) -> Over | None:
+        """By what a life is over by what crossed; None where it hasn't begun."""
+        asked: set[str] = set()
+        closed: frozenset[str] = frozenset()
+        owes = False
+        for deed in self.deeds(log, life):
+            word, way = deed.what.split()
+            cut = self.cut(word, way, owes)
+            owes = self.owes(word, way, owes)
+            if len(asked) < len(WAYS):
+                asked |= {way} if word == "asks" else set()
+            elif cut:
+                return Over(cut, deed, closed)
+            elif word == "closes":
+                closed |= {way}
+                if self.are_closed(closed):
+                    return Over("closed", deed, closed)
+        return Over(None, None, closed) if len(asked) == len(WAYS) else None
+
+    def suits(self, log: Sequence[Crossing], life: Life) -> bool:
+        """Whether what crossed leaves a life its fate. Of one that hasn't begun nothing is said."""
+        over = self.over(log, life)
+        return over is None or life.fate in self.leaves[over.by]
+
+    def are_closed(self, closed: frozenset[str]) -> bool:
+        """Whether the CLS that crossed are enough."""
+        return closed == frozenset(WAYS)
+
+    def cut(self, word: str, way: str, owes: bool) -> str | None:
+        """How a life that continues ends by this, if it does: its pair is reset, or its host stops."""
+        if word == "down":
+            return "stopped"
+        resets = word == "rst" or (word, way, owes) == ("rrp", "out", False) or (word, owes) == ("fails", False)
+        return "reset" if resets else None
+
+    def owes(self, word: str, way: str, owes: bool) -> bool:
+        """Whether the host owes its peer an RRP after this."""
+        return (owes or (word, way) == ("rst", "in")) and word not in ("down", "up") and (word, way) != ("rrp", "out")
+
+    def deeds(self, log: Sequence[Crossing], life: Life) -> Iterator[Deed]:
+        """What may begin or end a life, the oldest first, each with the way that it goes."""
+        for place, crossing in enumerate(log):
+            if isinstance(crossing, Passed):
+                yield from self.commands(crossing, place, life)
+            elif isinstance(crossing, Answered):
+                if crossing.answer != "rfnm" and crossing.flow[:2] == (life.host, life.peer):
+                    yield Deed("fails out", place)
+            elif self.is_turned(crossing.host, life):
+                yield Deed(f"{crossing.kind} out", place)
+
+    def is_turned(self, host: HostName, life: Life) -> bool:
+        """Whether a host that stops or starts is a life's."""
+        return host == life.host
+
+    def commands(self, crossing: Passed, place: int, life: Life) -> Iterator[Deed]:
+        """The commands of a message between the two hosts that may begin or end a life."""
+        for way, source, destination, stamp, own, foreign in (
+            ("out", life.host, life.peer, life.own, life.socket, life.foreign),
+            ("in", life.peer, life.host, life.partner, life.foreign, life.socket),
+        ):
+            if (crossing.kind, crossing.flow) == (way, Flow(source, destination, CONTROL)):
+                for command in RIGHT.commands(crossing.text):
+                    word = self.word(command, own, foreign, place == stamp)
+                    if word:
+                        yield Deed(f"{word} {way}", place)
+
+    def word(self, command: bytes, own: int, foreign: int, is_stamp: bool) -> str | None:
+        """What a command does to a life with these sockets, of its sender and of the other; None for nothing."""
+        code = command[0]
+        if code in (RST, RRP):
+            return "rst" if code == RST else "rrp"
+        if code in (RTS, STR):
+            return "asks" if is_stamp and any(RIGHT.named_in([command], own, foreign)) else None
+        return "closes" if code == CLS and read_numbers(command, 4, 4) == [own, foreign] else None
+
+
+over = Fates().over

@@ -1,0 +1,71 @@
+"""What `./explain --book` says of lives and messages, in the log of two octets and in changed ones."""
+
+from __future__ import annotations
+
+import unittest
+
+from dorydate.explain.book import NoSuchLine, said_of
+from dorydate.model.log import Book, read_log
+from workshop.parts import ROOT
+
+TWO_OCTETS = f"{ROOT}/logs/two-octets"
+
+
+def book(*changes: tuple[str, str]) -> Book:
+    """The book of two octets, with parts of its text changed."""
+    with open(TWO_OCTETS, encoding="ascii") as file:
+        text = file.read()
+    for old, new in changes:
+        assert old in text
+        text = text.replace(old, new)
+    return read_log(text.encode("ascii"))
+
+
+def said(line: int, *changes: tuple[str, str]) -> dict[str, str]:
+    """What each clause says of a line of it."""
+    found = (it.strip().split(": ", 1) for it in said_of(book(*changes), line)[1:])
+    return {clause: sentence for clause, sentence in found}
+
+
+class OfBooks(unittest.TestCase):
+    def test_list(self) -> None:
+        self.assertEqual([it.split(":")[0] for it in said_of(book(), None)], ["line 10", "line 11", "line 7"])
+
+    def test_receiver(self) -> None:
+        clauses = said(10)
+        bits = clauses["promise.formed.bits"]
+        self.assertRegex(bits, "^The RTS names link 5. Its 16 bits .* the first 1 message .*: line 8.$")
+        self.assertIn("of the life of line 11, whose partner's is its own", clauses["promise.safe.partners"])
+        self.assertEqual(clauses["arrived.all"], "It is open, and counts all 1 message that came in on its link.")
+
+    def test_message(self) -> None:
+        clauses = said(7)
+        self.assertIn("Its host got RFNM in line 9", clauses["promise.safe.messages.answered"])
+        self.assertIn("message 1 of the life of line 10", clauses["arrived.answered.arrived"])
+        self.assertEqual(said(8), clauses)
+
+    def test_a_receiver_that_has_closed(self) -> None:
+        changes = ("receive 1 16 1 100 0 0 open 4849", "receive 0 0 1 100 0 0 open -")
+        self.assertIn("a user of its host has closed it", said(7, changes)["arrived.answered.arrived"])
+        self.assertIn("0 messages of the 1 that came in", said(10, changes)["arrived.all"])
+
+    def test_a_loss(self) -> None:
+        lost = ("receive 1 16 1 100 0 0 open 4849", "receive 0 0 1 100 0 0 ended -")
+        closed = ("send 1 16 0 0 0 0 open", "send 1 16 0 0 0 0 closed")
+        self.assertIn("it lacks some", said(10, lost, closed)["whole"])
+
+    def test_other_bits(self) -> None:
+        clauses = said(10, ("100 0 0 open 4849", "100 0 0 open 4848"))
+        self.assertEqual(clauses["promise.formed"], "It isn't made of messages that crossed.")
+
+    def test_no_rfnm(self) -> None:
+        clauses = said(7, ("answer rfnm 0/2 0/1 5", "answer incomplete 0/2 0/1 5"))
+        self.assertEqual(clauses["arrived.answered.arrived"], "Only RFNM means that data have arrived.")
+
+    def test_no_such_line(self) -> None:
+        for line in (0, 9, 12, 99):
+            self.assertRaises(NoSuchLine, said_of, book(), line)
+
+
+if __name__ == "__main__":
+    unittest.main()
