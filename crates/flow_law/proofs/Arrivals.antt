@@ -62,11 +62,11 @@ note_gone {Piece} v t x new_fate can gone h =
         | inr made ↦ absurd (rfnm_refuses_not y kind made.refusal)
       ];
       dead = λ y there kind awaited. record { waiting = dead_fits v.box c.place c.text c.waits; unread = c.unread; none = old };
-      fated = λ to number awaited.
+      fated = λ number awaited.
           (let here : v.outstanding ≡ Some x.number = h.expected (h.sender number awaited) x can.there can.new in
           let same : Some x.number ≡ Some number = sym here ∙ awaited in
           record {
-            other = λ another. absurd (another same);
+            other = λ to another. absurd (another same);
             same = λ kept. lost_says new_fate v.queue v.box gone (record { waiting = dead_fits v.box c.place c.text c.waits; unread = c.unread });
           });
       busy = h.busy;
@@ -107,11 +107,11 @@ whole {Piece} v t x text can h =
       });
       taken = h.taken;
       dead = λ y ty kind awaited. (let g : Gone v.to_up v.kept v.queue v.box t = h.dead y ty kind awaited in absurd (g.none x can.note.there can.note.new));
-      fated = λ to number awaited.
+      fated = λ number awaited.
           (let here : v.outstanding ≡ Some x.number = h.expected (h.sender number awaited) x can.note.there can.note.new in
           let same : Some x.number ≡ Some number = sym here ∙ awaited in
           record {
-            other = λ another. absurd (another same);
+            other = λ to another. absurd (another same);
             same = λ kept unread. (let one : v.queue ++ queued_text x.number text ∷ [] ≡ queued_text x.number text ∷ [] = ap (λ (q : List Queued). q ++ queued_text x.number text ∷ []) c.unread in absurd (cc));
           });
       busy = h.busy;
@@ -151,7 +151,7 @@ ended v t kind number awaited e h =
       waiting = inl e.unread;
       taken = λ x tx told none. absurd (cc);
       dead = λ x tx told none. absurd (cc);
-      fated = λ to n none. absurd (cc);
+      fated = λ n none. absurd (cc);
       busy = λ n none. absurd (cc);
       settled = λ up idle. inr (record { kind = kind; one = told_up v.source kind v.answers up b.none; fits = e.fits });
     }
@@ -244,12 +244,12 @@ take_message {Piece} v t oldest others can h held =
         | inl ty ↦ (let g : Gone v.to_up v.kept v.queue v.box t = h.dead y ty kind awaited in let unread : v.queue ≡ [] = g.unread in absurd (cc))
         | inr made ↦ absurd (rfnm_refuses_not y made.kind kind)
       ];
-      fated = λ to n awaited.
-          (let k : Fated n v.kept v.fate v.queue v.box t = h.fated to n awaited in
+      fated = λ n awaited.
+          (let k : Fated n v.to_up v.kept v.fate v.queue v.box t = h.fated n awaited in
           let here : v.outstanding ≡ Some held.number = held.awaited (h.sender n awaited) in
           let at : n ≡ oldest.number = (let there : n ≡ held.number = cc in there ∙ sym number) in
           record {
-            other = λ another. (let unread : v.queue ≡ [] = (k.other another).lost.unread in absurd (cc));
+            other = λ to another. (let unread : v.queue ≡ [] = (k.other to another).lost.unread in absurd (cc));
             same = λ kept. subst (λ (new : Fate). FateSays new others (fetched v.box)) (sym (fate_of_kept v.kept n oldest.number v.fate kept at)) (subst (λ (b : Box). Fits answer.Rfnm b) (sym box) tt);
           });
       busy = λ n awaited. (let b : Busy v.answers v.box = h.busy n awaited in record { none = b.none; full = subst (λ (b : Box). Fits answer.Incomplete b) (sym box) tt });
@@ -314,7 +314,7 @@ take_answer v t oldest others can h =
       waiting = inl (idle_queue v t h up idle);
       taken = λ x tx kind awaited. absurd (cc);
       dead = λ x tx kind awaited. absurd (cc);
-      fated = λ to n awaited. absurd (cc);
+      fated = λ n awaited. absurd (cc);
       busy = λ n awaited. absurd (cc);
       settled = λ source none. inl (record { none = w.last; empty = refl });
     }

@@ -29,7 +29,7 @@ kept_not_new v t number x awaited same h new kept =
 -- what a new question of the outstanding message finds
 found_lost : {Piece : List Bool → Packet → Type 0} (v : View) (t : Packet → Type 0) (number : ℕ) (x : Packet) → v.outstanding ≡ Some number → x.number ≡ number → Invariant Piece v t
     → New v.to_up v.kept x → Unnoted number v.queue v.box t
-found_lost v t number x awaited same h new = (h.fated new.up number awaited).other (kept_not_new v t number x awaited same h new)
+found_lost v t number x awaited same h new = (h.fated number awaited).other new.up (kept_not_new v t number x awaited same h new)
 
 -- a question carries no piece
 no_piece : (Piece : List Bool → Packet → Type 0) (box : Box) (queue : List Queued) (x : Packet) → x.kind ≡ Kind.Ask → Lost queue box → Carried Piece box queue x
@@ -76,11 +76,11 @@ asks {Piece} v t number awaited h = record {
         })
     | inr made ↦ absurd (asks_refuses_not x made.kind kind)
   ];
-  fated = λ to n out.
-      (let k : Fated n v.kept v.fate v.queue v.box t = h.fated to n out in
+  fated = λ n out.
+      (let k : Fated n v.to_up v.kept v.fate v.queue v.box t = h.fated n out in
       record {
-        other = λ another.
-            (let u : Unnoted n v.queue v.box t = k.other another in
+        other = λ to another.
+            (let u : Unnoted n v.queue v.box t = k.other to another in
             record {
               lost = u.lost;
               none = λ x there refusal. elim there [
@@ -121,7 +121,7 @@ reply {Piece} v t x told can h =
     tells_no_request v.fate told can.tells (ap is_request (sym made.kind) ∙ request) in
     -- what is kept is true of the message that is outstanding
     let says : (n : ℕ) → n ≡ x.number → v.outstanding ≡ Some n → FateSays v.fate v.queue v.box = λ n same awaited.
-    (h.fated can.up n awaited).same (can.kept ∙ ap (λ (k : ℕ). Some k) (sym same)) in
+    (h.fated n awaited).same (can.kept ∙ ap (λ (k : ℕ). Some k) (sym same)) in
     record {
       range = h.range;
       begun = h.begun;
@@ -174,11 +174,11 @@ reply {Piece} v t x told can h =
               ];
             })
       ];
-      fated = λ to n awaited.
-          (let k : Fated n v.kept v.fate v.queue v.box t = h.fated to n awaited in
+      fated = λ n awaited.
+          (let k : Fated n v.to_up v.kept v.fate v.queue v.box t = h.fated n awaited in
           record {
-            other = λ another.
-                (let u : Unnoted n v.queue v.box t = k.other another in
+            other = λ to another.
+                (let u : Unnoted n v.queue v.box t = k.other to another in
                 record {
                   lost = u.lost;
                   none = λ y there refusal same. elim there [

@@ -31,7 +31,7 @@ dead_now v t place text can h =
       waiting = inl (idle_queue v t h up can.idle);
       taken = λ x tx kind awaited. (let idle : v.outstanding ≡ None = can.idle in absurd (cc));
       dead = λ x tx kind awaited. (let idle : v.outstanding ≡ None = can.idle in absurd (cc));
-      fated = λ up number awaited. (let idle : v.outstanding ≡ None = can.idle in absurd (cc));
+      fated = λ number awaited. (let idle : v.outstanding ≡ None = can.idle in absurd (cc));
       busy = λ number awaited. (let idle : v.outstanding ≡ None = can.idle in absurd (cc));
       settled = λ source idle. inr (record { kind = answer.Dead; one = refl; fits = tt });
     }
@@ -71,10 +71,10 @@ begin_sent {Piece} v t place text can h =
         | inl tx ↦ absurd (fresh v t h up x tx (let at : Some n ≡ Some x.number = awaited in cc))
         | inr made ↦ absurd (no_refusal x made.data_packet kind)
       ];
-      fated = λ to number awaited.
+      fated = λ number awaited.
           (let at : n ≡ number = cc in
           record {
-            other = λ another. record {
+            other = λ to another. record {
               lost = record { waiting = tt; unread = idle_queue v t h up can.offer.idle };
               none = λ x there refusal same. elim there [
                 | inl tx ↦ absurd (fresh v t h up x tx (same ∙ sym at))
@@ -114,8 +114,8 @@ begin_local {Piece} v t place text can h =
       });
       taken = λ x tx kind awaited. absurd (not_there x tx awaited);
       dead = λ x tx kind awaited. absurd (not_there x tx awaited);
-      fated = λ to number awaited. record {
-        other = λ another. absurd (another awaited);
+      fated = λ number awaited. record {
+        other = λ to another. absurd (another awaited);
         same = λ kept unread. queued_some v.queue (queued_text n text) unread;
       };
       busy = λ number awaited. record { none = can.offer.answered; full = tt };

@@ -11,9 +11,9 @@ use Rattle.flow_law.specs.View.{View, Packet, Queued, is_request}
 use Rattle.flow_law.specs.Moves.{New, CanBegin, queued_text, next_number}
 use Rattle.flow_law.specs.Invariant.{Invariant, Begun, Carried, Gone, Unnoted, Fated}
 
-fated_less : (v : View) (t s : Packet → Type 0) (number : ℕ) → ((x : Packet) → s x → t x) → Fated number v.kept v.fate v.queue v.box t → Fated number v.kept v.fate v.queue v.box s
+fated_less : (v : View) (t s : Packet → Type 0) (number : ℕ) → ((x : Packet) → s x → t x) → Fated number v.to_up v.kept v.fate v.queue v.box t → Fated number v.to_up v.kept v.fate v.queue v.box s
 fated_less v t s number less k = record {
-  other = λ another. (let u : Unnoted number v.queue v.box t = k.other another in record { lost = u.lost; none = λ x sx. u.none x (less x sx) });
+  other = λ to another. (let u : Unnoted number v.queue v.box t = k.other to another in record { lost = u.lost; none = λ x sx. u.none x (less x sx) });
   same = k.same;
 }
 
@@ -33,7 +33,7 @@ invariant_less v t s less h = record {
   dead = λ x sx kind awaited.
       (let g : Gone v.to_up v.kept v.queue v.box t = h.dead x (less x sx) kind awaited in
       record { waiting = g.waiting; unread = g.unread; none = λ y sy. g.none y (less y sy) });
-  fated = λ up number awaited. fated_less v t s number less (h.fated up number awaited);
+  fated = λ number awaited. fated_less v t s number less (h.fated number awaited);
   busy = h.busy;
   settled = h.settled;
 }

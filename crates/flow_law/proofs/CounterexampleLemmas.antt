@@ -111,7 +111,7 @@ notes_taken_breaks = record {
     (
       record { needs = record { there = first_there (rfnm_of 0) []; brings = tt; awaited = refl }; left = left_none _ _ },
       (
-        record { needs = record { up = refl; there = first_there (data_of 0 first_text) []; kept = refl; tells = refl }; left = left_made _ _ (rfnm_of 0) (record { kind = refl; number = refl }) },
+        record { needs = record { there = first_there (data_of 0 first_text) []; kept = refl; tells = refl }; left = left_made _ _ (rfnm_of 0) (record { kind = refl; number = refl }) },
         (
           record { needs = record { there = first_there (data_of 0 first_text) []; new = new_at_first (data_of 0 first_text) refl }; left = λ x there. inl there },
           (

@@ -103,7 +103,7 @@ replies_to_nothing_breaks = record {
         (
           record { needs = record { no_request = answer_only Kind.Rfnm refl; idle = refl }; left = λ x there. inl there },
           (
-            record { needs = (refl, refl, refl); left = left_made _ _ (rfnm_of 0) (record { kind = refl; number = refl }) },
+            record { needs = (refl, refl); left = left_made _ _ (rfnm_of 0) (record { kind = refl; number = refl }) },
             (
               record { needs = record { from_up = refl; down = refl; idle = refl }; left = λ x there. inl there },
               (
@@ -135,7 +135,7 @@ replies_to_any_breaks = record {
     (
       record { needs = record { there = first_there (rfnm_of second) []; brings = tt; awaited = refl }; left = left_none _ _ },
       (
-        record { needs = (refl, first_there (ask_of second) [], refl); left = left_made _ _ (rfnm_of second) (record { kind = refl; number = refl }) },
+        record { needs = (first_there (ask_of second) [], refl); left = left_made _ _ (rfnm_of second) (record { kind = refl; number = refl }) },
         (
           record { needs = refl; left = left_made _ _ (ask_of second) (record { kind = refl; number = refl }) },
           (
@@ -170,7 +170,7 @@ replies_falsely_breaks = record {
       (
         record { needs = record { destination = refl; waits = refl }; left = λ x there. inl there },
         (
-          record { needs = (refl, first_there (ask_of 0) [], refl); left = left_made _ _ (dead_of 0) (record { kind = refl; number = refl }) },
+          record { needs = (first_there (ask_of 0) [], refl); left = left_made _ _ (dead_of 0) (record { kind = refl; number = refl }) },
           (
             record { needs = refl; left = left_made _ _ (ask_of 0) (record { kind = refl; number = refl }) },
             (
@@ -194,7 +194,7 @@ never_of_waiting_breaks = record {
       (
         record { needs = record { destination = refl; waits = refl }; left = λ x there. inl there },
         (
-          record { needs = (refl, first_there (ask_of 0) [], refl, refl, refl); left = left_made _ _ (never_of 0) (record { kind = refl; number = refl }) },
+          record { needs = (first_there (ask_of 0) [], refl, refl, refl); left = left_made _ _ (never_of 0) (record { kind = refl; number = refl }) },
           (
             record { needs = refl; left = left_made _ _ (ask_of 0) (record { kind = refl; number = refl }) },
             (
@@ -216,7 +216,7 @@ never_of_taken_breaks = record {
     (
       record { needs = record { there = first_there (never_of 0) []; brings = tt; awaited = refl }; left = left_none _ _ },
       (
-        record { needs = (refl, first_there (ask_of 0) [], refl, refl, refl); left = left_made _ _ (never_of 0) (record { kind = refl; number = refl }) },
+        record { needs = (first_there (ask_of 0) [], refl, refl, refl); left = left_made _ _ (never_of 0) (record { kind = refl; number = refl }) },
         (
           record { needs = refl; left = left_made _ _ (ask_of 0) (record { kind = refl; number = refl }) },
           (

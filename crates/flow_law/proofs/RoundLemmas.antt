@@ -259,7 +259,7 @@ tells_first : (n : ℕ) (v : View) → v ≡ lost_at n → IsTurn BeginsKept InO
 tells_first n v at =
     let V : View → Type 0 = λ w. IsTurn BeginsKept InOnePacket (view_moved begin_next w) (ask_of 0 ∷ []) (turn (Move.Reply (ask_of 0) Kind.Rfnm) (rfnm_of 0 ∷ [])) in
     subst V (sym at) (record {
-      needs = record { up = refl; there = first_there (ask_of 0) []; kept = refl; tells = refl };
+      needs = record { there = first_there (ask_of 0) []; kept = refl; tells = refl };
       left = left_made _ _ (rfnm_of 0) (record { kind = refl; number = refl });
     })
 

@@ -27,7 +27,7 @@ opening_invariant v t o nothing =
       waiting = inl o.queue;
       taken = λ x tx kind awaited. absurd (nothing x tx);
       dead = λ x tx kind awaited. absurd (nothing x tx);
-      fated = λ to n is. absurd (cc);
+      fated = λ n is. absurd (cc);
       busy = λ n is. absurd (cc);
       settled = λ up none. inl (record { none = o.answers; empty = o.box });
     }

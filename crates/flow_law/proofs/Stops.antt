@@ -45,7 +45,7 @@ start_source v t can h =
       waiting = inl (idle_queue v t h can.from_up idle);
       taken = λ x tx kind awaited. absurd (cc);
       dead = λ x tx kind awaited. absurd (cc);
-      fated = λ to n awaited. absurd (cc);
+      fated = λ n awaited. absurd (cc);
       busy = λ n awaited. absurd (cc);
       settled = λ up none. inl (record { none = h.away can.down; empty = refl });
     }
@@ -55,11 +55,11 @@ same_fate : (kept : Option ℕ) (queue : List Queued) (old : Fate) → queue ≡
 same_fate kept [] old none = refl
 same_fate kept (q ∷ queue) old none = absurd (cc)
 
-unread_fated : (v : View) (t : Packet → Type 0) (number : ℕ) → v.queue ≡ [] → Fated number v.kept v.fate v.queue v.box t → Fated number v.kept (with_fates v.kept v.queue fate.Dead v.fate) [] v.box t
+unread_fated : (v : View) (t : Packet → Type 0) (number : ℕ) → v.queue ≡ [] → Fated number v.to_up v.kept v.fate v.queue v.box t → Fated number v.to_up v.kept (with_fates v.kept v.queue fate.Dead v.fate) [] v.box t
 unread_fated v t number none k =
     let says : v.kept ≡ Some number → FateSays v.fate [] v.box = λ kept. subst (λ (queue : List Queued). FateSays v.fate queue v.box) none (k.same kept) in
     record {
-      other = λ another. (let u : Unnoted number v.queue v.box t = k.other another in record { lost = record { waiting = u.lost.waiting; unread = refl }; none = u.none });
+      other = λ to another. (let u : Unnoted number v.queue v.box t = k.other to another in record { lost = record { waiting = u.lost.waiting; unread = refl }; none = u.none });
       same = λ kept. subst (λ (new : Fate). FateSays new [] v.box) (sym (same_fate v.kept v.queue v.fate none)) (says kept);
     }
 
@@ -88,7 +88,7 @@ stop_unread {Piece} v t none h = record {
   taken = h.taken;
   dead = λ y ty kind awaited. (let g : Gone v.to_up v.kept v.queue v.box t = h.dead y ty kind awaited in
       record { waiting = g.waiting; unread = refl; none = g.none });
-  fated = λ to number awaited. unread_fated v t number none (h.fated to number awaited);
+  fated = λ number awaited. unread_fated v t number none (h.fated number awaited);
   busy = h.busy;
   settled = h.settled;
 }
@@ -121,13 +121,13 @@ stop_held {Piece} v t held h =
         | inr made ↦ (let told : y.kind ≡ Kind.Dead = made.kind in absurd (cc))
       ];
       dead = λ y there kind awaited. record { waiting = dead_fits v.box held.place held.text held.waits; unread = refl; none = old };
-      fated = λ to n awaited.
-          (let k : Fated n v.kept v.fate v.queue v.box t = h.fated to n awaited in
+      fated = λ n awaited.
+          (let k : Fated n v.to_up v.kept v.fate v.queue v.box t = h.fated n awaited in
           let here : v.outstanding ≡ Some held.number = held.awaited (h.sender n awaited) in
           let at : n ≡ held.number = cc in
           let lost : Lost [] v.box = record { waiting = dead_fits v.box held.place held.text held.waits; unread = refl } in
           record {
-            other = λ another. (let unread : v.queue ≡ [] = (k.other another).lost.unread in absurd (cc));
+            other = λ to another. (let unread : v.queue ≡ [] = (k.other to another).lost.unread in absurd (cc));
             same = λ kept. subst (λ (new : Fate). FateSays new [] v.box) (sym (dead_fate v.kept v.queue (queued_text held.number held.text) n v.fate one kept at)) lost;
           });
       busy = h.busy;
@@ -195,7 +195,7 @@ stop_from v t h = record {
   ];
   taken = λ x tx kind none. absurd (cc);
   dead = λ x tx kind none. absurd (cc);
-  fated = λ to n none. absurd (cc);
+  fated = λ n none. absurd (cc);
   busy = λ n none. absurd (cc);
   settled = λ up idle. absurd (cc);
 }
@@ -236,7 +236,7 @@ stop_to v t h =
       taken = h.taken;
       dead = λ x tx kind awaited. (let g : Gone v.to_up v.kept v.queue v.box t = h.dead x tx kind awaited in
           record { waiting = g.waiting; unread = refl; none = λ y ty new. old y new });
-      fated = λ to n awaited. absurd (cc);
+      fated = λ n awaited. record { other = λ to another. absurd (cc); same = λ kept. absurd (cc) };
       busy = h.busy;
       settled = h.settled;
     }
@@ -261,7 +261,7 @@ unasked v t to_up kept new_fate can h =
       taken = h.taken;
       dead = λ x tx kind awaited. (let g : Gone v.to_up v.kept v.queue v.box t = h.dead x tx kind awaited in
           record { waiting = g.waiting; unread = g.unread; none = old });
-      fated = λ to n awaited. absurd (cc);
+      fated = λ n awaited. absurd (cc);
       busy = h.busy;
       settled = h.settled;
     }

@@ -469,7 +469,7 @@ asks_anything =
 
 -- something is said though no packet is there: it outlives the source's IMP, and fits the first message after it
 abbrev pub RepliesToNothing : Machine
-RepliesToNothing (Move.Reply x told) v alive = (v.to_up ≡ true) × (v.kept ≡ Some x.number) × Tells v.fate told
+RepliesToNothing (Move.Reply x told) v alive = (v.kept ≡ Some x.number) × Tells v.fate told
 RepliesToNothing m v alive = Needs InOnePacket m v alive
 
 abbrev pub replies_to_nothing : List FlowTurn
@@ -488,7 +488,7 @@ replies_to_nothing =
 
 -- a question is answered by the fate of another message
 abbrev pub RepliesToAny : Machine
-RepliesToAny (Move.Reply x told) v alive = (v.to_up ≡ true) × alive x × Tells v.fate told
+RepliesToAny (Move.Reply x told) v alive = alive x × Tells v.fate told
 RepliesToAny m v alive = Needs InOnePacket m v alive
 
 -- the number after 0
@@ -510,7 +510,7 @@ replies_to_any =
 
 -- something is informed that isn't true: Dead of a message that waits, which is taken then
 abbrev pub RepliesFalsely : Machine
-RepliesFalsely (Move.Reply x told) v alive = (v.to_up ≡ true) × alive x × (v.kept ≡ Some x.number)
+RepliesFalsely (Move.Reply x told) v alive = alive x × (v.kept ≡ Some x.number)
 RepliesFalsely m v alive = Needs InOnePacket m v alive
 
 abbrev pub replies_falsely : List FlowTurn
@@ -525,7 +525,7 @@ replies_falsely =
 
 -- a question is answered by Never while its message waits: it is taken after that
 abbrev pub NeverOfWaiting : Machine
-NeverOfWaiting (Move.Reply x told) v alive = (v.to_up ≡ true) × alive x × (v.kept ≡ Some x.number) × (v.fate ≡ fate.Waits) × (told ≡ Kind.Never)
+NeverOfWaiting (Move.Reply x told) v alive = alive x × (v.kept ≡ Some x.number) × (v.fate ≡ fate.Waits) × (told ≡ Kind.Never)
 NeverOfWaiting m v alive = Needs InOnePacket m v alive
 
 abbrev pub never_of_waiting : List FlowTurn
@@ -540,7 +540,7 @@ never_of_waiting =
 
 -- a question is answered by Never though its message was taken
 abbrev pub NeverOfTaken : Machine
-NeverOfTaken (Move.Reply x told) v alive = (v.to_up ≡ true) × alive x × (v.kept ≡ Some x.number) × (v.fate ≡ fate.Taken) × (told ≡ Kind.Never)
+NeverOfTaken (Move.Reply x told) v alive = alive x × (v.kept ≡ Some x.number) × (v.fate ≡ fate.Taken) × (told ≡ Kind.Never)
 NeverOfTaken m v alive = Needs InOnePacket m v alive
 
 abbrev pub never_of_taken : List FlowTurn

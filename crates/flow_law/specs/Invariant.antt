@@ -58,9 +58,9 @@ FateSays fate.Taken queue box = Fits answer.Rfnm box
 FateSays fate.Dead queue box = Lost queue box
 FateSays fate.Never queue box = Lost queue box
 
--- what is kept is true of the outstanding message, which has this number
-pub record Fated (number : ℕ) (kept : Option ℕ) (new : Fate) (queue : List Queued) (box : Box) (alive : Packet → Type 0) : Type 0 where
-  pub other : kept ≢ Some number → Unnoted number queue box alive
+-- what is kept is true of the outstanding message, which has this number; an IMP that is up and keeps another, or none, never noted it
+pub record Fated (number : ℕ) (to_up : Bool) (kept : Option ℕ) (new : Fate) (queue : List Queued) (box : Box) (alive : Packet → Type 0) : Type 0 where
+  pub other : to_up ≡ true → kept ≢ Some number → Unnoted number queue box alive
   pub same : kept ≡ Some number → FateSays new queue box
 
 -- no answer waits, and the box isn't empty
@@ -107,8 +107,8 @@ pub record Invariant (Piece : List Bool → Packet → Type 0) (v : View) (alive
   pub taken : (x : Packet) → alive x → x.kind ≡ Kind.Rfnm → v.outstanding ≡ Some x.number → Fits answer.Rfnm v.box
   -- A refusal, Dead or Never, of the outstanding number is alive only when the message wasn't taken and never will be.
   pub dead : (x : Packet) → alive x → is_refusal x.kind ≡ true → v.outstanding ≡ Some x.number → Gone v.to_up v.kept v.queue v.box alive
-  -- While the destination's IMP is up, what it keeps is true of the outstanding message: so a question learns the truth.
-  pub fated : v.to_up ≡ true → (number : ℕ) → v.outstanding ≡ Some number → Fated number v.kept v.fate v.queue v.box alive
+  -- What the destination's IMP keeps is true of the outstanding message: so a question learns the truth.
+  pub fated : (number : ℕ) → v.outstanding ≡ Some number → Fated number v.to_up v.kept v.fate v.queue v.box alive
   -- While a message is outstanding its box isn't empty and no answer waits: so there is one answer to a message.
   pub busy : (number : ℕ) → v.outstanding ≡ Some number → Busy v.answers v.box
   -- While none is and the source is up, the box is empty, or one answer waits that fits it.

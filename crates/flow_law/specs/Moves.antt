@@ -174,7 +174,6 @@ pub record CanGiveUp (v : View) (alive : Packet → Type 0) (number : ℕ) : Typ
 
 -- a packet with the number noted last is there, and what is said is true
 pub record CanReply (v : View) (alive : Packet → Type 0) (x : Packet) (told : Kind) : Type 0 where
-  pub up : v.to_up ≡ true
   pub there : alive x
   pub kept : v.kept ≡ Some x.number
   pub tells : Tells v.fate told

@@ -222,7 +222,6 @@ replying_sound n i s p turn told b asked still only is =
       here =
           makes_one move (view n g) (view next g) (Alive n g) (Alive next g)
           (record {
-            up = ap imp_is_up at;
             there = alive_here n p b.there;
             kept = ap kept_in known ∙ ap Some asked.same;
             tells = subst (λ (x : Fate). law.Tells x (kind_of told)) fated r.tells;
