@@ -181,8 +181,8 @@ def log_of_lives(count: int) -> bytes:
         rts, request = f"120 0008000A0001{even:08X}{odd:08X}05", f"120 0008000A0002{odd:08X}{even:08X}08"
         for flow, text in ((f"{one} {other} 0", rts), (f"{other} {one} 0", request), (f"{other} {one} 5", "56 00080002004849")):
             crossings += [f"out {flow} {text}", f"in {flow} {text}", f"answer rfnm {flow}"]
-        lives.append(f"life {one} {even} {other} {odd} {place} {place + 4} receive 1 16 1 16 0 0 ended 4849")
-        lives.append(f"life {other} {odd} {one} {even} {place + 3} {place + 1} send 1 16 0 0 0 0 ended 4849")
+        lives.append(f"life {one} {even} {other} {odd} {place} {place + 4} receive 1 16 1 16 0 0 open 4849")
+        lives.append(f"life {other} {odd} {one} {even} {place + 3} {place + 1} send 1 16 0 0 0 0 open 4849")
         handed += ["handed 0 -", "handed 16 4849"]
     return "\n".join([*crossings, *lives, *handed, "end", ""]).encode()
 

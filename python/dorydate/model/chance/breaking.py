@@ -13,6 +13,7 @@ from dorydate.model.audit import CONTROL, match
 from dorydate.model.bits import Bits
 from dorydate.model.book import Fate, Life
 from dorydate.model.crossings import Answer, Answered, Crossing, Passed, Turned
+from dorydate.model.fates import LEAVES, over
 from dorydate.model.log import Book
 from dorydate.model.names import Flow, HostName
 
@@ -452,7 +453,9 @@ def granted_more(chance: Random, book: Book) -> None:
 
 def ended_otherwise(chance: Random, book: Book) -> None:
     life = a_life(chance, book)
-    life.fate = chance.choice([it for it in FATES if it != "ended" or sends(life)])
+    ended_by = over(book.log, life)
+    may = LEAVES[ended_by.by] if ended_by else {*FATES}
+    life.fate = chance.choice([it for it in FATES if it in may and (it != "ended" or sends(life))])
 
 
 def handed_more(chance: Random, book: Book) -> None:
