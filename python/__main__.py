@@ -13,6 +13,7 @@ COMMANDS = {
     "caught": "workshop.wasm.caught:main",
     "check": "workshop.commands:check",
     "check-one": "workshop.builds.one:main",
+    "clauses": "workshop.documents.clauses:main",
     "common": "workshop.documents.common:main",
     "dead": "workshop.documents.dead:main",
     "explain": "dorydate.explain.command:main",
@@ -25,6 +26,7 @@ COMMANDS = {
     "pack": "workshop.wasm.pack:main",
     "release": "workshop.builds.release:main",
     "site": "workshop.builds.site:main",
+    "stated": "workshop.documents.stated:main",
 }
 
 

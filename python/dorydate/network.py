@@ -270,6 +270,8 @@ def check(network: Network) -> None:
         raise BadNetwork(f"a network has 1 to {MOST_IMPS} IMPs")
     numbers = [imp.number for imp in network.imps]
     for imp in network.imps:
+        if type(imp.number) is not int or type(imp.hosts) is not int:
+            raise BadNetwork(f"IMP {imp.number!r} with {imp.hosts!r} hosts: these are whole numbers")
         if not 1 <= imp.number <= MOST_IMPS or not 0 <= imp.hosts <= MOST_HOSTS:
             raise BadNetwork(f"{imp} has a number from 1 to {MOST_IMPS} and 0 to {MOST_HOSTS} hosts")
         if numbers.count(imp.number) > 1:

@@ -17,7 +17,7 @@ from dorydate.network import Host, HostName, ImpName, Network
 from dorydate.printed import flow_of, kind_of, matches, may_match, without_text
 from dorydate.program import Program
 from dorydate.where import found
-from dorydate.script import Entry, Event, Flow, Script, octets_of
+from dorydate.script import BadLine, Entry, Event, Flow, Script, octets_of
 from dorydate.state import Frame, State
 
 MOST_ROUNDS = 200  # of one `settle`, `run_until` or `restart` where nothing else is said
@@ -105,7 +105,9 @@ class Replay:
         return step_of(event, texts[before:], why)
 
     def _has_to_fit(self, event: Event) -> None:
-        """Raises `Stopped` for an event that networks of this kind don't have."""
+        """Raises `BadLine` for what is no event, and `Stopped` for one that networks of this kind don't have."""
+        if not isinstance(event, Event):
+            raise BadLine(f"{event!r} is no event; `read_event` reads one from a line of a script")
         if event.word not in (events.RAW if self.network.raw else events.WORLD):
             raise Stopped(f"`{event.word}` is an event of {'networks with host programs' if self.network.raw else 'raw networks'}")
 

@@ -54,6 +54,24 @@ class OfBooks(unittest.TestCase):
         closed = ("send 1 16 0 0 0 0 open", "send 1 16 0 0 0 0 closed")
         self.assertIn("it lacks some", said(10, lost, closed)["whole"])
 
+    def test_a_partner_that_has_closed(self) -> None:
+        cls = "0008000900030000002100000010"
+        crossed = f"out 0/2 0/1 0 112 {cls}\nin 0/2 0/1 0 112 {cls}\nanswer rfnm 0/2 0/1 0"
+        closing = ("life 0/1 16", f"{crossed}\nlife 0/1 16")
+        self.assertIn("it has the 16 bits that the life of line 14 sent", said(13, closing)["arrived.closed"])
+        fewer = ("receive 1 16 1 100 0 0 open 4849", "receive 0 0 1 100 0 0 open -")
+        self.assertIn("so a user of its host has closed it", said(13, closing, fewer)["arrived.closed"])
+        self.assertRegex(said(10)["arrived.closed"], "^Only once its partner's CLS has come")
+
+    def test_fates(self) -> None:
+        reset = ("life 0/1 16", "out 0/1 0/2 0 48 00080001000C\nlife 0/1 16")
+        self.assertIn("leaves it no such fate", said(11, reset)["over"])
+        words = said(11, reset, ("100 0 0 open", "100 0 0 reset"))["over"]
+        self.assertRegex(words, "^It is reset: it began in line 5, and in line 10 an RST crossed, .* of 0/1 with 0/2 were dropped.$")
+        self.assertIn("by a contact with 0/2", said(10, ("100 0 0 open", "100 0 0 reset"))["over"])
+        down = ("life 0/1 16", "down 0/1\nlife 0/1 16")
+        self.assertIn("0/1 stopped in line 10", said(11, down, ("100 0 0 open", "100 0 0 stopped"))["over"])
+
     def test_other_bits(self) -> None:
         clauses = said(10, ("100 0 0 open 4849", "100 0 0 open 4848"))
         self.assertEqual(clauses["promise.formed"], "It isn't made of messages that crossed.")

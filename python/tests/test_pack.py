@@ -52,7 +52,7 @@ class Joined(unittest.TestCase):
 
     def test_documentation_and_indents_are_left_out(self) -> None:
         script = self.joined({"main.js": '/** The page. */\n\n/**\n * Answers one.\n *\n * @returns {number}\n */\nfunction f() {\n    return 1; /** @type {number} */\n}\nf("/** kept */");\n'})
-        self.assertIn('function f() {\nreturn 1; /** @type {number} */\n}\nf("/** kept */");\n', script)
+        self.assertIn('function f() {\nreturn 1; \n}\nf("/** kept */");\n', script)
         self.assertNotIn("Answers one", script)
 
     def test_a_text_over_several_lines_is_refused(self) -> None:
@@ -81,8 +81,8 @@ class Octets(unittest.TestCase):
 
 
 class Page(unittest.TestCase):
-    def test_a_style_has_no_comments_nor_indents(self) -> None:
-        self.assertEqual(bare_style("/* one\n * two */\na {\n    b: c; /* d */\n}\n\ne { f: g; }\n"), "a {\nb: c; \n}\ne { f: g; }\n")
+    def test_a_style_has_no_comments_and_only_the_spaces_that_part_words(self) -> None:
+        self.assertEqual(bare_style("/* one\n * two */\na {\n    b: c d; /* e */\n}\n\nf g { h: i; }\n"), "a{b:c d;}f g{h:i;}")
 
     def test_a_hash_is_the_one_that_browsers_name(self) -> None:
         # of the text "alert('Hello, world.');", as the standard of Content Security Policy has it

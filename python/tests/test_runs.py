@@ -76,6 +76,8 @@ class Replays(unittest.TestCase):
         rows: list[tuple[Callable[[], object], str]] = [
             (lambda: net.out("UCLA", "SRI", 300), "300 is not from 0 to 255"),
             (lambda: net.calm("x"), "'x' is not a whole number from 0 to 4294967295"),  # type: ignore[arg-type]
+            (lambda: net.do("hostdown 0/1"), "'hostdown 0/1' is no event"),  # type: ignore[arg-type]
+            (lambda: Network.joined("A", hosts={"A": "1"}), "IMP 1 with '1' hosts"),  # type: ignore[dict-item]
             (lambda: net.out(1, 2), "1 is not a host: write `0/1`"),  # type: ignore[arg-type]
             (lambda: net.back(2), "1 events have happened, so 2 can't be taken back"),
             (lambda: net.back(-1), "can't be taken back"),

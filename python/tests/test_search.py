@@ -144,6 +144,9 @@ class Campaigns(unittest.TestCase):
         campaign = Campaign.read("search,seeds,runs\nhalf-open,1-2 7,50\nresets-in-step,,\n", "out.csv")
         self.assertEqual([(it.row, it.name, it.job.seed, it.runs) for it in campaign.tasks], [(1, "half-open", 1, 50), (1, "half-open", 2, 50), (1, "half-open", 7, 50), (2, "resets-in-step", 1, 100_000)])
         self.assertEqual(seeds_of("3 5-6"), [3, 5, 6])
+        for words in ("a", "1-", "-2", "1-2-3", "9" * 4301, f"1-{'9' * 4301}", "1-999999999"):
+            with self.subTest(words[:9]), self.assertRaises(BadTable):
+                seeds_of(words)
 
     def test_bad_tables_are_refused_by_name(self) -> None:
         for table, says in {

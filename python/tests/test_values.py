@@ -16,6 +16,8 @@ from dorydate.explore.many import moved
 from dorydate.network import BadNetwork, Host, Imp, Line, Network
 from dorydate.script import BadLine, Calm, Drop, Flow, Out, Script, Text, read_event
 
+MANY_DIGITS = "9" * 4301  # Python refuses to read as many
+
 ROOT = Path(__file__).resolve().parents[2]
 REFUSED = {"a-bad-line", "an-unknown-event"}  # examples of scripts that the program refuses
 
@@ -164,6 +166,12 @@ class Patterns(unittest.TestCase):
         self.assertIsNone(self.found("out .. and calm 5: nothing", ["out 0/1"], ("in 0/1",)))
         self.assertIsNotNone(self.found("out .. and calm 5: 2 lines, no ready", ["out 0/1"], ("in 0/1", "in 0/1")))
         self.assertIsNone(self.found("out .. and calm 5: 2 lines, no in", ["out 0/1"], ("in 0/1", "in 0/1")))
+
+    def test_numbers_of_many_digits(self) -> None:
+        many = MANY_DIGITS
+        for text in (f"calm {many}: nothing", f"calm 2: {many} lines", f"in A N .. where N < {many}"):
+            with self.subTest(text[:9]), self.assertRaises(pattern.BadPattern):
+                pattern.read(text)
 
     def test_bad_patterns(self) -> None:
         for text in ("", "A B", "in .. A .. B", "in a B ..", "not in A", "in A where A", "out .. and calm 5: quiet"):

@@ -1,14 +1,26 @@
 /**
  * Drives a browser without a library: Chromium by its pipe of DevTools messages, Firefox by Marionette, a socket of its
- * own.
+ * own, and WebKit by its WebDriver, over HTTP.
  *
- * Both give a `Browser`. Each runs without a window, with a profile of its own, which is removed afterwards.
+ * Each gives a `Browser`. It runs without a window, WebKit on a screen that nobody sees, with a profile of its own,
+ * which is removed afterwards.
  */
 
 import { spawn } from "node:child_process";
 import { existsSync, mkdirSync, mkdtempSync, readFileSync, rmSync, writeFileSync } from "node:fs";
+import { request } from "node:http";
 import { connect } from "node:net";
-import { tmpdir } from "node:os";
+import { cpus, loadavg, tmpdir } from "node:os";
+
+/**
+ * A node of the tree that a screen reader is given.
+ *
+ * @typedef {object} Spoken
+ * @property {string} role
+ * @property {string} name
+ * @property {string} about what is said of it beside its name
+ * @property {boolean} isReached whether it takes the focus
+ */
 
 /**
  * A browser with one page.
@@ -23,11 +35,17 @@ import { tmpdir } from "node:os";
  *     dark, and answers whether the browser can: only Chromium does
  * @property {(file: string) => Promise<void>} shoot writes a picture of the page
  * @property {(file: string) => Promise<void>} print writes what is printed of the page, as PDF
+ * @property {() => Promise<Spoken[]>} tree what a screen reader gets, in order: only Chromium says it
  * @property {() => string[]} requests the addresses that the page has asked for; only Chromium tells
  * @property {() => Promise<void>} close
  */
 
-const PATIENCE = 120_000; // milliseconds that one step may take
+const PATIENCE = 120_000; // milliseconds that one step may take, on a machine that has nothing else to do
+
+/** How many times longer a page may take for what else the machine has to do at present: 1 where it has a processor free. */
+export function load() {
+    return Math.max(1, loadavg()[0] / cpus().length);
+}
 
 /** @type {(milliseconds: number) => Promise<void>} */
 const pause = (milliseconds) => new Promise((resolve) => setTimeout(() => resolve(), milliseconds));
@@ -47,7 +65,7 @@ function questions(send) {
             const number = ++last;
             send(number, method, given);
             return new Promise((resolve, reject) => {
-                const timer = setTimeout(() => reject(new Error(`${method}: no answer`)), PATIENCE);
+                const timer = setTimeout(() => reject(new Error(`${method}: no answer`)), PATIENCE * load());
                 const end = () => clearTimeout(timer);
                 open.set(number, { resolve: (it) => (end(), resolve(it)), reject: (it) => (end(), reject(it)) });
             });
@@ -141,6 +159,7 @@ export async function chromium(program) {
                 "base64",
             );
         },
+        tree: async () => treeOf(ask),
         requests: () => requests,
         async close() {
             child.kill("SIGTERM");
@@ -150,9 +169,34 @@ export async function chromium(program) {
     };
 }
 
+/**
+ * What a screen reader gets: Chromium's accessibility tree, in its order.
+ *
+ * @param {(method: string, given?: object) => Promise<any>} ask
+ * @returns {Promise<Spoken[]>}
+ */
+async function treeOf(ask) {
+    /** @type {{nodes: any[]}} */
+    const { nodes } = await ask("Accessibility.getFullAXTree");
+    const byId = new Map(nodes.map((it) => [it.nodeId, it]));
+    /** @type {any[]} */
+    const found = [];
+    const walk = (/** @type {any} */ node) => {
+        if (!node.ignored) found.push(node);
+        for (const id of node.childIds ?? []) if (byId.has(id)) walk(byId.get(id));
+    };
+    walk(nodes[0]);
+    return found.map((it) => ({
+        role: it.role?.value ?? "",
+        name: it.name?.value ?? "",
+        about: it.description?.value ?? "",
+        isReached: (it.properties ?? []).some((/** @type {any} */ one) => one.name === "focusable" && one.value.value),
+    }));
+}
+
 /** The port that a Firefox of a profile listens on: it writes it into a file there. */
 async function portOf(/** @type {string} */ profile) {
-    for (let waited = 0; waited < PATIENCE; waited += 100) {
+    for (let waited = 0; waited < PATIENCE * load(); waited += 100) {
         const file = `${profile}/MarionetteActivePort`;
         if (existsSync(file)) return Number(readFileSync(file, "utf8"));
         await pause(100);
@@ -200,7 +244,7 @@ export async function firefox(program) {
     });
     await greeted;
     await ask("WebDriver:NewSession", {});
-    await ask("WebDriver:SetTimeouts", { script: PATIENCE });
+    await ask("WebDriver:SetTimeouts", { script: Math.round(PATIENCE * load()) });
     return {
         name: "Firefox",
         async open(url) {
@@ -227,12 +271,145 @@ export async function firefox(program) {
         async print(file) {
             writeFileSync(file, (await ask("WebDriver:Print", {})).value, "base64");
         },
+        tree: async () => [],
         requests: () => [],
         async close() {
             socket.end();
             child.kill("SIGTERM");
             await ended;
             rmSync(profile, { recursive: true, force: true });
+        },
+    };
+}
+
+/**
+ * A screen that nobody sees.
+ *
+ * @returns {Promise<{name: string, end: () => void}>} the name of the display
+ */
+async function screen() {
+    const words = ["-displayfd", "3", "-screen", "0", "2000x1600x24", "-nolisten", "tcp"];
+    const child = spawn("Xvfb", words, { stdio: ["ignore", "ignore", "ignore", "pipe"] });
+    const number = await new Promise((resolve, reject) => {
+        child.on("error", reject);
+        const listen = (/** @type {Uint8Array} */ octets) => resolve(new TextDecoder().decode(octets).trim());
+        child.stdio[3].on("data", listen);
+    });
+    return { name: `:${number}`, end: () => child.kill("SIGTERM") };
+}
+
+/**
+ * The answer of a server here, however long it takes.
+ *
+ * @param {number} port
+ * @param {string} method
+ * @param {string} path
+ * @param {string} body
+ * @returns {Promise<{status: number, text: string}>}
+ */
+function answered(port, method, path, body) {
+    return new Promise((resolve, reject) => {
+        const headers = { "Content-Length": new TextEncoder().encode(body).length };
+        const asked = request({ host: "127.0.0.1", port, method, path, headers }, (answer) => {
+            const decoder = new TextDecoder();
+            let text = "";
+            answer.on("data", (octets) => (text += decoder.decode(octets, { stream: true })));
+            answer.on("end", () => resolve({ status: answer.statusCode, text }));
+        });
+        asked.on("error", reject);
+        asked.end(body);
+    });
+}
+
+/**
+ * The program `WebKitWebDriver`, which starts a small browser, on a screen that nobody sees.
+ *
+ * @param {string} program
+ */
+async function driver(program) {
+    const display = await screen();
+    const home = mkdtempSync(`${tmpdir()}/webkit-`);
+    mkdirSync(`${home}/gtk-3.0`); // windows may be as narrow as a telephone
+    const style = "* { min-width: 0; padding: 0; margin: 0; font-size: 1px; -gtk-icon-transform: scale(0); }\n";
+    writeFileSync(`${home}/gtk-3.0/gtk.css`, style);
+    const port = 20_000 + (Number(display.name.slice(1)) % 10_000);
+    const folders = { HOME: home, XDG_CACHE_HOME: home, XDG_CONFIG_HOME: home, XDG_DATA_HOME: home };
+    const env = { ...process.env, ...folders, DISPLAY: display.name, GDK_BACKEND: "x11" };
+    const child = spawn(program, [`--port=${port}`], { env, stdio: ["ignore", "ignore", "ignore"] });
+    const ended = new Promise((resolve) => child.on("exit", resolve));
+    return {
+        /** @type {(method: string, path: string, given?: object) => Promise<any>} */
+        async ask(method, path, given) {
+            const { status, text } = await answered(port, method, path, given ? JSON.stringify(given) : "");
+            const { value } = JSON.parse(text);
+            if (status !== 200) throw new Error(`${value.error}: ${value.message}`);
+            return value;
+        },
+        async end() {
+            child.kill("SIGTERM");
+            await ended;
+            display.end();
+            rmSync(home, { recursive: true, force: true });
+        },
+    };
+}
+
+/**
+ * WebKit, by `WebKitWebDriver`. It needs `Xvfb`.
+ *
+ * @param {string} program
+ * @returns {Promise<Browser>}
+ */
+export async function webkit(program) {
+    const { ask, end } = await driver(program);
+    for (let waited = 0; !(await ask("GET", "/status").then((it) => it.ready, () => false)); waited += 100) {
+        if (waited > PATIENCE * load()) throw new Error("WebKit does not listen");
+        await pause(100);
+    }
+    const session = `/session/${(await ask("POST", "/session", { capabilities: {} })).sessionId}`;
+    const most = Math.round(5 * PATIENCE * load()); // without a card, WebKit is slow in drawing
+    await ask("POST", `${session}/timeouts`, { script: most, pageLoad: most });
+    return {
+        name: "WebKit",
+        async open(url) {
+            await ask("POST", `${session}/url`, { url });
+        },
+        async evaluate(body) {
+            const script = `const done = arguments[0];
+                (async () => {${body}})().then((it) => done({ it }), (why) => done({ why: String(why) }))`;
+            const value = await ask("POST", `${session}/execute/async`, { script, args: [] });
+            if (value.why) throw new Error(value.why);
+            return value.it;
+        },
+        async resize(width, height) {
+            // the window is larger than its page, and comes to its size by and by
+            let [beside, above] = [0, 0];
+            for (let tried = 0; tried < 20; tried += 1) {
+                await ask("POST", `${session}/window/rect`, { width: width + beside, height: height + above });
+                await pause(50);
+                const script = "return [innerWidth, innerHeight, outerWidth - innerWidth, outerHeight - innerHeight];";
+                const found = await ask("POST", `${session}/execute/sync`, { script, args: [] });
+                if (found[0] === width && found[1] === height) {
+                    // the page hears of it before it is drawn again
+                    const drawn = "requestAnimationFrame(() => requestAnimationFrame(arguments[0]));";
+                    return void (await ask("POST", `${session}/execute/async`, { script: drawn, args: [] }));
+                }
+                [beside, above] = found.slice(2);
+            }
+            throw new Error(`WebKit's window does not come to ${width} by ${height}`);
+        },
+        look: async () => false,
+        async shoot(file) {
+            writeFileSync(file, await ask("GET", `${session}/screenshot`), "base64");
+        },
+        async print(file) {
+            writeFileSync(file, await ask("POST", `${session}/print`, {}), "base64");
+        },
+        tree: async () => [],
+        requests: () => [],
+        async close() {
+            await ask("DELETE", session).catch(() => {});
+            await end();
         },
     };
 }

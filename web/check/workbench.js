@@ -2,14 +2,14 @@
  * Tries the workbench in a browser: node web/check/workbench.js PAGE BROWSER..
  *
  * Each lesson is stepped forth and back, parts are tapped, an address is opened again, keys and the focus are looked
- * at, and at each size nothing is cut and no text is on another. Faults that are planted in the page have to be found.
- * It ends with status 1 where something is wrong, and says what.
+ * at, and what a screen reader gets, and at each size nothing is cut and no text is on another. Faults that are
+ * planted in the page have to be found. It ends with status 1 where something is wrong, and says what.
  */
 
 import { mkdtempSync, readFileSync, rmSync, writeFileSync } from "node:fs";
 import { tmpdir } from "node:os";
 
-import { chromium, firefox } from "./browser.js";
+import { chromium, firefox, load, webkit } from "./browser.js";
 import * as trials from "./trials.js";
 
 /** @typedef {import("./browser.js").Browser} Browser */
@@ -29,6 +29,7 @@ const SHOWN = [
     "from-a-terminal-to-a-server",
 ];
 
+const TABLES = ["next", "distances", "inside", "hosts", "book", "printed", "compare", "waits"];
 const WITH_PROGRAMS = ["lo-of-login", "from-a-terminal-to-a-server", "resets-in-step"];
 
 /** @typedef {import("./trials.js").Page} Page */
@@ -43,7 +44,7 @@ const WITH_PROGRAMS = ["lo-of-login", "from-a-terminal-to-a-server", "resets-in-
  */
 async function trial(browser, ...tried) {
     const calls = tried.map(([body, given]) => `await (${body})(page, ${JSON.stringify(given ?? null)});`);
-    const page = `const page = (${trials.makePage})(); await page.ready();`;
+    const page = `const page = (${trials.makePage})(${load()}); await page.ready();`;
     try {
         return await browser.evaluate(`${page}\n${calls.join("\n")}\nreturn page.wrong;`);
     } catch (why) {
@@ -79,6 +80,20 @@ const index = ({ press, $ }, isOpen) => {
     if (!isOpen) $("index").close();
 };
 
+/** @type {Trial} opens the script for editing, or closes it */
+const edit = async ({ press, pause }) => {
+    press("edit");
+    await pause(100);
+};
+
+/** @type {Trial} opens the menu of the first part of the map, or closes it */
+const menu = async ({ $, key, focused, pause }, isOpen) => {
+    key("Escape", focused());
+    if (isOpen) key("Enter", $("network"));
+    if (isOpen) key("Enter", focused());
+    await pause(100);
+};
+
 /** 63 IMPs in a ring with chords, four hosts at each, and messages across. */
 function largeNetwork() {
     const imps = Array.from({ length: 63 }, (_, place) => place + 1);
@@ -100,14 +115,22 @@ function largeNetwork() {
  * @property {string} what
  * @property {string} from what it changes in the page
  * @property {string} to
- * @property {keyof typeof trials} by the trial that has to find it
+ * @property {keyof typeof trials | "spoken"} by the trial that has to find it, or what is spoken
  * @property {[number, number]} [size]
+ * @property {string} [only] the browser that shows it, where others do not
  * @property {string} words what has to be found
  */
 
 const STYLE = "</style>";
 
 const PLANTED = /** @type {Planted[]} */ ([
+    {
+        what: "what a clause says of a life is not shown",
+        from: "told.hidden = !isOpen;",
+        to: "told.replaceChildren(); return;",
+        by: "booked",
+        words: "promise",
+    },
     {
         what: "the sheet has no height where the page is low",
         from: STYLE,
@@ -172,6 +195,7 @@ const PLANTED = /** @type {Planted[]} */ ([
         to: 'classList.contains("many") ? 0 : 0',
         by: "followed",
         size: [360, 740],
+        only: "Chromium",
         words: "the present row is not seen",
     },
     {
@@ -180,6 +204,14 @@ const PLANTED = /** @type {Planted[]} */ ([
         to: "const NEAR = 0;",
         by: "bundles",
         words: "lines are folded",
+    },
+    {
+        what: "IMPs beyond the edge that are heaped at it",
+        from: "shown[place] && x >= left && x <= left + width",
+        to: "shown[place]",
+        by: "bundles",
+        size: [390, 844],
+        words: "are on others from near",
     },
     {
         what: "labels that shrink with the map",
@@ -219,8 +251,8 @@ const PLANTED = /** @type {Planted[]} */ ([
     },
     {
         what: "a comment that shows while the future is hidden",
-        from: "(hidden && !isPast)",
-        to: '(hidden && !isPast && row.kind !== "comment")',
+        from: "const isHidden = hidden && !isPast;",
+        to: 'const isHidden = hidden && !isPast && row.kind !== "comment";',
         by: "hidden",
         words: "a row of the future",
     },
@@ -253,6 +285,20 @@ const PLANTED = /** @type {Planted[]} */ ([
         words: "alike",
     },
     {
+        what: "a part of the map that is said twice",
+        from: "say(element.children[0], text);",
+        to: 'say(element.children[0], text); set(element, { "aria-label": text });',
+        by: "spoken",
+        words: "said twice: ",
+    },
+    {
+        what: "a button whose name is a sign",
+        from: 'aria-label="Next step"',
+        to: 'aria-label="▶"',
+        by: "spoken",
+        words: "no name in words",
+    },
+    {
         what: "text that runs over its cell on paper",
         from: STYLE,
         to: `@media print { #handout td { white-space: nowrap } }${STYLE}`,
@@ -261,6 +307,68 @@ const PLANTED = /** @type {Planted[]} */ ([
         words: "on paper",
     },
 ]);
+
+/** What a reader comes to on the way through the page, in this order. */
+const WAY = [
+    "Dorydate",
+    "lesson or example",
+    "Share",
+    "script and chart",
+    "map of the network",
+    "Larger map",
+    "Waits",
+    "Next step",
+];
+
+/**
+ * What is wrong for who hears the page: what takes the focus has a role and a name in words, nothing is
+ * said twice, no two regions have one name, and the way through the page is that of the eyes. Only Chromium says it.
+ *
+ * @param {Browser} browser
+ * @param {boolean} [isWhole] whether nothing is over the page
+ * @returns {Promise<string[]>}
+ */
+async function heard(browser, isWhole = true) {
+    const tree = (await browser.tree()).filter((it) => !["option", "RootWebArea"].includes(it.role));
+    if (!tree.length) return [];
+    const nameless = tree.filter((it) => it.isReached && !/[A-Za-z]{2}/.test(it.name));
+    const without = tree.filter((it) => it.isReached && ["", "generic", "none"].includes(it.role));
+    const twice = tree.filter((it) => it.name && it.name === it.about);
+    const regions = tree.filter((it) => it.role === "region").map((it) => it.name);
+    const places = WAY.map((name) => tree.findIndex((it) => it.name.startsWith(name) && it.role !== "StaticText"));
+    const isInOrder = places.every((place, at) => place >= 0 && (at === 0 || place > places[at - 1]));
+    return [
+        ...nameless.map((it) => `no name in words for who hears a ${it.role}: ${it.name}`),
+        ...without.map((it) => `no role for who hears ${it.name.slice(0, 40)}`),
+        ...twice.map((it) => `said twice: ${it.name}`),
+        ...regions.filter((it, at) => regions.indexOf(it) < at).map((it) => `two regions are called ${it}`),
+        ...(isInOrder || !isWhole ? [] : [`who hears the page comes to ${WAY} at ${places}`]),
+    ];
+}
+
+/**
+ * What is wrong for who hears the page: at a step with each table, in the editor, in a menu, and in the index.
+ *
+ * @param {Browser} browser
+ * @returns {Promise<string[]>}
+ */
+async function spoken(browser) {
+    /** @type {string[]} */
+    const wrong = [];
+    const look = async (/** @type {string} */ what, /** @type {[Trial, any?][]} */ tried, isWhole = true) => {
+        wrong.push(...(await trial(browser, ...tried)));
+        wrong.push(...(await heard(browser, isWhole)).map((it) => `${what}: ${it}`));
+    };
+    for (const name of ["arpanet-of-december-1969", "lo-of-login"]) {
+        await look(name, [[openAt, [name, 0.5]]]);
+        for (const it of TABLES) await look(`${name}, ${it}`, [[table, it]]);
+    }
+    await look("the editor", [[edit]], false);
+    await look("a menu", [[edit], [menu, true]], false);
+    await look("the index", [[menu, false], [index, true]], false);
+    await trial(browser, [index, false]);
+    return wrong;
+}
 
 /**
  * A page whose policy allows changed scripts and styles, so that faults can be planted.
@@ -319,16 +427,18 @@ async function whole(browser, address) {
         steps += await browser.evaluate('return Number(document.getElementById("slider").max);');
     }
     const { keys, tapped, holding, distances, compared, printed, hidden, typed, measured, contrast } = trials;
-    const { bundles, followed, happening, judged, large, named, reached, unopened } = trials;
+    const { booked, bundles, followed, happening, judged, large, named, reached, touched, unopened } = trials;
     for (const size of LARGE) {
         await browser.resize(...size);
-        wrong.push(...(await trial(browser, [large, largeNetwork()], [followed])));
-        console.log(`63 IMPs: ${await browser.evaluate("return document.documentElement.dataset.measured;")}`);
+        wrong.push(...(await trial(browser, [large, largeNetwork()], [followed], [bundles])));
+        const measured = await browser.evaluate("return document.documentElement.dataset.measured;");
+        console.log(`${browser.name}: 63 IMPs at ${size.join(" by ")}: ${measured}, at load ${load().toFixed(1)}`);
     }
     await browser.resize(...WIDE);
-    for (const body of [named, bundles, unopened, happening, judged, keys, tapped, holding, distances, compared, printed, hidden, typed]) {
+    for (const body of [named, unopened, happening, judged, keys, tapped, holding, distances, compared, booked, printed, hidden, typed]) {
         wrong.push(...(await trial(browser, [body])));
     }
+    wrong.push(...(await spoken(browser)));
     let places = 0;
     for (const [width, height] of SIZES) {
         await browser.resize(width, height);
@@ -345,6 +455,8 @@ async function whole(browser, address) {
             wrong.push(...found.map((it) => `${name}, its hosts, at ${width} by ${height}: ${it}`));
             const listed = await trial(browser, [table, "next"], [measured]);
             wrong.push(...listed.map((it) => `${name}, what is possible, at ${width} by ${height}: ${it}`));
+            const faults = await trial(browser, [touched], [measured], [contrast]);
+            wrong.push(...faults.map((it) => `${name}, its book, at ${width} by ${height}: ${it}`));
             await trial(browser, [table, "waits"]);
             places += 1;
         }
@@ -370,14 +482,18 @@ async function whole(browser, address) {
 async function planted(browser, page, file) {
     /** @type {string[]} */
     const missed = [];
-    for (const { what, from, to, by, size, words } of PLANTED) {
+    for (const { what, from, to, by, size, only, words } of PLANTED) {
+        if (only && only !== browser.name) continue;
         if (!page.includes(from)) missed.push(`${what}: there is no place to plant it`);
         if (by === "paper" && !(await browser.look({ paper: true }))) continue;
+        if (by === "spoken" && !(await browser.tree()).length) continue;
         writeFileSync(file, opened(page.replace(from, to)));
         await browser.resize(...(size ?? WIDE));
         await browser.open(`file://${file}`);
         const given = by === "large" ? largeNetwork() : undefined;
-        const found = await trial(browser, [/** @type {Trial} */ (trials[by]), given]);
+        const found = by === "spoken"
+            ? await spoken(browser)
+            : await trial(browser, [/** @type {Trial} */ (trials[by]), given]);
         if (!found.some((it) => it.includes(words))) missed.push(`${what}: found only ${found.slice(0, 3).join("; ")}`);
         if (by === "paper") await browser.look({});
     }
@@ -390,7 +506,8 @@ async function main() {
     let failed = octets > MOST_OCTETS;
     console.log(`the page has ${octets} octets${failed ? `, more than ${MOST_OCTETS}` : ""}`);
     for (const program of programs) {
-        const browser = await (program.includes("firefox") ? firefox : chromium)(program);
+        const start = /firefox/.test(program) ? firefox : /WebKit/.test(program) ? webkit : chromium;
+        const browser = await start(program);
         try {
             const { wrong, steps, places, first, lessons } = await whole(browser, `file://${page}`);
             for (const it of wrong.slice(0, 40)) console.log(`${browser.name}: ${it}`);

@@ -42,12 +42,21 @@ export async function unpacked(text) {
 }
 
 /**
+ * The text that gzip packed and base85 spelled.
+ *
+ * @param {string} text
+ */
+export async function unpackedText(text) {
+    return new TextDecoder().decode(await unpacked(text));
+}
+
+/**
  * The examples of the page.
  *
  * @returns {Promise<{name: string, title: string, text: string}[]>}
  */
 export async function examplesInPage() {
-    return JSON.parse(new TextDecoder().decode(await unpacked(block("examples"))));
+    return JSON.parse(await unpackedText(block("examples")));
 }
 
 /**

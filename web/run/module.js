@@ -18,7 +18,7 @@ export function moduleRunner(file) {
     const module = new WebAssembly.Module(readFileSync(file));
 
     /** @type {Runner["run"]} */
-    async function run(words, input, limits) {
+    async function run(words, input, limits, heard) {
         const last = Date.now() + limits.seconds * 1000;
         /** @type {Uint8Array[][]} */
         const written = [[], [], []];
@@ -33,7 +33,9 @@ export function moduleRunner(file) {
         });
         try {
             const status = runModule(module, words, input, (descriptor, octets) => {
-                written[descriptor].push(octets.subarray(0, room));
+                const piece = octets.subarray(0, room);
+                if (descriptor === 1 && heard) heard(piece);
+                else written[descriptor].push(piece);
                 if (octets.length > room) ended = "output";
                 else if (Date.now() > last) ended = "time";
                 if (ended !== "exit") throw new Full();
@@ -49,7 +51,7 @@ export function moduleRunner(file) {
     /** @type {Runner["batch"]} */
     async function batch(words, inputs, limits) {
         const found = [];
-        for (const input of inputs) found.push(await run(words, input, limits));
+        for (const input of inputs) found.push(await run(words, input, limits, undefined));
         return found;
     }
 

@@ -20,7 +20,7 @@ export function nativeRunner(program) {
     const stops = new Set();
 
     /** @type {Runner["run"]} */
-    function run(words, input, limits) {
+    function run(words, input, limits, heard) {
         return new Promise((resolve, reject) => {
             /** @type {Uint8Array[][]} */
             const written = [[], [], []];
@@ -45,7 +45,9 @@ export function nativeRunner(program) {
              */
             function write(descriptor, octets) {
                 if (ended !== "exit") return;
-                written[descriptor].push(octets.subarray(0, room));
+                const piece = octets.subarray(0, room);
+                if (descriptor === 1 && heard) heard(piece);
+                else written[descriptor].push(piece);
                 if (octets.length > room) end("output");
                 room -= Math.min(room, octets.length);
             }
@@ -79,7 +81,7 @@ export function nativeRunner(program) {
     /** @type {Runner["batch"]} */
     async function batch(words, inputs, limits) {
         const found = [];
-        for (const input of inputs) found.push(await run(words, input, limits));
+        for (const input of inputs) found.push(await run(words, input, limits, undefined));
         return found;
     }
 

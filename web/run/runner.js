@@ -26,12 +26,15 @@
  * @property {"exit" | "time" | "output" | "stopped"} ended
  */
 
+/** @typedef {(octets: Uint8Array) => void} Heard is given pieces of standard output, in their order */
+
 /**
  * Runs the program. Runs may overlap. Each begins with an empty memory, and none sees anything of another.
  *
  * `run` takes the words of the command line, without the program's name, and what stands on standard input. Its promise
  * is rejected only where the program can't be started, or where it breaks off without a status, which no input should
- * bring about.
+ * bring about. Where `heard` is given, it is called with each piece of standard output as it comes, and `stdout` of the
+ * outcome is empty.
  *
  * `stop` ends every run of this runner that is under way, as `stopped`.
  *
@@ -39,7 +42,7 @@
  * It answers how those ended that came to their own end before a limit was reached or `stop` was called, in order.
  *
  * @typedef {object} Runner
- * @property {(words: string[], input: Uint8Array, limits: Limits) => Promise<Outcome>} run
+ * @property {(words: string[], input: Uint8Array, limits: Limits, heard?: Heard) => Promise<Outcome>} run
  * @property {(words: string[], inputs: Uint8Array[], limits: Limits) => Promise<Outcome[]>} batch
  * @property {() => void} stop
  */
@@ -81,8 +84,8 @@ export function makeRunner(module, spawn) {
     let ready = spawn();
 
     /** @type {Runner["run"]} */
-    async function run(words, input, limits) {
-        const { done, last } = await perform(words, [input], limits);
+    async function run(words, input, limits, heard) {
+        const { done, last } = await perform(words, [input], limits, heard);
         return done[0] ?? last;
     }
 
@@ -97,9 +100,10 @@ export function makeRunner(module, spawn) {
      * @param {string[]} words
      * @param {Uint8Array[]} inputs
      * @param {Limits} limits
+     * @param {Heard} [heard]
      * @returns {Promise<{done: Outcome[], last: Outcome}>}
      */
-    function perform(words, inputs, limits) {
+    function perform(words, inputs, limits, heard) {
         const worker = ready;
         ready = spawn();
         return new Promise((resolve, reject) => {
@@ -114,6 +118,7 @@ export function makeRunner(module, spawn) {
             function leave() {
                 clearTimeout(timer);
                 stops.delete(stop);
+                worker.onmessage = null;
                 worker.terminate();
             }
 
@@ -141,7 +146,8 @@ export function makeRunner(module, spawn) {
             worker.onmessage = ({ data }) => {
                 /** @type {Said} */
                 const said = data;
-                if ("octets" in said) written[said.descriptor].push(said.octets);
+                if ("octets" in said && said.descriptor === 1 && heard) heard(said.octets);
+                else if ("octets" in said) written[said.descriptor].push(said.octets);
                 else if ("full" in said) end("output");
                 else if ("status" in said) end("exit", said.status);
                 else fail(`the program broke off: ${said.broken}`);

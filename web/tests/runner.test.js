@@ -42,6 +42,23 @@ test("a run hands over its task, joins what is written, and ends its worker", as
     assert(worker.isEnded);
 });
 
+test("who listens is given each piece of standard output as it comes, and none after the end", async () => {
+    const { started, spawn } = workers();
+    /** @type {string[]} */
+    const heard = [];
+    const runner = makeRunner(module, spawn);
+    const run = runner.run([], octets(""), LIMITS, (piece) => heard.push(new TextDecoder().decode(piece)));
+    const [{ onmessage }] = started;
+    onmessage({ data: { descriptor: 1, octets: octets("ab") } });
+    assert.deepEqual(heard, ["ab"]);
+    onmessage({ data: { descriptor: 2, octets: octets("x") } });
+    onmessage({ data: { descriptor: 1, octets: octets("c") } });
+    runner.stop();
+    assert.deepEqual(await run, { status: -1, stdout: octets(""), stderr: "x", ended: "stopped" });
+    assert.deepEqual(heard, ["ab", "c"]);
+    assert.equal(started[0].onmessage, null);
+});
+
 test("one worker is always ready, and each run has its own", async () => {
     const { started, spawn } = workers();
     const runner = makeRunner(module, spawn);

@@ -13,13 +13,29 @@ interface Child extends Emitter {
 }
 
 declare module "node:child_process" {
-    export function spawn(program: string, words: string[], options?: { stdio: string[] }): Child;
+    export function spawn(
+        program: string,
+        words: string[],
+        options?: { stdio: string[]; env?: { [name: string]: string | undefined } },
+    ): Child;
     export function spawnSync(program: string, words: string[], options: { input: Uint8Array; maxBuffer: number }): {
         status: number | null;
         stdout: Uint8Array;
         stderr: Uint8Array;
         error?: Error & { code: string };
     };
+}
+
+declare module "node:http" {
+    interface Answer {
+        statusCode: number;
+        on(event: "data", heard: (octets: Uint8Array) => void): void;
+        on(event: "end", heard: () => void): void;
+    }
+    export function request(
+        asked: { host: string; port: number; method: string; path: string; headers: { [name: string]: number } },
+        heard: (answer: Answer) => void,
+    ): { on(event: "error", heard: (why: Error) => void): void; end(body: string): void };
 }
 
 declare module "node:test" {
@@ -70,6 +86,8 @@ declare module "node:net" {
 }
 
 declare module "node:os" {
+    export function cpus(): object[];
+    export function loadavg(): number[];
     export function tmpdir(): string;
 }
 

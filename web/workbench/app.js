@@ -9,7 +9,7 @@ import { judged } from "./goals.js";
 import { stopsOfFlow, stopsWith } from "./follow.js";
 import { keepText, storedText } from "./kept.js";
 import { Past } from "./past.js";
-import { isReplay, replay } from "./runs.js";
+import { isReplay, LIMITS, replay } from "./runs.js";
 import { headComment, notesOf, readInput } from "./script.js";
 import { CUT, fragment, noLesson, placeIn } from "./share.js";
 import { stopAt, stopsOf } from "./stops.js";
@@ -32,6 +32,7 @@ import { Toast } from "./view/menu.js";
 import { Next } from "./view/next.js";
 import { Panes } from "./view/panes.js";
 import { Player } from "./view/player.js";
+import { BookView } from "./view/book.js";
 import { Printed } from "./view/printed.js";
 import { SheetView } from "./view/sheet.js";
 import { Taps } from "./view/taps.js";
@@ -93,18 +94,20 @@ export class Workbench {
     /**
      * @param {Runner} runner
      * @param {Example[]} examples
+     * @param {import("./chronology.js").Chronology} years
      */
-    constructor(runner, examples) {
+    constructor(runner, examples, years) {
         this.runner = runner;
         this.examples = examples;
         const go = (/** @type {number} */ position) => this.go(position);
         this.toast = new Toast(byId("toast"));
         this.taps = new Taps(this, byId("menu"));
         this.sheet = new SheetView(byId("sheet"), go);
+        this.book = new BookView(runner, (line) => this.goToLine(line));
         this.printed = new Printed(runner);
         this.compare = new Compare(runner, go, () => this.draw());
         this.next = new Next(this);
-        this.index = new Index(byId("index"), examples, (name) => void this.load(name));
+        this.index = new Index(byId("index"), examples, years, (name) => void this.load(name));
         this.panes = new Panes(byId("pane"), {
             choose: (imp) => this.choose(imp),
             add: (lines, words) => this.change(lines, words),
@@ -331,7 +334,8 @@ export class Workbench {
         const run = this.runs;
         const slow = window.setTimeout(() => (byId("wait").hidden = false), SLOW);
         try {
-            const outcome = await replay(this.runner.run, text);
+            const opened = (/** @type {import("./runs.js").Replay} */ it) => void (run === this.runs && this.showOpening(text, it));
+            const outcome = await replay(this.runner.run, text, LIMITS, opened);
             if (run !== this.runs) return false;
             keepText(text, this.example);
             this.forgetAddress(text);
@@ -351,6 +355,22 @@ export class Workbench {
             byId("wait").hidden = true;
             if (run === this.runs) document.documentElement.dataset.replays = String(run);
         }
+    }
+
+    /**
+     * Shows another network before its first event, while the program still runs.
+     *
+     * @param {string} text
+     * @param {import("./runs.js").Replay} opened
+     */
+    showOpening(text, opened) {
+        if (opened.input.head.join("\n") === this.topology) return;
+        this.forgetAddress(text);
+        this.text = text;
+        this.history = new History(opened);
+        this.fresh();
+        this.go(0);
+        say(byId("count"), "");
     }
 
     /**
@@ -440,6 +460,14 @@ export class Workbench {
         this.position = position;
         this.asking = null;
         this.draw();
+    }
+
+    /** @param {number} line of the log: the step in which this crosses is gone to */
+    goToLine(line) {
+        let left = line;
+        const moments = this.history?.replay.moments ?? [];
+        const at = moments.findIndex((it) => (left -= it.kinds.filter(Boolean).length) <= 0);
+        if (at >= 0) this.go(at + 1);
     }
 
     /** @param {number} stop how many stops are done then */
@@ -692,6 +720,7 @@ export class Workbench {
         const from = at ? stops[at - 1].from : 0;
         const before = at ? history.at(from) : null;
         if (name === "printed") this.printed.draw(byId("pane"), this.text, hidden);
+        else if (name === "book") this.book.draw(byId("pane"), this.text, history.network, hidden);
         else if (name === "next") this.next.draw(byId("pane"));
         else if (name === "compare") this.compare.draw(byId("pane"), this.origin, { history, position, to, hidden });
         else if (name !== "script") {

@@ -10,7 +10,7 @@
  */
 
 import { octetsOf, textOf } from "./octets.js";
-import { isOfHost, isQuiet, readTrace } from "./trace.js";
+import { isOfHost, isQuiet, REST, TraceReader } from "./trace.js";
 
 /** @typedef {import("../run/runner.js").Runner} Runner */
 /** @typedef {import("./topology.js").Network} Network */
@@ -18,7 +18,6 @@ import { isOfHost, isQuiet, readTrace } from "./trace.js";
 /** @typedef {import("./runs.js").Moment} Moment */
 /** @typedef {import("./trace.js").Part} Part */
 /** @typedef {import("./trace.js").Record} Record */
-/** @typedef {import("./trace.js").Trace} Trace */
 /** @typedef {{seconds: number, octets: number}} Limits */
 
 /** The trace of a network with host programs: its parts at the opening, and its events with all that each changed. */
@@ -29,6 +28,9 @@ import { isOfHost, isQuiet, readTrace } from "./trace.js";
 
 /** The most octets of an input that the program reads. */
 const MOST_OCTETS = 1_048_576;
+
+/** Of how many moments a replay may be, and from how many on the uneventful ones of its rounds are joined. */
+const [MOST_MOMENTS, MOST_SPELLED] = [60_000, 20_000];
 
 /** What does a round in which no host sends. */
 const ROUND = "calm 1";
@@ -67,8 +69,13 @@ export async function driven(run, input, network, traced, limits) {
     const frames = await framesOfRounds(run, head, network, traced.steps, limits);
     if (!frames) return null;
     const lines = rawScript(traced.steps, (step) => quietRound(network, frames.get(step) ?? []));
-    const trace = await traceOf(run, head, lines, limits);
-    return trace && joinedMoments(lines, trace.records, traced);
+    const text = [...head, ...lines.map((line) => line.text), ""].join("\n");
+    if (text.length > MOST_OCTETS) return null;
+    const joined = new Joined(network, lines, traced);
+    const reader = new TraceReader(Infinity, () => {}, (record) => joined.add(record));
+    const more = { seconds: 2 * limits.seconds, octets: 2 * limits.octets };
+    const { ended, status } = await run(["--trace"], octetsOf(text), more, (octets) => reader.add(octets));
+    return ended === "exit" && status === 0 && reader.read() ? joined.whole() : null;
 }
 
 /**
@@ -243,60 +250,140 @@ function counted(lines, ways, most) {
 }
 
 /**
- * The trace of a raw script; null where it is too long to be read. It has only what changed, so it may be half as long as what prints all.
- *
- * @param {Runner["run"]} run
- * @param {string[]} head
- * @param {Line[]} lines
- * @param {Limits} limits
- * @returns {Promise<Trace | null>}
+ * Joins the trace of a raw script, as it comes, to the steps of the real replay. It may be long, and only what is shown
+ * of it is kept.
  */
-async function traceOf(run, head, lines, limits) {
-    const text = [...head, ...lines.map((line) => line.text), ""].join("\n");
-    if (text.length > MOST_OCTETS) return null;
-    const outcome = await run(["--trace"], octetsOf(text), { ...limits, octets: limits.octets / 2 });
-    return outcome.ended === "exit" && outcome.status === 0 ? readTrace(textOf(outcome)) : null;
+class Joined {
+    /**
+     * @param {Network} network
+     * @param {Line[]} lines
+     * @param {Traced} traced
+     */
+    constructor(network, lines, { opening, steps }) {
+        this.network = network;
+        this.lines = lines;
+        this.steps = steps;
+        this.isLarge = isLarge(network, steps);
+        this.inside = { ...opening };
+        this.real = { ...opening };
+        /** @type {Moment[] | null} null once a crossing or a part differs, or too much has to be kept */
+        this.moments = [];
+        /** @type {Record[]} of the step that is next */
+        this.records = [];
+        this.next = 0;
+        this.event = -1;
+        this.taken = 0;
+    }
+
+    /**
+     * Of a quiet round that is spelled out, what was refused is left out.
+     *
+     * @param {Record} record
+     */
+    add(record) {
+        const { text, quiet, step } = this.lines[record.event];
+        if (record.event !== this.event) this.taken = 0;
+        this.event = record.event;
+        if (text === ROUND && record.words[0] === "take") this.taken += 1;
+        if (quiet && record.printed.length) return;
+        this.endBefore(step + this.taken);
+        this.records.push(record);
+    }
+
+    /** @param {number} step */
+    endBefore(step) {
+        for (; this.next < step && this.moments; this.next += 1) this.end(this.steps[this.next]);
+    }
+
+    /** @param {Moment} step */
+    end(step) {
+        const moments = momentsOfStep(step, this.records);
+        this.records = [];
+        const parts = moments?.flatMap((it) => it.parts) ?? [];
+        const shown = moments && this.isLarge && isQuiet(step) ? condensed(moments, this.inside) : moments;
+        if (!this.moments || !shown || !areAlike(this.inside, parts, this.real, step.parts)) this.moments = null;
+        else this.moments.push(...shown);
+        if (this.moments && this.moments.length > MOST_MOMENTS) this.moments = null;
+    }
+
+    /** The moments of the real replay, with what happens within its quiet rounds. */
+    whole() {
+        this.endBefore(this.steps.length);
+        return this.moments;
+    }
 }
 
 /**
- * The moments of the real replay, with what happens within its quiet rounds; null where a crossing or a part differs.
+ * Whether a replay has so many moments that rounds are shown without those in which nothing new happens.
  *
- * @param {Line[]} lines
- * @param {Record[]} records
- * @param {Traced} traced
- * @returns {Moment[] | null}
+ * @param {Network} network
+ * @param {Moment[]} steps
  */
-function joinedMoments(lines, records, { opening, steps }) {
-    const ofStep = recordsOfSteps(lines, records);
-    const [inside, real] = [{ ...opening }, { ...opening }];
+function isLarge(network, steps) {
+    return steps.filter(isQuiet).length * (network.sites.length + 4 * network.lines.length) > MOST_SPELLED;
+}
+
+/**
+ * A round of a large network: each arrival of a packet and each that changes a distance, and in one moment each what
+ * happens between them.
+ *
+ * @param {Moment[]} moments
+ * @param {{[name: string]: Part}} before
+ * @returns {Moment[]}
+ */
+export function condensed(moments, before) {
+    const now = { ...before };
     /** @type {Moment[]} */
     const found = [];
-    for (const [place, step] of steps.entries()) {
-        const moments = momentsOfStep(step, ofStep.get(place) ?? []);
-        if (!moments || !areAlike(inside, moments.flatMap((it) => it.parts), real, step.parts)) return null;
-        found.push(...moments);
+    /** @type {Moment[]} */
+    let between = [];
+    const join = () => {
+        if (!between.length) return;
+        const parts = [...new Map(between.flatMap((it) => it.parts))];
+        found.push({ ...between[0], words: [REST], fate: "", parts, events: between.map((it) => it.words.join(" ")) });
+        between = [];
+    };
+    for (const moment of moments) {
+        if (isNew(moment, now)) {
+            join();
+            found.push(moment);
+        } else between.push(moment);
+        for (const [name, part] of moment.parts) now[name] = part;
     }
+    join();
     return found;
 }
 
 /**
- * The records of each step. Of a quiet round that is spelled out, what was refused is left out.
+ * Whether an event is the arrival of a packet, or changes a distance.
  *
- * @param {Line[]} lines
- * @param {Record[]} records
+ * @param {Moment} moment
+ * @param {{[name: string]: Part}} before
  */
-function recordsOfSteps(lines, records) {
-    /** @type {Map<number, Record[]>} */
-    const found = new Map();
-    let taken = 0;
-    records.forEach((record, place) => {
-        const { text, quiet, step } = lines[record.event];
-        if (record.event !== records[place - 1]?.event) taken = 0;
-        if (text === ROUND && record.words[0] === "take") taken += 1;
-        if (quiet && record.printed.length) return;
-        found.set(step + taken, [...(found.get(step + taken) ?? []), record]);
+function isNew({ words, fate, parts }, before) {
+    if (words[0] !== "deliver" || fate === "acks") return false;
+    if (fate !== "distances") return true;
+    return parts.some(([name, part]) => {
+        if (!name.startsWith("imp ")) return false;
+        const [is, was] = /** @type {(import("./trace.js").Imp | null)[]} */ ([part, before[name] ?? null]);
+        return !is || !was || !areSame(is.distances, was.distances) || !areSame(is.next, was.next);
     });
-    return found;
+}
+
+/**
+ * Whether two tables of numbers are the same.
+ *
+ * @param {{[key: string]: number}} one
+ * @param {{[key: string]: number}} other
+ */
+function areSame(one, other) {
+    let more = 0;
+    for (const key in one) {
+        if (one[key] !== other[key]) return false;
+        more += 1;
+    }
+    for (const _ in other) more -= 1;
+    return more === 0;
 }
 
 /**

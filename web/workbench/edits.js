@@ -17,8 +17,8 @@ import { isQuiet } from "./trace.js";
 /**
  * @typedef {object} Edit
  * @property {string} text the whole input
- * @property {number} position the position after what was done before: the one that was asked for, or the end of its
- *   round
+ * @property {number} position the position in the new replay after what was done before: the one that was asked for, or
+ *   the end of its round
  * @property {number} added how many lines of the script were added
  * @property {number} line the first of them
  */
@@ -42,7 +42,7 @@ export function goOn(history, position, lines, cutOff = false) {
     const begun = [...before, ...place.before];
     return {
         text: withScript(input, [...begun, ...lines, ...left]),
-        position: at,
+        position: at + place.more,
         added: lines.length,
         line: begun.length + 1,
     };
@@ -71,11 +71,12 @@ function spelledFrom({ replay: { moments } }, position) {
  *
  * @param {History} history
  * @param {number} position
- * @returns {{line: number, before: string[], after: string[], next: number}}
+ * @returns {{line: number, before: string[], after: string[], next: number, more: number}} and by how many moments more
+ *   the lines before them are done than by the position
  */
 function placeOf(history, position) {
     const { input, moments } = history.replay;
-    const after = (/** @type {number} */ line) => ({ line, before: [], after: [], next: line });
+    const after = (/** @type {number} */ line) => ({ line, before: [], after: [], next: line, more: 0 });
     if (position >= moments.length) return after(input.lines.length);
     if (position === 0) return after(input.events[0].line - 1);
     const { event, round } = moments[position - 1];
@@ -84,17 +85,18 @@ function placeOf(history, position) {
     const rounds = Number(words[1]);
     const next = moments[position];
     if (next.event !== event || next.round !== round) {
-        return { line: line - 1, before: calm(round), after: calm(rounds - round), next: line };
+        return { line: line - 1, before: calm(round), after: calm(rounds - round), next: line, more: 0 };
     }
     let from = position;
     while (from > 0 && moments[from - 1].event === event && moments[from - 1].round === round) from -= 1;
-    const done = moments.slice(from, position).map((moment) => moment.words.join(" "));
+    const done = moments.slice(from, position).flatMap((moment) => moment.events ?? [moment.words.join(" ")]);
     const comment = `# round ${round} of calm ${rounds}, its first ${done.length} events`;
     return {
         line: line - 1,
         before: [...calm(round - 1), comment, ...done],
         after: calm(rounds - round + 1),
         next: line,
+        more: done.length - (position - from),
     };
 }
 

@@ -7,7 +7,7 @@
 
 import { FAR } from "./state.js";
 import { farEnd, wayOf } from "./topology.js";
-import { isQuiet } from "./trace.js";
+import { isQuiet, REST } from "./trace.js";
 
 /** @typedef {import("./runs.js").Moment} Moment */
 /** @typedef {import("./state.js").State} State */
@@ -130,6 +130,7 @@ function hasNews(imp, before, after) {
  * @param {State} after
  */
 function freedBy(line, imp, before, after) {
+    if (before.imp(imp) === after.imp(imp)) return [];
     const were = before.port(imp, line)?.sending ?? [];
     const are = after.port(imp, line)?.sending ?? [];
     return were.flatMap(
@@ -145,17 +146,24 @@ function freedBy(line, imp, before, after) {
  * @param {State} after
  */
 function sentBy(moment, before, after) {
-    if (before.network.plain || moment.words[0] === "drop" || isQuiet(moment)) return [];
-    return moment.parts.flatMap(([name]) => {
-        if (!name.startsWith("line ")) return [];
+    /** @type {MomentNote["sent"]} */
+    const found = [];
+    if (before.network.plain || moment.words[0] === "drop" || moment.words[0] === REST || isQuiet(moment)) return found;
+    for (const [name] of moment.parts) {
+        if (!name.startsWith("line ")) continue;
         const line = Number(name.slice(5));
-        return /** @type {const} */ (["+", "-"]).flatMap((way) => {
+        const [were, are] = [before.line(line), after.line(line)];
+        for (const way of WAYS) {
             const to = wayOf(before.network, line, way)[1];
-            const frames = after.line(line)[way].slice(before.line(line)[way].length);
-            return frames.filter((frame) => frame.packet || frame.routes).map((frame) => ({ frame, line, to }));
-        });
-    });
+            for (const frame of are[way].slice(were[way].length)) {
+                if (frame.packet || frame.routes) found.push({ frame, line, to });
+            }
+        }
+    }
+    return found;
 }
+
+const WAYS = /** @type {const} */ (["+", "-"]);
 
 /**
  * How much a moment matters.

@@ -102,12 +102,12 @@ function put(parts, moment) {
  */
 function isIdle(moment, before) {
     const [kind, what] = moment.words;
+    if (kind !== "resend" && kind !== "deliver") return false;
     if (moment.round === 0 || moment.printed.length || moment.parts.some(([name]) => isOfHost(name))) return false;
     if (kind === "resend") {
         const imp = before.imp(Number(what));
         return !imp || (imp.store.length === 0 && imp.ports.every((port) => port.sending.every((it) => !it.packet)));
     }
-    if (kind !== "deliver") return false;
     const [a, b] = before.network.lines[Number(what)];
     return !before.imp(moment.words[2] === "+" ? b : a);
 }

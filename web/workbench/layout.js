@@ -131,33 +131,55 @@ function hopCounts(network, numbers) {
  * @returns {Point[]}
  */
 function spread(count, hops, step) {
-    let points = Array.from({ length: count }, (_, at) => {
-        const angle = (2 * Math.PI * at) / Math.max(count, 1) + 0.3;
-        return {
-            x: step * Math.sqrt(count) * 0.4 * Math.cos(angle),
-            y: step * Math.sqrt(count) * 0.4 * Math.sin(angle),
-        };
-    });
-    for (let turn = 0; turn < (count > 20 ? 150 : 300); turn += 1) {
-        points = points.map((it, at) => {
-            let [x, y, weights] = [0, 0, 0];
-            points.forEach((other, place) => {
-                if (place === at) return;
-                const wanted = hops[at][place] * step;
-                const weight = 1 / (hops[at][place] * hops[at][place]);
-                const distance = Math.hypot(it.x - other.x, it.y - other.y) || 0.01;
-                x += weight * (other.x + (wanted * (it.x - other.x)) / distance);
-                y += weight * (other.y + (wanted * (it.y - other.y)) / distance);
-                weights += weight;
-            });
-            return weights ? { x: x / weights, y: y / weights } : it;
-        });
-    }
-    return points;
+    const ring = step * Math.sqrt(count) * 0.4;
+    const angles = Array.from({ length: count }, (_, at) => (2 * Math.PI * at) / Math.max(count, 1) + 0.3);
+    let xs = Float64Array.from(angles, (angle) => ring * Math.cos(angle));
+    let ys = Float64Array.from(angles, (angle) => ring * Math.sin(angle));
+    for (let turn = 0; turn < (count > 20 ? 150 : 300); turn += 1) [xs, ys] = pulled(xs, ys, hops, step);
+    return Array.from(xs, (x, at) => ({ x, y: ys[at] }));
 }
 
 /**
- * Points turned so that they are wider than high, with the first one on the left and above.
+ * Where points go by what all others want: each to be as far from it as lines are between them. These are loops over
+ * numbers, since of a large network this is half a million steps.
+ *
+ * @param {Float64Array} xs
+ * @param {Float64Array} ys
+ * @param {number[][]} hops
+ * @param {number} step
+ * @returns {[Float64Array, Float64Array]}
+ */
+function pulled(xs, ys, hops, step) {
+    const [newX, newY] = [Float64Array.from(xs), Float64Array.from(ys)];
+    for (let at = 0; at < xs.length; at += 1) {
+        let x = 0;
+        let y = 0;
+        let weights = 0;
+        for (let place = 0; place < xs.length; place += 1) {
+            if (place === at) continue;
+            const dx = xs[at] - xs[place];
+            const dy = ys[at] - ys[place];
+            const count = hops[at][place];
+            const weight = 1 / (count * count);
+            const share = (count * step) / (Math.sqrt(dx * dx + dy * dy) || 0.01); // hypot is many times slower
+            x += weight * (xs[place] + share * dx);
+            y += weight * (ys[place] + share * dy);
+            weights += weight;
+        }
+        if (weights) {
+            newX[at] = x / weights;
+            newY[at] = y / weights;
+        }
+    }
+    return [newX, newY];
+}
+
+/** How much longer than wide points have to be, as a share, so that their direction is one and no chance of rounding. */
+const LONG = 0.05;
+
+/**
+ * Points turned so that they are wider than high, with the first one on the left and above; where they are as wide as
+ * high in every direction, the first one is on the left.
  *
  * @param {Point[]} points
  */
@@ -167,7 +189,9 @@ function turned(points) {
     const xx = sum(points, (it) => (it.x - middle.x) ** 2);
     const yy = sum(points, (it) => (it.y - middle.y) ** 2);
     const xy = sum(points, (it) => (it.x - middle.x) * (it.y - middle.y));
-    const angle = -0.5 * Math.atan2(2 * xy, xx - yy);
+    const isRound = Math.hypot(xx - yy, 2 * xy) < LONG * (xx + yy);
+    const first = Math.atan2(points[0].y - middle.y, points[0].x - middle.x);
+    const angle = isRound ? Math.PI - first : -0.5 * Math.atan2(2 * xy, xx - yy);
     const flat = points.map((it) => ({
         x: (it.x - middle.x) * Math.cos(angle) - (it.y - middle.y) * Math.sin(angle),
         y: (it.x - middle.x) * Math.sin(angle) + (it.y - middle.y) * Math.cos(angle),
@@ -208,15 +232,15 @@ function apart(points, widths, gap, h, isCrowded) {
             for (let b = a + 1; b < points.length; b += 1) {
                 const dx = points[b].x - points[a].x;
                 const dy = points[b].y - points[a].y;
-                const [over, under] = [widths[a] + widths[b] + gap - Math.abs(dx), h - Math.abs(dy)];
+                const over = widths[a] + widths[b] + gap - Math.abs(dx);
+                const under = h - Math.abs(dy);
                 if (over <= 0 || under <= 0) continue;
                 moved = true;
                 const isBeside = isCrowded ? over / (over + Math.abs(dx)) < under / h : over < under;
-                const push = isBeside
-                    ? { x: ((dx < 0 ? -1 : 1) * over) / 2 + 0.1, y: 0 }
-                    : { x: 0, y: ((dy < 0 ? -1 : 1) * under) / 2 + 0.1 };
-                points[a] = { x: points[a].x - push.x, y: points[a].y - push.y };
-                points[b] = { x: points[b].x + push.x, y: points[b].y + push.y };
+                const x = isBeside ? ((dx < 0 ? -1 : 1) * over) / 2 + 0.1 : 0;
+                const y = isBeside ? 0 : ((dy < 0 ? -1 : 1) * under) / 2 + 0.1;
+                points[a] = { x: points[a].x - x, y: points[a].y - y };
+                points[b] = { x: points[b].x + x, y: points[b].y + y };
             }
         }
         if (!moved) break;
@@ -270,10 +294,8 @@ function widest(taken) {
     let best = { angle: -Math.PI / 2, room: -1 };
     for (let at = 0; at < 48; at += 1) {
         const angle = -Math.PI / 2 + (at * Math.PI) / 24;
-        const room = Math.min(
-            Math.PI,
-            ...taken.map((it) => Math.abs(Math.atan2(Math.sin(angle - it), Math.cos(angle - it)))),
-        );
+        let room = Math.PI;
+        for (const it of taken) room = Math.min(room, Math.abs(((angle - it + 5 * Math.PI) % (2 * Math.PI)) - Math.PI));
         if (room > best.room + 1e-9) best = { angle, room };
     }
     return best.angle;

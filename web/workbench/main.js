@@ -1,8 +1,9 @@
 /** Starts the workbench with the program and the examples in the page. */
 
 import { TABLE } from "../../python/dorydate/sentences/table.mjs";
-import { block, embedded, examplesInPage } from "../run/embedded.js";
+import { block, embedded, examplesInPage, unpackedText } from "../run/embedded.js";
 import { Workbench } from "./app.js";
+import { readChronology } from "./chronology.js";
 import { arranged, opened } from "./lessons.js";
 import { lacking, wanting } from "./lacking.js";
 import { byId, say } from "./view/dom.js";
@@ -18,7 +19,9 @@ async function start() {
     const words = `The program in this page is arpasim as WebAssembly, ${proved}. Sources ${sources}.`;
     say(byId("note"), `${words} The page makes no request.`);
     const examples = await examplesInPage();
-    const bench = new Workbench(runner, [...opened(JSON.parse(block("opened")), examples), ...arranged(examples)]);
+    const inputs = [...opened(JSON.parse(block("opened")), examples), ...arranged(examples)];
+    const years = readChronology(await unpackedText(block("chronology")));
+    const bench = new Workbench(runner, inputs, years);
     await bench.begin();
     document.documentElement.dataset.ready = "yes";
 }

@@ -68,8 +68,10 @@ function ofHost(state, talk, host) {
             ? one(`sends “HI” to ${hostName(network, other)}`, `out ${host} ${other} 5 16 4849`)
             : one(`contacts ${hostName(network, other)}`, `contact ${host} ${other}`)
     ));
+    const box = state.box(host);
+    const isWaited = box !== null && box.messages.length + box.answers.length > 0;
     return [
-        one("takes what waits for it", `take ${host}`),
+        one(isWaited ? "takes what waits for it" : "takes, and nothing waits for it", `take ${host}`),
         ...(network.raw ? [] : [one("offers its next message", `offer ${host}`)]),
         ...sends,
         ...open.flatMap((flow) => [

@@ -7,10 +7,10 @@
  */
 
 import { driven } from "./driven.js";
-import { octetsOf, textOf } from "./octets.js";
+import { octetsOf } from "./octets.js";
 import { readInput } from "./script.js";
 import { readTopology } from "./topology.js";
-import { readTrace } from "./trace.js";
+import { TraceReader } from "./trace.js";
 
 /** @typedef {import("../run/runner.js").Runner} Runner */
 /** @typedef {import("../run/runner.js").Outcome} Outcome */
@@ -22,7 +22,8 @@ import { readTrace } from "./trace.js";
  * @typedef {object} Moment
  * @property {number} event the place of its event among those of the script
  * @property {number} round the round of its calm, from 1; 0 in no calm
- * @property {string[]} words the elementary event, or `quiet` for a quiet round as a whole
+ * @property {string[]} words the elementary event, `quiet` for a quiet round as a whole, or `rest` for several of a round
+ * @property {string[]} [events] of `rest`: the elementary events, as lines of a script
  * @property {string[]} printed with the octets of messages
  * @property {string[]} kinds of each printed line what crossed; "" of a notice
  * @property {string} fate of a frame that was delivered, as the program judged it; "" of anything else
@@ -60,15 +61,24 @@ const MOST_STEPS = 6_000;
  * @param {Runner["run"]} run
  * @param {string} text
  * @param {{seconds: number, octets: number}} [limits]
+ * @param {(opened: Replay) => void} [opened] is given the replay before its first moment, while the program still runs
  * @returns {Promise<Replay | Refusal>}
  */
-export async function replay(run, text, limits = LIMITS) {
+export async function replay(run, text, limits = LIMITS, opened = () => {}) {
     const input = readInput(text);
     const checked = await run(["--check"], octetsOf(text), limits);
     const { ended, status, stderr } = checked;
     if (ended !== "exit" || status !== 0) return { input, status, said: stderr };
     const network = readTopology(input.head.join("\n"));
-    return network.raw ? rawReplay(run, input, network, limits) : programReplay(run, input, network, limits);
+    const nothing = { input, network, moments: [], opening: {}, cut: "" };
+    const reader = new TraceReader(network.raw ? Infinity : MOST_STEPS, (opening) => opened({ ...nothing, opening }));
+    const outcome = await run(["--trace"], octetsOf(text), limits, (octets) => reader.add(octets));
+    const cut = whyCut(outcome, limits);
+    const trace = reader.read();
+    if (!trace) return { ...nothing, cut };
+    const { opening, records: moments } = trace;
+    if (network.raw) return { input, network, moments, opening, cut };
+    return programReplay(run, { input, network, moments, opening, cut }, reader.octets, limits);
 }
 
 /**
@@ -97,42 +107,19 @@ export function whyCut(outcome, limits) {
 }
 
 /**
- * The replay of a raw network, by its trace.
+ * The replay of a network with host programs: event by event within quiet rounds where `driven.js` finds that out,
+ * otherwise with each of them as a whole.
  *
  * @param {Runner["run"]} run
- * @param {Input} input
- * @param {Network} network
+ * @param {Replay} traced by its own trace
+ * @param {number} octets of that
  * @param {{seconds: number, octets: number}} limits
  * @returns {Promise<Replay>}
  */
-async function rawReplay(run, input, network, limits) {
-    const outcome = await run(["--trace"], octetsOf(input.text), limits);
-    const printed = textOf(outcome);
-    const cut = whyCut(outcome, limits);
-    if (!printed.includes("\n")) return { input, network, moments: [], opening: {}, cut };
-    const { opening, records } = readTrace(printed);
-    return { input, network, moments: records, opening, cut };
-}
-
-/**
- * The replay of a network with host programs, by its trace: event by event within quiet rounds where `driven.js` finds
- * that out, otherwise with each of them as a whole.
- *
- * @param {Runner["run"]} run
- * @param {Input} input
- * @param {Network} network
- * @param {{seconds: number, octets: number}} limits
- * @returns {Promise<Replay>}
- */
-async function programReplay(run, input, network, limits) {
-    const outcome = await run(["--trace"], octetsOf(input.text), limits);
-    const printed = textOf(outcome);
-    const why = whyCut(outcome, limits);
-    if (!printed.includes("\n")) return { input, network, moments: [], opening: {}, cut: why };
-    const { opening, records } = readTrace(printed, MOST_STEPS);
-    const steps = records.map((it) => (it.round ? it : { ...it, words: input.events[it.event].words }));
+async function programReplay(run, { input, network, moments, opening, cut: why }, octets, limits) {
+    const steps = moments.map((it) => (it.round ? it : { ...it, words: input.events[it.event].words }));
     const cut = why || (steps.length < MOST_STEPS ? "" : `Only the first ${MOST_STEPS} events are shown.`);
-    const isLarge = printed.length > MOST_WITHIN;
-    const moments = cut || isLarge ? null : await driven(run, input, network, { opening, steps }, limits);
-    return { input, network, moments: moments ?? steps, opening, cut };
+    const isLarge = octets > MOST_WITHIN;
+    const within = cut || isLarge ? null : await driven(run, input, network, { opening, steps }, limits);
+    return { input, network, moments: within ?? steps, opening, cut };
 }

@@ -11,8 +11,12 @@ import { match, needsBook, readPattern } from "./pattern.js";
 
 /** @typedef {{name: string, what: string, head: string[], network: Network, pattern: string}} Search */
 
-const LENGTH = { least: 4, more: 12 };
-const AT_A_TIME = 48;
+const LENGTH = 40; // events, about
+const OPENING = 2; // rounds
+const SWARM = [0, 1, 1, 4, 16]; // weights of a kind in a schedule that has its own
+const SIZES = [1, 2, 3, 5, 8]; // events between two calms
+const CALMS = [1, 1, 1, 2, 2, 3, 5];
+const AT_A_TIME = 32;
 const LIMITS = { seconds: 8, octets: 24_000_000 };
 
 /**
@@ -47,52 +51,92 @@ export function headOf(spelled) {
 }
 
 /**
- * A random event of a network.
+ * The events of which schedules are made, by kind, as those of ./explore: pools are small, so that requests meet their
+ * partners.
+ *
+ * @param {Network} network
+ * @returns {{[kind: string]: string[]}}
+ */
+function pools({ hosts, sites, lines, plain, raw }) {
+    const pairs = hosts.flatMap((a) => hosts.filter((b) => b !== a).map((b) => `${a} ${b}`));
+    const ends = plain ? [] : lines.flatMap((imps, line) => imps.map((imp) => `${imp} ${line}`));
+    const frames = plain ? [] : lines.flatMap((_, line) => ["+", "-"].flatMap((way) => PLACES.map((it) => `${line} ${way} ${it}`)));
+    const imps = plain ? [] : sites.map(({ number }) => number);
+    const own = hosts.flatMap((host) => [`${host} ${SENDS}`, `${host} ${RECEIVES}`]);
+    const links = raw ? [0, 1] : [0];
+    const flows = pairs.flatMap((pair) => links.map((link) => `${pair} ${link}`));
+    const each = (/** @type {string} */ kind, /** @type {(string | number)[]} */ list, more = "") =>
+        ({ [kind]: list.map((it) => `${kind} ${it}${more}`) });
+    const ofPrograms = {
+        ...each("contact", pairs),
+        ...each("offer", hosts),
+        ...each("listen", own, " 8"),
+        ...each("opensend", pairs, ` ${SENDS} ${RECEIVES} 8`),
+        ...each("openrecv", pairs, ` ${RECEIVES} ${SENDS}`),
+        ...each("send", hosts, ` ${SENDS} 8 41`),
+        ...each("grant", hosts.flatMap((host) => [`${host} ${RECEIVES} 1 8`, `${host} ${RECEIVES} 2 100`])),
+        ...each("askback", hosts, ` ${RECEIVES} 128 128`),
+        ...each("interrupt", own),
+        ...each("close", own),
+    };
+    return {
+        ...(raw ? each("out", flows, " 8 41") : ofPrograms),
+        ...each("take", hosts),
+        ...each("giveup", flows),
+        ...each("hostdown", hosts),
+        ...each("hostup", hosts),
+        ...each("deliver", frames),
+        ...each("drop", frames),
+        ...each("resend", imps),
+        ...each("enddown", ends),
+        ...each("endup", ends),
+        ...each("impdown", imps),
+        ...each("impup", imps),
+        ...each("forget", imps.flatMap((a) => imps.filter((b) => b !== a).map((b) => `${a} ${b}`))),
+        ...(plain ? {} : each("ask", flows)),
+    };
+}
+
+const PLACES = [0, 1, 2];
+const [SENDS, RECEIVES] = [33, 16]; // sockets
+
+/**
+ * Makes a source of random schedules: each has weights of its own for the kinds of events, and calms between some events
+ * and others. It begins with rounds in which routes are found.
  *
  * @param {Network} network
  * @param {Chance} chance
- * @returns {string}
+ * @param {Set<string>} [barred] kinds that are left out
+ * @returns {() => string[]}
  */
-export function randomEvent(network, chance) {
-    const of = (/** @type {any[]} */ list) => list[chance(list.length)];
-    const host = of(network.hosts);
-    const other = of(network.hosts.filter((it) => it !== host)) ?? host;
-    const link = network.raw ? chance(2) : 0;
-    const crossing = network.raw
-        ? [`out ${host} ${other} ${link} 8 41`, `out ${host} ${other} ${link} 8 42`, `take ${host}`]
-        : [
-            `contact ${host} ${other}`,
-            `offer ${host}`,
-            `take ${host}`,
-            `listen ${host} ${16 + chance(2)} 8`,
-            `opensend ${host} ${other} 17 16 8`,
-            `openrecv ${host} ${other} 16 17`,
-            `grant ${host} 16 2 64`,
-            `send ${host} 17 8 41`,
-            `close ${host} ${16 + chance(2)}`,
-        ];
-    const hosts = [`hostdown ${host}`, `hostup ${host}`, `giveup ${host} ${other} ${link}`];
-    const calm = [`calm ${1 + chance(2)}`];
-    if (network.plain || !network.lines.length) return of([crossing, crossing, hosts, calm].map(of));
-    const line = chance(network.lines.length);
-    const imp = of(network.lines[line]);
-    const frame = `${line} ${of(["+", "-"])} ${chance(3)}`;
-    const inside = [`deliver ${frame}`, `drop ${frame}`, `enddown ${imp} ${line}`, `endup ${imp} ${line}`];
-    const more = [`ask ${host} ${other} ${link}`, `resend ${imp}`, `route ${imp}`, `impdown ${imp}`, `impup ${imp}`];
-    return of([of(crossing), of(crossing), of(inside), of(inside), of(hosts), of(more), of(calm)]);
+export function schedules(network, chance, barred = new Set()) {
+    const kinds = Object.entries(pools(network)).filter(([kind, events]) => events.length && !barred.has(kind));
+    const one = (/** @type {any[]} */ list) => list[chance(list.length)];
+    return () => {
+        const isSwarm = chance(2) === 0;
+        const weighted = kinds.flatMap((kind) => Array(isSwarm ? one(SWARM) : 1).fill(kind));
+        const pool = weighted.length ? weighted : kinds;
+        const script = [`calm ${OPENING}`];
+        while (script.length < LENGTH) {
+            for (let size = one(SIZES); size > 0; size -= 1) script.push(one(one(pool)[1]));
+            script.push(`calm ${one(CALMS)}`);
+        }
+        return script;
+    };
 }
 
 /**
- * A random schedule. It begins with rounds in which routes are found.
+ * The kinds of events that cause lines which a pattern forbids from the start.
  *
- * @param {Network} network
- * @param {Chance} chance
- * @returns {string[]}
+ * @param {Pattern} pattern
  */
-export function schedule(network, chance) {
-    const length = LENGTH.least + chance(LENGTH.more);
-    return ["calm 2", ...Array.from({ length }, () => randomEvent(network, chance))];
+export function barredBy({ sequels }) {
+    const words = sequels.flatMap(({ parts }) => parts[0].barred).filter(({ words, hasRest }) => words.length === 1 && hasRest);
+    return new Set(words.flatMap(({ words: [word] }) => CAUSES[word] ?? []));
 }
+
+/** @type {{[word: string]: string[]}} */
+const CAUSES = { down: ["hostdown", "impdown"], up: ["hostup", "impup"], interrupt: ["interrupt"], returned: ["askback"] };
 
 /**
  * Runs scripts over a network, and tells which match a pattern.
@@ -133,10 +177,11 @@ export async function matching(batch, head, pattern, scripts) {
  */
 export async function find(batch, head, network, text, chance, { seconds, isOver, tell }) {
     const pattern = readPattern(text);
+    const draw = schedules(network, chance, barredBy(pattern));
     const end = Date.now() + seconds * 1000;
     let count = 0;
     while (Date.now() < end && !isOver()) {
-        const scripts = Array.from({ length: AT_A_TIME }, () => schedule(network, chance));
+        const scripts = Array.from({ length: AT_A_TIME }, draw);
         const found = await matching(batch, head, pattern, scripts);
         count += scripts.length;
         tell(count);
@@ -147,7 +192,8 @@ export async function find(batch, head, network, text, chance, { seconds, isOver
 }
 
 /**
- * A script without the lines, and with the shortest calms, with which it still matches.
+ * A script without the lines, and with the shortest calms, with which it still matches: first many lines at once are
+ * left out, then fewer.
  *
  * @param {Runner["batch"]} batch
  * @param {string[]} head
@@ -155,17 +201,19 @@ export async function find(batch, head, network, text, chance, { seconds, isOver
  * @param {string[]} script
  */
 export async function shrunk(batch, head, pattern, script) {
-    for (;;) {
-        const without = script.map((_, at) => script.filter((_, place) => place !== at));
+    for (let size = script.length >> 1; size > 0; ) {
+        const from = script.map((_, at) => at).filter((at) => at % Math.max(1, size >> 1) === 0);
+        const without = from.map((at) => script.filter((_, place) => place < at || place >= at + size));
         const shorter = script.flatMap((line, at) =>
-            /^calm [2-9]/.test(line)
+            size === 1 && /^calm [2-9]/.test(line)
                 ? [script.map((it, place) => (place === at ? `calm ${Number(line.slice(5)) - 1}` : it))]
                 : [],
         );
         const tried = [...without, ...shorter];
         const found = await matching(batch, head, pattern, tried);
         const at = found.indexOf(true);
-        if (at < 0) return script;
-        script = tried[at];
+        if (at >= 0) script = tried[at];
+        else size >>= 1;
     }
+    return script;
 }

@@ -7,6 +7,7 @@ import { why } from "./refusals.js";
 import { saying } from "./texts.js";
 import { farEnd, hostName, impName, impOf, siteName } from "./topology.js";
 import { ANSWERS, messageName } from "./waits.js";
+import { REST } from "./trace.js";
 import { movesOf } from "./trips.js";
 import { capital, count, filled, joinedWords, listed } from "./words.js";
 
@@ -302,6 +303,7 @@ function silent(it) {
     if (isDeed(kind)) return deedSentence(it.moment.words, it.before, it.after);
     if (kind === "take" || kind === "offer") return filled(SILENT[kind], { host: it.host(what) });
     if (kind === "quiet") return quietRound(it);
+    if (kind === REST) return filled(SILENT.rest, { round: it.moment.round });
     return ((it.network.plain ? null : INNER[kind]) ?? outside)(it);
 }
 

@@ -6,13 +6,14 @@
 
 import { notesOf } from "./script.js";
 import { siteName, wayOf } from "./topology.js";
+import { REST } from "./trace.js";
 
 /** @typedef {import("./fold.js").History} History */
 /** @typedef {import("./stops.js").Stop} Stop */
 
 /**
  * @typedef {object} Row
- * @property {"comment" | "question" | "event" | "stop"} kind
+ * @property {"comment" | "question" | "event" | "stop" | "more"} kind `more` stands for rows that are left out
  * @property {number} line the line of the script, 0 for a stop
  * @property {string} number the text of the number column
  * @property {string} text
@@ -130,6 +131,7 @@ export function stopWords(history, stop) {
     const { words } = history.replay.moments[stop.main];
     const { frame, line, from, to } = history.notes[stop.main];
     if (words[0] === "quiet") return "a quiet round";
+    if (words[0] === REST) return "the rest of the round";
     if (words[0] !== "deliver" && words[0] !== "drop") return words.join(" ");
     if (!frame || line < 0) return words.join(" ");
     const [a, b] = from ? [from, to] : wayOf(history.network, line, words[2]);
@@ -160,13 +162,36 @@ export function shortened(words) {
     return words.map((word) => (word.length > 40 ? `${word.slice(0, 24)}…${word.slice(-4)}` : word)).join(" ");
 }
 
+/** @typedef {{row: Row, place: number, count: number}} Shown a row and its place, or one that stands for `count` rows */
+
+/** Rows of an unfolded calm are shown by blocks: the one in which one is, the one before it and the one after it. */
+const BLOCK = 200;
+
 /**
- * Which rows are seen: of a calm that is folded those that printed something.
+ * The rows that are shown: of a calm that is folded those that printed something, and of one that is unfolded those near
+ * the present one. A row in place of those that are left out there leads to the nearest of them.
  *
  * @param {Row[]} rows
- * @param {number} open the event of the calm that is unfolded, -1 for none
- * @returns {boolean[]}
+ * @param {number} current the place of the present row, -1 for none
+ * @returns {Shown[]}
  */
-export function seen(rows, open) {
-    return rows.map((row) => row.kind !== "stop" || row.printed || row.event === open);
+export function shownRows(rows, current) {
+    const open = current >= 0 ? rows[current].event : -1;
+    const block = Math.floor(current / BLOCK);
+    /** @type {Shown[]} */
+    const shown = [];
+    rows.forEach((row, place) => {
+        const isNear = row.event === open && Math.abs(Math.floor(place / BLOCK) - block) <= 1;
+        if (row.kind !== "stop" || row.printed || isNear) return shown.push({ row, place, count: 1 });
+        if (row.event !== open) return;
+        const last = shown[shown.length - 1];
+        const isMore = last.row.kind === "more" && last.place + last.count === place;
+        const count = isMore ? last.count + 1 : 1;
+        const first = isMore ? last.place : place;
+        const at = place < current ? row.at : rows[first].at;
+        const text = `… ${count} more ${count === 1 ? "step" : "steps"}`;
+        const more = { row: { ...row, kind: /** @type {const} */ ("more"), number: "", text, stop: -1, at }, place: first, count };
+        shown.splice(isMore ? shown.length - 1 : shown.length, isMore ? 1 : 0, more);
+    });
+    return shown;
 }

@@ -224,7 +224,8 @@ export function readSite(comment) {
  * @param {string} host
  */
 export function machineOf(network, host) {
-    return network.sites.find((it) => it.number === impOf(host))?.machines[Number(host.split("/")[0])] ?? "";
+    const [place, imp] = host.split("/").map(Number);
+    return network.sites.find((it) => it.number === imp)?.machines[place] ?? "";
 }
 
 /**

@@ -243,17 +243,18 @@ export function isOfHost(name) {
 }
 
 /**
- * All parts of a line of a trace, as they are written there.
+ * All parts of a line of a trace.
  *
  * @param {any} told
- * @returns {[string, any][]}
+ * @returns {[string, Part][]}
  */
-function partsOf({ parts, programs, services }) {
-    return [
-        ...Object.entries(parts),
-        ...Object.entries(programs ?? {}).map(([host, it]) => /** @type {[string, any]} */ ([`program ${host}`, it])),
-        ...Object.entries(services ?? {}).map(([host, it]) => /** @type {[string, any]} */ ([`services ${host}`, it])),
-    ];
+function partsOf(told) {
+    /** @type {[string, Part][]} */
+    const found = [];
+    for (const name in told.parts) found.push([name, partIn(name, told.parts[name])]);
+    for (const host in told.programs) found.push([`program ${host}`, told.programs[host]]);
+    for (const host in told.services) found.push([`services ${host}`, told.services[host]]);
+    return found;
 }
 
 /**
@@ -264,6 +265,9 @@ function partsOf({ parts, programs, services }) {
 export function isQuiet({ words }) {
     return words[0] === "quiet";
 }
+
+/** The word of a moment in which uneventful ones of a round are joined (driven.js). */
+export const REST = "rest";
 
 /**
  * Whether a printed line tells of a crossing.
@@ -291,35 +295,65 @@ function linesIn(printed, crossed) {
 }
 
 /**
- * A trace: the parts at the opening, and the records. A last line that was cut off is left out.
- *
- * @param {string} text what `--trace` printed, with its first line whole
- * @param {number} [most] how many lines are read
- * @param {(name: string) => boolean} [isWanted] which parts records have
- * @returns {Trace}
+ * Reads a trace piece by piece, as the program writes it: the parts at the opening, and the records. A last line that
+ * was cut off is left out.
  */
-export function readTrace(text, most = Infinity, isWanted = () => true) {
-    const end = text.indexOf("\n");
-    const first = JSON.parse(text.slice(0, end));
-    if (first.trace !== FORMAT) {
+export class TraceReader {
+    /**
+     * @param {number} [most] how many records are read
+     * @param {(opening: {[name: string]: Part}) => void} [opened] is called once the first line is read
+     * @param {((record: Record) => void) | null} [heard] is given each record, which is not kept then
+     */
+    constructor(most = Infinity, opened = () => {}, heard = null) {
+        this.most = most;
+        this.opened = opened;
+        this.heard = heard;
+        this.decoder = new TextDecoder();
+        this.rest = "";
+        this.octets = 0;
+        /** @type {Trace | null} null before the first line is whole */
+        this.trace = null;
+        this.isOther = false;
+    }
+
+    /** @param {Uint8Array} octets */
+    add(octets) {
+        this.octets += octets.length;
+        if (this.isOther || (this.trace && this.trace.records.length >= this.most)) return;
+        const lines = (this.rest + this.decoder.decode(octets, { stream: true })).split("\n");
+        this.rest = lines.pop() ?? "";
+        for (const line of lines) if (line) this.line(JSON.parse(line));
+    }
+
+    /** @param {any} told */
+    line(told) {
+        if (this.trace && this.heard) return this.heard(recordIn(told));
+        if (this.trace) {
+            if (this.trace.records.length < this.most) this.trace.records.push(recordIn(told));
+            return;
+        }
+        this.isOther = told.trace !== FORMAT;
+        if (this.isOther) return;
+        const opening = Object.fromEntries(partsOf(told));
+        this.trace = { opening, records: [] };
+        this.opened(opening);
+    }
+
+    /** The trace as far as it came; null where not even its first line did. */
+    read() {
+        if (!this.isOther) return this.trace;
         throw new Error(`The trace is not of format ${FORMAT}: the page and its program are of different sources.`);
     }
-    const opening = Object.fromEntries(partsOf(first).map(([name, it]) => [name, partIn(name, it)]));
-    /** @type {Record[]} */
-    const records = [];
-    for (const line of text.slice(end + 1, text.lastIndexOf("\n")).split("\n")) {
-        if (line === "") continue;
-        if (records.length === most) break;
-        const it = JSON.parse(line);
-        const parts = partsOf(it).filter(([name]) => isWanted(name));
-        records.push({
-            event: it.number - 1,
-            round: it.round,
-            words: it.event.split(" "),
-            ...linesIn(it.printed, it.crossed),
-            fate: it.fate ?? "",
-            parts: parts.map(([name, part]) => [name, partIn(name, part)]),
-        });
-    }
-    return { opening, records };
+}
+
+/**
+ * An event of a trace.
+ *
+ * @param {any} told
+ * @returns {Record}
+ */
+function recordIn(told) {
+    const { number, round, event, printed, crossed, fate } = told;
+    const words = event.split(" ");
+    return { event: number - 1, round, words, ...linesIn(printed, crossed), fate: fate ?? "", parts: partsOf(told) };
 }

@@ -3,12 +3,12 @@
 /**
  * A number and its noun, in the plural where it is not 1.
  *
- * @param {number} number
+ * @param {number | string} number
  * @param {string} noun
  * @returns {string}
  */
 export function count(number, noun) {
-    return number === 1 ? `1 ${noun}` : `${number} ${noun}s`;
+    return `${number} ${noun}${String(number) === "1" ? "" : "s"}`;
 }
 
 /**
@@ -49,7 +49,7 @@ export function joinedWords(parts) {
  * `{name's}` is possessive, `{name bit}` is a number with its noun.
  *
  * @param {string} sentence
- * @param {{[name: string]: string | number}} holes
+ * @param {{[name: string]: string | number | bigint}} holes
  * @returns {string}
  * @throws {RangeError} where a hole has no value
  */
@@ -59,7 +59,7 @@ export function filled(sentence, holes) {
         if (holes[key] === undefined) throw new RangeError(`${key} of: ${sentence}`);
         const text = String(holes[key]);
         const isCounted = ending.startsWith(" ");
-        const value = isCounted ? count(Number(text), ending.slice(1)) : ending ? possessive(text) : text;
+        const value = isCounted ? count(text, ending.slice(1)) : ending ? possessive(text) : text;
         return key === name ? value : capital(value);
     });
 }

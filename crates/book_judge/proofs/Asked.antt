@@ -1,5 +1,6 @@
 -- The requests that stamps name, and where messages went out before they came in.
-use Rattle.book_judge.proofs.Common.{◌≡◌, ◌⊎◌, ℕ, zero, suc, ◌+◌, ◌-◌, ◌<◌, ◌≤◌, Bool, true, false, not, if◌then◌else◌, List, [], ◌∷◌, ◌++◌, length, take, drop, get_or, reverse, Option, Some, None, refl, ap, sym, subst, ◌∙◌, inl, inr, arith, IsSome, get-empty, drop_at, length-drop, length-reverse, length-take-le, reverse-append, take-append-drop, take_more, slice_get_read, slice_get_within, flow_cmp, same_flow, Flow, Crossing, HostMessage, same_flow-true, IsStamped, AreStamped, EndsAt, Name, before, control_flow, last_out, named, partner_request, Life, AreNamed, AreOuts, found_at}
+use Rattle.book_judge.proofs.Common.{◌≡◌, ◌⊎◌, ℕ, zero, suc, ◌+◌, ◌<◌, ◌≤◌, Bool, true, false, not, if◌then◌else◌, List, [], ◌∷◌, ◌++◌, length, take, get_or, reverse, Option, Some, None, refl, ap, sym, subst, ◌∙◌, inl, inr, arith, IsSome, get-empty, length-reverse, length-take-le, reverse-append, take_more, slice_get_read, slice_get_within, flow_cmp, same_flow, Flow, Crossing, HostMessage, same_flow-true, IsStamped, AreStamped, EndsAt, Name, before, control_flow, last_out, named, partner_request, Life, AreNamed, AreOuts, found_at}
+use Rattle.book_judge.proofs.Crossed.TextsBy.{before_place}
 use Rattle.std.specs.List.{slice_get}
 use Rattle.std.specs.FinMap as map
 use Rattle.interface.specs.declared.crossing.Crossing.TheVariants as crossing
@@ -39,13 +40,6 @@ pub one_back : (log : List Crossing) (i : ℕ) (c : Crossing) → i < length log
 one_back log i c h e =
     ap (λ (xs : List Crossing). reverse xs) (take_more log i c h ∙ ap (λ (z : Crossing). take i log ++ z ∷ []) (sym e))
     ∙ reverse-append (take i log) (c ∷ [])
-
-pub before_place : (log : List Crossing) (n : ℕ) → n ≤ length log → before n (reverse log) ≡ reverse (take n log)
-before_place log n h =
-    let e : reverse log ≡ reverse (drop n log) ++ reverse (take n log) = ap (λ (xs : List Crossing). reverse xs) (sym (take-append-drop n log)) ∙ reverse-append (take n log) (drop n log) in
-    let k : length (reverse (drop n log)) ≡ length (reverse log) - n = length-reverse (drop n log) ∙ length-drop n log ∙ ap (λ (m : ℕ). m - n) (sym (length-reverse log)) in
-    let P : List Crossing → Type 0 = λ z. drop (length (reverse log) - n) z ≡ reverse (take n log) in
-    subst P (sym e) (drop_at (reverse (drop n log)) (reverse (take n log)) (length (reverse log) - n) k)
 
 -- ---- where messages went out
 

@@ -1,4 +1,5 @@
 -- The messages that crossed: those of lives, and those that were taken.
+pub mod SameText
 pub mod TextsBy
 pub mod Made
 pub mod Taken

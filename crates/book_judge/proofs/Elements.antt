@@ -1,5 +1,6 @@
 -- The elements of a list by their places.
-use Rattle.book_judge.proofs.Common.{◌≡◌, ℕ, zero, suc, ◌+◌, ◌<◌, ◌≤◌, Bool, true, false, not, ◌&&◌, List, [], ◌∷◌, ◌++◌, length, take, get_or, Some, MatchBool, refl, ap, sym, subst, ◌∙◌, inl, inr, arith, Contains, cases_lt, append_assoc, get_or_from_slice_get, slice_get_within, AreTwo, Life}
+use Rattle.book_judge.proofs.Common.{◌≡◌, ℕ, zero, suc, ◌+◌, ◌<◌, ◌≤◌, Bool, true, false, not, ◌&&◌, List, [], ◌∷◌, ◌++◌, length, take, get_or, Some, MatchBool, refl, ap, sym, subst, ◌∙◌, inl, inr, arith, Contains, cases_lt, get_or_from_slice_get, slice_get_within, AreTwo, Life}
+use Rattle.std.proofs.lemmas.List.{append_assoc}
 use Rattle.std.specs.List.{slice_get}
 use Rattle.book_judge.proofs.Named.{contains_cases, contains_none}
 

@@ -2,3 +2,8 @@
 pub mod Reached
 pub mod Suited
 pub mod Contacts
+pub mod Keys
+pub mod Owed
+pub mod Changed
+pub mod Begun
+pub mod Ahead

@@ -5,7 +5,7 @@ use Rattle.std.specs.List.{slice_get}
 use Rattle.book_judge.specs.Inside.Chains.{IsSourced}
 use Rattle.book_judge.specs.Inside.Made.{same_found}
 use Rattle.book_judge.proofs.Elements.{read_at}
-use Rattle.book_judge.proofs.SameText.{same_bit-true}
+use Rattle.book_judge.proofs.Crossed.SameText.{same_bit-true}
 
 -- ---- prefixes
 

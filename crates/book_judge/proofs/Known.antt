@@ -1,5 +1,6 @@
 -- Which lives may be in one book, by what is noted of their requests.
-use Rattle.book_judge.proofs.Common.{◌≡◌, ◌⊎◌, ℕ, ◌+◌, ◌<◌, Bool, true, false, not, ◌&&◌, ◌==◌, List, Option, Some, None, refl, ap, sym, subst, ◌∙◌, inl, inr, arith, nat_cmp, eqb-true, cases_lt, and_true, Name, own_request, Life, key, same_name, AllApart, ApartFrom, HasPlace, apart_at}
+use Rattle.book_judge.proofs.Common.{◌≡◌, ◌⊎◌, ℕ, ◌+◌, ◌<◌, Bool, true, false, not, ◌&&◌, ◌==◌, List, Option, Some, None, refl, ap, sym, subst, ◌∙◌, inl, inr, arith, nat_cmp, eqb-true, cases_lt, and_true, Name, own_request, Life, same_name, AllApart, ApartFrom, HasPlace, apart_at}
+use Rattle.book_judge.specs.Inside.Asked.{key}
 use Rattle.std.proofs.Common.{eq-eqb}
 use Rattle.std.specs.List.{slice_get}
 use Rattle.std.specs.FinMap as map

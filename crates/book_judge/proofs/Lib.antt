@@ -1,5 +1,4 @@
 pub mod Common
-pub mod SameText
 pub mod Mailboxes
 pub mod Named
 pub mod Elements

@@ -1,5 +1,6 @@
 -- The mailboxes that are kept are those of the log, and a crossing finds in them what it needs exactly where it does in the log.
-use Rattle.book_judge.proofs.Common.{◌≡◌, ℕ, ◌+◌, ◌<◌, ◌≤◌, suc, Bool, true, false, not, ◌&&◌, ◌||◌, List, [], ◌∷◌, ◌++◌, length, take, drop, get_or, reverse, Option, Some, None, refl, ap, sym, subst, ◌∙◌, inl, inr, ◌⊎◌, if◌then◌else◌, cond, arith, le-leb, append_assoc, length-append, length-reverse, length-take-le, reverse-append, reverse-reverse, take-append-drop, take_all, take_more, slice_get_read, eq_by_cmp_equiv, get-empty, get-insert, eq_by_cmp, is_eq, Ordering, Less, Equal, Greater, flow_cmp, same_flow, Host, is_host, same_host, Empty, Fits, Flow, Answer, Crossing, HostMessage, both_ways, same_flow-refl, same_flow-true, same_host-refl, same_host-true, same_text, IsSomeRun, StraysAt, Held, Mail}
+use Rattle.book_judge.proofs.Common.{◌≡◌, ℕ, ◌+◌, ◌<◌, ◌≤◌, suc, Bool, true, false, not, ◌&&◌, ◌||◌, List, [], ◌∷◌, ◌++◌, length, take, drop, get_or, reverse, Option, Some, None, refl, ap, sym, subst, ◌∙◌, inl, inr, ◌⊎◌, if◌then◌else◌, cond, arith, le-leb, length-append, length-reverse, length-take-le, reverse-append, reverse-reverse, take-append-drop, take_all, take_more, slice_get_read, eq_by_cmp_equiv, get-empty, get-insert, eq_by_cmp, is_eq, Ordering, Less, Equal, Greater, flow_cmp, same_flow, Host, is_host, same_host, Empty, Fits, Flow, Answer, Crossing, HostMessage, both_ways, same_flow-refl, same_flow-true, same_host-refl, same_host-true, same_text, IsSomeRun, StraysAt, Held, Mail}
+use Rattle.std.proofs.lemmas.List.{append_assoc}
 use Rattle.std.proofs.Common.{nat_le, slice_get}
 use Rattle.std.proofs.Math.Seq.{get_or-append_seam}
 use Rattle.std.proofs.lemmas.Bool.Decides.{leb_tells}
@@ -12,7 +13,7 @@ use Rattle.book_judge.specs.Inside as tests
 use Rattle.book_judge.specs.Inside.{to_itself, mark_in, held_in, fresh}
 use Rattle.book_judge.specs.declared.mail.Held.TheVariants as held
 use Rattle.book_judge.specs.declared.mail.Mark.{Mark}
-use Rattle.book_judge.proofs.SameText.{same_text-is, same_text-true}
+use Rattle.book_judge.proofs.Crossed.SameText.{same_text-is, same_text-true}
 
 -- ---- a run without hosts
 

@@ -1,10 +1,8 @@
 -- What requests name, and the messages in which they crossed.
-use Rattle.book_judge.proofs.Common.{◌≡◌, ◌⊎◌, inl, inr, ℕ, zero, suc, ◌+◌, ◌-◌, ◌<◌, ◌≤◌, ◌==◌, Bool, true, false, if◌then◌else◌, List, [], ◌∷◌, ◌++◌, length, drop, reverse, Option, Some, None, is_some, refl, ap, sym, subst, ◌∙◌, arith, Contains, eqb-true, drop_all, length-drop, length-reverse, reverse-append, reverse-reverse, octets_of, orders_within, same_flow, Flow, Crossing, same_flow-refl, header_of, DataHeader, CrossedAt, named_at, named_in, named_of, text_of, control_flow, Host}
-use Rattle.std.proofs.Common.{◌*◌, eq-eqb}
+use Rattle.book_judge.proofs.Common.{◌≡◌, ◌⊎◌, inl, inr, ℕ, zero, suc, ◌+◌, ◌-◌, ◌<◌, ◌≤◌, ◌==◌, Bool, true, false, if◌then◌else◌, List, [], ◌∷◌, ◌++◌, length, drop, reverse, Option, Some, None, is_some, refl, ap, sym, subst, ◌∙◌, arith, Contains, eqb-true, drop_all, length-drop, length-reverse, reverse-append, reverse-reverse, orders_within, same_flow, Flow, Crossing, same_flow-refl, CrossedAt, named_at, named_in, named_of, text_of, control_flow, Host}
+use Rattle.std.proofs.Common.{eq-eqb}
 use Rattle.std.specs.List.{slice_get, slice_index_or}
 use Rattle.std.specs.Option.{option_or}
-use Rattle.host_pairs.proofs.lemmas.{header_covers}
-use Rattle.ncp_control.proofs.lemmas.{octets_enough}
 
 -- ---- elements
 
@@ -26,20 +24,6 @@ pub contains_cases : {X : Type 0} (y : X) (xs : List X) (x : X) → Contains (y 
 contains_cases y xs x (k, h, e) = cases_at y xs x k h e
 
 -- ---- reading them
-
-pub record HasOctets (count : ℕ) (octets : List ℕ) : Type 0 where
-  pub header : 5 ≤ length octets
-  pub after : count ≤ length (drop 5 octets)
-
--- the octets that a header of octets announces are all there
-pub octets_there : (text : List Bool) (h : DataHeader) (octets : List ℕ) → header_of text ≡ Some h → h.size ≡ 8
-    → octets ≡ octets_of text → HasOctets h.count octets
-octets_there text h octets is size same =
-    let covers : 40 + h.size * h.count ≤ length text = header_covers text h is in
-    let eight : h.size * h.count ≡ 8 * h.count = ap (λ (n : ℕ). n * h.count) size in
-    let there : length text ≤ 8 * length (octets_of text) = octets_enough text in
-    let long : length octets ≡ length (octets_of text) = ap length same in
-    record { header = omega arith; after = simp length-drop (omega arith) }
 
 -- what is still to be read names the same
 pub record IsNamed (own foreign : ℕ) (octets : List ℕ) (whole : Option ℕ) : Type 0 where

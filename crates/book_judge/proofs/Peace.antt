@@ -1,5 +1,5 @@
 -- What is said of partners, of two lives that match, of streams and of grants is so.
-use Rattle.book_judge.proofs.Common.{◌≡◌, ℕ, zero, suc, ◌+◌, ◌-◌, ◌<◌, ◌≤◌, Bool, true, false, not, ◌&&◌, if◌then◌else◌, List, [], ◌∷◌, length, take, drop, Option, Some, None, refl, ap, sym, subst, ◌∙◌, inl, inr, arith, Err, IsSome, Ok, Result, cases_lt, le-leb, length-take-le, take_all, slice_get_within, same_flow, Host, same_host, Flow, Crossing, HostMessage, and_true, same_flow-true, same_host-refl, same_host-true, IsStamped, AreStamped, EndsAt, ShowsLife, WithMatch, Finding, CrossedAt, AreTwo, Match, Name, before, control_flow, last_out, named, own_request, partner_request, receives, sends, Fate, Life, AreNamed, same_name, AllApart, ApartFrom, FoundOdds, apart_at, FedAt, FoundFirst, GrantedAt, IsHanded, SourceAt, fits, fits_at, is_granted}
+use Rattle.book_judge.proofs.Common.{◌≡◌, ℕ, zero, suc, ◌+◌, ◌-◌, ◌<◌, ◌≤◌, Bool, true, false, not, ◌&&◌, if◌then◌else◌, List, [], ◌∷◌, length, take, drop, Option, Some, None, refl, ap, sym, subst, ◌∙◌, inl, inr, arith, Err, IsSome, Ok, Result, cases_lt, le-leb, length-take-le, take_all, slice_get_within, same_flow, Host, same_host, Flow, Crossing, HostMessage, and_true, same_flow-true, same_host-refl, same_host-true, IsStamped, AreStamped, EndsAt, ShowsLife, WithMatch, Finding, CrossedAt, AreTwo, Match, Name, before, control_flow, last_out, named, own_request, partner_request, receives, sends, AreHanded, Fate, Life, AreNamed, same_name, AllApart, ApartFrom, FoundOdds, apart_at, FedAt, FoundFirst, GrantedAt, IsHanded, SourceAt, fits, fits_at, is_granted}
 use Rattle.std.specs.List.{slice_get}
 use Rattle.std.specs.Prelude.{IfOk, nat_le}
 use Rattle.std.specs.declared.alloc.AllocError.{AllocError}
@@ -8,7 +8,7 @@ use Rattle.interface.specs.declared.crossing.Crossing.TheVariants as crossing
 use Rattle.net_sim.specs.Audit.{IsWellFormed}
 use Rattle.net_sim.specs.Findings.{AreAtPeace, AreFed, AreUnmatched, HaveGranted, ShowsTwo, first_fed, first_granted}
 use Rattle.net_sim.specs.declared.auditing.findings.Finding.TheVariants as finding
-use Rattle.promise.specs.Safe.{AreHanded, IsGranted, SafeGrants, SafePartners, Source}
+use Rattle.promise.specs.Safe.{IsGranted, SafeGrants, SafePartners, Source}
 use Rattle.book_judge.specs.Broken.{IsBroken}
 use Rattle.book_judge.specs.declared.broken.Broken.{Broken}
 use Rattle.book_judge.specs.Inside.Chains.{fits_of}

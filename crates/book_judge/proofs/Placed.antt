@@ -1,10 +1,5 @@
 -- The map that a list of places by key makes.
-use Rattle.book_judge.proofs.Common.{◌≡◌, ℕ, ◌+◌, Bool, true, false, List, [], ◌∷◌, ◌⊎◌, inl, inr, Option, Some, refl, ap, sym, subst, ◌∙◌, cond, arith, eq_by_cmp, nat_cmp, eq_by_cmp_equiv, get-insert, is_eq, Ordering, Less, Equal, Greater, HasPlace}
-use Rattle.std.specs.Map.{lookup}
-use Rattle.std.specs.BTreeMap.{is_at}
-use Rattle.std.specs.Cmp.{nat_cmp_total}
-use Rattle.std.specs.FinMap.{FinMap, find, from_entries, get, insert, same_map, get-from_entries}
-use Rattle.std.proofs.lemmas.Map.Lookups.{exact_unsigned}
+use Rattle.book_judge.proofs.Common.{◌≡◌, ℕ, ◌+◌, Bool, true, false, List, [], ◌∷◌, ◌⊎◌, inl, inr, Option, Some, refl, ap, sym, subst, ◌∙◌, cond, arith, eq_by_cmp, nat_cmp, is_eq, eq_by_cmp_equiv, nat_cmp_total, get-insert, FinMap, find, from_entries, get, insert, same_map, get-from_entries, Ordering, Less, Equal, Greater, HasPlace, lookup, is_at, exact_unsigned}
 
 -- what a list of entries has at a key
 abbrev pub place_in : List (ℕ × ℕ) → ℕ → Option ℕ

@@ -1,5 +1,7 @@
 -- What an earlier life with the same requests shows of one: where that granted as much, nothing was sent past the grant of this.
-use Rattle.book_judge.proofs.Common.{◌≡◌, ℕ, ◌+◌, ◌<◌, ◌==◌, Bool, true, ◌&&◌, List, length, get_or, Option, Some, None, refl, ap, sym, subst, ◌∙◌, nat_cmp, IfSome, eqb-true, slice_get_read, Host, same_host, and_true, same_host-true, is_receive_socket, Name, own_request, receives, sends, Life, found_at, key, same_name, AreChained, ExceedsAt, GrantedAt, HasGranted, IsLast, fits, is_granted, repeats}
+use Rattle.book_judge.proofs.Common.{◌≡◌, ℕ, ◌+◌, ◌<◌, ◌==◌, Bool, true, ◌&&◌, List, length, get_or, Option, Some, None, refl, ap, sym, subst, ◌∙◌, nat_cmp, IfSome, eqb-true, slice_get_read, Host, same_host, and_true, same_host-true, is_receive_socket, Name, own_request, receives, sends, Life, found_at, same_name, AreChained, ExceedsAt, GrantedAt, HasGranted, IsLast, fits, is_granted}
+use Rattle.book_judge.specs.Inside.Chains.{repeats}
+use Rattle.book_judge.specs.Inside.Asked.{key}
 use Rattle.std.specs.FinMap as map
 use Rattle.std.specs.List.{slice_get}
 use Rattle.std.specs.Prelude.{nat_le}

@@ -1,5 +1,6 @@
 -- The lives of one own request, from the last to the first: whoever goes through them misses none.
-use Rattle.book_judge.proofs.Common.{◌≡◌, ℕ, ◌+◌, ◌<◌, ◌≤◌, true, ◌&&◌, List, [], ◌∷◌, ◌++◌, length, get_or, Option, Some, None, refl, ap, sym, subst, ◌∙◌, inl, inr, arith, nat_cmp, cases_lt, slice_get_read, slice_get_within, get-empty, same_host, and_true, Name, own_request, receives, sends, Life, found_at, key, same_name, AreChained, IsLast, SoughtAt, fits}
+use Rattle.book_judge.proofs.Common.{◌≡◌, ℕ, ◌+◌, ◌<◌, ◌≤◌, true, ◌&&◌, List, [], ◌∷◌, ◌++◌, length, get_or, Option, Some, None, refl, ap, sym, subst, ◌∙◌, inl, inr, arith, nat_cmp, cases_lt, slice_get_read, slice_get_within, get-empty, same_host, and_true, Name, own_request, receives, sends, Life, found_at, same_name, AreChained, IsLast, SoughtAt, fits}
+use Rattle.book_judge.specs.Inside.Asked.{key}
 use Rattle.std.specs.List.{slice_get}
 use Rattle.std.specs.FinMap as map
 use Rattle.book_judge.specs.Inside.Chains.{NoneWith}

@@ -1,9 +1,9 @@
 -- Which fates what crossed leaves the lives of a log. How far a life is by that, and how it is over, `Ends` of
 -- `promise` says.
-use Rattle.std.specs.Prelude.{◌≡◌, ℕ, Bool, true, false, List, [], take}
+use Rattle.std.specs.Prelude.{◌≡◌, ℕ, not, Bool, true, false, List, [], take}
 use Rattle.interface.specs.declared.crossing.Crossing.{Crossing}
 use Rattle.net_sim.specs.Findings.{EndsAt}
-use Rattle.promise.specs.Ends.{Asking, Cause, Closed, Dropped, Going, Over, Stage, Stopped, stage}
+use Rattle.promise.specs.Ends.{Asking, Cause, Closed, Dropped, Going, Over, Stage, Stopped, course, stage}
 use Rattle.promise.specs.Fates.{IsBeside}
 use Rattle.promise.specs.declared.life.Fate.{Fate}
 use Rattle.promise.specs.declared.life.Fate.TheVariants as fate
@@ -19,7 +19,8 @@ suits_going fate.Ended = false
 suits_going fate.Reset = true
 suits_going fate.Stopped = false
 
--- and of one that is over by this; a contact may have come before that
+-- and of one that is over by this; a contact may have come before that. One whose own CLS was the first was closed by a
+-- user of its host; and where that went out last, no contact had come, or an RST would have gone out
 abbrev pub suits_cause : Cause → Fate → Bool
 suits_cause Dropped fate.Reset = true
 suits_cause Dropped f = false
@@ -27,8 +28,8 @@ suits_cause Stopped fate.Stopped = true
 suits_cause Stopped fate.Reset = true
 suits_cause Stopped f = false
 suits_cause (Closed own_first) fate.Closed = true
-suits_cause (Closed own_first) fate.Ended = true
-suits_cause (Closed own_first) fate.Reset = true
+suits_cause (Closed own_first) fate.Ended = not own_first
+suits_cause (Closed own_first) fate.Reset = own_first
 suits_cause (Closed own_first) f = false
 
 -- a stage leaves a fate. Of a life whose requests haven't crossed nothing is said here
@@ -37,9 +38,17 @@ suits (Asking own partner) f = true
 suits (Going own partner) f = suits_going f
 suits (Over cause place) f = suits_cause cause f
 
--- each life has a fate that what crossed leaves it
+abbrev pub is_begun : Stage → Bool
+is_begun (Asking own partner) = false
+is_begun s = true
+
+-- a life that begins does so where nothing ends it between its two requests, and has a fate that what crossed leaves it
+pub record IsSuited (log : List Crossing) (x : Life) (f : Fate) : Type 0 where
+  pub begins : is_begun (stage [] x log) ≡ true → (course [] x log).early ≡ false
+  pub fate : suits (stage [] x log) f ≡ true
+
 abbrev pub AreSuited : List Crossing → List Life → List Fate → Type 0
-AreSuited log lives fates = (x : Life) (f : Fate) → IsBeside x f lives fates → suits (stage [] x log) f ≡ true
+AreSuited log lives fates = (x : Life) (f : Fate) → IsBeside x f lives fates → IsSuited log x f
 
 -- the place of the first life that hasn't
 abbrev pub UnsuitedAt : List Crossing → List Life → List Fate → ℕ → Type 0

@@ -4,3 +4,4 @@ pub mod Fates
 pub mod Broken
 pub mod Inside
 pub mod WorkedPlaces
+pub mod WorkedLives

@@ -1,6 +1,7 @@
 //! The data of a message, and where those of a life are.
 
-ghost use Rattle.std.specs.Prelude.{◌≡◌, ◌≤◌, IfSome, MatchBool, Some, drop, length};
+ghost use Rattle.std.specs.Prelude.{◌≡◌, ◌≤◌, IfSome, List, MatchBool, Some, drop, length};
+ghost use Rattle.interface.specs.declared.crossing.Crossing as passed;
 ghost use Rattle.promise.specs.Formed as formed;
 ghost use Rattle.promise.specs.Formed.{flow_of};
 ghost use Rattle.promise.specs.Safe as safe;
@@ -74,7 +75,7 @@ fn since(log: &[Crossing], life: &Life) -> usize
 
 /// Returns whether the messages of a life are the first on a link after both of its requests, as many as it counts, with its
 /// bits. What crossed on each flow is joined.
-pub(crate) fn is_first_on(log: &[Crossing], joined: &Joined, life: &Life, link: u8) -> bool
+fn is_first_on(log: &[Crossing], joined: &Joined, life: &Life, link: u8) -> bool
     requires { AreJoined (receives life.now) log.now joined.now }
     ensures { MatchBool result (tests.HasBits log.now life.now link) (tests.HasBits log.now life.now link → ⊥) }
 {
@@ -84,4 +85,33 @@ pub(crate) fn is_first_on(log: &[Crossing], joined: &Joined, life: &Life, link: 
         life.messages,
         &life.bits,
     )
+}
+
+/// Returns whether as many messages of a life as it counts crossed on a link before a place, after both its requests.
+fn is_counted_on(joined: &Joined, life: &Life, link: u8, until: usize) -> bool
+    ensures { (log : List passed.Crossing) → AreJoined (receives life.now) log joined.now → tests.Counts log life.now link until result }
+{
+    let begun = life.own_stamp.max(life.partner_stamp);
+    if until <= begun {
+        return life.messages == 0;
+    }
+    life.messages <= joined.between(&flow_of(life, link), begun + 1, until) as u128
+}
+
+/// Returns whether the messages of a life are the first on a link after both of its requests, as many as it counts, with its
+/// bits, and all crossed before a place. What crossed on each flow is joined.
+pub(crate) fn is_made_on(
+    log: &[Crossing],
+    joined: &Joined,
+    life: &Life,
+    link: u8,
+    until: usize,
+) -> bool
+    requires { AreJoined (receives life.now) log.now joined.now }
+    ensures { tests.Makes log.now life.now link until result }
+{
+    if !is_first_on(log, joined, life, link) {
+        return false;
+    }
+    is_counted_on(joined, life, link, until)
 }

@@ -1,6 +1,7 @@
 //! The data of each flow's messages, joined.
 
-ghost use Rattle.std.specs.Prelude.{◌≡◌, ◌+◌, ◌<◌, [], Bool, IfOk, List, MatchBool, OnOk, Some, length, option_copied, take};
+ghost use Rattle.std.specs.Prelude.{◌≡◌, ◌+◌, ◌<◌, [], Bool, IfOk, List, MatchBool, OnOk, Some, drop, length};
+ghost use Rattle.std.specs.Prelude.{option_copied, take};
 ghost use Rattle.interface.specs.declared.address.Flow.{Flow};
 ghost use Rattle.interface.specs.declared.crossing.Crossing.{Crossing};
 ghost use Rattle.book_judge.specs.Inside.Joined as tests;
@@ -117,6 +118,18 @@ impl Stream {
         let (to, unread_to) = self.before(first + count);
         unread == unread_to && is_slice(bits, &self.bits, from, to)
     }
+
+    /// Returns how many messages crossed before a place and not before another.
+    fn between(&self, since: usize, until: usize) -> usize
+        ensures { (comes : Bool) (f : Flow) (log : List Crossing) → IsStream comes f log self.now → result ≡ length (texts_by comes f (drop since (take until log))) }
+    {
+        let first = first_from(&self.pieces, since);
+        let last = first_from(&self.pieces, until);
+        if last < first {
+            return 0;
+        }
+        last - first
+    }
 }
 
 /// Returns the message that came in, or that went out, by a crossing.
@@ -187,6 +200,19 @@ impl Joined {
                 None => false,
             },
             None => count == 0 && bits.len() == 0,
+        }
+    }
+
+    /// Returns how many messages of a flow crossed before a place and not before another.
+    pub(crate) fn between(&self, flow: &MessageFlow, since: usize, until: usize) -> usize
+        ensures { (comes : Bool) (log : List Crossing) → AreJoined comes log self.now → result ≡ length (texts_by comes flow.now (drop since (take until log))) }
+    {
+        match self.numbers.get(flow) {
+            Some(number) => match self.streams.get(number) {
+                Some(stream) => stream.between(since, until),
+                None => 0,
+            },
+            None => 0,
         }
     }
 }

@@ -13,17 +13,18 @@ ghost use Rattle.net_sim.specs.declared.auditing.findings.Finding.{Finding};
 ghost use Rattle.net_sim.specs.declared.auditing.findings.Finding.TheVariants as finding;
 ghost use Rattle.net_sim.specs.Findings.{ShowsLife};
 ghost use Rattle.net_sim.specs.Worked.{eight, four};
-ghost use Rattle.promise.specs.Ends.{AreLeft, Closed, Dropped, Going, Over, Stopped};
+ghost use Rattle.net_sim.specs.WorkedMoments.{rts, str};
+ghost use Rattle.book_judge.specs.WorkedLives.{late_answer, stopped_log};
+ghost use Rattle.promise.specs.Ends.{CanBeLeft, Closed, Dropped, Going, Over, Stopped};
 ghost use Rattle.promise.specs.Fates.{ClosesWhole};
 ghost use Rattle.promise.specs.Formed.{FormedBook};
-ghost use Rattle.promise.specs.declared.book.Called.{Called};
 ghost use Rattle.promise.specs.declared.life.Fate.{Fate};
 ghost use Rattle.promise.specs.declared.life.Fate.TheVariants as fate;
 ghost use Rattle.promise.specs.declared.life.Life.{Life};
 ghost use Rattle.world_keeps_lives.specs.WorkedFormed.{gave, sent_log, took};
 ghost use Rattle.book_judge.specs.Broken.{IsBroken, first_closed, only_malformed, unbroken};
 ghost use Rattle.book_judge.specs.Fates.{AreSuited, suits};
-ghost use Rattle.book_judge.specs.Lives.{UnmadeAt};
+ghost use Rattle.book_judge.specs.Lives.{AreMade, UnmadeAt};
 ghost use Rattle.book_judge.specs.Runs.{IsSomeRun, StraysAt};
 
 use world_keeps_lives::law::worked_formed;
@@ -64,6 +65,10 @@ pub fn worked_closes()
     ensures whole { ClosesWhole sent_log (took ∷ gave ∷ []) ([] ∷ eight ∷ []) (fate.Ended ∷ fate.Open ∷ []) }
     ensures lost { ShowsLife (first_closed sent_log (took ∷ gave ∷ []) ([] ∷ (eight ++ four) ∷ []) (fate.Ended ∷ fate.Open ∷ [])) (finding.Lives 0 1) sent_log (took ∷ gave ∷ []) }
 
+    // what isn't named holds: closes, and streams, of which nothing was handed over
+    ensures closes { IsBroken unbroken sent_log (took ∷ gave ∷ []) ([] ∷ (eight ++ four) ∷ []) (fate.Ended ∷ []) → ⊥ }
+    ensures streams { IsBroken unbroken sent_log (took ∷ gave ∷ []) ([] ∷ [] ∷ []) [] → ⊥ }
+
     // its own user closed it, or only the other life was ended: then it need not
     ensures closed { ClosesWhole sent_log (took ∷ gave ∷ []) ([] ∷ (eight ++ four) ∷ []) (fate.Closed ∷ fate.Ended ∷ []) }
 {}
@@ -88,26 +93,41 @@ pub fn worked_fates()
     ensures dropped { suits (Over Dropped 3) fate.Open ≡ false }
     ensures not_by_cls { suits (Over Dropped 3) fate.Closed ≡ false }
 
-    // whose user closed first isn't said of both CLS
+    // one whose partner's CLS was the first may be closed or ended; whose own was the first, its own user had closed
     ensures ended { suits (Over (Closed false) 3) fate.Ended ≡ true }
     ensures closed { suits (Over (Closed false) 3) fate.Closed ≡ true }
+    ensures closed_first { suits (Over (Closed true) 3) fate.Closed ≡ true }
+    ensures not_ended_first { suits (Over (Closed true) 3) fate.Ended ≡ false }
     ensures over { suits (Over (Closed true) 3) fate.Open ≡ false }
 
-    // of a life that hasn't begun nothing is said
-    ensures nothing { (x : Life) (f : Fate) → AreSuited [] (x ∷ []) (f ∷ []) }
+    // a contact may have come before the partner's CLS, but not before its own went out
+    ensures called_first { suits (Over (Closed true) 3) fate.Reset ≡ true }
+    ensures not_called { suits (Over (Closed false) 3) fate.Reset ≡ false }
 
-    // what comes of a contact suits what crossed, whichever contacts there were
-    ensures contacts { (contacts : List Called) (log : List Crossing) (lives : List Life) (fates : List Fate) → AreLeft contacts log lives fates → AreSuited log lives fates }
+    // of a life that hasn't begun nothing is said; one whose host stopped between its requests no fate suits
+    ensures nothing { (x : Life) (f : Fate) → AreSuited [] (x ∷ []) (f ∷ []) }
+    ensures early { (f : Fate) → AreSuited (crossing.In str ∷ crossing.Down late_answer.host ∷ crossing.Out rts ∷ []) (late_answer ∷ []) (f ∷ []) → ⊥ }
+
+    // where some contacts leave lives their fates, these suit what crossed
+    ensures contacts { (log : List Crossing) (lives : List Life) (fates : List Fate) → CanBeLeft log lives fates → AreSuited log lives fates }
 {}
 
 /// Lives of small logs, the newest crossing first.
 pub fn worked_lives()
     // those of a world in which eight bits were sent
-    ensures made { FormedBook sent_log (took ∷ gave ∷ []) }
+    ensures made { AreMade sent_log (took ∷ gave ∷ []) }
+
+    // each is formed; and none that counts a message which came in after its host had stopped is made so
+    ensures formed { (log : List Crossing) (lives : List Life) → AreMade log lives → FormedBook log lives }
+    ensures late { AreMade stopped_log (took ∷ []) → ⊥ }
 
     // no life is made of nothing
     ensures nothing { (x : Life) → UnmadeAt [] (x ∷ []) 0 }
-    ensures none { FormedBook [] [] }
+    ensures none { AreMade [] [] }
+
+    // what is named is the first life that isn't made: not one that is, and not one after it
+    ensures no_made { UnmadeAt sent_log (took ∷ gave ∷ []) 0 → ⊥ }
+    ensures no_later { (x y : Life) → UnmadeAt [] (x ∷ y ∷ []) 1 → ⊥ }
 {
     worked_formed();
 }

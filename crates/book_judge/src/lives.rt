@@ -1,14 +1,15 @@
-//! Whether lives are made of the messages that crossed.
+//! Whether lives are made of the messages that crossed before their ends.
 
 ghost use Rattle.std.specs.Prelude.{◌≡◌, false, IfOk, MatchBool, MatchOption, reverse, true};
 ghost use Rattle.interface.specs.Host.{Host};
 ghost use Rattle.promise.specs.Formed as formed;
-ghost use Rattle.promise.specs.Formed.{FormedBook, IsFormed};
 ghost use Rattle.promise.specs.Safe as safe;
 ghost use Rattle.book_judge.specs.Inside.Joined.{AreJoined};
-ghost use Rattle.book_judge.specs.Lives.{UnmadeAt};
+ghost use Rattle.book_judge.specs.Inside.Made.{IsMadeBy};
+ghost use Rattle.book_judge.specs.Lives.{AreMade, UnmadeAt};
 
-use crate::data::{is_first_on, receives};
+use crate::data::{is_made_on, receives};
+use crate::fates::courses_of;
 use crate::joined::{Joined, join_data, message_of};
 use crate::requests::named_in;
 use interface::{Crossing, Flow, HostAddr, Link};
@@ -67,27 +68,28 @@ fn partner_named(log: &[Crossing], life: &Life) -> Option<u8>
     )
 }
 
-/// Returns whether a life is made of the messages that crossed. Of those that came in, and of those that went out, the data
-/// are joined.
-fn is_made(log: &[Crossing], into: &Joined, out: &Joined, life: &Life) -> bool
+/// Returns whether a life is made of messages that crossed before a place. Of those that came in, and of those that
+/// went out, the data are joined.
+fn is_made(log: &[Crossing], into: &Joined, out: &Joined, life: &Life, until: usize) -> bool
     requires { AreJoined true log.now into.now × AreJoined false log.now out.now }
-    ensures { MatchBool result (IsFormed (reverse log.now) life.now) (IsFormed (reverse log.now) life.now → ⊥) }
+    ensures { MatchBool result (IsMadeBy (reverse log.now) until life.now) (IsMadeBy (reverse log.now) until life.now → ⊥) }
 {
     let (Some(own), Some(partner)) = (own_named(log, life), partner_named(log, life)) else {
         return false;
     };
     if receives(life) {
-        return is_first_on(log, into, life, own);
+        return is_made_on(log, into, life, own, until);
     }
-    is_first_on(log, out, life, partner)
+    is_made_on(log, out, life, partner, until)
 }
 
-/// Returns the place of the first life that isn't made of the messages that crossed, counted from 0; `None` where all are. The
-/// log is the oldest first.
+/// Returns the place of the first life that isn't made of messages that crossed before it was over, counted from 0;
+/// `None` where all are. The log is the oldest first.
 ///
 /// The RTS of a life's two requests names its link, and its messages are the first there after both of these, as many as it
 /// counts: what comes in for a receiving life, and what goes out for a sending one (NIC 8246, RTS, STR and messages of data).
-/// The data of each flow are joined once, so the time grows with the log, whatever the lives count.
+/// It counts none that crossed after both CLS, after its connections were dropped, or after its host stopped. The data
+/// of each flow are joined once, so the time grows with the log, whatever the lives count.
 ///
 /// Errors: `AllocError`.
 pub fn unmade_at(
@@ -95,12 +97,14 @@ pub fn unmade_at(
     log: &[Crossing],
     lives: &[Life],
 ) -> Result<Option<usize>, AllocError>
-    ensures { IfOk result (λ found. MatchOption found (FormedBook (reverse log.now) lives.now) (λ place. UnmadeAt (reverse log.now) lives.now place)) }
+    ensures { IfOk result (λ found. MatchOption found (AreMade (reverse log.now) lives.now) (λ place. UnmadeAt (reverse log.now) lives.now place)) }
 {
     let into = join_data(alloc, log, true)?;
     let out = join_data(alloc, log, false)?;
+    let courses = courses_of(alloc, log)?;
     for (place, life) in lives.iter().enumerate() {
-        if !is_made(log, &into, &out, life) {
+        let end = courses.end(log.len(), life);
+        if !is_made(log, &into, &out, life, end) {
             return Ok(Some(place));
         }
     }

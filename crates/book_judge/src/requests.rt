@@ -1,32 +1,14 @@
 //! What the requests in a control message name.
 
 ghost use Rattle.std.specs.Option.{option_or};
-ghost use Rattle.std.specs.Prelude.{◌≡◌, ◌∷◌, [], ◌+◌, ◌<◌, ◌≤◌, ℕ, MatchOption, drop, length};
-ghost use Rattle.bit_messages.specs.Octets.{octets_of};
-ghost use Rattle.host_pairs.specs.Control.{ERRONEOUS, Wrong, orders_in, orders_of, orders_within};
+ghost use Rattle.std.specs.Prelude.{◌≡◌, ◌+◌, ◌<◌, ◌≤◌, ℕ, drop, length};
+ghost use Rattle.host_pairs.specs.Control.{orders_of, orders_within};
 ghost use Rattle.promise.specs.Formed as formed;
 ghost use Rattle.promise.specs.Formed.{named_in};
 
 use bit_messages::Bits;
-use ncp_control::{Command, ControlFault, DataHeader, HEADER_BITS, MAX_CONTROL_OCTETS, read_one};
-
-/// The size of a control message's bytes.
-const OCTET_BITS: u8 = 8;
-
-/// Returns the octets of the commands in a text, of which it has none where it is no control message.
-#[tactic(auto, unfolding(host_pairs::specs::Control::orders_of))]
-pub(crate) fn control_octets(text: &Bits) -> Option<&[u8]>
-    ensures { MatchOption result (orders_of text.now ≡ Wrong ERRONEOUS (octets_of text.now) ∷ []) (λ octets. orders_of text.now ≡ orders_in octets.now) }
-{
-    let header = DataHeader::read(text)?;
-    let count = header.count as usize;
-    if header.size != OCTET_BITS || count > MAX_CONTROL_OCTETS {
-        return None;
-    }
-    let (_, behind) = text.as_octets().split_at(HEADER_BITS / 8);
-    let (octets, _) = behind.split_at(count);
-    Some(octets)
-}
+use host_pairs::control_octets;
+use ncp_control::{Command, ControlFault, read_one};
 
 /// Returns what a command names, where it is the request of these two sockets: an RTS its link, an STR its byte size.
 fn named_by(own: u32, foreign: u32, command: &Command) -> Option<u8>

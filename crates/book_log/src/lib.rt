@@ -6,7 +6,7 @@
 //! A caller may rely on this: octets are read exactly if they are the spelling of a book, which is then the book that is answered. All
 //! others are refused by the number of their first bad line. No two books are spelled alike, so what is written is read again.
 //!
-//! Nothing here says whether a book keeps its promise, nor whether it has as many lists of bits as lives: that an audit says.
+//! Nothing here says whether a book keeps the promise, nor whether it has as many lists of bits as lives: that an audit says.
 #![tactic(auto)]
 
 mod book;

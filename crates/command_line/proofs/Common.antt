@@ -14,6 +14,7 @@ pub use Rattle.command_line.specs.Events.{AsksFor, Raw, World, asked_of}
 pub use Rattle.command_line.specs.Input.{IsInput, IsInputFault, IsSomeInput}
 pub use Rattle.command_line.specs.Lived.{AreLived, lives_in, ungranted}
 pub use Rattle.command_line.specs.Logs.{Logged, LogsFrom, LogsInput, LogsOn, LogsOver, raw_book, world_book}
+pub use Rattle.command_line.specs.Options.{detail_of}
 pub use Rattle.command_line.specs.Parser.{command_line}
 pub use Rattle.command_line.specs.Printed.{AreOneBook, PrintsBook, PrintsPart}
 pub use Rattle.command_line.specs.Program.{EndsTask, Sides}
@@ -24,7 +25,7 @@ pub use Rattle.command_line.specs.declared.auditing.AuditFault.{AuditFault}
 pub use Rattle.command_line.specs.declared.fault.ScriptFault.{ScriptFault}
 pub use Rattle.command_line.specs.declared.options.Options.{Options}
 pub use Rattle.command_line.specs.declared.verdict.Verdict.{Verdict}
-pub use Rattle.headline.proofs.lemmas.{given, world_run}
+pub use Rattle.headline.proofs.lemmas.{given}
 pub use Rattle.headline.specs.Promise.{KeepsPromise}
 pub use Rattle.host_services.specs.declared.report.Reported.{Reported}
 pub use Rattle.interface.specs.Calls.{Calls}
@@ -39,7 +40,6 @@ pub use Rattle.net_sim.specs.World.{WorldState, opening_world}
 pub use Rattle.net_sim.specs.declared.auditing.findings.Finding.{Finding}
 pub use Rattle.net_sim.specs.declared.event.Event.{Event}
 pub use Rattle.promise.specs.Fates.{AreFated, ClosesWhole}
-pub use Rattle.promise.specs.Formed.{FormedBook}
 pub use Rattle.promise.specs.Safe.{AreTwo}
 pub use Rattle.promise.specs.declared.book.Told.{Told}
 pub use Rattle.promise.specs.declared.life.Fate.{Fate}
@@ -53,7 +53,7 @@ pub use Rattle.replay.specs.declared.print.Detail.TheVariants.{Sizes}
 pub use Rattle.script.proofs.lemmas.{parted_once}
 pub use Rattle.script.specs.Input.{ended_line}
 pub use Rattle.script.specs.declared.event.RawEvent.{RawEvent}
-pub use Rattle.std.proofs.Common.{Bool, Err, IfErr, IfSome, List, MatchResult, None, Ok, OnOk, Option, Result, Some, [], ap, ap₂, arith, codes, false, if◌then◌else◌, inl, inr, map, not, refl, reverse, rules, subst, sym, take, true, zip, ℕ, ◌++◌, ◌+◌, ◌<◌, ◌==◌, ◌||◌, ◌∙◌, ◌∷◌, ◌≡◌, ◌≢◌, ◌⊎◌}
+pub use Rattle.std.proofs.Common.{Bool, Err, IfErr, IfSome, List, MatchResult, None, Ok, OnOk, Option, Result, Some, [], ap, ap₂, arith, codes, false, if◌then◌else◌, inl, inr, map, not, refl, rules, subst, sym, take, true, zip, ℕ, ◌++◌, ◌+◌, ◌<◌, ◌==◌, ◌||◌, ◌∙◌, ◌∷◌, ◌≡◌, ◌≢◌, ◌⊎◌}
 pub use Rattle.std.proofs.lemmas.Bool.{false≢true}
 pub use Rattle.std.proofs.lemmas.List.{append_assoc, length-append, length-map, map-append, reverse-reverse}
 pub use Rattle.std.specs.Io.KnownBytes.{Appends, Keeps}

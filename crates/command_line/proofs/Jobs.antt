@@ -1,6 +1,5 @@
 -- What is written where memory runs out before anything is replayed.
-use Rattle.command_line.proofs.Common.{◌≡◌, ◌⊎◌, inl, inr, ℕ, List, Option, Some, None, Result, Err, IfSome, MatchResult, refl, sym, subst, Keeps, IsInputFault, IsSomeInput, EndsTask, Sides, StopsInput, ScriptFault, Options}
-use Rattle.command_line.specs.Options.{detail_of}
+use Rattle.command_line.proofs.Common.{◌≡◌, ◌⊎◌, inl, inr, ℕ, List, Option, Some, None, Result, Err, IfSome, MatchResult, refl, sym, subst, Keeps, IsInputFault, IsSomeInput, EndsTask, Sides, StopsInput, ScriptFault, Options, detail_of}
 use Rattle.command_line.specs.Reading.{ReadsFirst}
 use Rattle.command_line.proofs.Reading.{reads_none}
 use Rattle.command_line.specs.declared.fault.ScriptFault.TheVariants as script

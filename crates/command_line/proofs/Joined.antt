@@ -1,8 +1,9 @@
 -- What `--log` writes, `--audit` reads and calls kept.
-use Rattle.command_line.proofs.Common.{◌≡◌, ℕ, Bool, true, List, [], ◌∷◌, reverse, Option, Some, None, IfSome, Result, Ok, Err, MatchResult, inl, inr, map, refl, sym, subst, reverse-reverse, fates_of, lives_of, lives_back, world_run, Host, IsRun, SafeMessages, Crossing, Says, AreFated, ClosesWhole, Fate, Life, Calls, TopologyFields, CarrierKind, AreSuited, IsSomeRun, AuditsLog, IsAuditFault, IsSomeLog, Judged, SaysOf, kept, Verdict, plain_calls, subnet_calls, plain_of, subnet_of, Raw, World, Logged, LogsFrom, LogsOver, raw_book, world_book, AuditFault}
+use Rattle.command_line.proofs.Common.{◌≡◌, ℕ, Bool, true, List, [], ◌∷◌, Option, Some, None, IfSome, Result, Ok, Err, MatchResult, inl, inr, map, refl, sym, subst, reverse-reverse, fates_of, lives_of, lives_back, Host, IsRun, SafeMessages, Crossing, Says, AreFated, ClosesWhole, Fate, Life, Calls, TopologyFields, CarrierKind, AreSuited, IsSomeRun, AuditsLog, IsAuditFault, IsSomeLog, Judged, SaysOf, kept, Verdict, plain_calls, subnet_calls, plain_of, subnet_of, Raw, World, Logged, LogsFrom, LogsOver, raw_book, world_book, AuditFault}
+use Rattle.std.proofs.Common.{reverse}
 use Rattle.book_log.specs.Log.{Book, logged_fate}
 use Rattle.book_log.proofs.lemmas.{book_once, fates_back}
-use Rattle.headline.proofs.lemmas.{kept_promise, parted}
+use Rattle.headline.proofs.lemmas.{kept_promise}
 use Rattle.net_sim.specs.declared.auditing.said.Audit.{Audit}
 use Rattle.net_sim.specs.declared.auditing.said.Audit.TheVariants as audit
 use Rattle.net_sim.specs.Book.{Kept}
@@ -11,7 +12,7 @@ use Rattle.promise.specs.Fates.{IsBeside}
 use Rattle.promise.specs.declared.life.Fate.TheVariants as fate
 use Rattle.topology.specs.declared.network.CarrierKind.TheVariants as kind
 use Rattle.book_judge.specs.Fates.{suits}
-use Rattle.book_judge.proofs.lemmas.{made_twice}
+use Rattle.book_judge.proofs.lemmas.{made_twice, made_with}
 use Rattle.command_line.specs.Audits.{IsKeptLog, SaysKept}
 use Rattle.command_line.specs.Events.{Asked}
 use Rattle.command_line.specs.declared.auditing.AuditFault.TheVariants as fault
@@ -88,7 +89,11 @@ suited_logged : (log : List Crossing) (lives : List Life) (fates : List Fate) �
     → AreSuited log lives (map logged_fate fates)
 suited_logged log lives fates all x f h =
     let b = logged_beside x f lives fates h in
-    subst (λ (g : Fate). suits (stage [] x log) g ≡ true) (sym b.2) (suits_logged (stage [] x log) b.0 (all x b.0 b.1))
+    let s = all x b.0 b.1 in
+    record {
+      begins = s.begins;
+      fate = subst (λ (g : Fate). suits (stage [] x log) g ≡ true) (sym b.2) (suits_logged (stage [] x log) b.0 s.fate);
+    }
 
 -- the lives and fates of the log of a world are those of its book
 says_logged : (k : Kept) → AreFated k.book.lives k.fates
@@ -114,13 +119,14 @@ kept_from calls opening (World events) octets h = record {
   book = world_book h.last.kept;
   log = record { spelled = h.written; valid = h.valid };
   says =
-      says_logged h.last.kept h.fated
+      says_logged h.last.kept h.promise.fated
       (kept_from_safe (reverse h.last.kept.book.crossings) h.last.kept.book.lives h.last.kept.handed (map logged_fate h.last.kept.fates)
-      (run_twice (calls.seen h.last.carrier).hosts h.last.kept.book.crossings (world_run calls.seen h.last h.promise.lawful))
-      (made_twice h.last.kept.book.crossings h.last.kept.book.lives h.promise.formed)
-      (turned audit.Kept h.last.kept.book.crossings h.last.kept.book.lives h.last.kept.handed (kept_promise (calls.seen h.last.carrier).hosts h.last.kept.book h.last.kept.handed (parted calls.seen h.last h.promise).0))
+      (run_twice (calls.seen h.last.carrier).hosts h.last.kept.book.crossings h.promise.promised.run)
+      (made_twice h.last.kept.book.crossings h.last.kept.book.lives
+      (made_with h.last.kept.book.contacts h.last.kept.book.crossings h.last.kept.book.lives h.promise.contacts h.promise.promised.formed h.promise.within))
+      (turned audit.Kept h.last.kept.book.crossings h.last.kept.book.lives h.last.kept.handed (kept_promise (calls.seen h.last.carrier).hosts h.last.kept.book h.last.kept.handed h.promise.promised))
       (closes_logged (reverse (reverse h.last.kept.book.crossings)) h.last.kept.book.lives h.last.kept.handed h.last.kept.fates
-      (subst (λ (cs : List Crossing). ClosesWhole cs h.last.kept.book.lives h.last.kept.handed h.last.kept.fates) (sym (reverse-reverse h.last.kept.book.crossings)) h.whole))
+      (subst (λ (cs : List Crossing). ClosesWhole cs h.last.kept.book.lives h.last.kept.handed h.last.kept.fates) (sym (reverse-reverse h.last.kept.book.crossings)) h.promise.whole))
       (suited_logged (reverse (reverse h.last.kept.book.crossings)) h.last.kept.book.lives h.last.kept.fates
       (subst (λ (cs : List Crossing). AreSuited cs h.last.kept.book.lives h.last.kept.fates) (sym (reverse-reverse h.last.kept.book.crossings)) h.suited)));
 }

@@ -1,5 +1,6 @@
 -- An input has one log, and its outputs are of one replay.
-use Rattle.command_line.proofs.Common.{◌≡◌, Bool, List, [], ◌++◌, Some, codes, reverse, sym, ap, ap₂, subst, ◌∙◌, ℕ, reverse-reverse, lives_of, log_text, lives_back, Crossing, shown, WorldState, opening_world, Life, crossings_of, output, Calls, AreSettled, Detail, OneReplay, replays_once, TopologyFields, CarrierKind, plain_calls, subnet_calls, plain_of, subnet_of, Raw, World, LogsFrom, LogsInput, LogsOn, LogsOver, raw_book, world_book, ReplaysFrom, ReplaysInput, ReplaysOn, ReplaysOver, book_text}
+use Rattle.command_line.proofs.Common.{◌≡◌, Bool, List, [], ◌++◌, Some, codes, sym, ap, ap₂, subst, ◌∙◌, ℕ, reverse-reverse, lives_of, log_text, lives_back, Crossing, shown, WorldState, opening_world, Life, crossings_of, output, Calls, AreSettled, Detail, OneReplay, replays_once, TopologyFields, CarrierKind, plain_calls, subnet_calls, plain_of, subnet_of, Raw, World, LogsFrom, LogsInput, LogsOn, LogsOver, raw_book, world_book, ReplaysFrom, ReplaysInput, ReplaysOn, ReplaysOver, book_text}
+use Rattle.std.proofs.Common.{reverse}
 use Rattle.replay.specs.Output.{Shown}
 use Rattle.topology.specs.declared.network.CarrierKind.TheVariants as kind
 use Rattle.world_replay.specs.Output as lines
@@ -91,7 +92,7 @@ told_from {C} calls settled opening (World events) book detail out log h k =
     let one : (h.shows.last ≡ k.last) × (h.shown ≡ k.shows) =
     worlds.one_replay calls settled (opening_world (shown calls) opening) h.shows.last k.last events h.shown k.shows h.shows.replayed k.replayed in
     let alive : h.lives ≡ lives_of (world_book k.last.kept) =
-    h.shows.left ∙ ap (λ (w : WorldState C). w.kept.book.lives) one.0 ∙ sym (lives_back k.last.kept.book.lives k.last.kept.fates k.fated) in
+    h.shows.left ∙ ap (λ (w : WorldState C). w.kept.book.lives) one.0 ∙ sym (lives_back k.last.kept.book.lives k.last.kept.fates k.promise.fated) in
     record {
       shown = h.shown;
       told = world_book k.last.kept;

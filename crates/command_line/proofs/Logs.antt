@@ -1,5 +1,6 @@
 -- What `--log` writes is the log of the book that a replay leaves.
-use Rattle.command_line.proofs.Common.{◌≡◌, ℕ, Bool, List, [], Option, Some, None, IfSome, Result, Ok, Err, OnOk, refl, reverse, subst, sym, Appends, AreSuited, log_text, AreFated, ClosesWhole, Fate, KeepsPromise, IsRun, SafeMessages, Crossing, shown, WorldState, opening_world, Life, Writes, Calls, Detail, RawEvent, TopologyFields, WorldEvent, IsInput, Logged, LogsInput, LogsOn, ScriptFault}
+use Rattle.command_line.proofs.Common.{◌≡◌, ℕ, Bool, List, [], Option, Some, None, IfSome, Result, Ok, Err, OnOk, refl, subst, sym, Appends, AreSuited, log_text, AreFated, Fate, KeepsPromise, IsRun, SafeMessages, Crossing, shown, WorldState, opening_world, Life, Writes, Calls, Detail, RawEvent, TopologyFields, WorldEvent, IsInput, Logged, LogsInput, LogsOn, ScriptFault}
+use Rattle.std.proofs.Common.{reverse}
 use Rattle.book_log.specs.Log.{Book, IsBook, logged_book}
 use Rattle.replay.specs.Replay.{Replays}
 use Rattle.world_replay.specs.Output as lines
@@ -31,26 +32,23 @@ pub logs_world : {C : Type 0} (calls : Calls C) (opening : C) (first last : Worl
     → first ≡ opening_world (shown calls) opening → lines.Writes detail
     (worlds.Replays (shown calls) first events last) x y → KeepsPromise calls.seen last
     → log ≡ reverse last.kept.book.crossings → lives ≡ last.kept.book.lives → handed ≡ last.kept.handed → fates ≡
-    last.kept.fates → AreFated last.kept.book.lives last.kept.fates → ClosesWhole last.kept.book.crossings
-    last.kept.book.lives last.kept.handed last.kept.fates → AreSuited last.kept.book.crossings last.kept.book.lives
+    last.kept.fates → AreSuited last.kept.book.crossings last.kept.book.lives
     last.kept.fates → Appends before after (log_text (logged_book log lives handed fates)) →
     (AreFated lives fates → IsBook (logged_book log lives handed fates))
     → LogsWorld calls opening events before after
-logs_world {C} calls opening first last events detail log lives handed fates x y before after begins w promise crossings alive given how are whole suited written valid =
+logs_world {C} calls opening first last events detail log lives handed fates x y before after begins w promise crossings alive given how suited written valid =
     record {
       last = last;
       shows = w.shown;
       replayed = subst (λ (s : WorldState C). worlds.Replays (shown calls) s events last w.shown) begins w.is_shown;
       promise = promise;
-      fated = are;
-      whole = whole;
       suited = suited;
       written =
           subst (λ (b : Book). Appends before after (log_text b))
           (λ i. logged_book (crossings i) (alive i) (given i) (how i)) written;
       valid =
           subst IsBook (λ i. logged_book (crossings i) (alive i) (given i) (how i))
-          (valid (fated_back lives fates last.kept.book.lives last.kept.fates alive how are));
+          (valid (fated_back lives fates last.kept.book.lives last.kept.fates alive how promise.fated));
     }
 
 pub logged : (network : TopologyFields) (events : Asked) (before after : Option (List ℕ))

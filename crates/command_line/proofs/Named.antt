@@ -1,5 +1,7 @@
 -- What an audit names is broken: a part that holds of all holds of the first of them.
-use Rattle.command_line.proofs.Common.{◌≡◌, ℕ, ◌+◌, Bool, List, [], ◌∷◌, ◌++◌, reverse, take, Option, Some, None, arith, inl, inr, refl, ap, sym, subst, ◌∙◌, Contains, append_assoc, AreSuited, FormedBook, IsSomeRun, SafeMessages, Crossing, Says, Finding, AreTwo, ClosesWhole, Fate, Life, Judged, kept, Verdict}
+use Rattle.command_line.proofs.Common.{◌≡◌, ℕ, ◌+◌, Bool, List, [], ◌∷◌, ◌++◌, take, Option, Some, None, arith, inl, inr, refl, ap, sym, subst, ◌∙◌, Contains, append_assoc, AreSuited, IsSomeRun, SafeMessages, Crossing, Says, Finding, AreTwo, ClosesWhole, Fate, Life, Judged, kept, Verdict}
+use Rattle.std.proofs.Common.{reverse}
+use Rattle.book_judge.specs.Lives.{AreMade}
 use Rattle.std.proofs.Common.{zero, suc, ◌-◌, length, drop}
 use Rattle.std.proofs.Common.{MatchOption}
 use Rattle.std.specs.Prelude.{◌↔◌}
@@ -141,7 +143,7 @@ run_named v log lives handed fates j =
     unnamed v.stray (λ place. StraysAt log place) (λ place run at. at.1 (run_front log (place + 1) run)) j.run
 
 pub lives_named : (v : Verdict) (log : List Crossing) (lives : List Life) (handed : List (List Bool)) (fates : List Fate)
-    → Judged v log lives handed fates → (v.unmade ≡ None) ↔ FormedBook (reverse log) lives
+    → Judged v log lives handed fates → (v.unmade ≡ None) ↔ AreMade (reverse log) lives
 lives_named v log lives handed fates j =
     unnamed v.unmade (λ place. UnmadeAt (reverse log) lives place)
     (λ place made at. at.1 (made_front (reverse log) lives (place + 1) made)) j.made
@@ -199,7 +201,7 @@ fates_named v log lives handed fates j =
 -- ---- nothing is named exactly of a safe book
 
 pub kept_from_safe : (log : List Crossing) (lives : List Life) (handed : List (List Bool)) (fates : List Fate)
-    → IsSomeRun (reverse log) → FormedBook (reverse log) lives → Says audit.Kept (reverse log) lives handed
+    → IsSomeRun (reverse log) → AreMade (reverse log) lives → Says audit.Kept (reverse log) lives handed
     → ClosesWhole (reverse log) lives handed fates → AreSuited (reverse log) lives fates → Judged kept log lives
     handed fates
 kept_from_safe log lives handed fates run made safe closes suited = record {

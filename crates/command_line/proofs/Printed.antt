@@ -1,5 +1,7 @@
 -- What a replay prints is a formed and safe book.
-use Rattle.command_line.proofs.Common.{arith, ◌≡◌, ◌+◌, ℕ, Bool, true, false, List, [], ◌∷◌, ◌++◌, Option, reverse, codes, refl, ap, sym, subst, ◌∙◌, length-append, Appends, Contains, world_run, KeepsPromise, Boxes, plain_calls, Calls, Host, IsRun, SafeMessages, Crossing, Told, FormedBook, AreTwo, WorldState, Life, Reported, crossings_of, output, Detail, ended_line, TopologyFields, CarrierKind, WorldEvent, subnet_calls, plain_of, subnet_of, Raw, World, AreLived, lives_in, AreOneBook, PrintsBook, PrintsPart, Ran, RanInPart, ReplaysFrom, ReplaysOver, ShowsBook, WorldShowsFrom, book_text}
+use Rattle.command_line.proofs.Common.{arith, ◌≡◌, ◌+◌, ℕ, Bool, true, false, List, [], ◌∷◌, ◌++◌, Option, codes, refl, ap, sym, subst, ◌∙◌, length-append, Appends, Contains, KeepsPromise, Boxes, plain_calls, Calls, Host, IsRun, SafeMessages, Crossing, Told, AreTwo, WorldState, Life, Reported, crossings_of, output, Detail, ended_line, TopologyFields, CarrierKind, WorldEvent, subnet_calls, plain_of, subnet_of, Raw, World, AreLived, lives_in, AreOneBook, PrintsBook, PrintsPart, Ran, RanInPart, ReplaysFrom, ReplaysOver, ShowsBook, WorldShowsFrom, book_text}
+use Rattle.std.proofs.Common.{reverse}
+use Rattle.promise.specs.Formed.{FormedBook}
 use Rattle.std.proofs.Common.{length}
 use Rattle.interface.specs.Calls.{Seen}
 use Rattle.promise.specs.Book.{Book}
@@ -131,13 +133,13 @@ world_book : {C : Type 0} (seen : C → Seen) (last : WorldState C) (shows : Lis
 world_book seen last shows booked promise = record {
   handed = last.kept.handed;
   hosts = (seen last.carrier).hosts;
-  formed = subst (λ log. FormedBook log last.kept.book.lives) booked.crossed promise.formed;
-  told = subst (λ (told : List Told). FormedNotices (log_of shows) told) booked.told (subst (λ (log : List Crossing). FormedNotices log last.kept.book.notices) booked.crossed promise.told);
-  safe = subst (λ log. SafeBook log last.kept.book.lives last.kept.handed) booked.crossed promise.safe;
-  joined = joined_as last.kept.book (shown_book shows last.kept.book.lives) booked.crossed booked.said refl promise.joined;
-  run = subst (IsRun (seen last.carrier).hosts) booked.crossed (world_run seen last promise.lawful);
+  formed = subst (λ log. FormedBook log last.kept.book.lives) booked.crossed promise.promised.formed;
+  told = subst (λ (told : List Told). FormedNotices (log_of shows) told) booked.told (subst (λ (log : List Crossing). FormedNotices log last.kept.book.notices) booked.crossed promise.promised.told);
+  safe = subst (λ log. SafeBook log last.kept.book.lives last.kept.handed) booked.crossed promise.promised.safe;
+  joined = joined_as last.kept.book (shown_book shows last.kept.book.lives) booked.crossed booked.said refl promise.promised.joined;
+  run = subst (IsRun (seen last.carrier).hosts) booked.crossed promise.promised.run;
   lived = subst (λ (told : List Told). AreLived (log_of shows) told last.kept.book.lives) booked.told
-      (subst (λ (log : List Crossing). AreLived log last.kept.book.notices last.kept.book.lives) booked.crossed (lived promise.lawful.whole.moments last.kept promise.lawful.whole.kept));
+      (subst (λ (log : List Crossing). AreLived log last.kept.book.notices last.kept.book.lives) booked.crossed (lived promise.exact.lawful.whole.moments last.kept promise.exact.lawful.whole.kept));
 }
 
 -- ---- any network

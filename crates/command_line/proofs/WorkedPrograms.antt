@@ -1,10 +1,10 @@
 -- Ends that the program does not have.
-use Rattle.command_line.proofs.Common.{◌≡◌, inl, inr, ℕ, true, false, List, [], ◌∷◌, ◌++◌, Option, Some, None, Result, Ok, Err, codes, map, refl, sym, ap, ◌∙◌, false≢true, Appends, Keeps, log_text, text_of, TopologyFields, CarrierKind, Raw, World, plain_calls, subnet_calls, LogsOver, raw_book, world_book, EndsTask, Sides, TracesOver, AuditFault, ScriptFault, Verdict}
+use Rattle.command_line.proofs.Common.{◌≡◌, inl, inr, ℕ, true, false, List, [], ◌∷◌, ◌++◌, Option, Some, None, Result, Ok, Err, codes, map, refl, sym, ap, ◌∙◌, false≢true, Appends, Keeps, log_text, text_of, TopologyFields, CarrierKind, Raw, World, plain_calls, subnet_calls, LogsOver, raw_book, world_book, EndsTask, Sides, TracesOver, AuditFault, ScriptFault, Verdict, detail_of, Ran, ReplaysOver}
 use Rattle.book_log.specs.Log.{Book, handed_line, life_line, log_lines, logged_line, text_of_lines}
 use Rattle.topology.specs.declared.network.CarrierKind.TheVariants as kind
 use Rattle.command_line.specs.Events.{Asked}
 use Rattle.command_line.specs.Program.{Closes, EndsReplay, audited_as, finished_as}
-use Rattle.command_line.specs.WorkedSides.{Never, only_check, out_of_memory, unread, wrote}
+use Rattle.command_line.specs.WorkedSides.{Never, drained, no_options, only_check, out_of_memory, unread, wrote}
 use Rattle.command_line.specs.declared.auditing.AuditFault.TheVariants as log
 use Rattle.command_line.specs.declared.fault.ScriptFault.TheVariants as script
 use Rattle.command_line.specs.declared.options.Task.TheVariants as task
@@ -131,3 +131,59 @@ held_back h = elim (h.handed_on refl) [
 
 pub left_written : (line : ℕ) → Closes (Err (fault.Script (script.BadLine line))) false false true ⊥ → ⊥
 left_written line h = h.untouched (λ e. cc)
+
+-- ---- failures
+
+pub unread_read : Closes (Ok did.Written) true false true ⊥ → ⊥
+unread_read h = elim (h.cannot_read.1 refl) [
+  | inl bad ↦ absurd (cc)
+  | inr bad ↦ absurd (cc)
+]
+
+pub unwritten : Closes (Ok did.Written) false true true ⊥ → ⊥
+unwritten h = elim (h.cannot_write.1 refl) [
+  | inl bad ↦ absurd (cc)
+  | inr bad ↦ absurd (cc)
+]
+
+pub no_read : Closes (Err (fault.Script script.CannotRead)) false false true (Unit {0}) → ⊥
+no_read h = false≢true (h.cannot_read.0 (inl refl))
+
+pub no_write : Closes (Err (fault.Audit log.CannotWrite)) false false true (Unit {0}) → ⊥
+no_write h = false≢true (h.cannot_write.0 (inr refl))
+
+pub reads_first : (x : ℕ) → Never task.Help (drained x) (Err (fault.Script script.CannotWrite))
+reads_first x o h = let bad : Some [] ≡ Some (x ∷ []) = h.unread in cc
+
+-- an output has its last line
+ends_some : (a : List ℕ) → a ++ codes "end\n" ≡ [] → ⊥
+ends_some [] e = cc
+ends_some (x ∷ a) e = cc
+
+nothing_ended : (a : List ℕ) (written : Option (List ℕ)) → Appends (Some []) written (a ++ codes "end\n") →
+    Keeps written (Some []) → ⊥
+nothing_ended a None h k = h
+nothing_ended a (Some ys) h k = ends_some a (sym h ∙ sym k)
+
+nothing_replayed : (carrier : CarrierKind) (t : TopologyFields) (events : Asked) (written : Option (List ℕ)) →
+    ReplaysOver carrier t false (detail_of false) events (Some []) written → Keeps written (Some []) → ⊥
+nothing_replayed kind.Plain t (Raw events) written h k = nothing_ended _ written h.written k
+nothing_replayed kind.Plain t (World events) written h k = nothing_ended _ written h.written k
+nothing_replayed kind.Subnet t (Raw events) written h k = nothing_ended _ written h.written k
+nothing_replayed kind.Subnet t (World events) written h k = nothing_ended _ written h.written k
+
+pub no_output : EndsTask None (Some no_options) (wrote []) (Ok did.Written) → ⊥
+no_output (Ok done, written, inl (is, kept), ends) =
+    let ran : Ran false (detail_of false) (Some []) written = ends.replayed.0 in
+    nothing_replayed ran.network.carrier ran.network ran.events written ran.replayed kept
+no_output (Err f, written, inl (is, kept), ends) = cc
+no_output (ended, written, inr (is, other), ends) = cc
+
+good_options : (s : Sides) (ended : Result (Unit {0}) ScriptFault) →
+    Err (fault.Script script.BadOptions) ≡ finished_as ended → EndsReplay no_options s ended → ⊥
+good_options s (Ok done) is ends = cc
+good_options s (Err f) is ends = ends.options_read (cc)
+
+pub good_words : (s : Sides) → EndsTask None (Some no_options) s (Err (fault.Script script.BadOptions)) → ⊥
+good_words s (ended, written, inl (is, kept), ends) = good_options _ ended is ends
+good_words s (ended, written, inr (is, other), ends) = cc

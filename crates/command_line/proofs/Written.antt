@@ -1,5 +1,6 @@
 -- A replay over the carrier of a topology continues, and ends.
-use Rattle.command_line.proofs.Common.{◌≡◌, ◌⊎◌, inl, inr, ℕ, Bool, List, [], ◌++◌, Option, Some, None, Result, IfSome, OnOk, reverse, codes, ap, sym, subst, ◌∙◌, Appends, Keeps, KeepsPromise, IsRun, SafeMessages, shown, WorldState, opening_world, Life, Writes, crossings_of, output, Calls, Detail, on_ok, RawEvent, TopologyFields, CarrierKind, WorldEvent, IsInput, LogsOn, LogsOver, Ran, RanInPart, ReplaysInput, ReplaysOn, ReplaysOver, ShowsBook, ShowsFrom, StopsFrom, StopsInput, WorldShowsFrom, WorldStopsFrom, book_text, ScriptFault}
+use Rattle.command_line.proofs.Common.{◌≡◌, ◌⊎◌, inl, inr, ℕ, Bool, List, [], ◌++◌, Option, Some, None, Result, IfSome, OnOk, codes, ap, sym, subst, ◌∙◌, Appends, Keeps, KeepsPromise, IsRun, SafeMessages, shown, WorldState, opening_world, Life, Writes, crossings_of, output, Calls, Detail, on_ok, RawEvent, TopologyFields, CarrierKind, WorldEvent, IsInput, LogsOn, LogsOver, Ran, RanInPart, ReplaysInput, ReplaysOn, ReplaysOver, ShowsBook, ShowsFrom, StopsFrom, StopsInput, WorldShowsFrom, WorldStopsFrom, book_text, ScriptFault}
+use Rattle.std.proofs.Common.{reverse}
 use Rattle.std.proofs.lemmas.List.{append-nil}
 use Rattle.net_sim.specs.Book.{opening_kept}
 use Rattle.replay.specs.Replay.{EndsIn, Replays, StopsIn}

@@ -5,8 +5,7 @@ use Rattle.std.specs.Io.KnownBytes.{Appends}
 use Rattle.book_log.specs.Log.{Book, IsBadLine, IsLog, fates_of, lives_of}
 use Rattle.book_judge.specs.Broken.{IfFormed, first_closed}
 use Rattle.book_judge.specs.Fates.{AreSuited, UnsuitedAt}
-use Rattle.book_judge.specs.Lives.{UnmadeAt}
-use Rattle.promise.specs.Formed.{FormedBook}
+use Rattle.book_judge.specs.Lives.{AreMade, UnmadeAt}
 use Rattle.book_judge.specs.Runs.{IsSomeRun, StraysAt}
 use Rattle.interface.specs.Messages.{SafeMessages}
 use Rattle.interface.specs.declared.crossing.Crossing.{Crossing}
@@ -32,8 +31,8 @@ use Rattle.command_line.specs.declared.auditing.AuditFault.TheVariants as fault
 pub record Judged (v : Verdict) (crossings : List Crossing) (lives : List Life) (handed : List (List Bool)) (fates : List Fate) : Type 0 where
   -- what crossed is a run of the mailboxes
   pub run : MatchOption v.stray (IsSomeRun (reverse crossings)) (λ place. StraysAt crossings place)
-  -- the lives are made of what crossed
-  pub made : MatchOption v.unmade (FormedBook (reverse crossings) lives) (λ place. UnmadeAt (reverse crossings) lives place)
+  -- the lives are made of what crossed before they were over
+  pub made : MatchOption v.unmade (AreMade (reverse crossings) lives) (λ n. UnmadeAt (reverse crossings) lives n)
   -- there is a list for each life, and their stamps name requests
   pub formed : MatchOption v.malformed (IsWellFormed (reverse crossings) lives handed) (λ found. ShowsMalformed found (reverse crossings) lives handed)
   -- the parts of a safe book. That a receiving life matches one sender at most is of partners
@@ -74,7 +73,7 @@ abbrev pub run_text : Option ℕ → List ℕ
 run_text None = []
 run_text (Some place) = codes "broken run line " ++ (decimal (place + 1) ++ codes "\n")
 
--- of lives that aren't made of what crossed, the line of the first
+-- of lives that aren't made of what crossed before they were over, the line of the first
 abbrev pub lives_text : Book → Option ℕ → List ℕ
 lives_text b None = []
 lives_text b (Some place) = codes "broken lives line " ++ (decimal (length b.crossings + place + 1) ++ codes "\n")

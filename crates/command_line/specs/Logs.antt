@@ -9,7 +9,6 @@ use Rattle.interface.specs.Messages.{SafeMessages}
 use Rattle.net_sim.specs.Book.{Kept}
 use Rattle.net_sim.specs.Carriers.{shown}
 use Rattle.net_sim.specs.World.{WorldState, opening_world}
-use Rattle.promise.specs.Fates.{AreFated, ClosesWhole}
 use Rattle.interface.specs.declared.crossing.Crossing.{Crossing}
 use Rattle.replay.specs.Output.{Shown}
 use Rattle.replay.specs.Replay.{Replays}
@@ -47,15 +46,13 @@ pub record LogsRaw {C : Type 0} (calls : Calls C) (opening : C) (events : List R
   pub written : Appends before after (log_text (raw_book (calls.seen last).log))
   pub valid : IsBook (raw_book (calls.seen last).log)
 
--- events are replayed in a world over such a carrier, whose book keeps its promise, in which an orderly close loses nothing and each life has a
--- fate that what crossed leaves it, and only the log of this book is written. It says all values as they are
+-- events are replayed in a world over such a carrier, whose book keeps the promise and where each life has a fate that
+-- what crossed leaves it, and only the log of this book is written. It says all values as they are
 pub record LogsWorld {C : Type 0} (calls : Calls C) (opening : C) (events : List WorldEvent) (before after : Option (List ℕ)) : Type 0 where
   pub last : WorldState C
   pub shows : List lines.Shown
   pub replayed : worlds.Replays (shown calls) (opening_world (shown calls) opening) events last shows
   pub promise : KeepsPromise calls.seen last
-  pub fated : AreFated last.kept.book.lives last.kept.fates
-  pub whole : ClosesWhole last.kept.book.crossings last.kept.book.lives last.kept.handed last.kept.fates
   pub suited : AreSuited last.kept.book.crossings last.kept.book.lives last.kept.fates
   pub written : Appends before after (log_text (world_book last.kept))
   pub valid : IsBook (world_book last.kept)

@@ -61,7 +61,7 @@ pub record ShowsBook (book : Book) (shows : List lines.Shown) : Type 0 where
   pub said : book.reports ≡ lines.reports_of shows
 
 -- events are replayed in a world over such a carrier, and show these lines. The lines have what is in the book of this world, the lives are those
--- of its book, and its book keeps its promise
+-- of its book, and its book keeps the promise
 pub record WorldShowsFrom {C : Type 0} (calls : Calls C) (opening : C) (events : List WorldEvent) (lives : List Life) (shows : List lines.Shown) : Type 0 where
   pub last : WorldState C
   pub replayed : worlds.Replays (shown calls) (opening_world (shown calls) opening) events last shows
@@ -69,7 +69,7 @@ pub record WorldShowsFrom {C : Type 0} (calls : Calls C) (opening : C) (events :
   pub left : lives ≡ last.kept.book.lives
   pub promise : KeepsPromise calls.seen last
 
--- memory ran out in one of the events: the lines that were shown by then have what is in the world's book, and its book keeps its promise
+-- memory ran out in one of the events: the lines that were shown by then have what is in the world's book, and its book keeps the promise
 pub record WorldStopsFrom {C : Type 0} (calls : Calls C) (opening : C) (events : List WorldEvent) (shows : List lines.Shown) : Type 0 where
   pub last : WorldState C
   pub stopped : worlds.EndsIn (shown calls) (worlds.StopsIn (shown calls)) (opening_world (shown calls) opening) events last shows

@@ -1,5 +1,5 @@
 -- Words for worked rows of the whole program: what its reader and its writer show, and ends that it doesn't have.
-use Rattle.std.specs.Prelude.{true, false, List, [], ℕ, Option, Some, Result, Err, codes, length}
+use Rattle.std.specs.Prelude.{true, false, List, [], ◌∷◌, ℕ, Option, Some, Result, Err, codes, length}
 use Rattle.book_log.specs.Log.{Book}
 use Rattle.net_sim.specs.declared.auditing.findings.Finding.TheVariants as finding
 use Rattle.command_line.specs.Audits.{SaysOf, kept}
@@ -20,7 +20,14 @@ wrote octets = sides (Some []) (Some []) false (Some []) (Some octets)
 abbrev pub unread : List ℕ → Sides
 unread octets = sides (Some octets) (Some octets) false (Some []) (Some [])
 
--- only `--check`
+-- this octet is read, and nothing is written
+abbrev pub drained : ℕ → Sides
+drained x = sides (Some (x ∷ [])) (Some []) false (Some []) (Some [])
+
+-- no option, and only `--check`
+abbrev pub no_options : Options
+no_options = record { book = false; check = false; texts = false }
+
 abbrev pub only_check : Options
 only_check = record { book = false; check = true; texts = false }
 

@@ -6,6 +6,7 @@ ghost use Rattle.book_log.specs.Log.{IsLog};
 ghost use Rattle.command_line.specs.Audits.{Audited, AuditsLog, IsAuditFault, IsBookFault, IsLogReadFault, IsSomeLog, SaysKept, status_at, status_said};
 ghost use Rattle.command_line.specs.Logs.{Logged};
 
+use crate::input::CHUNK;
 use crate::judging::judge;
 use crate::source::{ReadFailed, Source};
 use crate::verdict::{Verdict, write_found};
@@ -174,9 +175,6 @@ pub fn run_audit<R: Source, W: Output>(
     write_found(&book, found, writer)?;
     Ok(found)
 }
-
-/// How many octets are asked for at once.
-const CHUNK: usize = 4096;
 
 /// Returns all octets that the reader gives.
 ///

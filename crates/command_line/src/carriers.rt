@@ -114,7 +114,7 @@ fn replay_raw<C: Carrier, W: Output>(
 }
 
 /// Replays events of hosts with programs, and writes what they show, the lives of connections where the book is asked
-/// for, and a last line `end`. The world's book keeps its promise, and what is written is what this book has.
+/// for, and a last line `end`. The world's book keeps the promise, and what is written is what this book has.
 ///
 /// Errors: `CannotWrite`; `OutOfMemory`, after which a prefix of that is written.
 fn replay_world<C: Carrier, W: Output>(
@@ -136,7 +136,7 @@ fn replay_world<C: Carrier, W: Output>(
 {
     let mut world = World::new(alloc, carrier)?;
     let outcome = world_replay::replay_events(&mut world, events, detail, writer);
-    // its promise is a clause of `book_of`, whether its lives are asked for or not, and however the replay ended
+    // that it does is what `book_of` ensures, whether its lives are asked for or not, and however the replay ended
     let kept = book_of(&world);
     match outcome {
         Ok(()) => Ok(write_lives(kept.lives(), book, writer)?),

@@ -84,7 +84,7 @@ fn read_events(alloc: Global, raw: bool, script: &[u8]) -> Result<Events, Script
 }
 
 /// How many octets are asked for at once.
-const CHUNK: usize = 4096;
+pub(crate) const CHUNK: usize = 4096;
 
 /// Returns all octets that the reader gives. It is asked for one octet more than an input may have, and for none after
 /// that.

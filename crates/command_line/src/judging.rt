@@ -1,4 +1,4 @@
-//! What is said of a book: which of all that is promised of it doesn't hold.
+//! What is said of a book: which part of it doesn't hold.
 
 ghost use Rattle.std.specs.Prelude.{IfOk, MatchOption, reverse};
 ghost use Rattle.book_judge.specs.Runs.{IsSomeRun, StraysAt};

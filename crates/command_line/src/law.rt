@@ -4,6 +4,7 @@
 ghost use Rattle.std.specs.Prelude.{◌≡◌, ◌==◌, ◌↔◌, ◌++◌, ◌+◌, ℕ, Bool, true, false, List, [], ◌∷◌, reverse};
 ghost use Rattle.std.specs.Prelude.{Ok, Err, Option, Some, None, codes};
 ghost use Rattle.book_judge.specs.Fates.{AreSuited};
+ghost use Rattle.book_judge.specs.Lives.{AreMade};
 ghost use Rattle.book_judge.specs.Runs.{IsSomeRun};
 ghost use Rattle.book_log.specs.Log as log;
 ghost use Rattle.host_services.specs.declared.report.Reported.{Reported};
@@ -37,7 +38,7 @@ ghost use Rattle.command_line.specs.Replayed.{Ran, RanInPart, ReplaysInput, Stop
 ghost use Rattle.command_line.specs.Traced.{TraceStops, TracesInput};
 ghost use Rattle.command_line.specs.Worked.{here, life_one, there, told_one, took_one};
 ghost use Rattle.command_line.specs.WorkedSides.{Never, NotSaid, matched_past, starts};
-ghost use Rattle.command_line.specs.WorkedSides.{only_check, out_of_memory, unread, wrote};
+ghost use Rattle.command_line.specs.WorkedSides.{drained, no_options, only_check, out_of_memory, unread, wrote};
 ghost use Rattle.command_line.specs.declared.auditing.AuditFault.TheVariants as unlogged;
 ghost use Rattle.command_line.specs.declared.fault.ScriptFault.TheVariants as script;
 ghost use Rattle.command_line.specs.declared.options.Task.TheVariants as task;
@@ -159,7 +160,8 @@ pub fn logs_are_kept()
 /// closes aren't looked at.
 pub fn named_parts()
     ensures run { (b : log.Book) (v : Verdict) → SaysOf v b → (v.stray ≡ None) ↔ IsSomeRun (reverse b.crossings) }
-    ensures lives { (b : log.Book) (v : Verdict) → SaysOf v b → (v.unmade ≡ None) ↔ FormedBook (reverse b.crossings) (log.lives_of b) }
+    ensures lives { (b : log.Book) (v : Verdict) → SaysOf v b → (v.unmade ≡ None) ↔ AreMade (reverse b.crossings) (log.lives_of b) }
+    ensures made { (b : log.Book) (v : Verdict) → SaysOf v b → v.unmade ≡ None → FormedBook (reverse b.crossings) (log.lives_of b) }
     ensures formed { (b : log.Book) (v : Verdict) → SaysOf v b → (v.malformed ≡ None) ↔ IsWellFormed (reverse b.crossings) (log.lives_of b) b.handed }
     ensures messages { (b : log.Book) (v : Verdict) → SaysOf v b → (v.messages ≡ None) ↔ SafeMessages (reverse b.crossings) }
     ensures partners { (b : log.Book) (v : Verdict) → SaysOf v b → v.malformed ≡ None → (v.partners ≡ None) ↔ SafePartners (reverse b.crossings) (log.lives_of b) }
@@ -195,6 +197,22 @@ pub fn worked_programs()
     // what was written is held back when memory runs out, and something is written before a bad line is found
     ensures held_back { Closes out_of_memory false false false ⊥ → ⊥ }
     ensures left_written { (line : ℕ) → Closes (Err (fault.Script (script.BadLine line))) false false true ⊥ → ⊥ }
+{}
+
+/// Ends that report no failure, or a wrong one.
+pub fn worked_failures()
+    // a read and a write failed, and the program ends as if it were done; and none failed, and one is reported
+    ensures unread { Closes (Ok did.Written) true false true ⊥ → ⊥ }
+    ensures unwritten { Closes (Ok did.Written) false true true ⊥ → ⊥ }
+    ensures no_read { Closes (Err (fault.Script script.CannotRead)) false false true (Unit {0}) → ⊥ }
+    ensures no_write { Closes (Err (fault.Audit unlogged.CannotWrite)) false false true (Unit {0}) → ⊥ }
+
+    // help after something was read, and a replay that prints nothing
+    ensures reads_first { (x : ℕ) → Never task.Help (drained x) (Err (fault.Script script.CannotWrite)) }
+    ensures no_output { EndsTask None (Some no_options) (wrote []) (Ok did.Written) → ⊥ }
+
+    // options that were read are not refused
+    ensures good_words { (s : Sides) → EndsTask None (Some no_options) s (Err (fault.Script script.BadOptions)) → ⊥ }
 {}
 
 /// Places at which a part of a log isn't broken: partners are broken at two lives, the second one after the first, and

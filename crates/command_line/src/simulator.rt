@@ -41,7 +41,7 @@ pub fn run<R: Source, W: Output>(
     // with `--check` the input is only read
     ensures checked { IfOptions words.now (λ options. options.check ≡ true → OnOk result (Appends (W.contents writer.old) (W.contents writer.new) (codes "ok\n"))) }
 
-    // without it a script is replayed over the carrier of a topology, whatever the reader: in a world whose book keeps its promise and of which
+    // without it a script is replayed over the carrier of a topology, whatever the reader: in a world whose book keeps the promise and of which
     // all is written, or without host programs, where what crosses is a log that every host may rely on
     ensures ran { IfReplayed words.now (λ book detail. OnOk result (Ran book detail (W.contents writer.old) (W.contents writer.new))) }
 
@@ -114,7 +114,7 @@ pub fn run_script<R: Source, W: Output>(
     // with `check` the input is only read
     ensures checked { check ≡ true → OnOk result (Appends (W.contents writer.old) (W.contents writer.new) (codes "ok\n")) }
 
-    // without it a script is replayed over the carrier of a topology, whatever the reader: in a world whose book keeps its promise and of which
+    // without it a script is replayed over the carrier of a topology, whatever the reader: in a world whose book keeps the promise and of which
     // all is written, or without host programs, where what crosses is a log that every host may rely on
     ensures ran { check ≡ false → OnOk result (Ran book detail (W.contents writer.old) (W.contents writer.new)) }
 

@@ -1,4 +1,4 @@
--- A book that keeps its promise is well-formed, so its audit is kept.
+-- A book that keeps the promise is well-formed, so its audit is kept.
 use Rattle.std.proofs.Common.{◌≡◌, ℕ, Bool, true, false, List, [], ◌∷◌, length, refl, ap, sym, arith, Option, Some, None}
 use Rattle.std.specs.Prelude.{IsSome}
 use Rattle.interface.specs.declared.crossing.Crossing.{Crossing}

@@ -8,11 +8,15 @@ use Rattle.net_sim.specs.Book.{Kept}
 use Rattle.net_sim.specs.Clean.{IsLawful}
 use Rattle.net_sim.specs.World.{WorldState}
 use Rattle.net_sim.proofs.lemmas.{booked_messages}
+use Rattle.promise.specs.Arrived.{ArrivedBook}
+use Rattle.promise.specs.Ends.{AreContacts, AreLeft}
+use Rattle.promise.specs.Fates.{AreFated, ClosesWhole}
 use Rattle.promise.specs.Promised.{Promised}
 use Rattle.headline.specs.Promise.{IsExact, KeepsPromise}
 use Rattle.world_keeps_connections.proofs.lemmas.{world_joined}
 use Rattle.world_keeps_lives.proofs.lemmas.{world_drained, world_handed, world_taken, world_told}
 use Rattle.world_keeps_pairing.proofs.lemmas.{world_alone, world_partners}
+use Rattle.world_keeps_streams.specs.Within.{AreWithin}
 use Rattle.world_keeps_streams.proofs.lemmas.{world_agrees, world_answered, world_arrives, world_calms, world_came, world_closes, world_comes, world_firsts, world_formed, world_handed_over, world_rests, world_sent, world_settles, world_source}
 
 -- what is left of a run without its newest crossings is one
@@ -21,7 +25,7 @@ older_run hosts [] log run = run
 older_run hosts (c ∷ more) log run = older_run hosts more log run.1
 
 -- the book of a world is a run, even if memory ran out in an event of which something crossed
-pub world_run : {C : Type 0} (seen : C → Seen) (w : WorldState C) → IsLawful seen (seen w.carrier).hosts w → IsRun (seen w.carrier).hosts w.kept.book.crossings
+world_run : {C : Type 0} (seen : C → Seen) (w : WorldState C) → IsLawful seen (seen w.carrier).hosts w → IsRun (seen w.carrier).hosts w.kept.book.crossings
 world_run seen w lawful = older_run (seen w.carrier).hosts lawful.booked.unbooked w.kept.book.crossings (subst (IsRun (seen w.carrier).hosts) lawful.booked.book lawful.run)
 
 pub promised : {C : Type 0} (seen : C → Seen) (w : WorldState C) → IsLawful seen (seen w.carrier).hosts w → Promised (seen w.carrier).hosts w.kept.book w.kept.handed
@@ -62,14 +66,18 @@ exact seen w lawful = record {
   firsts = world_firsts seen (seen w.carrier).hosts w lawful;
 }
 
--- both together are what one record says
-pub both : {C : Type 0} (seen : C → Seen) (w : WorldState C) → Promised (seen w.carrier).hosts w.kept.book w.kept.handed → IsExact seen w → KeepsPromise seen w
-both seen w p e = record { formed = p.formed; told = p.told; safe = p.safe; joined = p.joined; lawful = e.lawful; arrives = e.arrives; comes = e.comes; answered = e.answered; closes = e.closes; came = e.came; rests = e.rests; agree = e.agree; calm = e.calm; settled = e.settled; drained = e.drained; handed = e.handed; firsts = e.firsts }
-
-pub parted : {C : Type 0} (seen : C → Seen) (w : WorldState C) → KeepsPromise seen w → Promised (seen w.carrier).hosts w.kept.book w.kept.handed × IsExact seen w
-parted seen w k =
-    (record { run = world_run seen w k.lawful; formed = k.formed; told = k.told; safe = k.safe; joined = k.joined }, record { lawful = k.lawful; arrives = k.arrives; comes = k.comes; answered = k.answered; closes = k.closes; came = k.came; rests = k.rests; agree = k.agree; calm = k.calm; settled = k.settled; drained = k.drained; handed = k.handed; firsts = k.firsts })
-
--- so where a call promises it of the book that it gives
-pub given : {C : Type 0} (seen : C → Seen) (w : WorldState C) (k : Kept) → k ≡ w.kept → Promised (seen w.carrier).hosts k.book k.handed → IsExact seen w → KeepsPromise seen w
-given seen w k is p e = both seen w (subst (λ (j : Kept). Promised (seen w.carrier).hosts j.book j.handed) is p) e
+-- so it is where a call promises each of the book that it gives
+pub given : {C : Type 0} (seen : C → Seen) (w : WorldState C) (k : Kept) → k ≡ w.kept → Promised (seen w.carrier).hosts k.book k.handed → AreFated k.book.lives k.fates
+    → ClosesWhole k.book.crossings k.book.lives k.handed k.fates → ArrivedBook k.book.contacts k.book.crossings k.book.lives k.fates
+    → AreLeft k.book.contacts k.book.crossings k.book.lives k.fates → AreContacts k.book.contacts k.book.crossings
+    → AreWithin k.book.contacts k.book.crossings k.book.lives → IsExact seen w → KeepsPromise seen w
+given seen w k is promised fated whole arrived over contacts within exact = record {
+  promised = subst (λ (j : Kept). Promised (seen w.carrier).hosts j.book j.handed) is promised;
+  fated = subst (λ (j : Kept). AreFated j.book.lives j.fates) is fated;
+  whole = subst (λ (j : Kept). ClosesWhole j.book.crossings j.book.lives j.handed j.fates) is whole;
+  arrived = subst (λ (j : Kept). ArrivedBook j.book.contacts j.book.crossings j.book.lives j.fates) is arrived;
+  over = subst (λ (j : Kept). AreLeft j.book.contacts j.book.crossings j.book.lives j.fates) is over;
+  contacts = subst (λ (j : Kept). AreContacts j.book.contacts j.book.crossings) is contacts;
+  within = subst (λ (j : Kept). AreWithin j.book.contacts j.book.crossings j.book.lives) is within;
+  exact = exact;
+}

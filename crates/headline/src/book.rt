@@ -3,9 +3,10 @@
 ghost use Rattle.std.specs.Prelude.{◌≡◌};
 ghost use Rattle.headline.specs.Promise.{IsExact};
 ghost use Rattle.promise.specs.Arrived.{ArrivedBook};
+ghost use Rattle.promise.specs.Ends.{AreContacts, AreLeft};
 ghost use Rattle.promise.specs.Fates.{AreFated, ClosesWhole};
 ghost use Rattle.promise.specs.Promised.{Promised};
-ghost use Rattle.promise.specs.Over.{AreOver};
+ghost use Rattle.world_keeps_streams.specs.Within.{AreWithin};
 
 use interface::Carrier;
 use net_sim::{Book, World};
@@ -19,7 +20,9 @@ use net_sim::{Book, World};
 /// - `fated`: `AreFated`. Each life has a fate, which says whether it is over.
 /// - `whole`: `ClosesWhole`. A receiving life that has ended has all that was sent, and all that was handed over.
 /// - `arrived`: `ArrivedBook`. An open receiving life has all that came in, so RFNM of data means that they arrived.
-/// - `over`: `AreOver`. Each life is over as its fate says, and by what its fate says.
+/// - `over`: `AreLeft`. Nothing ends a life between its requests, and it is over by what its fate says.
+/// - `contacts`: `AreContacts`. What a host sends to another next after a contact with it is an RST.
+/// - `within`: `AreWithin`. A life that is over counts no message that crossed after what ended it.
 ///
 /// By `lawful` the world is exact (`IsExact`): the book says what the programs of all hosts make of what crossed and of
 /// what their users asked for.
@@ -30,7 +33,9 @@ pub fn book_of<C: Carrier>(world: &World<C>) -> &Book
     ensures fated { AreFated result.now.book.lives result.now.fates }
     ensures whole { ClosesWhole result.now.book.crossings result.now.book.lives result.now.handed result.now.fates }
     ensures arrived { ArrivedBook result.now.book.contacts result.now.book.crossings result.now.book.lives result.now.fates }
-    ensures over { AreOver result.now.book.contacts result.now.book.crossings result.now.book.lives result.now.fates }
+    ensures over { AreLeft result.now.book.contacts result.now.book.crossings result.now.book.lives result.now.fates }
+    ensures contacts { AreContacts result.now.book.contacts result.now.book.crossings }
+    ensures within { AreWithin result.now.book.contacts result.now.book.crossings result.now.book.lives }
 {
     world.book()
 }

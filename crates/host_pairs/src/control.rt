@@ -27,7 +27,7 @@ const OCTET_BITS: u8 = 8;
 
 /// Returns the octets of the commands in a text; `None` where the text is no control message.
 #[tactic(auto, unfolding(crate::specs::Control::orders_of))]
-fn control_octets(text: &Bits) -> Option<&[u8]>
+pub fn control_octets(text: &Bits) -> Option<&[u8]>
     ensures { MatchOption result (orders_of text.now ≡ Wrong errors.ERRONEOUS (octets_of text.now) ∷ []) (λ octets. orders_of text.now ≡ orders_in octets.now) }
 {
     let header = DataHeader::read(text)?;

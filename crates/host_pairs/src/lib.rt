@@ -31,6 +31,7 @@ mod texts;
 mod turn;
 mod turn_gone;
 
+pub use control::control_octets;
 pub use ends::{free_link, own_place};
 pub use entry::{Closing, Entry, is_busy};
 pub use held::Ends;

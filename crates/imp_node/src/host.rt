@@ -19,7 +19,7 @@ use std::marker::Model;
 use std::mem;
 
 /// How many whole messages can wait for a host.
-const QUEUE_PLACES: usize = 16;
+pub const QUEUE_PLACES: usize = 16;
 
 /// A host of an IMP: up or down, the answers that wait for it, and the whole messages that wait for it,
 /// the oldest first. The messages are in a ring that is never overwritten.

@@ -23,7 +23,7 @@ use std::alloc::{AllocError, Global};
 use std::marker::Model;
 
 /// How many packets an IMP stores, those that wait and those in channels together.
-const STORE_PLACES: usize = 32;
+pub const STORE_PLACES: usize = 32;
 
 /// One IMP of the subnet.
 ///

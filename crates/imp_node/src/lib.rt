@@ -31,9 +31,10 @@ mod stopping;
 mod taking;
 mod waiting;
 
-pub use host::Host;
-pub use imp::Imp;
+pub use host::{Host, QUEUE_PLACES};
+pub use imp::{Imp, STORE_PLACES};
 pub use outgoing::Outgoing;
 pub use passing::Passed;
 pub use port::Port;
+pub use pump::target;
 pub use waiting::{Message, Told};

@@ -16,7 +16,7 @@ use routing::RouteTable;
 use std::alloc::AllocError;
 
 /// Returns the IMP that a packet is for.
-pub(crate) fn target(packet: &Packet) -> u8
+pub fn target(packet: &Packet) -> u8
     ensures { result ≡ target packet.now }
 {
     let flow = packet.flow();

@@ -11,7 +11,7 @@ ghost use Rattle.imp_node.specs.Taking.{to_host, to_host_refusal, next_for};
 
 use crate::Imp;
 use imp_channel::{ACKS, Content, Frame};
-use routing::Vector;
+use routing::is_heard;
 
 impl Imp {
     /// Returns whether a host is up, nothing waits for it, and no packet waits in the store. A taking of this host then
@@ -119,15 +119,5 @@ impl Imp {
             Content::Nothing => true,
             Content::Packet(_) => false,
         }
-    }
-}
-
-/// Returns whether these distances were heard.
-fn is_heard(heard: &Option<Vector>, distances: &Vector) -> bool
-    ensures { (result ≡ true) ↔ (heard.now ≡ Some distances.now) }
-{
-    match heard {
-        Some(vector) => vector.is_same(distances),
-        None => false,
     }
 }

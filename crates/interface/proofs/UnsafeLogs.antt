@@ -1,4 +1,4 @@
--- Short logs that break the promise about messages.
+-- Short logs whose messages aren't safe.
 use Rattle.std.proofs.Common.{◌≡◌, ◌≢◌, true, false, List, [], ◌∷◌, ◌++◌, ap, sym, ◌∙◌, refl, inl, inr}
 use Rattle.interface.specs.Flow.{same_flow}
 use Rattle.interface.specs.Messages.{SafeMessages, NeverTaken, TakenOnce, taken_in, went_out, told_not_taken}

@@ -143,6 +143,9 @@ pub struct Link(pub u8);
 /// greatest that an address can name.
 pub const MOST_IMPS: usize = 63;
 
+/// The most hosts that an IMP has, numbered from 0 (Heart et al. 1970: an IMP has up to four hosts).
+pub const MOST_HOSTS: u8 = 4;
+
 /// The number of a message among those of its flow, of which there are [`MESSAGE_NUMBERS`]. A flow's first
 /// message has the number 0.
 pub type Number = u16;

@@ -44,6 +44,9 @@ pub enum CarrierFault {
     OutOfMemory,
 }
 
+/// How often a host takes what came for it in one round at most.
+pub const TAKINGS: u8 = 16;
+
 /// A network as its hosts see it: it takes their messages, gives them what came for them, and keeps the
 /// log of all crossings, which is a run of the mailboxes.
 ///

@@ -74,7 +74,7 @@ pub fn worked_runs()
     ensures restarted { (hosts : List Host) (h : Host) → is_host hosts h ≡ true → IsRun hosts (crossing.Up h ∷ crossing.Down h ∷ []) }
 {}
 
-/// Logs that break the promise about messages, one for each part of it.
+/// Logs whose messages aren't safe, one for each part of what that is.
 pub fn unsafe_logs()
     // an RFNM though nothing was taken
     ensures untaken { (m : HostMessage) → SafeMessages (crossing.Answer answer.Rfnm m.flow ∷ crossing.Out m ∷ []) → ⊥ }

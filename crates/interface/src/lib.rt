@@ -16,8 +16,10 @@ mod hosts;
 pub mod law;
 mod message;
 
-pub use address::{Flow, HostAddr, ImpNumber, Link, MESSAGE_NUMBERS, MOST_IMPS, Number};
-pub use carrier::{Carrier, CarrierFault};
+pub use address::{
+    Flow, HostAddr, ImpNumber, Link, MESSAGE_NUMBERS, MOST_HOSTS, MOST_IMPS, Number,
+};
+pub use carrier::{Carrier, CarrierFault, TAKINGS};
 pub use crossing::{Answer, Crossing, Inbound};
 pub use event::{Direction, NetEvent};
 pub use hosts::Hosts;

@@ -1,7 +1,7 @@
 -- What happens in a network some of whose hosts are strangers, and what the other hosts have of it among themselves.
 -- Lists are read
 -- newest first.
-use Rattle.std.specs.Prelude.{◌≡◌, ◌||◌, ℕ, Bool, true, false, if◌then◌else◌, List, [], ◌∷◌, Option, Some, None}
+use Rattle.std.specs.Prelude.{◌≡◌, ◌||◌, ℕ, Bool, true, if◌then◌else◌, List, [], ◌∷◌, Option, Some, None}
 use Rattle.interface.specs.Host.{Host, is_host}
 use Rattle.interface.specs.Mailboxes.{IsRun, is_up}
 use Rattle.interface.specs.declared.crossing.Crossing.{Crossing}
@@ -11,21 +11,13 @@ use Rattle.host_pairs.specs.declared.listener.Listener.{Listener}
 use Rattle.sockets.specs.Others.{peer_of}
 use Rattle.sockets.specs.declared.request.Request.TheVariants as request
 use Rattle.net_sim.specs.Clean.{HaveAddresses}
+pub use Rattle.net_sim.specs.Mixed.{MayHappen, AreMixed}
 use Rattle.net_sim.specs.Story.{Moment, Crossed, Asked, program}
-use Rattle.net_sim.specs.Timeline.{Happens, crossings_of}
-use Rattle.net_sim.specs.Told.{host_in}
+use Rattle.net_sim.specs.Timeline.{crossings_of}
 use Rattle.masked_worlds.specs.Among.{is_of_stranger}
 use Rattle.masked_worlds.specs.Strangers.{stranger_in, turn}
 
 -- ---- mixed moments
-
--- a moment of a host with a program happens as its program says; a stranger may do anything
-abbrev pub MayHappen : (Host → Bool) → List Host → Moment → List Moment → Type 0
-MayHappen strange hosts x moments = strange (host_in x) ≡ false → Happens hosts x moments
-
-abbrev pub AreMixed : (Host → Bool) → List Host → List Moment → Type 0
-AreMixed strange hosts [] = Unit {0}
-AreMixed strange hosts (x ∷ moments) = MayHappen strange hosts x moments × AreMixed strange hosts moments
 
 -- strangers are hosts of the network, and like all others they have addresses and cross by its mailboxes. Nothing
 -- else is asked of them

@@ -40,14 +40,7 @@ module _ (k : ℕ) where
   other (notice.Sent socket bits) o = absurd o
   other (notice.Arrived socket bits) o = absurd o
   other (notice.Returned socket messages bits) o = absurd o
-  other (notice.Opened socket peer foreign own partner) o = tt
-  other (notice.Ended socket peer foreign) o = tt
-  other (notice.PairReset peer) o = tt
-  other (notice.Ready peer) o = tt
-  other (notice.ContactFailed peer) o = tt
-  other (notice.Interrupt socket) o = tt
-  other (notice.Echoed peer octet) o = tt
-  other (notice.RemoteError peer code detail) o = tt
+  other n o = tt
 
   still : (each : Bool) (e f : Entry) → Quiet e f → IsBeside each e → IsBeside each f
   still each e f q h = record {

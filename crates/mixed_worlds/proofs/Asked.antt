@@ -1,6 +1,7 @@
 -- Both requests of a life of a host that runs the program crossed at its stamps, and what is reported of data has just
 -- crossed, whatever its peer sends.
-use Rattle.mixed_worlds.proofs.Common.{◌≡◌, inl, inr, ℕ, ◌*◌, ◌<◌, Bool, true, false, if◌then◌else◌, zero, suc, List, [], ◌∷◌, ◌++◌, map, take, drop, length, slice_index_or, Some, None, refl, ap, sym, subst, ◌∙◌, arith, Contains, drop-append_seam, Host, same_host, Flow, Answer, Crossing, HostMessage, same_host-true, header_bits, is_receive_socket, is_send_socket, Command, Legal, Order, orders_of, has_cls, is_ending, PairState, Parcel, Entry, Notice, CrossedAt, data_by, control_flow, accepted, NcpState, opening_state, pair_with, AreInOrder, served, message_for, next_in, offered, answer_leaves, message_leaves, next_pair, offer_leaves, pair_range, Asked, Crossed, Moment, places, program, crossings_of, host_in, notices_by, places_same, Begins, Each, Ends, Goes, Hears, IsOther, MayTell, Quiet, Rules, each_weaker, message_keeps, offer_keeps, request_told, IsMixed, Orders, Says, older, ordered, says, ReportsData}
+use Rattle.mixed_worlds.proofs.Common.{◌≡◌, inl, inr, ℕ, ◌*◌, ◌<◌, Bool, true, false, if◌then◌else◌, zero, suc, List, [], ◌∷◌, ◌++◌, take, drop, length, Some, None, refl, ap, sym, subst, ◌∙◌, arith, Contains, drop-append_seam, Host, same_host, Flow, Answer, Crossing, HostMessage, same_host-true, header_bits, is_receive_socket, is_send_socket, Command, Legal, Order, orders_of, has_cls, is_ending, PairState, Parcel, Entry, Notice, CrossedAt, data_by, control_flow, accepted, NcpState, opening_state, pair_with, AreInOrder, served, message_for, next_in, offered, answer_leaves, message_leaves, next_pair, offer_leaves, pair_range, Asked, Crossed, Moment, places, program, crossings_of, host_in, notices_by, places_same, Begins, Each, Ends, Goes, Hears, IsOther, MayTell, Quiet, Rules, each_weaker, message_keeps, offer_keeps, request_told, IsMixed, Orders, Says, older, ordered, says, ReportsData, map, HasCrossed, coming, going}
+use Rattle.std.proofs.Common.{slice_index_or}
 use Rattle.std.proofs.lemmas.Bool.{eqb-true}
 use Rattle.interface.specs.declared.crossing.Crossing.TheVariants as crossing
 use Rattle.interface.specs.declared.crossing.Inbound.TheVariants as inbound
@@ -8,13 +9,13 @@ use Rattle.interface.proofs.lemmas.{or_false}
 use Rattle.ncp_control.specs.declared.command.Command.TheVariants as command
 use Rattle.host_pairs.specs.Parcels as parcel
 use Rattle.host_pairs.specs.declared.notice.Notice.TheVariants as notice
-use Rattle.promise.specs.Formed.{HasCrossed, coming, going, request}
+use Rattle.promise.specs.Formed.{request}
 use Rattle.host_keeps_ranges.specs.Ranges.{IsReadBack}
 use Rattle.host_keeps_ranges.proofs.lemmas.{offer_read}
 use Rattle.world_keeps_pairing.proofs.lemmas.{send_odd}
 use Rattle.world_keeps_lives.proofs.lemmas.{Done}
 use Rattle.world_keeps_lives.proofs.lemmas.{answer_keeps}
-use Rattle.mixed_worlds.proofs.Quiet.{request_quiet}
+use Rattle.world_keeps_lives.proofs.lemmas.{request_keeps}
 use Rattle.mixed_worlds.proofs.Sockets.{fit}
 
 -- ---- requests as commands
@@ -74,14 +75,14 @@ module _ (h p : Host) (log : List Crossing) where
   came_as e f b own foreign w = subst (λ (n : ℕ). Came n f.foreign b) (sym own)
       (subst (λ (n : ℕ). Came e.own n b) (sym foreign) w)
 
-  pub placed_quiet : (e f : Entry) → Quiet e f → Placed e → Placed f
+  placed_quiet : (e f : Entry) → Quiet e f → Placed e → Placed f
   placed_quiet e f q i = record {
     refusing = λ m. q.closing (i.refusing (sym q.mine ∙ m));
     asked = λ m a is. went_as e f a q.own q.foreign (i.asked (sym q.mine ∙ m) a (sym q.asked ∙ is));
     partner = λ m b is. came_as e f b q.own q.foreign (i.partner (sym q.mine ∙ m) b (sym q.partner ∙ is));
   }
 
-  pub placed_fresh : (e : Entry) → e.mine ≡ true → e.asked ≡ None → e.partner ≡ None → Placed e
+  placed_fresh : (e : Entry) → e.mine ≡ true → e.asked ≡ None → e.partner ≡ None → Placed e
   placed_fresh e mine asked partner = record {
     refusing = λ f. absurd (let clash : false ≡ true = sym f ∙ mine in cc);
     asked = λ m a is. absurd (let clash : None ≡ Some a = sym asked ∙ is in cc);
@@ -318,8 +319,8 @@ module _ (orders : Orders) (strange : Host → Bool) (hosts : List Host) (a : Ho
       let old : Ends (Placed a p (crossings_of moments)) p (program a moments) = placed moments
       (older orders strange hosts (Asked g r) moments mixed) p in
       if_ends (Placed a p (crossings_of moments)) p (same_host a g) (served (program a moments) r) (program a moments)
-      (λ e. request_quiet (Placed a p (crossings_of moments)) (placed_quiet a p (crossings_of moments))
-      (placed_fresh a p (crossings_of moments)) p (program a moments) r old) old
+      (λ e. request_keeps (Placed a p (crossings_of moments)) (Tells a p (crossings_of moments) (Asked g r)) p
+      (rules a p (crossings_of moments) (Asked g r)) (begins a p (crossings_of moments)) (program a moments) r old) old
   placed (Crossed c ∷ moments) mixed p = by c mixed
       (each_weaker (Placed a p (crossings_of moments)) (Placed a p (c ∷ crossings_of moments))
       (pair_with p (program a moments).peers).entries (placed_still a p c (crossings_of moments))

@@ -1,19 +1,10 @@
 -- Each life of a network with strangers is of a host that runs the program, and both its requests crossed.
-use Rattle.mixed_worlds.proofs.Common.{◌≡◌, ℕ, ◌<◌, zero, suc, Bool, true, false, if◌then◌else◌, List, [], ◌∷◌, ◌++◌, length, slice_index_or, is_some, refl, ap, sym, subst, ◌∙◌, arith, IsSome, Contains, Host, Crossing, orders_of, Notice, own_named, partner_named, Life, Request, Kept, all_told, book_told, carried, changed_when, life_ended, lives_asked, lives_at, lives_between, lives_crossed, lives_on, lives_told, lives_with, new_life, returned, where_it, Asked, Crossed, Moment, crossings_of, host_in, kept_by, notices_by, Each, IsMixed, Orders, older, crossed_only, mixed_kept, ReportsData}
+use Rattle.mixed_worlds.proofs.Common.{◌≡◌, Bool, true, false, if◌then◌else◌, List, [], ◌∷◌, ◌++◌, is_some, refl, ap, sym, subst, ◌∙◌, IsSome, Contains, Host, Crossing, orders_of, Notice, own_named, partner_named, Life, Request, Kept, all_told, book_told, carried, changed_when, life_ended, lives_asked, lives_at, lives_between, lives_crossed, lives_on, lives_told, lives_with, new_life, returned, where_it, granted, Asked, Crossed, Moment, crossings_of, host_in, kept_by, notices_by, Each, each_in, IsMixed, Orders, older, crossed_only, mixed_kept, ReportsData, HasAsked}
 use Rattle.interface.specs.declared.crossing.Crossing.TheVariants as crossing
 use Rattle.host_pairs.specs.declared.notice.Notice.TheVariants as notice
 use Rattle.sockets.specs.declared.request.Request.TheVariants as request
-use Rattle.net_sim.specs.Book.{granted}
 use Rattle.world_keeps_lives.proofs.lemmas.{Names, named_there, names_of}
-use Rattle.mixed_worlds.specs.Toward.{HasAsked}
 use Rattle.mixed_worlds.proofs.Asked.{Came, Tells, TellsOfOne, Went, came_still, told, went_still}
-
-pub in_each : {A : Type 0} (Q : A → Type 0) (all : List A) (x : A) → Contains all x → Each Q all → Q x
-in_each {A} Q all x there h = at all there.0 there.1 there.2 h where
-  at : (xs : List A) (i : ℕ) → i < length xs → slice_index_or xs i x ≡ x → Each Q xs → Q x
-  at [] i less is h = absurd (omega (arith, less))
-  at (y ∷ xs) zero less is h = subst Q is h.0
-  at (y ∷ xs) (suc i) less is h = at xs i (omega (arith, less)) is h.1
 
 module _ (strange : Host → Bool) where
   -- of a host with a program, and both requests crossed
@@ -139,7 +130,7 @@ module _ (orders : Orders) (strange : Host → Bool) (hosts : List Host) where
 
   own_one : (moments : List Moment) → IsMixed strange hosts moments → (x : Life)
       → Contains (mixed_kept strange moments).book.lives x → IsOwn strange (crossings_of moments) x
-  own_one moments mixed x there = in_each (IsOwn strange (crossings_of moments))
+  own_one moments mixed x there = each_in (IsOwn strange (crossings_of moments))
       (mixed_kept strange moments).book.lives x there (all_own moments mixed)
 
   pub plain_owner : (moments : List Moment) → IsMixed strange hosts moments → (x : Life)
@@ -166,4 +157,4 @@ module _ (orders : Orders) (strange : Host → Bool) (hosts : List Host) where
       let t : TellsOfOne (host_in x) (crossings_of (x ∷ moments)) x (notices_by x moments) = told orders strange hosts x
       moments mixed off in
       tells_data (host_in x) t.peer (crossings_of (x ∷ moments)) x n
-      (in_each (Tells (host_in x) t.peer (crossings_of (x ∷ moments)) x) (notices_by x moments) n there t.told)
+      (each_in (Tells (host_in x) t.peer (crossings_of (x ∷ moments)) x) (notices_by x moments) n there t.told)

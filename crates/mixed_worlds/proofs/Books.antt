@@ -1,16 +1,17 @@
 -- The lives among hosts with programs are, in the book of a network with strangers, those of the masked moments.
-use Rattle.mixed_worlds.proofs.Common.{◌≡◌, ◌⊎◌, inl, inr, ℕ, ◌==◌, ◌||◌, Bool, true, false, List, [], ◌∷◌, filter, find, Option, Some, None, refl, ap, sym, subst, ◌∙◌, eq-eqb, if◌then◌else◌, list_any, Host, same_host, Flow, Crossing, HostMessage, is_ready, AreAbout, IsAbout, listens_on, is_mine_on, Entry, Notice, Life, accepted, NcpState, owner_of, pair_with, AreInOrder, offered, Request, message_about, Kept, all_told, asked, crossed, lives_at, Asked, Crossed, Moment, places, program, crossings_of, host_in, kept_in, notices_by, same_host-sym, pair_range, IsMixed, masked_moments, strange_end, stranger_in, turn, Orders, Says, if_is, masked_program, older, ordered, other_host, says, IsFreeSocket, IsLifeOf, IsOwned, mine_on, Each, Holds, is_among, lives_among, mixed_kept}
+use Rattle.mixed_worlds.proofs.Common.{◌≡◌, ◌⊎◌, inl, inr, ℕ, ◌==◌, ◌||◌, Bool, true, false, List, [], ◌∷◌, filter, find, Option, Some, None, refl, ap, sym, subst, ◌∙◌, eq-eqb, if◌then◌else◌, list_any, Host, same_host, Flow, Crossing, HostMessage, is_ready, AreAbout, IsAbout, is_mine_on, Entry, Notice, Life, accepted, NcpState, pair_with, AreInOrder, offered, Request, message_about, Kept, all_told, asked, crossed, lives_at, Asked, Crossed, Moment, places, program, crossings_of, host_in, kept_in, notices_by, same_host-sym, pair_range, IsMixed, masked_moments, strange_end, stranger_in, turn, Orders, Says, if_is, masked_program, older, ordered, other_host, says, IsFreeSocket, IsLifeOf, IsOwned, mine_on, Each, Holds, is_among, lives_among, mixed_kept, peer_of, is_of_stranger, closed, masked_crossing, stopped}
+use Rattle.host_pairs.specs.Desk.{listens_on}
+use Rattle.sockets.specs.Pairs.{owner_of}
 use Rattle.interface.specs.Mailboxes as mail
 use Rattle.interface.specs.declared.crossing.Crossing.TheVariants as crossing
 use Rattle.interface.specs.declared.crossing.Inbound.TheVariants as inbound
 use Rattle.host_pairs.specs.declared.listener.Listener.{Listener}
 use Rattle.host_pairs.specs.declared.notice.Notice.TheVariants as notice
-use Rattle.sockets.specs.Others.{owner_host, peer_of}
+use Rattle.sockets.specs.Others.{owner_host}
 use Rattle.sockets.specs.Requests.{served_notices}
 use Rattle.sockets.specs.declared.request.Request.TheVariants as request
 use Rattle.sockets.proofs.lemmas.{answer_about, offer_about}
-use Rattle.masked_worlds.specs.Among.{is_of_stranger}
-use Rattle.masked_worlds.specs.Mixed.{closed, closed_by, masked_crossing, stopped}
+use Rattle.masked_worlds.specs.Mixed.{closed_by}
 use Rattle.masked_worlds.proofs.lemmas.{answer_among, end_none, from_stranger, if_none}
 use Rattle.masked_worlds.proofs.lemmas.{masked_places, message_among, notices_among, offer_among}
 use Rattle.masked_worlds.proofs.lemmas.{stranger_is}
@@ -29,16 +30,7 @@ use Rattle.mixed_worlds.proofs.Sockets.{IsFit, fit, held}
 opens_about : (strange : Host → Bool) (p : Host) (n : Notice) → strange p ≡ false → IsAbout p n → OpensAmong strange n
 opens_about strange p (notice.Opened socket peer foreign own partner) off about = subst
     (λ (h : Host). strange h ≡ false) (sym about) off
-opens_about strange p (notice.Ended socket peer foreign) off about = tt
-opens_about strange p (notice.PairReset peer) off about = tt
-opens_about strange p (notice.Ready peer) off about = tt
-opens_about strange p (notice.ContactFailed peer) off about = tt
-opens_about strange p (notice.Sent socket bits) off about = tt
-opens_about strange p (notice.Arrived socket bits) off about = tt
-opens_about strange p (notice.Returned socket messages bits) off about = tt
-opens_about strange p (notice.Interrupt socket) off about = tt
-opens_about strange p (notice.Echoed peer octet) off about = tt
-opens_about strange p (notice.RemoteError peer code detail) off about = tt
+opens_about strange p n off about = tt
 
 all_open_about : (strange : Host → Bool) (p : Host) (ns : List Notice) → strange p ≡ false → AreAbout p ns
     → Each (OpensAmong strange) ns
@@ -70,27 +62,7 @@ resets_about strange s (request.Contact peer) on = (peer, on, by (is_ready (pair
   by : (b : Bool) → AreAbout peer (if b then notice.PairReset peer ∷ [] else [])
   by true = (refl, tt)
   by false = tt
-resets_about strange s (request.Listen socket size) on = absurd (cc)
-resets_about strange s (request.OpenSend peer own foreign size) on = (peer, on, tt)
-resets_about strange s (request.OpenReceive peer own foreign) on = (peer, on, tt)
-resets_about strange s (request.Echo peer octet) on = (peer, on, tt)
-resets_about strange s (request.Send socket bits) on = by (owner_host (owner_of socket s.peers)) on where
-  by : (o : Option Host) → is_of_stranger strange o ≡ true → (g : Host) × (strange g ≡ true) × (Unit {0})
-  by None e = absurd (cc)
-  by (Some g) e = (g, e, tt)
-resets_about strange s (request.Grant socket messages bits) on = by (owner_host (owner_of socket s.peers)) on where
-  by : (o : Option Host) → is_of_stranger strange o ≡ true → (g : Host) × (strange g ≡ true) × (Unit {0})
-  by None e = absurd (cc)
-  by (Some g) e = (g, e, tt)
-resets_about strange s (request.AskBack socket messages bits) on = by (owner_host (owner_of socket s.peers)) on where
-  by : (o : Option Host) → is_of_stranger strange o ≡ true → (g : Host) × (strange g ≡ true) × (Unit {0})
-  by None e = absurd (cc)
-  by (Some g) e = (g, e, tt)
-resets_about strange s (request.Interrupt socket) on = by (owner_host (owner_of socket s.peers)) on where
-  by : (o : Option Host) → is_of_stranger strange o ≡ true → (g : Host) × (strange g ≡ true) × (Unit {0})
-  by None e = absurd (cc)
-  by (Some g) e = (g, e, tt)
-resets_about strange s (request.Close socket) on = by (peer_of s (request.Close socket)) on where
+resets_about strange s r on = by (peer_of s r) on where
   by : (o : Option Host) → is_of_stranger strange o ≡ true → (g : Host) × (strange g ≡ true) × (Unit {0})
   by None e = absurd (cc)
   by (Some g) e = (g, e, tt)
@@ -120,13 +92,7 @@ owner_asked strange s (request.Close socket) k on is = subst
           → is_of_stranger strange (owner_host (owner_of socket s.peers)) ≡ true
       by true e = absurd (cc)
       by false e = e
-owner_asked strange s (request.Contact peer) k on is = absurd is
-owner_asked strange s (request.Listen socket size) k on is = absurd is
-owner_asked strange s (request.OpenSend peer own foreign size) k on is = absurd is
-owner_asked strange s (request.OpenReceive peer own foreign) k on is = absurd is
-owner_asked strange s (request.AskBack socket messages bits) k on is = absurd is
-owner_asked strange s (request.Interrupt socket) k on is = absurd is
-owner_asked strange s (request.Echo peer octet) k on is = absurd is
+owner_asked strange s r k on is = absurd is
 
 module _ (strange : Host → Bool) (a : Host) (k : ℕ) (s : NcpState) (κ : Kept) (h : Holds a k s κ) where
   free_none : IsFreeSocket a k s κ → NoneOf (lives_at a k) (lives_among strange κ.book.lives)
@@ -247,7 +213,7 @@ module _ (orders : Orders) (strange : Host → Bool) (hosts : List Host) where
 
     -- ---- a crossing without strangers
 
-    plain_notices : (c : Crossing) → stranger_in strange c ≡ None → IsMixed strange hosts (Crossed c ∷ moments)
+    pub plain_notices : (c : Crossing) → stranger_in strange c ≡ None → IsMixed strange hosts (Crossed c ∷ moments)
         → notices_by (Crossed c) (masked_moments strange hosts moments) ≡ notices_by (Crossed c) moments
     plain_notices (crossing.Out m) none now =
         let ends : (strange m.flow.source ≡ false) × (strange m.flow.destination ≡ false) = end_none strange m.flow
@@ -303,7 +269,7 @@ module _ (orders : Orders) (strange : Host → Bool) (hosts : List Host) where
     plain_opens (crossing.Down h) none now = tt
     plain_opens (crossing.Up h) none now = tt
 
-    plain_host : (c : Crossing) → stranger_in strange c ≡ None → strange (host_in (Crossed c)) ≡ false
+    pub plain_host : (c : Crossing) → stranger_in strange c ≡ None → strange (host_in (Crossed c)) ≡ false
     plain_host (crossing.Out m) none = (end_none strange m.flow none).0
     plain_host (crossing.In m) none = (end_none strange m.flow none).1
     plain_host (crossing.Answer kind f) none = (end_none strange f none).0

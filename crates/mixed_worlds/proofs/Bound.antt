@@ -1,11 +1,10 @@
 -- The end of a life keeps the link that it has, whatever its peer sends.
-use Rattle.mixed_worlds.proofs.Common.{◌≡◌, ℕ, ◌<◌, Bool, true, false, List, ◌∷◌, take, Option, Some, None, refl, sym, subst, ◌∙◌, arith, Host, same_host, same_host-true, Command, Order, orders_of, PairState, Parcel, Entry, Notice, Life, accepted, opening_state, pair_with, served, offered, answer_leaves, message_leaves, offer_leaves, pair_range, Asked, Crossed, Moment, places, program, Each, Ends, Goes, Hears, MayTell, Quiet, Rules, message_keeps, offer_keeps, IsMixed, Orders, Says, older, ordered}
+use Rattle.mixed_worlds.proofs.Common.{◌≡◌, ℕ, ◌<◌, Bool, true, false, List, ◌∷◌, take, Option, Some, None, refl, sym, subst, ◌∙◌, arith, Host, same_host, same_host-true, Command, Order, orders_of, PairState, Parcel, Entry, Notice, Life, accepted, opening_state, pair_with, served, offered, answer_leaves, message_leaves, offer_leaves, pair_range, Asked, Crossed, Moment, places, program, Each, Ends, Goes, Hears, MayTell, Quiet, Rules, message_keeps, offer_keeps, Begins, IsMixed, Orders, Says, older, ordered}
 use Rattle.interface.specs.declared.crossing.Crossing.TheVariants as crossing
 use Rattle.interface.specs.declared.crossing.Inbound.TheVariants as inbound
 use Rattle.host_pairs.specs.Parcels as parcel
-use Rattle.world_keeps_lives.proofs.lemmas.{answer_keeps}
+use Rattle.world_keeps_lives.proofs.lemmas.{answer_keeps, request_keeps}
 use Rattle.mixed_worlds.proofs.Asked.{if_ends, own_out}
-use Rattle.mixed_worlds.proofs.Quiet.{request_quiet}
 use Rattle.mixed_worlds.proofs.Sockets.{fit}
 
 -- whatever end has the socket and the stamps of a life has this link
@@ -34,6 +33,9 @@ module _ (x : Life) (link : Option ℕ) where
     returns = λ e messages bits i o. tt;
   }
 
+  begins : Begins (Bound x link)
+  begins = record { fresh = bound_fresh; refused = λ o f s m. absurd (let clash : false ≡ true = m in cc) }
+
   module _ (stamp : ℕ) (own : x.own_stamp < stamp) (partner : x.partner_stamp < stamp) where
     later_own : {A : Type 0} → Some stamp ≡ Some x.own_stamp → A
     later_own e = absurd (let same : stamp ≡ x.own_stamp = cc in omega (arith, own, same))
@@ -43,10 +45,7 @@ module _ (x : Life) (link : Option ℕ) where
 
     hears : (orders : List Order) → Hears (Bound x link) stamp orders
     hears orders = record {
-      begins = record {
-        fresh = bound_fresh;
-        refused = λ o f s m. absurd (let clash : false ≡ true = m in cc);
-      };
+      begins = begins;
       rts = λ o f l e there even odd is at b. λ m w asked p. later_partner p;
       str = λ o f l e there odd even is at b. λ m w asked p. later_partner p;
     }
@@ -64,7 +63,7 @@ module _ (orders : Orders) (strange : Host → Bool) (hosts : List Host) (a : Ho
       → Ends (Bound x link) p (program a moments) → Ends (Bound x link) p (program a (y ∷ moments))
   stays_bound (Asked g r) moments mixed own partner old =
       if_ends (Bound x link) p (same_host a g) (served (program a moments) r) (program a moments)
-      (λ e. request_quiet (Bound x link) (bound_quiet x link) (bound_fresh x link) p (program a moments) r old) old
+      (λ e. request_keeps (Bound x link) Free p (rules x link p) (begins x link) (program a moments) r old) old
   stays_bound (Crossed (crossing.Down g)) moments mixed own partner old =
       if_ends (Bound x link) p (same_host a g) (opening_state a) (program a moments) (λ e. tt) old
   stays_bound (Crossed (crossing.Up g)) moments mixed own partner old =

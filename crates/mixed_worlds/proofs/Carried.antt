@@ -1,12 +1,10 @@
 -- The bits of each life are those of messages on one link, in their order, whatever its peer sends.
-use Rattle.mixed_worlds.proofs.Common.{◌≡◌, ◌⊎◌, inl, inr, ℕ, ◌<◌, ◌==◌, Bool, true, false, if◌then◌else◌, List, [], ◌∷◌, ◌++◌, filter, length, Option, refl, ap, sym, subst, ◌∙◌, arith, Contains, Host, same_host, Flow, Crossing, same_host-true, is_mine_on, Entry, Notice, both, CrossedAt, flow_of, receives, Life, NcpState, pair_with, Request, Kept, all_told, book_told, changed_when, life_ended, lives_asked, lives_at, lives_between, lives_crossed, lives_on, lives_told, lives_with, new_life, returned, where_it, HasOpenEnd, Each, AreOf}
+use Rattle.mixed_worlds.proofs.Common.{◌≡◌, ◌⊎◌, inl, inr, ℕ, ◌<◌, ◌==◌, Bool, true, false, if◌then◌else◌, List, [], ◌∷◌, ◌++◌, filter, length, Option, refl, ap, sym, subst, ◌∙◌, arith, Contains, Host, same_host, Flow, Crossing, same_host-true, is_mine_on, Entry, Notice, both, CrossedAt, flow_of, receives, Life, NcpState, pair_with, Request, Kept, all_told, book_told, changed_when, life_ended, lives_asked, lives_at, lives_between, lives_crossed, lives_on, lives_told, lives_with, new_life, returned, where_it, granted, HasOpenEnd, Each, each_in, AreOf}
 use Rattle.std.proofs.lemmas.Bool.{eqb-true}
 use Rattle.interface.specs.declared.crossing.Crossing.TheVariants as crossing
 use Rattle.host_pairs.specs.Parcels.{link_of}
 use Rattle.host_pairs.specs.declared.notice.Notice.TheVariants as notice
 use Rattle.sockets.specs.declared.request.Request.TheVariants as request
-use Rattle.net_sim.specs.Book.{granted}
-use Rattle.mixed_worlds.proofs.AskedLives.{in_each}
 use Rattle.mixed_worlds.proofs.Bound.{Bound}
 
 -- ---- places
@@ -68,19 +66,19 @@ pub its_end : (s : NcpState) (y : Life) (link : Option ℕ) (p : Host) (e : Entr
 its_end s y link p e there mine o bound = by (same_host p y.peer) refl where
   by : (b : Bool) → same_host p y.peer ≡ b → ItsEnd y link p e
   by false off = absurd
-      (in_each (λ (z : Entry). is_mine_on y.socket z ≡ true → ⊥) (pair_with p s.peers).entries e there
+      (each_in (λ (z : Entry). is_mine_on y.socket z ≡ true → ⊥) (pair_with p s.peers).entries e there
       (nobody_passes (is_mine_on y.socket) (pair_with p s.peers).entries (o.others p off)) mine)
   by true same =
       let peer : p ≡ y.peer = same_host-true p y.peer same in
       let here : Contains (pair_with y.peer s.peers).entries e = subst
       (λ (h : Host). Contains (pair_with h s.peers).entries e) peer there in
-      let is : e ≡ o.end = in_each (λ (z : Entry). is_mine_on y.socket z ≡ true → z ≡ o.end)
+      let is : e ≡ o.end = each_in (λ (z : Entry). is_mine_on y.socket z ≡ true → z ≡ o.end)
       (pair_with y.peer s.peers).entries e here
       (one_passes (is_mine_on y.socket) o.end (pair_with y.peer s.peers).entries o.one) mine in
       let parts : (e.mine ≡ true) × ((e.own == y.socket) ≡ true) = both e.mine (e.own == y.socket) mine in
       record {
         peer = peer;
-        linked = in_each (Bound y link) (pair_with y.peer s.peers).entries e here bound parts.0
+        linked = each_in (Bound y link) (pair_with y.peer s.peers).entries e here bound parts.0
             (eqb-true e.own y.socket parts.1) (ap (λ (z : Entry). z.asked) is ∙ o.own)
             (ap (λ (z : Entry). z.partner) is ∙ o.partner);
       }

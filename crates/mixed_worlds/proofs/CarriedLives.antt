@@ -1,5 +1,5 @@
 -- The bits of each life of a network with strangers are those of messages on one link, in their order.
-use Rattle.mixed_worlds.proofs.Common.{◌≡◌, inl, inr, ℕ, ◌*◌, ◌<◌, ◌==◌, ◌&&◌, not, Bool, true, false, if◌then◌else◌, List, [], ◌∷◌, ◌++◌, drop, length, take, Option, Some, None, refl, ap, sym, subst, ◌∙◌, eq-eqb, Contains, drop-append_seam, Host, same_host, Flow, Crossing, HostMessage, same_host-true, data_bits, header_bits, is_receive_socket, data_of, is_mine_on, is_open, receives_on, PairState, Parcel, next_of, Entry, Notice, both, what_goes, pair_range, data_by, flow_of, receives, Life, pair_with, message_for, next_in, next_is, next_pair, all_told, carried, changed_when, lives_at, where_it, Asked, Crossed, Moment, places, program, crossings_of, host_in, kept_by, notices_by, places_same, HasOpenEnd, Each, IsOther, MayTell, Rules, each_weaker, found_in, message_keeps, offer_keeps, open_mine, request_told, IsMixed, Orders, Says, older, ordered, crossed_only, mixed_kept, AreOf}
+use Rattle.mixed_worlds.proofs.Common.{◌≡◌, inl, inr, ℕ, ◌*◌, ◌<◌, ◌==◌, ◌&&◌, not, Bool, true, false, if◌then◌else◌, List, [], ◌∷◌, ◌++◌, drop, length, take, Option, Some, None, refl, ap, sym, subst, ◌∙◌, eq-eqb, Contains, drop-append_seam, Host, same_host, Flow, Crossing, HostMessage, same_host-true, data_bits, header_bits, is_receive_socket, data_of, is_mine_on, is_open, receives_on, PairState, Parcel, next_of, Entry, Notice, both, what_goes, pair_range, data_by, flow_of, receives, Life, pair_with, message_for, next_in, next_is, next_pair, all_told, carried, changed_when, lives_at, where_it, Asked, Crossed, Moment, places, program, crossings_of, host_in, kept_by, notices_by, places_same, HasOpenEnd, Each, IsOther, MayTell, Rules, each_weaker, found_in, message_keeps, offer_keeps, open_mine, request_told, each_in, IsMixed, Orders, Says, older, ordered, crossed_only, mixed_kept, AreOf, IsCarried}
 use Rattle.std.proofs.lemmas.Bool.{eqb-true}
 use Rattle.interface.specs.declared.crossing.Crossing.TheVariants as crossing
 use Rattle.host_pairs.specs.Allowed.{MayGo}
@@ -12,9 +12,9 @@ use Rattle.host_keeps_streams.proofs.lemmas.{find_passes}
 use Rattle.promise.specs.Formed.{AreData}
 use Rattle.world_keeps_lives.proofs.lemmas.{answer_keeps, each_of}
 use Rattle.world_keeps_lives.proofs.lemmas.{live_end}
-use Rattle.mixed_worlds.specs.Toward.{HasData, IsCarried}
+use Rattle.mixed_worlds.specs.Toward.{HasData}
 use Rattle.mixed_worlds.proofs.Asked.{Placed, own_out, placed}
-use Rattle.mixed_worlds.proofs.AskedLives.{IsOwn, all_own, in_each}
+use Rattle.mixed_worlds.proofs.AskedLives.{IsOwn, all_own}
 use Rattle.mixed_worlds.proofs.Bound.{Bound, stays_bound}
 use Rattle.mixed_worlds.proofs.Carried.{Counted, IsCalm, IsNew, ItsEnd, Known, below_all, its_end, known_all}
 use Rattle.mixed_worlds.proofs.Carried.{known_asked, known_crossed, none_of, one_passes}
@@ -145,7 +145,7 @@ module _ (orders : Orders) (strange : Host → Bool) (hosts : List Host) where
     end_of_life : (p : Host) (e : Entry) → Contains (pair_with p (program x.host moments).peers).entries e
         → is_open e ≡ true → x.socket ≡ e.own → x.ended ≡ false → ItsEnd x known.link p e
     end_of_life p e among opened socket goes =
-        let refusing : Placed x.host p (crossings_of moments) e = in_each (Placed x.host p (crossings_of moments))
+        let refusing : Placed x.host p (crossings_of moments) e = each_in (Placed x.host p (crossings_of moments))
         (pair_with p (program x.host moments).peers).entries e among
         (placed orders strange hosts x.host own.plain moments below p) in
         let mine : e.mine ≡ true = open_mine e refusing.refusing opened in
@@ -505,7 +505,7 @@ module _ (orders : Orders) (strange : Host → Bool) (hosts : List Host) where
   pub is_carried : (moments : List Moment) → IsMixed strange hosts moments → (x : Life)
       → Contains (mixed_kept strange moments).book.lives x → IsCarried (crossings_of moments) x
   is_carried moments mixed x there =
-      let c : Counted (crossings_of moments) (program x.host moments) x = in_each
+      let c : Counted (crossings_of moments) (program x.host moments) x = each_in
       (λ (z : Life). Counted (crossings_of moments) (program z.host moments) z)
       (mixed_kept strange moments).book.lives x
       there (all_counted moments mixed) in

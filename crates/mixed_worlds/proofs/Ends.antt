@@ -1,6 +1,8 @@
 -- Whatever a peer says, of two sockets there is at most one end with it, and what waits of it is what it still has to
 -- say.
-use Rattle.mixed_worlds.proofs.Common.{◌≡◌, ℕ, ◌==◌, ◌&&◌, Bool, true, false, if◌then◌else◌, List, [], ◌∷◌, ◌++◌, Option, Some, None, is_some, refl, ap, sym, subst, ◌∙◌, list_any, Host, same_host, HostMessage, is_ready, Command, ERRONEOUS, Legal, Order, orders_of, data_taken, DeskState, desk_of, close_due, has_cls, PairState, TurnState, if_ready, message_taken, with_desk, Closing, Entry, after_turn, turn_of, NcpState, pair_with, HasSome}
+use Rattle.mixed_worlds.proofs.Common.{◌≡◌, ℕ, ◌==◌, ◌&&◌, Bool, true, false, if◌then◌else◌, List, [], ◌∷◌, ◌++◌, Option, Some, None, is_some, refl, ap, sym, subst, ◌∙◌, list_any, Host, same_host, HostMessage, is_ready, Command, ERRONEOUS, Legal, Order, orders_of, data_taken, DeskState, desk_of, has_cls, PairState, TurnState, if_ready, message_taken, with_desk, Entry, after_turn, turn_of, NcpState, pair_with, HasSome}
+use Rattle.host_pairs.specs.Entries.{close_due}
+use Rattle.host_pairs.specs.declared.entry.Closing.{Closing}
 use Rattle.interface.specs.declared.crossing.Inbound.TheVariants as inbound
 use Rattle.ncp_control.specs.Command.{spelling}
 use Rattle.ncp_control.specs.declared.command.Command.TheVariants as command

@@ -1,6 +1,6 @@
 -- A finished initial connection among hosts with programs pairs the right four sockets.
-use Rattle.mixed_worlds.proofs.Common.{◌≡◌, ℕ, ◌&&◌, Bool, true, false, if◌then◌else◌, List, [], ◌∷◌, take, Option, Some, None, refl, ap, sym, subst, ◌∙◌, eq-eqb, arith, Contains, All-contains, Host, Crossing, is_receive_socket, is_send_socket, Notice, Match, Life, Kept, all_told, book_told, crossed, Asked, Crossed, Moment, crossings_of, host_in, kept_by, kept_in, notices_by, IsMixed, masked_moments, Orders, masked_crossings, crossed_only, lives_among, mixed_kept}
-use Rattle.std.proofs.Common.{◌+◌, nat_le, ◌%◌}
+use Rattle.mixed_worlds.proofs.Common.{◌≡◌, ℕ, ◌&&◌, Bool, true, false, if◌then◌else◌, List, [], ◌∷◌, take, Option, Some, None, refl, ap, sym, subst, ◌∙◌, eq-eqb, arith, Contains, All-contains, Host, Crossing, is_receive_socket, is_send_socket, Notice, Match, Life, Kept, all_told, book_told, crossed, Asked, Crossed, Moment, crossings_of, host_in, kept_by, kept_in, notices_by, IsMixed, masked_moments, Orders, masked_crossings, crossed_only, lives_among, mixed_kept, ◌+◌, JoinedBook, Told, IsBacked}
+use Rattle.std.proofs.Common.{nat_le, ◌%◌}
 use Rattle.std.proofs.Common.{eqb-true}
 use Rattle.std.specs.Prelude.{All}
 use Rattle.icp.specs.declared.fault.StartFault.{StartFault}
@@ -9,9 +9,8 @@ use Rattle.icp.specs.declared.outcome.Outcome.TheVariants as outcome
 use Rattle.host_services.specs.declared.report.Report.{Report}
 use Rattle.host_services.specs.declared.report.Report.TheVariants as report
 use Rattle.host_services.specs.declared.report.Reported.{Reported}
-use Rattle.promise.specs.Connections.{HasReported, IsEnd, JoinedBook}
-use Rattle.promise.specs.declared.book.Told.{Told}
-use Rattle.net_sim.specs.Reports.{IsBacked, IsSo, ServerIsDone, UserIsDone, told_to}
+use Rattle.promise.specs.Connections.{HasReported, IsEnd}
+use Rattle.net_sim.specs.Reports.{IsSo, ServerIsDone, UserIsDone, told_to}
 use Rattle.world_keeps_connections.specs.Laws.{Lives}
 use Rattle.world_keeps_connections.specs.Users.{AreOpposite}
 use Rattle.masked_worlds.proofs.lemmas.{masked_timeline, moments_run}
@@ -64,7 +63,7 @@ reported_so told reports host what all r =
 
 -- ---- the log of the book
 
-told_log : (h : Host) (ns : List Notice) (k : Kept) → (all_told h ns k).book.crossings ≡ k.book.crossings
+pub told_log : (h : Host) (ns : List Notice) (k : Kept) → (all_told h ns k).book.crossings ≡ k.book.crossings
 told_log h [] k = refl
 told_log h (n ∷ ns) k = told_log h ns (book_told h n k)
 

@@ -12,7 +12,6 @@ pub mod RealBooks
 pub mod Settled
 pub mod RealAmong
 pub mod Joined
-pub mod Quiet
 pub mod Asked
 pub mod AskedLives
 pub mod Handed
@@ -20,3 +19,6 @@ pub mod Bound
 pub mod Carried
 pub mod DataNotices
 pub mod CarriedLives
+pub mod Worlds
+pub mod SameTold
+pub mod RealTold

@@ -1,47 +1,12 @@
--- A timeline of hosts all of which run the program keeps the promise: what the laws of each part say, together.
-use Rattle.mixed_worlds.proofs.Common.{◌≡◌, List, [], ◌∷◌, ◌++◌, subst, Host, safe_messages, Asked, Crossed, Moment, crossings_of, AllCalm}
-use Rattle.interface.specs.Mailboxes.{IsRun}
+-- A timeline of hosts all of which run the program has what is promised of it: what the laws of each part say, together.
+use Rattle.mixed_worlds.proofs.Common.{◌≡◌, List, [], ◌∷◌, ◌++◌, subst, Host, safe_messages, Asked, Crossed, Moment, crossings_of, Promises, IsRun}
 use Rattle.interface.specs.declared.crossing.Answer.TheVariants as answer
 use Rattle.interface.specs.declared.crossing.Crossing.TheVariants as crossing
 use Rattle.net_sim.specs.Clean.{HaveAddresses}
 use Rattle.net_sim.specs.Timeline.{IsTimeline}
 use Rattle.world_keeps_pairing.specs.Laws.Worlds.{Lives}
-use Rattle.world_keeps_lives.specs.Laws.Programs.{ProgramsDrained, ProgramsHanded, ProgramsTaken}
-use Rattle.world_keeps_lives.specs.Laws.Programs.{ProgramsTold}
-use Rattle.world_keeps_streams.specs.Arrivals.{AllCome}
-use Rattle.world_keeps_streams.specs.Came.{AllCame}
-use Rattle.world_keeps_streams.specs.Closes.{EachHanded}
-use Rattle.world_keeps_streams.specs.Laws.Lives.{LivesAgree, LivesAnswered, LivesArrives, LivesCloses, LivesFirsts}
-use Rattle.world_keeps_streams.specs.Laws.Lives.{LivesFormed}
-use Rattle.world_keeps_streams.specs.Laws.Lives.{LivesRests, LivesSent, LivesSource, LivesWhole}
-use Rattle.mixed_worlds.specs.Promised.{Promises}
-
--- a clause over every list of moments in which what crosses is a run of the mailboxes
-abbrev pub Always : (List Moment → Type 0) → Type 0
-Always Clause = (hosts : List Host) (moments : List Moment) → HaveAddresses hosts → IsRun hosts (crossings_of moments)
-    → IsTimeline hosts moments → Clause moments
-
--- what is proved of the lives of a book
-pub record Known : Type 0 where
-  pub pairing : Lives
-  pub formed : LivesFormed
-  pub told : ProgramsTold
-  pub taken : ProgramsTaken
-  pub handed : ProgramsHanded
-  pub drained : ProgramsDrained
-  pub source : LivesSource
-  pub sent : LivesSent
-  pub firsts : LivesFirsts
-  pub whole : LivesWhole
-  pub arrives : LivesArrives
-  pub answered : LivesAnswered
-  pub closes : LivesCloses
-  pub rests : LivesRests
-  pub agree : LivesAgree
-  pub comes : Always AllCome
-  pub came : Always AllCame
-  pub calm : Always AllCalm
-  pub had : Always EachHanded
+use Rattle.world_keeps_lives.specs.Laws.{Programs}
+use Rattle.world_keeps_streams.specs.Laws as ends
 
 -- older moments of a timeline over a run are one too
 pub record IsLater (hosts : List Host) (moments : List Moment) : Type 0 where
@@ -53,51 +18,53 @@ below hosts [] earlier h = h
 below hosts (Crossed c ∷ later) earlier h = below hosts later earlier (record { run = h.run.1; time = h.time.1 })
 below hosts (Asked g r ∷ later) earlier h = below hosts later earlier (record { run = h.run; time = h.time.1 })
 
-pub promised : Known → (hosts : List Host) (moments : List Moment) → HaveAddresses hosts
+pub promised : Lives → Programs → ends.Lives → (hosts : List Host) (moments : List Moment) → HaveAddresses hosts
     → IsRun hosts (crossings_of moments) → IsTimeline hosts moments → Promises hosts moments
-promised known hosts moments addresses run time = record {
+promised pairing programs connections hosts moments addresses run time = record {
   time = time;
   run = run;
-  formed = known.formed hosts moments addresses run time;
-  told = known.told hosts moments addresses run time;
+  formed = connections.formed hosts moments addresses run time;
+  told = programs.told hosts moments addresses run time;
   safe = record {
     messages = safe_messages hosts (crossings_of moments) run;
-    partners = known.pairing.partners hosts moments addresses run time;
+    partners = pairing.partners hosts moments addresses run time;
     streams = record {
-      one = λ receiver x y there two mx my. known.pairing.one hosts moments addresses run time receiver x y two mx my;
-      source = λ receiver there kind some. known.source hosts moments addresses run time receiver there kind some;
-      sent = known.handed hosts moments addresses run time;
+      one = λ receiver x y there two mx my. pairing.one hosts moments addresses run time receiver x y two mx my;
+      source = λ receiver there kind some.
+          connections.source hosts moments addresses run time receiver there kind some;
+      sent = programs.handed hosts moments addresses run time;
     };
     grants = record {
-      taken = λ receiver there kind. known.taken hosts moments addresses run time receiver there kind;
-      sent = λ receiver sender here there m. known.sent hosts moments addresses run time receiver sender here there m;
+      taken = λ receiver there kind. programs.taken hosts moments addresses run time receiver there kind;
+      sent = λ receiver sender here there m.
+          connections.sent hosts moments addresses run time receiver sender here there m;
     };
   };
-  firsts = known.firsts hosts moments addresses run time;
-  whole = known.whole hosts moments addresses run time;
+  firsts = connections.firsts hosts moments addresses run time;
+  whole = connections.whole hosts moments addresses run time;
   arrives = λ m later earlier is receiver comes.
       (let h : IsLater hosts (Crossed (crossing.In m) ∷ earlier) = older later (Crossed (crossing.In m) ∷ earlier) is
-      in known.arrives hosts earlier m addresses h.run h.time receiver comes);
-  comes = known.comes hosts moments addresses run time;
+      in connections.arrives hosts earlier m addresses h.run h.time receiver comes);
+  comes = connections.comes hosts moments addresses run time;
   answered = λ f later earlier is off.
       (let h : IsLater hosts (Crossed (crossing.Answer answer.Rfnm f) ∷ earlier) = older later
-      (Crossed (crossing.Answer answer.Rfnm f) ∷ earlier) is in known.answered hosts earlier f addresses h.run h.time
+      (Crossed (crossing.Answer answer.Rfnm f) ∷ earlier) is in connections.answered hosts earlier f addresses h.run h.time
       off);
   closes = λ later earlier is receiver closed.
-      (let h : IsLater hosts earlier = older later earlier is in known.closes hosts earlier addresses h.run h.time
+      (let h : IsLater hosts earlier = older later earlier is in connections.closes hosts earlier addresses h.run h.time
       receiver closed);
-  came = known.came hosts moments addresses run time;
+  came = connections.came hosts moments addresses run time;
   rests = λ later earlier is receiver sender rest.
-      (let h : IsLater hosts earlier = older later earlier is in known.rests hosts earlier addresses h.run h.time
+      (let h : IsLater hosts earlier = older later earlier is in connections.rests hosts earlier addresses h.run h.time
       receiver sender rest);
   agree = λ later earlier is receiver sender settled.
-      (let h : IsLater hosts earlier = older later earlier is in known.agree hosts earlier addresses h.run h.time
+      (let h : IsLater hosts earlier = older later earlier is in connections.agree hosts earlier addresses h.run h.time
       receiver sender settled);
-  calm = known.calm hosts moments addresses run time;
+  calm = connections.calm hosts moments addresses run time;
   drained = λ later earlier is.
-      (let h : IsLater hosts earlier = older later earlier is in known.drained hosts earlier addresses h.run h.time);
+      (let h : IsLater hosts earlier = older later earlier is in programs.drained hosts earlier addresses h.run h.time);
   handed = λ later earlier is.
-      (let h : IsLater hosts earlier = older later earlier is in known.had hosts earlier addresses h.run h.time);
+      (let h : IsLater hosts earlier = older later earlier is in connections.handed hosts earlier addresses h.run h.time);
 } where
   older : (later earlier : List Moment) → moments ≡ later ++ earlier → IsLater hosts earlier
   older later earlier is = below hosts later earlier

@@ -1,12 +1,13 @@
 -- Where nothing is left to be done among hosts with programs, all their lives agree.
-use Rattle.mixed_worlds.proofs.Common.{◌≡◌, Bool, true, false, List, [], ◌∷◌, None, refl, ap, sym, subst, ◌∙◌, Contains, All-contains, Host, Life, NcpState, opening_state, pair_with, Moment, program, crossings_of, kept_in, without_strangers, IsMixed, masked_moments, Orders, masked_crossings, masked_program, HasOpenEnd, mine_on, AllCalm, is_among, lives_among, mixed_kept}
+use Rattle.mixed_worlds.proofs.Common.{◌≡◌, Bool, true, false, List, [], ◌∷◌, None, refl, ap, sym, subst, ◌∙◌, Contains, All-contains, Host, Life, NcpState, opening_state, pair_with, Moment, program, crossings_of, kept_in, without_strangers, IsMixed, masked_moments, Orders, masked_crossings, masked_program, HasOpenEnd, mine_on, is_among, lives_among, mixed_kept}
+use Rattle.world_keeps_streams.specs.Rests.{AllCalm}
 use Rattle.std.proofs.lemmas.List.Elements.{filter_passes}
 use Rattle.interface.specs.Mailboxes as mail
 use Rattle.sockets.specs.Sending.{next_out}
-use Rattle.masked_worlds.specs.Laws.MaskedLogs.{MaskedLogsBoxes}
+use Rattle.masked_worlds.specs.Laws.{MaskedLogs}
 use Rattle.world_keeps_streams.specs.Rests.{NoneOut}
 use Rattle.world_keeps_streams.specs.Settled.{EachAgrees}
-use Rattle.mixed_worlds.specs.Laws.Among.{HaveSettled}
+use Rattle.mixed_worlds.specs.Laws.{HaveSettled}
 use Rattle.mixed_worlds.proofs.Books.{same_book}
 use Rattle.mixed_worlds.proofs.SameBooks.{among_parts}
 use Rattle.mixed_worlds.proofs.Sockets.{idle}
@@ -24,7 +25,7 @@ plain_life orders strange hosts moments mixed x there =
     (lives_among strange (mixed_kept strange moments).book.lives) x
     (filter_passes (is_among strange) (mixed_kept strange moments).book.lives) among)
 
-module _ (orders : Orders) (boxes : MaskedLogsBoxes) (strange : Host → Bool) (hosts : List Host)
+module _ (orders : Orders) (logs : MaskedLogs) (strange : Host → Bool) (hosts : List Host)
     (moments : List Moment) (mixed : IsMixed strange hosts moments) where
   -- the host of an open end is up
   up_of : (x : Life) → strange x.host ≡ false
@@ -46,7 +47,7 @@ module _ (orders : Orders) (boxes : MaskedLogsBoxes) (strange : Host → Bool) (
   none_out a b here there up other settled link =
       ap (mail.box_of (record { source = a; destination = b; link = record { 0 = link } }))
       (masked_crossings orders strange hosts moments)
-      ∙ boxes strange hosts (record { source = a; destination = b; link = record { 0 = link } })
+      ∙ logs.boxes strange hosts (record { source = a; destination = b; link = record { 0 = link } })
       (crossings_of moments) here there
       ∙ settled.answered (record { source = a; destination = b; link = record { 0 = link } }) here there up other
 

@@ -4,24 +4,8 @@ use Rattle.interface.specs.Host.{Host}
 use Rattle.host_services.specs.declared.report.Reported.{Reported}
 use Rattle.promise.specs.Book.{Book}
 use Rattle.promise.specs.declared.life.Life.{Life}
-use Rattle.net_sim.specs.Book.{Kept, all_told, crossed, opening_kept}
-use Rattle.net_sim.specs.Story.{Moment, Crossed, Asked}
-use Rattle.net_sim.specs.Told.{host_in, kept_by, notices_by}
-
--- ---- what is kept
-
--- of a stranger only what crosses
-abbrev pub crossed_only : Moment → Kept → Kept
-crossed_only (Crossed c) k = crossed c k
-crossed_only (Asked h r) k = k
-
-abbrev pub mixed_kept : (Host → Bool) → List Moment → Kept
-mixed_kept strange [] = opening_kept
-mixed_kept strange (x ∷ moments) =
-    if strange (host_in x) then crossed_only x (mixed_kept strange moments)
-    else all_told (host_in x) (notices_by x moments) (kept_by x (mixed_kept strange moments))
-
--- ---- among hosts with programs
+pub use Rattle.net_sim.specs.Mixed.{crossed_only, mixed_kept}
+use Rattle.net_sim.specs.Story.{Moment}
 
 -- a life of such a host with such a peer
 abbrev pub is_among : (Host → Bool) → Life → Bool

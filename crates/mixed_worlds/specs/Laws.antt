@@ -1,3 +1,200 @@
--- Statements that are too long for a line in src/, each named after its function and clause.
-pub mod Among
-pub mod Toward
+-- The laws of src/ that are longer than a line: each is a record, and its fields are the clauses.
+use Rattle.std.specs.List.{Contains}
+use Rattle.std.specs.Prelude.{All, Bool, List, None, false, length, true, ℕ, ◌∷◌, ◌≡◌, ◌⊎◌}
+use Rattle.interface.specs.Calls.{Calls}
+use Rattle.interface.specs.Host.{Host, same_host}
+use Rattle.interface.specs.Mailboxes.{Empty, IsRun, box_of, is_up}
+use Rattle.interface.specs.Messages.{SafeMessages}
+use Rattle.interface.specs.declared.address.Flow.{Flow}
+use Rattle.interface.specs.declared.crossing.Crossing.TheVariants as crossing
+use Rattle.interface.specs.declared.crossing.Inbound.TheVariants as inbound
+use Rattle.interface.specs.declared.message.HostMessage.{HostMessage}
+use Rattle.host_pairs.specs.About.{AreAbout}
+use Rattle.host_pairs.specs.declared.notice.Notice.{Notice}
+use Rattle.sockets.specs.Accepting.{accepted}
+use Rattle.sockets.specs.Pairs.{NcpState, pair_with}
+use Rattle.sockets.specs.Sending.{next_out}
+use Rattle.host_services.specs.declared.report.Reported.{Reported}
+use Rattle.promise.specs.Connections.{JoinedBook}
+use Rattle.promise.specs.Fates.{ClosesWhole, IsBeside}
+use Rattle.promise.specs.Formed.{FormedBook}
+use Rattle.promise.specs.Safe.{IsGranted, IsPrefix, SafeBook, receives, sends}
+use Rattle.promise.specs.declared.life.Life.{Life}
+use Rattle.net_sim.specs.MixedWorlds.{IsLawfulAmong}
+use Rattle.net_sim.specs.Reports.{IsBacked}
+use Rattle.net_sim.specs.Story.{Crossed, Moment, program}
+use Rattle.net_sim.specs.Timeline.{crossings_of}
+use Rattle.net_sim.specs.Told.{host_in, kept_in, notices_by}
+use Rattle.net_sim.specs.World.{WorldState}
+use Rattle.masked_worlds.specs.Among.{without_strangers}
+use Rattle.masked_worlds.specs.Mixed.{IsMixed, masked_moments}
+use Rattle.world_keeps_lives.specs.Lives.{HasOpenEnd, IsBounded, IsFreeSocket, IsOwned}
+use Rattle.world_keeps_streams.specs.Settled.{EachAgrees}
+use Rattle.mixed_worlds.specs.Book.{beside_among, book_among, lives_among, mixed_kept}
+use Rattle.mixed_worlds.specs.Ends.{HasSome}
+use Rattle.mixed_worlds.specs.Promised.{Promises}
+use Rattle.mixed_worlds.specs.Told.{ToldAmong}
+use Rattle.mixed_worlds.specs.Toward.{HasAsked, IsCarried, ReportsData}
+
+-- what the real book has among hosts with programs is the book of the masked moments
+pub record HasAmong (strange : Host → Bool) (hosts : List Host) (moments : List Moment) : Type 0 where
+  pub lives : lives_among strange (mixed_kept strange moments).book.lives ≡
+      (kept_in (masked_moments strange hosts moments)).book.lives
+  pub handed : beside_among strange (mixed_kept strange moments).book.lives (mixed_kept strange moments).handed ≡
+      (kept_in (masked_moments strange hosts moments)).handed
+  pub fates : beside_among strange (mixed_kept strange moments).book.lives (mixed_kept strange moments).fates ≡
+      (kept_in (masked_moments strange hosts moments)).fates
+
+-- of the hosts with programs none that is up has anything to say to another, and each message between two that are up
+-- was answered. What a stranger still has to take or to answer doesn't matter
+pub record HaveSettled (strange : Host → Bool) (hosts : List Host) (moments : List Moment) : Type 0 where
+  pub silent : (h : Host) → strange h ≡ false → is_up hosts h (crossings_of moments) ≡ true
+      → next_out (without_strangers strange (program h moments)) ≡ None
+  pub answered : (f : Flow) → strange f.source ≡ false → strange f.destination ≡ false
+      → is_up hosts f.source (crossings_of moments) ≡ true → is_up hosts f.destination (crossings_of moments) ≡ true
+      → box_of f (crossings_of moments) ≡ Empty
+
+-- Hosts with programs among each other, whatever strangers send and take.
+pub record Among : Type 0 where
+  -- of the masked moments holds what is promised of hosts with programs, and every clause of endings
+  pub promise :
+      (strange : Host → Bool) (hosts : List Host) (moments : List Moment) → IsMixed strange hosts moments →
+      Promises hosts (masked_moments strange hosts moments)
+  -- the lives among these hosts, with what was handed over in them and their fates, are those of the masked moments
+  pub lives :
+      (strange : Host → Bool) (hosts : List Host) (moments : List Moment) → IsMixed strange hosts moments →
+      HasAmong strange hosts moments
+  -- so the book itself is formed and safe among these hosts, over all that really crossed, and an orderly close loses
+  -- nothing
+  pub formed :
+      (strange : Host → Bool) (hosts : List Host) (moments : List Moment) → IsMixed strange hosts moments →
+      FormedBook (crossings_of moments) (lives_among strange (mixed_kept strange moments).book.lives)
+  pub safe :
+      (strange : Host → Bool) (hosts : List Host) (moments : List Moment) → IsMixed strange hosts moments →
+      SafeBook (crossings_of moments) (lives_among strange (mixed_kept strange moments).book.lives)
+      (beside_among strange (mixed_kept strange moments).book.lives (mixed_kept strange moments).handed)
+  pub whole :
+      (strange : Host → Bool) (hosts : List Host) (moments : List Moment) → IsMixed strange hosts moments →
+      ClosesWhole (crossings_of moments) (lives_among strange (mixed_kept strange moments).book.lives)
+      (beside_among strange (mixed_kept strange moments).book.lives (mixed_kept strange moments).handed)
+      (beside_among strange (mixed_kept strange moments).book.lives (mixed_kept strange moments).fates)
+  -- what their users are notified of data are the messages of data that crossed among them
+  pub told :
+      (strange : Host → Bool) (hosts : List Host) (moments : List Moment) → IsMixed strange hosts moments →
+      ToldAmong strange (crossings_of moments) (mixed_kept strange moments).book.notices
+  -- a finished initial connection among them pairs the right four sockets, and where they have nothing left to do all
+  -- lives that match agree
+  pub joined :
+      (strange : Host → Bool) (hosts : List Host) (moments : List Moment) → IsMixed strange hosts moments →
+      (reports : List Reported) → All (IsBacked (mixed_kept strange moments).book.notices) reports →
+      JoinedBook (book_among strange moments reports)
+  pub settled :
+      (strange : Host → Bool) (hosts : List Host) (moments : List Moment) → IsMixed strange hosts moments →
+      HaveSettled strange hosts moments → EachAgrees (masked_moments strange hosts moments)
+
+-- A host with a program, toward strangers and all others.
+pub record Toward : Type 0 where
+  -- whatever a peer says, of two sockets there is at most one end with it, and what waits is what it still has to say
+  pub ends :
+      (origin : ℕ → ℕ) (own foreign : ℕ) (s : NcpState) (m : HostMessage) (stamp : ℕ) →
+      HasSome origin own foreign (pair_with m.flow.source s.peers) →
+      HasSome origin own foreign (pair_with m.flow.source (accepted s (inbound.Message m) stamp).0.peers)
+  -- each socket is free, or has one end with one peer, whose lives are all that continue there
+  pub sockets :
+      (strange : Host → Bool) (hosts : List Host) (moments : List Moment) → IsMixed strange hosts moments →
+      (a : Host) (socket : ℕ) → strange a ≡ false →
+      IsFreeSocket a socket (program a moments) (mixed_kept strange moments) ⊎ IsOwned a socket (program a moments)
+      (mixed_kept strange moments)
+  -- so a life that isn't over is that of one open end, and no receiving life takes more than it granted
+  pub live :
+      (strange : Host → Bool) (hosts : List Host) (moments : List Moment) → IsMixed strange hosts moments → (x : Life) →
+      Contains (mixed_kept strange moments).book.lives x → strange x.host ≡ false → x.ended ≡ false →
+      HasOpenEnd (program x.host moments) x
+  pub taken :
+      (strange : Host → Bool) (hosts : List Host) (moments : List Moment) → IsMixed strange hosts moments →
+      (receiver : Life) → Contains (mixed_kept strange moments).book.lives receiver → strange receiver.host ≡ false →
+      receives receiver ≡ true → IsGranted receiver receiver.messages (length receiver.bits)
+  pub bounded :
+      (strange : Host → Bool) (hosts : List Host) (moments : List Moment) → IsMixed strange hosts moments →
+      (receiver : Life) → Contains (mixed_kept strange moments).book.lives receiver → strange receiver.host ≡ false →
+      receives receiver ≡ true → IsBounded receiver
+  -- what a sending life sent is a prefix of what was handed over in it
+  pub handed :
+      (strange : Host → Bool) (hosts : List Host) (moments : List Moment) → IsMixed strange hosts moments →
+      (sender : Life) (text : List Bool) →
+      IsBeside sender text (mixed_kept strange moments).book.lives (mixed_kept strange moments).handed →
+      sends sender ≡ true → IsPrefix sender.bits text
+  -- each life is of such a host, and both its requests crossed at its stamps
+  pub owner :
+      (strange : Host → Bool) (hosts : List Host) (moments : List Moment) → IsMixed strange hosts moments → (x : Life) →
+      Contains (mixed_kept strange moments).book.lives x → strange x.host ≡ false
+  pub asked :
+      (strange : Host → Bool) (hosts : List Host) (moments : List Moment) → IsMixed strange hosts moments → (x : Life) →
+      Contains (mixed_kept strange moments).book.lives x → HasAsked (crossings_of moments) x
+  -- and its bits are those of messages on one link, in their order
+  pub carried :
+      (strange : Host → Bool) (hosts : List Host) (moments : List Moment) → IsMixed strange hosts moments → (x : Life) →
+      Contains (mixed_kept strange moments).book.lives x → IsCarried (crossings_of moments) x
+  -- what a user hears of data has just crossed
+  pub reported :
+      (strange : Host → Bool) (hosts : List Host) (x : Moment) (moments : List Moment) →
+      IsMixed strange hosts (x ∷ moments) → strange (host_in x) ≡ false → (n : Notice) →
+      Contains (notices_by x moments) n → ReportsData x n
+  -- a message that is taken reports of its sender only, and leaves what its host has with all others
+  pub sender :
+      (m : HostMessage) (moments : List Moment) → AreAbout m.flow.source (notices_by (Crossed (crossing.In m)) moments)
+  pub others :
+      (a h : Host) (m : HostMessage) (moments : List Moment) → same_host h m.flow.source ≡ false →
+      pair_with h (program a (Crossed (crossing.In m) ∷ moments)).peers ≡ pair_with h (program a moments).peers
+  -- and RFNM says that the interface of its destination took the message, once, whoever that is
+  pub messages :
+      (strange : Host → Bool) (hosts : List Host) (moments : List Moment) → IsMixed strange hosts moments →
+      SafeMessages (crossings_of moments)
+
+-- What the book of a world with strangers promises among hosts with programs: all that crossed is a run of the
+-- mailboxes; the lives among these hosts are formed and safe over it, and so are the notices of data; an orderly close
+-- among them loses nothing, and a finished initial connection pairs the right four sockets
+pub record KeepsAmong {C : Type 0} (strange : Host → Bool) (hosts : List Host) (w : WorldState C) : Type 0 where
+  pub run : IsRun hosts w.kept.book.crossings
+  pub formed : FormedBook w.kept.book.crossings (lives_among strange w.kept.book.lives)
+  pub told : ToldAmong strange w.kept.book.crossings w.kept.book.notices
+  pub safe : SafeBook w.kept.book.crossings (lives_among strange w.kept.book.lives)
+      (beside_among strange w.kept.book.lives w.kept.handed)
+  pub whole : ClosesWhole w.kept.book.crossings (lives_among strange w.kept.book.lives)
+      (beside_among strange w.kept.book.lives w.kept.handed) (beside_among strange w.kept.book.lives w.kept.fates)
+  pub joined : JoinedBook (record w.kept.book { lives = lives_among strange w.kept.book.lives })
+
+-- What it promises of each host with a program, toward strangers and all others
+pub record KeepsToward {C : Type 0} (strange : Host → Bool) (w : WorldState C) : Type 0 where
+  -- no life is a stranger's, and both requests of each crossed at its stamps
+  pub owner : (x : Life) → Contains w.kept.book.lives x → strange x.host ≡ false
+  pub asked : (x : Life) → Contains w.kept.book.lives x → HasAsked w.kept.book.crossings x
+  -- its bits are those of as many messages as it counts, on one link, after both requests and in their order
+  pub carried : (x : Life) → Contains w.kept.book.lives x → IsCarried w.kept.book.crossings x
+  -- what was sent is a prefix of what was handed over
+  pub handed :
+      (sender : Life) (text : List Bool) → IsBeside sender text w.kept.book.lives w.kept.handed →
+      sends sender ≡ true → IsPrefix sender.bits text
+  -- what was taken is within what was granted, of which no more is outstanding than a counter holds
+  pub taken :
+      (receiver : Life) → Contains w.kept.book.lives receiver → receives receiver ≡ true →
+      IsGranted receiver receiver.messages (length receiver.bits)
+  pub bounded :
+      (receiver : Life) → Contains w.kept.book.lives receiver → receives receiver ≡ true → IsBounded receiver
+  -- a message that was answered by RFNM was taken once, and none was taken twice
+  pub messages : SafeMessages w.kept.book.crossings
+
+-- A world with strangers, as the calls of `MixedWorld` leave it.
+pub record Worlds {C : Type 0} (calls : Calls C) : Type 0 where
+  -- its history is a mixed one, so all laws of this crate are about it
+  pub mixed :
+      (strange : Host → Bool) (hosts : List Host) (w : WorldState C) →
+      (lawful : IsLawfulAmong strange calls.seen hosts w) → IsMixed strange hosts lawful.whole.moments
+  -- and its book keeps among hosts with programs what is promised there, and of each such host what is promised of it
+  -- whatever its peers are
+  pub among :
+      (strange : Host → Bool) (hosts : List Host) (w : WorldState C) → IsLawfulAmong strange calls.seen hosts w →
+      KeepsAmong strange hosts w
+  pub toward :
+      (strange : Host → Bool) (hosts : List Host) (w : WorldState C) → IsLawfulAmong strange calls.seen hosts w →
+      KeepsToward strange w

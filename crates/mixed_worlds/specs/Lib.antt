@@ -4,3 +4,4 @@ pub mod Book
 pub mod Laws
 pub mod Worked
 pub mod Toward
+pub mod Told

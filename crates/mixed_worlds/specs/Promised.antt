@@ -1,5 +1,5 @@
--- What is promised of a list of moments: the promise of its book, and the clauses of its endings, of which the
--- headline's page has the words.
+-- What is promised of a list of moments: parts of the promise of its book, and the clauses of its endings, of which the
+-- page on endings has the words.
 use Rattle.std.specs.Prelude.{List}
 use Rattle.interface.specs.Host.{Host}
 use Rattle.interface.specs.Mailboxes.{IsRun}

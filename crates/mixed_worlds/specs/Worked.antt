@@ -1,8 +1,11 @@
 -- Small networks with a stranger, `third`: words for worked examples.
-use Rattle.std.specs.Prelude.{List, [], ◌∷◌}
+use Rattle.std.specs.Prelude.{ℕ, List, [], ◌∷◌}
+use Rattle.host_pairs.specs.declared.notice.Notice.TheVariants as notice
 use Rattle.interface.specs.declared.crossing.Answer.TheVariants as answer
+use Rattle.interface.specs.declared.crossing.Crossing.{Crossing}
 use Rattle.interface.specs.declared.crossing.Crossing.TheVariants as crossing
 use Rattle.interface.specs.declared.message.HostMessage.{HostMessage}
+use Rattle.promise.specs.declared.book.Told.{Told}
 use Rattle.promise.specs.declared.life.Life.{Life}
 use Rattle.sockets.specs.Worked.{RTS, STR, control, first, message, on_link, second, third}
 use Rattle.sockets.specs.declared.request.Request.TheVariants as request
@@ -61,3 +64,15 @@ odd_life = carried eight granting_life
 -- a life between the other two hosts
 abbrev pub plain_life : Life
 plain_life = new_life first 16 second 33 6 10
+
+-- a message of data between the other two hosts
+abbrev pub plain_bits : HostMessage
+plain_bits = message first second 2 (0 ∷ 8 ∷ 0 ∷ 1 ∷ 0 ∷ 255 ∷ [])
+
+-- the second host's user is notified of eight bits, after this many crossings
+abbrev pub eight_told : ℕ → Told
+eight_told place = record { host = second; place = place; notice = notice.Arrived 16 eight }
+
+-- the stranger's came in, and then the other host's
+abbrev pub both_in : List Crossing
+both_in = crossing.In plain_bits ∷ crossing.In eight_bits ∷ []

@@ -16,16 +16,15 @@ ghost use Rattle.masked_worlds.specs.Mixed.{AreMixed};
 ghost use Rattle.masked_worlds.specs.Worked.{is_third, listener_taken, three};
 ghost use Rattle.promise.specs.Formed.{IsFormed};
 ghost use Rattle.mixed_worlds.specs.Book.{beside_among, lives_among, mixed_kept};
-ghost use Rattle.mixed_worlds.specs.Laws.Among.{AmongFormed, AmongJoined, AmongLives, AmongPromise, AmongSafe};
-ghost use Rattle.mixed_worlds.specs.Laws.Among.{AmongSettled, AmongWhole, HaveSettled};
-ghost use Rattle.mixed_worlds.specs.Laws.Toward.{TowardAsked, TowardBounded, TowardCarried, TowardEnds, TowardHanded};
-ghost use Rattle.mixed_worlds.specs.Laws.Toward.{TowardLive, TowardMessages, TowardOthers, TowardOwner, TowardReported};
-ghost use Rattle.mixed_worlds.specs.Laws.Toward.{TowardSender, TowardSockets, TowardTaken};
 ghost use Rattle.mixed_worlds.specs.Toward.{AreOf, HasAsked, IsCarried, ReportsData};
-ghost use Rattle.mixed_worlds.specs.Worked.{contacts, eight_bits, eight_taken, granting_life, odd_life, odd_size};
-ghost use Rattle.mixed_worlds.specs.Worked.{plain_life};
+ghost use Rattle.mixed_worlds.specs.Told.{ToldAmong, told_among};
+ghost use Rattle.mixed_worlds.specs.Worked.{both_in, contacts, eight_bits, eight_taken, eight_told, granting_life};
+ghost use Rattle.mixed_worlds.specs.Worked.{odd_life, odd_size};
+ghost use Rattle.mixed_worlds.specs.Worked.{plain_bits, plain_life};
 ghost use Rattle.mixed_worlds.specs.Worked.{stranger_contacted, stranger_granted, stranger_opened};
+ghost use Rattle.mixed_worlds.specs.Laws.{Among, HaveSettled, Toward, Worlds};
 
+use interface::Carrier;
 use masked_worlds::law::{masked, masked_logs};
 use net_sim::law::orders;
 use world_keeps_connections::law as connections;
@@ -35,21 +34,7 @@ use world_keeps_streams::law as streams;
 
 /// Hosts with programs among each other, whatever strangers send and take.
 pub fn among()
-    // the masked moments keep the whole promise, and every clause of endings
-    ensures promise { AmongPromise }
-
-    // the lives among these hosts, with what was handed over in them and their fates, are those of the masked moments
-    ensures lives { AmongLives }
-
-    // so over all that really crossed these are formed and safe, and an orderly close among them loses nothing
-    ensures formed { AmongFormed }
-    ensures safe { AmongSafe }
-    ensures whole { AmongWhole }
-
-    // a finished initial connection among them pairs the right four sockets, and where they have nothing left to do all
-    // lives that match agree
-    ensures joined { AmongJoined }
-    ensures settled { AmongSettled }
+    ensures { Among }
 {
     masked_logs();
     masked();
@@ -62,38 +47,17 @@ pub fn among()
 
 /// A host with a program, toward strangers and all others.
 pub fn toward()
-    // whatever a peer says, of two sockets there is at most one end with it, and what waits is what it still has to say
-    ensures ends { TowardEnds }
-
-    // each socket is free, or has one end with one peer, whose lives are all that continue there
-    ensures sockets { TowardSockets }
-
-    // so a life that isn't over is that of one open end, and no receiving life takes more than it granted
-    ensures live { TowardLive }
-    ensures taken { TowardTaken }
-    ensures bounded { TowardBounded }
-
-    // what a sending life sent is a prefix of what was handed over in it
-    ensures handed { TowardHanded }
-
-    // each life is of such a host, and both its requests crossed at its stamps
-    ensures owner { TowardOwner }
-    ensures asked { TowardAsked }
-
-    // and its bits are those of messages on one link, in their order
-    ensures carried { TowardCarried }
-
-    // what a user hears of data has just crossed
-    ensures reported { TowardReported }
-
-    // a message that is taken reports of its sender only, and leaves what its host has with all others
-    ensures sender { TowardSender }
-    ensures others { TowardOthers }
-
-    // and RFNM says that the interface of its destination took the message, once, whoever that is
-    ensures messages { TowardMessages }
+    ensures { Toward }
 {
     orders();
+}
+
+/// A world with strangers, after any calls of `MixedWorld`: what its real book promises, over all that crossed.
+pub fn worlds<C: Carrier>()
+    ensures { Worlds C.calls }
+{
+    among();
+    toward();
 }
 
 /// What is kept of a network with a stranger, and what of it is among hosts with programs.
@@ -148,4 +112,19 @@ pub fn worked_settled()
     // not while the first host has an RST to say to the second, nor until that is answered
     ensures unsaid { HaveSettled is_third three contacts → ⊥ }
     ensures unanswered { HaveSettled is_third three (Crossed (crossing.Out (rst first second)) ∷ contacts) → ⊥ }
+{}
+
+/// Which notices of data are about messages among hosts with programs, and which of these have to be reported.
+pub fn worked_told()
+    // what came in from a stranger is left out, wherever that is in the log, and what came in from another host stays
+    ensures left { told_among is_third (crossing.In eight_bits ∷ []) (eight_told 1 ∷ []) ≡ [] }
+    ensures older { told_among is_third both_in (eight_told 2 ∷ eight_told 1 ∷ []) ≡ eight_told 2 ∷ [] }
+
+    // a notice just after no crossing stays, and reports nothing
+    ensures before { told_among is_third (crossing.In eight_bits ∷ []) (eight_told 0 ∷ []) ≡ eight_told 0 ∷ [] }
+    ensures nothing { ToldAmong is_third [] (eight_told 1 ∷ []) → ⊥ }
+
+    // what goes out among hosts with programs has to be reported, and what a stranger sends needn't
+    ensures unreported { ToldAmong is_third (crossing.Out plain_bits ∷ []) [] → ⊥ }
+    ensures free { ToldAmong is_third (crossing.Out eight_bits ∷ []) [] }
 {}

@@ -1,13 +1,17 @@
 //! What a book promises of hosts that run the program, in a network in which other hosts run anything.
 //!
-//! [`masked_worlds`] shows that the hosts with programs have among themselves a timeline of such hosts only. So
-//! they keep the whole promise there ([`law::among`], `promise`), and the lives among them in the real book are the
-//! lives of that timeline (`lives`). The real book is safe among them, over all that crossed (`safe`). Toward a
-//! stranger less is promised, whatever that sends ([`law::toward`]): of each socket there is one end with one peer; the
-//! requests of a life crossed, and its bits are those of messages on one link; and no host takes more than it granted.
-//! That anything arrives nobody promises.
+//! [`masked_worlds`] shows that the hosts with programs have among themselves a timeline of such hosts only. So all
+//! that is promised of such hosts holds there ([`law::among`], `promise`), and the lives among them in the real book
+//! are the lives of that timeline (`lives`). The real book is safe among them, over all that crossed (`safe`). Toward
+//! a stranger less is promised, whatever that sends ([`law::toward`]): of each socket there is one end with one peer;
+//! the requests of a life crossed, and its bits are those of messages on one link; and no host takes more than it
+//! granted. That anything arrives nobody promises.
 //!
-//! There is no code: the laws are the contracts of functions that do nothing.
+//! A program gets the book of such a world by [`book_among`], which ensures what is promised of it. There is no other
+//! code: the laws are the contracts of functions that do nothing.
 #![tactic(auto)]
 
+mod book;
 pub mod law;
+
+pub use book::book_among;

@@ -9,5 +9,6 @@ pub mod Resting
 pub mod SeatLemmas
 pub mod Seats
 pub mod Serving
+pub mod Strange
 pub mod Telling
 pub mod Unresting

@@ -34,7 +34,7 @@ pub record IsWellFormed (log : List Crossing) (lives : List Life) (handed : List
 
 -- ---- the parts of a safe book
 
--- their numbers in the promise
+-- their numbers in a safe book
 abbrev pub number_of : Part → ℕ
 number_of part.Messages = 1
 number_of part.Partners = 2

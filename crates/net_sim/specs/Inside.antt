@@ -8,6 +8,7 @@ pub mod Seats
 pub mod Parts
 pub mod Growing
 pub mod Held
+pub mod Mixed
 pub mod Calm
 pub mod Undo
 pub mod Audit

@@ -5,6 +5,7 @@ pub mod Worlds
 pub mod CleanResets
 pub mod CleanTakings
 pub mod LawfulWorlds
+pub mod MixedWorlds
 pub mod WorkedLives
 pub mod WorkedRequests
 pub mod WorkedWorlds

@@ -16,7 +16,10 @@ pub mod Reports
 pub mod Clean
 pub mod WorkedResets
 pub mod Told
+pub mod Mixed
+pub mod MixedWorlds
 pub mod WorkedMoments
 pub mod SmallLogs
 pub mod WorkedReports
+pub mod WorkedMixed
 pub mod Laws

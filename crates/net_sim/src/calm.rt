@@ -11,13 +11,10 @@ ghost use Rattle.net_sim.specs.World.{CalmGives, Repeats, Offer, Take};
 use crate::seat::Seat;
 use crate::world::{World, stops};
 use crate::{Event, WorldFault};
-use interface::{Carrier, CarrierFault, HostAddr};
-
-/// How often a host takes in one round at most.
-const TAKINGS: u8 = 16;
+use interface::{Carrier, CarrierFault, HostAddr, TAKINGS};
 
 /// How often a host offers in one round at most.
-const OFFERS: u8 = 32;
+pub const OFFERS: u8 = 32;
 
 /// Returns the host whose seat is here, if it is up.
 fn up_here(seats: &[Seat], at: usize) -> Option<HostAddr>

@@ -33,6 +33,7 @@ ghost use Rattle.net_sim.specs.Laws.Worlds.{WorldsCalm, WorldsRun, WorldsStep};
 ghost use Rattle.net_sim.specs.Laws.CleanResets.{CleanResetsAgrees, CleanResetsClean, CleanResetsStays};
 ghost use Rattle.net_sim.specs.Laws.CleanTakings.{CleanTakingsStories, CleanTakingsWorlds};
 ghost use Rattle.net_sim.specs.Laws.LawfulWorlds.{LawfulWorldsCalm, LawfulWorldsRun, LawfulWorldsStep};
+ghost use Rattle.net_sim.specs.Laws.MixedWorlds.{MixedWorldsAny, MixedWorldsCalm, MixedWorldsNobody, MixedWorldsOpening, MixedWorldsRun, MixedWorldsStep};
 
 use interface::Carrier;
 
@@ -143,4 +144,17 @@ pub fn lawful_worlds<C: Carrier>()
     ensures step { LawfulWorldsStep C.calls }
     ensures run { LawfulWorldsRun C.calls }
     ensures calm { LawfulWorldsCalm C.calls }
+{}
+
+/// The same of worlds with strangers: whatever these send and take, all that is kept of the hosts with programs is what their programs say.
+pub fn mixed_worlds<C: Carrier>()
+    ensures opening { MixedWorldsOpening C.calls }
+
+    ensures step { MixedWorldsStep C.calls }
+    ensures run { MixedWorldsRun C.calls }
+    ensures calm { MixedWorldsCalm C.calls }
+
+    // without strangers such a world is lawful, and a lawful one is such a world
+    ensures nobody { MixedWorldsNobody C.calls }
+    ensures any { MixedWorldsAny C.calls }
 {}

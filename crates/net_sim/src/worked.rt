@@ -172,7 +172,7 @@ pub fn unsafe_books()
     ensures other_handed { SafeBook crossings (giver ∷ taker ∷ []) (eight_zeros ∷ [] ∷ []) → ⊥ }
 {}
 
-/// Books that aren't safe though each of their lives has ended: all of the promise is about them too.
+/// Books that aren't safe though each of their lives has ended: a safe book is about these too.
 pub fn unsafe_ended_books()
     // of requests and partners
     ensures own_twice { SafeBook (crossing.Out (message second first 0) ∷ crossings) (over receiver ∷ over (record receiver { partner_stamp = 7 }) ∷ []) ([] ∷ [] ∷ []) → ⊥ }

@@ -205,7 +205,7 @@ impl<C: Carrier> World<C> {
 /// Proves that each host has an address, as the type of an address promises.
 ///
 /// It is there for the proof only, and does nothing: of each host that it looks at the prover then knows the ranges.
-fn are_addresses(hosts: &[HostAddr])
+pub(crate) fn are_addresses(hosts: &[HostAddr])
     ensures { All (λ h. IsAddress h) hosts.now }
 {
     for host in hosts {

@@ -7,5 +7,4 @@ pub mod Notices
 pub mod Connections
 pub mod Fates
 pub mod Ends
-pub mod Over
 pub mod Arrived

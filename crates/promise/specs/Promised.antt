@@ -1,4 +1,4 @@
--- What a book promises: all of it is over what crossed, the lives and the notices, and no host program occurs in it.
+-- The first clause of the promise: all of it is over what crossed, the lives and the notices, and no host program occurs in it.
 use Rattle.std.specs.Prelude.{Bool, List}
 use Rattle.interface.specs.Host.{Host}
 use Rattle.interface.specs.Mailboxes.{IsRun}

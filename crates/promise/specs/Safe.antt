@@ -1,4 +1,4 @@
--- What a book promises of all connections, and what it is about: messages, partners, streams and allocation.
+-- The safe book, and what it is about: messages, partners, streams and allocation.
 use Rattle.std.specs.Prelude.{◌≡◌, ℕ, ◌+◌, ◌-◌, ◌≤◌, Bool, true, if◌then◌else◌, List, [], ◌∷◌, ◌++◌, length, drop, Option, Some, None, IsSome}
 use Rattle.std.specs.List.{Contains}
 use Rattle.interface.specs.Host.{Host}

@@ -10,10 +10,7 @@ use crate::events::ReplayFault;
 use crate::line::Line;
 use crate::output::Output;
 use crate::print::{Detail, print_outcome};
-use interface::{Carrier, CarrierFault, HostAddr};
-
-/// How often a host takes in one round at most.
-const TAKINGS: u8 = 16;
+use interface::{Carrier, CarrierFault, HostAddr, TAKINGS};
 
 /// Lets this many rounds pass, and prints after each what crossed in it. Refusals are not printed. Where the network rests, the
 /// rounds that are left would change nothing and print nothing, and are not made.

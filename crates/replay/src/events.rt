@@ -92,7 +92,7 @@ pub fn replay_events<C: Carrier, W: Output>(
     ensures cannot_write { result ≡ Err ReplayFault.CannotWrite → (shown : List Shown) × EndsIn C.calls MayDo carrier.old events.now carrier.new shown }
 {
     let outcome = replay_in_turn(carrier, events, detail, writer);
-    // for the proof only: the log is a run of the mailboxes, and of each run the promise about messages is proved
+    // for the proof only: the log is a run of the mailboxes, and the messages of each run are safe
     let _log = carrier.log();
     outcome
 }

@@ -13,6 +13,6 @@ mod route_table;
 mod settling;
 mod vector;
 
-pub use route_table::RouteTable;
+pub use route_table::{RouteTable, is_heard};
 pub use settling::settle;
 pub use vector::{INFINITE, Vector};

@@ -168,7 +168,7 @@ fn distance_by(own: u8, imp: u8, least: u8) -> u8
 }
 
 /// Returns whether these distances were heard on a port.
-fn is_heard(heard: &Option<Vector>, distances: &Vector) -> bool
+pub fn is_heard(heard: &Option<Vector>, distances: &Vector) -> bool
     ensures { (result ≡ true) ↔ (heard.now ≡ Some distances.now) }
 {
     match heard {

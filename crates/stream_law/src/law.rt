@@ -97,7 +97,7 @@ pub fn worked_dropping()
     ensures other { senders.hears (Cls 2) (stream sent_events).sender ≡ (stream sent_events).sender }
 {}
 
-/// What a promise says.
+/// What is said of streams (`Within`).
 pub fn worked_within()
     // prefixes are of whole messages, from the first on
     ensures front { IsPrefix (two ∷ []) (two ∷ three ∷ []) }

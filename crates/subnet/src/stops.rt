@@ -11,11 +11,8 @@ ghost use Rattle.imp_node.specs.State.{host_at};
 use crate::imp_call::ImpCall;
 use crate::parts::Parts;
 use imp_node::Imp;
-use interface::{CarrierFault, Crossing, HostAddr, ImpNumber};
+use interface::{CarrierFault, Crossing, HostAddr, ImpNumber, MOST_HOSTS};
 use std::alloc::{AllocError, Global};
-
-/// How many hosts an IMP has at most.
-const MOST_HOSTS: u8 = 4;
 
 impl Parts {
     /// Stops a host: what waits for it is cleared, and the sources of these messages gets Dead.

@@ -3,13 +3,12 @@
 ghost use Rattle.std.specs.Prelude.{◌≡◌, ◌<◌, length, None, true};
 ghost use Rattle.std.specs.List.{list_all};
 ghost use Rattle.imp_node.specs.Arrival.{ignored};
-ghost use Rattle.imp_node.specs.Pump.{target};
 ghost use Rattle.imp_node.specs.State.{host_at};
 ghost use Rattle.imp_node.specs.Taking.{first_of, next_for, to_host, to_host_refusal};
 ghost use Rattle.subnet.specs.Inside.Settled as settled;
 
-use imp_node::{Host, Imp};
-use packetiser::{Packet, PacketKind};
+use imp_node::{Host, Imp, target};
+use packetiser::Packet;
 
 /// Returns whether each packet that waits in an IMP is stuck.
 pub(crate) fn only_waits(imp: &Imp) -> bool
@@ -73,15 +72,4 @@ fn is_full_at(imp: &Imp, port: usize) -> bool
     ensures { result ≡ settled.is_full_at imp.now port }
 {
     port < imp.ports().len() && imp.ports()[port].line.is_full()
-}
-
-/// Returns the IMP that a packet is for.
-fn target(packet: &Packet) -> u8
-    ensures { result ≡ target packet.now }
-{
-    let flow = packet.flow();
-    match packet.kind() {
-        PacketKind::Data | PacketKind::Ask => flow.destination.imp(),
-        PacketKind::Rfnm | PacketKind::Dead | PacketKind::Never => flow.source.imp(),
-    }
 }

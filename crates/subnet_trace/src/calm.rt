@@ -16,13 +16,10 @@ ghost use Rattle.trace.specs.Elements.{takings_from};
 ghost use Rattle.trace.specs.Traces.{GoesOnWith};
 
 use crate::place::{Place, Stage};
-use interface::{Carrier, Direction, ImpNumber, NetEvent};
+use interface::{Carrier, Direction, ImpNumber, NetEvent, TAKINGS};
 use script::RawEvent;
 use subnet::Subnet;
 use trace::Element;
-
-/// How often a host takes in one round at most.
-const TAKINGS: u8 = 16;
 
 /// Returns the next elementary event of a calm, and the place after it; `None` where the calm is over.
 ///

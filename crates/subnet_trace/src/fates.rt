@@ -3,7 +3,6 @@
 ghost use Rattle.std.specs.Prelude.{◌≡◌, slice_get};
 ghost use Rattle.std.specs.FinMap as map;
 ghost use Rattle.imp_node.specs.Arrival.{arrival, ask_arrival, data_arrival};
-ghost use Rattle.imp_node.specs.Pump as pump;
 ghost use Rattle.imp_node.specs.Room as room;
 ghost use Rattle.link_table.specs.Flows.{asked_in, release_in};
 ghost use Rattle.packetiser.specs.PacketFields.{flow_of};
@@ -14,19 +13,13 @@ ghost use Rattle.subnet_trace.specs.Fates as fates;
 ghost use Rattle.subnet_trace.specs.Printing.{fate_with_room, judged_with_room};
 
 use imp_channel::{Content, Frame};
-use imp_node::Imp;
+use imp_node::{Imp, QUEUE_PLACES, STORE_PLACES, target};
 use interface::{Direction, NetEvent};
 use link_table::{Age, Asked};
 use packetiser::{Outcome, Packet, PacketKind};
 use script::RawEvent;
 use subnet::{Subnet, Wire};
 use trace::Fate;
-
-/// How many packets an IMP can store.
-const STORE_PLACES: usize = 32;
-
-/// How many messages can wait for a host.
-const QUEUE_PLACES: usize = 16;
 
 /// Returns what becomes of the frame that an event is going to deliver; `None` for an event that delivers none.
 pub(crate) fn fate_of(subnet: &Subnet, event: &RawEvent) -> Option<Fate>
@@ -164,17 +157,6 @@ fn answer_fate(imp: &Imp, packet: &Packet) -> Fate
 }
 
 // ---- room
-
-/// Returns the IMP that a packet travels to.
-fn target(packet: &Packet) -> u8
-    ensures { result ≡ pump.target packet.now }
-{
-    let flow = packet.flow();
-    match packet.kind() {
-        PacketKind::Data | PacketKind::Ask => flow.destination.imp(),
-        PacketKind::Rfnm | PacketKind::Dead | PacketKind::Never => flow.source.imp(),
-    }
-}
 
 /// Returns whether a packet to another IMP has room, or needs none since no way leads there.
 fn has_room_to(imp: &Imp, other: u8) -> bool

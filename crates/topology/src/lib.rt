@@ -10,6 +10,4 @@
 pub mod law;
 mod network;
 
-pub use network::{
-    CarrierKind, ImpHosts, LineEnds, MOST_HOSTS, MOST_LINES, Topology, TopologyFault,
-};
+pub use network::{CarrierKind, ImpHosts, LineEnds, MOST_LINES, Topology, TopologyFault};

@@ -12,14 +12,11 @@ ghost use Rattle.topology.specs.Topology.{number_at, host_if, hosts_from, site_o
 ghost use Rattle.topology.specs.Topology.{are_apart, joins_same, has_ports, line_count, by_number, imp_of_number};
 ghost use Rattle.topology.specs.Reading.{Described, DescribedIn};
 
-use interface::{HostAddr, MOST_IMPS};
+use interface::{HostAddr, MOST_HOSTS, MOST_IMPS};
 use std::alloc::{AllocError, AllocFailed, Global};
 use std::marker::Model;
 use thiserror::Error;
 use toml::Value;
-
-/// The most hosts that an IMP has (Heart et al. 1970: an IMP has up to four hosts).
-pub const MOST_HOSTS: u8 = 4;
 
 /// The most lines that an IMP has: a limit of the networks here.
 pub const MOST_LINES: usize = 5;

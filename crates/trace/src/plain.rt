@@ -12,14 +12,11 @@ use crate::inspect::Inspect;
 use crate::members::{Members, ended};
 use crate::parts::{all_members, change, print_whole};
 use crate::turn::Turn;
-use interface::{Carrier, CarrierFault, Crossing, HostAddr};
+use interface::{Carrier, CarrierFault, Crossing, HostAddr, TAKINGS};
 use leader1822::PlainBoxes;
 use replay::{Output, WriteFailed};
 use script::RawEvent;
 use std::alloc::{AllocError, Global};
-
-/// How often a host takes in one round at most.
-const TAKINGS: u8 = 16;
 
 /// Returns whether a host of the network is up, and something waits for it.
 #[tactic(auto, using(crate::proofs::Turns::given_is))]

@@ -4,7 +4,7 @@ use Rattle.interface.specs.Mailboxes as mail
 use Rattle.world_keeps_lives.proofs.Facts.{no}
 use Rattle.world_keeps_lives.proofs.Laws.{live}
 use Rattle.world_keeps_lives.proofs.Linked.{HasRequests, Linked}
-use Rattle.world_keeps_lives.proofs.Requests.{Each, each_filter, each_in, each_weaker, first_of, later_of}
+use Rattle.world_keeps_lives.proofs.Walk.Rules.{Each, each_filter, each_in, each_weaker, first_of, later_of}
 use Rattle.world_keeps_lives.proofs.Grounds.{Grounded, IsAnswered, IsAsked, Opens, grounds}
 
 -- ---- the end of a life that continues has the link of its messages

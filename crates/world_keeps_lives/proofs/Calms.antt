@@ -5,7 +5,7 @@ use Rattle.host_pairs.specs.declared.notice.Notice.TheVariants as notice
 use Rattle.sockets.specs.declared.request.Request.TheVariants as request
 use Rattle.net_sim.specs.Book.{granted, more, returned}
 use Rattle.world_keeps_lives.proofs.Grounds.{Opens, Tells}
-use Rattle.world_keeps_lives.proofs.Requests.{Each, each_append, each_map}
+use Rattle.world_keeps_lives.proofs.Walk.Rules.{Each, each_append, each_map}
 use Rattle.world_keeps_lives.proofs.Stamps.{Now, Stamped}
 
 -- a life keeps all but what was granted, what was returned, and whether it is over

@@ -7,7 +7,7 @@ pub use Rattle.host_keeps_streams.proofs.lemmas.{find_passes}
 pub use Rattle.host_pairs.proofs.lemmas.{both, not_is, what_goes}
 pub use Rattle.host_pairs.specs.Allowed.{MayGo}
 pub use Rattle.host_pairs.specs.Asked.{closed_end, commanded, contacted, interrupt_of, receiver_requested, requested, with_end, with_more_bits}
-pub use Rattle.host_pairs.specs.Commands.{Ending, Open, Unconnected, answered_on, asked_on_link, asked_with_size, at_end, changed, closed_once, cls_taken_by, desk_taken, entry_joined, gvb_taken, interrupted, matched_once, receiver_on, ret_taken, rts_heard, rts_taken, rts_taken_by, sender_on, str_heard, str_linked, str_taken_by}
+pub use Rattle.host_pairs.specs.Commands.{Ending, Open, Unconnected, answered_on, asked_on_link, asked_with_size, at_end, changed, cls_taken_by, desk_taken, gvb_taken, interrupted, matched_once, receiver_on, ret_taken, rts_heard, rts_taken, rts_taken_by, sender_on, str_heard, str_linked, str_taken_by}
 pub use Rattle.host_pairs.specs.Control.{ERRONEOUS, Legal, NOT_CONNECTED, NO_SOCKET, Order, Wrong, error, orders_of}
 pub use Rattle.host_pairs.specs.Data.{arrived, arrived_if, data_found, data_of, data_taken, is_acceptable, spent, text_faulted}
 pub use Rattle.host_pairs.specs.Desk.{DeskState, command_queued, desk_of, desk_told, listener_on, listens_on, settled, swept, without_listener}
@@ -58,7 +58,7 @@ pub use Rattle.sockets.proofs.lemmas.{next_is, next_pair, not_first, pair_change
 pub use Rattle.sockets.specs.Accepting.{accepted, after_turn, turn_of}
 pub use Rattle.sockets.specs.Pairs.{NcpState, opening_state, owner_of, pair_with}
 pub use Rattle.sockets.specs.Peers.{AreInOrder}
-pub use Rattle.sockets.specs.Requests.{at_owner, closed_socket, is_used, on_open, send_fault, served}
+pub use Rattle.sockets.specs.Requests.{at_owner, closed_socket, is_used, on_open, send_fault, served, served_notices}
 pub use Rattle.sockets.specs.Sending.{message_for, next_in, offered, offered_by}
 pub use Rattle.sockets.specs.Worked.{first, second}
 pub use Rattle.sockets.specs.declared.peer.Peer.{Peer}

@@ -11,8 +11,8 @@ use Rattle.host_pairs.specs.declared.notice.Notice.TheVariants as notice
 use Rattle.sockets.specs.Accepting.{accepted}
 use Rattle.sockets.specs.Sending.{offered}
 use Rattle.world_keeps_lives.proofs.Facts.{no}
-use Rattle.world_keeps_lives.proofs.Requests.{Each, MayTell, each_weaker}
-use Rattle.world_keeps_lives.proofs.RequestCalls.{Ends, answer_keeps, message_keeps, offer_keeps, request_told}
+use Rattle.world_keeps_lives.proofs.Walk.Rules.{Each, MayTell, each_weaker}
+use Rattle.world_keeps_lives.proofs.Walk.ByRules.{Ends, answer_keeps, message_keeps, offer_keeps, request_told}
 use Rattle.world_keeps_lives.proofs.Grounds.{Going, Grounded, Tells, flow_is, going_now, going_rules, grounded_hears, grounded_rules, grounds, still_grounded}
 
 -- ---- data

@@ -18,7 +18,7 @@ use Rattle.world_keeps_lives.proofs.Laws as laws
 use Rattle.world_keeps_lives.proofs.Laws.{holds, live, own_socket}
 use Rattle.world_keeps_lives.proofs.Owners.{owner_found}
 use Rattle.world_keeps_lives.proofs.Pairs.{IsPair, IsUnsent, Later, moment_later, pair_front, pair_one, pair_there, prefix_same}
-use Rattle.world_keeps_lives.proofs.Requests.{Begins, Each, Goes, Hears, Rules, each_filter}
+use Rattle.world_keeps_lives.proofs.Walk.Rules.{Begins, Each, Goes, Hears, Rules, each_filter}
 
 one_is : (e f : Entry) → e ∷ [] ≡ f ∷ [] → e ≡ f
 one_is e f h = cc

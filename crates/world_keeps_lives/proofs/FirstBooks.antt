@@ -17,7 +17,7 @@ use Rattle.world_keeps_lives.proofs.Begun.{flow_two}
 use Rattle.world_keeps_lives.proofs.Grounds.{Going, Tells, goes_of, going_rules}
 use Rattle.world_keeps_lives.proofs.Laws.{live}
 use Rattle.world_keeps_lives.proofs.Linked.{AreAfter, AreApart, Linked, LinkedBook}
-use Rattle.world_keeps_lives.proofs.Requests.{Each, MayTell, each_in, each_of, found_in}
+use Rattle.world_keeps_lives.proofs.Walk.Rules.{Each, MayTell, each_in, each_of, found_in}
 use Rattle.world_keeps_lives.proofs.Stamps.{stamped}
 
 -- ---- what is on no link of a life

@@ -14,7 +14,7 @@ use Rattle.world_keeps_lives.proofs.Begun.{alone_on, one_is}
 use Rattle.world_keeps_lives.proofs.Grounds.{Grounded, Nothing, May, crossed_below, grounds}
 use Rattle.world_keeps_lives.proofs.Laws.{live}
 use Rattle.world_keeps_lives.proofs.Linked.{HasRequests, IsFirst, IsSentIn, Linked}
-use Rattle.world_keeps_lives.proofs.Requests.{Begins, Each, Goes, Hears, MayTell, Rules, each_in, each_of}
+use Rattle.world_keeps_lives.proofs.Walk.Rules.{Begins, Each, Goes, Hears, MayTell, Rules, each_in, each_of}
 use Rattle.world_keeps_lives.proofs.Stamps.{Due, open_back}
 use Rattle.world_keeps_lives.proofs.Texts.{IsFull}
 

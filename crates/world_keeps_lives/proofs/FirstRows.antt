@@ -5,7 +5,7 @@ use Rattle.promise.specs.Formed.{flow_of, link_of}
 use Rattle.world_keeps_lives.specs.Firsts.{ShareFlow}
 use Rattle.world_keeps_lives.specs.WorkedFormed.{zeros_sent}
 use Rattle.world_keeps_lives.proofs.FormedRows.{rts_named}
-use Rattle.world_keeps_lives.proofs.Requests.{Each, each_in}
+use Rattle.world_keeps_lives.proofs.Walk.Rules.{Each, each_in}
 
 -- the link of the sending life
 gave_sent : link_of sent_log gave ≡ Some 2

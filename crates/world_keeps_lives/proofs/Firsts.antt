@@ -12,7 +12,7 @@ use Rattle.world_keeps_lives.proofs.Begun.{Begun, Bound, begins, in_filter, mine
 use Rattle.world_keeps_lives.proofs.Grounds.{Nothing, crossed_below, step_ends}
 use Rattle.world_keeps_lives.proofs.Laws.{live}
 use Rattle.world_keeps_lives.proofs.Linked.{HasRequests, IsFirst, IsSentIn, Linked, all_data}
-use Rattle.world_keeps_lives.proofs.Requests.{Each, each_append, each_in, each_of, each_weaker, first_of, later_of}
+use Rattle.world_keeps_lives.proofs.Walk.Rules.{Each, each_append, each_in, each_of, each_weaker, first_of, later_of}
 use Rattle.world_keeps_lives.proofs.Stamps.{HasLife, Now}
 use Rattle.world_keeps_lives.proofs.Texts.{IsFull, before_all, before_here, before_still, first_more, first_still, full_more, take_whole, texts_none, texts_same}
 

@@ -11,7 +11,7 @@ use Rattle.world_keeps_lives.proofs.Linked as by_link
 use Rattle.world_keeps_lives.proofs.Linked.{HasRequests, IsFirst, Linked, LinkedBook, all_data}
 use Rattle.world_keeps_lives.proofs.Named.{Names, named_there, names_of}
 use Rattle.world_keeps_lives.proofs.OneRequest.{NamesOnce, in_once, out_once}
-use Rattle.world_keeps_lives.proofs.Requests.{Each, each_in, each_of, each_weaker}
+use Rattle.world_keeps_lives.proofs.Walk.Rules.{Each, each_in, each_of, each_weaker}
 
 -- ---- data
 

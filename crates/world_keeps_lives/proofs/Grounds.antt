@@ -12,8 +12,8 @@ use Rattle.net_sim.proofs.lemmas.{flow_of, program_own}
 use Rattle.world_keeps_pairing.proofs.lemmas.{send_odd}
 use Rattle.world_keeps_pairing.proofs.lemmas.{queued_link}
 use Rattle.world_keeps_lives.proofs.Facts.{no_place, one_place}
-use Rattle.world_keeps_lives.proofs.Requests.{Begins, Each, Goes, Hears, IsOther, MayTell, Quiet, Rules, each_of, each_weaker}
-use Rattle.world_keeps_lives.proofs.RequestCalls.{Done, Ends, MayTake, answer_keeps, message_keeps, offer_keeps, request_keeps}
+use Rattle.world_keeps_lives.proofs.Walk.Rules.{Begins, Each, Goes, Hears, IsOther, MayTell, Quiet, Rules, each_of, each_weaker}
+use Rattle.world_keeps_lives.proofs.Walk.ByRules.{Done, Ends, MayTake, answer_keeps, message_keeps, offer_keeps, request_keeps}
 
 -- ---- what crossed stays in the log
 

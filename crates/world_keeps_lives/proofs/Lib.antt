@@ -12,8 +12,7 @@ pub mod Owners
 pub mod Asks
 pub mod Moments
 pub mod Laws
-pub mod Requests
-pub mod RequestCalls
+pub mod Walk
 pub mod Grounds
 pub mod DataTold
 pub mod Linked

@@ -1,10 +1,10 @@
 -- One socket of a host, over all moments of a world.
-use Rattle.world_keeps_lives.proofs.Common.{◌≡◌, inl, inr, ℕ, ◌==◌, Bool, true, false, if◌then◌else◌, List, [], ◌∷◌, None, refl, sym, subst, Host, same_host, Crossing, same_host-refl, same_host-true, Notice, both, accepted, NcpState, opening_state, pair_with, served, offered, Request, Life, Kept, all_told, asked, crossed, lives_at, lives_on, opening_kept, HaveAddresses, Asked, Crossed, Moment, places, program, IsTimeline, crossings_of, kept_in, Coupled, coupled, programs_ranged, served_in, EachIn, IsLifeOf, NoneOf, at_socket}
+use Rattle.world_keeps_lives.proofs.Common.{◌≡◌, inl, inr, ℕ, ◌==◌, Bool, true, false, if◌then◌else◌, List, [], ◌∷◌, None, refl, sym, subst, Host, same_host, Crossing, same_host-refl, same_host-true, Notice, both, accepted, NcpState, opening_state, pair_with, served, offered, Request, Life, Kept, all_told, asked, crossed, lives_at, lives_on, opening_kept, HaveAddresses, Asked, Crossed, Moment, places, program, IsTimeline, crossings_of, kept_in, Coupled, coupled, programs_ranged, served_in, EachIn, IsLifeOf, NoneOf, at_socket, served_notices}
 use Rattle.interface.specs.Mailboxes as mail
 use Rattle.interface.specs.declared.crossing.Crossing.TheVariants as crossing
 use Rattle.interface.specs.declared.crossing.Inbound.TheVariants as inbound
 use Rattle.host_keeps_ranges.proofs.lemmas.{pair_range}
-use Rattle.sockets.specs.Requests.{refusal, served_notices}
+use Rattle.sockets.specs.Requests.{refusal}
 use Rattle.sockets.specs.declared.request.Request.TheVariants as request
 use Rattle.net_sim.specs.Book.{granted}
 use Rattle.world_keeps_pairing.specs.Free.{origin_in}

@@ -6,7 +6,7 @@ use Rattle.interface.specs.declared.crossing.Crossing.TheVariants as crossing
 use Rattle.ncp_control.specs.declared.command.Command.TheVariants as command
 use Rattle.promise.specs.Formed.{named_by, named_of}
 use Rattle.world_keeps_lives.proofs.Grounds.{crossed_below}
-use Rattle.world_keeps_lives.proofs.Requests.{first_of, later_of}
+use Rattle.world_keeps_lives.proofs.Walk.Rules.{first_of, later_of}
 
 -- ---- one command
 

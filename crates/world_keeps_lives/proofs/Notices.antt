@@ -9,7 +9,7 @@ use Rattle.host_keeps_streams.proofs.lemmas.Senders as senders
 use Rattle.promise.specs.Notices.{MayBeUntold, TellsOf, is_data}
 use Rattle.promise.specs.Notices as notices
 use Rattle.world_keeps_lives.proofs.Desks.{IsAnOpen, open_mine, open_parts}
-use Rattle.world_keeps_lives.proofs.Requests.{Each, each_in, each_of, each_weaker, found_in}
+use Rattle.world_keeps_lives.proofs.Walk.Rules.{Each, each_in, each_of, each_weaker, found_in}
 use Rattle.world_keeps_lives.proofs.Grounds.{Grounded, IsAnswered, IsAsked, Tells, goes_of, grounds}
 use Rattle.world_keeps_lives.proofs.DataTold.{TakesIf, answer_told, asking_told, bytes_told, control_told, message_takes, offer_told}
 

@@ -15,7 +15,7 @@ use Rattle.promise.specs.Notices.{Tells}
 use Rattle.net_sim.specs.WorkedMoments.{sent_moments}
 use Rattle.net_sim.specs.WorkedResets.{rrp, rst}
 use Rattle.world_keeps_lives.specs.WorkedFormed.{arrived_told, sent_told, stray, stray_arrived, stray_sent, untaken_log}
-use Rattle.world_keeps_lives.proofs.Requests.{Each, each_in}
+use Rattle.world_keeps_lives.proofs.Walk.Rules.{Each, each_in}
 use Rattle.world_keeps_lives.proofs.FormedRows.{rts_holds, rts_read, str_holds}
 
 -- ---- good ones

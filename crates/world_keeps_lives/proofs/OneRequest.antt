@@ -8,7 +8,7 @@ use Rattle.host_pairs.specs.Parcels.{link_of}
 use Rattle.net_sim.proofs.lemmas.{cleared_waits, fetched_waits}
 use Rattle.world_keeps_pairing.proofs.lemmas.{queued_once}
 use Rattle.world_keeps_lives.proofs.Facts.{no}
-use Rattle.world_keeps_lives.proofs.Requests.{Each, each_in}
+use Rattle.world_keeps_lives.proofs.Walk.Rules.{Each, each_in}
 
 -- the requests of two sockets in a text name one link
 abbrev pub NamesOnce : List Bool → Type 0

@@ -6,8 +6,8 @@ use Rattle.host_pairs.specs.Parcels as parcel
 use Rattle.host_pairs.specs.declared.notice.Notice.TheVariants as notice
 use Rattle.world_keeps_lives.proofs.Facts.{no, no_place, one_place}
 use Rattle.world_keeps_lives.proofs.Desks.{IsAnOpen, open_parts}
-use Rattle.world_keeps_lives.proofs.Requests.{Begins, Each, Goes, Hears, IsOther, MayTell, Quiet, Rules}
-use Rattle.world_keeps_lives.proofs.RequestCalls.{answer_keeps, message_keeps, offer_keeps, request_told}
+use Rattle.world_keeps_lives.proofs.Walk.Rules.{Begins, Each, Goes, Hears, IsOther, MayTell, Quiet, Rules}
+use Rattle.world_keeps_lives.proofs.Walk.ByRules.{answer_keeps, message_keeps, offer_keeps, request_told}
 
 -- an end that is open was so before, where nothing but its closing has changed
 pub open_back : (e f : Entry) → Quiet e f → is_open f ≡ true → is_open e ≡ true

@@ -1,5 +1,6 @@
 -- Each thing that is done to the connections of a pair, at one socket of the host.
-use Rattle.world_keeps_lives.proofs.Common.{◌≡◌, ◌⊎◌, inl, inr, ℕ, ◌==◌, ◌&&◌, ◌||◌, Bool, true, false, not, if◌then◌else◌, List, [], ◌∷◌, ◌++◌, length, filter, find, Option, Some, None, is_some, refl, ap, sym, subst, ◌∙◌, eq-eqb, arith, eqb-true, flat_map, Host, same_host, same_host-refl, is_receive_socket, is_send_socket, Allocation, Command, called_off, changed_first, close_due, closed_by_partner, closed_when, ending, entry_at, has_cls, is_at, is_ending, is_mine_on, is_over, is_receiving, must_close, opening_notices, opening_by, answered_on, changed, entry_joined, cls_sent, DeskState, listener_on, listens_on, command_queued, settled, swept, desk_told, Closing, Entry, Listener, Notice, both, Life, Kept, all_told, lives_between, new_life, AddsUp, AreRefusing, EachIn, IsFresh, IsLifeOf, IsSafe, NoneOf, at_socket, has_opened, mine_on}
+use Rattle.world_keeps_lives.proofs.Common.{◌≡◌, ◌⊎◌, inl, inr, ℕ, ◌==◌, ◌&&◌, ◌||◌, Bool, true, false, not, if◌then◌else◌, List, [], ◌∷◌, ◌++◌, length, filter, find, Option, Some, None, is_some, refl, ap, sym, subst, ◌∙◌, eq-eqb, arith, eqb-true, flat_map, Host, same_host, same_host-refl, is_receive_socket, is_send_socket, Allocation, Command, called_off, changed_first, close_due, closed_by_partner, closed_when, ending, entry_at, has_cls, is_at, is_ending, is_mine_on, is_over, is_receiving, must_close, opening_notices, opening_by, answered_on, changed, cls_sent, DeskState, listener_on, listens_on, command_queued, settled, swept, desk_told, Closing, Entry, Listener, Notice, both, Life, Kept, all_told, lives_between, new_life, AddsUp, AreRefusing, EachIn, IsFresh, IsLifeOf, IsSafe, NoneOf, at_socket, has_opened, mine_on}
+use Rattle.host_pairs.specs.Commands.{entry_joined}
 use Rattle.std.proofs.lemmas.List.{append-nil}
 use Rattle.ncp_control.specs.Allocation as counters
 use Rattle.host_pairs.specs.Entries.{is_answered, is_drained, is_due}

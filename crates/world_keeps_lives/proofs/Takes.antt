@@ -1,5 +1,6 @@
 -- What a command or data of the peer does, at one socket of the host.
-use Rattle.world_keeps_lives.proofs.Common.{◌≡◌, ℕ, ◌+◌, ◌-◌, ◌≤◌, ◌<◌, ◌==◌, ◌&&◌, ◌||◌, Bool, true, false, not, nat_lt, if◌then◌else◌, List, [], ◌∷◌, find, length, take, Option, Some, None, is_some, refl, ap, sym, subst, ◌∙◌, arith, eqb-true, ltb-false, ltb-true, length-append, list_any, Host, same_host, spelling, data_bits, header_of, is_receive_socket, is_send_socket, Allocation, Command, DataHeader, answered_on, asked_on_link, asked_with_size, at_end, changed, closed_once, cls_taken_by, gvb_taken, interrupted, matched_once, receiver_on, ret_taken, rts_heard, rts_taken, rts_taken_by, sender_on, str_heard, str_linked, str_taken_by, desk_taken, ERRONEOUS, NOT_CONNECTED, NO_SOCKET, error, arrived, arrived_if, data_found, data_of, data_taken, is_acceptable, spent, text_faulted, DeskState, listener_on, settled, swept, desk_told, closed_by_partner, entry_at, free_link, is_at, is_ending, is_link, is_mine_on, is_open, is_receiving, receiving_end, receives_on, refused_end, sending_end, sends_on, Entry, Listener, both, not_is, Life, Kept, all_told, carried, lives_at, where_it, receives, sends, AddsUp, EachOn, IsLifeOf, IsSafe, at_socket, has_opened}
+use Rattle.world_keeps_lives.proofs.Common.{◌≡◌, ℕ, ◌+◌, ◌-◌, ◌≤◌, ◌<◌, ◌==◌, ◌&&◌, ◌||◌, Bool, true, false, not, nat_lt, if◌then◌else◌, List, [], ◌∷◌, find, length, take, Option, Some, None, is_some, refl, ap, sym, subst, ◌∙◌, arith, eqb-true, ltb-false, ltb-true, length-append, list_any, Host, same_host, spelling, data_bits, header_of, is_receive_socket, is_send_socket, Allocation, Command, DataHeader, answered_on, asked_on_link, asked_with_size, at_end, changed, cls_taken_by, gvb_taken, interrupted, matched_once, receiver_on, ret_taken, rts_heard, rts_taken, rts_taken_by, sender_on, str_heard, str_linked, str_taken_by, desk_taken, ERRONEOUS, NOT_CONNECTED, NO_SOCKET, error, arrived, arrived_if, data_found, data_of, data_taken, is_acceptable, spent, text_faulted, DeskState, listener_on, settled, swept, desk_told, closed_by_partner, entry_at, free_link, is_at, is_ending, is_link, is_mine_on, is_open, is_receiving, receiving_end, receives_on, refused_end, sending_end, sends_on, Entry, Listener, both, not_is, Life, Kept, all_told, carried, lives_at, where_it, receives, sends, AddsUp, EachOn, IsLifeOf, IsSafe, at_socket, has_opened}
+use Rattle.host_pairs.specs.Commands.{closed_once}
 use Rattle.std.proofs.Common.{nat_le}
 use Rattle.std.proofs.lemmas.Bool.{leb-true}
 use Rattle.std.proofs.lemmas.List.{length-drop, length-take-le}

@@ -6,8 +6,8 @@ use Rattle.interface.specs.declared.crossing.Crossing.TheVariants as crossing
 use Rattle.host_pairs.specs.Parcels as parcel
 use Rattle.host_pairs.specs.declared.notice.Notice.TheVariants as notice
 use Rattle.world_keeps_lives.proofs.Facts.{no, no_place}
-use Rattle.world_keeps_lives.proofs.Requests.{Begins, Each, Goes, Hears, IsOther, MayTell, Quiet, Rules, each_of, each_weaker}
-use Rattle.world_keeps_lives.proofs.RequestCalls.{answer_keeps, message_keeps, offer_keeps, request_told}
+use Rattle.world_keeps_lives.proofs.Walk.Rules.{Begins, Each, Goes, Hears, IsOther, MayTell, Quiet, Rules, each_of, each_weaker}
+use Rattle.world_keeps_lives.proofs.Walk.ByRules.{answer_keeps, message_keeps, offer_keeps, request_told}
 
 -- a notice of no opening of these sockets with this peer
 abbrev pub IsNoOpening : Host → ℕ → ℕ → Notice → Type 0

@@ -1,20 +1,14 @@
 //! What a host's own program promises of its lives. The functions here do nothing: each clause is a law.
 
-ghost use Rattle.std.specs.Prelude.{◌≡◌, Bool, true, false, List, [], ◌∷◌, ◌++◌};
-ghost use Rattle.std.specs.List.{Contains};
-ghost use Rattle.interface.specs.Host.{Host};
-ghost use Rattle.promise.specs.declared.life.Amount.{Amount};
+ghost use Rattle.std.specs.Prelude.{◌≡◌, true, false, List, [], ◌∷◌, ◌++◌};
 ghost use Rattle.promise.specs.declared.life.Life.{Life};
-ghost use Rattle.net_sim.specs.Clean.{IsLawful};
 ghost use Rattle.promise.specs.Formed.{IsFormed};
 ghost use Rattle.world_keeps_lives.specs.Firsts.{DetermineBits};
 ghost use Rattle.promise.specs.Notices.{FormedNotices, data_told};
-ghost use Rattle.promise.specs.Safe.{AreHanded, receives, sends};
-ghost use Rattle.interface.specs.declared.crossing.Crossing.{Crossing};
+ghost use Rattle.promise.specs.Safe.{sends};
 ghost use Rattle.interface.specs.declared.crossing.Crossing.TheVariants as crossing;
 ghost use Rattle.net_sim.specs.Story.{Crossed, Moment};
 ghost use Rattle.net_sim.specs.Told.{kept_in};
-ghost use Rattle.net_sim.specs.World.{WorldState};
 ghost use Rattle.host_pairs.specs.Asked.{with_more_bits};
 ghost use Rattle.host_pairs.specs.Commands as commands;
 ghost use Rattle.host_pairs.specs.Entries.{receiving_end, refused_end, sending_end};
@@ -25,47 +19,27 @@ ghost use Rattle.host_pairs.specs.declared.notice.Notice.TheVariants as notice;
 ghost use Rattle.sockets.specs.Worked.{first, second, third};
 ghost use Rattle.net_sim.specs.Book.{carried, life_ended, granted, new_life, opening_kept, returned};
 ghost use Rattle.world_keeps_lives.specs.Lives.{AreRefusing, EachOn, HasOpenEnd, IsBounded, IsFreeSocket, IsFresh, IsLifeOf, IsOwned, IsSafe, IsSteady, NoneOf, at_socket, mine_on};
-ghost use Rattle.world_keeps_lives.specs.Drained.{AllDrained, AllSent, ClosedFirst, ClosesFirst};
+ghost use Rattle.world_keeps_lives.specs.Drained.{AllSent, ClosedFirst, ClosesFirst};
 ghost use Rattle.world_keeps_lives.specs.Firsts.{AreApart, FirstBook};
 ghost use Rattle.world_keeps_lives.specs.Worked.{worked_end, with_one};
 ghost use Rattle.world_keeps_lives.specs.WorkedFormed.{arrived_told, closed_moments, closing_moments, gave, sent_log, sent_told, stray_arrived, stray_log, stray_sent, taken_moments, took};
 ghost use Rattle.world_keeps_lives.specs.WorkedFormed.{took_second, two_log, untaken_log};
 ghost use Rattle.net_sim.specs.Worked.{crossings, eight, eight_zeros, taker};
 ghost use Rattle.net_sim.specs.WorkedMoments.{sent_moments};
-ghost use Rattle.world_keeps_lives.specs.Laws.Programs.{ProgramsBounded, ProgramsDrained, ProgramsHanded, ProgramsLive, ProgramsSockets, ProgramsSteady, ProgramsTaken, ProgramsTold};
-ghost use Rattle.world_keeps_lives.specs.Laws.Worlds.{WorldsLive, WorldsTaken};
+ghost use Rattle.world_keeps_lives.specs.Laws.{Programs, Worlds};
 
 use interface::Carrier;
 
 /// What each host has, over every list of moments in which what crosses is a run of the mailboxes.
 pub fn programs()
-    ensures sockets { ProgramsSockets }
-
-    ensures steady { ProgramsSteady }
-
-    ensures live { ProgramsLive }
-
-    ensures taken { ProgramsTaken }
-
-    ensures bounded { ProgramsBounded }
-
-    ensures handed { ProgramsHanded }
-
-    ensures drained { ProgramsDrained }
-
-    ensures told { ProgramsTold }
+    ensures { Programs }
 {}
 
 /// The same of the book of every world, whatever its carrier is made of: the two clauses of the safe book that are about one host
 /// only, the bound of grants, the end of each life that isn't over, in the program that comes of the world's moments, and the messages that
 /// notices report.
 pub fn worlds<C: Carrier>()
-    ensures live { WorldsLive C.calls }
-    ensures taken { WorldsTaken C.calls }
-    ensures bounded { (hosts : List Host) (w : WorldState C) → IsLawful C.calls.seen hosts w → (receiver : Life) → Contains w.kept.book.lives receiver → receives receiver ≡ true → IsBounded receiver }
-    ensures handed { (hosts : List Host) (w : WorldState C) → IsLawful C.calls.seen hosts w → AreHanded w.kept.book.lives w.kept.handed }
-    ensures drained { (hosts : List Host) (w : WorldState C) → (lawful : IsLawful C.calls.seen hosts w) → AllDrained lawful.whole.moments }
-    ensures told { (hosts : List Host) (w : WorldState C) → IsLawful C.calls.seen hosts w → FormedNotices w.kept.book.crossings w.kept.book.notices }
+    ensures { Worlds C.calls }
 {}
 
 /// Ends.

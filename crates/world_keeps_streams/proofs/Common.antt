@@ -17,10 +17,10 @@ pub use Rattle.host_pairs.proofs.lemmas.{both, not_is, what_goes}
 pub use Rattle.host_pairs.specs.About.{AreAbout, IsAbout}
 pub use Rattle.host_pairs.specs.Allowed.{MayGo}
 pub use Rattle.host_pairs.specs.Asked.{closed_end, commanded, contact_notices, contacted, interrupt_of, passes, receiver_requested, requested, with_end, with_more_bits}
-pub use Rattle.host_pairs.specs.Commands.{Ending, Open, Unconnected, asked_on_link, asked_with_size, at_end, changed, cls_taken_by, desk_taken, entry_joined, found_in, given_back, gvb_taken, interrupted, matched_once, receiver_on, ret_taken, rts_heard, rts_taken, rts_taken_by, sender_on, str_heard, str_linked, str_taken_by}
+pub use Rattle.host_pairs.specs.Commands.{Ending, Open, Unconnected, asked_on_link, asked_with_size, at_end, changed, cls_taken_by, desk_taken, found_in, given_back, gvb_taken, interrupted, matched_once, receiver_on, ret_taken, rts_heard, rts_taken, rts_taken_by, sender_on, str_heard, str_linked, str_taken_by}
 pub use Rattle.host_pairs.specs.Control.{ERRONEOUS, Legal, Order, Wrong, error, orders_of}
 pub use Rattle.host_pairs.specs.Data.{arrived, arrived_if, data_found, data_of, data_taken, is_acceptable, spent, text_faulted}
-pub use Rattle.host_pairs.specs.Desk.{DeskState, command_queued, desk_of, desk_told, listener_on, listens_on, settled, swept}
+pub use Rattle.host_pairs.specs.Desk.{DeskState, command_queued, desk_of, listener_on, listens_on, settled, swept}
 pub use Rattle.host_pairs.specs.Entries.{called_off, changed_at, changed_first, close_due, closed_by_partner, closed_when, ending, entry_at, free_link, has_cls, is_answered, is_at, is_busy, is_called_off, is_due, is_ending, is_link, is_mine_on, is_open, is_receiving, is_sent, must_close, opening_by, opening_notices, receives_on, receiving_end, refused_end, sending_end, sends_on, was_closed}
 pub use Rattle.host_pairs.specs.Pair.{PairState}
 pub use Rattle.host_pairs.specs.Parcels.{Bytes, Commands, Parcel, asked_at, bits_gone, cls_sent, command_gone, commands_gone, link_for, may_send, may_send_on, next_of, pair_after, parcel_gone, sendable, text_for, with_connections}
@@ -67,7 +67,7 @@ pub use Rattle.pairing_law.specs.Partners.{IsIn}
 pub use Rattle.pairing_law.specs.Places.{placed_event, tagged, with_box, with_place}
 pub use Rattle.pairing_law.specs.Sides.{Side, hears, says}
 pub use Rattle.promise.specs.Arrived.{IsCounted}
-pub use Rattle.promise.specs.Ends.{Asking, Cause, Course, Dropped, Going, Leaves, Over, Stage, Stopped, crosses, cut, each, ended_by, fails, heard, is_contact, own_asked, own_closed, own_step, partner_asked, partner_closed, partner_step, said, stage}
+pub use Rattle.promise.specs.Ends.{Asking, Cause, Course, Dropped, Going, Over, Stage, Stopped, crosses, cut, each, ended_by, fails, heard, is_contact, own_asked, own_closed, own_step, partner_asked, partner_closed, partner_step, said, stage}
 pub use Rattle.promise.specs.Fates.{IsBeside}
 pub use Rattle.promise.specs.Formed.{CrossedAt, text_of, texts_for, texts_of, texts_on}
 pub use Rattle.promise.specs.Safe.{IsGranted, Match, Name, SafePartners, Source, control_flow, last_out, own_request, partner_request}
@@ -77,7 +77,7 @@ pub use Rattle.reset_law.proofs.lemmas.{NoPlain, alone_run, begin_quiet, begins_
 pub use Rattle.reset_law.specs.Boxes.{Clear, ClearAll, Fetch, Put, boxes, posted}
 pub use Rattle.reset_law.specs.Events.{Begin, Contact, Down, Event, Hear, Idle, In, Message, Other, Out, Send, Take, Told, Up, are, place, when}
 pub use Rattle.reset_law.specs.Invariant.{is_signal, kind_in}
-pub use Rattle.reset_law.specs.Pairs.{MaySend, Pair, Plain, pair, pair_moved}
+pub use Rattle.reset_law.specs.Pairs.{MaySend, Pair, pair, pair_moved}
 pub use Rattle.reset_law.specs.Stays.{begins, ready, takes_reset}
 pub use Rattle.sockets.proofs.lemmas.{answer_leaves, message_about, message_leaves, next_is, next_pair, not_first, offer_about, offer_leaves, pair_changed}
 pub use Rattle.sockets.specs.Accepting.{accepted, after_turn, turn_of}
@@ -97,7 +97,7 @@ pub use Rattle.stream_law.proofs.lemmas.{Inv, came_inv, for_here, safe_inv, some
 pub use Rattle.stream_law.specs.Streams.{Stream, opening_stream}
 pub use Rattle.stream_law.specs.Within.{IsSafe, message_bits, waiting_in}
 pub use Rattle.stream_law.specs.Words.{All, Cls, Gvb, Ret, Rts, Str, Word, covers, for, holds, is_size}
-pub use Rattle.world_keeps_lives.proofs.lemmas.{At, Elsewhere, GoodTurn, IsOfTwo, Linked, LinkedBook, Near, Place, all_told_append, clash, each_in, good_queued, good_ready, good_taken, has_ends, held, linked_end, live, none_there, open_mine, open_parts, owner_found, refusing_found, same_turned, texts_one, unopened}
+pub use Rattle.world_keeps_lives.proofs.lemmas.{At, Each, Elsewhere, GoodTurn, IsOfTwo, Linked, LinkedBook, Near, Place, all_told_append, clash, each_in, good_queued, good_ready, good_taken, has_ends, held, linked_end, live, none_there, open_mine, open_parts, owner_found, refusing_found, same_turned, texts_one, unopened}
 pub use Rattle.world_keeps_lives.specs.Drained.{ClosesFirst}
 pub use Rattle.world_keeps_lives.specs.Lives.{AreRefusing, HasOpenEnd, IsLifeOf, at_socket, mine_on}
 pub use Rattle.world_keeps_lives.specs.WorkedFormed.{gave, sent_log}

@@ -1,13 +1,22 @@
 -- The fate of each life is what its crossings and contacts leave.
 pub mod Arrived
+pub mod Busy
 pub mod Comes
+pub mod Contacts
 pub mod Courses
 pub mod Every
 pub mod Fails
 pub mod Fits
 pub mod Halves
+pub mod Holds
 pub mod Kept
 pub mod Kinds
+pub mod MarkedEnds
 pub mod Marks
+pub mod Once
+pub mod Opens
 pub mod Owes
+pub mod Rows
 pub mod Ties
+pub mod Unshut
+pub mod Within

@@ -5,8 +5,9 @@ use Rattle.interface.specs.declared.crossing.Answer.{Answer}
 use Rattle.interface.specs.declared.crossing.Crossing.{Crossing}
 use Rattle.interface.specs.declared.crossing.Crossing.TheVariants as crossing
 use Rattle.interface.specs.declared.message.HostMessage.{HostMessage}
-use Rattle.promise.specs.Ends.{Stage, course, stage}
+use Rattle.promise.specs.Ends.{AreLeft, Stage, course, stage}
 use Rattle.promise.specs.declared.book.Called.{Called}
+use Rattle.promise.specs.declared.life.Fate.{Fate}
 use Rattle.promise.specs.declared.life.Life.{Life}
 use Rattle.net_sim.specs.Worked.{taker_of_nothing}
 use Rattle.net_sim.specs.WorkedMoments.{rts, str}
@@ -27,6 +28,10 @@ stage_by x log = stage [] x log
 -- and whether something that ends lives came between its requests
 abbrev pub is_early : Life → List Crossing → Bool
 is_early x log = (course [] x log).early
+
+-- and whether it is left a fate, where it is the only one of a book
+abbrev pub Left : Life → List Crossing → Fate → Type 0
+Left x log f = AreLeft [] log (x ∷ []) (f ∷ [])
 
 -- newest first: it has begun, and this came after that
 abbrev pub begun_then : List Crossing → List Crossing

@@ -1,148 +1,46 @@
 //! What two programs of a world do on each link. The functions here do nothing: each clause is a law.
 
-ghost use Rattle.std.specs.Prelude.{◌≡◌, ℕ, true, List, [], ◌∷◌, ◌++◌, length, None, Some};
-ghost use Rattle.interface.specs.Host.{Host};
-ghost use Rattle.interface.specs.Mailboxes as mail;
+ghost use Rattle.std.specs.Prelude.{◌≡◌, true, [], ◌∷◌, ◌++◌, length};
 ghost use Rattle.interface.specs.declared.crossing.Crossing.TheVariants as crossing;
-ghost use Rattle.host_keeps_streams.specs.Histories.{numbered, receiver_now, sender_now};
 ghost use Rattle.sockets.specs.Worked as dialogue;
 ghost use Rattle.sockets.specs.declared.request.Request.TheVariants as request;
-ghost use Rattle.net_sim.specs.Clean.{HaveAddresses, IsLawful};
-ghost use Rattle.net_sim.specs.Story.{Asked, Crossed, Moment};
-ghost use Rattle.net_sim.specs.Timeline.{IsTimeline, crossings_of};
+ghost use Rattle.net_sim.specs.Story.{Asked, Crossed};
+ghost use Rattle.net_sim.specs.Timeline.{crossings_of};
 ghost use Rattle.net_sim.specs.Told.{kept_in, notices_by};
-ghost use Rattle.net_sim.specs.World.{WorldState};
 ghost use Rattle.net_sim.specs.Worked.{eight};
-ghost use Rattle.net_sim.specs.WorkedMoments.{all_given, bits_sent, connected, eight_sent, sent_moments};
-ghost use Rattle.promise.specs.Arrived.{ArrivedBook};
-ghost use Rattle.promise.specs.Fates.{ClosesWhole};
-ghost use Rattle.promise.specs.Formed.{FormedBook, texts_for};
-ghost use Rattle.world_keeps_lives.specs.Firsts.{FirstBook};
+ghost use Rattle.net_sim.specs.WorkedMoments.{all_given, bits_sent, eight_sent, sent_moments};
+ghost use Rattle.promise.specs.Formed.{texts_for};
 ghost use Rattle.world_keeps_streams.specs.Worked.{close_back, ended_moments, over_eight, over_gave, quit_moments, stopped_moments, took, took_eight};
 ghost use Rattle.world_keeps_streams.specs.Worked.{asked_moments, calm_moments, giving_end, granted_moments, granted_more, granting_moments, left_at, returned_moments, returning_moments, taking_end};
-ghost use Rattle.world_keeps_streams.specs.Answered.{AllAnswered, HasArrived};
-ghost use Rattle.world_keeps_streams.specs.Arrivals.{AllArrive, AllCome, Arrives, ComesBetween, ComesFor};
-ghost use Rattle.world_keeps_streams.specs.Calls.{own_calls, numbered_by_peer};
-ghost use Rattle.world_keeps_streams.specs.Came.{AllCame, CameAll, HadTakenCls, HasTakenCls};
-ghost use Rattle.world_keeps_streams.specs.Rests.{Agree, AllAgree, AllCalm, AllRest, AreAtRest, AreCalm, AreSettled};
-ghost use Rattle.world_keeps_streams.specs.Settled.{EachAgrees, HasSettled};
+ghost use Rattle.world_keeps_streams.specs.Answered.{HasArrived};
+ghost use Rattle.world_keeps_streams.specs.Arrivals.{Arrives, ComesBetween, ComesFor};
+ghost use Rattle.world_keeps_streams.specs.Came.{CameAll, HadTakenCls, HasTakenCls};
+ghost use Rattle.world_keeps_streams.specs.Rests.{Agree, AreAtRest, AreCalm, AreSettled};
 ghost use Rattle.world_keeps_lives.specs.WorkedFormed.{gave};
-ghost use Rattle.world_keeps_streams.specs.Closes.{AllClose, AllHanded, EachHanded, IsClosedByPartner, TookHanded, WasClosedBy, WasClosedByPartner};
-ghost use Rattle.promise.specs.Over.{AreOver};
-ghost use Rattle.world_keeps_streams.specs.Laws.Programs.{ProgramsCalls, ProgramsAllowed, ProgramsReceiver, ProgramsSender};
-ghost use Rattle.world_keeps_streams.specs.Laws.Streams.{StreamsFront, StreamsWhole, StreamsTaken, StreamsSent};
-ghost use Rattle.world_keeps_streams.specs.Laws.Lives.{LivesSource, LivesCloses, LivesFirsts, LivesFormed, LivesArrived, LivesArrives, LivesAgree, LivesAnswered, LivesRests, LivesSent, LivesEnded, LivesOver, LivesWhole};
-ghost use Rattle.world_keeps_streams.specs.Laws.Worlds.{WorldsSource, WorldsSent};
-ghost use Rattle.world_keeps_streams.specs.Laws.WorkedCalls.{WorkedCallsFirst};
+ghost use Rattle.world_keeps_streams.specs.Closes.{IsClosedByPartner, TookHanded, WasClosedBy, WasClosedByPartner};
+ghost use Rattle.world_keeps_streams.specs.Laws.{Programs, Streams, Lives, Worlds, WorkedCalls};
 
 use interface::Carrier;
 
 /// What each host's program does with a peer, over every list of moments in which what crosses is a run of the mailboxes.
 pub fn programs()
-    // its calls since it dropped its ends with the peer last follow one another, and lead to the ends that it has
-    ensures calls { ProgramsCalls }
-
-    // each of them may be made, on each link of a connection: what the laws of one host's calls ask for is so
-    ensures allowed { ProgramsAllowed }
-
-    // so what the program has on the link is what the law of streams has there
-    ensures receiver { ProgramsReceiver }
-    ensures sender { ProgramsSender }
+    ensures { Programs }
 {}
 
 /// Two programs that stay together since both were through a reset, link by link and connection by connection. A connection is given by its two sockets
 /// and how many connections of theirs are over, which both count alike.
 pub fn streams()
-    // what the one has taken in a connection is a prefix of what the other has sent in it
-    ensures front { StreamsFront }
-
-    // and all of it, where it has heard the other's CLS and its own user hasn't closed the end
-    ensures whole { StreamsWhole }
-
-    // with what was returned, what was taken is within what was granted, and so is what was sent
-    ensures taken { StreamsTaken }
-    ensures sent { StreamsSent }
+    ensures { Streams }
 {}
 
 /// The lives of a book, over every list of moments in which what crosses is a run of the mailboxes.
 pub fn lives()
-    // what a receiving life took is a prefix of what its one partner sent: where it took any bit there is one
-    ensures source { LivesSource }
-
-    // a receiving life whose end its partner has closed, and no user of its host, took all that its partner sent; it stays so whatever becomes of both lives
-    ensures closes { LivesCloses }
-
-    // once its end has taken the partner's CLS, as many messages had come in on its link as its partner sent then and ever since, also if its host dropped
-    // some of them
-    ensures came { (hosts : List Host) (moments : List Moment) → HaveAddresses hosts → mail.IsRun hosts (crossings_of moments) → IsTimeline hosts moments → AllCame moments }
-
-    // and all that was handed over in the life that it matches
-    ensures handed { (hosts : List Host) (moments : List Moment) → HaveAddresses hosts → mail.IsRun hosts (crossings_of moments) → IsTimeline hosts moments → EachHanded moments }
-
-    // a receiving life whose fate is that it has ended was closed by its partner and by no user of its host
-    ensures ended { LivesEnded }
-
-    // so an orderly close loses nothing: such a life took all that its partner sent, and all that was handed over there
-    ensures whole { LivesWhole }
-
-    // an open receiving life counts each message that came in on its link after both of its requests. So data of
-    // which a host got RFNM are among the bits of the life that its own matches, if that is open
-    ensures arrived { LivesArrived }
-
-    // each life is over as its fate says, by what its fate says: by both CLS of its sockets, as its connections are dropped, or as its host stops. So one whose fate
-    // says that it was closed is over by both CLS, and one that is over by both has such a fate
-    ensures over { LivesOver }
-
-    // each life is made of the first messages on its link after both of its requests, as many as it counts
-    ensures formed { LivesFormed }
-
-    // and each message that goes out is one of a sending life
-    ensures firsts { LivesFirsts }
-
-    // data that are taken where they come for a receiving life whose end is open, or that no user of its host has closed, arrive there, all of them
-    ensures arrives { LivesArrives }
-
-    // and what is taken on the link of a sending life comes for the receiving life that it matches, if neither is over
-    ensures comes { (hosts : List Host) (moments : List Moment) → HaveAddresses hosts → mail.IsRun hosts (crossings_of moments) → IsTimeline hosts moments → AllCome moments }
-
-    // where a host gets RFNM of data, they were taken at an earlier moment, once, and arrived there if they came for such a life
-    ensures answered { LivesAnswered }
-
-    // a receiving life at rest, whose end is open and for which nothing waits, took all that its partner sent
-    ensures rests { LivesRests }
-
-    // and if no command is on its way between the hosts, what its partner may still send is what it may still take: what was granted and neither used nor
-    // returned
-    ensures agree { LivesAgree }
-
-    // so it is where each message between the hosts was answered, and neither program has anything to say: no end closes then, but for a sender that drains
-    ensures calm { (hosts : List Host) (moments : List Moment) → HaveAddresses hosts → mail.IsRun hosts (crossings_of moments) → IsTimeline hosts moments → AllCalm moments }
-
-    // what a sending life sent that it matches, with what was returned, is within what it granted
-    ensures sent { LivesSent }
+    ensures { Lives }
 {}
 
 /// The same of the book of every world, whatever its carrier is made of.
 pub fn worlds<C: Carrier>()
-    ensures source { WorldsSource C.calls.seen }
-    ensures closes { (hosts : List Host) (w : WorldState C) → (lawful : IsLawful C.calls.seen hosts w) → AllClose lawful.whole.moments }
-    ensures came { (hosts : List Host) (w : WorldState C) → (lawful : IsLawful C.calls.seen hosts w) → AllCame lawful.whole.moments }
-    ensures handed { (hosts : List Host) (w : WorldState C) → (lawful : IsLawful C.calls.seen hosts w) → AllHanded lawful.whole.moments }
-    ensures whole { (hosts : List Host) (w : WorldState C) → IsLawful C.calls.seen hosts w → ClosesWhole w.kept.book.crossings w.kept.book.lives w.kept.handed w.kept.fates }
-    ensures arrived { (hosts : List Host) (w : WorldState C) → IsLawful C.calls.seen hosts w → ArrivedBook w.kept.book.contacts w.kept.book.crossings w.kept.book.lives w.kept.fates }
-    ensures over { (hosts : List Host) (w : WorldState C) → IsLawful C.calls.seen hosts w → AreOver w.kept.book.contacts w.kept.book.crossings w.kept.book.lives w.kept.fates }
-    ensures formed { (hosts : List Host) (w : WorldState C) → IsLawful C.calls.seen hosts w → FormedBook w.kept.book.crossings w.kept.book.lives }
-    ensures firsts { (hosts : List Host) (w : WorldState C) → IsLawful C.calls.seen hosts w → FirstBook w.kept.book.crossings w.kept.book.lives }
-    ensures arrives { (hosts : List Host) (w : WorldState C) → (lawful : IsLawful C.calls.seen hosts w) → AllArrive lawful.whole.moments }
-    ensures comes { (hosts : List Host) (w : WorldState C) → (lawful : IsLawful C.calls.seen hosts w) → AllCome lawful.whole.moments }
-    ensures answered { (hosts : List Host) (w : WorldState C) → (lawful : IsLawful C.calls.seen hosts w) → AllAnswered lawful.whole.moments }
-    ensures rests { (hosts : List Host) (w : WorldState C) → (lawful : IsLawful C.calls.seen hosts w) → AllRest lawful.whole.moments }
-    ensures agree { (hosts : List Host) (w : WorldState C) → (lawful : IsLawful C.calls.seen hosts w) → AllAgree lawful.whole.moments }
-    ensures calm { (hosts : List Host) (w : WorldState C) → (lawful : IsLawful C.calls.seen hosts w) → AllCalm lawful.whole.moments }
-    ensures sent { WorldsSent C.calls.seen }
-
-    // once no host has anything to say, and all was answered between those that are up, all lives that match and aren't over agree
-    ensures settled { (hosts : List Host) (w : WorldState C) → (lawful : IsLawful C.calls.seen hosts w) → HasSettled C.calls.seen w → EachAgrees lawful.whole.moments }
+    ensures { Worlds C.calls.seen }
 {}
 
 /// Data that are taken: eight bits, for an end that is open, and for one that its user has closed.
@@ -251,20 +149,5 @@ pub fn worked_came()
 
 /// The calls of two programs: the first asks for a connection, and the second's socket listens. Here a connection is given by its receiving socket.
 pub fn worked_calls()
-    ensures none { (a b : Host) → own_calls a b [] ≡ [] }
-
-    // the first host hears an RRP, asks for its end, says its RTS and hears the STR; and what it has on link 2 is the end of that connection
-    ensures first { WorkedCallsFirst }
-
-    // the second has it too, with the sockets turned
-    ensures second { (sender_now (λ own foreign gone. foreign) dialogue.first 2 (own_calls dialogue.second dialogue.first connected)).end ≡ Some 16 }
-
-    // on another link neither has an end
-    ensures elsewhere { (receiver_now (λ own foreign gone. own) dialogue.second 3 (own_calls dialogue.first dialogue.second connected)).end ≡ None }
-
-    // a contact drops all ends with the peer, and so all calls
-    ensures contact { own_calls dialogue.first dialogue.second (Asked dialogue.first (request.Contact dialogue.second) ∷ connected) ≡ [] }
-
-    // both count alike
-    ensures turned { (own foreign gone : ℕ) → numbered_by_peer own foreign gone ≡ numbered foreign own gone }
+    ensures { WorkedCalls }
 {}

@@ -10,10 +10,13 @@ ghost use Rattle.promise.specs.declared.life.Fate.TheVariants as fate;
 ghost use Rattle.net_sim.specs.WorkedMoments.{all_given, rts, str};
 ghost use Rattle.net_sim.specs.WorkedResets.{rrp, rst};
 ghost use Rattle.sockets.specs.Worked.{CLS, RTS, STR, control, first, second, third};
-ghost use Rattle.promise.specs.Over.{IsOverBy};
-ghost use Rattle.world_keeps_streams.specs.WorkedEnds.{answered_by, answerer, after_rst, asked_later, asker, begun_then, between, both_asked, contact, is_early, late_answer, later_life, other_cls, own_cls, partner_cls, second_life, second_time, stage_by, told};
+ghost use Rattle.world_keeps_streams.specs.WorkedEnds.{Left, answered_by, answerer, after_rst, asked_later, asker};
+ghost use Rattle.world_keeps_streams.specs.WorkedEnds.{begun_then, between, both_asked, contact, is_early};
+ghost use Rattle.world_keeps_streams.specs.WorkedEnds.{late_answer, later_life, other_cls, own_cls, partner_cls};
+ghost use Rattle.world_keeps_streams.specs.WorkedEnds.{second_life, second_time, stage_by, told};
 
 /// Requests: a life begins with the second of them.
+#[tactic(auto, unfolding(ncp_control::specs::Reading::command_of, bit_messages::specs::Octets::octets_of, host_pairs::specs::Control::orders_of, ncp_control::specs::Reading::read_of))]
 pub fn worked_beginnings()
     ensures asked { stage_by asker (crossing.Out rts ∷ []) ≡ Asking true false }
     ensures begun { stage_by asker (begun_then []) ≡ Going false false }
@@ -32,6 +35,7 @@ pub fn worked_beginnings()
 {}
 
 /// What comes between the two requests: nothing may that would end the life.
+#[tactic(auto, unfolding(ncp_control::specs::Reading::command_of, bit_messages::specs::Octets::octets_of, host_pairs::specs::Control::orders_of, ncp_control::specs::Reading::read_of))]
 pub fn worked_early()
     ensures own_cls { is_early late_answer (between (crossing.Out own_cls)) ≡ true }
     ensures partner_cls { is_early late_answer (between (crossing.In partner_cls)) ≡ true }
@@ -58,6 +62,7 @@ pub fn worked_early()
 {}
 
 /// Connections that are dropped, and a host that stops.
+#[tactic(auto, unfolding(ncp_control::specs::Reading::command_of, bit_messages::specs::Octets::octets_of, host_pairs::specs::Control::orders_of, ncp_control::specs::Reading::read_of))]
 pub fn worked_drops()
     // by an RST, whoever sends it; not by one of other hosts
     ensures sent { stage_by asker (begun_then (crossing.Out (rst first second) ∷ [])) ≡ Over Dropped 2 }
@@ -93,6 +98,7 @@ pub fn worked_drops()
 {}
 
 /// Both CLS.
+#[tactic(auto, unfolding(ncp_control::specs::Reading::command_of, bit_messages::specs::Octets::octets_of, host_pairs::specs::Control::orders_of, ncp_control::specs::Reading::read_of))]
 pub fn worked_cls()
     ensures own { stage_by asker (begun_then (crossing.Out own_cls ∷ [])) ≡ Going true false }
     ensures partner { stage_by asker (begun_then (crossing.In partner_cls ∷ [])) ≡ Going false true }
@@ -135,23 +141,24 @@ pub fn worked_leavings()
     ensures asking { (f : Fate) → Leaves (Asking true false) f → ⊥ }
 {}
 
-/// Fates that a stage leaves where it isn't said whose CLS was the first.
-pub fn worked_over()
-    ensures open { IsOverBy (Going true false) fate.Open }
-    ensures closing { IsOverBy (Going true false) fate.Closing }
-    ensures ended { IsOverBy (Over (Closed true) 3) fate.Ended }
-    ensures reset { IsOverBy (Over Dropped 3) fate.Reset }
+/// What becomes of one life of a book.
+pub fn worked_left()
+    ensures open { Left asker (begun_then []) fate.Open }
+    ensures closing { Left asker (begun_then (crossing.Out own_cls ∷ [])) fate.Closing }
+    ensures closed { Left asker (begun_then (crossing.In partner_cls ∷ crossing.Out own_cls ∷ [])) fate.Closed }
+    ensures ended { Left asker (begun_then (crossing.Out own_cls ∷ crossing.In partner_cls ∷ [])) fate.Ended }
 
-    // one that isn't over has no fate of one that is, and the other way
-    ensures early { IsOverBy (Going true false) fate.Ended → ⊥ }
-    ensures late { IsOverBy (Over (Closed true) 3) fate.Open → ⊥ }
+    // its own CLS goes out first only where a user of its host closed it
+    ensures unclosed { Left asker (begun_then (crossing.Out own_cls ∷ [])) fate.Open → ⊥ }
+    ensures own_first { Left asker (begun_then (crossing.In partner_cls ∷ crossing.Out own_cls ∷ [])) fate.Ended → ⊥ }
 
-    // what is over by one cause has no fate of another
-    ensures dropped { IsOverBy (Over Dropped 3) fate.Ended → ⊥ }
-    ensures stopped { IsOverBy (Over Dropped 3) fate.Stopped → ⊥ }
+    // nothing ends a life between its requests, though its stage is that of one that continues
+    ensures early { Left late_answer (between (crossing.Out own_cls)) fate.Open → ⊥ }
+    ensures stopped { Left late_answer (between (crossing.Down first)) fate.Open → ⊥ }
+    ensures continues { stage_by late_answer (between (crossing.Down first)) ≡ Going false false }
 
-    // one that never began has none
-    ensures never { IsOverBy (Asking true false) fate.Open → ⊥ }
+    // a reset may have been before them
+    ensures before { Left after_rst (begun_then [] ++ crossing.In (rst second first) ∷ []) fate.Open }
 {}
 
 /// Fates in a log, by contacts that don't cross.

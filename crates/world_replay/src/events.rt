@@ -65,7 +65,7 @@ pub fn replay_events<C: Carrier, W: Output>(
     ensures cannot_write { result ≡ Err ReplayFault.CannotWrite → (lines : List Shown) × EndsIn (shown C.calls) (MayDo (shown C.calls)) world.old events.items world.new lines }
 {
     let outcome = replay_in_turn(world, events, detail, writer);
-    // for the proof only: by `World::book` the world is lawful, from which the promise about messages follows
+    // for the proof only: by `World::book` the world is lawful, so its messages are safe
     let _book = world.book();
     outcome
 }

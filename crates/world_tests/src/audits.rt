@@ -1,4 +1,5 @@
-//! The audit of the book of a connection that has carried data, as it is and with one thing changed, and where it shows.
+//! The audit of the book of a connection that has carried data, as it is and with one thing changed, and where it
+//! shows.
 
 use crate::calls::{happened, host};
 use bit_messages::Bits;
@@ -8,8 +9,8 @@ use net_sim::{Amount, Audit, BitLog, Finding, Life, Part, World, audit, locate};
 use std::alloc::Global;
 use std::process::Abort;
 
-/// 0/1 receives on socket 16 what 0/2 sends from socket 33: 0/1 grants two messages and 100 bits, 104 bits are handed over, 96 of
-/// them go out and are taken, and one message and four bits are returned.
+/// 0/1 receives on socket 16 what 0/2 sends from socket 33: 0/1 grants two messages and 100 bits, 104 bits are handed
+/// over, 96 of them go out and are taken, and one message and four bits are returned.
 const DATA: &str =
     "contact 0/1 0/2\noffer 0/1\ntake 0/2\noffer 0/2\ntake 0/1\ntake 0/1\ntake 0/2\nlisten 0/2 33 8\n\
      openrecv 0/1 0/2 16 33\noffer 0/1\ntake 0/2\noffer 0/2\ntake 0/1\ntake 0/1\ntake 0/2\n\
@@ -202,7 +203,8 @@ fn message(alloc: Global) -> Option<HostMessage> {
     })
 }
 
-/// What an audit says where a message goes out and is taken this many times, and there are no lives; and where it shows.
+/// What an audit says where a message goes out and is taken this many times, and there are no lives; and where it
+/// shows.
 fn taken_often(alloc: Global, times: usize) -> Option<(Audit, Option<Finding>)> {
     let mut log = Vec::new(alloc);
     if times > 0 {
@@ -225,7 +227,8 @@ fn the_audit_of_a_worlds_own_book_is_kept(rt: HostRuntime) {
     assert_eq!(rt; own_book(rt.alloc()), Some(Audit::Kept));
 }
 
-/// What audits of logs without lives say, where a message is taken twice, once, and where nothing crosses; and where it shows.
+/// What audits of logs without lives say, where a message is taken twice, once, and where nothing crosses; and where
+/// it shows.
 fn without_lives(alloc: Global) -> [Option<(Audit, Option<Finding>)>; 3] {
     [
         taken_often(alloc, 2),
@@ -245,7 +248,7 @@ fn a_message_is_taken_at_most_once(rt: HostRuntime) {
 }
 
 #[test]
-fn parts_have_the_numbers_of_the_promise(rt: HostRuntime) {
+fn parts_have_the_numbers_of_the_safe_book(rt: HostRuntime) {
     let numbers = [
         Part::Messages.number(),
         Part::Partners.number(),

@@ -12,14 +12,14 @@ use std::process::Abort;
 use world_script::{WorldEvent, read_world_script};
 
 /// A host at IMP 1.
-fn first() -> HostAddr
+pub(crate) fn first() -> HostAddr
     ensures { result ≡ record { imp = 1; host = 0 } }
 {
     HostAddr::new(0, 1).unwrap()
 }
 
 /// A host at IMP 2.
-fn second() -> HostAddr
+pub(crate) fn second() -> HostAddr
     ensures { result ≡ record { imp = 2; host = 0 } }
 {
     HostAddr::new(0, 2).unwrap()
@@ -33,8 +33,8 @@ fn world(alloc: Global) -> Result<World<PlainBoxes>, AllocError> {
     World::new(alloc, PlainBoxes::new(alloc, hosts))
 }
 
-/// Two hosts are made ready, a connection is opened and asked for all that a user may ask for, and what 0/2 has said by then
-/// crosses before it stops.
+/// Two hosts are made ready, a connection is opened and asked for all that a user may ask for, and what 0/2 has said
+/// by then crosses before it stops.
 const CALLS: &str =
     "contact 0/1 0/2\noffer 0/1\ntake 0/2\noffer 0/2\ntake 0/1\ntake 0/1\ntake 0/2\nlisten 0/2 33 8\n\
      openrecv 0/1 0/2 16 33\noffer 0/1\ntake 0/2\noffer 0/2\ntake 0/1\ntake 0/1\n\
@@ -42,8 +42,8 @@ const CALLS: &str =
      askback 0/1 16 128 128\necho 0/1 0/2 65\ninterrupt 0/1 16\nclose 0/1 16\nhostdown 0/2\ntake 0/2\n";
 
 /// Services fail as they begin; then a line that is typed goes to a server and comes back. It is the stored input
-/// `cases/scenes_show_what_was_written_down/a_server_a_user_and_a_terminal`, whose calms are here the single events of which
-/// the output says there; and so do the counts, by its lines.
+/// `cases/scenes_show_what_was_written_down/a_server_a_user_and_a_terminal`, whose calms are here the single events
+/// of which the output says there; and so do the counts, by its lines.
 const SERVICES: &str =
     "type 0/1 A\nserver 0/2 8 100\nuser 0/1 0/2 7 16\nserver 0/3 7 100\nserver 0/2 7 100\n\
      contact 0/1 0/2\noffer 0/1\ntake 0/2\noffer 0/2\ntake 0/1\ntake 0/1\ntake 0/2\nuser 0/1 0/2 7 18\n\
@@ -53,9 +53,9 @@ const SERVICES: &str =
      offer 0/2\noffer 0/2\ntake 0/1\ntake 0/1\ntake 0/1\noffer 0/1\ntake 0/2\ntake 0/2\ntake 0/2\n\
      take 0/1\nhostdown 0/1\ntype 0/1 A\n";
 
-/// The events of a script, without its calms, and a quiet round after them. `None` where the script is bad or memory runs
-/// out.
-fn events(alloc: Global, script: &str) -> Option<Vec<Event>> {
+/// The events of a script, without its calms, and a quiet round after them. `None` where the script is bad or memory
+/// runs out.
+pub(crate) fn events(alloc: Global, script: &str) -> Option<Vec<Event>> {
     if script.len() > MAX_INPUT {
         return None;
     }
@@ -112,8 +112,8 @@ fn take_steps(world: &mut World<PlainBoxes>, events: Vec<Event>) -> Option<Refus
     Some([by_carrier, by_program])
 }
 
-/// What comes of events: what was refused; how many crossings, notices, contacts and lives are in the book, and how many
-/// bits were handed over in the first life; and the first contact.
+/// What comes of events: what was refused; how many crossings, notices, contacts and lives are in the book, and how
+/// many bits were handed over in the first life; and the first contact.
 type Outcome = (Refused, [usize; 5], Option<Called>);
 
 /// What comes of the events of a script and a quiet round. `None` where the script is bad or memory runs out.
@@ -146,7 +146,8 @@ const ROWS: [(&str, Way, Refused, [usize; 5]); 5] = [
     (CALLS, Way::Steps, [1, 1], [12, 4, 1, 2, 16]),
     // a run continues after them
     (CALLS, Way::Run, [0, 0], [12, 4, 1, 2, 16]),
-    // a line where no terminal came is refused by a program, a host that isn't there and one that is down by the carrier
+    // a line where no terminal came is refused by a program, a host that isn't there and one that is down by the
+    // carrier
     (SERVICES, Way::Steps, [2, 1], [43, 16, 1, 6, 32]),
     // 0/1 has nothing to take and offers its RST; then 0/2 takes it and offers its RRP
     ("contact 0/1 0/2", Way::Calm(1), [0, 0], [3, 1, 1, 0, 0]),

@@ -17,3 +17,5 @@ mod calls;
 mod faults;
 #[cfg(test)]
 mod lines;
+#[cfg(test)]
+mod strangers;

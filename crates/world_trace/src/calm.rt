@@ -13,18 +13,12 @@ ghost use Rattle.world_trace.specs.Traces.{MayTell};
 use crate::line::{Passed, print_line};
 use crate::spelling::spelled;
 use crate::texts::{Texts, change, known_texts};
-use interface::{Carrier, HostAddr};
-use net_sim::{Event, Seat, World};
+use interface::{Carrier, HostAddr, TAKINGS};
+use net_sim::{Event, OFFERS, Seat, World};
 use replay::{Detail, Output, Printer, ReplayFault};
 use std::alloc::{AllocError, Global};
 use trace::{Inspect, Spot};
 use world_replay::{has_calmed, replay_in_calm};
-
-/// How often a host takes in one round at most.
-const TAKINGS: u8 = 16;
-
-/// How often a host offers in one round at most.
-const OFFERS: u8 = 32;
 
 /// An event of a calm.
 #[derive(Clone, Copy)]

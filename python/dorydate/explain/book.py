@@ -16,6 +16,8 @@ from dorydate.model.audit import is_passed, last_out, match, own_request, partne
 from dorydate.model.bits import Bits
 from dorydate.model.book import Life
 from dorydate.model.crossings import Answered, Crossing, Passed, Turned
+from dorydate.model.fates import LEAVES
+from dorydate.model.fates import over as crossed_by
 from dorydate.model.log import Book
 from dorydate.model.names import Flow, spell_host
 from dorydate.sentences.table import filled, listed, sentences
@@ -94,9 +96,10 @@ def of_life(book: Book, at: int) -> Iterator[Said]:
     yield Said("promise.safe.partners", paired(book, life))
     yield stream(book, at, others)
     yield from grants(book, life, others)
-    yield Said("over", over(life))
+    yield Said("over", over(book, life))
     yield Said("whole", whole(book, life, others))
     yield Said("arrived.all", all_counted(book, life))
+    yield Said("arrived.closed", all_there(book, life, others))
 
 
 def partners(book: Book, life: Life) -> list[Life]:
@@ -180,11 +183,17 @@ def grants(book: Book, life: Life, others: list[Life]) -> Iterator[Said]:
         yield Said(f"promise.safe.grants.{'taken' if life.receives() else 'sent'}", sentence)
 
 
-def over(life: Life) -> str:
+def over(book: Book, life: Life) -> str:
     """By what it is over."""
-    names = {"open": "open", "closing": "open", "reset": "reset", "stopped": "stopped"}
-    hosts = {"host": spell_host(life.host), "peer": spell_host(life.peer)}
-    return filled(SAID[names.get(life.fate, "by cls")], hosts, word=life.fate, line=firsts.RIGHT.begun(life) + 1)
+    found = crossed_by(book.log, life)
+    hosts = {"host": spell_host(life.host), "peer": spell_host(life.peer), "word": life.fate}
+    if found is None or found.early or life.fate not in LEAVES[found.left()]:
+        return filled(SAID["unfit"], hosts)
+    begun = firsts.RIGHT.begun(life) + 1
+    if found.last is None or (life.fate == "reset" and found.by != "reset"):
+        return filled(SAID["contact" if life.fate == "reset" else "open"], hosts, line=begun)
+    name, what = life.fate if life.fate in SAID else "by cls", SAID.get(found.last.what.split(" ")[0], "")
+    return filled(SAID[name], hosts, line=begun, place=found.last.place + 1, what=what)
 
 
 def whole(book: Book, life: Life, others: list[Life]) -> str:
@@ -202,6 +211,16 @@ def all_counted(book: Book, life: Life) -> str:
         return SAID["not open"]
     came = len(READING.places(book.log, life))
     return filled(SAID["all" if came == life.messages else "closing"], messages=life.messages, came=came)
+
+
+def all_there(book: Book, life: Life, others: list[Life]) -> str:
+    """Whether it has all that its partner sent, where that has closed it and it is open."""
+    found = crossed_by(book.log, life)
+    is_closed = found is not None and found.by is None and "in" in found.closed
+    if not (life.receives() and life.fate == "open" and is_closed and others):
+        return SAID["partner open"]
+    has_all = all((it.bits, it.messages) == (life.bits, life.messages) for it in others)
+    return filled(SAID["partner closed" if has_all else "short"], bits=len(life.bits), other=line_of(book, others[0]))
 
 
 # ---- a message

@@ -16,7 +16,7 @@ from dorydate.model.bits import Bits
 from dorydate.model.bits import octets as octets_of
 from dorydate.model.book import Life
 from dorydate.model.crossings import Answered, Passed, Turned
-from dorydate.model.fates import Over
+from dorydate.model.fates import Deed, Over
 from dorydate.model.firsts import Data
 from dorydate.model.names import Flow, spell_flow, spell_host
 from dorydate.model.log import BadLog, Book, read_log
@@ -71,6 +71,10 @@ def why_lives(book: Book, numbers: list[int]) -> str:
         if not firsts.RIGHT.named_at(log, place, kind, flow, own, foreign):
             where = f"in the `{kind} {spell_flow(flow)}` at its {word}" if place < len(log) and is_passed(log[place], kind, flow) else f"at its {word}: {crossing_at(log, place)}"
             return f"It isn't made of the messages that crossed: no {'STR' if own % 2 else 'RTS'} of socket {own} with socket {foreign} is {where}."
+    placed, over = firsts.placed(log, life), fates.over(log, life)
+    if placed is not None and over is not None:
+        late = f"It counts the message of line {placed.places[-1] + 1}, but {why_over(life, over)}"
+        return f"{late} It counts none that crossed after that."
     return f"It isn't made of the messages that crossed: {why_other(log, life)}"
 
 
@@ -380,10 +384,25 @@ def why_fates(book: Book, numbers: list[int]) -> str:
     over = fates.over(book.log, life)
     if over is None:
         return "No cause was found."
+    if over.early:
+        begins = "A life begins only where nothing that ends lives comes between its two requests."
+        return f"{why_early(life, over.early)} {begins}"
     sooner = ", or `reset` if its user contacted the peer before that."
-    left = {"reset": "`reset`.", "stopped": f"`stopped`{sooner}", "closed": f"`closed`, `ended`{sooner}"}
-    may_be = left[over.by] if over.by else "`open`, or `reset` if its user has contacted the peer."
+    left = {"reset": "`reset`.", "stopped": f"`stopped`{sooner}", "closed out": f"`closed`{sooner}"}
+    left["closed in"] = "`closed` or `ended`."
+    may_be = left[over.left() or ""] if over.by else "`open`, or `reset` if its user has contacted the peer."
     return f"It says `{life.fate}`, but {why_over(life, over)} It would be {may_be}"
+
+
+def why_early(life: Life, deed: Deed) -> str:
+    """What came between the two requests of a life, with its line."""
+    word, way = deed.what.split()
+    host, peer, line = spell_host(life.host), spell_host(life.peer), f"line {deed.place + 1}"
+    if word == "down":
+        return f"Its host, {host}, stopped in {line}, between its two requests."
+    if word == "closes":
+        return f"A CLS of its sockets {'came in' if way == 'in' else 'went out'} in {line}, between its two requests."
+    return f"{host} dropped its connections with {peer} in {line}, between its two requests."
 
 
 def why_over(life: Life, over: Over) -> str:
@@ -397,7 +416,8 @@ def why_over(life: Life, over: Over) -> str:
     if over.by == "stopped":
         return f"its host, {host}, stopped in {line}."
     if over.by == "closed":
-        return f"both CLS of sockets {life.socket} and {life.foreign} have crossed, the second in {line}."
+        first = "its own first" if over.closed[0] == "out" else "its partner's first"
+        return f"both CLS of sockets {life.socket} and {life.foreign} have crossed, {first}, and the second in {line}."
     word, way = over.last.what.split()
     rst = f"RST {'was taken' if way == 'in' else 'went out'}"
     what = {"fails": "a message of its host failed", "rst": rst, "rrp": "an RRP went out that wasn't owed"}

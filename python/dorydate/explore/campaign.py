@@ -19,6 +19,7 @@ from __future__ import annotations
 import csv
 import io
 import json
+import re
 import sys
 import time
 from collections.abc import Iterator
@@ -34,6 +35,7 @@ from dorydate.network import BadNetwork, Network
 from dorydate.program import Program
 
 RUNS = 100_000  # schedules of a search, where the table says nothing
+MOST_SEEDS = 1_000_000  # of one range
 COLUMNS = ("search", "network", "raw", "carrier", "pattern", "kinds", "seeds", "runs", "matches", "audit")
 
 
@@ -185,7 +187,7 @@ def is_yes(word: str) -> bool:
 
 
 def number_of(word: str, other: int) -> int:
-    if word and not (word.isdecimal() and int(word)):
+    if word and not re.fullmatch("0*[1-9][0-9]{0,17}", word):
         raise BadTable(f"`{word}` is no number of one or more")
     return int(word) if word else other
 
@@ -195,7 +197,10 @@ def seeds_of(words: str) -> list[int]:
     seeds: list[int] = []
     for word in words.split():
         first, _, last = word.partition("-")
-        if not first.isdecimal() or (last and not last.isdecimal()):
-            raise BadTable(f"`{word}` is no seed, and no range of seeds")
-        seeds += range(int(first), int(last or first) + 1)
+        if not re.fullmatch(r"[0-9]{1,18}(-[0-9]{1,18})?", word):
+            raise BadTable(f"`{word[:40]}` is no seed, and no range of seeds")
+        many = range(int(first), int(last or first) + 1)
+        if len(many) > MOST_SEEDS:
+            raise BadTable(f"`{word}` are more than {MOST_SEEDS:,} seeds")
+        seeds += many
     return seeds

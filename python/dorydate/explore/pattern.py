@@ -232,7 +232,7 @@ def read(text: str) -> Pattern:
     calm, sequels = LastCalm(), []
     for piece in filter(str.strip, re.split(r"\band\b|\n", body)):
         if found := re.fullmatch(r"calm (\d+):(.*)", piece.strip()):
-            calm = read_calm(int(found[1]), found[2])
+            calm = read_calm(number(found[1]), found[2])
         else:
             sequels.append(read_sequel(piece))
     if not sequels and not calm.rounds:
@@ -257,7 +257,17 @@ def read_where(text: str) -> Where:
     found = re.fullmatch(r"\s*([A-Z]|\d+)\s*(<=|<|>|!=|=)\s*([A-Z]|\d+)\s*", text)
     if not found:
         raise BadPattern(f"`where{text}` is not a comparison, as `where M < N`")
+    for side in (found[1], found[3]):
+        if side.isdecimal():
+            number(side)
     return Where(found[1], found[2], found[3])
+
+
+def number(digits: str) -> int:
+    """A number of a pattern. No line has one of more than ten digits."""
+    if len(digits) > 10:
+        raise BadPattern(f"`{digits[:10]}..` has {len(digits)} digits, and no number that is printed has more than ten")
+    return int(digits)
 
 
 def read_calm(rounds: int, text: str) -> LastCalm:
@@ -266,7 +276,7 @@ def read_calm(rounds: int, text: str) -> LastCalm:
         if piece == "nothing":
             nothing = True
         elif found := re.fullmatch(r"(?:at least )?(\d+) lines", piece):
-            least = int(found[1])
+            least = number(found[1])
         elif piece.startswith("no "):
             barred.append(Part.read(f"{piece[3:]} .."))
         else:

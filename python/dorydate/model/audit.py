@@ -1,8 +1,8 @@
-"""What a book of connections promises, computed over a log, its lives and what was handed over to be sent.
+"""Whether a book of connections is safe, computed over a log, its lives and what was handed over to be sent.
 
-It was written from the promise as docs/world.md has it, in another language and another form than the definitions. It looks
-at crossings and lives only, and knows nothing of hosts' programs. Each word of the promise that can be read in another way is a
-method of its own: `misreadings` has those readings.
+It was written from the safe book as docs/world.md has it, in another language and another form than the definitions. It
+looks at crossings and lives only, and knows nothing of hosts' programs. Each word of it that can be read in another way is
+a method of its own: `misreadings` has those readings.
 """
 
 from __future__ import annotations
@@ -32,8 +32,8 @@ class Sent:
     is_taken: bool = False
 
 
-class Promise:
-    """The promise of the book, part by part."""
+class SafeBook:
+    """The safe book, part by part."""
 
     # ---- messages
 
@@ -182,7 +182,7 @@ class Promise:
     # ---- the book
 
     def audit(self, log: Log, lives: Lives) -> str | None:
-        """The first part of the promise that a book breaks, "malformed" where its stamps name nothing, None where it is kept."""
+        """The first part that a book breaks, "malformed" where its stamps name nothing, None where it is safe."""
         if not self.is_well_formed(log, lives):
             return "malformed"
         if not self.messages_are_kept(log):
@@ -199,7 +199,7 @@ def is_passed(crossing: Crossing, kind: str, flow: Flow) -> bool:
     return isinstance(crossing, Passed) and crossing.kind == kind and crossing.flow == flow
 
 
-RIGHT = Promise()
+RIGHT = SafeBook()
 audit, match, is_granted, is_well_formed = RIGHT.audit, RIGHT.match, RIGHT.is_granted, RIGHT.is_well_formed
 messages_are_kept, partners_are_kept = RIGHT.messages_are_kept, RIGHT.partners_are_kept
 last_out, own_request, partner_request = RIGHT.last_out, RIGHT.own_request, RIGHT.partner_request

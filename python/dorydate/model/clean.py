@@ -1,7 +1,7 @@
 """What a host may take after a reset, computed over a log and the contacts that users asked for.
 
-It was written from the promise as docs/world.md has it, in another language and another form than the definitions: it knows
-no phases, only what was asked for, what crossed and what was answered.
+It was written from the law of clean resets as docs/world.md has it, in another language and another form than the
+definitions: it knows no phases, only what was asked for, what crossed and what was answered.
 """
 
 from __future__ import annotations

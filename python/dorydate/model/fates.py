@@ -16,12 +16,14 @@ from dorydate.model.firsts import RIGHT
 from dorydate.model.names import Flow, HostName
 
 WAYS = ("out", "in")  # a life's own commands go out, and those of its partner come in
-# by what a life is over, None where it continues: the fates that this leaves. A contact doesn't cross
+# by what a life is over, None where it continues, and by both CLS with whose was the first: the fates that this leaves.
+# A contact doesn't cross; but it can't have come before the own CLS, if that was the second: an RST would have gone out
 LEAVES: dict[str | None, set[str]] = {
     None: {"open", "closing", "reset"},
     "reset": {"reset"},
     "stopped": {"stopped", "reset"},
-    "closed": {"closed", "ended", "reset"},
+    "closed out": {"closed", "reset"},
+    "closed in": {"closed", "ended"},
 }
 
 
@@ -33,11 +35,17 @@ class Deed(NamedTuple):
 
 
 class Over(NamedTuple):
-    """By what a life is over, None where it continues; what crossed then, and where; and whose CLS had crossed."""
+    """By what a life is over, None where it continues; what crossed then, and where; whose CLS had crossed, the first
+    of them first; and what ended it between its two requests, None where nothing did."""
 
     by: str | None
     last: Deed | None
-    closed: frozenset[str]
+    closed: tuple[str, ...]
+    early: Deed | None
+
+    def left(self) -> str | None:
+        """By what it is over, and whose CLS was the first of two."""
+        return f"closed {self.closed[0]}" if self.by == "closed" else self.by
 
 
 class Fates:
@@ -48,30 +56,35 @@ class Fates:
     def over(self, log: Sequence[Crossing], life: Life) -> Over | None:
         """By what a life is over by what crossed; None where it hasn't begun."""
         asked: set[str] = set()
-        closed: frozenset[str] = frozenset()
-        owes = False
+        closed: tuple[str, ...] = ()
+        early, owes = None, False
         for deed in self.deeds(log, life):
             word, way = deed.what.split()
             cut = self.cut(word, way, owes)
             owes = self.owes(word, way, owes)
             if len(asked) < len(WAYS):
+                early = early or (deed if (cut or word == "closes") and self.is_early(asked) else None)
                 asked |= {way} if word == "asks" else set()
             elif cut:
-                return Over(cut, deed, closed)
-            elif word == "closes":
-                closed |= {way}
+                return Over(cut, deed, closed, early)
+            elif word == "closes" and way not in closed:
+                closed = (*closed, way)
                 if self.are_closed(closed):
-                    return Over("closed", deed, closed)
-        return Over(None, None, closed) if len(asked) == len(WAYS) else None
+                    return Over("closed", deed, closed, early)
+        return Over(None, None, closed, early) if len(asked) == len(WAYS) else None
 
     def suits(self, log: Sequence[Crossing], life: Life) -> bool:
         """Whether what crossed leaves a life its fate. Of one that hasn't begun nothing is said."""
         over = self.over(log, life)
-        return over is None or life.fate in self.leaves[over.by]
+        return over is None or (over.early is None and life.fate in self.leaves[over.left()])
 
-    def are_closed(self, closed: frozenset[str]) -> bool:
+    def is_early(self, asked: set[str]) -> bool:
+        """Whether what would end a life comes too early, where these of its requests have crossed."""
+        return len(asked) == 1
+
+    def are_closed(self, closed: Sequence[str]) -> bool:
         """Whether the CLS that crossed are enough."""
-        return closed == frozenset(WAYS)
+        return len(closed) == len(WAYS)
 
     def cut(self, word: str, way: str, owes: bool) -> str | None:
         """How a life that continues ends by this, if it does: its pair is reset, or its host stops."""

@@ -11,7 +11,7 @@ from dorydate.model.bits import Bits, octets
 from dorydate.model.book import Fate, Life
 from dorydate.model.commands import CLS, HEADER, LENGTHS, RTS, STR
 from dorydate.model.crossings import Answered, Crossing, Turned
-from dorydate.model.fates import LEAVES, Fates
+from dorydate.model.fates import LEAVES, Fates, Over
 from dorydate.model.firsts import Data, Firsts, Placed, on_link
 from dorydate.model.log import BadLog, Book, LogReader
 from dorydate.model.mailboxes import Mailboxes
@@ -539,7 +539,7 @@ class ResetsCross(Judge):
 
 
 class OneEnd(Fates):
-    leaves = {**LEAVES, "closed": {"closed", "reset"}}
+    leaves = {**LEAVES, "closed in": {"closed"}}
 
 
 class AlwaysClosed(Judge):
@@ -659,7 +659,7 @@ class FailsWhileOwed(Judge):
 
 
 class OneCls(Fates):
-    def are_closed(self, closed: frozenset[str]) -> bool:
+    def are_closed(self, closed: Sequence[str]) -> bool:
         return bool(closed)
 
 
@@ -680,6 +680,67 @@ class AnyClsCounts(Judge):
     fates = AnyCls
 
 
+class EndedFirst(Fates):
+    leaves = {**LEAVES, "closed out": {"closed", "ended", "reset"}}
+
+
+class EndedThoughClosedFirst(Judge):
+    """A life whose own CLS was the first may be ended."""
+
+    fates = EndedFirst
+
+
+class ResetLast(Fates):
+    leaves = {**LEAVES, "closed in": {"closed", "ended", "reset"}}
+
+
+class ResetBeforeItsCls(Judge):
+    """A contact may come before the own CLS, where that is the second."""
+
+    fates = ResetLast
+
+
+class SecondFirst(Fates):
+    def over(self, log: Sequence[Crossing], life: Life) -> Over | None:
+        over = super().over(log, life)
+        return over and over._replace(closed=over.closed[::-1])
+
+
+class LastClsFirst(Judge):
+    """Of two CLS the later counts as the first."""
+
+    fates = SecondFirst
+
+
+class AnyBegin(Fates):
+    def is_early(self, asked: set[str]) -> bool:
+        return False
+
+
+class BeginsAnyhow(Judge):
+    """What ends lives may come between a life's two requests."""
+
+    fates = AnyBegin
+
+
+class EarlyBegin(Fates):
+    def is_early(self, asked: set[str]) -> bool:
+        return len(asked) < 2
+
+
+class NothingBefore(Judge):
+    """What ends lives may not come before a life's requests."""
+
+    fates = EarlyBegin
+
+
+class CountsOn(Judge):
+    """A life may count messages that crossed after it was over."""
+
+    def is_in_time(self, over: Over, placed: Placed) -> bool:
+        return True
+
+
 READERS: list[type[LogReader]] = [
     GoesOn, NoLineFeed, NoEnd, EndAtLastLine, AnyOrder, AnyText, AnySocket, AnyStamp, ShortStamp, AnyAmount, ShortAmount, AnyKind, TwoFates, AnyFate,
 ]  # fmt: skip
@@ -690,7 +751,8 @@ JUDGES: list[type[Judge]] = [
     NoLives, CountsAreTrusted, LinkOfTheLastRequest, LastRequestInAMessage, AnyRequestInAMessage, NoSize, AllOnTheLink, LastMessages, RequestsAnywhere,
     NoFates, OpenIsBelieved, ResetsCross, AlwaysClosed, StopsEndNothing, PeersStopEnds, RstTakenResetsNothing,
     RstSentResetsNothing, RrpTakenResets, OwedRrpResets, RrpResetsNothing, OwedAfterStop, FailuresResetNothing,
-    FailsWhileOwed, OneClsEnds, AnyClsCounts,
+    FailsWhileOwed, OneClsEnds, AnyClsCounts, EndedThoughClosedFirst, ResetBeforeItsCls, LastClsFirst, BeginsAnyhow,
+    NothingBefore, CountsOn,
 ]  # fmt: skip
 
 

@@ -1,6 +1,7 @@
 """What `arpasim --audit` says of a log, with the lines that show it: an independent judge.
 
-It was written from docs/audit.md, in another language and another form than the definitions, over the promise as `audit` reads it.
+It was written from docs/audit.md, in another language and another form than the definitions, over the safe book as
+`audit` reads it.
 """
 
 from __future__ import annotations
@@ -12,8 +13,8 @@ from typing import TypeVar
 from dorydate.model.audit import PARTS, Lives, Log, is_granted, is_well_formed, match, messages_are_kept, partners_are_kept
 from dorydate.model.book import Life
 from dorydate.model.crossings import Crossing
-from dorydate.model.fates import Fates
-from dorydate.model.firsts import Firsts
+from dorydate.model.fates import Fates, Over
+from dorydate.model.firsts import Firsts, Placed
 from dorydate.model.log import BadLog, Book, LogReader
 from dorydate.model.mailboxes import Mailboxes, first_break, hosts_of
 from dorydate.model.runs import End
@@ -55,11 +56,19 @@ class Judge:
         return None if place is None else f"broken run line {place + 1}"
 
     def of_lives(self, book: Book) -> str | None:
-        """The first life that isn't made of the messages that crossed, None where all are."""
-        firsts = self.firsts()
-        found = (place for place, life in enumerate(book.lives, 1) if firsts.placed(book.log, life) is None)
+        """The first life that isn't made of messages that crossed before it was over, None where all are."""
+        found = (place for place, life in enumerate(book.lives, 1) if not self.is_made(book.log, life))
         place = next(found, None)
         return None if place is None else f"broken lives line {self.line(book.log, place)}"
+
+    def is_made(self, log: Log, life: Life) -> bool:
+        """Whether a life is made of the messages that crossed, and counts none that crossed after it was over."""
+        placed, over = self.firsts().placed(log, life), self.fates().over(log, life)
+        return placed is not None and (over is None or self.is_in_time(over, placed))
+
+    def is_in_time(self, over: Over, placed: Placed) -> bool:
+        """Whether a life counts no message that crossed after it was over."""
+        return over.last is None or max(placed.places, default=-1) < over.last.place
 
     def of_fates(self, book: Book) -> str | None:
         """The first life whose fate isn't one that what crossed leaves it, None where each has such a fate."""

@@ -187,12 +187,48 @@ def log_of_lives(count: int) -> bytes:
     return "\n".join([*crossings, *lives, *handed, "end", ""]).encode()
 
 
+ALIEN = "112 0008000900030000000200000003"  # CLS of sockets that have no connection
+WITHOUT_DATA = {"1 16 1 16 0 0 open 4849": "0 0 1 16 0 0 open -", "1 16 0 0 0 0 open 4849": "0 0 0 0 0 0 open -"}
+
+
+def log_of_commands(count: int, closed: bool) -> bytes:
+    """A log of this many connections that all continue while as many CLS of other sockets cross.
+
+    If both CLS of the last connection follow, its lives are the first that have to say so.
+    """
+    *lines, _, _ = log_of_lives(count).decode().split("\n")
+    for start, end in WITHOUT_DATA.items():
+        lines = [line.replace(start, end) for line in lines]
+    pairs = [(HOSTS[at % 252], HOSTS[(at + 1 + at // 252 % 251) % 252]) for at in range(count)]
+    commands = [(one, other, ALIEN) for one, other in pairs]
+    if closed:
+        (one, other), even, odd = pairs[-1], f"{2 * count + 14:08X}", f"{2 * count + 15:08X}"
+        commands += [(one, other, f"112 000800090003{even}{odd}"), (other, one, f"112 000800090003{odd}{even}")]
+    crossings = lines[: 9 * count]
+    for one, other, text in commands:
+        crossings += [f"out {one} {other} 0 {text}", f"in {one} {other} 0 {text}", f"answer rfnm {one} {other} 0"]
+    return "\n".join([*crossings, *lines[9 * count :], "end", ""]).encode()
+
+
+def named_last(count: int) -> End:
+    """What is said of a log of this many connections, of which the last is over by both CLS and said to be open."""
+    return 4, f"broken fates line {9 * count + 3 * count + 6 + 2 * count - 1}\n", ""
+
+
 def check_long() -> list[str]:
-    """What is wrong with long logs, of 35 million octets without a good line or with one flow's messages, and of 70,000 lives: logs have no limit."""
+    """What is wrong with long logs, since logs have no limit.
+
+    They are of 35 million octets without a good line or with one flow's messages, of 70,000 lives, and of as many that
+    continue beside many commands, of which the last two are over in one.
+    """
     kept: End = (0, "kept\n", "")
-    rows: list[tuple[bytes, End]] = [(b"x" * 36_000_000, (2, "", "arpasim: bad log line 1\n")), (PASSED * TIMES + b"end\n", kept), (log_of_lives(CONNECTIONS), kept)]
-    if ends_audit(log_of_lives(300)) != kept:
-        return ["a log of 300 connections, which is kept, is not so by the model"]
+    rows: list[tuple[bytes, End]] = [(b"x" * 36_000_000, (2, "", "arpasim: bad log line 1\n"))]
+    rows += [(PASSED * TIMES + b"end\n", kept), (log_of_lives(CONNECTIONS), kept)]
+    rows += [(log_of_commands(CONNECTIONS, False), kept), (log_of_commands(CONNECTIONS, True), named_last(CONNECTIONS))]
+    short = [(log_of_lives(300), kept), (log_of_commands(300, False), kept)]
+    short.append((log_of_commands(300, True), named_last(300)))
+    if any(ends_audit(octets) != owed for octets, owed in short):
+        return ["of logs of 300 connections the model doesn't say what they are made to be"]
     found = [(len(octets), owed, run(octets, "--audit")) for octets, owed in rows]
     print(f"check audit: logs of {', '.join(f'{count:,}' for count, _, _ in found)} octets")
     return [f"a log of {count} octets: found {ended}, wanted {owed}" for count, owed, ended in found if ended != owed]

@@ -13,6 +13,7 @@ from dorydate.model.crossings import Carrier
 from dorydate.model.endings import EndingWorld
 from dorydate.model.firsts import determined
 from dorydate.model.host import Host
+from dorydate.model.left import late, strange
 from dorydate.model.names import HostName
 from dorydate.model.world import World
 
@@ -65,4 +66,8 @@ def broken(world: World) -> str | None:
         return "what a log says of the bits of its lives"
     if part := arrived.broken(log, lives):
         return part
+    if strange(log, world.book):
+        return "what a life is left"
+    if late(log, world.book):
+        return "what a life counts"
     return world.judged() if isinstance(world, EndingWorld) else None

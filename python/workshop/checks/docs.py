@@ -15,14 +15,16 @@ crates.txt names for each crate only others that its sources name. The version o
 
 The drawings of docs/pictures, the page of crates, the index of rules, the page of what must be believed and that of the package in Python have to be as they are made, the numbers in drawings as the sources have them, and
 no text of a drawing over another one or over a line. Figures in prose have to be those of their tables (workshop.documents.figures), and each crate's lines of
-.antt within its budget, which a commit raises only with a line that says what for (workshop.documents.budget). Words of the house's dialect are counted against limits that can only fall
+.antt within its budget, which a commit raises only with a line that says what for (workshop.documents.budget). No lemma
+states what another lemma or one of std states, beyond those that do so already (workshop.documents.stated). Words of the house's dialect are counted against limits that can only fall
 (workshop.documents). With --write these and the page of planted bugs are made anew, and with --lower the limits are lowered to what is counted.
 With --tags a file `tags` is made, by which editors find where a name is declared. With --rule the rules in which all of the words occur are printed, each with its definition, its functions, its rows and its planted bugs.
 
 Each file in released/ has the hash that its note names.
 
 Then it counts what hides borders and what is dead, each against its limit: imports that reach into another crate's proofs/
-beside its module lemmas, declarations of proofs/ to which nothing leads that is proved, and folders of proofs/ with too many entries.
+beside its module lemmas, declarations of proofs/ to which nothing leads that is proved, folders of proofs/ with too many
+entries, and clauses that are only names for statements of specs/Laws.
 """
 
 from __future__ import annotations
@@ -37,13 +39,16 @@ import unittest
 from collections.abc import Iterator
 
 from workshop.checks import release
-from workshop.documents import anchors, believed, budget, common, crates_page, dead, dialect, figures, named_crates, notebook, paragraphs, planted, reference, rules, tags, tests, versions
+from workshop.documents import anchors, believed, budget, clauses, common, crates_page, dead, dialect, figures
+from workshop.documents import named_crates, notebook, paragraphs, planted, reference, rules, stated, tags, tests
+from workshop.documents import versions
 from workshop.drawings import pictures
 from workshop.parts import ROOT
 
 MOST_REACHING = 0  # imports into another crate's proofs/ beside lemmas
 MOST_DEAD = 50  # declarations of proofs/ that nothing leads to that is proved; `python3 python dead` names them
 MOST_ENTRIES = 40  # of a folder of proofs/
+MOST_NAMED = 237  # clauses that are names for statements of specs/Laws, and no fields of their law's record
 DECLARED = re.compile(
     r"\bimpl(?:<[^>]*>)? +(?:\w+::)*(\w+)"
     r"|\b(?:fn|struct|enum|trait|const|ensures|requires|ghost|abbrev pub|record|data|pub(?= «?\w+»? :)) +«?(\w+)"
@@ -210,7 +215,12 @@ def parents(path: str) -> Iterator[str]:
 
 def over_limits() -> Iterator[str]:
     """What is above the limits, after a line with the counts."""
-    kinds = ("imports into another crate's proofs/ beside lemmas", [*reaching()], MOST_REACHING), ("declarations of proofs that nothing leads to", dead.faults(), MOST_DEAD), ("crowded folders", sorted(crowded()), 0)
+    kinds = (
+        ("imports into another crate's proofs/ beside lemmas", [*reaching()], MOST_REACHING),
+        ("declarations of proofs that nothing leads to", dead.faults(), MOST_DEAD),
+        ("crowded folders", sorted(crowded()), 0),
+        ("clauses that are names for statements", clauses.faults(), MOST_NAMED),
+    )
     print("check docs:", ", ".join(f"{len(found)} {what}" for what, found, _ in kinds))
     for _, found, most in kinds:
         yield from found if len(found) > most else []
@@ -226,7 +236,13 @@ def made() -> list[str]:
     """What isn't as it is made, and what the drawings and the words of the documents have that they shouldn't."""
     print("check docs:", dialect.summary())
     print("check docs:", budget.summary())
-    return [*failed_tests(), *paragraphs.faults(), *anchors.faults(), *pictures.faults(), *crates_page.faults(), *planted.faults(), *rules.faults(), *believed.faults(), *notebook.faults(), *reference.faults(), *figures.faults(), *budget.faults(), *common.faults(), *dialect.faults(), *named_crates.faults(), *versions.faults(), *release.faults()]
+    print("check docs:", stated.summary())
+    return [
+        *failed_tests(), *paragraphs.faults(), *anchors.faults(), *pictures.faults(), *crates_page.faults(),
+        *planted.faults(), *rules.faults(), *believed.faults(), *notebook.faults(), *reference.faults(),
+        *figures.faults(), *budget.faults(), *common.faults(), *stated.faults(), *dialect.faults(),
+        *named_crates.faults(), *versions.faults(), *release.faults(),
+    ]
 
 
 def write() -> int:
@@ -257,6 +273,7 @@ def main() -> int:
     if options.lower:
         dialect.lowered()
         budget.lower()
+        stated.lower()
     if options.write or options.lower:
         return write() if options.write else 0
     wrong = [*missing_files(), *missing_claims(), *unknown_names(), *unknown_clauses(), *made(), *over_limits()]

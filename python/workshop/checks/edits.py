@@ -1,4 +1,6 @@
-"""Each planted bug of crates/*/wrong-bodies is refused by the proofs (minutes for a crate, an hour for all): ./check edits [--gate | --whole] [--note] [--jobs N] [CRATE | CRATE/NAME ..]
+"""Each planted bug of crates/*/wrong-bodies is refused by the proofs: ./check edits [WAY] [--note] [--jobs N] [CRATE | CRATE/NAME ..]
+
+WAY is --gate, --built or --whole. It takes minutes for a crate, and an hour for all.
 
 `rt must-fail` tries each edit of must-fail/ by itself, and the first of a crate costs a whole check. Here edits of different
 functions of a crate are tried together, in a copy of the crate and of what its last check kept. A function is proved over the
@@ -8,10 +10,11 @@ alone. An edit that is in no function, or in one that `rt check --only` doesn't 
 with --whole so is each. An edit that doesn't compile is named, and so is one that is refused only because a proof file names what
 it took away: neither says anything of the contract. Nothing is written beside the copy, which is removed.
 
-With --gate only those with the line `# The gate tries this bug.` are tried, right after an `rt ci` in this clone: over the libraries
-that this `rt ci` built, and with no check of the functions as they are, since it has just proved them. Each has to be in one function.
+With --built they are tried over the libraries that an `rt ci` built in this clone, and with no check of the functions as
+they are, since it has proved them. Each has to be in one function. With --gate only those with the line `# The gate tries
+this bug.` are tried in this way, right after that `rt ci`.
 
-With --note what came of all bugs of a crate is written into docs/measured/planted.md.
+With --note the day on which each was refused is written into docs/measured/planted.json, and shown in planted.md.
 """
 
 from __future__ import annotations
@@ -149,7 +152,7 @@ def try_all(copy: Copy, edits: list[Edit], whole: bool) -> list[Edit]:
 def check_crate(crate: str, names: list[str], whole: bool, words: list[str]) -> tuple[int, int]:
     """Tries the edits of a crate, all of them or those that are named. Gives how many are refused, and how many are not."""
     begun = time.monotonic()
-    edits = [it for it in edits_of(crate) if not names or it.name.removesuffix(".edit") in names]
+    edits = [it for it in edits_of(crate) if not names or it.title in names]
     left, quick, failed = edits, 0, []
     with tempfile.TemporaryDirectory(prefix="edits-") as room:
         copy = CopyOfCrate(crate, room, words)
@@ -161,8 +164,7 @@ def check_crate(crate: str, names: list[str], whole: bool, words: list[str]) -> 
                 print(f"{crate}: over whole checks: {', '.join(it.name for it in left)}", flush=True)
             quick += 0 if is_whole else len(tried)
     print(f"{crate}: {len(edits) - len(failed)} of {len(edits)} refused, {quick} tried over their functions alone, {time.monotonic() - begun:.0f} seconds", flush=True)
-    if "--note" in sys.argv[1:] and not names:
-        planted.note(crate, len(edits) - len(failed), len(edits))
+    noted(crate, edits, failed)
     return len(edits) - len(failed), len(failed)
 
 
@@ -173,20 +175,30 @@ def has_built(crate: str) -> bool:
     return all(os.path.isdir(f"{at}/{it}.rlib") and not os.path.exists(f"{at}/stamp") for it, at in built.items())
 
 
+def noted(crate: str, edits: Sequence[Edit], failed: Sequence[Edit]) -> None:
+    """Writes down, with --note, which of these edits were refused."""
+    if "--note" in sys.argv[1:]:
+        planted.note(crate, [it for it in edits if it not in failed], failed)
+
+
 def check_for_gate(crate: str) -> tuple[int, int]:
     """Tries those edits of a crate that the gate tries. Gives how many are refused, and how many are not."""
     edits = [it for it in edits_of(crate) if it.is_of_gate]
-    if not edits:
-        return 0, 0
+    return check_over_built(crate, edits) if edits else (0, 0)
+
+
+def check_over_built(crate: str, edits: list[Edit]) -> tuple[int, int]:
+    """Tries edits of a crate over what `rt ci` built. Gives how many are refused, and how many are not."""
     if not has_built(crate):
         print(f"{crate}: `rt ci` left no libraries here, so `rt check` proves what the crate stands on", flush=True)
-        return check_crate(crate, [it.name.removesuffix(".edit") for it in edits], False, ["--jobs", "1"])
+        return check_crate(crate, [it.title for it in edits], False, ["--jobs", "1"])
     begun = time.monotonic()
     failed = [it for it in edits if not it.only]
     for edit in failed:
         print(f"{crate}/{edit.name}: NOT TRIED: it is not in one function alone", flush=True)
     with tempfile.TemporaryDirectory(prefix="edits-") as room:
         failed += try_all(CopyOverGate(crate, room), [it for it in edits if it.only], False)
+    noted(crate, edits, failed)
     print(f"{crate}: {len(edits) - len(failed)} of {len(edits)} refused, {time.monotonic() - begun:.0f} seconds", flush=True)
     return len(edits) - len(failed), len(failed)
 
@@ -194,14 +206,14 @@ def check_for_gate(crate: str) -> tuple[int, int]:
 def options(words: list[str]) -> tuple[bool, list[str], list[str]]:
     """What is asked for: whether each edit is tried over whole checks, the words that `rt check` gets, and the crates and edits."""
     whole, jobs = "--whole" in words, []
-    words = [it for it in words if it not in ("--whole", "--note")]
+    words = [it for it in words if it not in ("--whole", "--built", "--note")]
     if "--jobs" in words:
         at = words.index("--jobs")
         jobs, words = words[at : at + 2], words[:at] + words[at + 2 :]
     return whole, jobs, words
 
 
-def told(counts: Sequence[tuple[int, int]]) -> int:
+def status_of(counts: Sequence[tuple[int, int]]) -> int:
     """Prints how many are refused in all, and gives the status."""
     refused, failed = (sum(it) for it in zip(*counts))
     print(f"{refused} refused, {failed} not")
@@ -212,7 +224,8 @@ def main() -> int:
     having = [it for it in sorted(os.listdir(f"{ROOT}/crates")) if os.path.isdir(f"{ROOT}/crates/{it}/wrong-bodies")]
     if "--gate" in sys.argv[1:]:
         with ThreadPoolExecutor(CORES) as threads:
-            return told([*threads.map(check_for_gate, [it for it in sys.argv[1:] if it != "--gate"] or having)])
+            crates = [it for it in sys.argv[1:] if not it.startswith("--")] or having
+            return status_of([*threads.map(check_for_gate, crates)])
     whole, jobs, words = options(sys.argv[1:])
     if jobs and not (jobs[1:] and jobs[1].isdecimal()):
         print("check edits: a number of jobs is missing after --jobs")
@@ -223,8 +236,13 @@ def main() -> int:
         if crate not in having:
             print(f"check edits: no planted bugs stand in crates/{crate}/wrong-bodies; there are some in {', '.join(having)}")
             return 1
-        if name and name not in [it.name.removesuffix(".edit") for it in edits_of(crate)]:
+        if name and name not in [it.title for it in edits_of(crate)]:
             print(f"check edits: no planted bug of {crate} is called {name}")
             return 1
         asked.setdefault(crate, []).extend([name] if name else [])
-    return told([check_crate(crate, names, whole, jobs) for crate, names in asked.items()])
+    if "--built" not in sys.argv[1:]:
+        counts = [check_crate(crate, names, whole, jobs) for crate, names in asked.items()]
+    else:
+        chosen = {crate: [it for it in edits_of(crate) if not names or it.title in names] for crate, names in asked.items()}
+        counts = [check_over_built(crate, edits) for crate, edits in chosen.items()]
+    return status_of(counts)

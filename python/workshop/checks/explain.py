@@ -60,7 +60,7 @@ BOOKS: list[tuple[str, list[str], int, list[str]]] = [
     ("logs/two-octets", ["7"], 0, ["arrived.answered.arrived: It is message 1 of the life of line 10"]),
     ("logs/two-octets", ["9"], 1, ["line 9 of the log is no life and no message"]),
     ("logs/two-octets", ["x"], 1, ["usage: ./explain"]),
-    ("examples/a-connection-and-its-book", ["25"], 0, ["Its own request went out in line 9", "It is ended: both CLS"]),
+    ("examples/a-connection-and-its-book", ["25"], 0, ["Its own request went out in line 9", "It is ended: it began in line"]),
 ]
 
 

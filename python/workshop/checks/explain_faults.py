@@ -168,7 +168,8 @@ BROKEN_LOGS = [
     (9, b"rfnm 0/2 0/1 5", b"dead 0/2 0/1 6", "broken run line 9\n" + FATES_11, "No message of the flow 0/2 0/1 6 is outstanding."),
     (8, b"in 0/2 0/1 5 56 00080002004849", b"out 0/2 0/1 5 0 -", "broken run line 8\nbroken lives line 10\nbroken messages line 9", "The last message of the flow 0/2 0/1 5, in line 7, has no answer yet, and one may be outstanding."),
     (9, b"answer rfnm 0/2 0/1 5", b"up 0/1", "broken run line 9", "Host 0/1 is up already."),
-    (7, b"out", b"down 0/2\nout", "broken run line 8\nbroken fates line 12", "Host 0/2 is down."),
+    (7, b"out", b"down 0/2\nout", "broken run line 8\nbroken lives line 12\nbroken fates line 12", "Host 0/2 is down."),
+    (7, b"out", b"down 0/2\nout", "broken run line 8\nbroken lives line 12", "It counts none that crossed after that."),
     # fates
     *((line, old, new, FATES_11, f"It says `open`, but {why} It would be `reset`.") for line, old, new, why in DROPPED),
     (10, b"open", b"closed", FATES_10, "no CLS of socket 16 with socket 33 went out and no CLS of socket 33 with"),

@@ -89,7 +89,7 @@ def harmless(runs: int) -> int:
             if part := broken(script.world):
                 print(f"check headline: without `{rule}` run {seed} breaks {part}", *script.lines, sep="\n")
                 return 1
-        print(f"check headline: {runs} runs without `{rule}`: each book keeps its promise")
+        print(f"check headline: {runs} runs without `{rule}`: each book keeps the promise")
     return 0
 
 

@@ -44,7 +44,7 @@ def spell_given(given: Given | None) -> str:
     return f"{given.kind} {spell_flow(given.flow)}{f' {spell_bits(given.text)}' if isinstance(given, Message) else ''}"
 
 
-def told_of(imp: Imp, flow: Flow) -> str:
+def said_of(imp: Imp, flow: Flow) -> str:
     """What an IMP's queries say of a flow."""
     source, destination = flow.source.imp, flow.destination.imp
     held = imp.everything()
@@ -209,7 +209,7 @@ class Chance:
                 owed.append(f"refused {refused}")
             flow = self.flow(self.random.choice((0, 1, 0.5)))
             self.lines += [line, f"query {spell_flow(flow)} {self.imp.last.get(flow) or 0}"]
-            owed.append(told_of(self.imp, flow))
+            owed.append(said_of(self.imp, flow))
         return self.lines, owed
 
 

@@ -23,7 +23,8 @@ CELLS = f"{ROOT}/python/workshop/checks/cells.py"
 COMMANDS = (["explain"], ["explain", "--chart"], ["explain", "--page"], ["export", "--shiviz"], ["version"], ["page"])
 SEARCH = ("explore", "resets-in-step", "--quiet", "--runs", "1000", "--matches", "1")
 WRONG_LINE = 'net.calm("x")'
-PARTS = ("python", "examples", "web", "LICENSE-APACHE", "LICENSE-MIT")  # what a wheel and a page are built of
+# what a wheel and a page are built of
+PARTS = ("python", "examples", "web", "docs/chronology.md", "LICENSE-APACHE", "LICENSE-MIT")
 BUILD = """
 import json, sys
 from workshop.builds import packages

@@ -5,7 +5,7 @@ the code and reported as running out of memory would pass each proof. Here is on
 or past every limit that one might think of. How the program ends on it has to be what an independent model in Python says of it: of a script
 python/dorydate/model/script.py, of a log python/dorydate/model/log.py, of a trace python/dorydate/model/trace.py.
 
-The models take ten minutes, so what they say is kept in limits.json: the status, what standard error has, and the number and the digest of
+The models take twenty minutes, so what they say is kept in limits.json: the status, what standard error has, and the number and the digest of
 the octets of the output. With `--models` they are asked anew, and have to say what is kept; `--write` keeps it.
 """
 
@@ -72,7 +72,10 @@ LIMITS: dict[str, Limit] = {
     "bits of a life": Limit(["--book"], PAIR, [*CONNECTED, "grant 0/1 16 200 2000000", f"send 0/2 33 1048584 {'5A' * 131073}", "calm 300"]),
     "bits that wait": Limit(["--book"], PAIR, [*CONNECTED, f"send 0/2 33 2000000 {'5A' * 250000}", "calm 4"]),
     "crossings, notices and changes of lives": Limit([], PAIR, [*SHORT, *["send 0/2 1 8 5A", "calm 1"] * 34_000]),
-    "notices that services hear": Limit([], PAIR, [*JOINED, "send 0/1 101 8 5A", "calm 70000"]),
+    # in each round one life takes, another sends, and both are granted as much again: a million changes
+    "notices that services hear, and changes of lives": Limit([], PAIR, [*JOINED, "send 0/1 101 8 5A", "calm 260000"]),
+    # an event for each seven octets of an input
+    "events of a script": Limit([], PAIR, ["calm 0"] * 149_000),
     "peers": Limit([], MANY, [*[f"contact 0/1 {host}/{imp}" for imp in range(2, 64) for host in range(4)], "calm 6"]),
     "requests in a row": Limit([], MANY, [*[f"contact {host}/{imp} 0/1" for imp in range(2, 64) for host in range(4)], "calm 12"]),
     "ends": Limit(["--book"], PAIR, ["contact 0/1 0/2", "calm 3", *[f"openrecv 0/1 0/2 {2 * at} {2 * at + 1}" for at in range(1, 250)], "calm 20", *[f"opensend 0/1 0/2 {2 * at + 1} {2 * at} 8" for at in range(1, 5000)], "calm 1000"]),

@@ -63,14 +63,16 @@ def control(source: str, destination: str, commands: str) -> str:
 
 
 def fated(
-    crossed: str, receiver: str, sender: str, named: int, before: str = "", offers: str = OFFERS
+    crossed: str, receiver: str, sender: str, named: int, before: str = "", offers: str = OFFERS, between: str = ""
 ) -> tuple[str, str]:
-    """The short log, what crosses before and after it, its lives with these fates, and which of them is named."""
+    """The short log, what crosses before and after it, and between its requests, its lives with these fates, and which
+    of them is named."""
     first = before.count(LINE_FEED)
-    crossings = f"{before}{ASKS}{offers}{DATA}{crossed}"
+    second = first + 3 + between.count(LINE_FEED)
+    crossings = f"{before}{ASKS}{between}{offers}{DATA}{crossed}"
     lives = [
-        f"life 0/1 16 0/2 33 {first} {first + 4} receive 1 16 1 100 0 0 {receiver} 4849",
-        f"life 0/2 33 0/1 16 {first + 3} {first + 1} send 1 16 0 0 0 0 {sender} 4849",
+        f"life 0/1 16 0/2 33 {first} {second + 1} receive 1 16 1 100 0 0 {receiver} 4849",
+        f"life 0/2 33 0/1 16 {second} {first + 1} send 1 16 0 0 0 0 {sender} 4849",
     ]
     wanted = f"broken fates line {crossings.count(LINE_FEED) + named}" if named else "kept"
     return f"{crossings}{lives[0]}\n{lives[1]}\n{ALL_TAKEN}end\n", wanted
@@ -82,7 +84,7 @@ BOTH_CLS = control("0/2", "0/1", CLS_BACK) + control("0/1", "0/2", CLS)
 FAILS, OTHER_FAILS = "out 0/2 0/1 5 0 -\nanswer dead 0/2 0/1 5\n", "out 0/1 0/3 5 0 -\nanswer dead 0/1 0/3 5\n"
 OWN_FAILS = "out 0/1 0/2 7 0 -\nanswer incomplete 0/1 0/2 7\n"
 # what crosses after the data, the fates of receiver and sender, which of them is named (0 for none), what crosses first,
-# and in the place of the second request
+# in the place of the second request, and before that
 FATES = [
     fated("", "open", "open", 0),
     fated("", "open", "closed", 2),
@@ -124,7 +126,10 @@ FATES = [
     fated(BOTH_CLS, "open", "closed", 1),
     fated(BOTH_CLS, "ended", "open", 2),
     fated(BOTH_CLS, "ended", "stopped", 2),
-    fated(BOTH_CLS, "reset", "reset", 0),
+    # whose own CLS was the first its own user had closed; and after a contact an RST goes out before any CLS
+    fated(BOTH_CLS, "ended", "ended", 2),
+    fated(BOTH_CLS, "ended", "reset", 0),
+    fated(BOTH_CLS, "reset", "closed", 1),
     fated(control("0/2", "0/1", CLS_BACK), "open", "open", 0),
     fated(control("0/2", "0/1", CLS_BACK), "ended", "open", 1),
     fated(control("0/2", "0/1", CLS_BACK), "open", "closed", 2),
@@ -136,8 +141,41 @@ FATES = [
     # commands of one text have their order
     fated(control("0/1", "0/2", CLS), "ended", "closed", 0, "", control("0/2", "0/1", STR + CLS_BACK)),
     fated(control("0/1", "0/2", CLS), "open", "closed", 1, "", control("0/2", "0/1", STR + CLS_BACK)),
-    fated(control("0/1", "0/2", CLS), "open", "open", 0, "", control("0/2", "0/1", CLS_BACK + STR)),
-    fated(control("0/1", "0/2", CLS), "ended", "open", 1, "", control("0/2", "0/1", CLS_BACK + STR)),
+    # nothing that ends lives comes between a life's two requests, and before the first of them it may
+    fated("", "open", "open", 1, "", control("0/2", "0/1", CLS_BACK + STR)),
+    fated("", "ended", "open", 1, "", control("0/2", "0/1", CLS_BACK + STR)),
+    fated("", "reset", "reset", 1, between=RST),
+    fated("", "open", "open", 1, between=control("0/1", "0/2", CLS)),
+    fated("", "open", "open", 1, between="down 0/1\nup 0/1\n"),
+    fated("", "open", "open", 2, between="down 0/2\nup 0/2\n"),
+    fated("", "open", "open", 0, f"{RST}{BOTH_CLS}down 0/1\nup 0/1\n"),
+    fated("", "open", "open", 0, between="down 0/3\nup 0/3\n"),
+]
+
+
+def late(crossed: str, receiver: str, sender: str, named: int) -> tuple[str, str]:
+    """The short log, where this crosses before its data, its lives with these fates, and which is the first that counts
+    them too late."""
+    crossings = f"{ASKS}{OFFERS}{crossed}{DATA}"
+    lives = f"{RECEIVER.replace('open', receiver)}\n{SENDER.replace('open', sender)}\n"
+    wanted = f"broken lives line {crossings.count(LINE_FEED) + named}" if named else "kept"
+    return f"{crossings}{lives}{ALL_TAKEN}end\n", wanted
+
+
+RRP_BACK = control("0/2", "0/1", "0D")
+LATE = [
+    late("", "open", "open", 0),
+    # a host stops, a pair is reset, a message fails, both CLS cross: then the life is over, and no data are of it
+    late("down 0/2\nup 0/2\n", "open", "stopped", 2),
+    late("down 0/1\nup 0/1\n", "stopped", "open", 1),
+    late(RST + RRP_BACK, "reset", "reset", 1),
+    late(OWN_FAILS, "reset", "open", 1),
+    late(FAILS, "open", "reset", 2),
+    late(BOTH_CLS, "ended", "closed", 1),
+    # after one CLS it may count more, and after what happens to others
+    late(control("0/2", "0/1", CLS_BACK), "open", "open", 0),
+    late(control("0/1", "0/2", CLS), "open", "open", 0),
+    late("down 0/3\nup 0/3\n", "open", "open", 0),
 ]
 
 
@@ -339,7 +377,7 @@ def rows() -> Iterator[tuple[bytes, str]]:
         if text not in SHORT:
             raise ValueError(f"the short log has no {text}")
         yield SHORT.replace(text, other, 1).encode(), wanted
-    yield from ((text.encode(), wanted) for text, wanted in FATES)
+    yield from ((text.encode(), wanted) for text, wanted in [*FATES, *LATE])
     for wanted, lines in LINES.items():
         yield from ((f"{line}\nend\n".encode(), wanted) for line in lines)
     yield from ((f"{line}\nend\n".encode("latin-1"), "bad log line 1") for line in BAD_LINES)

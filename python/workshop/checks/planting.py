@@ -3,15 +3,16 @@
 from __future__ import annotations
 
 import glob
+import hashlib
 import os
 import re
 from collections.abc import Sequence
 from dataclasses import dataclass
 from functools import cached_property
 
-from workshop.documents import planted
 from workshop.parts import ROOT, text_of
 
+GATE = "# The gate tries this bug."
 Texts = dict[str, str]  # files of a crate, each with its text
 # the head of an `impl`: its trait if it has one, and its type
 IMPL = re.compile(r"impl\b(?:<.*?>)?(?: (\S.*) for)?.*?(\w+)(?:<[^{]*>)? (?:where.*)?\{")
@@ -51,11 +52,22 @@ class Edit:
         text = text_of(path)
         files = sorted({it.strip() for it in re.findall(r"^file: (.*)$", text, re.MULTILINE)})
         pairs: list[tuple[str, str]] = re.findall(r"^old: (.*)\nnew: ?(.*)$", text, re.MULTILINE)
-        return Edit(crate, path, tuple(files), tuple(pairs), planted.GATE in text)
+        return Edit(crate, path, tuple(files), tuple(pairs), GATE in text)
 
     @property
     def name(self) -> str:
         return os.path.basename(self.path)
+
+    @property
+    def title(self) -> str:
+        """Its name without the ending of its file."""
+        return self.name.removesuffix(".edit")
+
+    @property
+    def digest(self) -> str:
+        """Twelve digits by which its words differ from those of others; the gate's mark and comments don't count."""
+        lines = [*self.files, *(text for pair in self.pairs for text in pair)]
+        return hashlib.sha256("\n".join(lines).encode()).hexdigest()[:12]
 
     @property
     def function(self) -> str | None:
@@ -136,5 +148,4 @@ def first_batch(edits: Sequence[Edit]) -> tuple[list[Edit], Texts]:
 
 def edits_of(crate: str) -> list[Edit]:
     """The planted bugs of a crate's wrong-bodies, by name."""
-    folder = f"{ROOT}/crates/{crate}/wrong-bodies"
-    return [Edit.read(crate, f"{folder}/{it}") for it in sorted(os.listdir(folder)) if it.endswith(".edit")]
+    return [Edit.read(crate, it) for it in sorted(glob.glob(f"{ROOT}/crates/{crate}/wrong-bodies/*.edit"))]

@@ -1,4 +1,4 @@
-"""A stop at every event of a dialogue, after which it continues to its end and the book keeps its promise (minutes).
+"""A stop at every event of a dialogue, after which it continues to its end and the book is safe (minutes).
 
 The dialogue from a terminal to a server, EXAMPLE, is expanded to single events. After each of them, in a run of its own, each IMP,
 each host and each end of the line stops and comes up again, and in one more run all of them in turn. Then the dialogue continues
@@ -6,8 +6,8 @@ with a new contact, on the same sockets. `./check stops 10` stops after every te
 
 workshop.checks.stopping makes the scripts by the independent model, and the program runs them. It has to print what the model prints,
 refusals included. In the book the hosts have stopped that should; after the new contact both services are done and the typed line comes
-back; and the audit in Python (python/dorydate/model/audit.py) finds the promise kept. What was sent and taken is read off the printed messages,
-and what was handed over and how lives ended, which isn't printed there, is the model's. So spelled as a log, this book has to be what the program prints
+back; and the audit in Python (python/dorydate/model/audit.py) finds the book safe. What was sent and taken is read off the
+printed messages, and what was handed over and how lives ended, which isn't printed there, is the model's. So spelled as a log, this book has to be what the program prints
 with `--log`, and its own `--audit` has to say `kept`. Of books that are spoiled in one place both audits have to name the part.
 
 It takes the proved program, or where ./build has not made that the one that was built without proofs, which is slow.
@@ -161,7 +161,7 @@ def wanted(stop: Stop) -> Counter[str]:
 
 
 def spoiled(log: Log, lives: Lives) -> Iterator[tuple[str, Log, Lives]]:
-    """Books that break a part of the promise, made of one that keeps it."""
+    """Books that break a part of a safe book, made of one that is safe."""
     at = next(number for number, it in enumerate(lives) if it.receives() and it.bits)
 
     def changed(**parts: Any) -> Lives:
@@ -274,5 +274,5 @@ def main() -> int:
             wrong += faults
     tell(seen, len(events.lines), len(counts))
     print(*wrong[:20], sep="\n", end="\n" if wrong else "")
-    print(f"check stops: {len(wrong)} wrong" if wrong else "check stops: each dialogue comes to its end, each book keeps its promise, and each spoiled one breaks its part")
+    print(f"check stops: {len(wrong)} wrong" if wrong else "check stops: each dialogue comes to its end, each book is safe, and each spoiled one breaks its part")
     return 1 if wrong else 0

@@ -4,12 +4,14 @@ With Node (Debian's package `nodejs`), over the native program (over its module,
 - each example's moments print what is stored, each stop is there once, and a change at a random position is exact;
 - what each event leaves inside, in the programs of hosts too, is what the independent model in Python has then, part for part;
 - packets that are thrown away are called repeats or lost, as rows written by hand say;
+- of a life or a message of a book it says what ./explain --book says, in broken books too;
 - nothing that waits is left out at any stop, each message has its lane, each sentence is whole, and faults, texts and addresses are as by hand;
 - random lines have a fault here exactly where the reader in Python finds one;
 - planted faults in all of these are found.
 
-TypeScript (`node-typescript`) checks the types where it is there. With --browser the page of `./build --wasm` is opened in Chromium and
-Firefox, as many of them as there are: each lesson is stepped forth and back, parts are tapped, sizes measured, planted faults found.
+TypeScript (`node-typescript`) checks the types where it is there. With --browser the page of `./build --wasm` is opened in Chromium,
+Firefox and WebKit (Debian's packages `chromium`, `firefox-esr`, and `webkit2gtk-driver` with `xvfb`), as many of them as there are: each
+lesson is stepped forth and back, parts are tapped, sizes measured, planted faults found.
 """
 
 from __future__ import annotations
@@ -25,6 +27,8 @@ import tempfile
 from collections.abc import Callable
 from typing import Any
 
+from dorydate.model.chance.books import of_world, small
+from dorydate.model.log import BadLog, Book, read_log, spelled_log
 from dorydate.model.runs import opened
 from dorydate.model.script import read_event
 from dorydate.explain.inside import Inside
@@ -32,6 +36,7 @@ from dorydate.explain.topology import of_model
 from dorydate.explore.named import SEARCHES
 from dorydate.explore.pattern import read
 from dorydate.explain import faults, topologies, waits
+from dorydate.explain.book import NoSuchLine, said_of
 from dorydate.given import Input
 from dorydate.network import Network
 from dorydate.model.subnet import Subnet
@@ -42,6 +47,7 @@ from dorydate.model.world import World
 from dorydate.sentences import DEEDS, silence
 from workshop.parts import ROOT, any_program, read_octets, text_of
 
+BOOKS = 40  # random ones of each sort
 MOST_ROUNDS = 400  # of calm in an example that the model follows
 # scripts in which things wait that wait in no example: for room at the next IMP, for a host that is down, for a service
 IMPS = "".join(f"[[imp]]\nid = {it}\nhosts = 1\n" for it in (1, 2, 3))
@@ -140,6 +146,29 @@ def told_of_deeds() -> dict[str, dict[str, str]]:
                 if words[0] in DEEDS and not any(it.startswith("refused ") for it in outcome.printed):
                     found.setdefault(name, {})[str(number)] = f"{silence(words)} {' '.join(outcome.sentences)}".rstrip()
     return found
+
+
+def books_said() -> list[dict[str, object]]:
+    """What ./explain --book says of stored logs and of random books, whole and broken."""
+    stored = [read_octets(f"{ROOT}/logs/{it}") for it in sorted(os.listdir(f"{ROOT}/logs")) if "." not in it]
+    found: list[dict[str, object]] = []
+    random_books = [it for seed in range(BOOKS) for it in (of_world(seed)[1], small(seed))]
+    for octets in [*stored, *map(spelled_log, random_books)]:
+        try:
+            its = read_log(octets)
+        except BadLog:
+            continue
+        lines = {line: said for line in range(1, len(its.log) + len(its.lives) + 1) if (said := said_at(its, line))}
+        found.append({"log": octets.decode(), "entries": said_of(its, None), "said": lines})
+    return found
+
+
+def said_at(its: Book, line: int) -> list[str] | None:
+    """What is said of a line of a book, None where it is no life and no message."""
+    try:
+        return said_of(its, line)
+    except NoSuchLine:
+        return None
 
 
 def example_names() -> list[str]:
@@ -244,6 +273,7 @@ def check_modules(command: str, program: str) -> None:
             "lines": lines_by_chance(4000),
             "topologies": topologies_by_chance(2000),
             "deeds": told_of_deeds(),
+            "books": books_said(),
             "patterns": patterns_by_chance(400),
         }
         json.dump(given, states)
@@ -263,7 +293,8 @@ def failures(told: str) -> str:
 
 
 def check_browsers(command: str) -> None:
-    browsers = [found[0] for names in (("chromium", "chromium-browser", "google-chrome"), ("firefox", "firefox-esr")) if (found := [path for name in names if (path := shutil.which(name))])]
+    known = [("chromium", "chromium-browser", "google-chrome"), ("firefox", "firefox-esr"), ("WebKitWebDriver",) if shutil.which("Xvfb") else ()]
+    browsers = [found[0] for names in known if (found := [path for name in names if (path := shutil.which(name))])]
     if not browsers:
         print("check workbench: there is no browser here, so the page was tried in none")
         return

@@ -3,18 +3,17 @@
 Runs hosts with their programs over random networks, only in the model, and audits their books: ./check worlds [RUNS]. With --mixed
 some hosts of each network are strangers, that run anything (python/workshop/checks/mixed.py).
 
-The model is the independent model of the rules (python/dorydate/model/world.py). Of each book it is computed whether it keeps its promise,
-from the crossings, the lives and the bits that were handed over (python/dorydate/model/audit.py): at the end of each run, and after each
+The model is the independent model of the rules (python/dorydate/model/world.py). Of each book it is computed whether it is
+safe, from the crossings, the lives and the bits that were handed over (python/dorydate/model/audit.py): at the end of each run, and after each
 event of some; in these it is looked at too whether what had an effect on a host went out after that host's last clean point for
 its sender (python/dorydate/model/clean.py). Of each run it is judged too what endings mean, at each moment (python/dorydate/model/endings.py), and
 whether the log determines the bits of its lives (python/dorydate/model/firsts.py), and
-what RFNM of data means (python/dorydate/model/arrived.py). So this script doesn't try the program. It tries the promise
-itself,
-and with it two facts that are stronger: no program is ever notified of an error, and two lives that continue and have each other's hosts and sockets are
-one connection.
+what RFNM of data means (python/dorydate/model/arrived.py), and whether each life is left its fate
+(python/dorydate/model/left.py). So this script doesn't try the program. It tries the promise itself, and with it two facts that are stronger: no program is ever notified of an error, and two lives that continue and
+have each other's hosts and sockets are one connection.
 
-First the audit itself is tried, on books that are right and books that are wrong in one place; and readings of the promise that
-are wrong in one place have to be distinguished from the right one by one of these books.
+First the audit itself is tried, on books that are right and books that are wrong in one place; and readings of the safe book
+that are wrong in one place have to be distinguished from the right one by one of these books.
 """
 
 from __future__ import annotations
@@ -28,6 +27,7 @@ from typing import Any, NamedTuple, TypeVar
 
 from workshop.checks import mixed
 from workshop.checks.broken import Watched, broken
+from workshop.checks.lefts import Books
 from dorydate.model import arrived
 from dorydate.model.audit import CONTROL, audit, partners_are_kept
 from dorydate.model.book import Life
@@ -36,6 +36,7 @@ from dorydate.model.crossings import Answered, Carrier, Crossing, Passed
 from dorydate.model.endings import EndingWorld
 from dorydate.model.misread_arrived import MISREADINGS as MISREAD_ARRIVED
 from dorydate.model.misread_endings import MISREADINGS as MISREAD_ENDINGS
+from dorydate.model.misread_left import MISREADINGS as MISREAD_LEFT
 from dorydate.model.misreadings import MISREADINGS
 from dorydate.model.names import Flow, HostName
 from dorydate.model.runs import opened_carrier
@@ -50,7 +51,7 @@ CLOSELY = 10  # of this many runs one is audited after each event
 OPENING = ["contact 0/1 0/2", "calm 3", "listen 0/2 33 8", "openrecv 0/1 0/2 16 33", "calm 2"]
 DIALOGUE = [*OPENING, "grant 0/1 16 2 100", "send 0/2 33 104 0102030405060708090A0B0C0D", "calm 2", "askback 0/1 16 128 128", "calm 2"]
 
-# books that keep their promise where a narrower one would be broken: two connections that are opened by the same messages, the
+# books that are safe where a narrower definition would refuse them: two connections opened by the same messages, the
 # same sockets twice, a message that was sent and not taken, an end that is open before its partner, a reset that one host has seen
 TWICE = ["listen 0/2 35 8", "openrecv 0/1 0/2 16 33", "openrecv 0/1 0/2 18 35", "calm 2"]
 GOOD = [
@@ -105,7 +106,7 @@ def with_life(place: int, **fields: Any) -> Judged:
 
 
 def wrong_books() -> Iterator[tuple[str | None, Judged]]:
-    """Books that are wrong in one place, with the part of the promise that they break."""
+    """Books that are wrong in one place, with the part of a safe book that they break."""
     log, lives = dialogue()
     sender, receiver = lives
     yield None, ([], [])
@@ -158,7 +159,7 @@ def wrong_partners() -> Iterator[Judged]:
 
 
 def unnoticed() -> Iterator[str]:
-    """The wrong readings of the promise that judge each book by hand as it should be judged."""
+    """The wrong readings of the safe book that judge each book by hand as it should be judged."""
     books = [*wrong_books()]
     for kind in MISREADINGS:
         reading = kind()
@@ -181,8 +182,21 @@ def unnoticed_arrived() -> Iterator[str]:
             yield str(kind.__doc__)
 
 
+def misjudged() -> Iterator[str]:
+    """What is wrong with the judges of a run, by the scripts by hand."""
+    if any(world_of(lines, EndingWorld).judged() for lines in ENDINGS) or [*unnoticed_endings()]:
+        yield "a script by hand ends wrongly, or none tells these wrong readings of endings:"
+        yield from unnoticed_endings()
+    if any(arrived.broken(*book_of(lines)) for lines in ENDINGS) or [*unnoticed_arrived()]:
+        yield "a script by hand loses data of which RFNM came, or none is unlike these wrong readings:"
+        yield from unnoticed_arrived()
+    if missed := [*Books(lambda more: world_of([*OPENING, *more], World)).unnoticed()]:
+        yield "books by hand don't tell the right reading of what lives are left from these:"
+        yield from missed
+
+
 class Ran(NamedTuple):
-    """A random run: what breaks, the script as far as it happened, what was reached, and how often each promise on endings was tried."""
+    """A random run: what breaks, the script so far, what was reached, and how often clauses on endings were tried."""
 
     part: str | None
     network: Topology
@@ -218,14 +232,10 @@ def main() -> int:
         print("check worlds: a book with a life that has no partner's request, or one of another host, keeps what is promised of partners")
         return 1
     if missed := [*unnoticed()]:
-        print("check worlds: no book by hand distinguishes these wrong readings of the promise:", *missed, sep="\n")
+        print("check worlds: no book by hand distinguishes these wrong readings of the safe book:", *missed, sep="\n")
         return 1
-    if any(world_of(lines, EndingWorld).judged() for lines in ENDINGS) or [*unnoticed_endings()]:
-        print("check worlds: a script by hand ends wrongly, or none tells these wrong readings of endings:", *unnoticed_endings(), sep="\n")
-        return 1
-    if any(arrived.broken(*book_of(lines)) for lines in ENDINGS) or [*unnoticed_arrived()]:
-        print("check worlds: a script by hand loses data of which RFNM came, or none is unlike these wrong readings:")
-        print(*unnoticed_arrived(), sep="\n")
+    if missed := [*misjudged()]:
+        print("check worlds:", *missed, sep="\n")
         return 1
     came_to: Counter[str] = Counter()
     tried: Counter[str] = Counter()
@@ -237,11 +247,12 @@ def main() -> int:
             return 1
         came_to += ran.reached
         tried += ran.tried
-    print(f"check worlds: {len([*wrong_books(), *wrong_partners()])} books written by hand, each judged rightly, and by {len(MISREADINGS)} wrong readings of the promise not all")
+    print(f"check worlds: {len([*wrong_books(), *wrong_partners()])} books written by hand, each judged rightly, and by {len(MISREADINGS)} wrong readings of the safe book not all")
     readings = f"{len(MISREAD_ENDINGS)} wrong readings of endings and {len(MISREAD_ARRIVED)} of RFNM"
+    print(f"check worlds: books by hand tell {len(MISREAD_LEFT)} wrong readings of the fates that lives are left from the right one")
     print(f"check worlds: {len(ENDINGS)} scripts written by hand, each ends rightly, and by {readings} not all")
     print("check worlds: the runs came to", ", ".join(f"{count} {name}" for name, count in sorted(came_to.items())))
     for kind, count in sorted(tried.items()):
         print(f"check worlds: {kind}: {count} times")
-    print(f"check worlds: {runs} runs, and each book keeps its promise")
+    print(f"check worlds: {runs} runs, and each book keeps the promise")
     return 0

@@ -20,12 +20,14 @@ from workshop.parts import ROOT
 
 PAGE = f"{ROOT}/docs/measured/promise.md"
 BOOK = f"{ROOT}/crates/headline/src/book.rt"
-MOST_LINES = 528  # without comments, imports and empty lines: what the clauses need, counted
+MOST_LINES = 563  # without comments, imports and empty lines: what the clauses need, counted
 LEFT = ("value", "lawful")  # clauses of `book_of` that speak of the world and its programs
 READING = ("host_pairs", "ncp_control", "bit_messages")  # crates whose definitions say how texts are read
 HEAD = """# What must be believed
 
 `./check docs --write` makes this page from the sources. It has all that [the promise](../headline.md) says of a book without speaking of a program: the clauses of `headline::book_of` but `lawful`, and every definition that they use, each before those that it uses. These are {definitions} definitions of {files} files, in {lines} lines without comments; `./check docs` wants at most {most}. No host program, packet, route or buffer occurs in them, and no other line of any `specs/` changes what is promised.
+
+In a clause, `result.now` is what `book_of` gives of a world: its `book`, in `handed` the bits that were handed over to be sent in each of the lives, and in `fates` the fate of each. `(C.calls.seen world.now.carrier).hosts` are the hosts of its network.
 
 Logs are read newest first, and all other lists oldest first. Words that definitions share with Rust are [below](#the-types), and so are [those of the language](#the-words-of-the-language), and [a book to try it on](#a-book-to-try-it-on).
 """
@@ -150,8 +152,14 @@ class Clause:
     def parts(self) -> list[tuple[str, list[Key]]]:
         """The fields of its definition, each with the definitions that its type names; the definition itself where it has no fields."""
         crate, path, name = self.first
-        lines = [it for it in module_of(crate, path).definitions[name].lines[1:] if FIELD.match(it)]
-        return [(FIELD.findall(it)[0], [key for word in WORD.findall(it.partition(":")[2]) for key in named(crate, path, word)]) for it in lines]
+        fields: list[str] = []
+        for line in module_of(crate, path).definitions[name].lines[1:]:
+            if FIELD.match(line):
+                fields.append(line)
+            elif fields:
+                fields[-1] += line  # a type of several lines
+        names = [(FIELD.findall(it)[0], WORD.findall(it.partition(":")[2])) for it in fields]
+        return [(part, [key for word in words for key in named(crate, path, word)]) for part, words in names]
 
 
 def clauses() -> list[Clause]:
@@ -233,6 +241,15 @@ def field_names() -> set[str]:
     return {it for clause in clauses() for it in below(clause.name, clause.first)}
 
 
+def left_out(whole: Reading) -> Iterator[str]:
+    """The definitions that those of the page name, and that are not there."""
+    for crate, path, name in whole.definitions:
+        for word in WORD.findall("\n".join(module_of(crate, path).definitions[name].lines)):
+            for key in named(crate, path, word):
+                if key[2] in module_of(*key[:2]).definitions and key not in whole.definitions:
+                    yield f"docs/measured/promise.md: `{name}` names `{key[2]}`, which isn't on the page"
+
+
 def write() -> None:
     text = page()
     with open(PAGE, "w", encoding="utf-8") as file:
@@ -246,5 +263,6 @@ def faults() -> list[str]:
     lines = sum(it.size for it in whole.definitions.values())
     wrong += [f"docs/measured/promise.md: {lines} lines must be believed of the headline, of at most {MOST_LINES}"] if lines > MOST_LINES else []
     known = believed_words.known_words()
+    wrong += [*dict.fromkeys(left_out(whole))]
     wrong += believed_promises.faults(field_names())
     return wrong + [f"docs/measured/promise.md: the key has no word `{it}`" for it in sorted(whole.library) if it.strip("◌") not in known and it not in known]

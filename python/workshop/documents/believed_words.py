@@ -7,16 +7,18 @@ from workshop.parts import ROOT
 
 # words of a definition, and what they say. Each name that definitions take of the standard library has to be here
 KEY = (
+    ("`ensures name { .. }`", "what the call ensures of its result: a statement, with a name"),
     ("`abbrev pub f : A → B`, `unfoldable pub`, `abbrev`, `pub`", "a definition that other files may use: its type, and then its value, for each form that its arguments can have"),
     ("`record R .. where`", "something that has all of these fields; as a statement, all of these hold"),
     ("`data D : Type 0 where`", "something that has one of these forms"),
     ("`Type 0`", "the type of types and of statements: a definition that gives it is a statement about its arguments"),
-    ("`A → B`, `(x : A) → B`", "if A, then B; for each x of A, B. Of functions: what they take and give"),
+    ("`A → B`, `(x : A) → B`, `{x : A} → B`", "if A, then B; for each x of A, B, and the same where x is clear from what follows. Of functions: what they take and give"),
     ("`A × B`, `(x : A) × B`", "both A and B; there is an x of A with B"),
     ("`A ⊎ B`", "A or B"),
     ("`Unit {0}`, `⊥`", "holds always; never holds, so that `A → ⊥` says that A doesn't"),
     ("`a ≡ b`", "both are the same"),
-    ("`x.f`, `record { f = v }`, `record x { f = v }`", "the field f of x; the value with these fields; x with another value there"),
+    ("`x.f`, `record { f = v }`, `record x { f = v }`", "the field f of x; the value with these fields; x with another value there. A link has one field, `0`: its number"),
+    ("`(a, b)`", "a pair"),
     ("`crossing.Out m`, `answer.Rfnm`", "a variant of a type that is declared in Rust"),
     ("`ℕ`, `zero`, `suc n`", "the numbers 0, 1, 2, ..; 0; n + 1. Rust's unsigned numbers are such numbers here, within their range"),
     ("`+`, `*`, `-`, `%`, `min`", "sum, product, difference (0 where it would be less), remainder, the lesser of two"),
@@ -42,8 +44,12 @@ WORKED = (
     ("`safe`, partners", "no two lives have one request, and partners name each other", "the own request of 0/1 went out at place 0, that of 0/2 at place 3; what 0/1 took at place 4 is that of place 3, and what 0/2 took at place 1 is that of place 0"),
     ("`safe`, streams", "what was taken is a prefix of what was sent, and that of what was handed over", "`4849` of `4849`, and that of `484950`"),
     ("`safe`, grants", "what was taken and sent is granted", "1 message of 16 bits, where 1 of 100 bits was granted"),
-    ("`arrived`", "an open life counts what came in on its link, and RFNM of data means that they are among its bits", "line 9 is RFNM of the message of line 7, the first one of the life of line 11. Line 8 took it, and it is the first one of the life of line 10, which is open"),
     ("`joined`", "a finished initial connection pairs the right four sockets", "nothing here: no service reports that one is finished"),
+    ("`fated`", "each life has a fate, which says whether it is over", "both fates are `Open`, and neither life is over"),
+    ("`whole`", "a receiving life that its partner's CLS ended has all that was sent", "nothing here: no fate is `Ended`"),
+    ("`arrived`", "an open life counts what came in on its link, and RFNM of data means that they are among its bits", "line 9 is RFNM of the message of line 7, the first one of the life of line 11. Line 8 took it, and it is the first one of the life of line 10, which is open"),
+    ("`over`", "nothing ends a life between its requests, and it is over as its fate says", "the life of 0/1 begins with line 5 and that of 0/2 with line 4, the second request of each. Since then no CLS, no RST and no answer but RFNM crossed between them, no host stopped, and nobody asked for a contact: both have the stage `Going false false`, which leaves `Open`"),
+    ("`contacts`", "what a host sends to another next after a contact is an RST", "nothing here: there is no contact"),
 )
 
 

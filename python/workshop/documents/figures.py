@@ -12,6 +12,8 @@ import re
 import statistics
 from collections.abc import Callable, Iterator
 
+from workshop.checks import readers
+from workshop.checks.stops import dialogue
 from workshop.documents.rules import read
 from workshop.parts import ROOT
 
@@ -76,9 +78,32 @@ def naming(word: str) -> int:
     return sum(1 for it in paths if "_tests/" not in it and "/out/" not in it and re.search(rf"\b{word}\b", read(it)))
 
 
-def last_gate(column: int) -> str:
-    """A cell of the last gate of docs/measured/gate.md that was measured whole."""
-    return [it for it in rows("gate.md", 5) if "whole" in it[4] and "edits" not in it[4]][-1][column]
+def gates(column: int) -> str:
+    """The least and the most minutes of the gates of docs/measured/gate.md that proved everything from nothing."""
+    whole = [it for it in rows("gate.md", 5) if re.match(r"`rt ci`|`\.ci/run`", it[4])]
+    found = [number(it[column]) for it in whole if number(it[column])]
+    return f"{min(found):.0f} to {max(found):.0f}"
+
+
+def millions_a_second(has_programs: bool) -> str:
+    """How many millions of octets a second each trace writes at least, in tens."""
+    found = [number(it[6]) for it in rows("traces.md", 7) if (", programs" in it[0]) == has_programs]
+    return f"{min(found) // 10 * 10:.0f}"
+
+
+def audited_lives() -> str:
+    """How many lives the logs have at most whose audit was timed, in thousands."""
+    return f"{max(number(it[3]) for it in rows('audit.md', 7)) // 1_000 * 1_000:,.0f}"
+
+
+def stops() -> int:
+    """After how many events of its dialogue `./check stops` stops everything."""
+    return len(dialogue()[1].lines)
+
+
+def octet_sequences() -> int:
+    """How many sequences of octets `./check readers` gives to the readers."""
+    return sum(len(readers.lines_of(reader, spelled)[0]) for reader, spelled, _ in readers.WORKED)
 
 
 def searches() -> list[Row]:
@@ -103,8 +128,18 @@ FIGURES: dict[str, Callable[[], str]] = {
     "trace of mailboxes, times": lambda: f"{traced('plain mailboxes'):.1f}",
     "trace of programs over mailboxes, times": lambda: f"{traced('programs over plain mailboxes'):.1f}",
     "audit, most seconds": lambda: f"{max(audited()):.1f}",
-    "gate, minutes": lambda: last_gate(2),
-    "gate, processor minutes": lambda: last_gate(3),
+    "audit, most lives": audited_lives,
+    "trace, millions a second": lambda: millions_a_second(False),
+    "trace of programs, millions a second": lambda: millions_a_second(True),
+    "gates, minutes": lambda: gates(2),
+    "gates, processor minutes": lambda: gates(3),
+    "states where questions may be alive": lambda: next(it[2] for it in rows("spin.md", 5) if it[1] == "5 and 2: both"),
+    "inputs of readers": lambda: f"{len(list(readers.inputs())):,}",
+    "octet sequences of readers": lambda: f"{octet_sequences():,}",
+    "rows of readers": lambda: f"{len(readers.WORKED)}",
+    "events of stops": lambda: f"{stops():,}",
+    "runs of stops": lambda: f"{7 * stops():,}",
+    "runs of stops in the gate": lambda: f"{7 * (stops() // 10):,}",
     "searches, times": lambda: f"{statistics.median(number(it[9]) / number(it[5]) for it in searches()):.0f}",
     "searches, least steps": lambda: f"{min(by_the_plain_program()) // 10_000 * 10_000:,.0f}",
     "planted bugs": lambda: f"{bugs():,}",

@@ -9,7 +9,8 @@ import tempfile
 import unittest
 from unittest import mock
 
-from workshop.documents import anchors, believed, believed_words, budget, common, crates_page, dead, dialect, figures, named_crates, paragraphs, rules, tags
+from workshop.documents import anchors, believed, believed_words, budget, clauses, common, crates_page, dead, dialect
+from workshop.documents import figures, named_crates, paragraphs, rules, stated, tags
 from workshop.drawings import facts, formats, hosts, network, pictures, repository
 from workshop.drawings.svg import Drawing
 from workshop.parts import ROOT
@@ -76,8 +77,8 @@ class Pages(unittest.TestCase):
         self.assertEqual(paragraphs.joined("```\na\nb\n```\n\n    code\n    more\n"), "```\na\nb\n```\n\n    code\n    more\n")
 
     def test_pages_that_are_too_long_are_named(self) -> None:
-        self.assertEqual(paragraphs.too_long({"README.md": "word " * 900, "docs/a.md": "word " * 67_700}), [])
-        self.assertEqual(paragraphs.too_long({"README.md": "word " * 901, "docs/a.md": "word " * 67_700}), ["README.md: 901 words, of at most 900", "all pages: 68,601 words, of at most 68,600"])
+        self.assertEqual(paragraphs.too_long({"README.md": "word " * 900, "docs/a.md": "word " * 68_700}), [])
+        self.assertEqual(paragraphs.too_long({"README.md": "word " * 901, "docs/a.md": "word " * 68_700}), ["README.md: 901 words, of at most 900", "all pages: 69,601 words, of at most 69,600"])
 
     def test_headings_have_the_anchors_of_the_web(self) -> None:
         with tempfile.NamedTemporaryFile("w", suffix=".md", encoding="utf-8") as file:
@@ -301,6 +302,92 @@ class Dead(unittest.TestCase):
         text = "use Rattle.a.proofs.B.{gone, kept}\nuse Rattle.a.proofs.B.{gone}\nuse Rattle.a.proofs.C.{gone}\n"
         found = dead.without_imports(text, {"Rattle.a.proofs.B": ["gone"]})
         self.assertEqual(found, "use Rattle.a.proofs.B.{kept}\nuse Rattle.a.proofs.C.{gone}\n")
+
+
+class Stated(unittest.TestCase):
+    ONE = """use Rattle.std.proofs.Common.{Bool}
+pub both : (a b : Bool) → (a && b) ≡ true → (a ≡ true) × (b ≡ true)
+both true b e = (refl, e)
+"""
+    OTHER = """use Rattle.std.proofs.Common.{Bool}
+
+-- of two
+parts : (x : Bool) (y : Bool) → (x && y) ≡ true
+    → (x ≡ true) × (y ≡ true)
+parts true y e = (refl, e)
+"""
+
+    def found(self, **texts: str) -> dict[str, list[stated.Lemma]]:
+        """What these files state."""
+        folder = tempfile.TemporaryDirectory()
+        self.addCleanup(folder.cleanup)
+        every = {}
+        for name, text in texts.items():
+            path = pathlib.Path(folder.name, f"{name}.antt")
+            path.write_text(text, encoding="utf-8")
+            every[f"Rattle.interface.proofs.{name}"] = dead.parsed(str(path), text)
+        found: dict[str, list[stated.Lemma]] = {}
+        for module in every:
+            for said, lemma in stated.lemmas(every, module):
+                found.setdefault(said, []).append(lemma)
+        return found
+
+    def test_a_lemma_that_is_stated_again_is_named_whatever_its_variables(self) -> None:
+        found = self.found(One=self.ONE, Other=self.OTHER)
+        ((said, them),) = found.items()
+        self.assertEqual([it.name for it in them], ["both", "parts"])
+        (fault,) = stated.over(found, {}, {})
+        self.assertIn("`parts`: it states what", fault)
+        self.assertEqual(stated.over(found, {}, {stated.sum_of(said): 1}), [])
+
+    def test_a_lemma_of_std_is_taken_from_there(self) -> None:
+        found = self.found(One=self.ONE)
+        (said,) = found
+        (fault,) = stated.over(found, {said: "Rattle.std.proofs.lemmas.Bool.and_parts"}, {})
+        self.assertIn("`both`: it states what Rattle.std.proofs.lemmas.Bool.and_parts does", fault)
+
+    def test_two_things_of_one_name_are_two(self) -> None:
+        one = "use Rattle.{}.specs.Events.{{Event}}\nis_so : (e : Event) → IsTrue (is_so e)\nis_so e = refl\n"
+        self.assertEqual(len(self.found(One=one.format("reset_law"), Other=one.format("stream_law"))), 2)
+
+
+class Clauses(unittest.TestCase):
+    NAMED = """use Rattle.std.specs.Prelude.{◌≡◌}
+
+-- what it says
+abbrev pub AllOne : Type 0
+AllOne =
+    (a : Bool) →
+    a ≡ a
+"""
+    RECORD = """use Rattle.std.specs.Prelude.{◌≡◌}
+
+pub record All : Type 0 where
+  -- what it says
+  pub one : (a : Bool) → a ≡ a
+"""
+
+    def promised(self, law: str, source: str) -> dict[str, str]:
+        folder = tempfile.TemporaryDirectory()
+        self.addCleanup(folder.cleanup)
+        crate = pathlib.Path(folder.name, "c")
+        for part, text in (("specs/Laws.antt", law), ("src/law.rt", source)):
+            (crate / part).parent.mkdir(parents=True, exist_ok=True)
+            (crate / part).write_text(text, encoding="utf-8")
+        return clauses.promised(str(crate))
+
+    def test_a_name_and_a_field_say_the_same(self) -> None:
+        before = self.promised(self.NAMED, "pub fn all()\n    ensures one { AllOne }\n{}\n")
+        after = self.promised(self.RECORD, "pub fn all()\n    ensures { All }\n{}\n")
+        self.assertEqual(before, {"c::law::all one": "( a : Bool ) → a ≡ a"})
+        self.assertEqual(clauses.compared(before, after), [])
+
+    def test_what_is_gone_and_what_is_said_otherwise_is_named(self) -> None:
+        before = self.promised(self.RECORD, "pub fn all()\n    ensures { All }\n{}\n")
+        other = self.promised(self.RECORD.replace("a ≡ a", "a ≡ true"), "pub fn all()\n    ensures { All }\n{}\n")
+        self.assertEqual(clauses.compared(before, {}), ["gone: c::law::all one"])
+        (fault,) = clauses.compared(before, other)
+        self.assertTrue(fault.startswith("otherwise: c::law::all one"))
 
 
 class Common(unittest.TestCase):

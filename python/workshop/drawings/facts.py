@@ -42,7 +42,7 @@ FACTS = {
     "text_bits": defined(8063, ("bit_messages/specs/Body.antt", r"^most_text_bits = (\d+)"), ("bit_messages/src/bits.rt", r"MAX_TEXT_BITS: usize = ([\d_]+)")),
     "unit_bits": defined(16, ("bit_messages/src/bits.rt", r"BODY_UNIT: usize = ([\d_]+)")),
     "most_imps": defined(63, ("interface/specs/Host.antt", r"^most_imps = (\d+)"), ("interface/src/address.rt", r"MOST_IMPS: usize = ([\d_]+)")),
-    "most_hosts": defined(4, ("topology/src/network.rt", r"MOST_HOSTS: u8 = ([\d_]+)")),
+    "most_hosts": defined(4, ("interface/src/address.rt", r"MOST_HOSTS: u8 = ([\d_]+)")),
     "most_lines": defined(5, ("topology/src/network.rt", r"MOST_LINES: usize = ([\d_]+)")),
     "leader_octets": defined(4, ("leader1822/src/leader.rt", r"LEADER_OCTETS: usize = ([\d_]+)")),
     "message_numbers": defined(65536, ("interface/specs/Flow.antt", r"^message_numbers = (\d+)"), ("interface/src/address.rt", r"MESSAGE_NUMBERS: u32 = ([\d_]+)")),

@@ -8,6 +8,8 @@
 - connections that are all open before the first of them has a message, so the way from a request to its message is long;
 - connections whose requests go out first and are taken at the end, so the way back from a stamp to its message is long;
 - connections of two hosts on one link, each of which counts all messages that follow;
+- connections that continue while CLS cross of sockets that have no connection, as many as there are connections;
+- connections of two hosts between whose requests these hosts reset each other, as often as there are connections;
 - messages that all go out before the first of them is taken, and are all taken before the first of them is answered, without lives.
 
 The others are broken, the first four of them in one place at the end, so all is looked at: an RFNM comes twice, two lives have one
@@ -29,7 +31,7 @@ from functools import partial
 from itertools import islice
 
 from dorydate.model.book import Life
-from dorydate.model.commands import RTS, STR, control_message, header, of_sockets
+from dorydate.model.commands import CLS, RRP, RST, RTS, STR, alone, control_message, header, of_sockets
 from dorydate.model.crossings import Answered, Crossing, Passed
 from dorydate.model.log import Book, spelled_log
 from dorydate.model.names import Flow, HostName
@@ -125,14 +127,55 @@ def one_link(count: int) -> Book:
     book = Book([], [], [])
     receiver, sender, link = next(ends())
     for first in range(0, count, REQUESTS):
-        pairs = [(2 * at, 2 * at + 1) for at in range(first, min(count, first + REQUESTS))]
-        asked = passed(book.log, Flow(receiver, sender, 0), control_message([of_sockets(RTS, own, foreign, link) for own, foreign in pairs]))
-        answered = passed(book.log, Flow(sender, receiver, 0), control_message([of_sockets(STR, foreign, own, 8) for own, foreign in pairs]))
-        book.lives.extend(Life(receiver, own, sender, foreign, asked[0], answered[1], "", count, [count, 0]) for own, foreign in pairs)
-        book.handed.extend([""] * len(pairs))
+        group = range(first, min(count, first + REQUESTS))
+        asked = passed(book.log, Flow(receiver, sender, 0), requests_of(group, link))
+        answered = passed(book.log, Flow(sender, receiver, 0), answers_of(group))
+        for at in group:
+            own, foreign = 2 * at, 2 * at + 1
+            book.lives.append(Life(receiver, own, sender, foreign, asked[0], answered[1], "", count, [count, 0]))
+        book.handed.extend([""] * len(group))
     for _ in range(count):
         passed(book.log, Flow(sender, receiver, link), header(8, 0))
     return book
+
+
+def beside_commands(count: int) -> Book:
+    """Connections of different hosts, and after them CLS between the same hosts that end none of them."""
+    book = Book([], [], [])
+    for at in islice(ends(), count):
+        opened(book, at)
+    for receiver, sender, _ in islice(ends(), count):
+        passed(book.log, Flow(receiver, sender, 0), control_message([of_sockets(CLS, 2, 3)]))
+    for life in book.lives:
+        life.bits, life.messages = "", 0
+    return book
+
+
+def beside_resets(count: int) -> Book:
+    """Connections of two hosts, of which one side's requests cross before many resets, and the other's after these."""
+    book = Book([], [], [])
+    receiver, sender, link = next(ends())
+    there, back = Flow(receiver, sender, 0), Flow(sender, receiver, 0)
+    groups = [range(first, min(count, first + REQUESTS)) for first in range(0, count, REQUESTS)]
+    asked = [passed(book.log, there, requests_of(group, link)) for group in groups]
+    for _ in range(count):
+        passed(book.log, back, control_message([alone(RST)]))
+        passed(book.log, there, control_message([alone(RRP)]))
+    answered = [passed(book.log, back, answers_of(group)) for group in groups]
+    for group, one, other in zip(groups, asked, answered):
+        book.lives.extend(Life(receiver, 2 * at, sender, 2 * at + 1, one[0], other[1], "", 0) for at in group)
+        book.handed.extend([""] * len(group))
+    return book
+
+
+def requests_of(group: range, link: int) -> str:
+    """The receiving ends' requests of several connections in one message."""
+    return control_message([of_sockets(RTS, 2 * at, 2 * at + 1, link) for at in group])
+
+
+def answers_of(group: range) -> str:
+    """The sending ends' requests of them."""
+    return control_message([of_sockets(STR, 2 * at + 1, 2 * at, 8) for at in group])
 
 
 def passed_out(log: list[Crossing], request: tuple[Flow, str]) -> int:
@@ -187,6 +230,8 @@ MEASURED: list[tuple[str, Make]] = [
     ("connections that are open at once", open_at_once),
     ("requests that are taken late", taken_late),
     ("connections on one link that count the same messages", one_link),
+    ("connections that continue beside many commands", beside_commands),
+    ("connections of two hosts with resets between their requests", beside_resets),
     ("messages that all go out before one is taken", all_at_once),
     ("the same, and an RFNM comes twice", answered_twice),
     ("two lives with one request", one_request),

@@ -3,8 +3,8 @@
 FOLDER has `page.html`, `page.css` and `main.js`, the module of JavaScript that the page begins with (web/page, or another one). In
 `page.html` four comments say where what is packed goes: `<!-- policy -->`, `<!-- style -->`, `<!-- data -->` and `<!-- script -->`. The
 data are blocks that no browser runs: `program` (MODULE, by gzip and base85), `worker` (web/run/worker.js), `examples` (JSON by gzip and
-base85: a name, a title and the text of each input in examples/) and `opened`, a list that is empty, into which ./explain --page puts inputs
-like these, with which the page opens.
+base85: a name, a title and the text of each input in examples/), `chronology` (docs/chronology.md, by gzip and base85) and `opened`, a
+list that is empty, into which ./explain --page puts inputs like these, with which the page opens.
 
 Modules are joined to one script, each in a function of its own, so names of two never meet. They may import names, or all names as one
 (`import * as it`), from other files, and export declarations and lists of names; anything else is refused. The policy of the page forbids
@@ -28,9 +28,11 @@ IMPORT = re.compile(r"^import\s+(?:\{([^}]*)\}|\*\s+as\s+(\w+))\s+from\s+\"(\.{1
 EXPORT = re.compile(r"^export\s+((?:async\s+)?function\s*\*?\s*(\w+)|class\s+(\w+)|const\s+(\w+))", re.MULTILINE)
 EXPORT_LIST = re.compile(r"^export\s+\{([^}]*)\};[ ]*$", re.MULTILINE)
 COMMENT = re.compile(r"/\*\*.*?\*/", re.DOTALL)  # where types are
+TEXT_OR_COMMENT = re.compile(r"""("(?:[^"\\\n]|\\.)*"|'(?:[^'\\\n]|\\.)*'|`[^`\n]*`)|/\*\*.*?\*/""", re.DOTALL)
 DOCUMENTATION = re.compile(r"^[ ]*/\*\*(?:[^*]|\*(?!/))*\*/[ ]*\n", re.MULTILINE)
 OF_STYLE = re.compile(r"/\*(?:[^*]|\*(?!/))*\*/")
 BLANK = re.compile(r"^\s+", re.MULTILINE)  # indents, and lines with nothing
+SPACES = re.compile(r"\s*([{};])\s*|(?<=:)\s+")  # of a style, but for those that part words
 LEFT_OVER = re.compile(r"^(?:import|export)\b.*$|\bimport\(", re.MULTILINE)
 ALIAS = re.compile(r"(\w+)(?:\s+as\s+(\w+))?")
 ENDINGS = re.compile(r"\.(?:args|stdout|stderr|status|rows|md)$")
@@ -64,16 +66,16 @@ def names(text: str) -> list[tuple[str, str]]:
 
 
 def bare(text: str, path: str) -> str:
-    """A module without its comments of documentation, indents and empty lines, which a third of its octets are."""
-    text = DOCUMENTATION.sub("", text)
+    """A module without its comments of documentation and of types, indents and empty lines, a third of its octets."""
+    text = TEXT_OR_COMMENT.sub(lambda it: it[1] or "", DOCUMENTATION.sub("", text))
     if any(line.count("`") % 2 for line in text.splitlines()):
         raise Refused(f"{os.path.relpath(path, ROOT)} has a text in backticks over several lines, which isn't packed")
     return BLANK.sub("", text)
 
 
 def bare_style(text: str) -> str:
-    """A style without comments, indents and empty lines."""
-    return BLANK.sub("", OF_STYLE.sub("", text))
+    """A style without comments, and with no spaces but those that part words."""
+    return SPACES.sub(r"\1", OF_STYLE.sub("", text)).strip()
 
 
 def add(packed: Packed, path: str) -> int:
@@ -173,6 +175,7 @@ def page(folder: str, module: bytes) -> str:
     data += block("worker", "text/plain", joined(f"{ROOT}/web/run/worker.js"))
     data += block("opened", "application/json", "[]")
     data += block("examples", "application/octet-stream", spell_octets(examples.encode()))
+    data += block("chronology", "application/octet-stream", spell_octets(read(f"{ROOT}/docs/chronology.md").encode()))
     parts = {
         "policy": f'<meta http-equiv="Content-Security-Policy" content="{policy}">',
         "style": f"<style>{style}</style>",

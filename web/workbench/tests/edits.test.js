@@ -3,8 +3,8 @@ import { test } from "node:test";
 
 import { addedLines, goOn } from "../edits.js";
 import { stopsOf } from "../stops.js";
-import { isQuiet } from "../trace.js";
-import { exampleNames, historyOf, historyOfText } from "./examples.js";
+import { isQuiet, REST } from "../trace.js";
+import { exampleNames, exampleText, historyInRounds, historyOf, historyOfText } from "./examples.js";
 
 /** @typedef {import("../fold.js").History} History */
 /** @typedef {import("../edits.js").Edit} Edit */
@@ -98,16 +98,32 @@ for (const name of NAMES) {
 }
 
 test("after a quiet round as a whole, which is no script line, one goes on at the end of its round", async () => {
-    const history = await historyOf("arpanet-of-the-late-seventies");
-    assert(history);
+    const history = await historyInRounds(exampleText("arpanet-of-the-late-seventies"));
     const { moments } = history.replay;
     const isSame = (/** @type {number} */ at) => moments[at].event === moments[at - 1].event
         && moments[at].round === moments[at - 1].round;
     const position = moments.findIndex((_, at) => at > 1 && isQuiet(moments[at - 1]) && isSame(at));
     const edit = goOn(history, position, ["calm 0"]);
     assert(edit.position > position && isSame(edit.position - 1) && !isSame(edit.position));
-    assert.deepEqual(await wrongWith(history, edit.position, edit), []);
+    const after = await historyInRounds(edit.text);
+    assert.deepEqual(after.at(edit.position).parts, history.at(edit.position).parts);
+    assert.deepEqual(printedBefore(after, edit.position), printedBefore(history, edit.position));
     assert.deepEqual(goOn(history, edit.position, ["calm 0"]), edit);
+});
+
+test("within a round in which uneventful moments are joined, one goes on after each of their events", async () => {
+    const history = await historyOf("arpanet-of-the-late-seventies");
+    assert(history);
+    const { moments } = history.replay;
+    const isSame = (/** @type {number} */ at) => moments[at]?.event === moments[at - 1].event
+        && moments[at].round === moments[at - 1].round;
+    const within = moments.flatMap(({ words }, at) => (words[0] === REST && isSame(at + 1) ? [at + 1] : []));
+    const position = within[within.length >> 1];
+    const edit = goOn(history, position, ["calm 0"]);
+    assert(edit.position > position && edit.text.includes(`\n${moments[position - 1].events?.join("\n")}\n`));
+    const after = await historyOfText(edit.text);
+    assert.deepEqual(after.at(edit.position).parts, history.at(position).parts);
+    assert.deepEqual(printedBefore(after, edit.position), printedBefore(history, position));
 });
 
 test("planted faults of going on are found", async () => {

@@ -69,6 +69,23 @@ export async function historyOfText(text) {
 }
 
 /**
+ * The history of an input whose hosts have programs, with quiet rounds as a whole: nothing runs the raw script that tells
+ * what happens within them.
+ *
+ * @param {string} text
+ */
+export async function historyInRounds(text) {
+    const ended = /** @type {const} */ ("time");
+    const none = { ended, status: -1, stdout: new Uint8Array(), stderr: "" };
+    /** @type {typeof run} */
+    const without = async (words, input, limits, heard) =>
+        new TextDecoder().decode(input).startsWith("raw = true") ? none : run(words, input, limits, heard);
+    const it = await replay(without, text, PATIENT);
+    if (!isReplay(it)) throw new Error(it.said);
+    return new History(it);
+}
+
+/**
  * A raw network of two IMPs with a host each, and a script.
  *
  * @param {string[]} script

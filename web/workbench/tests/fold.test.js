@@ -1,14 +1,16 @@
 import assert from "node:assert/strict";
 import { test } from "node:test";
 
+import { condensed } from "../driven.js";
+import { History } from "../fold.js";
 import { sentenceOf } from "../sentences.js";
 import { stopWords } from "../sheet.js";
 import { stopAt, stopsOf } from "../stops.js";
-import { isQuiet } from "../trace.js";
-import { exampleNames, exampleText, historyOf, historyOfText, storedOutput, twoImps } from "./examples.js";
+import { isQuiet, REST } from "../trace.js";
+import { exampleNames, exampleText, historyInRounds, historyOf, historyOfText, storedOutput, twoImps } from "./examples.js";
 
-/** Examples that are too large for what happens within their quiet rounds. */
-const WITH_QUIET = ["arpanet-of-the-late-seventies"];
+/** Examples that are so large that what is uneventful in their rounds is joined. */
+const WITH_REST = ["arpanet-of-the-late-seventies"];
 
 /**
  * Whether what crosses in a moment is one thing if it is a taking or an offer, and otherwise nothing.
@@ -25,7 +27,8 @@ for (const name of exampleNames()) {
         if (!history) return assert(/a-bad-line|an-unknown-event/.test(name), "only bad scripts have no replay");
         const { moments, cut } = history.replay;
         assert.equal(cut, "");
-        assert.equal(moments.some(isQuiet), WITH_QUIET.includes(name), "whether quiet rounds are shown as a whole");
+        assert(!moments.some(isQuiet), "no quiet round is shown as a whole");
+        assert.equal(moments.some(({ words }) => words[0] === REST), WITH_REST.includes(name), "whether some are joined");
         const ofCalms = moments.filter(({ round }) => round > 0);
         assert(ofCalms.every(crossesOnce), "in a calm each crossing has its taking or its offer");
         const brief = (/** @type {string} */ line) => (
@@ -109,8 +112,7 @@ test("the numbers of stops of December 1969", async () => {
 });
 
 test("a quiet round that is shown as a whole is a step with a sentence, and takings follow it one by one", async () => {
-    const history = await historyOf("arpanet-of-the-late-seventies");
-    assert(history);
+    const history = await historyInRounds(exampleText("arpanet-of-the-late-seventies"));
     const { moments } = history.replay;
     const stop = stopsOf(history, "arrival").find(({ main }) => main >= 0 && isQuiet(moments[main]));
     assert(stop && stop.main === stop.from && stopWords(history, stop) === "a quiet round");
@@ -122,4 +124,48 @@ test("a quiet round that is shown as a whole is a step with a sentence, and taki
     const taking = moments.findIndex((it, at) => it.words[0] === "take" && at > 0 && isQuiet(moments[at - 1]));
     assert.equal(moments[taking].round, moments[taking - 1].round);
     assert(/[.”]$/.test(sentenceOf(history, taking)));
+});
+
+test("where uneventful moments are joined, the steps and what is inside are the same, and no event is lost", async () => {
+    for (const name of ["lo-of-login", "resets-in-step"]) {
+        const full = await historyOf(name);
+        assert(full);
+        const { moments, opening } = full.replay;
+        const isOfNetwork = (/** @type {number} */ at) => moments[at]?.round > 0
+            && /^(?:route|resend|deliver|drop)$/.test(moments[at].words[0]);
+        /** @type {import("../runs.js").Moment[]} */
+        const joined = [];
+        const ends = new Map([[0, 0]]);
+        for (let from = 0; from < moments.length; ) {
+            let to = from + 1;
+            while (isOfNetwork(from) && isOfNetwork(to) && moments[to].round === moments[from].round) to += 1;
+            const mine = moments.slice(from, to);
+            joined.push(...(isOfNetwork(from) ? condensed(mine, full.at(from).parts) : mine));
+            ends.set(joined.length, to);
+            from = to;
+        }
+        const short = new History({ ...full.replay, moments: joined, opening });
+        assert(short.length < 0.5 * full.length, `${short.length} of ${full.length}`);
+        for (const [position, to] of ends) assert.deepEqual(short.at(position).parts, full.at(to).parts);
+        const events = joined.flatMap((it) => it.events ?? [it.words.join(" ")]);
+        assert.deepEqual(events, moments.map((it) => it.words.join(" ")));
+        for (const grain of /** @type {const} */ (["arrival", "round"])) {
+            const [one, other] = [short, full].map((history) => stopsOf(history, grain).map(({ main, round }) => (
+                main < 0 ? `nothing new in ${round}` : sentenceOf(history, main)
+            )));
+            assert.deepEqual(one, other);
+        }
+    }
+});
+
+test("in a large network whose hosts have programs each packet is seen to arrive", async () => {
+    const history = await historyOf("arpanet-of-the-late-seventies");
+    assert(history);
+    const hops = history.notes.filter(({ fate, frame }) => fate === "fresh" && frame?.packet?.kind === "data");
+    assert(hops.length > 20, `${hops.length} arrivals of data`);
+    const stops = stopsOf(history, "arrival").filter(({ main }) => main >= 0);
+    const isStop = (/** @type {number} */ at) => stops.some(({ main }) => main === at);
+    assert(history.notes.every(({ fate }, at) => fate !== "fresh" || isStop(at)), "each is a step");
+    const rest = history.replay.moments.findIndex(({ words }) => words[0] === REST);
+    assert(sentenceOf(history, rest).startsWith(`What else happens in round ${history.replay.moments[rest].round}`));
 });

@@ -7,7 +7,7 @@ import { chartOf } from "../chart.js";
 import { choicesFor } from "../choices.js";
 import { placed } from "../layout.js";
 import { sentenceOf } from "../sentences.js";
-import { rowsOf, seen } from "../sheet.js";
+import { rowsOf, shownRows } from "../sheet.js";
 import { stopsOf } from "../stops.js";
 import { sends, Talk } from "../talk.js";
 import { waitsOf } from "../waits.js";
@@ -86,7 +86,7 @@ for (const name of NAMES) {
         }
         const rows = rowsOf(history, stops);
         assert.deepEqual(rows.filter((row) => row.stop >= 0).map((row) => row.stop), stops.map((_, place) => place));
-        assert(seen(rows, -1).length === rows.length);
+        for (const current of [-1, 0, rows.length >> 1, rows.length - 1]) rowsAreShown(rows, current);
     });
 
     test(`${name}: each message has its lane, and the map has no boxes on one another`, async () => {
@@ -105,6 +105,41 @@ for (const name of NAMES) {
         assert.equal(hosts.size, history.network.hosts.length);
     });
 }
+
+/**
+ * Each row is shown once, or stands in one that says how many are left out: all of the calm in which one is, and of
+ * others what printed.
+ *
+ * @param {import("../sheet.js").Row[]} rows
+ * @param {number} current
+ */
+function rowsAreShown(rows, current) {
+    const open = current < 0 ? -1 : rows[current].event;
+    const shown = shownRows(rows, current);
+    const places = shown.flatMap(({ place, count }) => Array.from({ length: count }, (_, at) => place + at));
+    const wanted = rows.flatMap((row, place) => (row.kind !== "stop" || row.printed || row.event === open ? [place] : []));
+    assert.deepEqual(places, wanted);
+    for (const { row, place, count } of shown) {
+        if (row.kind !== "more") assert.equal(row, rows[place]);
+        else assert(rows.slice(place, place + count).every((it, at) => !it.printed && Math.abs(place + at - current) > 200));
+    }
+    assert(current < 0 || shown.some(({ row }) => row === rows[current]));
+}
+
+test("of a calm with thousands of steps some hundred rows are shown, and rows that lead to the others", async () => {
+    const history = await historyOf("arpanet-of-december-1969");
+    assert(history);
+    const rows = rowsOf(history, stopsOf(history, "event"));
+    const longest = rows.reduce((best, row) => (row.steps > best.steps ? row : best), rows[0]);
+    const first = rows.indexOf(longest) + 1;
+    const current = first + (longest.steps >> 1);
+    assert(longest.steps > 1000, String(longest.steps));
+    rowsAreShown(rows, current);
+    const more = shownRows(rows, current).filter(({ row }) => row.kind === "more");
+    assert.deepEqual(more.map(({ row }) => /^… [1-9]\d* more steps?$/.test(row.text)), more.map(() => true));
+    assert(more[0].row.at === rows[more[0].place + more[0].count - 1].at, "the nearest one before");
+    assert(more[more.length - 1].row.at === rows[more[more.length - 1].place].at, "the nearest one after");
+});
 
 /**
  * The hosts that send or are sent to and have no lane.

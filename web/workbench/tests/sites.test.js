@@ -53,3 +53,9 @@ test("sites from coast to coast are on the map of the country, west to the left 
     }
     assert.equal(placed(networkOf("arpanet-of-december-1969")).outline.length, 0);
 });
+
+test("a network that is alike in every direction is placed by its first IMP, and not by how numbers are rounded", () => {
+    const { imps } = placed(networkOf("rerouted-over-a-triangle"));
+    const [one, two, three] = [1, 2, 3].map((imp) => imps.get(imp) ?? { x: NaN, y: NaN });
+    assert(one.x < two.x && Math.abs(two.x - three.x) < 0.5 && Math.abs(two.y + three.y - 2 * one.y) < 0.5);
+});

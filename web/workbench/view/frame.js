@@ -31,6 +31,7 @@ export const TABS = /** @type {[string, string][]} */ ([
     ["distances", "Distances"],
     ["inside", "Inside"],
     ["hosts", "Hosts"],
+    ["book", "Book"],
     ["printed", "Printed"],
     ["compare", "Compare"],
 ]);
@@ -60,7 +61,7 @@ export function fillLists(examples, openTab) {
         ...TABS.map(([name, title]) => {
             const more = { type: "button", role: "tab", "aria-controls": "pane", onclick: () => openTab(name) };
             const badge = name === "waits" ? h("span", { class: "count", hidden: true }) : null;
-            return h("button", { ...more, id: `tab-${name}`, class: `${name}-tab` }, title, badge);
+            return h("button", { ...more, id: `tab-${name}`, class: `${name}-tab` }, title, badge && " ", badge);
         }),
     );
     const signs = LEGEND.map(([kind, words]) => h("span", {}, legendSign(kind), words));

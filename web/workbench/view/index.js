@@ -11,11 +11,13 @@ export class Index {
     /**
      * @param {HTMLElement} element
      * @param {Example[]} examples
+     * @param {import("../chronology.js").Chronology} years
      * @param {(name: string) => void} load
      */
-    constructor(element, examples, load) {
+    constructor(element, examples, years, load) {
         this.dialog = /** @type {HTMLDialogElement} */ (element);
         this.examples = examples;
+        this.years = years;
         this.load = load;
         this.list = h("div", { class: "lessons" });
         const answers = h("button", { type: "button", "aria-pressed": "false", id: "index-answers" }, "Answers");
@@ -35,7 +37,8 @@ export class Index {
     }
 
     open() {
-        if (!this.list.firstChild) this.list.replaceChildren(this.words(), ...this.groups((it) => this.button(it)));
+        const groups = () => this.groups((it) => this.button(it));
+        if (!this.list.firstChild) this.list.replaceChildren(this.words(), this.chronology(), ...groups());
         if (!this.dialog.open) this.dialog.showModal();
     }
 
@@ -66,12 +69,34 @@ export class Index {
         return h("section", { class: "words" }, h("h3", {}, "Words"), h("dl", {}, ...rows));
     }
 
+    /** What happened when, with the lesson of each year and event. */
+    chronology() {
+        const { rows, notes } = this.years;
+        const plain = { type: "button", class: "plain" };
+        const said = (/** @type {import("../chronology.js").Piece[]} */ it) => it.map((piece) => (
+            typeof piece === "string"
+                ? piece
+                : h("button", { ...plain, "data-year": piece.lesson, onclick: () => this.choose(piece.lesson) }, piece.text)
+        ));
+        const told = rows.map(({ when, what, here, source }) => h(
+            "div",
+            {},
+            h("dt", {}, ...said(when)),
+            h("dd", {}, ...said(what), ". ", ...said(here), here.length ? ". " : "", h("small", {}, ...said(source))),
+        ));
+        const title = h("h3", {}, "What happened when");
+        return h("section", { class: "years" }, title, h("dl", {}, ...told), ...notes.map((it) => h("p", {}, ...said(it))));
+    }
+
+    /** @param {string} name */
+    choose(name) {
+        this.close();
+        this.load(name);
+    }
+
     /** @param {Example} example */
     button(example) {
-        const choose = () => {
-            this.close();
-            this.load(example.name);
-        };
+        const choose = () => this.choose(example.name);
         const attributes = { type: "button", class: "plain", "data-name": example.name, onclick: choose };
         return h("button", attributes, example.title);
     }

@@ -119,7 +119,8 @@ export class MapView {
             const isMarked = element.querySelector(".badge.shown") || element.classList.contains("down");
             const by = shown[place] ? factor : isMarked ? Math.min(factor, 1.25) : DOT;
             const half = by * this.box(number).w;
-            const over = shown[place] ? Math.max(0, left + half - x) - Math.max(0, x + half - left - width) : 0;
+            const isMoved = shown[place] && x >= left && x <= left + width; // so that it isn't cut at the edge
+            const over = isMoved ? Math.max(0, left + half - x) - Math.max(0, x + half - left - width) : 0;
             element.classList.toggle("folded", !shown[place]);
             set(element, {
                 transform: by === 1 || (by > 1 && by <= 1.02)
@@ -372,7 +373,7 @@ export class MapView {
      */
     part(part, key, children) {
         const { tap } = this;
-        const button = tap ? { role: "button", tabindex: -1, "aria-label": "" } : {};
+        const button = tap ? { role: "button", tabindex: -1 } : {};
         const attributes = { class: `part ${part.kind}`, "data-part": key, ...button };
         const element = s("g", attributes, s("title"), ...children);
         element.addEventListener("click", (event) => {
@@ -660,13 +661,12 @@ export class MapView {
 }
 
 /**
- * Names a part, for who hears and for who points.
+ * Names a part, for who hears and for who points, by its title.
  *
  * @param {Element} element
  * @param {string} text
  */
 function label(element, text) {
-    set(element, { "aria-label": text });
     say(element.children[0], text);
 }
 

@@ -4,7 +4,7 @@ import { chance } from "../../check/chance.js";
 import { goOn } from "../edits.js";
 import { candidates, possible } from "../possible.js";
 import { isReplay, replay } from "../runs.js";
-import { find, headOf, randomEvent, searches } from "../schedules.js";
+import { find, headOf, schedules, searches } from "../schedules.js";
 import { readTopology } from "../topology.js";
 import { count } from "../words.js";
 import { h, say } from "./dom.js";
@@ -128,7 +128,7 @@ export class Next {
         if (!history) return;
         this.seed += 1;
         const draw = chance(this.seed);
-        const lines = Array.from({ length: SURPRISE.tried }, () => randomEvent(history.network, draw));
+        const lines = schedules(history.network, draw)().slice(1, SURPRISE.tried);
         const edit = goOn(history, position, lines, true);
         const outcome = await replay(runner.run, edit.text);
         if (!isReplay(outcome)) return;

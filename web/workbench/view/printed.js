@@ -32,7 +32,7 @@ export class Printed {
             )
         );
         this.status = h("span", { class: "soft", role: "status" });
-        this.output = h("pre", { class: "printed", tabindex: 0 });
+        this.output = h("pre", { class: "printed", tabindex: 0, role: "region", "aria-label": "lines" });
         this.whole = "";
         this.shown = "";
         this.element = h(

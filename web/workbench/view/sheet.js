@@ -1,6 +1,6 @@
 /** Draws the sheet: the script's rows, and the chart over the same rows. */
 
-import { rowsOf, seen } from "../sheet.js";
+import { rowsOf, shownRows } from "../sheet.js";
 import { hostName, impOf } from "../topology.js";
 import { wordOf } from "../glossary.js";
 import { keep, s, say, set, h } from "./dom.js";
@@ -18,6 +18,9 @@ import { keep, s, say, set, h } from "./dom.js";
  * @property {Set<number>} added lines of the script that were added
  */
 
+const EMPTY = "The script has no event yet. Tap a part of the map, or an event in the table Possible, and it is added here. "
+    + "Or type it: press Edit.";
+
 /** The sheet of a replay. */
 export class SheetView {
     /**
@@ -30,10 +33,12 @@ export class SheetView {
         this.rows = h("div", { class: "rows", role: "list", "aria-label": "script" });
         this.svg = s("svg", { class: "chart", "aria-hidden": "true" });
         this.body = h("div", { class: "sheet-body" }, this.rows, this.svg);
+        this.empty = h("p", { class: "soft empty", hidden: true }, EMPTY);
         this.scroller = h(
             "div",
             { class: "sheet-scroll", tabindex: 0, role: "region", "aria-label": "script and chart" },
             this.heads,
+            this.empty,
             this.body,
         );
         element.replaceChildren(this.scroller);
@@ -41,10 +46,15 @@ export class SheetView {
         this.sheet = null;
         /** @type {Row[]} */
         this.list = [];
-        this.open = -2;
+        /** @type {import("../sheet.js").Shown[]} what has an element, in order */
+        this.shown = [];
+        this.unfolded = "";
+        this.isNew = true;
         this.drawn = "";
-        /** @type {string[]} what each row looks like */
+        /** @type {string[]} what each of them looks like */
         this.looks = [];
+        /** @type {Set<number>} */
+        this.marked = new Set();
         this.range = { from: 0, to: 0 };
         new ResizeObserver(() => this.sheet && this.drawChart()).observe(this.body);
         this.scroller.addEventListener("scroll", () => this.sheet && this.isOutside() && this.drawChart());
@@ -58,8 +68,8 @@ export class SheetView {
     show(sheet) {
         this.sheet = sheet;
         this.list = rowsOf(sheet.history, sheet.stops);
-        this.open = -2;
-        this.looks = [];
+        this.empty.hidden = sheet.history.replay.input.events.length > 0;
+        this.isNew = true;
         this.rows.classList.toggle("many", this.list.length > 400);
         const { network } = sheet.history;
         keep(
@@ -84,16 +94,30 @@ export class SheetView {
             },
         );
         set(this.scroller, { style: `--lanes: ${sheet.chart.lanes.length}` });
+    }
+
+    /**
+     * Makes the elements of the rows that are shown, where these are others than before.
+     *
+     * @param {number} current the place of the present row
+     */
+    unfold(current) {
+        const shown = shownRows(this.list, current);
+        const unfolded = shown.map(({ place, count }) => `${place} ${count}`).join();
+        if (!this.isNew && unfolded === this.unfolded) return;
+        this.shown = shown;
+        this.unfolded = unfolded;
+        this.looks = [];
         keep(
             this.rows,
-            this.list.map((row, place) => ({ row, place })),
+            shown,
             ({ row, place }) => `${place} ${row.kind} ${row.number} ${row.text}`,
             ({ row }) => this.makeRow(row),
-            (element, { row, place }) => {
-                element.dataset.place = String(place);
-                element.className = `row ${row.kind} ${row.stop >= 0 || row.steps ? "goal" : ""}`;
+            (element, { row }) => {
+                element.className = `row ${row.kind} ${row.stop >= 0 || row.steps || row.kind === "more" ? "goal" : ""}`;
                 element.classList.toggle("refused", row.refused);
-                element.classList.toggle("added", row.kind === "event" && sheet.added.has(row.line));
+                element.classList.toggle("added", row.kind === "event" && this.sheet?.added.has(row.line));
+                element.classList.toggle("of-flow", this.marked.has(row.stop));
                 const head = element.querySelector(".steps");
                 if (head) say(head, ` ▸ ${row.steps} ${row.steps === 1 ? "step" : "steps"}`);
             },
@@ -105,7 +129,7 @@ export class SheetView {
      * @returns {HTMLElement}
      */
     makeRow(row) {
-        const isGoal = row.kind === "event" || row.kind === "stop";
+        const isGoal = row.kind === "event" || row.kind === "stop" || row.kind === "more";
         const meant = isGoal ? wordOf(row.text) : "";
         const text = isGoal
             ? h("button", { class: "text", type: "button", tabindex: -1, title: meant || null }, row.text)
@@ -116,7 +140,7 @@ export class SheetView {
         if (row.refused) element.append(h("span", { class: "heard" }, "refused"));
         if (isGoal) {
             element.addEventListener("click", () => {
-                const it = this.list[Number(element.dataset.place)];
+                const it = this.shown[[...this.rows.children].indexOf(element)].row;
                 this.go(it.steps ? (this.sheet?.stops.find((stop) => stop.event === it.event)?.to ?? it.at) : it.at);
             });
         }
@@ -135,32 +159,30 @@ export class SheetView {
         const current = this.list.findIndex(
             (row) => row.stop >= 0 && stops[row.stop].from < position && position <= stops[row.stop].to,
         );
-        const open = current >= 0 ? this.list[current].event : -1;
-        const shown = seen(this.list, open);
+        this.unfold(current);
         const elements = /** @type {HTMLElement[]} */ ([...this.rows.children]);
-        elements.forEach((element, place) => {
-            const row = this.list[place];
+        const present = this.shown.findIndex(({ row, place }) => place === current && row.kind !== "more");
+        this.shown.forEach(({ row }, at) => {
             const isPast = row.kind === "comment" || row.kind === "question"
                 ? row.at < position || row.at === 0
                 : row.at <= position && position > 0;
-            const isShown = shown[place] && !(hidden && !isPast);
-            const looks = `${isShown} ${isPast} ${place === current}`;
-            if (looks === this.looks[place]) return;
-            this.looks[place] = looks;
-            element.hidden = !isShown;
-            element.classList.toggle("future", !isPast);
-            element.classList.toggle("current", place === current);
-            element.setAttribute("aria-current", place === current ? "step" : "false");
+            const isHidden = hidden && !isPast;
+            const looks = `${isHidden} ${isPast} ${at === present}`;
+            if (looks === this.looks[at]) return;
+            this.looks[at] = looks;
+            elements[at].hidden = isHidden;
+            elements[at].classList.toggle("future", !isPast);
+            elements[at].classList.toggle("current", at === present);
+            elements[at].setAttribute("aria-current", at === present ? "step" : "false");
         });
         this.position = position;
         this.hidden = hidden;
         this.current = current >= 0 ? stops[this.list[current].stop] : null;
-        const element = elements[current];
-        if (element) this.keep(element);
+        if (present >= 0) this.keep(elements[present]);
         else this.scroller.scrollTop = 0;
-        const drawn = `${open} ${hidden ? position : ""} ${this.body.clientWidth}`;
-        if (drawn !== this.drawn || this.open === -2 || this.isOutside()) this.drawChart();
-        this.open = open;
+        const drawn = `${this.unfolded} ${hidden ? position : ""} ${this.body.clientWidth}`;
+        if (drawn !== this.drawn || this.isNew || this.isOutside()) this.drawChart();
+        this.isNew = false;
         this.drawn = drawn;
         this.markPast();
     }
@@ -186,8 +208,9 @@ export class SheetView {
      * @param {Set<number>} stops
      */
     mark(stops) {
+        this.marked = stops;
         [...this.rows.children].forEach(
-            (element, place) => element.classList.toggle("of-flow", stops.has(this.list[place].stop)),
+            (element, at) => element.classList.toggle("of-flow", stops.has(this.shown[at].row.stop)),
         );
     }
 
@@ -207,12 +230,13 @@ export class SheetView {
         const middles = Array(stops.length).fill(-1);
         /** @type {Map<number, number>} */
         const ofEvent = new Map();
-        [...this.rows.children].forEach((child, place) => {
+        [...this.rows.children].forEach((child, at) => {
             const element = /** @type {HTMLElement} */ (child);
             if (element.hidden) return;
-            const row = this.list[place];
+            const { row, place, count } = this.shown[at];
             const middle = element.offsetTop + element.offsetHeight / 2;
-            if (row.stop >= 0) middles[row.stop] = middle;
+            if (row.kind === "more") for (const it of this.list.slice(place, place + count)) middles[it.stop] = middle;
+            else if (row.stop >= 0) middles[row.stop] = middle;
             else if (row.kind === "event") ofEvent.set(row.event, middle);
         });
         return stops.flatMap(

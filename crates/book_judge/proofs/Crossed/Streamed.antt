@@ -13,7 +13,7 @@ use Rattle.book_judge.specs.declared.joined.Stream.{Stream}
 use Rattle.book_judge.proofs.Elements.{read_at}
 use Rattle.book_judge.proofs.Mailboxes.{get_set}
 use Rattle.book_judge.proofs.Named.{get_cases, get_front, get_seam, named_there, same_flow_is, texts_at}
-use Rattle.book_judge.proofs.Crossed.TextsBy.{AreRead, between, bits_append, data_ends, data_read, read_data, texts_after, texts_append, texts_less, texts_split, texts_within, unread_append, unread_two, within}
+use Rattle.book_judge.proofs.Crossed.TextsBy.{AreRead, between, bits_append, data_ends, data_read, read_data, texts_after, texts_append, texts_between, texts_less, texts_past, texts_split, texts_within, unread_append, unread_two, within}
 
 -- ---- one crossing more
 
@@ -304,6 +304,35 @@ module _ (comes : Bool) (f : Flow) (log : List Crossing) (s : Stream) (h : IsStr
       | inr past ↦ (let all : length s.pieces.items ≡ length ts = h.counts in let z : length (texts_by comes f (take since log)) ≤ length ts = texts_within comes f since log in omega (arith, past, all, z))
     ]
 
+  -- and as many are between two places as it has messages between them
+  pub counted : (since until first last : ℕ) → IsFirstFrom s.pieces.items since first
+      → IsFirstFrom s.pieces.items until last
+      → last - first ≡ length (texts_by comes f (drop since (take until log)))
+  counted since until first last a b =
+      let x : length (texts_by comes f (take since log)) ≡ first = before_place since first a in
+      let y : length (texts_by comes f (take until log)) ≡ last = before_place until last b in
+      elim (cases_lt until since) [
+        | inl past ↦
+            (let fewer : length (texts_by comes f (take until log)) ≤ length (texts_by comes f (take since log)) =
+            texts_less comes f until since log (omega (arith, past)) in
+            let none : length (texts_by comes f (drop since (take until log))) ≡ 0 =
+            ap (λ (us : List (List Bool)). length us) (texts_past comes f since until log (omega (arith, past))) in
+            omega (arith, x, y, fewer, none))
+        | inr within ↦
+            (let parts : length (texts_by comes f (take until log))
+            ≡ length (texts_by comes f (take since log)) + length (texts_by comes f (drop since (take until log))) =
+            texts_between comes f since until log within in
+            omega (arith, x, y, parts))
+      ]
+
+  pub counted_none : (since until first last : ℕ) → IsFirstFrom s.pieces.items since first
+      → IsFirstFrom s.pieces.items until last → last < first
+      → 0 ≡ length (texts_by comes f (drop since (take until log)))
+  counted_none since until first last a b less =
+      let all : last - first ≡ length (texts_by comes f (drop since (take until log))) =
+      counted since until first last a b in
+      omega (arith, all, less)
+
   pub mark_found : (n : ℕ) (p : Piece) → slice_get s.pieces.items n ≡ Some p
       → pair p.before p.unread ≡ marked comes (take n ts)
   mark_found n p e = (h.pieces n p e).before
@@ -464,6 +493,24 @@ pub none_after : (comes : Bool) (log : List Crossing) (j : Joined) (f : Flow) (o
 none_after comes log j f o since h get is =
     let none : texts_by comes f log ≡ [] = subst (λ (p : Option ℕ). StreamOf comes f log p j.streams.items) (sym get ∙ is) (h.streams f) in
     no_rest (texts_by comes f (take since log)) (texts_by comes f (drop since log)) (sym none ∙ texts_split comes f since log)
+
+pub none_between : (comes : Bool) (log : List Crossing) (j : Joined) (f : Flow) (o : Option ℕ) (since until : ℕ)
+    → AreJoined comes log j → o ≡ map.get j.numbers f → o ≡ None
+    → 0 ≡ length (texts_by comes f (drop since (take until log)))
+none_between comes log j f o since until h get is =
+    let none : texts_by comes f log ≡ [] = subst (λ (p : Option ℕ). StreamOf comes f log p j.streams.items) (sym get ∙ is) (h.streams f) in
+    let whole : length (texts_by comes f log) ≡ 0 = ap (λ (us : List (List Bool)). length us) none in
+    let front : length (texts_by comes f (take until log)) ≤ length (texts_by comes f log) =
+    texts_within comes f until log in
+    elim (cases_lt until since) [
+      | inl past ↦
+          sym (ap (λ (us : List (List Bool)). length us) (texts_past comes f since until log (omega (arith, past))))
+      | inr within ↦
+          (let parts : length (texts_by comes f (take until log))
+          ≡ length (texts_by comes f (take since log)) + length (texts_by comes f (drop since (take until log))) =
+          texts_between comes f since until log within in
+          omega (arith, whole, front, parts))
+    ]
 
 -- the data of no texts
 abbrev IsNothing : Bool → ℕ → List (List Bool) → List Bool → Type 0

@@ -1,10 +1,34 @@
 -- The texts that cross on a flow, and the data of the first of them.
-use Rattle.book_judge.proofs.Common.{◌≡◌, ℕ, suc, ◌+◌, ◌-◌, ◌<◌, ◌≤◌, ◌&&◌, Bool, true, false, if◌then◌else◌, List, [], ◌∷◌, ◌++◌, length, take, drop, reverse, Option, Some, None, refl, ap, ap₂, sym, ◌∙◌, append-nil, arith, option_map, ltb-false, ltb-true, append_assoc, drop_all, drop_at, length-append, length-reverse, reverse-append, take-append-drop, take_all, take_at, Flow, Crossing, and_true, header_of, DataHeader, data_in, first_data, text_of, all_bits, bits_in, one_unread, texts_by, unread_in, end_of}
+use Rattle.book_judge.proofs.Common.{◌≡◌, ℕ, suc, ◌+◌, ◌-◌, ◌<◌, ◌≤◌, ◌&&◌, Bool, true, false, if◌then◌else◌, List, [], ◌∷◌, ◌++◌, length, take, drop, reverse, Option, Some, None, refl, ap, sym, ◌∙◌, append-nil, arith, inl, inr, subst, ap₂, option_map, ltb-false, ltb-true, cases_lt, drop_all, length-append, length-reverse, reverse-append, take-append-drop, take_all, take_at, length-drop, Flow, Crossing, and_true, data_in, first_data, text_of, texts_of, all_bits, bits_in, one_unread, texts_by, unread_in, end_of, before}
+use Rattle.std.proofs.lemmas.List.{append_assoc, drop_at}
 use Rattle.std.proofs.Common.{zero}
 use Rattle.std.specs.Prelude.{max, nat_lt}
 use Rattle.std.proofs.lemmas.List.{drop-append-le}
-use Rattle.promise.specs.Formed.{data_by, joined, texts_of}
+use Rattle.ncp_control.specs.DataHeader.{header_of}
+use Rattle.ncp_control.specs.declared.data_header.DataHeader.{DataHeader}
+use Rattle.promise.specs.Formed.{data_by, joined}
 use Rattle.book_judge.specs.Inside.Made.{end_by}
+
+-- ---- what crossed before a place
+
+pub before_place : (log : List Crossing) (n : ℕ) → n ≤ length log → before n (reverse log) ≡ reverse (take n log)
+before_place log n h =
+    let e : reverse log ≡ reverse (drop n log) ++ reverse (take n log) =
+    ap (λ (xs : List Crossing). reverse xs) (sym (take-append-drop n log)) ∙ reverse-append (take n log) (drop n log) in
+    let k : length (reverse (drop n log)) ≡ length (reverse log) - n =
+    length-reverse (drop n log) ∙ length-drop n log ∙ ap (λ (m : ℕ). m - n) (sym (length-reverse log)) in
+    let P : List Crossing → Type 0 = λ z. drop (length (reverse log) - n) z ≡ reverse (take n log) in
+    subst P (sym e) (drop_at (reverse (drop n log)) (reverse (take n log)) (length (reverse log) - n) k)
+
+-- also where it is past all that crossed
+pub before_take : (log : List Crossing) (n : ℕ) → before n (reverse log) ≡ reverse (take n log)
+before_take log n = elim (cases_lt (length log) n) [
+  | inl past ↦
+      (let none : length (reverse log) - n ≡ 0 = (let e = length-reverse log in omega (arith, e, past)) in
+      ap (λ (k : ℕ). drop k (reverse log)) none
+      ∙ sym (ap (λ (xs : List Crossing). reverse xs) (take_all n log (omega (arith, past)))))
+  | inr within ↦ before_place log n within
+]
 
 -- ---- the messages on a link
 
@@ -198,3 +222,30 @@ pub texts_within : (comes : Bool) (f : Flow) (place : ℕ) (log : List Crossing)
 texts_within comes f place log =
     let both : length (texts_by comes f log) ≡ length (texts_by comes f (take place log)) + length (texts_by comes f (drop place log)) = ap length (texts_split comes f place log) ∙ length-append (texts_by comes f (take place log)) (texts_by comes f (drop place log)) in
     omega (arith, both)
+
+-- as many cross between two places as before the one and not before the other
+pub texts_between : (comes : Bool) (f : Flow) (a b : ℕ) (log : List Crossing) → a ≤ b
+    → length (texts_by comes f (take b log))
+    ≡ length (texts_by comes f (take a log)) + length (texts_by comes f (drop a (take b log)))
+texts_between comes f zero b log less = omega arith
+texts_between comes f (suc a) zero log less = absurd (omega (arith, less))
+texts_between comes f (suc a) (suc b) [] less = omega arith
+texts_between comes f (suc a) (suc b) (c ∷ log) less =
+    let rest : length (texts_by comes f (take b log))
+    ≡ length (texts_by comes f (take a log)) + length (texts_by comes f (drop a (take b log))) =
+    texts_between comes f a b log (omega (arith, less)) in
+    let one : length (text_of comes f c ++ texts_by comes f (take b log))
+    ≡ length (text_of comes f c) + length (texts_by comes f (take b log)) =
+    length-append (text_of comes f c) (texts_by comes f (take b log)) in
+    let two : length (text_of comes f c ++ texts_by comes f (take a log))
+    ≡ length (text_of comes f c) + length (texts_by comes f (take a log)) =
+    length-append (text_of comes f c) (texts_by comes f (take a log)) in
+    omega (arith, rest, one, two)
+
+pub texts_past : (comes : Bool) (f : Flow) (a b : ℕ) (log : List Crossing) → b ≤ a
+    → texts_by comes f (drop a (take b log)) ≡ []
+texts_past comes f zero zero log less = refl
+texts_past comes f zero (suc b) log less = absurd (omega (arith, less))
+texts_past comes f (suc a) zero log less = refl
+texts_past comes f (suc a) (suc b) [] less = refl
+texts_past comes f (suc a) (suc b) (c ∷ log) less = texts_past comes f a b log (omega (arith, less))

@@ -1,11 +1,10 @@
 -- Deeds of a log, and the first life whose fate they don't leave it.
-use Rattle.book_judge.proofs.Common.{◌≡◌, ◌⊎◌, inl, inr, ℕ, zero, suc, ◌+◌, ◌-◌, ◌<◌, ◌≤◌, Bool, true, false, List, [], ◌∷◌, ◌++◌, length, drop, get_or, reverse, take, Option, Some, append-nil, refl, ap, arith, subst, sym, ◌∙◌, append_assoc, length-drop, length-reverse, length-take-le, take_all, take_more, Host, Crossing, Order, orders_within, stage, IsBeside, Fate, Life, AreSuited, suits, AreQuiet, AreStarts, deeds_at, deeds_by, deeds_in, suits_after, with_act, Act, Deed}
+use Rattle.book_judge.proofs.Common.{◌≡◌, ◌⊎◌, inl, inr, ℕ, zero, suc, ◌+◌, ◌-◌, ◌<◌, ◌≤◌, Bool, true, false, List, [], ◌∷◌, ◌++◌, length, drop, get_or, reverse, take, Option, Some, refl, ap, arith, subst, sym, ◌∙◌, not, ◌&&◌, length-drop, length-take-le, take_all, take_more, Host, Crossing, orders_within, stage, Asking, Going, Over, Stage, Course, course, IsBeside, Fate, Life, AreSuited, suits, IsSuited, is_begun, deeds_by, deeds_in, suits_after, begun_by, begun_of, pace_of, suits_begun, Deed, false≢true, and_true}
 use Rattle.std.proofs.Common.{None}
+use Rattle.std.proofs.lemmas.Bool.{not-true}
 use Rattle.std.specs.List.{slice_get}
 use Rattle.book_judge.specs.Fates.{UnsuitedAt}
-use Rattle.book_judge.proofs.Asked.{one_back}
-use Rattle.book_judge.proofs.Named.{get_cases, none_within}
-use Rattle.book_judge.proofs.Ends.Reached.{suits_by}
+use Rattle.book_judge.proofs.Ends.Reached.{all_crossings}
 
 -- ---- deeds of a text
 
@@ -36,16 +35,6 @@ added_next comes place host peer octets rest deeds next whole read are some read
             ∙ ap (λ (k : ℕ). deeds ++ deeds_by comes place host peer (orders_within k octets)) (sym more) ∙ are.same;
       }
 
--- ---- where deeds begin
-
-pub starts_more : (starts : List ℕ) (deeds : List Deed) (place count : ℕ) → length starts ≡ place
-    → AreStarts starts deeds → AreQuiet place (take count deeds) → AreStarts (starts ++ count ∷ []) deeds
-starts_more starts deeds place count same are q at n e = elim (get_cases starts count n at e) [
-  | inl s ↦ subst (λ (m : ℕ). AreQuiet at (take m deeds)) (sym s.0)
-      (subst (λ (p : ℕ). AreQuiet p (take count deeds)) (sym (s.1 ∙ same)) q)
-  | inr r ↦ are at n r
-]
-
 -- ---- the search
 
 -- what is beside the last life
@@ -71,12 +60,40 @@ more_lives : (lives : List Life) (place : ℕ) (x : Life) → place < length liv
     → take (place + 1) lives ≡ take place lives ++ x ∷ []
 more_lives lives place x h at = take_more lives place x h ∙ ap (λ (z : Life). take place lives ++ z ∷ []) (sym at)
 
+-- what suits a life by its stage
+and_both : (a b : Bool) → not a ≡ true → b ≡ true → (not a && b) ≡ true
+and_both true b e f = e
+and_both false b e f = f
+
+suited_by : (early : Bool) (s : Stage) (f : Fate) → suits_begun (begun_by early s) f ≡ true
+    → (is_begun s ≡ true → early ≡ false) × (suits s f ≡ true)
+suited_by early (Asking own partner) f h = (λ e. absurd (false≢true e), refl)
+suited_by early (Going own partner) f h =
+    let both = and_true (not early) (suits (Going own partner) f) h in (λ e. not-true early both.0, both.1)
+suited_by early (Over cause place) f h =
+    let both = and_true (not early) (suits (Over cause place) f) h in (λ e. not-true early both.0, both.1)
+
+suits_back : (early : Bool) (s : Stage) (f : Fate) → (is_begun s ≡ true → early ≡ false) → suits s f ≡ true
+    → suits_begun (begun_by early s) f ≡ true
+suits_back early (Asking own partner) f begins fate = refl
+suits_back early (Going own partner) f begins fate =
+    and_both early (suits (Going own partner) f) (ap not (begins refl)) fate
+suits_back early (Over cause place) f begins fate =
+    and_both early (suits (Over cause place) f) (ap not (begins refl)) fate
+
+suits_is : (x : Life) (log : List Crossing) (f : Fate)
+    → suits_after (deeds_in log) x (Some f) ≡ suits_begun (begun_by (course [] x log).early (stage [] x log)) f
+suits_is x log f = ap (λ (k : Course). suits_begun (begun_of (pace_of k)) f) (all_crossings x log)
+
 one_suited : (log : List Crossing) (x : Life) (deeds : List Deed) (o : Option Fate) (f : Fate)
-    → deeds ≡ deeds_in (reverse log) → o ≡ Some f → suits_after deeds x o ≡ true
-    → suits (stage [] x (reverse log)) f ≡ true
-one_suited log x deeds o f are e s =
-    sym (ap (λ (ds : List Deed). suits_after ds x (Some f)) are ∙ suits_by x (reverse log) f)
-    ∙ ap (suits_after deeds x) (sym e) ∙ s
+    → deeds ≡ deeds_in (reverse log) → o ≡ Some f → suits_after deeds x o ≡ true → IsSuited (reverse log) x f
+one_suited log x deeds o f are e s = record { begins = both.0; fate = both.1 } where
+  both : (is_begun (stage [] x (reverse log)) ≡ true → (course [] x (reverse log)).early ≡ false)
+      × (suits (stage [] x (reverse log)) f ≡ true)
+  both =
+      suited_by (course [] x (reverse log)).early (stage [] x (reverse log)) f
+      (sym (ap (λ (ds : List Deed). suits_after ds x (Some f)) are ∙ suits_is x (reverse log) f)
+      ∙ ap (suits_after deeds x) (sym e) ∙ s)
 
 pub suited_more : (log : List Crossing) (lives : List Life) (fates : List Fate) (deeds : List Deed) (place : ℕ) (x : Life) (o : Option Fate)
     → place < length lives → x ≡ get_or lives place x
@@ -86,7 +103,7 @@ suited_more log lives fates deeds place x o h at got are s all y f b =
     let count : length (take place lives) ≡ place = length-take-le place lives (omega (arith, h)) in
     elim
     (beside_last (take place lives) y x f fates (subst (λ (xs : List Life). IsBeside y f xs fates) (more_lives lives place x h at) b)) [
-      | inl e ↦ subst (λ (z : Life). suits (stage [] z (reverse log)) f ≡ true) (sym e.0)
+      | inl e ↦ subst (λ (z : Life). IsSuited (reverse log) z f) (sym e.0)
           (one_suited log x deeds o f are (got ∙ ap (slice_get fates) (sym count) ∙ e.1) s)
       | inr r ↦ all y f r
     ]
@@ -105,7 +122,9 @@ unsuited_here log lives fates deeds place x o h at got are s all = (all, λ more
       (beside_there (take place lives) x f fates (ap (slice_get fates) count ∙ sym got ∙ e)) in
       let both : false ≡ true =
       sym s ∙ ap (suits_after deeds x) e ∙ ap (λ (ds : List Deed). suits_after ds x (Some f)) are
-      ∙ suits_by x (reverse log) f ∙ more x f there in
+      ∙ suits_is x (reverse log) f
+      ∙ suits_back (course [] x (reverse log)).early (stage [] x (reverse log)) f (more x f there).begins
+      (more x f there).fate in
       cc
 
 beside_front : (n : ℕ) (x : Life) (f : Fate) (lives : List Life) (fates : List Fate)
@@ -128,4 +147,4 @@ all_suited log lives fates place past all =
 
 -- where nothing crossed no life has begun
 pub suited_alone : (x : Life) (f : Fate) → AreSuited [] (x ∷ []) (f ∷ [])
-suited_alone x f y g b = refl
+suited_alone x f y g b = record { begins = λ e. absurd (false≢true e); fate = refl }

@@ -1,6 +1,6 @@
 -- What of a log may change how far a life is, and how far it is by that. No public clause cites this file.
-use Rattle.std.specs.Prelude.{◌≡◌, ℕ, ◌+◌, ◌==◌, ◌&&◌, ◌||◌, nat_lt, min, Bool, true, false, not, if◌then◌else◌, List}
-use Rattle.std.specs.Prelude.{[], ◌∷◌, ◌++◌, length, drop, take, slice_get, Option, Some, None}
+use Rattle.std.specs.Prelude.{◌≡◌, ℕ, ◌+◌, ◌==◌, ◌&&◌, ◌||◌, Bool, true, false, not, if◌then◌else◌, List}
+use Rattle.std.specs.Prelude.{[], ◌∷◌, ◌++◌, length, drop, Option, Some, None}
 use Rattle.interface.specs.Host.{Host, same_host}
 use Rattle.interface.specs.declared.crossing.Crossing.{Crossing}
 use Rattle.interface.specs.declared.crossing.Crossing.TheVariants as crossing
@@ -8,16 +8,14 @@ use Rattle.interface.specs.declared.message.HostMessage.{HostMessage}
 use Rattle.ncp_control.specs.declared.command.Command.{Command}
 use Rattle.ncp_control.specs.declared.command.Command.TheVariants as command
 use Rattle.host_pairs.specs.Control.{Legal, Order, Wrong, orders_of, orders_within}
-use Rattle.promise.specs.Ends.{Asking, Closed, Course, Dropped, Going, Over, Stage, Stopped, fails}
+use Rattle.promise.specs.Ends.{Asking, Course, Dropped, Over, Stage, Stopped, cut, ended_by, fails, own_asked}
+use Rattle.promise.specs.Ends.{own_closed, partner_asked, partner_closed}
 use Rattle.promise.specs.declared.life.Fate.{Fate}
 use Rattle.promise.specs.declared.life.Life.{Life}
-use Rattle.book_judge.specs.Fates.{suits_cause, suits_going}
-use Rattle.book_judge.specs.declared.fates.Act.{Act}
-use Rattle.book_judge.specs.declared.fates.Act.TheVariants as act
-use Rattle.book_judge.specs.declared.fates.Deed.{Deed}
-use Rattle.book_judge.specs.declared.fates.Reached.{Reached}
-use Rattle.book_judge.specs.declared.fates.Reached.TheVariants as reached
-use Rattle.book_judge.specs.declared.fates.Standing.{Standing}
+use Rattle.book_judge.specs.Fates.{suits}
+use Rattle.book_judge.specs.declared.fates.deeds.Act.{Act}
+use Rattle.book_judge.specs.declared.fates.deeds.Act.TheVariants as act
+use Rattle.book_judge.specs.declared.fates.deeds.Deed.{Deed}
 
 -- ---- deeds
 
@@ -70,57 +68,16 @@ abbrev pub deeds_in : List Crossing → List Deed
 deeds_in [] = []
 deeds_in (c ∷ log) = deeds_in log ++ deeds_at (length log) c
 
--- ---- stages
-
-abbrev pub own_asked : Reached → Reached
-own_asked (reached.Asking own partner) = if partner then reached.Going false false else reached.Asking true false
-own_asked s = s
-
-abbrev pub partner_asked : Reached → Reached
-partner_asked (reached.Asking own partner) = if own then reached.Going false false else reached.Asking false true
-partner_asked s = s
-
-abbrev pub own_closed : Reached → Reached
-own_closed (reached.Going own partner) = if partner then reached.Closed else reached.Going true false
-own_closed s = s
-
-abbrev pub partner_closed : Reached → Reached
-partner_closed (reached.Going own partner) = if own then reached.Closed else reached.Going false true
-partner_closed s = s
-
-abbrev pub dropped : Reached → Reached
-dropped (reached.Going own partner) = reached.Dropped
-dropped s = s
-
-abbrev pub stopped : Reached → Reached
-stopped (reached.Going own partner) = reached.Stopped
-stopped s = s
-
-abbrev pub is_over : Reached → Bool
-is_over (reached.Asking own partner) = false
-is_over (reached.Going own partner) = false
-is_over s = true
-
-abbrev pub reached_of : Stage → Reached
-reached_of (Asking own partner) = reached.Asking own partner
-reached_of (Going own partner) = reached.Going own partner
-reached_of (Over Dropped place) = reached.Dropped
-reached_of (Over Stopped place) = reached.Stopped
-reached_of (Over (Closed own_first) place) = reached.Closed
-
-abbrev pub standing_of : Course → Standing
-standing_of k = record { reached = reached_of k.stage; owes = k.owes }
-
 -- ---- steps
 
 -- the request or the CLS of two sockets, that its host sends or takes
-abbrev pub asked : Bool → Reached → Reached
+abbrev pub asked : Bool → Stage → Stage
 asked true s = partner_asked s
 asked false s = own_asked s
 
-abbrev pub closed : Bool → Reached → Reached
-closed true s = partner_closed s
-closed false s = own_closed s
+abbrev pub closed : Bool → ℕ → Stage → Stage
+closed true place s = partner_closed place s
+closed false place s = own_closed place s
 
 -- whether they are those of a life, and the place that of its request
 abbrev pub is_of : Life → Bool → ℕ → ℕ → Bool
@@ -131,15 +88,16 @@ abbrev pub stamp : Life → Bool → ℕ
 stamp x true = x.partner_stamp
 stamp x false = x.own_stamp
 
-abbrev pub reached_by : Life → ℕ → Act → Standing → Reached
-reached_by x place (act.Asks comes own foreign) k =
-    if is_of x comes own foreign && place == stamp x comes then asked comes k.reached else k.reached
-reached_by x place (act.Closes comes own foreign) k = if is_of x comes own foreign then closed comes k.reached else k.reached
-reached_by x place (act.Resets comes) k = dropped k.reached
-reached_by x place act.Replies k = if k.owes then k.reached else dropped k.reached
-reached_by x place act.Fails k = if k.owes then k.reached else dropped k.reached
-reached_by x place act.Stops k = stopped k.reached
-reached_by x place act.Starts k = k.reached
+abbrev pub acts : Life → ℕ → Act → Course → Course
+acts x place (act.Asks comes own foreign) k =
+    if is_of x comes own foreign && place == stamp x comes then record k { stage = asked comes k.stage } else k
+acts x place (act.Closes comes own foreign) k =
+    if is_of x comes own foreign then ended_by (closed comes place) k else k
+acts x place (act.Resets comes) k = record (ended_by (cut Dropped place) k) { owes = comes || k.owes }
+acts x place act.Replies k = record (if k.owes then k else ended_by (cut Dropped place) k) { owes = false }
+acts x place act.Fails k = if k.owes then k else ended_by (cut Dropped place) k
+acts x place act.Stops k = record (ended_by (cut Stopped place) k) { owes = false }
+acts x place act.Starts k = record k { owes = false }
 
 abbrev pub owes_by : Act → Bool → Bool
 owes_by (act.Asks comes own foreign) owes = owes
@@ -150,9 +108,6 @@ owes_by act.Fails owes = owes
 owes_by act.Stops owes = false
 owes_by act.Starts owes = false
 
-abbrev pub acts : Life → ℕ → Act → Standing → Standing
-acts x place a k = record { reached = reached_by x place a k; owes = owes_by a k.owes }
-
 -- whether this is about one peer of its host
 abbrev pub has_peer : Act → Bool
 has_peer act.Stops = false
@@ -162,64 +117,52 @@ has_peer a = true
 abbrev pub concerns : Life → Deed → Bool
 concerns x d = same_host x.host d.host && (not (has_peer d.act) || same_host x.peer d.peer)
 
-abbrev pub step : Life → Deed → Standing → Standing
+abbrev pub step : Life → Deed → Course → Course
 step x d k = if concerns x d then acts x d.place d.act k else k
 
 -- after deeds, the oldest first
-abbrev pub after : Life → List Deed → Standing → Standing
+abbrev pub after : Life → List Deed → Course → Course
 after x [] k = k
 after x (d ∷ deeds) k = after x deeds (step x d k)
 
-abbrev pub opening : Standing
-opening = record { reached = reached.Asking false false; owes = false }
+abbrev pub opening : Course
+opening = record { stage = Asking false false; owes = false; early = false }
 
--- ---- the deeds before a life is asked for
+-- ---- what is known of a life
 
--- whether an RRP is owed after it
-abbrev pub has_owed : Act → Bool
-has_owed (act.Resets comes) = comes
-has_owed a = false
+-- its stage, and whether what ends it came too early
+abbrev pub Pace : Type 0
+Pace = Stage × Bool
 
--- a deed before a place, and not one after which an RRP is owed
-abbrev pub is_quiet : ℕ → Deed → Bool
-is_quiet place d = nat_lt d.place place && not (has_owed d.act)
+abbrev pub pace_of : Course → Pace
+pace_of k = (k.stage, k.early)
 
-abbrev pub AreQuiet : ℕ → List Deed → Type 0
-AreQuiet place [] = Unit {0}
-AreQuiet place (d ∷ deeds) = (is_quiet place d ≡ true) × AreQuiet place deeds
+-- of one whose requests haven't both crossed nothing is
+abbrev pub begun_by : Bool → Stage → Option Pace
+begun_by early (Asking own partner) = None
+begun_by early s = Some (s, early)
 
--- of each place, how many of the first deeds are so
-abbrev pub AreStarts : List ℕ → List Deed → Type 0
-AreStarts starts deeds = (place n : ℕ) → slice_get starts place ≡ Some n → AreQuiet place (take n deeds)
+abbrev pub begun_of : Pace → Option Pace
+begun_of p = begun_by p.1 p.0
 
--- where the first request of a life crossed
-abbrev pub asked_at : Life → ℕ
-asked_at x = min x.own_stamp x.partner_stamp
-
--- ---- the deeds after which only requests come
-
-abbrev pub is_request : Act → Bool
-is_request (act.Asks comes own foreign) = true
-is_request a = false
-
-abbrev pub AreRequests : List Deed → Type 0
-AreRequests [] = Unit {0}
-AreRequests (d ∷ deeds) = (is_request d.act ≡ true) × AreRequests deeds
-
-abbrev pub is_going : Reached → Bool
-is_going (reached.Going own partner) = true
-is_going s = false
-
--- ---- fates
-
-abbrev pub suits_reached : Reached → Fate → Bool
-suits_reached (reached.Asking own partner) f = true
-suits_reached (reached.Going own partner) f = suits_going f
-suits_reached reached.Dropped f = suits_cause Dropped f
-suits_reached reached.Stopped f = suits_cause Stopped f
-suits_reached reached.Closed f = suits_cause (Closed true) f
+-- so any fate is left to it; and else one that its stage leaves, if nothing came too early
+abbrev pub suits_begun : Option Pace → Fate → Bool
+suits_begun None f = true
+suits_begun (Some p) f = not p.1 && suits p.0 f
 
 -- the life at a place has no fate, or one that these deeds leave it
 abbrev pub suits_after : List Deed → Life → Option Fate → Bool
 suits_after deeds x None = true
-suits_after deeds x (Some f) = suits_reached (after x deeds opening).reached f
+suits_after deeds x (Some f) = suits_begun (begun_of (pace_of (after x deeds opening))) f
+
+-- how much had crossed when it was over; and all of as much, where it isn't
+abbrev pub over_at : ℕ → Stage → ℕ
+over_at all (Over cause place) = place
+over_at all s = all
+
+abbrev pub end_by : ℕ → Option Pace → ℕ
+end_by all None = all
+end_by all (Some p) = over_at all p.0
+
+abbrev pub end_after : ℕ → List Deed → Life → ℕ
+end_after all deeds x = end_by all (begun_of (pace_of (after x deeds opening)))

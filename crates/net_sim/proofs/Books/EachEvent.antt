@@ -100,13 +100,13 @@ step_of_one seen e = tt
 
 module _ {C : Type 0} (calls : Calls C) (Crossed : C → C → List Crossing → Type 0) (shows : Shows calls Crossed)
     (R : WorldState C → Answered → WorldState C → Type 0) (ways : Ways calls Crossed R) where
-  does : (done old : WorldState C) (r : Answered) (new : WorldState C) → R old (Ok tt) done → Does done r new → R old r new
+  pub does : (done old : WorldState C) (r : Answered) (new : WorldState C) → R old (Ok tt) done → Does done r new → R old r new
   does done old r new k d = subst (R old r) (sym d.1) (subst (λ (a : Answered). R old a done) (sym d.0) k)
 
   refuses : (f : WorldFault) (old : WorldState C) (r : Answered) (new : WorldState C) → Refuses f old r new → R old r new
   refuses f old r new h = subst (R old r) (sym h.1) (ways.left r old)
 
-  passes : (e : CarrierFault) (c : C) (old : WorldState C) (r : Answered) (new : WorldState C) → old.stopped ≡ false → Crossed old.carrier c []
+  pub passes : (e : CarrierFault) (c : C) (old : WorldState C) (r : Answered) (new : WorldState C) → old.stopped ≡ false → Crossed old.carrier c []
       → Passes e c old r new → R old r new
   passes e c old r new running crossed h =
       let now : WorldState C = record old { carrier = c; stopped = is_memory e } in

@@ -5,6 +5,9 @@ use Rattle.host_pairs.specs.declared.notice.Notice.TheVariants as notice
 use Rattle.sockets.specs.declared.request.Request.TheVariants as request
 use Rattle.promise.specs.Fates.{AreFated, is_over}
 use Rattle.promise.specs.declared.life.Fate.TheVariants as fate
+use Rattle.net_sim.specs.Mixed.{crossed_only, mixed_kept}
+use Rattle.net_sim.specs.MixedWorlds.{IsLawfulAmong}
+use Rattle.net_sim.proofs.Hosts.Telling.{kept_nobody}
 use Rattle.net_sim.specs.Book.{closing, fates_asked, fates_crossed, fates_told, granted, over_by_cls}
 
 -- ---- changes of lives and of fates
@@ -90,11 +93,42 @@ pub by_fated : (x : Moment) (k : Kept) → AreFated k.book.lives k.fates → Are
 by_fated (Crossed c) k u = crossed_fated c k.book.lives k.fates u
 by_fated (Asked h r) k u = asked_fated h r k.book.lives k.fates u
 
-pub kept_fated : (moments : List Moment) → AreFated (kept_in moments).book.lives (kept_in moments).fates
-kept_fated [] = refl
-kept_fated (x ∷ moments) = all_fated (host_in x) (notices_by x moments) (kept_by x (kept_in moments)) (by_fated x (kept_in moments) (kept_fated moments))
+-- of a stranger only what crosses is kept
+only_fated : (x : Moment) (k : Kept) → AreFated k.book.lives k.fates → AreFated (crossed_only x k).book.lives (crossed_only x k).fates
+only_fated (Crossed c) k u = crossed_fated c k.book.lives k.fates u
+only_fated (Asked h r) k u = u
 
-pub world_fated : {C : Type 0} (seen : C → Seen) (hosts : List Host) (w : WorldState C) → IsLawful seen hosts w → AreFated w.kept.book.lives w.kept.fates
+chosen_fated : (b : Bool) (x y : Kept) → AreFated x.book.lives x.fates → AreFated y.book.lives y.fates
+    → AreFated (if b then x else y).book.lives (if b then x else y).fates
+chosen_fated true x y on off = on
+chosen_fated false x y on off = off
+
+pub mixed_fated : (strange : Host → Bool) (moments : List Moment)
+    → AreFated (mixed_kept strange moments).book.lives (mixed_kept strange moments).fates
+mixed_fated strange [] = refl
+mixed_fated strange (x ∷ moments) =
+    let rest : AreFated (mixed_kept strange moments).book.lives (mixed_kept strange moments).fates =
+    mixed_fated strange moments in
+    chosen_fated (strange (host_in x)) (crossed_only x (mixed_kept strange moments))
+    (all_told (host_in x) (notices_by x moments) (kept_by x (mixed_kept strange moments)))
+    (only_fated x (mixed_kept strange moments) rest)
+    (all_fated (host_in x) (notices_by x moments) (kept_by x (mixed_kept strange moments))
+    (by_fated x (mixed_kept strange moments) rest))
+
+pub kept_fated : (moments : List Moment) → AreFated (kept_in moments).book.lives (kept_in moments).fates
+kept_fated moments =
+    let P : Kept → Type 0 = λ k. AreFated k.book.lives k.fates in
+    subst P (kept_nobody (λ h. false) (λ h. refl) moments) (mixed_fated (λ h. false) moments)
+
+-- with strangers, and without
+pub among_fated : {C : Type 0} (strange : Host → Bool) (seen : C → Seen) (hosts : List Host) (w : WorldState C)
+    → IsLawfulAmong strange seen hosts w → AreFated w.kept.book.lives w.kept.fates
+among_fated strange seen hosts w lawful =
+    let P : Kept → Type 0 = λ k. AreFated k.book.lives k.fates in
+    subst P (sym lawful.whole.kept) (mixed_fated strange lawful.whole.moments)
+
+pub world_fated : {C : Type 0} (seen : C → Seen) (hosts : List Host) (w : WorldState C) → IsLawful seen hosts w
+    → AreFated w.kept.book.lives w.kept.fates
 world_fated seen hosts w lawful =
     let P : Kept → Type 0 = λ k. AreFated k.book.lives k.fates in
     subst P (sym lawful.whole.kept) (kept_fated lawful.whole.moments)

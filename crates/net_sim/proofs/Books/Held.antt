@@ -15,7 +15,7 @@ use Rattle.sockets.specs.declared.request.Request.TheVariants as request
 use Rattle.interface.specs.declared.carrier.CarrierFault.TheVariants as fault
 use Rattle.net_sim.specs.World.{Event}
 use Rattle.net_sim.proofs.Resets.Clean.{opening_lawful, step_lawful}
-use Rattle.net_sim.proofs.Books.Whole.{step_whole}
+use Rattle.net_sim.proofs.Books.Nobody.{step_whole}
 
 -- ---- hosts in order are there once each
 
@@ -38,7 +38,7 @@ not_later g (h ∷ hosts) order = rw (not_same g h order.0 (same_host g h) refl)
 once_first : (g : Host) (hosts : List Host) → InOrder (g ∷ hosts) → (h : Host) → same_host h g ≡ true → is_host hosts h ≡ false
 once_first g hosts order h same = let P : Host → Type 0 = λ x. is_host hosts x ≡ false in subst P (sym (same_host-true h g same)) (not_later g hosts order)
 
-once_in_order : (hosts : List Host) → InOrder hosts → IsOnce hosts
+pub once_in_order : (hosts : List Host) → InOrder hosts → IsOnce hosts
 once_in_order [] order = tt
 once_in_order (g ∷ []) order = (once_first g [] order, tt)
 once_in_order (g ∷ h ∷ hosts) order = (once_first g (h ∷ hosts) order, once_in_order (h ∷ hosts) order.1)
@@ -101,7 +101,7 @@ program_live a (x ∷ moments) = after_live a (places moments) x (program a mome
 
 -- ---- the seats
 
-hosts_seated : (hosts hs : List Host) (moments : List Moment) → hosts_of (map (seat_in hosts moments) hs) ≡ hs
+pub hosts_seated : (hosts hs : List Host) (moments : List Moment) → hosts_of (map (seat_in hosts moments) hs) ≡ hs
 hosts_seated hosts [] moments = refl
 hosts_seated hosts (h ∷ hs) moments = ap (λ (xs : List Host). h ∷ xs) (hosts_seated hosts hs moments)
 
@@ -112,7 +112,7 @@ seat_by : (b : Bool) (s : NcpState) → IsLive s → IfSome (if b then Some s el
 seat_by true s live = live
 seat_by false s live = tt
 
-seats_live : (hosts hs : List Host) (moments : List Moment) → AreLive (map (seat_in hosts moments) hs)
+pub seats_live : (hosts hs : List Host) (moments : List Moment) → AreLive (map (seat_in hosts moments) hs)
 seats_live hosts [] moments = All-nil RunsLive
 seats_live hosts (h ∷ hs) moments =
     All-cons RunsLive (seat_in hosts moments h) (map (seat_in hosts moments) hs) (seat_by (is_up hosts h (crossings_of moments)) (program h moments) (program_live h moments)) (seats_live hosts hs moments)
@@ -142,7 +142,7 @@ have_first : (g : Host) (hosts : List Host) → IsAddress g → HaveAddresses ho
 have_first g hosts first later h true e is = subst IsAddress (sym (same_host-true h g e)) first
 have_first g hosts first later h false e is = later h is
 
-have_addresses : (hosts : List Host) → All (λ (h : Host). IsAddress h) hosts → HaveAddresses hosts
+pub have_addresses : (hosts : List Host) → All (λ (h : Host). IsAddress h) hosts → HaveAddresses hosts
 have_addresses [] all h is = absurd (cc)
 have_addresses (g ∷ hosts) all h is =
     have_first g hosts (All-head (λ (x : Host). IsAddress x) g hosts all) (have_addresses hosts (All-tail (λ (x : Host). IsAddress x) g hosts all)) h (same_host h g) refl is
@@ -164,7 +164,7 @@ step_held own e old r new held named gives run =
       lawful = subst (λ (hs : List Host). IsLawful own.seen hs new) (sym same) (step_lawful own hosts old new r held.lawful mine e named gives);
     }
 
-still_running : {C : Type 0} (w : WorldState C) → w.stopped ≡ false → running w.carrier w.seats w.services w.kept ≡ w
+pub still_running : {C : Type 0} (w : WorldState C) → w.stopped ≡ false → running w.carrier w.seats w.services w.kept ≡ w
 still_running {C} w e = let with : Bool → WorldState C = λ b. record { carrier = w.carrier; seats = w.seats; services = w.services; kept = w.kept; stopped = b } in ap with (sym e)
 
 event_steps : {C : Type 0} (calls : Calls C) (e : Event) (old : WorldState C) (r : Result (Unit {0}) WorldFault) (new : WorldState C) → old.stopped ≡ false

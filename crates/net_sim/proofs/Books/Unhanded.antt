@@ -1,5 +1,5 @@
 -- Nothing is handed over in a receiving life: a request to send is refused on a receiving socket.
-use Rattle.net_sim.proofs.Common.{◌≡◌, ℕ, ◌==◌, ◌&&◌, ◌++◌, ◌%◌, Bool, true, false, not, List, [], ◌∷◌, None, refl, ap, sym, subst, ◌∙◌, arith, if◌then◌else◌, eqb-true, Host, same_host, Seen, Crossing, and_true, is_receive_socket, is_send_socket, Notice, NcpState, Request, Life, Kept, all_told, book_told, carried, changed_when, handed_to, life_ended, lives_asked, lives_at, lives_between, lives_crossed, lives_on, lives_told, lives_with, new_life, returned, where_it, Moment, Crossed, Asked, program, Happens, IsTimeline, IsLawful, host_in, kept_by, kept_in, notices_by, WorldState}
+use Rattle.net_sim.proofs.Common.{◌≡◌, ℕ, ◌==◌, ◌&&◌, ◌++◌, ◌%◌, Bool, true, false, not, List, [], ◌∷◌, None, refl, ap, sym, subst, ◌∙◌, arith, if◌then◌else◌, eqb-true, Host, same_host, Seen, Crossing, and_true, is_receive_socket, is_send_socket, Notice, NcpState, Request, Life, Kept, all_told, book_told, carried, changed_when, handed_to, life_ended, lives_asked, lives_at, lives_between, lives_crossed, lives_on, lives_told, lives_with, new_life, returned, where_it, Moment, Crossed, Asked, program, Happens, IsLawful, host_in, kept_by, notices_by, WorldState}
 use Rattle.interface.specs.declared.crossing.Crossing.TheVariants as crossing
 use Rattle.interface.proofs.lemmas.{guard, not_false}
 use Rattle.host_pairs.specs.declared.notice.Notice.TheVariants as notice
@@ -7,6 +7,9 @@ use Rattle.sockets.specs.Requests.{refusal}
 use Rattle.sockets.specs.declared.request.Request.TheVariants as request
 use Rattle.net_sim.specs.Book.{granted, handed_asked, handed_told}
 use Rattle.net_sim.specs.Handed.{AreUnhanded}
+use Rattle.net_sim.specs.Mixed.{AreMixed, crossed_only, mixed_kept}
+use Rattle.net_sim.specs.MixedWorlds.{IsLawfulAmong}
+use Rattle.net_sim.proofs.Books.Nobody.{lawful_among}
 
 -- ---- changes of lives
 
@@ -83,12 +86,36 @@ by_unhanded : (hosts : List Host) (x : Moment) (moments : List Moment) → Happe
 by_unhanded hosts (Crossed c) moments may k u = crossed_unhanded c k.book.lives k.handed u
 by_unhanded hosts (Asked h r) moments may k u = asked_unhanded h (program h moments) r may.2 k.book.lives k.handed u
 
-kept_unhanded : (hosts : List Host) (moments : List Moment) → IsTimeline hosts moments → AreUnhanded (kept_in moments).book.lives (kept_in moments).handed
-kept_unhanded hosts [] line = refl
-kept_unhanded hosts (x ∷ moments) line =
-    all_unhanded (host_in x) (notices_by x moments) (kept_by x (kept_in moments)) (by_unhanded hosts x moments line.0 (kept_in moments) (kept_unhanded hosts moments line.1))
+-- of a stranger only what crosses is kept
+only_unhanded : (x : Moment) (k : Kept) → AreUnhanded k.book.lives k.handed → AreUnhanded (crossed_only x k).book.lives (crossed_only x k).handed
+only_unhanded (Crossed c) k u = crossed_unhanded c k.book.lives k.handed u
+only_unhanded (Asked h r) k u = u
 
-pub world_unhanded : {C : Type 0} (seen : C → Seen) (hosts : List Host) (w : WorldState C) → IsLawful seen hosts w → AreUnhanded w.kept.book.lives w.kept.handed
-world_unhanded seen hosts w lawful =
+chosen_unhanded : (b : Bool) (x y : Kept) → (b ≡ true → AreUnhanded x.book.lives x.handed)
+    → (b ≡ false → AreUnhanded y.book.lives y.handed) → AreUnhanded (if b then x else y).book.lives (if b then x else y).handed
+chosen_unhanded true x y on off = on refl
+chosen_unhanded false x y on off = off refl
+
+mixed_unhanded : (strange : Host → Bool) (hosts : List Host) (moments : List Moment) → AreMixed strange hosts moments
+    → AreUnhanded (mixed_kept strange moments).book.lives (mixed_kept strange moments).handed
+mixed_unhanded strange hosts [] mixed = refl
+mixed_unhanded strange hosts (x ∷ moments) mixed =
+    let rest : AreUnhanded (mixed_kept strange moments).book.lives (mixed_kept strange moments).handed =
+    mixed_unhanded strange hosts moments mixed.1 in
+    chosen_unhanded (strange (host_in x)) (crossed_only x (mixed_kept strange moments))
+    (all_told (host_in x) (notices_by x moments) (kept_by x (mixed_kept strange moments)))
+    (λ on. only_unhanded x (mixed_kept strange moments) rest)
+    (λ off. all_unhanded (host_in x) (notices_by x moments) (kept_by x (mixed_kept strange moments))
+    (by_unhanded hosts x moments (mixed.0 off) (mixed_kept strange moments) rest))
+
+-- with strangers, and without
+pub among_unhanded : {C : Type 0} (strange : Host → Bool) (seen : C → Seen) (hosts : List Host) (w : WorldState C)
+    → IsLawfulAmong strange seen hosts w → AreUnhanded w.kept.book.lives w.kept.handed
+among_unhanded strange seen hosts w lawful =
     let P : Kept → Type 0 = λ k. AreUnhanded k.book.lives k.handed in
-    subst P (sym lawful.whole.kept) (kept_unhanded hosts lawful.whole.moments lawful.whole.timeline)
+    subst P (sym lawful.whole.kept) (mixed_unhanded strange hosts lawful.whole.moments lawful.whole.mixed)
+
+pub world_unhanded : {C : Type 0} (seen : C → Seen) (hosts : List Host) (w : WorldState C) → IsLawful seen hosts w
+    → AreUnhanded w.kept.book.lives w.kept.handed
+world_unhanded seen hosts w lawful =
+    among_unhanded (λ h. false) seen hosts w (lawful_among (λ h. false) (λ h. refl) seen hosts w lawful)

@@ -1,9 +1,10 @@
 -- What services of a host ask for, as one moment after the other; and the services of all hosts.
-use Rattle.net_sim.proofs.Common.{◌≡◌, ℕ, Bool, true, false, if◌then◌else◌, find, List, [], ◌∷◌, ◌++◌, map, length, Option, Some, None, refl, ap, sym, ◌∙◌, fold, All-cons, All-head, All-nil, All-tail, Host, same_host, Crossing, same_host-refl, NcpState, refusal, served, Request, MayAsk, NamePeers, NoneRefused, ServicesState, no_services, Called, Kept, all_asked, asked, contacts_asked, Moment, Asked, program, places, IsTimeline, contacts_of, crossings_of, AreServed, seat_in, ServiceSeat, Seat, all_emptied, opening_services, services_in, services_of, serviced, with_program, with_services}
+use Rattle.net_sim.proofs.Common.{◌≡◌, ℕ, Bool, true, false, if◌then◌else◌, find, List, [], ◌∷◌, ◌++◌, map, length, Option, Some, None, refl, ap, sym, ◌∙◌, fold, All-cons, All-head, All-nil, All-tail, Host, same_host, Crossing, same_host-refl, NcpState, refusal, served, Request, MayAsk, NamePeers, NoneRefused, ServicesState, no_services, Called, Kept, all_asked, asked, contacts_asked, Moment, Asked, program, places, contacts_of, crossings_of, AreServed, seat_in, ServiceSeat, Seat, all_emptied, opening_services, services_in, services_of, serviced, with_program, with_services}
 use Rattle.std.proofs.Common.{All}
 use Rattle.interface.specs.Mailboxes as mail
 use Rattle.interface.specs.declared.crossing.Crossing.TheVariants as crossing
 use Rattle.host_services.specs.Named.{NamesPeer}
+use Rattle.net_sim.specs.Mixed.{AreMixed}
 use Rattle.net_sim.proofs.Hosts.Seats.{seated_at}
 
 -- ---- moments
@@ -51,13 +52,13 @@ asked_program h r moments s is = by (same_host-refl h) where
   by : same_host h h ≡ true → program h (Asked h r ∷ moments) ≡ served s r
   by e = rw e (ap (λ (x : NcpState). served x r) is)
 
-pub asks_timeline : (hosts : List Host) (h : Host) (rs : List Request) (moments : List Moment) (s : NcpState) → mail.is_up hosts h (crossings_of moments) ≡ true → program h moments ≡ s → All MayAsk rs
-    → NoneRefused s rs → IsTimeline hosts moments → IsTimeline hosts (asks_of h rs moments)
-asks_timeline hosts h [] moments s up is each none t = t
-asks_timeline hosts h (r ∷ rs) moments s up is each none t =
+pub asks_mixed : (strange : Host → Bool) (hosts : List Host) (h : Host) (rs : List Request) (moments : List Moment) (s : NcpState) → mail.is_up hosts h (crossings_of moments) ≡ true → program h moments ≡ s → All MayAsk rs
+    → NoneRefused s rs → AreMixed strange hosts moments → AreMixed strange hosts (asks_of h rs moments)
+asks_mixed strange hosts h [] moments s up is each none t = t
+asks_mixed strange hosts h (r ∷ rs) moments s up is each none t =
     let may : MayAsk r = All-head MayAsk r rs each in
-    asks_timeline hosts h rs (Asked h r ∷ moments) (served s r) up (asked_program h r moments s is) (All-tail MayAsk r rs each) none.1
-    ((up, may.addressed, ap (λ (x : NcpState). refusal x r) is ∙ none.0, may.ranged), t)
+    asks_mixed strange hosts h rs (Asked h r ∷ moments) (served s r) up (asked_program h r moments s is) (All-tail MayAsk r rs each) none.1
+    ((λ off. (up, may.addressed, ap (λ (x : NcpState). refusal x r) is ∙ none.0, may.ranged)), t)
 
 pub asks_each : (hosts : List Host) (h : Host) (rs : List Request) (moments : List Moment) (s : NcpState) → mail.is_up hosts h (crossings_of moments) ≡ true → program h moments ≡ s
     → (g : Host) → with_program (same_host h g) (Some (fold served s rs)) (seat_in hosts moments g) ≡ seat_in hosts (asks_of h rs moments) g

@@ -1,10 +1,12 @@
 -- The seats of a world after one moment more.
-use Rattle.net_sim.proofs.Common.{◌≡◌, Bool, true, false, if◌then◌else◌, List, [], ◌∷◌, ◌++◌, map, Option, Some, None, refl, ap, sym, subst, ◌∙◌, reverse_onto, Seen, step_crossings, up_at, Host, same_host, Crossing, NetEvent, both_ways, same_host-refl, NcpState, opening_state, Moment, Crossed, program, IsTimeline, contacts_of, crossings_of, seat_in, Seat, all_turned, seat_of, seated, seats_turned, with_program}
+use Rattle.net_sim.proofs.Common.{◌≡◌, Bool, true, false, if◌then◌else◌, List, [], ◌∷◌, ◌++◌, map, Option, Some, None, refl, ap, sym, subst, ◌∙◌, reverse_onto, Seen, step_crossings, up_at, Host, same_host, Crossing, NetEvent, both_ways, same_host-refl, NcpState, opening_state, Moment, Crossed, program, contacts_of, crossings_of, seat_in, Seat, all_turned, seat_of, seated, seats_turned, with_program}
 use Rattle.std.specs.Prelude.{reverse}
 use Rattle.interface.specs.Mailboxes as mail
 use Rattle.interface.specs.declared.crossing.Crossing.TheVariants as crossing
 use Rattle.interface.specs.declared.event.NetEvent.TheVariants as event
 use Rattle.interface.proofs.lemmas.{same_host-true}
+use Rattle.net_sim.specs.Mixed.{AreMixed}
+use Rattle.net_sim.specs.MixedWorlds.{with_programs}
 
 -- ---- finding a seat
 
@@ -21,6 +23,28 @@ found_by hosts hs moments h g seat rest false e is = rest (rw e at is)
 pub found_seat : (hosts hs : List Host) (moments : List Moment) (h : Host) (seat : Seat) → seat_of h (map (seat_in hosts moments) hs) ≡ Some seat → seat ≡ seat_in hosts moments h
 found_seat hosts [] moments h seat is = absurd (let no : None ≡ Some seat = is in cc)
 found_seat hosts (g ∷ hs) moments h seat is = found_by hosts hs moments h g seat (λ e. found_seat hosts hs moments h seat e) (same_host h g) refl is
+
+-- a host with a seat is no stranger
+pub found_plain : (strange : Host → Bool) (hosts hs : List Host) (moments : List Moment) (h : Host) (seat : Seat) → seat_of h (map (seat_in hosts moments) (with_programs strange hs)) ≡ Some seat → strange h ≡ false
+found_plain strange hosts [] moments h seat is = absurd (let no : None ≡ Some seat = is in cc)
+found_plain strange hosts (g ∷ hs) moments h seat is = by (λ later. found_plain strange hosts hs moments h seat later) (strange g) refl where
+  first : (seat_of h (map (seat_in hosts moments) (with_programs strange hs)) ≡ Some seat → strange h ≡ false) → strange g ≡ false → (b : Bool) → same_host h g ≡ b → seat_of h (map (seat_in hosts moments) (g ∷ with_programs strange hs)) ≡ Some seat → strange h ≡ false
+  first rest plain true same here = ap strange (same_host-true h g same) ∙ plain
+  first rest plain false same here = rest (rw same at here)
+
+  by : (seat_of h (map (seat_in hosts moments) (with_programs strange hs)) ≡ Some seat → strange h ≡ false) → (b : Bool) → strange g ≡ b → strange h ≡ false
+  by rest true e = rest (rw e at is)
+  by rest false e = first rest e (same_host h g) refl (rw e at is)
+
+-- what isn't about hosts with programs changes none of their seats
+pub plain_seats : (strange : Host → Bool) (hosts hs : List Host) (old new : List Moment) → ((g : Host) → strange g ≡ false → seat_in hosts old g ≡ seat_in hosts new g)
+    → map (seat_in hosts old) (with_programs strange hs) ≡ map (seat_in hosts new) (with_programs strange hs)
+plain_seats strange hosts [] old new each = refl
+plain_seats strange hosts (g ∷ hs) old new each = by (plain_seats strange hosts hs old new each) (strange g) refl where
+  by : map (seat_in hosts old) (with_programs strange hs) ≡ map (seat_in hosts new) (with_programs strange hs) → (b : Bool) → strange g ≡ b
+      → map (seat_in hosts old) (with_programs strange (g ∷ hs)) ≡ map (seat_in hosts new) (with_programs strange (g ∷ hs))
+  by rest true e = rw e rest
+  by rest false e = rw e (ap (λ (s : Seat). s ∷ map (seat_in hosts old) (with_programs strange hs)) (each g e) ∙ ap (λ (ss : List Seat). seat_in hosts new g ∷ ss) rest)
 
 -- ---- the seats of all hosts
 
@@ -79,6 +103,12 @@ IsTurn (crossing.Down h) = Unit {0}
 IsTurn (crossing.Up h) = Unit {0}
 IsTurn c = ⊥
 
+-- what a host sends or takes
+abbrev pub IsStrangers : Crossing → Type 0
+IsStrangers (crossing.Down h) = ⊥
+IsStrangers (crossing.Up h) = ⊥
+IsStrangers c = Unit {0}
+
 abbrev pub AreTurns : List Crossing → Type 0
 AreTurns [] = Unit {0}
 AreTurns (c ∷ cs) = IsTurn c × AreTurns cs
@@ -88,15 +118,15 @@ abbrev pub with_crossings : List Crossing → List Moment → List Moment
 with_crossings [] moments = moments
 with_crossings (c ∷ cs) moments = Crossed c ∷ with_crossings cs moments
 
-pub turned_seats : (hosts : List Host) (cs : List Crossing) (moments : List Moment) → AreTurns cs → all_turned cs (map (seat_in hosts moments) hosts) ≡ map (seat_in hosts (with_crossings cs moments)) hosts
-turned_seats hosts [] moments t = refl
-turned_seats hosts (crossing.Down h ∷ cs) moments t =
-    ap (λ (seats : List Seat). seats_turned (crossing.Down h) seats) (turned_seats hosts cs moments t.1) ∙ all_seated hosts hosts (with_crossings cs moments) (Crossed (crossing.Down h) ∷ with_crossings cs moments) h None (stops_at hosts (with_crossings cs moments) h)
-turned_seats hosts (crossing.Up h ∷ cs) moments t =
-    ap (λ (seats : List Seat). seats_turned (crossing.Up h) seats) (turned_seats hosts cs moments t.1) ∙ all_seated hosts hosts (with_crossings cs moments) (Crossed (crossing.Up h) ∷ with_crossings cs moments) h (Some (opening_state h)) (starts_at hosts (with_crossings cs moments) h)
-turned_seats hosts (crossing.Out m ∷ cs) moments t = absurd t.0
-turned_seats hosts (crossing.In m ∷ cs) moments t = absurd t.0
-turned_seats hosts (crossing.Answer kind f ∷ cs) moments t = absurd t.0
+pub turned_seats : (hosts hs : List Host) (cs : List Crossing) (moments : List Moment) → AreTurns cs → all_turned cs (map (seat_in hosts moments) hs) ≡ map (seat_in hosts (with_crossings cs moments)) hs
+turned_seats hosts hs [] moments t = refl
+turned_seats hosts hs (crossing.Down h ∷ cs) moments t =
+    ap (λ (seats : List Seat). seats_turned (crossing.Down h) seats) (turned_seats hosts hs cs moments t.1) ∙ all_seated hosts hs (with_crossings cs moments) (Crossed (crossing.Down h) ∷ with_crossings cs moments) h None (stops_at hosts (with_crossings cs moments) h)
+turned_seats hosts hs (crossing.Up h ∷ cs) moments t =
+    ap (λ (seats : List Seat). seats_turned (crossing.Up h) seats) (turned_seats hosts hs cs moments t.1) ∙ all_seated hosts hs (with_crossings cs moments) (Crossed (crossing.Up h) ∷ with_crossings cs moments) h (Some (opening_state h)) (starts_at hosts (with_crossings cs moments) h)
+turned_seats hosts hs (crossing.Out m ∷ cs) moments t = absurd t.0
+turned_seats hosts hs (crossing.In m ∷ cs) moments t = absurd t.0
+turned_seats hosts hs (crossing.Answer kind f ∷ cs) moments t = absurd t.0
 
 pub turned_crossings : (cs : List Crossing) (moments : List Moment) → crossings_of (with_crossings cs moments) ≡ cs ++ crossings_of moments
 turned_crossings [] moments = refl
@@ -106,13 +136,13 @@ pub turned_contacts : (cs : List Crossing) (moments : List Moment) → contacts_
 turned_contacts [] moments = refl
 turned_contacts (c ∷ cs) moments = turned_contacts cs moments
 
-pub turned_timeline : (hosts : List Host) (cs : List Crossing) (moments : List Moment) → AreTurns cs → IsTimeline hosts moments → IsTimeline hosts (with_crossings cs moments)
-turned_timeline hosts [] moments t h = h
-turned_timeline hosts (crossing.Down g ∷ cs) moments t h = (tt, turned_timeline hosts cs moments t.1 h)
-turned_timeline hosts (crossing.Up g ∷ cs) moments t h = (tt, turned_timeline hosts cs moments t.1 h)
-turned_timeline hosts (crossing.Out m ∷ cs) moments t h = absurd t.0
-turned_timeline hosts (crossing.In m ∷ cs) moments t h = absurd t.0
-turned_timeline hosts (crossing.Answer kind f ∷ cs) moments t h = absurd t.0
+pub turned_mixed : (strange : Host → Bool) (hosts : List Host) (cs : List Crossing) (moments : List Moment) → AreTurns cs → AreMixed strange hosts moments → AreMixed strange hosts (with_crossings cs moments)
+turned_mixed strange hosts [] moments t h = h
+turned_mixed strange hosts (crossing.Down g ∷ cs) moments t h = ((λ off. tt), turned_mixed strange hosts cs moments t.1 h)
+turned_mixed strange hosts (crossing.Up g ∷ cs) moments t h = ((λ off. tt), turned_mixed strange hosts cs moments t.1 h)
+turned_mixed strange hosts (crossing.Out m ∷ cs) moments t h = absurd t.0
+turned_mixed strange hosts (crossing.In m ∷ cs) moments t h = absurd t.0
+turned_mixed strange hosts (crossing.Answer kind f ∷ cs) moments t h = absurd t.0
 
 -- ---- what an event of the network adds
 

@@ -12,7 +12,8 @@ use Rattle.net_sim.specs.World.{Event}
 use Rattle.net_sim.proofs.Books.Booked.{calm_books, opening_booked, run_books, step_books}
 use Rattle.net_sim.proofs.Books.Reported.{calm_reported, opening_reported, run_reported, step_reported}
 use Rattle.net_sim.proofs.Hosts.Seats.{found_seat}
-use Rattle.net_sim.proofs.Books.Whole.{calm_whole, opening_whole, program_is, run_whole, step_whole}
+use Rattle.net_sim.proofs.Books.Nobody.{calm_whole, opening_whole, run_whole, step_whole}
+use Rattle.net_sim.proofs.Books.Whole.{program_is}
 use Rattle.net_sim.proofs.Books.BookEvents.{box_in, pair_told, run_at, run_told, same_events, told_events}
 use Rattle.net_sim.proofs.Resets.Coupled.{Coupled, coupled}
 use Rattle.net_sim.proofs.Resets.StoryLemmas.{story_agrees}

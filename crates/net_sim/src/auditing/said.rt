@@ -30,7 +30,7 @@ pub enum Audit {
 }
 
 impl Part {
-    /// Returns its number in the promise, 1 to 4.
+    /// Returns its number in a safe book, 1 to 4.
     pub fn number(self) -> u8
         ensures { result ≡ number_of self }
     {

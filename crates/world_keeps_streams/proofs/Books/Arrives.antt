@@ -24,7 +24,6 @@ use Rattle.world_keeps_streams.proofs.Lives.Left.{over_when_left}
 use Rattle.world_keeps_streams.proofs.Lives.Lists.{is_of}
 use Rattle.world_keeps_streams.proofs.Moments.In.{notices_there}
 use Rattle.world_keeps_streams.proofs.Requests.Sides.{Lawful, lives_in}
-use Rattle.world_keeps_streams.proofs.Steps.Joined.{Joined}
 use Rattle.world_keeps_streams.proofs.Steps.JoinedAll.{joined}
 use Rattle.world_keeps_streams.proofs.Steps.Streams.{has_receiver}
 

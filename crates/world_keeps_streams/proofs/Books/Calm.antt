@@ -1,5 +1,5 @@
 -- Lives whose hosts have nothing left to do agree.
-use Rattle.world_keeps_streams.proofs.Common.{◌≡◌, ℕ, ◌==◌, true, false, List, [], Option, Some, None, is_some, ap, sym, subst, ◌∙◌, eqb-true, Seen, Host, is_receive_socket, is_busy, is_mine_on, is_open, is_receiving, was_closed, PairState, next_of, sendable, Entry, both, boxes, kind_in, pair, sound_run, stays_ready, pair_with, next_in, IsLawful, Agrees, Moment, events_of, program, crossings_of, seen_box, WorldState, box_same, story_agrees, linked_end, book_run, send_odd, Agree, AreAtRest, AreSilent, NoneOut, NoneWaits}
+use Rattle.world_keeps_streams.proofs.Common.{◌≡◌, ℕ, ◌==◌, true, false, List, [], Option, Some, None, is_some, ap, sym, subst, ◌∙◌, eqb-true, Seen, Host, is_receive_socket, is_busy, is_mine_on, is_open, is_receiving, was_closed, next_of, sendable, Entry, both, boxes, kind_in, pair, sound_run, stays_ready, pair_with, next_in, IsLawful, Agrees, Moment, events_of, program, crossings_of, seen_box, WorldState, box_same, story_agrees, linked_end, book_run, send_odd, Agree, AreAtRest, AreSilent, NoneOut, NoneWaits}
 use Rattle.interface.specs.Mailboxes as mail
 use Rattle.ncp_control.specs.Phases as program_phases
 use Rattle.reset_law.specs.Stays as stay

@@ -1,5 +1,5 @@
 -- Of all lives of a book: what was taken has a source, and what was sent is granted.
-use Rattle.world_keeps_streams.proofs.Common.{◌≡◌, ◌⊎◌, inl, inr, ℕ, ◌≤◌, Bool, true, false, List, [], ◌∷◌, length, map, take, refl, ap, sym, subst, ◌∙◌, arith, Host, is_receive_socket, is_send_socket, Fresh, begins_fresh, IsGranted, Match, Source, own_request, partner_request, Moment, Crossed, Asked, event_in, events_of, crossings_of}
+use Rattle.world_keeps_streams.proofs.Common.{◌≡◌, ◌⊎◌, inl, inr, ℕ, ◌≤◌, Bool, true, false, List, [], ◌∷◌, length, map, take, refl, ap, sym, subst, ◌∙◌, arith, Host, is_receive_socket, is_send_socket, Fresh, begins_fresh, IsGranted, Match, Moment, Crossed, Asked, event_in, events_of, crossings_of}
 use Rattle.reset_law.specs.Stays as stay
 use Rattle.promise.specs.Safe as book
 use Rattle.promise.specs.Safe.{receives, sends}

@@ -19,7 +19,7 @@ use Rattle.world_keeps_streams.proofs.Books.Source.{one_matches}
 use Rattle.world_keeps_streams.proofs.Books.Whole.{GoesOn, HasR, HasS, PresentR, PresentS, Whole, present_in, since}
 use Rattle.world_keeps_streams.proofs.Carried.Streams.{all_bits}
 use Rattle.world_keeps_streams.proofs.Deeds.Effects.{Among, among_kept}
-use Rattle.world_keeps_streams.proofs.Lives.Lists.{IsOf, contains, is_of, of_drop, of_parts}
+use Rattle.world_keeps_streams.proofs.Lives.Lists.{IsOf, is_of, of_drop, of_parts}
 use Rattle.world_keeps_streams.proofs.Requests.Sides.{Heard, Lawful, Own, lives_in}
 use Rattle.world_keeps_streams.proofs.Steps.Joined.{post_in}
 use Rattle.world_keeps_streams.proofs.Steps.Streams.{has_receiver}

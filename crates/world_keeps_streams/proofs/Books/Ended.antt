@@ -1,6 +1,6 @@
 -- A sending life whose CLS its partner has taken, and whose partner has said none, isn't over while its host stays: so it is there, or it was at the last
 -- moment before its host left.
-use Rattle.world_keeps_streams.proofs.Common.{◌≡◌, inl, inr, ℕ, suc, ◌+◌, ◌<◌, ◌≤◌, ◌&&◌, ◌||◌, not, if◌then◌else◌, Bool, true, false, List, [], ◌∷◌, ◌++◌, Option, refl, ap, sym, subst, ◌∙◌, arith, Contains, Host, Crossing, is_receive_socket, is_send_socket, entry_at, Entry, gone_now, counted, has_heard, heard_from, Sockets, Who, receiver, sender, Asks, Mark, IsIn, Side, Joined, Stands, Stood, asks_once, asks_said, every_in, from_asks, begins_either, pair_with, life_ended, Asked, Crossed, Moment, event_in, events_of, program, crossings_of, Coupled, law_events, origin_in, life_of, openings, steps, even_odd, foreign_of, life_in, own_of, sender_half, served_in, own_calls}
+use Rattle.world_keeps_streams.proofs.Common.{◌≡◌, inl, inr, ℕ, suc, ◌+◌, ◌<◌, ◌≤◌, ◌&&◌, ◌||◌, not, if◌then◌else◌, Bool, true, false, List, [], ◌∷◌, ◌++◌, refl, ap, sym, subst, ◌∙◌, arith, Contains, Host, Crossing, is_receive_socket, is_send_socket, entry_at, gone_now, counted, has_heard, heard_from, Sockets, Who, receiver, sender, Asks, Mark, IsIn, Side, Joined, Stands, Stood, asks_once, asks_said, every_in, from_asks, begins_either, pair_with, life_ended, Asked, Crossed, Moment, event_in, events_of, program, crossings_of, Coupled, law_events, origin_in, life_of, openings, steps, even_odd, foreign_of, life_in, own_of, sender_half, served_in, own_calls}
 use Rattle.pairing_law.specs.Links.{Receiver, Sender}
 use Rattle.pairing_law.specs.Marks.{closes}
 use Rattle.pairing_law.specs.Sides as law

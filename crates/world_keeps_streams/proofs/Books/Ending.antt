@@ -289,7 +289,7 @@ module _ (hosts : List Host) (y : Moment) (ms : List Moment) (l : Lawful hosts (
 
 -- ---- a life that begins
 
-no_close_opening : (y : Moment) (ms : List Moment) (x : Life) → TellsOpening x (notices_by y ms) → IsClose y x → ⊥
+pub no_close_opening : (y : Moment) (ms : List Moment) (x : Life) → TellsOpening x (notices_by y ms) → IsClose y x → ⊥
 unfolding served_notices
 no_close_opening (Asked h (request.Close socket)) ms x t i = t
 no_close_opening y ms x t i = i

@@ -1,5 +1,5 @@
 -- In a world that has settled all lives that match agree.
-use Rattle.world_keeps_streams.proofs.Common.{◌≡◌, ◌<◌, ℕ, zero, suc, Bool, true, List, [], ◌∷◌, ◌++◌, length, map, Option, Some, None, refl, ap, sym, subst, ◌∙◌, arith, Contains, Seen, Host, same_host, same_host-true, Crossing, stays_ready, IsLawful, Moment, events_of, program, crossings_of, WorldState, Seat, book_run, NoneOut}
+use Rattle.world_keeps_streams.proofs.Common.{◌≡◌, ◌<◌, ℕ, zero, suc, Bool, true, List, [], ◌∷◌, ◌++◌, length, map, Option, Some, None, refl, ap, sym, subst, ◌∙◌, arith, Contains, Seen, Host, same_host, same_host-true, Crossing, stays_ready, IsLawful, events_of, program, crossings_of, WorldState, Seat, book_run, NoneOut}
 use Rattle.std.proofs.Common.{false, slice_get}
 use Rattle.interface.specs.Host.{is_host}
 use Rattle.interface.specs.Mailboxes as mail

@@ -1,5 +1,5 @@
 -- What the book has of two hosts, one that receives and one that sends, beside the streams of their links.
-use Rattle.world_keeps_streams.proofs.Common.{◌≡◌, inl, inr, ℕ, suc, ◌≤◌, Bool, true, false, List, [], ◌∷◌, ◌++◌, length, map, drop, if◌then◌else◌, Some, refl, ap, sym, subst, ◌∙◌, Host, Entry, gone_now, numbered, receiver_now, sender_now, pair_with, life_ended, IsGranted, Match, Moment, event_in, events_of, program, own_calls}
+use Rattle.world_keeps_streams.proofs.Common.{◌≡◌, inl, inr, ℕ, suc, ◌≤◌, Bool, true, false, List, [], ◌∷◌, ◌++◌, length, map, drop, if◌then◌else◌, Some, refl, ap, sym, subst, ◌∙◌, Host, Entry, gone_now, numbered, receiver_now, sender_now, pair_with, life_ended, Moment, event_in, events_of, program, own_calls}
 use Rattle.stream_law.specs.Receivers.{Receiver}
 use Rattle.stream_law.specs.Senders.{Sender}
 use Rattle.reset_law.specs.Stays as stay

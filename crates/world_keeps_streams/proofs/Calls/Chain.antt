@@ -15,7 +15,8 @@ use Rattle.world_keeps_streams.proofs.Calls.Moved.{answer_moved, message_moved, 
 still : (b : Host) (q next : PairState) → next ≡ q → Turned b false q next []
 still b q next is = same_turned b q next (ap (λ (x : PairState). x.entries) (sym is)) (λ i. subst (λ (x : PairState). IsIdle x) (sym is) i)
 
-takes_by : (a b x y : Host) (l : ℕ) (m : Message) (here : Bool) → (same_host a y && same_host b x) ≡ here → stay.takes_reset a b (In x y l m) ≡ (here && is_reset m)
+pub takes_by : (a b x y : Host) (l : ℕ) (m : Message) (here : Bool) → (same_host a y && same_host b x) ≡ here
+    → stay.takes_reset a b (In x y l m) ≡ (here && is_reset m)
 takes_by a b x y l Reset true e = e
 takes_by a b x y l Reset false e = e
 takes_by a b x y l Reply true e = refl

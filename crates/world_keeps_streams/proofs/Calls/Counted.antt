@@ -1,5 +1,5 @@
 -- How many messages of data came to a host on a link, by the law of streams: only one that it takes or drops there counts.
-use Rattle.world_keeps_streams.proofs.Common.{◌≡◌, ℕ, ◌==◌, ◌&&◌, Bool, true, false, if◌then◌else◌, List, [], ◌∷◌, ◌++◌, take, Option, Some, None, refl, ap, sym, subst, ◌∙◌, Host, same_host, Flow, HostMessage, header_of, is_ready, Command, DataHeader, holds, Legal, Order, Wrong, orders_of, desk_of, listener_on, listens_on, entry_at, free_link, is_busy, receives_on, PairState, Parcel, command_gone, with_connections, TurnState, order_taken, Entry, Listener, all_received, Hears, Takes, Says, Sends, Answered, OpensReceiver, OpensSender, Grants, AsksBack, Gives, Closes, name_now, receiver_now, received_at, cls_received, data_received, received_by, received_out, str_received, eqb-sym, IsAsking, turn_of, NcpState, owner_of, pair_with, next_in, Peer, Request, Asked, Crossed, Moment, places, program, text_of, answer_calls, calls_by, commands_said, message_calls, next_calls, orders_heard, owner_calls, parcel_calls, request_calls}
+use Rattle.world_keeps_streams.proofs.Common.{◌≡◌, ℕ, ◌==◌, ◌&&◌, Bool, true, false, if◌then◌else◌, List, [], ◌∷◌, ◌++◌, take, Option, Some, None, refl, ap, sym, subst, ◌∙◌, Host, same_host, Flow, HostMessage, header_of, is_ready, Command, DataHeader, holds, Legal, Order, Wrong, orders_of, desk_of, listener_on, listens_on, entry_at, free_link, is_busy, receives_on, PairState, Parcel, command_gone, with_connections, TurnState, order_taken, Entry, Listener, all_received, Hears, Takes, Says, Answered, OpensReceiver, OpensSender, Grants, AsksBack, Gives, Closes, name_now, receiver_now, received_at, cls_received, data_received, received_by, received_out, str_received, eqb-sym, IsAsking, turn_of, NcpState, owner_of, pair_with, next_in, Peer, Request, Asked, Crossed, Moment, places, program, text_of, answer_calls, calls_by, commands_said, message_calls, next_calls, orders_heard, owner_calls, parcel_calls, request_calls}
 use Rattle.interface.specs.Flow.{same_flow}
 use Rattle.interface.specs.declared.crossing.Crossing.TheVariants as crossing
 use Rattle.ncp_control.specs.declared.command.Command.TheVariants as command

@@ -1,5 +1,5 @@
 -- What may be said of each call of a world's programs, as the steps of two programs on a link need it.
-use Rattle.world_keeps_streams.proofs.Common.{List, [], ◌∷◌, Host, Command, PairState, Entry, Answered, AsksBack, Closes, Gives, Grants, Hears, OpensReceiver, OpensSender, Says, Sends, Takes, HaveAddresses, Moment, IsTimeline, crossings_of, calls_by, IsHeard}
+use Rattle.world_keeps_streams.proofs.Common.{List, [], ◌∷◌, Host, Command, PairState, Entry, Answered, AsksBack, Hears, OpensReceiver, OpensSender, Says, Sends, Takes, HaveAddresses, Moment, IsTimeline, crossings_of, calls_by, IsHeard}
 use Rattle.interface.specs.Mailboxes as mail
 use Rattle.ncp_control.specs.declared.command.Command.TheVariants as command
 use Rattle.host_keeps_streams.specs.Histories as calls

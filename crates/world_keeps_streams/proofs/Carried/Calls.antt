@@ -4,7 +4,6 @@ use Rattle.host_keeps_streams.specs.Histories as calls
 use Rattle.host_keeps_streams.proofs.lemmas.{Holds}
 use Rattle.host_keeps_streams.specs.Names.{named}
 use Rattle.promise.specs.declared.life.Life.{Life}
-use Rattle.promise.specs.Safe.{receives, sends}
 use Rattle.net_sim.specs.Told.{kept_in}
 use Rattle.world_keeps_streams.proofs.Deeds.Effects.{Among}
 use Rattle.world_keeps_streams.proofs.Deeds.Kinds.{deed_of}
@@ -12,7 +11,7 @@ use Rattle.world_keeps_streams.proofs.Deeds.Law.{receiver_by}
 use Rattle.world_keeps_streams.proofs.Deeds.Sent.{sender_by}
 use Rattle.world_keeps_streams.proofs.Deeds.Told.{After}
 use Rattle.world_keeps_streams.proofs.Deeds.Ends.{Fits, call_does}
-use Rattle.world_keeps_streams.proofs.Carried.Step.{AreOwned, CarriedOn, Carry, IsBlank, Lives}
+use Rattle.world_keeps_streams.proofs.Carried.Step.{AreOwned, Carry}
 use Rattle.world_keeps_streams.proofs.Carried.All.{carry_next}
 use Rattle.world_keeps_streams.proofs.Heard.Ends.{heard_ends}
 use Rattle.world_keeps_streams.proofs.Heard.Lists.{heard_list, mark_heard}

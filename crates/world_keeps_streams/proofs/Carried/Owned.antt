@@ -1,5 +1,5 @@
 -- Lives that continue and their ends, by what world_keeps_lives has of each socket; and the lives of a book since a host dropped its ends.
-use Rattle.world_keeps_streams.proofs.Common.{◌≡◌, inl, inr, ℕ, zero, suc, ◌+◌, ◌≤◌, ◌==◌, Bool, true, false, if◌then◌else◌, List, [], ◌∷◌, ◌++◌, map, drop, length, refl, ap, sym, subst, ◌∙◌, eq-eqb, arith, length-append, Host, same_host, same_host-refl, Entry, Notice, pair_with, Request, Kept, all_told, changed_when, lives_asked, lives_crossed, lives_told, where_it, HaveAddresses, Asked, Crossed, Moment, event_in, events_of, program, IsTimeline, crossings_of, host_in, kept_by, notices_by, HasOpenEnd, IsLifeOf, at_socket, mine_on, At, Elsewhere, Near, Place, clash, live, keeps}
+use Rattle.world_keeps_streams.proofs.Common.{◌≡◌, inl, inr, ℕ, zero, suc, ◌+◌, ◌≤◌, ◌==◌, Bool, true, false, if◌then◌else◌, List, [], ◌∷◌, ◌++◌, map, drop, length, refl, ap, sym, subst, ◌∙◌, eq-eqb, arith, length-append, Host, same_host, same_host-refl, Entry, Notice, pair_with, Request, Kept, all_told, lives_asked, lives_told, where_it, HaveAddresses, Asked, Crossed, Moment, event_in, events_of, program, IsTimeline, crossings_of, host_in, kept_by, notices_by, HasOpenEnd, IsLifeOf, at_socket, mine_on, At, Elsewhere, Near, Place, clash, live, keeps}
 use Rattle.interface.specs.Mailboxes as mail
 use Rattle.interface.specs.declared.crossing.Crossing.TheVariants as crossing
 use Rattle.host_pairs.specs.declared.notice.Notice.TheVariants as notice

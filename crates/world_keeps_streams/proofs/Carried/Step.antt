@@ -1,5 +1,5 @@
 -- All lives of a host with one peer, beside the laws of their links, from one call to the next.
-use Rattle.world_keeps_streams.proofs.Common.{◌≡◌, ◌⊎◌, inl, inr, ℕ, suc, ◌≤◌, ◌==◌, ◌&&◌, not, Bool, true, false, if◌then◌else◌, List, [], ◌∷◌, Some, refl, ap, sym, ◌∙◌, eqb-true, Host, same_host, is_open, Entry, both, is_there, changed_when, life_ended, lives_at, lives_between, new_life, clash}
+use Rattle.world_keeps_streams.proofs.Common.{◌≡◌, ◌⊎◌, inl, inr, ℕ, suc, ◌≤◌, ◌==◌, ◌&&◌, not, Bool, true, false, if◌then◌else◌, List, [], ◌∷◌, Some, refl, ap, sym, ◌∙◌, eqb-true, Host, same_host, is_open, Entry, both, is_there, changed_when, life_ended, lives_at, lives_between, clash}
 use Rattle.stream_law.specs.Receivers.{Receiver}
 use Rattle.stream_law.specs.Senders.{Sender}
 use Rattle.promise.specs.declared.life.Life.{Life}

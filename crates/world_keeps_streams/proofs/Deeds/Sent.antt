@@ -1,5 +1,5 @@
 -- What the law of a sender has of each call of a host's program: only bytes that go out count.
-use Rattle.world_keeps_streams.proofs.Common.{◌≡◌, ℕ, ◌*◌, ◌==◌, ◌&&◌, not, Bool, false, nat_le, if◌then◌else◌, List, [], ◌∷◌, ◌++◌, take, map, find, Option, Some, None, is_some, refl, ap, sym, ◌∙◌, eqb-true, list_any, Allocation, Command, DataHeader, data_bits, header_of, Word, for, with_end, Unconnected, Ending, Open, asked_on_link, asked_with_size, found_in, data_of, is_acceptable, desk_of, listener_on, called_off, changed_at, closed_by_partner, closed_when, entry_at, is_ending, is_open, is_receiving, must_close, receives_on, sends_on, PairState, asked_at, freed, Entry, Listener, all_sent, Hears, Takes, Says, Sends, Answered, OpensSender, Grants, Closes, sent_at}
+use Rattle.world_keeps_streams.proofs.Common.{◌≡◌, ℕ, ◌*◌, ◌==◌, ◌&&◌, not, Bool, false, nat_le, if◌then◌else◌, List, [], ◌∷◌, ◌++◌, take, map, find, Option, Some, None, is_some, refl, ap, sym, ◌∙◌, eqb-true, list_any, Allocation, Command, DataHeader, data_bits, header_of, for, with_end, Unconnected, Ending, Open, asked_on_link, asked_with_size, found_in, data_of, is_acceptable, desk_of, listener_on, called_off, changed_at, closed_by_partner, closed_when, entry_at, is_ending, is_open, is_receiving, must_close, receives_on, sends_on, PairState, asked_at, freed, Entry, Listener, all_sent, Hears, Takes, Says, Sends, Answered, OpensSender, Grants, Closes, sent_at}
 use Rattle.std.proofs.Common.{true}
 use Rattle.ncp_control.specs.Allocation as counters
 use Rattle.ncp_control.specs.declared.command.Command.TheVariants as command

@@ -1,6 +1,6 @@
 -- An open receiving life counts all that came in on its link. So data of which a host got RFNM are among its bits,
 -- where it matches the life that sent them.
-use Rattle.world_keeps_streams.proofs.Common.{◌≡◌, ◌⊎◌, inl, inr, ℕ, suc, ◌+◌, ◌<◌, ◌≤◌, ◌==◌, Bool, true, false, if◌then◌else◌, List, [], ◌∷◌, ◌++◌, length, map, Option, Some, None, refl, ap, sym, subst, ◌∙◌, eq-eqb, arith, Contains, option_map, append_assoc, length-append, Seen, Host, SinceLastOut, went_out, Flow, Crossing, HostMessage, is_send_socket, orders_of, Entry, End, Stream, waiting_in, Inv, came_inv, some_is, waiting_of, waits_of, HasClosed, name_now, numbered, receiver_now, closed_first, IsCounted, Course, Going, stage, IsBeside, CrossedAt, texts_for, texts_of, texts_on, Match, Name, control_flow, last_out, own_request, Called, Kept, IsLawful, Asked, Crossed, Moment, contacts_of, crossings_of, WorldState, kept_fated, Linked, LinkedBook, book_run, odd_send, send_odd, own_calls, IsClosedByPartner, WasClosedByPartner}
+use Rattle.world_keeps_streams.proofs.Common.{◌≡◌, ◌⊎◌, inl, inr, ℕ, suc, ◌+◌, ◌<◌, ◌≤◌, ◌==◌, Bool, true, false, if◌then◌else◌, List, [], ◌∷◌, ◌++◌, length, map, Option, Some, None, refl, ap, sym, subst, ◌∙◌, eq-eqb, arith, Contains, option_map, append_assoc, length-append, Seen, Host, SinceLastOut, went_out, Flow, Crossing, HostMessage, is_send_socket, orders_of, End, Stream, waiting_in, Inv, came_inv, some_is, waiting_of, waits_of, HasClosed, name_now, numbered, receiver_now, closed_first, IsCounted, Course, Going, stage, IsBeside, CrossedAt, texts_for, texts_of, texts_on, Match, Name, control_flow, last_out, own_request, Called, Kept, IsLawful, Asked, Crossed, Moment, contacts_of, crossings_of, WorldState, kept_fated, Linked, LinkedBook, book_run, odd_send, send_odd, own_calls, IsClosedByPartner, WasClosedByPartner}
 use Rattle.interface.specs.declared.crossing.Answer.TheVariants as answer
 use Rattle.interface.specs.declared.crossing.Crossing.TheVariants as crossing
 use Rattle.stream_law.specs.Receivers.{Receiver}
@@ -140,7 +140,7 @@ module _ (hosts : List Host) (ms : List Moment) (l : Lawful hosts ms) where
 
       taken : (end_of (key_of x) ms).taken ≡ true
       taken = sym (second v true (end_of (key_of x) ms).gone (end_of (key_of x) ms).taken
-          (sym is ∙ same ∙ (fits_now hosts ms l x fate.Open i).1 refl))
+          (sym is ∙ same ∙ (fits_now hosts ms l x fate.Open i).both.1 refl))
 
       now : IsClosedByPartner ms x
       now = record {

@@ -15,13 +15,14 @@ use Rattle.world_keeps_streams.proofs.Calls.MayHear.{fits_all}
 use Rattle.world_keeps_streams.proofs.Calls.MayTurns.{Fits}
 use Rattle.world_keeps_streams.proofs.Ends.Courses.{course_in}
 use Rattle.world_keeps_streams.proofs.Ends.Kept.{AllKept, AllSpare, AreOff, IsTest, test_any, test_over, test_sent, test_taken, turn_data, turn_orders}
-use Rattle.world_keeps_streams.proofs.Ends.Marks.{all_heard, orders_here}
+use Rattle.world_keeps_streams.proofs.Ends.Marks.{all_heard, all_heard_early, orders_here}
+use Rattle.world_keeps_streams.proofs.Ends.Once.{in_once}
 use Rattle.world_keeps_streams.proofs.Ends.Owes.{when_on}
 use Rattle.world_keeps_streams.proofs.Ends.Ties.{end_in, fits_here, has_now, itself, law_end, once}
 use Rattle.world_keeps_streams.proofs.Lives.Fates.{TellsOpening, TellsReset}
 use Rattle.world_keeps_streams.proofs.Lives.LeavesEnds.{quiet_tells, reply_quiet, reset_quiet}
 use Rattle.world_keeps_streams.proofs.Requests.Sides.{Lawful, coupled_in}
-use Rattle.world_keeps_streams.proofs.Ends.Kinds.{Kind, ItDrops, ItHears, ItIdles, ItStays, among_none, kept_ends, kept_resets, off_any, off_over, off_sent, off_taken, openings_some, spare_any, spare_sent, spare_taken, stage_of}
+use Rattle.world_keeps_streams.proofs.Ends.Kinds.{Kind, ItDrops, ItHears, ItIdles, ItStays, among_none, kept_ends, kept_resets, off_any, off_over, off_sent, off_taken, openings_some, pace, spare_any, spare_sent, spare_taken}
 
 module _ (hosts : List Host) (m : HostMessage) (ms : List Moment) (l : Lawful hosts (Crossed (crossing.In m) ∷ ms)) (socket foreign own partner : ℕ) where
   abbrev it : Life
@@ -44,20 +45,24 @@ module _ (hosts : List Host) (m : HostMessage) (ms : List Moment) (l : Lawful ho
       ap (λ (v : Bool). end_in (at socket foreign (pair_with m.flow.source (if v then (accepted (program m.flow.destination ms) (inbound.Message m) (places ms)).0 else program m.flow.destination ms).peers).entries)) (same_host-refl m.flow.destination)
       ∙ once socket foreign (pair_with m.flow.source (accepted (program m.flow.destination ms) (inbound.Message m) (places ms)).0.peers) x h
 
-  stage_on : (os : List Order) → (m.flow.link.0 == 0) ≡ true → orders_of m.text ≡ os → stage_of it (Crossed (crossing.In m) ∷ ms) ≡ (each (heard it (places ms)) os (course_in it ms)).stage
-  stage_on os zero orders =
+  course_on : (os : List Order) → (m.flow.link.0 == 0) ≡ true → orders_of m.text ≡ os
+      → course_in it (Crossed (crossing.In m) ∷ ms) ≡ each (heard it (places ms)) os (course_in it ms)
+  course_on os zero orders =
       let z : (0 == m.flow.link.0) ≡ true = eqb-sym 0 m.flow.link.0 ∙ zero in
       let a : same_host m.flow.source m.flow.source ≡ true = same_host-refl m.flow.source in
       let b : same_host m.flow.destination m.flow.destination ≡ true = same_host-refl m.flow.destination in
-      ap (λ (j : Course). j.stage) (when_on (heard it (places ms)) (same_host m.flow.source m.flow.source && same_host m.flow.destination m.flow.destination && 0 == m.flow.link.0) (orders_of m.text) os (course_in it ms) (rw (a, b, z) refl) orders)
+      when_on (heard it (places ms))
+      (same_host m.flow.source m.flow.source && same_host m.flow.destination m.flow.destination && 0 == m.flow.link.0)
+      (orders_of m.text) os (course_in it ms) (rw (a, b, z) refl) orders
 
-  stage_off : (m.flow.link.0 == 0) ≡ false → stage_of it (Crossed (crossing.In m) ∷ ms) ≡ stage_of it ms
-  stage_off away_from =
+  course_off : (m.flow.link.0 == 0) ≡ false → course_in it (Crossed (crossing.In m) ∷ ms) ≡ course_in it ms
+  course_off away_from =
       let z : (0 == m.flow.link.0) ≡ false = eqb-sym 0 m.flow.link.0 ∙ away_from in
       let a : same_host m.flow.source m.flow.source ≡ true = same_host-refl m.flow.source in
       let b : same_host m.flow.destination m.flow.destination ≡ true = same_host-refl m.flow.destination in
       let none : (same_host m.flow.source m.flow.source && same_host m.flow.destination m.flow.destination && 0 == m.flow.link.0) ≡ false = rw (a, b, z) refl in
-      ap (λ (v : Bool). (if v then each (heard it (places ms)) (orders_of m.text) (course_in it ms) else course_in it ms).stage) none
+      ap (λ (v : Bool). if v then each (heard it (places ms)) (orders_of m.text)
+      (course_in it ms) else course_in it ms) none
 
   notes_by : (z : Bool) → (m.flow.link.0 == 0) ≡ z
       → notices_by (Crossed (crossing.In m)) ms ≡ (if z then orders_taken m.flow.source (places ms) (orders_of m.text) (turn_of (program m.flow.destination ms) m.flow.source) else if_ready (data_taken m.flow.link.0 m.text) (turn_of (program m.flow.destination ms) m.flow.source)).notices
@@ -108,7 +113,13 @@ module _ (hosts : List Host) (m : HostMessage) (ms : List Moment) (l : Lawful ho
   text_kind zero plain true ready = ItHears (record {
     marks = marks_in (places ms) foreign socket (orders_of m.text);
     here = orders_here (places ms) foreign socket (orders_of m.text);
-    stage = stage_on (orders_of m.text) zero refl ∙ all_heard it (places ms) (orders_of m.text) (course_in it ms) plain;
+    stage =
+        ap (λ (j : Course). j.stage) (course_on (orders_of m.text) zero refl)
+        ∙ all_heard it (places ms) (orders_of m.text) (course_in it ms) plain;
+    early =
+        ap (λ (j : Course). j.early) (course_on (orders_of m.text) zero refl)
+        ∙ all_heard_early it (places ms) (orders_of m.text) (course_in it ms) plain;
+    once = in_once hosts m ms l zero foreign socket (places ms);
     ends = in_ends (all_taken (marks_in (places ms) foreign socket (orders_of m.text)) (law_end m.flow.destination m.flow.source socket foreign ms))
         (message_hears itself socket foreign (program m.flow.destination ms) m (places ms) (law_end m.flow.destination m.flow.source socket foreign ms) mine zero ready joint (free ready zero) (fit_text zero ready joint) has_in);
     fit = fit_text zero ready joint;
@@ -132,7 +143,7 @@ module _ (hosts : List Host) (m : HostMessage) (ms : List Moment) (l : Lawful ho
 
   sort_kind : Sort m.flow.link.0 m.text → (v : Bool) → (m.flow.link.0 == 0) ≡ v → Kind it (Crossed (crossing.In m)) ms
   sort_kind s false away_from = ItStays (record {
-    stage = stage_off away_from;
+    pace = ap pace (course_off away_from);
     ends = in_ends (law_end m.flow.destination m.flow.source socket foreign ms) (message_data itself socket foreign (program m.flow.destination ms) m (places ms) (law_end m.flow.destination m.flow.source socket foreign ms) mine away_from has_in);
     unended = λ e t. kept_ends it (notices_by (Crossed (crossing.In m)) ms) (kept_data away_from) t;
     unreset = λ e t. kept_resets ⊥ it (notices_by (Crossed (crossing.In m)) ms) (kept_data away_from) t;
@@ -140,14 +151,14 @@ module _ (hosts : List Host) (m : HostMessage) (ms : List Moment) (l : Lawful ho
     up = λ d. d;
   })
   sort_kind (AnRst zero orders is) true on = ItDrops (record {
-    stage = stage_on (Legal command.Rst ∷ []) zero orders;
+    stage = ap (λ (j : Course). j.stage) (course_on (Legal command.Rst ∷ []) zero orders);
     ends = in_ends nothing (message_resets itself socket foreign (program m.flow.destination ms) m (places ms) mine zero orders);
     unended = λ e t. quiet_tells it (notices_by (Crossed (crossing.In m)) ms) (reset_quiet (program m.flow.destination ms) (places ms) m zero orders) t;
     unopened = λ e t. openings_some it (notices_by (Crossed (crossing.In m)) ms) [] t (rst_other itself socket foreign (program m.flow.destination ms) m (places ms) mine zero orders []);
     up = λ d. d;
   })
   sort_kind (AnRrp zero orders is) true on = ItStays (record {
-    stage = stage_on (Legal command.Rrp ∷ []) zero orders;
+    pace = ap pace (course_on (Legal command.Rrp ∷ []) zero orders);
     ends = in_ends (law_end m.flow.destination m.flow.source socket foreign ms) (message_replies itself socket foreign (program m.flow.destination ms) m (places ms) (law_end m.flow.destination m.flow.source socket foreign ms) mine zero orders has_in);
     unended = λ e t. quiet_tells it (notices_by (Crossed (crossing.In m)) ms) (reply_quiet (program m.flow.destination ms) (places ms) m zero orders) t;
     unreset = λ e t. no_resets it m.flow.source (pair_with m.flow.source (program m.flow.destination ms).peers).phase (subst (λ (ns : List Notice). TellsReset it ns) told t);

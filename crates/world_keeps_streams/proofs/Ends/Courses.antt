@@ -9,6 +9,7 @@ use Rattle.promise.specs.Ends.{called, course, is_half}
 use Rattle.promise.specs.declared.life.Life.{Life}
 use Rattle.net_sim.specs.Book.{contacts_asked}
 use Rattle.net_sim.proofs.lemmas.{places_same}
+use Rattle.world_keeps_streams.proofs.Ends.Marks.{or_right}
 use Rattle.world_keeps_streams.proofs.Lives.Lists.{Named}
 
 -- ---- a life by its names only
@@ -91,20 +92,22 @@ below_asked : (h : Host) (n : ℕ) (r : Request) → AllBelow n (contacts_asked 
 below_asked h n (request.Contact peer) = (omega arith, tt)
 below_asked h n r = tt
 
-contacts_below : (ms : List Moment) → AllBelow (places ms) (contacts_of ms)
+pub contacts_below : (ms : List Moment) → AllBelow (places ms) (contacts_of ms)
 contacts_below [] = tt
 contacts_below (Crossed c ∷ ms) = below_next (places ms) (contacts_of ms) (contacts_below ms)
 contacts_below (Asked h r ∷ ms) = below_more (places ms) (contacts_of ms) (contacts_asked h (places ms) r) (contacts_below ms) (below_asked h (places ms) r)
 
 -- one at another place isn't of this one
-not_there : (h p : Host) (place : ℕ) (c : Called) (v : Bool) → (c.place ≡ place → ⊥) → (c.place == place) ≡ v → is_contact h p place c ≡ false
+pub not_there : (h p : Host) (place : ℕ) (c : Called) (v : Bool) → (c.place ≡ place → ⊥) → (c.place == place) ≡ v
+    → is_contact h p place c ≡ false
 not_there h p place c true never e = absurd (never (eqb-true c.place place e))
 not_there h p place c false never e = by (same_host h c.host && same_host p c.peer) where
   by : (w : Bool) → (w && c.place == place) ≡ false
   by true = e
   by false = refl
 
-none_there : (h p : Host) (n place : ℕ) (cs : List Called) → n < place → AllBelow n cs → list_any (is_contact h p place) cs ≡ false
+pub none_there : (h p : Host) (n place : ℕ) (cs : List Called) → n < place → AllBelow n cs
+    → list_any (is_contact h p place) cs ≡ false
 none_there h p n place [] less b = refl
 none_there h p n place (c ∷ cs) less b =
     let first : is_contact h p place c ≡ false = not_there h p place c (c.place == place) (λ e. (let l : c.place ≤ n = b.0 in absurd (omega (arith, l, less, e)))) refl in
@@ -116,11 +119,8 @@ called_none x n place cs k less b = ap (λ (v : Bool). contacted_if v place k) (
 
 -- ---- a contact more
 
-or_right : (v : Bool) → (v || false) ≡ v
-or_right true = refl
-or_right false = refl
-
-any_with : (h p : Host) (place : ℕ) (cs : List Called) (c : Called) → list_any (is_contact h p place) (cs ++ c ∷ []) ≡ (list_any (is_contact h p place) cs || is_contact h p place c)
+pub any_with : (h p : Host) (place : ℕ) (cs : List Called) (c : Called)
+    → list_any (is_contact h p place) (cs ++ c ∷ []) ≡ (list_any (is_contact h p place) cs || is_contact h p place c)
 any_with h p place cs c = list_any-append (is_contact h p place) cs (c ∷ []) ∙ ap (λ (v : Bool). list_any (is_contact h p place) cs || v) (or_right (is_contact h p place c))
 
 -- before its place it changes nothing
@@ -177,7 +177,8 @@ and_true true true = refl
 and_true true false = refl
 and_true false b = refl
 
-is_there : (h p g q : Host) (n m : ℕ) → n ≡ m → is_contact h p m (record { host = g; place = n; peer = q }) ≡ (same_host h g && same_host p q)
+pub is_there : (h p g q : Host) (n m : ℕ) → n ≡ m → is_contact h p m (record { host = g; place = n; peer = q }) ≡
+    (same_host h g && same_host p q)
 is_there h p g q n m e = by (n == m) refl where
   by : (v : Bool) → (n == m) ≡ v → (same_host h g && same_host p q && v) ≡ (same_host h g && same_host p q)
   by true f = and_true (same_host h g) (same_host p q)

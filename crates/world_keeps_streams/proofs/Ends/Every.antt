@@ -7,7 +7,7 @@ use Rattle.promise.specs.declared.life.Life.{Life}
 use Rattle.world_keeps_streams.proofs.Ends.Comes.{in_here}
 use Rattle.world_keeps_streams.proofs.Ends.Courses.{course_in, key_of}
 use Rattle.world_keeps_streams.proofs.Ends.Fails.{asked_here, down_here, off_host, told_here, up_here}
-use Rattle.world_keeps_streams.proofs.Ends.Kinds.{Kind, away, beside, out_here, stage_of}
+use Rattle.world_keeps_streams.proofs.Ends.Kinds.{Kind, away, beside, out_here, pace}
 use Rattle.world_keeps_streams.proofs.Ends.Ties.{end_in}
 use Rattle.world_keeps_streams.proofs.Requests.Sides.{Lawful, coupled_in}
 
@@ -21,8 +21,12 @@ first_off a b c e = ap (λ (v : Bool). v && b && c) e
 module _ (hosts : List Host) (x : Life) where
   out_every : (m : HostMessage) (ms : List Moment) → Lawful hosts (Crossed (crossing.Out m) ∷ ms) → Kind (key_of x) (Crossed (crossing.Out m)) ms
   out_every m ms l = by (same_host x.host m.flow.source) (same_host x.peer m.flow.destination) refl refl where
-    same_stage : (v : Bool) → (same_host x.host m.flow.source && same_host x.peer m.flow.destination && 0 == m.flow.link.0) ≡ false → stage_of (key_of x) (Crossed (crossing.Out m) ∷ ms) ≡ stage_of (key_of x) ms
-    same_stage v e = ap (λ (w : Bool). (if w then each (said (key_of x) (places ms)) (orders_of m.text) (course_in (key_of x) ms) else course_in (key_of x) ms).stage) e
+    same_pace : (v : Bool)
+        → (same_host x.host m.flow.source && same_host x.peer m.flow.destination && 0 == m.flow.link.0) ≡ false
+        → pace (course_in (key_of x) (Crossed (crossing.Out m) ∷ ms)) ≡ pace (course_in (key_of x) ms)
+    same_pace v e =
+        ap (λ (w : Bool). pace (if w then each (said (key_of x) (places ms)) (orders_of m.text)
+        (course_in (key_of x) ms) else course_in (key_of x) ms)) e
 
     own : same_host x.host m.flow.source ≡ true → IsNext (program x.host ms) m
     own e = subst (λ (h : Host). IsNext (program h ms) m) (sym (same_host-true x.host m.flow.source e)) (coupled_in hosts (Crossed (crossing.Out m) ∷ ms) l).story.0
@@ -32,19 +36,25 @@ module _ (hosts : List Host) (x : Life) where
     by true false e f =
         beside (key_of x) (Crossed (crossing.Out m)) ms next.peer.host (offer_about (program m.flow.source ms) (places ms) next.peer next.parcel next.next)
         (λ same. off_host x.peer m.flow.destination f (ap (λ (y : HostMessage). y.flow.destination) next.message ∙ same))
-        (same_stage true (and_off (same_host x.host m.flow.source) (same_host x.peer m.flow.destination) (0 == m.flow.link.0) f))
+        (same_pace true (and_off (same_host x.host m.flow.source) (same_host x.peer m.flow.destination)
+        (0 == m.flow.link.0) f))
         (ap (λ (v : Bool). end_in (at x.socket x.foreign (pair_with x.peer (if v then (offered (program x.host ms) (places ms)).0 else program x.host ms).peers).entries)) e
         ∙ ap (λ (q : PairState). end_in (at x.socket x.foreign q.entries)) (offer_leaves (program x.host ms) (places ms) (own e).peer (own e).parcel x.peer (own e).next (ap (λ (y : HostMessage). same_host x.peer y.flow.destination) (sym (own e).message) ∙ f))) (λ d. d) where
           next : IsNext (program m.flow.source ms) m
           next = (coupled_in hosts (Crossed (crossing.Out m) ∷ ms) l).story.0
     by false w e f =
-        away (key_of x) (Crossed (crossing.Out m)) ms (off_host x.host m.flow.source e) (same_stage true (first_off (same_host x.host m.flow.source) (same_host x.peer m.flow.destination) (0 == m.flow.link.0) e))
+        away (key_of x) (Crossed (crossing.Out m)) ms (off_host x.host m.flow.source e)
+        (same_pace true (first_off (same_host x.host m.flow.source) (same_host x.peer m.flow.destination)
+        (0 == m.flow.link.0) e))
         (ap (λ (v : Bool). end_in (at x.socket x.foreign (pair_with x.peer (if v then (offered (program x.host ms) (places ms)).0 else program x.host ms).peers).entries)) e) (λ d. d)
 
   in_every : (m : HostMessage) (ms : List Moment) → Lawful hosts (Crossed (crossing.In m) ∷ ms) → Kind (key_of x) (Crossed (crossing.In m)) ms
   in_every m ms l = by (same_host x.host m.flow.destination) (same_host x.peer m.flow.source) refl refl where
-    same_stage : (same_host x.peer m.flow.source && same_host x.host m.flow.destination && 0 == m.flow.link.0) ≡ false → stage_of (key_of x) (Crossed (crossing.In m) ∷ ms) ≡ stage_of (key_of x) ms
-    same_stage e = ap (λ (w : Bool). (if w then each (heard (key_of x) (places ms)) (orders_of m.text) (course_in (key_of x) ms) else course_in (key_of x) ms).stage) e
+    same_pace : (same_host x.peer m.flow.source && same_host x.host m.flow.destination && 0 == m.flow.link.0) ≡ false
+        → pace (course_in (key_of x) (Crossed (crossing.In m) ∷ ms)) ≡ pace (course_in (key_of x) ms)
+    same_pace e =
+        ap (λ (w : Bool). pace (if w then each (heard (key_of x) (places ms)) (orders_of m.text)
+        (course_in (key_of x) ms) else course_in (key_of x) ms)) e
 
     by : (v w : Bool) → same_host x.host m.flow.destination ≡ v → same_host x.peer m.flow.source ≡ w → Kind (key_of x) (Crossed (crossing.In m)) ms
     by true true e f =
@@ -53,11 +63,14 @@ module _ (hosts : List Host) (x : Life) where
         (in_here hosts m ms l x.socket x.foreign x.own_stamp x.partner_stamp))
     by true false e f =
         beside (key_of x) (Crossed (crossing.In m)) ms m.flow.source (message_about (program m.flow.destination ms) m (places ms)) (off_host x.peer m.flow.source f)
-        (same_stage (first_off (same_host x.peer m.flow.source) (same_host x.host m.flow.destination) (0 == m.flow.link.0) f))
+        (same_pace (first_off (same_host x.peer m.flow.source) (same_host x.host m.flow.destination)
+        (0 == m.flow.link.0) f))
         (ap (λ (v : Bool). end_in (at x.socket x.foreign (pair_with x.peer (if v then (accepted (program x.host ms) (inbound.Message m) (places ms)).0 else program x.host ms).peers).entries)) e
         ∙ ap (λ (q : PairState). end_in (at x.socket x.foreign q.entries)) (message_leaves (program x.host ms) m (places ms) x.peer f)) (λ d. d)
     by false w e f =
-        away (key_of x) (Crossed (crossing.In m)) ms (off_host x.host m.flow.destination e) (same_stage (and_off (same_host x.peer m.flow.source) (same_host x.host m.flow.destination) (0 == m.flow.link.0) e))
+        away (key_of x) (Crossed (crossing.In m)) ms (off_host x.host m.flow.destination e)
+        (same_pace (and_off (same_host x.peer m.flow.source) (same_host x.host m.flow.destination)
+        (0 == m.flow.link.0) e))
         (ap (λ (v : Bool). end_in (at x.socket x.foreign (pair_with x.peer (if v then (accepted (program x.host ms) (inbound.Message m) (places ms)).0 else program x.host ms).peers).entries)) e) (λ d. d)
 
   told_every : (kind : Answer) (f : Flow) (ms : List Moment) → Lawful hosts (Crossed (crossing.Answer kind f) ∷ ms) → Kind (key_of x) (Crossed (crossing.Answer kind f)) ms
@@ -66,9 +79,11 @@ module _ (hosts : List Host) (x : Life) where
     off_both true b c d e = ap (λ (v : Bool). v && d) e
     off_both false b c d e = refl
 
-    same_stage : (same_host x.host f.source && same_host x.peer f.destination) ≡ false → stage_of (key_of x) (Crossed (crossing.Answer kind f) ∷ ms) ≡ stage_of (key_of x) ms
-    same_stage e =
-        ap (λ (w : Bool). (if w then ended_by (cut Dropped (places ms)) (course_in (key_of x) ms) else course_in (key_of x) ms).stage) (off_both (fails kind) (same_host x.host f.source) (same_host x.peer f.destination) _ e)
+    same_pace : (same_host x.host f.source && same_host x.peer f.destination) ≡ false
+        → pace (course_in (key_of x) (Crossed (crossing.Answer kind f) ∷ ms)) ≡ pace (course_in (key_of x) ms)
+    same_pace e =
+        ap (λ (w : Bool). pace (if w then ended_by (cut Dropped (places ms)) (course_in (key_of x) ms) else course_in
+        (key_of x) ms)) (off_both (fails kind) (same_host x.host f.source) (same_host x.peer f.destination) _ e)
 
     by : (v w : Bool) → same_host x.host f.source ≡ v → same_host x.peer f.destination ≡ w → Kind (key_of x) (Crossed (crossing.Answer kind f)) ms
     by true true e g =
@@ -77,11 +92,12 @@ module _ (hosts : List Host) (x : Life) where
         (told_here hosts f ms x.socket x.foreign x.own_stamp x.partner_stamp kind l))
     by true false e g =
         beside (key_of x) (Crossed (crossing.Answer kind f)) ms f.destination (answer_about (program f.source ms) kind f (places ms)) (off_host x.peer f.destination g)
-        (same_stage (ap (λ (v : Bool). v && same_host x.peer f.destination) e ∙ g))
+        (same_pace (ap (λ (v : Bool). v && same_host x.peer f.destination) e ∙ g))
         (ap (λ (v : Bool). end_in (at x.socket x.foreign (pair_with x.peer (if v then (accepted (program x.host ms) (inbound.Answer kind f) (places ms)).0 else program x.host ms).peers).entries)) e
         ∙ ap (λ (q : PairState). end_in (at x.socket x.foreign q.entries)) (answer_leaves (program x.host ms) kind f (places ms) x.peer g)) (λ d. d)
     by false w e g =
-        away (key_of x) (Crossed (crossing.Answer kind f)) ms (off_host x.host f.source e) (same_stage (ap (λ (v : Bool). v && same_host x.peer f.destination) e))
+        away (key_of x) (Crossed (crossing.Answer kind f)) ms (off_host x.host f.source e)
+        (same_pace (ap (λ (v : Bool). v && same_host x.peer f.destination) e))
         (ap (λ (v : Bool). end_in (at x.socket x.foreign (pair_with x.peer (if v then (accepted (program x.host ms) (inbound.Answer kind f) (places ms)).0 else program x.host ms).peers).entries)) e) (λ d. d)
 
   pub kind_here : (y : Moment) (ms : List Moment) → Lawful hosts (y ∷ ms) → Kind (key_of x) y ms

@@ -1,5 +1,5 @@
 -- What an answer, a stop, a start or a request of its user is for a life.
-use Rattle.world_keeps_streams.proofs.Common.{◌≡◌, inl, inr, ℕ, ◌==◌, ◌&&◌, ◌||◌, not, Bool, true, false, if◌then◌else◌, List, [], ◌∷◌, ◌++◌, Some, None, refl, ap, sym, subst, ◌∙◌, Host, same_host, Flow, Answer, same_host-refl, same_host-true, is_busy, TurnState, answered_turn, failed_by, freed, is_gone, settled_turn, Notice, failed_phase, is_ready, rfnm_phase, Phase, End, HasEnd, at, Hear, when, pair, pair_moved, after_turn, turn_of, NcpState, opening_state, pair_with, refusal, served, Request, Agrees, Asked, Crossed, Moment, events_of, places, program, new_life, notices_by, story_agrees, Dropped, Stopped, cut, ended_by, fails}
+use Rattle.world_keeps_streams.proofs.Common.{◌≡◌, inl, inr, ℕ, ◌==◌, ◌&&◌, ◌||◌, not, Bool, true, false, if◌then◌else◌, List, [], ◌∷◌, ◌++◌, Some, None, refl, ap, sym, subst, ◌∙◌, Host, same_host, Flow, Answer, same_host-refl, same_host-true, is_busy, TurnState, answered_turn, failed_by, freed, is_gone, settled_turn, Notice, failed_phase, is_ready, rfnm_phase, Phase, End, HasEnd, at, Hear, when, pair, pair_moved, after_turn, turn_of, NcpState, opening_state, pair_with, refusal, served, Request, Agrees, Asked, Crossed, Moment, events_of, places, program, new_life, notices_by, story_agrees, Course, Dropped, Stopped, cut, ended_by, fails}
 use Rattle.interface.specs.declared.crossing.Answer.TheVariants as answer
 use Rattle.interface.specs.declared.crossing.Crossing.TheVariants as crossing
 use Rattle.interface.specs.declared.crossing.Inbound.TheVariants as inbound
@@ -21,7 +21,7 @@ use Rattle.world_keeps_streams.proofs.Ends.Ties.{end_in, has_now, itself, law_en
 use Rattle.world_keeps_streams.proofs.Lives.Fates.{TellsEnd, TellsOpening, TellsReset}
 use Rattle.world_keeps_streams.proofs.Lives.LeavesEnds.{answer_quiet, quiet_tells, request_quiet}
 use Rattle.world_keeps_streams.proofs.Requests.Sides.{Lawful, coupled_in}
-use Rattle.world_keeps_streams.proofs.Ends.Kinds.{Kind, ItDrops, ItIdles, ItStays, ItStops, away, end_of, openings_some, stage_of}
+use Rattle.world_keeps_streams.proofs.Ends.Kinds.{Kind, ItDrops, ItIdles, ItStays, ItStops, away, end_of, openings_some, pace}
 
 ready_is : (ph : Phase) → is_ready ph ≡ true → ph ≡ phase.Ready
 ready_is phase.Ready e = refl
@@ -102,19 +102,22 @@ module _ (hosts : List Host) (f : Flow) (ms : List Moment) (socket foreign own p
 
   -- no RST has to be answered, and it wasn't an RFNM
   cut_when : (kind : Answer) (v : Bool) → (course_in (new_life f.source socket f.destination foreign own partner) ms).owes ≡ v → fails kind ≡ true
-      → stage_of (new_life f.source socket f.destination foreign own partner) (Crossed (crossing.Answer kind f) ∷ ms) ≡ (if not v then cut Dropped (places ms) (stage_of (new_life f.source socket f.destination foreign own partner) ms) else stage_of (new_life f.source socket f.destination foreign own partner) ms)
+      → course_in (new_life f.source socket f.destination foreign own partner) (Crossed (crossing.Answer kind f) ∷ ms) ≡
+      (if not v then ended_by (cut Dropped (places ms))
+      (course_in (new_life f.source socket f.destination foreign own partner) ms) else course_in
+      (new_life f.source socket f.destination foreign own partner) ms)
   cut_when kind v owes fail =
       let a : same_host f.source f.source ≡ true = same_host-refl f.source in
       let b : same_host f.destination f.destination ≡ true = same_host-refl f.destination in
       let on : (fails kind && (same_host f.source f.source && same_host f.destination f.destination) && not (course_in that ms).owes) ≡ not v = rw (fail, a, b, owes) refl in
-      ap (λ (w : Bool). (if w then ended_by (cut Dropped (places ms)) (course_in that ms) else course_in that ms).stage) on ∙ by (not v) where
-        by : (w : Bool) → (if w then ended_by (cut Dropped (places ms)) (course_in that ms) else course_in that ms).stage ≡ (if w then cut Dropped (places ms) (stage_of that ms) else stage_of that ms)
-        by true = refl
-        by false = refl
+      ap (λ (w : Bool). if w then ended_by (cut Dropped (places ms)) (course_in that ms) else course_in that ms) on
 
-  stays_told : (kind : Answer) → end_of that (Crossed (crossing.Answer kind f) ∷ ms) ≡ end_of that ms → stage_of that (Crossed (crossing.Answer kind f) ∷ ms) ≡ stage_of that ms → (accepted (program f.source ms) (inbound.Answer kind f) (places ms)).1 ≡ [] → Kind that (Crossed (crossing.Answer kind f)) ms
-  stays_told kind ends stage none = ItStays (record {
-    stage = stage;
+  stays_told : (kind : Answer) → end_of that (Crossed (crossing.Answer kind f) ∷ ms) ≡ end_of that ms
+      → pace (course_in that (Crossed (crossing.Answer kind f) ∷ ms)) ≡ pace (course_in that ms)
+      → (accepted (program f.source ms) (inbound.Answer kind f) (places ms)).1 ≡ []
+      → Kind that (Crossed (crossing.Answer kind f)) ms
+  stays_told kind ends same none = ItStays (record {
+    pace = same;
     ends = ends;
     unended = λ e t. subst (λ (ns : List Notice). TellsEnd that ns) none t;
     unreset = λ e t. subst (λ (ns : List Notice). TellsReset that ns) none t;
@@ -141,10 +144,11 @@ module _ (hosts : List Host) (f : Flow) (ms : List Moment) (socket foreign own p
 
     by : (w : Bool) → (course_in that ms).owes ≡ w → Kind that (Crossed (crossing.Answer kind f)) ms
     by true e =
-        stays_told kind (told_ends hosts kind f ms l socket foreign own partner ∙ if_ready_end _ (end_of that ms) (ap is_ready (phase_then true e))) (cut_when kind true e fail)
+        stays_told kind (told_ends hosts kind f ms l socket foreign own partner
+        ∙ if_ready_end _ (end_of that ms) (ap is_ready (phase_then true e))) (ap pace (cut_when kind true e fail))
         (owed_notices (program f.source ms) kind f (places ms) fail (ap (λ (ph : Phase). is_gone ph || not (pair_with f.destination (program f.source ms).peers).owed) (ready_is (pair_with f.destination (program f.source ms).peers).phase ready) ∙ ap not (owed_is ∙ e)))
     by false e = ItDrops (record {
-      stage = cut_when kind false e fail;
+      stage = ap (λ (j : Course). j.stage) (cut_when kind false e fail);
       ends = told_ends hosts kind f ms l socket foreign own partner ∙ if_unready_end _ (end_of that ms) (ap is_ready (phase_then false e));
       unended = λ h t. quiet_tells that (notices_by (Crossed (crossing.Answer kind f)) ms) (answer_quiet (program f.source ms) (places ms) kind f) t;
       unopened = λ h t. openings_some that (notices_by (Crossed (crossing.Answer kind f)) ms) [] t (answer_other itself socket foreign (program f.source ms) kind f (places ms) []);
@@ -190,7 +194,9 @@ module _ (k : Life) where
       unopened = λ h t. t;
     })
     by false e =
-        away k (Crossed (crossing.Down g)) ms (off_host k.host g e) (ap (λ (v : Bool). (if v then record (ended_by (cut Stopped (places ms)) (course_in k ms)) { owes = false } else course_in k ms).stage) e)
+        away k (Crossed (crossing.Down g)) ms (off_host k.host g e) (ap
+        (λ (v : Bool). pace (if v then record (ended_by (cut Stopped (places ms))
+        (course_in k ms)) { owes = false } else course_in k ms)) e)
         (ap (λ (v : Bool). end_in (at k.socket k.foreign (pair_with k.peer (if v then opening_state k.host else program k.host ms).peers).entries)) e) (off_host k.host g e)
 
   pub up_here : (g : Host) (ms : List Moment) → Kind k (Crossed (crossing.Up g)) ms
@@ -203,7 +209,8 @@ module _ (k : Life) where
       up = λ d. d;
     })
     by false e =
-        away k (Crossed (crossing.Up g)) ms (off_host k.host g e) (ap (λ (v : Bool). (if v then record (course_in k ms) { owes = false } else course_in k ms).stage) e)
+        away k (Crossed (crossing.Up g)) ms (off_host k.host g e) (ap (λ (v : Bool). pace
+        (if v then record (course_in k ms) { owes = false } else course_in k ms)) e)
         (ap (λ (v : Bool). end_in (at k.socket k.foreign (pair_with k.peer (if v then opening_state k.host else program k.host ms).peers).entries)) e) (λ d. d)
 
   contact_reset : (s : NcpState) (peer : Host) → TellsReset k (served_notices s (request.Contact peer)) → peer ≡ k.peer
@@ -228,8 +235,10 @@ module _ (k : Life) where
         (request_keeps itself k.socket k.foreign (program k.host ms) r k.peer (end_of k ms) (subst (λ (h : Host). refusal (program h ms) r ≡ None) (sym (same_host-true k.host g e)) l.2.0.2)
         (has_now hosts ms (below hosts (Asked g r) ms l) k.host k.peer k.socket k.foreign))
 
-    asked_away : (g : Host) (r : Request) (ms : List Moment) → same_host k.host g ≡ false → stage_of k (Asked g r ∷ ms) ≡ stage_of k ms
-    asked_away g (request.Contact peer) ms e = ap (λ (v : Bool). (contacted_if (v && same_host k.peer peer) (places ms) (course_in k ms)).stage) e
+    asked_away : (g : Host) (r : Request) (ms : List Moment) → same_host k.host g ≡ false
+        → pace (course_in k (Asked g r ∷ ms)) ≡ pace (course_in k ms)
+    asked_away g (request.Contact peer) ms e =
+        ap (λ (v : Bool). pace (contacted_if (v && same_host k.peer peer) (places ms) (course_in k ms))) e
     asked_away g r ms e = refl
 
     asked_on : (g : Host) (r : Request) (ms : List Moment) (l : Lawful hosts (Asked g r ∷ ms)) → same_host k.host g ≡ true → Kind k (Asked g r) ms
@@ -244,7 +253,9 @@ module _ (k : Life) where
         up = λ d. d;
       })
       by false f = ItStays (record {
-        stage = ap (λ (v : Bool). (contacted_if (v && same_host k.peer peer) (places ms) (course_in k ms)).stage) e ∙ ap (λ (v : Bool). (contacted_if v (places ms) (course_in k ms)).stage) f;
+        pace =
+            ap (λ (v : Bool). pace (contacted_if (v && same_host k.peer peer) (places ms) (course_in k ms))) e
+            ∙ ap (λ (v : Bool). pace (contacted_if v (places ms) (course_in k ms))) f;
         ends = asked_ends g (request.Contact peer) ms l e ∙ ap (λ (v : Bool). if v then nothing else end_of k ms) f;
         unended = λ h t. quiet_tells k (notices_by (Asked g (request.Contact peer)) ms) (request_quiet (program g ms) (places ms) (request.Contact peer)) t;
         unreset = λ h t. off_host k.peer peer f (contact_reset (program g ms) peer t);
@@ -252,7 +263,7 @@ module _ (k : Life) where
         up = λ d. d;
       })
     asked_on g r ms l e = ItStays (record {
-      stage = refl;
+      pace = refl;
       ends = asked_ends g r ms l e;
       unended = λ h t. quiet_tells k (notices_by (Asked g r) ms) (request_quiet (program g ms) (places ms) r) t;
       unreset = λ h t. t;

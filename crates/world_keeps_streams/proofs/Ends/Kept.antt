@@ -1,9 +1,11 @@
 -- By what no end of two sockets goes, and no pair is reset: what comes in and goes out where none of these ends passes a test that all pass that go.
-use Rattle.world_keeps_streams.proofs.Common.{◌≡◌, ◌⊎◌, inl, inr, ℕ, ◌&&◌, not, Bool, true, false, if◌then◌else◌, List, [], ◌∷◌, ◌++◌, filter, Option, Some, None, is_some, refl, ap, sym, subst, ◌∙◌, flat_map, list_any, Host, data_bits, header_of, is_ready, Command, DataHeader, Ending, Open, Unconnected, asked_on_link, asked_with_size, at_end, changed, cls_taken_by, desk_taken, entry_joined, gvb_taken, interrupted, receiver_on, ret_taken, rts_heard, rts_taken_by, sender_on, str_heard, str_linked, str_taken_by, ERRONEOUS, Legal, Order, Wrong, error, arrived, arrived_if, data_found, data_of, data_taken, is_acceptable, spent, text_faulted, DeskState, command_queued, desk_of, desk_told, listener_on, settled, swept, changed_at, closed_by_partner, closed_when, ending, entry_at, free_link, is_at, is_ending, is_sent, must_close, opening_by, opening_notices, receives_on, receiving_end, refused_end, sending_end, sends_on, asked_at, cls_sent, command_gone, commands_gone, TurnState, command_taken, if_ready, orders_taken, with_desk, Closing, Entry, Listener, Notice, both, AreJoint, IsJoint}
+use Rattle.world_keeps_streams.proofs.Common.{◌≡◌, ◌⊎◌, inl, inr, ℕ, ◌&&◌, not, Bool, true, false, if◌then◌else◌, List, [], ◌∷◌, ◌++◌, filter, Option, Some, None, is_some, refl, ap, sym, subst, ◌∙◌, flat_map, list_any, Host, data_bits, header_of, is_ready, Command, DataHeader, Ending, Open, Unconnected, asked_on_link, asked_with_size, at_end, changed, cls_taken_by, desk_taken, gvb_taken, interrupted, receiver_on, ret_taken, rts_heard, rts_taken_by, sender_on, str_heard, str_linked, str_taken_by, ERRONEOUS, Legal, Order, Wrong, error, arrived, arrived_if, data_found, data_of, data_taken, is_acceptable, spent, text_faulted, DeskState, command_queued, desk_of, listener_on, settled, swept, changed_at, closed_by_partner, closed_when, ending, entry_at, free_link, is_at, is_called_off, is_due, is_ending, is_sent, must_close, opening_by, opening_notices, receives_on, receiving_end, refused_end, sending_end, sends_on, asked_at, cls_sent, command_gone, commands_gone, TurnState, command_taken, if_ready, orders_taken, with_desk, Closing, Entry, Listener, Notice, both, AreJoint, IsJoint}
+use Rattle.host_pairs.specs.Desk.{desk_told}
+use Rattle.host_pairs.specs.Commands.{entry_joined}
 use Rattle.ncp_control.specs.declared.command.Command.TheVariants as command
 use Rattle.host_pairs.specs.Commands as commands
 use Rattle.host_pairs.specs.Commands.{Found, all_taken}
-use Rattle.host_pairs.specs.Entries.{is_over}
+use Rattle.host_pairs.specs.Entries.{is_drained, is_over}
 use Rattle.host_pairs.specs.declared.entry.Closing.TheVariants as closing
 use Rattle.host_pairs.specs.declared.notice.Notice.TheVariants as notice
 use Rattle.world_keeps_streams.proofs.Deeds.Effects.{Among, Changed, among_changed, among_either, among_filter, among_map, found_among}
@@ -27,39 +29,45 @@ module _ (Lax : Type 0) (own foreign : ℕ) where
 -- a test of ends that only what closes them changes. One that doesn't pass doesn't go; or it may, and only resets are excluded
 pub record IsTest (Lax : Type 0) (test : Entry → Bool) : Type 0 where
   pub passes : (e : Entry) → is_over e ≡ true → test e ≡ false → Lax
-  pub same : (e f : Entry) → f.closing ≡ e.closing → f.partner_closed ≡ e.partner_closed → test e ≡ false → test f ≡ false
-  pub fresh : (e : Entry) → is_sent e.closing ≡ false → e.partner_closed ≡ false → test e ≡ false
-  pub queued : (e : Entry) → test e ≡ false → test (record e { closing = closing.Queued }) ≡ false
+  pub same : (e f : Entry) → f.mine ≡ e.mine → f.closing ≡ e.closing → f.partner_closed ≡ e.partner_closed
+      → test e ≡ false → test f ≡ false
+  pub fresh : (e : Entry) → is_sent e.closing ≡ false → e.partner_closed ≡ false → (e.mine ≡ false)
+      ⊎ (is_called_off e.closing ≡ false) → test e ≡ false
+  pub queued : (e : Entry) → is_due e.closing ≡ true → test e ≡ false → test
+      (record e { closing = closing.Queued }) ≡ false
 
 -- the own CLS has gone out; the partner's was taken; both
 clash : {A : Type 0} (v : Bool) → v ≡ true → v ≡ false → A
 clash v e f = absurd (let no : true ≡ false = sym e ∙ f in cc)
 
 pub test_any : IsTest (Unit {0}) (λ e. false)
-test_any = record { passes = λ e over off. tt; same = λ e f is off t. refl; fresh = λ e unsent untaken. refl; queued = λ e t. refl }
+test_any =
+    record { passes = λ e over off. tt; same = λ e f m is off t. refl; fresh = λ e unsent untaken calm. refl; queued = λ e due t. refl }
 
 pub test_over : IsTest ⊥ is_over
 test_over = record {
   passes = λ e over off. clash (is_over e) over off;
-  same = λ e f is off t. ap (λ (v : Bool). is_sent f.closing && v) off ∙ ap (λ (c : Closing). is_sent c && e.partner_closed) is ∙ t;
-  fresh = λ e unsent untaken. ap (λ (v : Bool). v && e.partner_closed) unsent;
-  queued = λ e t. refl;
+  same =
+      λ e f m is off t. ap (λ (v : Bool). is_sent f.closing && v) off ∙ ap
+      (λ (c : Closing). is_sent c && e.partner_closed) is ∙ t;
+  fresh = λ e unsent untaken calm. ap (λ (v : Bool). v && e.partner_closed) unsent;
+  queued = λ e due t. refl;
 }
 
 pub test_sent : IsTest ⊥ (λ e. is_sent e.closing)
 test_sent = record {
   passes = λ e over off. clash (is_sent e.closing) (both (is_sent e.closing) e.partner_closed over).0 off;
-  same = λ e f is off t. ap is_sent is ∙ t;
-  fresh = λ e unsent untaken. unsent;
-  queued = λ e t. refl;
+  same = λ e f m is off t. ap is_sent is ∙ t;
+  fresh = λ e unsent untaken calm. unsent;
+  queued = λ e due t. refl;
 }
 
 pub test_taken : IsTest ⊥ (λ e. e.partner_closed)
 test_taken = record {
   passes = λ e over off. clash e.partner_closed (both (is_sent e.closing) e.partner_closed over).1 off;
-  same = λ e f is off t. off ∙ t;
-  fresh = λ e unsent untaken. untaken;
-  queued = λ e t. t;
+  same = λ e f m is off t. off ∙ t;
+  fresh = λ e unsent untaken calm. untaken;
+  queued = λ e due t. t;
 }
 
 module _ (Lax : Type 0) (g : Host) (own foreign stamp : ℕ) (test : Entry → Bool) (t : IsTest Lax test) where
@@ -73,8 +81,13 @@ module _ (Lax : Type 0) (g : Host) (own foreign stamp : ℕ) (test : Entry → B
     pub ends : AreOff d.entries
     pub told : AllKept Lax own foreign d.notices
 
-  same_off : (e f : Entry) → f.own ≡ e.own → f.foreign ≡ e.foreign → f.closing ≡ e.closing → f.partner_closed ≡ e.partner_closed → IsOff e → IsOff f
-  same_off e f o n c p off is there = t.same e f c p (off (sym o ∙ is) (sym n ∙ there))
+  abbrev Same : Entry → Entry → Type 0
+  Same e f =
+      (f.own ≡ e.own) × (f.foreign ≡ e.foreign) × (f.mine ≡ e.mine) × (f.closing ≡ e.closing)
+      × (f.partner_closed ≡ e.partner_closed)
+
+  same_off : (e f : Entry) → Same e f → IsOff e → IsOff f
+  same_off e f s off is there = t.same e f s.2 s.3 s.4 (off (sym s.0 ∙ is) (sym s.1 ∙ there))
 
   gone_one : (e : Entry) → IsOff e → is_over e ≡ true → AllKept Lax own foreign (ending g e)
   gone_one e off over = by e.mine where
@@ -99,15 +112,17 @@ module _ (Lax : Type 0) (g : Host) (own foreign stamp : ℕ) (test : Entry → B
   keeps_if true d e h k = h
   keeps_if false d e h k = k
 
-  keeps_changed : (which : Entry → Bool) (change : Entry → Entry) (d : DeskState) → ((e : Entry) → which e ≡ true → IsOff e → IsOff (change e)) → Keeps d → Keeps (changed which change d)
+  pub keeps_changed : (which : Entry → Bool) (change : Entry → Entry) (d : DeskState)
+      → ((e : Entry) → which e ≡ true → IsOff e → IsOff (change e)) → Keeps d → Keeps (changed which change d)
   keeps_changed which change d k h = record { ends = λ e i. by e (among_changed which change d.entries e i); told = h.told } where
     by : (e : Entry) → Among e d.entries ⊎ Changed which change d.entries e → IsOff e
     by e (inl there) = h.ends e there
     by e (inr c) = subst (λ (x : Entry). IsOff x) c.is (k c.end (found_among which d.entries c.end c.found).1 (h.ends c.end c.there))
 
   -- a change that closes nothing
-  keeps_quiet : (which : Entry → Bool) (change : Entry → Entry) (d : DeskState) → ((e : Entry) → ((change e).own ≡ e.own) × ((change e).foreign ≡ e.foreign) × ((change e).closing ≡ e.closing) × ((change e).partner_closed ≡ e.partner_closed)) → Keeps d → Keeps (changed which change d)
-  keeps_quiet which change d q h = keeps_changed which change d (λ e w off. same_off e (change e) (q e).0 (q e).1 (q e).2 (q e).3 off) h
+  pub keeps_quiet : (which : Entry → Bool) (change : Entry → Entry) (d : DeskState) → ((e : Entry) → Same e (change e))
+      → Keeps d → Keeps (changed which change d)
+  keeps_quiet which change d q h = keeps_changed which change d (λ e w off. same_off e (change e) (q e) off) h
 
   keeps_swept : (d : DeskState) → Keeps d → Keeps (swept g d)
   keeps_swept d h = record {
@@ -128,26 +143,29 @@ module _ (Lax : Type 0) (g : Host) (own foreign stamp : ℕ) (test : Entry → B
     by (Some a) None = tt
     by (Some a) (Some b) = when (is_ending e) a b
 
-  keeps_asked : (o f : ℕ) (change : Entry → Entry) (d : DeskState) → ((e : Entry) → ((change e).own ≡ e.own) × ((change e).foreign ≡ e.foreign) × ((change e).closing ≡ e.closing) × ((change e).partner_closed ≡ e.partner_closed)) → Keeps d
+  keeps_asked : (o f : ℕ) (change : Entry → Entry) (d : DeskState) → ((e : Entry) → Same e (change e)) → Keeps d
       → Keeps (desk_told (opening_notices g (entry_at o f (changed_at o f change d.entries))) (changed (is_at o f) change d))
   keeps_asked o f change d q h =
       keeps_told (opening_notices g (entry_at o f (changed_at o f change d.entries))) (changed (is_at o f) change d) (opening_kept (entry_at o f (changed_at o f change d.entries))) (keeps_quiet (is_at o f) change d q h)
 
-  keeps_joined : (e : Entry) (d : DeskState) → is_sent e.closing ≡ false → e.partner_closed ≡ false → Keeps d → Keeps (entry_joined e d)
-  keeps_joined e d unsent untaken h = record { ends = λ x i. by x (among_either d.entries (e ∷ []) x i); told = h.told } where
-    by : (x : Entry) → Among x d.entries ⊎ Among x (e ∷ []) → IsOff x
-    by x (inl there) = h.ends x there
-    by x (inr (inl is)) = subst (λ (y : Entry). IsOff y) is (λ o f. t.fresh e unsent untaken)
-    by x (inr (inr none)) = absurd none
+  pub keeps_joined : (e : Entry) (d : DeskState) → is_sent e.closing ≡ false → e.partner_closed ≡ false
+      → (e.mine ≡ false) ⊎ (is_called_off e.closing ≡ false) → Keeps d → Keeps (entry_joined e d)
+  keeps_joined e d unsent untaken calm h =
+      record { ends = λ x i. by x (among_either d.entries (e ∷ []) x i); told = h.told } where
+        by : (x : Entry) → Among x d.entries ⊎ Among x (e ∷ []) → IsOff x
+        by x (inl there) = h.ends x there
+        by x (inr (inl is)) = subst (λ (y : Entry). IsOff y) is (λ o f. t.fresh e unsent untaken calm)
+        by x (inr (inr none)) = absurd none
 
-  keeps_settled : (busy : List ℕ) (d : DeskState) → Keeps d → Keeps (settled busy d)
+  pub keeps_settled : (busy : List ℕ) (d : DeskState) → Keeps d → Keeps (settled busy d)
   keeps_settled busy d h = record { ends = λ x i. of x (among_map (λ e. closed_when (must_close busy e) e) d.entries x i); told = h.told } where
-    when : (v : Bool) (e : Entry) → test e ≡ false → test (closed_when v e) ≡ false
-    when true e off = t.queued e off
-    when false e off = t.same e (closed_when false e) refl refl off
+    when : (v : Bool) (e : Entry) → must_close busy e ≡ v → test e ≡ false → test (closed_when v e) ≡ false
+    when true e now off = t.queued e (both (is_due e.closing) (is_drained busy e) now).0 off
+    when false e now off = t.same e (closed_when false e) refl refl refl off
 
     of : (x : Entry) → (e : Entry) × Among e d.entries × (closed_when (must_close busy e) e ≡ x) → IsOff x
-    of x m = subst (λ (y : Entry). IsOff y) m.2 (λ is there. when (must_close busy m.0) m.0 (h.ends m.0 m.1 is there))
+    of x m =
+        subst (λ (y : Entry). IsOff y) m.2 (λ is there. when (must_close busy m.0) m.0 refl (h.ends m.0 m.1 is there))
 
   -- ---- what comes in
 
@@ -161,9 +179,12 @@ module _ (Lax : Type 0) (g : Host) (own foreign stamp : ℕ) (test : Entry → B
   AllSpare (o ∷ os) = Spares o × AllSpare os
 
   keeps_refused : (o f : ℕ) (d : DeskState) → Keeps d → Keeps (commands.refused o f stamp d)
-  keeps_refused o f d h = keeps_queued _ (entry_joined (refused_end o f stamp) d) (keeps_joined (refused_end o f stamp) d refl refl h)
+  keeps_refused o f d h =
+      keeps_queued _ (entry_joined (refused_end o f stamp) d) (keeps_joined (refused_end o f stamp) d refl refl
+      (inl refl) h)
 
-  keeps_matched : (o f : ℕ) (c : Command) (e : Entry) (change : Entry → Entry) (d : DeskState) → ((x : Entry) → ((change x).own ≡ x.own) × ((change x).foreign ≡ x.foreign) × ((change x).closing ≡ x.closing) × ((change x).partner_closed ≡ x.partner_closed)) → Keeps d
+  keeps_matched : (o f : ℕ) (c : Command) (e : Entry) (change : Entry → Entry) (d : DeskState)
+      → ((x : Entry) → Same x (change x)) → Keeps d
       → Keeps (commands.matched_once g o f c e change d)
   keeps_matched o f c e change d q h = keeps_if (is_some e.partner) (commands.faulted ERRONEOUS c d) (commands.matched g o f change d) (keeps_queued _ d h) (keeps_asked o f change d q h)
 
@@ -171,17 +192,18 @@ module _ (Lax : Type 0) (g : Host) (own foreign stamp : ℕ) (test : Entry → B
   keeps_rts_heard o f link None d h = keeps_refused o f d h
   keeps_rts_heard o f link (Some l) d h = record { ends = k.ends; told = k.told } where
     k : Keeps (entry_joined (asked_on_link stamp link (sending_end o f l.size)) d)
-    k = keeps_joined (asked_on_link stamp link (sending_end o f l.size)) d refl refl h
+    k = keeps_joined (asked_on_link stamp link (sending_end o f l.size)) d refl refl (inr refl) h
 
   keeps_rts : (o f link : ℕ) (x : Option Entry) (d : DeskState) → Keeps d → Keeps (rts_taken_by g o f link stamp x d)
   keeps_rts o f link None d h = keeps_rts_heard o f link (listener_on o d.listening) d h
-  keeps_rts o f link (Some e) d h = keeps_matched o f (command.Rts f o link) e (asked_on_link stamp link) d (λ x. (refl, refl, refl, refl)) h
+  keeps_rts o f link (Some e) d h =
+      keeps_matched o f (command.Rts f o link) e (asked_on_link stamp link) d (λ x. (refl, refl, refl, refl, refl)) h
 
   keeps_str_linked : (o f size : ℕ) (l : Option ℕ) (d : DeskState) → Keeps d → Keeps (str_linked o f size stamp l d)
   keeps_str_linked o f size None d h = keeps_refused o f d h
   keeps_str_linked o f size (Some link) d h = record { ends = k.ends; told = k.told } where
     k : Keeps (entry_joined (asked_with_size stamp size (receiving_end o f link)) d)
-    k = keeps_joined (asked_with_size stamp size (receiving_end o f link)) d refl refl h
+    k = keeps_joined (asked_with_size stamp size (receiving_end o f link)) d refl refl (inr refl) h
 
   keeps_str_heard : (o f size : ℕ) (l : Option Listener) (d : DeskState) → Keeps d → Keeps (str_heard o f size stamp l d)
   keeps_str_heard o f size None d h = keeps_refused o f d h
@@ -189,7 +211,8 @@ module _ (Lax : Type 0) (g : Host) (own foreign stamp : ℕ) (test : Entry → B
 
   keeps_str : (o f size : ℕ) (x : Option Entry) (d : DeskState) → Keeps d → Keeps (str_taken_by g o f size stamp x d)
   keeps_str o f size None d h = keeps_str_heard o f size (listener_on o d.listening) d h
-  keeps_str o f size (Some e) d h = keeps_matched o f (command.Str f o size) e (asked_with_size stamp size) d (λ x. (refl, refl, refl, refl)) h
+  keeps_str o f size (Some e) d h =
+      keeps_matched o f (command.Str f o size) e (asked_with_size stamp size) d (λ x. (refl, refl, refl, refl, refl)) h
 
   keeps_cls : (busy : List ℕ) (mine yours : ℕ) (x : Option Entry) (d : DeskState) → Spares (Legal (command.Cls mine yours)) → Keeps d → Keeps (cls_taken_by g busy yours mine x d)
   keeps_cls busy mine yours None d s h = keeps_queued _ d h
@@ -204,19 +227,25 @@ module _ (Lax : Type 0) (g : Host) (own foreign stamp : ℕ) (test : Entry → B
 
   keeps_ret : (link messages bits : ℕ) (e : Entry) (d : DeskState) → Keeps d → Keeps (ret_taken link messages bits e d)
   keeps_ret link messages bits e d h =
-      keeps_if _ _ _ (keeps_told (notice.Returned e.own messages bits ∷ []) (changed (receives_on link) (commands.returned messages bits) d) (tt, tt) (keeps_quiet (receives_on link) (commands.returned messages bits) d (λ x. (refl, refl, refl, refl)) h)) (keeps_queued _ d h)
+      keeps_if _ _ _ (keeps_told (notice.Returned e.own messages bits ∷ [])
+      (changed (receives_on link) (commands.returned messages bits) d) (tt, tt)
+      (keeps_quiet (receives_on link) (commands.returned messages bits) d (λ x. (refl, refl, refl, refl, refl)) h))
+      (keeps_queued _ d h)
 
-  keeps_taken : (busy : List ℕ) (c : Command) (d : DeskState) → Spares (Legal c) → Keeps d → Keeps (desk_taken g busy stamp c d)
+  pub keeps_taken : (busy : List ℕ) (c : Command) (d : DeskState) → Spares (Legal c) → Keeps d
+      → Keeps (desk_taken g busy stamp c d)
   keeps_taken busy (command.Rts receive send link) d s h =
       keeps_if (list_any (sends_on link) d.entries) (commands.faulted ERRONEOUS (command.Rts receive send link) d) (rts_taken_by g send receive link stamp (entry_at send receive d.entries) d) (keeps_queued _ d h)
       (keeps_rts send receive link (entry_at send receive d.entries) d h)
   keeps_taken busy (command.Str send receive size) d s h = keeps_str receive send size (entry_at receive send d.entries) d h
   keeps_taken busy (command.Cls mine yours) d s h = keeps_cls busy mine yours (entry_at yours mine d.entries) d s h
   keeps_taken busy (command.All link messages bits) d s h =
-      keeps_at (command.All link messages bits) (all_taken link messages bits) (sender_on link d) d (λ e. keeps_quiet (sends_on link) (commands.granted messages bits) d (λ x. (refl, refl, refl, refl)) h) h
+      keeps_at (command.All link messages bits) (all_taken link messages bits) (sender_on link d) d
+      (λ e. keeps_quiet (sends_on link) (commands.granted messages bits) d (λ x. (refl, refl, refl, refl, refl)) h) h
   keeps_taken busy (command.Gvb link messages bits) d s h =
       keeps_at (command.Gvb link messages bits) (gvb_taken link messages bits) (sender_on link d) d
-      (λ e. keeps_queued _ (changed (sends_on link) (commands.given_back messages bits) d) (keeps_quiet (sends_on link) (commands.given_back messages bits) d (λ x. (refl, refl, refl, refl)) h)) h
+      (λ e. keeps_queued _ (changed (sends_on link) (commands.given_back messages bits) d)
+      (keeps_quiet (sends_on link) (commands.given_back messages bits) d (λ x. (refl, refl, refl, refl, refl)) h)) h
   keeps_taken busy (command.Ret link messages bits) d s h = keeps_at (command.Ret link messages bits) (ret_taken link messages bits) (receiver_on link d) d (λ e. keeps_ret link messages bits e d h) h
   keeps_taken busy (command.Inr link) d s h = keeps_at (command.Inr link) interrupted (sender_on link d) d (λ e. keeps_told (notice.Interrupt e.own ∷ []) d (tt, tt) h) h
   keeps_taken busy (command.Ins link) d s h = keeps_at (command.Ins link) interrupted (receiver_on link d) d (λ e. keeps_told (notice.Interrupt e.own ∷ []) d (tt, tt) h) h
@@ -254,10 +283,13 @@ module _ (Lax : Type 0) (g : Host) (own foreign stamp : ℕ) (test : Entry → B
   keeps_arrived link e text None d h = keeps_queued _ d h
   keeps_arrived link e text (Some header) d h =
       keeps_if (is_acceptable e header) (arrived link e (data_bits header) text d) (text_faulted ERRONEOUS text d)
-      (keeps_told (notice.Arrived e.own (data_of (data_bits header) text) ∷ []) (changed (receives_on link) (spent (data_bits header)) d) (tt, tt) (keeps_quiet (receives_on link) (spent (data_bits header)) d (λ x. (refl, refl, refl, refl)) h))
+      (keeps_told (notice.Arrived e.own (data_of (data_bits header) text) ∷ [])
+      (changed (receives_on link) (spent (data_bits header)) d) (tt, tt)
+      (keeps_quiet (receives_on link) (spent (data_bits header)) d (λ x. (refl, refl, refl, refl, refl)) h))
       (keeps_queued _ d h)
 
-  keeps_found : (link : ℕ) (text : List Bool) (f : Found) (d : DeskState) → Keeps d → Keeps (data_found link text f d)
+  pub keeps_found : (link : ℕ) (text : List Bool) (f : Found) (d : DeskState) → Keeps d
+      → Keeps (data_found link text f d)
   keeps_found link text Unconnected d h = keeps_queued _ d h
   keeps_found link text Ending d h = h
   keeps_found link text (Open e) d h = keeps_arrived link e text (header_of text) d h
@@ -276,9 +308,11 @@ module _ (Lax : Type 0) (g : Host) (own foreign stamp : ℕ) (test : Entry → B
   AllPass [] = Unit {0}
   AllPass (c ∷ cs) = Passes c × AllPass cs
 
-  keeps_gone : (c : Command) (d : DeskState) → Passes c → Keeps d → Keeps (command_gone g stamp c d)
-  keeps_gone (command.Rts receive send link) d s h = keeps_asked receive send (asked_at stamp) d (λ x. (refl, refl, refl, refl)) h
-  keeps_gone (command.Str send receive size) d s h = keeps_asked send receive (asked_at stamp) d (λ x. (refl, refl, refl, refl)) h
+  pub keeps_gone : (c : Command) (d : DeskState) → Passes c → Keeps d → Keeps (command_gone g stamp c d)
+  keeps_gone (command.Rts receive send link) d s h =
+      keeps_asked receive send (asked_at stamp) d (λ x. (refl, refl, refl, refl, refl)) h
+  keeps_gone (command.Str send receive size) d s h =
+      keeps_asked send receive (asked_at stamp) d (λ x. (refl, refl, refl, refl, refl)) h
   keeps_gone (command.Cls o f) d s h = keeps_swept (changed (is_at o f) cls_sent d) (keeps_changed (is_at o f) cls_sent d s h)
   keeps_gone c d s h = h
 

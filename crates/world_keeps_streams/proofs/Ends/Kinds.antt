@@ -1,12 +1,13 @@
 -- What a moment is for a life: what is said or heard of its sockets, or its connections are dropped, or its host stops, or nothing of it changes.
-use Rattle.world_keeps_streams.proofs.Common.{◌≡◌, ◌⊎◌, inl, inr, ℕ, ◌+◌, ◌≤◌, ◌==◌, ◌&&◌, Bool, true, false, if◌then◌else◌, List, [], ◌∷◌, ◌++◌, map, take, Option, refl, ap, sym, subst, ◌∙◌, eq-eqb, eqb-true, Host, same_host, HostMessage, same_host-true, AreAbout, IsAbout, Legal, Order, orders_of, desk_of, close_due, is_at, is_sent, PairState, Parcel, cls_sent, parcel_gone, Closing, Entry, Notice, both, is_ready, Command, End, Close, Mark, HasEnd, at, all_lives_gone, all_lives_taken, with_openings, AllFit, MayAllGo, all_gone, mark_in, mark_of, marks_in, eqb-sym, pair_with, offered_by, Peer, Crossed, IsNext, Moment, places, program, host_in, notices_by, plain_take, Course, Dropped, Stage, Stopped, cut, each, ended_by, said}
+use Rattle.world_keeps_streams.proofs.Common.{◌≡◌, ◌⊎◌, inl, inr, ℕ, ◌+◌, ◌≤◌, ◌==◌, ◌&&◌, ◌||◌, Bool, true, false, if◌then◌else◌, List, [], ◌∷◌, ◌++◌, map, take, Option, Some, refl, ap, sym, subst, ◌∙◌, eq-eqb, eqb-true, Host, same_host, HostMessage, same_host-true, AreAbout, IsAbout, Legal, Order, orders_of, desk_of, close_due, is_at, is_sent, PairState, Parcel, parcel_gone, Closing, Entry, Notice, both, is_ready, Command, End, Close, Mark, HasEnd, at, all_lives_gone, all_lives_taken, with_openings, AllFit, MayAllGo, all_gone, mark_in, mark_of, marks_in, eqb-sym, pair_with, offered_by, Peer, Crossed, IsNext, Moment, places, program, host_in, notices_by, plain_take, what_goes, Course, Dropped, Stage, Stopped, cut, each, ended_by, said}
 use Rattle.interface.specs.declared.crossing.Crossing.TheVariants as crossing
-use Rattle.host_pairs.specs.Allowed.{commands_of}
+use Rattle.host_pairs.specs.Allowed.{MaySpeak, commands_of}
 use Rattle.host_pairs.specs.Entries.{is_over}
 use Rattle.host_pairs.specs.Parcels as parcel
 use Rattle.host_pairs.specs.declared.entry.Closing.TheVariants as closing
 use Rattle.host_pairs.specs.declared.notice.Notice.TheVariants as notice
 use Rattle.ncp_control.specs.declared.command.Command.TheVariants as command
+use Rattle.ncp_control.specs.declared.phase.Phase.TheVariants as phase
 use Rattle.pairing_law.specs.Ends.{nothing}
 use Rattle.pairing_law.specs.Sides as law
 use Rattle.host_keeps_pairing.specs.Openings.{AreAmong}
@@ -19,8 +20,8 @@ use Rattle.world_keeps_streams.proofs.Books.Run.{below}
 use Rattle.world_keeps_streams.proofs.Deeds.Effects.{Among}
 use Rattle.world_keeps_streams.proofs.Ends.Courses.{course_in}
 use Rattle.world_keeps_streams.proofs.Ends.Kept.{AllKept, AllPass, AllSpare, AreOff, IsTest, all_keep, test_any, test_sent, test_taken}
-use Rattle.world_keeps_streams.proofs.Ends.Marks.{AllHere, all_said, marks_here, own_marks, partner_marks}
-use Rattle.world_keeps_streams.proofs.Ends.Owes.{AData, AReply, AReset, Outs, Several, outs, owes_is, pair_is, queue_plain, when_on}
+use Rattle.world_keeps_streams.proofs.Ends.Marks.{AllHere, AskOnce, all_said, all_said_early, marks_here, own_early, own_marks, partner_early, partner_marks}
+use Rattle.world_keeps_streams.proofs.Ends.Owes.{AData, AReply, AReset, Outs, Several, next_out, outs, owes_is, pair_is, queue_plain, when_on}
 use Rattle.world_keeps_streams.proofs.Ends.Ties.{end_in, entry_is, has_now, itself, law_end, once}
 use Rattle.world_keeps_streams.proofs.Lives.Fates.{IsDown, IsEnd, IsOpening, IsResetting, TellsEnd, TellsOpening, TellsReset}
 use Rattle.world_keeps_streams.proofs.Requests.Sides.{Lawful, coupled_in}
@@ -108,6 +109,13 @@ among_none (x ∷ xs) (y ∷ ys) a e = absurd (let no : y ∷ ys ≡ [] = e in c
 
 -- ---- what a moment is for a life
 
+-- its stage, and whether what ends it came too early
+abbrev pub Pace : Type 0
+Pace = Stage × Bool
+
+abbrev pub pace : Course → Pace
+pace k = (k.stage, k.early)
+
 module _ (k : Life) where
   abbrev pub end_of : List Moment → End
   end_of ms = law_end k.host k.peer k.socket k.foreign ms
@@ -128,10 +136,13 @@ module _ (k : Life) where
     pub marks : List Mark
     pub here : AllHere (places ms) marks
     pub stage : stage_of (y ∷ ms) ≡ own_marks k (places ms) marks (stage_of ms)
+    pub early : (course_in k (y ∷ ms)).early ≡ ((course_in k ms).early || own_early k (places ms) marks (stage_of ms))
     pub ends : end_of (y ∷ ms) ≡ all_gone marks (end_of ms)
     pub may : (n : ℕ) → n ≤ places ms → MayAllGo marks (end_of ms) n
     pub opens : AreAmong (with_openings itself k.socket k.foreign (notices_by y ms) []) (all_lives_gone marks (end_of ms) [])
     pub unreset : Unreset y ms
+    pub ready : (pair_with k.peer (program k.host ms).peers).phase ≡ phase.Ready
+    pub owes : (pair_with k.peer (program k.host ms).peers).owed ≡ false
     pub untaken : (end_of ms).taken ≡ false → Unended y ms
     pub unsaid : (end_of ms).gone ≡ false → marks ≡ [] → Unended y ms
     pub up : IsDown y k → ⊥
@@ -141,6 +152,9 @@ module _ (k : Life) where
     pub marks : List Mark
     pub here : AllHere (places ms) marks
     pub stage : stage_of (y ∷ ms) ≡ partner_marks k (places ms) marks (stage_of ms)
+    pub early : (course_in k (y ∷ ms)).early ≡ ((course_in k ms).early || partner_early k (places ms) marks
+        (stage_of ms))
+    pub once : AskOnce marks
     pub ends : end_of (y ∷ ms) ≡ all_taken marks (end_of ms)
     pub fit : AllFit marks (end_of ms)
     pub opens : AreAmong (with_openings itself k.socket k.foreign (notices_by y ms) []) (all_lives_taken marks (end_of ms) [])
@@ -165,7 +179,7 @@ module _ (k : Life) where
     pub unopened : Unopened y ms
 
   pub record Stays (y : Moment) (ms : List Moment) : Type 0 where
-    pub stage : stage_of (y ∷ ms) ≡ stage_of ms
+    pub pace : pace (course_in k (y ∷ ms)) ≡ pace (course_in k ms)
     pub ends : end_of (y ∷ ms) ≡ end_of ms
     pub unended : Unended y ms
     pub unreset : Unreset y ms
@@ -187,12 +201,16 @@ module _ (k : Life) where
     ItIdles : Idles y ms → Kind y ms
 
   -- nothing of it: another host acts, or with another peer
-  pub away : (y : Moment) (ms : List Moment) → (host_in y ≡ k.host → ⊥) → stage_of (y ∷ ms) ≡ stage_of ms → end_of (y ∷ ms) ≡ end_of ms → (IsDown y k → ⊥) → Kind y ms
-  away y ms off stage ends up = ItStays (record { stage = stage; ends = ends; unended = λ e t. off e; unreset = λ e t. off e; unopened = λ e t. off e; up = up })
+  pub away : (y : Moment) (ms : List Moment) → (host_in y ≡ k.host → ⊥)
+      → pace (course_in k (y ∷ ms)) ≡ pace (course_in k ms) → end_of (y ∷ ms) ≡ end_of ms → (IsDown y k → ⊥) → Kind y ms
+  away y ms off same ends up =
+      ItStays
+      (record { pace = same; ends = ends; unended = λ e t. off e; unreset = λ e t. off e; unopened = λ e t. off e; up = up })
 
-  pub beside : (y : Moment) (ms : List Moment) (g : Host) → AreAbout g (notices_by y ms) → (g ≡ k.peer → ⊥) → stage_of (y ∷ ms) ≡ stage_of ms → end_of (y ∷ ms) ≡ end_of ms → (IsDown y k → ⊥) → Kind y ms
-  beside y ms g about off stage ends up = ItStays (record {
-    stage = stage;
+  pub beside : (y : Moment) (ms : List Moment) (g : Host) → AreAbout g (notices_by y ms) → (g ≡ k.peer → ⊥)
+      → pace (course_in k (y ∷ ms)) ≡ pace (course_in k ms) → end_of (y ∷ ms) ≡ end_of ms → (IsDown y k → ⊥) → Kind y ms
+  beside y ms g about off same ends up = ItStays (record {
+    pace = same;
     ends = ends;
     unended = λ e t. off (about_ends k g (notices_by y ms) about t);
     unreset = λ e t. off (about_resets k g (notices_by y ms) about t);
@@ -311,16 +329,20 @@ module _ (k : Life) where
           ∙ ap (λ (o : Option (Peer × Parcel)). (offered_by (program k.host ms) (places ms) o).1) n.next
           ∙ ap (λ (x : Parcel). (parcel_gone n.peer.host (places ms) n.peer.pair.busy x (desk_of n.peer.pair (program k.host ms).listening)).notices) is
 
-      on_flow : (os : List Order) → m.flow.link.0 ≡ 0 → orders_of m.text ≡ os → stage_of (Crossed (crossing.Out m) ∷ ms) ≡ (each (said k (places ms)) os (course_in k ms)).stage
+      on_flow : (os : List Order) → m.flow.link.0 ≡ 0 → orders_of m.text ≡ os
+          → course_in k (Crossed (crossing.Out m) ∷ ms) ≡ each (said k (places ms)) os (course_in k ms)
       on_flow os zero orders =
           let z : (0 == m.flow.link.0) ≡ true = eq-eqb 0 m.flow.link.0 (sym zero) in
-          ap (λ (j : Course). j.stage) (when_on (said k (places ms)) (same_host k.host m.flow.source && same_host k.peer m.flow.destination && 0 == m.flow.link.0) (orders_of m.text) os (course_in k ms) (rw (from, to, z) refl) orders)
+          when_on (said k (places ms))
+          (same_host k.host m.flow.source && same_host k.peer m.flow.destination && 0 == m.flow.link.0)
+          (orders_of m.text) os (course_in k ms) (rw (from, to, z) refl) orders
 
-      off_flow : (m.flow.link.0 == 0) ≡ false → stage_of (Crossed (crossing.Out m) ∷ ms) ≡ stage_of ms
+      off_flow : (m.flow.link.0 == 0) ≡ false → course_in k (Crossed (crossing.Out m) ∷ ms) ≡ course_in k ms
       off_flow away =
           let z : (0 == m.flow.link.0) ≡ false = eqb-sym 0 m.flow.link.0 ∙ away in
           let none : (same_host k.host m.flow.source && same_host k.peer m.flow.destination && 0 == m.flow.link.0) ≡ false = rw (from, to, z) refl in
-          ap (λ (v : Bool). (if v then each (said k (places ms)) (orders_of m.text) (course_in k ms) else course_in k ms).stage) none
+          ap (λ (v : Bool). if v then each (said k (places ms)) (orders_of m.text)
+          (course_in k ms) else course_in k ms) none
 
       kept : (Lax : Type 0) (test : Entry → Bool) (t : IsTest Lax test) (count : ℕ) → n.parcel ≡ parcel.Commands count → AllPass Lax n.peer.host k.socket k.foreign (places ms) test t (take count n.peer.pair.queue)
           → AreOff Lax n.peer.host k.socket k.foreign (places ms) test t (pair_with k.peer (program k.host ms).peers).entries → AllKept Lax k.socket k.foreign (notices_by (Crossed (crossing.Out m)) ms)
@@ -329,14 +351,20 @@ module _ (k : Life) where
           (all_keep Lax n.peer.host k.socket k.foreign (places ms) test t (take count n.peer.pair.queue) (desk_of n.peer.pair (program k.host ms).listening) pass
           (record { ends = subst (λ (q : PairState). AreOff Lax n.peer.host k.socket k.foreign (places ms) test t q.entries) q_is off; told = tt })).told
 
+      speaks : (count : ℕ) → n.parcel ≡ parcel.Commands count → MaySpeak n.peer.pair
+      speaks count is =
+          (what_goes n.peer.pair (parcel.Commands count) (next_out hosts ms lower k.host m n
+          ∙ ap (λ (x : Parcel). Some x) is)).0
+
       out_by : Outs n.peer.pair n.parcel m → Kind (Crossed (crossing.Out m)) ms
       out_by (AReset wanted zero orders is) = ItIdles (record { ends = out_ends parcel.Reset is ∙ none; idle = inl none; unopened = λ e t. subst (λ (ns : List Notice). TellsOpening k ns) (notes parcel.Reset is) t; up = λ d. d }) where
         none : end_of ms ≡ nothing
         none = (has_now hosts ms lower k.host k.peer k.socket k.foreign).idle (ap (λ (q : PairState). is_ready q.phase) q_is ∙ ap is_ready wanted)
       out_by (AReply owed zero orders is) = ItStays (record {
-        stage =
-            on_flow (Legal command.Rrp ∷ []) zero orders
-            ∙ ap (λ (v : Bool). (if v then course_in k ms else ended_by (cut Dropped (places ms)) (course_in k ms)).stage) (owes_is hosts k ms lower ∙ ap (λ (q : PairState). q.owed) q_is ∙ owed);
+        pace =
+            ap pace (on_flow (Legal command.Rrp ∷ []) zero orders)
+            ∙ ap (λ (v : Bool). pace (if v then course_in k ms else ended_by (cut Dropped (places ms))
+            (course_in k ms))) (owes_is hosts k ms lower ∙ ap (λ (q : PairState). q.owed) q_is ∙ owed);
         ends = out_ends parcel.Reply is;
         unended = λ e t. subst (λ (ns : List Notice). TellsEnd k ns) (notes parcel.Reply is) t;
         unreset = λ e t. subst (λ (ns : List Notice). TellsReset k ns) (notes parcel.Reply is) t;
@@ -344,7 +372,7 @@ module _ (k : Life) where
         up = λ d. d;
       })
       out_by (AData d size count is away) = ItStays (record {
-        stage = off_flow away;
+        pace = ap pace (off_flow away);
         ends = out_ends (parcel.Bytes d size count) is;
         unended = λ e t. elim (subst (λ (ns : List Notice). TellsEnd k ns) (notes (parcel.Bytes d size count) is) t) [ inl x ↦ x | inr x ↦ x ];
         unreset = λ e t. elim (subst (λ (ns : List Notice). TellsReset k ns) (notes (parcel.Bytes d size count) is) t) [ inl x ↦ x | inr x ↦ x ];
@@ -354,7 +382,14 @@ module _ (k : Life) where
       out_by (Several count is zero orders) = ItSays (record {
         marks = words.marks (places ms) k.socket k.foreign (take count n.peer.pair.queue);
         here = marks_here (places ms) k.socket k.foreign (take count n.peer.pair.queue);
-        stage = on_flow (map Legal (take count n.peer.pair.queue)) zero orders ∙ all_said k (places ms) (take count n.peer.pair.queue) (course_in k ms) (plain_take count n.peer.pair.queue (queue_plain hosts ms lower k.host m n));
+        stage =
+            ap (λ (j : Course). j.stage) (on_flow (map Legal (take count n.peer.pair.queue)) zero orders)
+            ∙ all_said k (places ms) (take count n.peer.pair.queue) (course_in k ms)
+            (plain_take count n.peer.pair.queue (queue_plain hosts ms lower k.host m n));
+        early =
+            ap (λ (j : Course). j.early) (on_flow (map Legal (take count n.peer.pair.queue)) zero orders)
+            ∙ all_said_early k (places ms) (take count n.peer.pair.queue) (course_in k ms)
+            (plain_take count n.peer.pair.queue (queue_plain hosts ms lower k.host m n));
         ends = out_ends (parcel.Commands count) is;
         may = λ j lower_than. subst (λ (x : Parcel). MayAllGo (words.marks (places ms) k.socket k.foreign (commands_of n.peer.pair x)) (end_of ms) j) is
             (offer_may itself k.socket k.foreign (program k.host ms) (places ms) n.peer n.parcel (end_of ms) j n.order n.next lower_than has);
@@ -362,6 +397,8 @@ module _ (k : Life) where
             subst (λ (x : Parcel). AreAmong (with_openings itself k.socket k.foreign (notices_by (Crossed (crossing.Out m)) ms) []) (all_lives_gone (words.marks (places ms) k.socket k.foreign (commands_of n.peer.pair x)) (end_of ms) [])) is
             (subst (λ (h : Host). AreAmong (with_openings itself k.socket k.foreign (offered (program h ms) (places ms)).1 []) (all_lives_gone (words.marks (places ms) k.socket k.foreign (commands_of n.peer.pair n.parcel)) (end_of ms) [])) (same_host-true k.host m.flow.source from)
             (offer_tells itself k.socket k.foreign (program k.host ms) (places ms) n.peer n.parcel (end_of ms) [] [] n.order n.next has tt));
+        ready = ap (λ (q : PairState). q.phase) q_is ∙ (speaks count is).ready;
+        owes = ap (λ (q : PairState). q.owed) q_is ∙ (speaks count is).owes;
         unreset = λ e t. kept_resets (Unit {0}) k (notices_by (Crossed (crossing.Out m)) ms) (kept (Unit {0}) (λ x. false) test_any count is (pass_any n.peer.host (places ms) (take count n.peer.pair.queue)) (off_any ms lower)) t;
         untaken = λ u e t. kept_ends k (notices_by (Crossed (crossing.Out m)) ms) (kept ⊥ (λ x. x.partner_closed) test_taken count is (pass_taken n.peer.host (places ms) (take count n.peer.pair.queue)) (off_taken ms lower u)) t;
         unsaid = λ u none e t. kept_ends k (notices_by (Crossed (crossing.Out m)) ms) (kept ⊥ (λ x. is_sent x.closing) test_sent count is (pass_sent n.peer.host (places ms) (take count n.peer.pair.queue) none) (off_sent ms lower u)) t;

@@ -34,7 +34,7 @@ module _ (hosts : List Host) (ms : List Moment) (l : Lawful hosts ms) (h : Host)
   pub queue_plain : ArePlain n.peer.pair.queue
   queue_plain = subst (λ (q : PairState). ArePlain q.queue) pair_is agrees.plain
 
-  next_out : next_of n.peer.pair ≡ Some n.parcel
+  pub next_out : next_of n.peer.pair ≡ Some n.parcel
   next_out = next_is n.peer n.parcel (program h ms).peers n.next
 
   pub outs : Outs n.peer.pair n.parcel m

@@ -88,7 +88,7 @@ once own foreign q x h = by (at own foreign q.entries) (h.ends 0) where
 
 -- ---- what is heard in order by one is so by the other
 
-abbrev LikeMarks : List Mark → List Mark → Type 0
+abbrev pub LikeMarks : List Mark → List Mark → Type 0
 LikeMarks [] [] = Unit {0}
 LikeMarks (Ask p ∷ ms) (Ask q ∷ ns) = LikeMarks ms ns
 LikeMarks (Close ∷ ms) (Close ∷ ns) = LikeMarks ms ns
@@ -108,7 +108,8 @@ like_mark p q own foreign (command.Str n r size) ms ns h = like_when_ask p q (n 
 like_mark p q own foreign (command.Cls a b) ms ns h = like_when_close (a == own && b == foreign) ms ns h
 like_mark p q own foreign c ms ns h = h
 
-like_marks : (p q own foreign : ℕ) (os : List Order) → LikeMarks (marks_in p own foreign os) (marks_in q own foreign os)
+pub like_marks : (p q own foreign : ℕ) (os : List Order) → LikeMarks (marks_in p own foreign os)
+    (marks_in q own foreign os)
 like_marks p q own foreign [] = tt
 like_marks p q own foreign (Legal c ∷ os) = like_mark p q own foreign c (marks_in p own foreign os) (marks_in q own foreign os) (like_marks p q own foreign os)
 like_marks p q own foreign (Wrong code octets ∷ os) = like_marks p q own foreign os

@@ -1,5 +1,5 @@
 -- What a host heard by its calls is what the law of pairing has it hear.
-use Rattle.world_keeps_streams.proofs.Common.{◌≡◌, ℕ, ◌==◌, ◌&&◌, Bool, true, false, if◌then◌else◌, List, [], ◌∷◌, ◌++◌, take, Option, Some, None, refl, ap, sym, subst, ◌∙◌, append_assoc, Host, same_host, HostMessage, same_host-true, Command, Order, Legal, Wrong, orders_of, desk_of, listens_on, is_busy, PairState, Parcel, command_gone, with_connections, is_ready, TurnState, order_taken, Entry, Listener, eqb-sym, mark_of, marks_in, Answered, AsksBack, Closes, Gives, Grants, Hears, OpensReceiver, OpensSender, Says, Sends, Takes, Sockets, Who, Mark, Ask, Close, placed_event, tagged, with_box, with_place, Side, hears, says, Fresh, begins_fresh, stays_same, boxes, Event, In, Message, Other, stays_ready, turn_of, NcpState, owner_of, pair_with, next_in, Peer, Request, HaveAddresses, message_on, Asked, Crossed, Moment, event_in, events_of, places, program, IsTimeline, crossings_of, Coupled, by_request, coupled, IsAsking, law_events, keeps, AText, AnRrp, AnRst, AreOrigins, Sort, all_hears, all_says, at_texts, foreign_of, half, heard_is, hears_if, left_if, mail_below, met_if, other, own_of, sort_of, waiting, answer_calls, calls_by, commands_said, message_calls, next_calls, orders_heard, own_calls, owner_calls, parcel_calls, request_calls}
+use Rattle.world_keeps_streams.proofs.Common.{◌≡◌, ℕ, ◌==◌, ◌&&◌, Bool, true, false, if◌then◌else◌, List, [], ◌∷◌, ◌++◌, take, Option, Some, None, refl, ap, sym, subst, ◌∙◌, append_assoc, Host, same_host, HostMessage, same_host-true, Command, Order, Legal, Wrong, orders_of, desk_of, listens_on, is_busy, PairState, Parcel, command_gone, with_connections, is_ready, TurnState, order_taken, Entry, Listener, eqb-sym, mark_of, marks_in, Answered, AsksBack, Closes, Gives, Grants, Hears, OpensReceiver, OpensSender, Says, Takes, Sockets, Who, Mark, Ask, Close, placed_event, tagged, with_box, with_place, Side, hears, says, Fresh, begins_fresh, stays_same, boxes, Event, In, Message, Other, stays_ready, turn_of, NcpState, owner_of, pair_with, next_in, Peer, Request, HaveAddresses, message_on, Asked, Crossed, Moment, event_in, events_of, places, program, IsTimeline, crossings_of, Coupled, by_request, coupled, IsAsking, law_events, keeps, AText, AnRrp, AnRst, AreOrigins, Sort, all_hears, all_says, at_texts, foreign_of, half, heard_is, hears_if, left_if, mail_below, met_if, other, own_of, sort_of, waiting, answer_calls, calls_by, commands_said, message_calls, next_calls, orders_heard, own_calls, owner_calls, parcel_calls, request_calls}
 use Rattle.interface.specs.Mailboxes as mail
 use Rattle.interface.specs.declared.crossing.Crossing.TheVariants as crossing
 use Rattle.ncp_control.specs.declared.command.Command.TheVariants as command

@@ -1,5 +1,5 @@
 -- How many CLS of a peer a host has heard since it dropped its ends: one in each connection that is gone, and that of the end which is there.
-use Rattle.world_keeps_streams.proofs.Common.{◌≡◌, ℕ, suc, ◌==◌, ◌&&◌, Bool, true, false, if◌then◌else◌, List, [], ◌∷◌, ◌++◌, refl, ap, sym, subst, ◌∙◌, Host, Command, PairState, Entry, Answered, AreAllowed, AsksBack, Closes, Gives, Grants, Hears, IsHistory, IsTelling, OpensReceiver, OpensSender, Says, Sends, Takes, ends_now, gone_now, receiver_now, sender_now, holds_now, pair_with, HaveAddresses, Moment, event_in, events_of, program, IsTimeline, crossings_of, heard_from, keeps, mail_below, calls_by, own_calls}
+use Rattle.world_keeps_streams.proofs.Common.{◌≡◌, ℕ, suc, ◌==◌, ◌&&◌, Bool, true, false, if◌then◌else◌, List, [], ◌∷◌, ◌++◌, refl, ap, sym, subst, ◌∙◌, Host, Command, PairState, Entry, AreAllowed, Hears, IsHistory, IsTelling, ends_now, gone_now, receiver_now, sender_now, holds_now, pair_with, HaveAddresses, Moment, event_in, events_of, program, IsTimeline, crossings_of, heard_from, keeps, mail_below, calls_by, own_calls}
 use Rattle.interface.specs.Mailboxes as mail
 use Rattle.ncp_control.specs.declared.command.Command.TheVariants as command
 use Rattle.host_keeps_streams.specs.Histories as calls

@@ -1,5 +1,5 @@
 -- The request of the peer that an end has is one that was heard, and it is that of the connection to which the end belongs.
-use Rattle.world_keeps_streams.proofs.Common.{◌≡◌, ℕ, suc, ◌+◌, ◌==◌, ◌&&◌, not, Bool, true, false, if◌then◌else◌, List, [], ◌∷◌, ◌++◌, Option, Some, None, is_some, refl, ap, sym, subst, ◌∙◌, inl, inr, eq-eqb, arith, Host, Command, eqb-sym, mark_of, entry_at, PairState, Entry, Answered, AreAllowed, AsksBack, Closes, Gives, Grants, Hears, IsHistory, IsTelling, OpensReceiver, OpensSender, Says, Sends, Takes, ends_by, ends_now, gone_by, gone_now, receiver_now, sender_now, holds_now, counted, has_heard, heard_from, IsFirst, Ask, Asks, Close, Mark}
+use Rattle.world_keeps_streams.proofs.Common.{◌≡◌, ℕ, suc, ◌+◌, ◌==◌, ◌&&◌, not, Bool, true, false, if◌then◌else◌, List, [], ◌∷◌, ◌++◌, Option, Some, None, is_some, refl, ap, sym, subst, ◌∙◌, inl, inr, eq-eqb, arith, Host, Command, eqb-sym, mark_of, entry_at, PairState, Entry, AreAllowed, Hears, IsHistory, IsTelling, ends_by, ends_now, gone_by, gone_now, receiver_now, sender_now, holds_now, counted, has_heard, heard_from, IsFirst, Ask, Asks, Close, Mark}
 use Rattle.ncp_control.specs.declared.command.Command.TheVariants as command
 use Rattle.host_keeps_streams.specs.Histories as calls
 use Rattle.host_keeps_streams.specs.Histories.{Call}

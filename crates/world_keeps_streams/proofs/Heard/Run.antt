@@ -1,5 +1,5 @@
 -- The CLS that a host has heard of its peer since both met, over all moments: as many by the law of pairing as by its calls.
-use Rattle.world_keeps_streams.proofs.Common.{◌≡◌, ℕ, ◌==◌, ◌&&◌, ◌||◌, not, Bool, true, false, if◌then◌else◌, List, [], ◌∷◌, ◌++◌, refl, ap, sym, subst, ◌∙◌, Host, same_host, HostMessage, same_host-true, Command, Order, orders_of, PairState, eqb-sym, marks_in, Answered, AsksBack, Closes, Gives, Grants, Hears, OpensReceiver, OpensSender, Says, Sends, Takes, IsAsking, Sockets, Who, Mark, placed_event, tagged, with_box, with_place, Side, Fresh, begins_fresh, stays_same, boxes, Event, Message, Other, In, stays_ready, turn_of, pair_with, next_in, message_on, Moment, Crossed, Asked, event_in, events_of, places, program, Coupled, by_request, law_events, keeps, AText, AnRrp, AnRst, Sort, all_says, at_texts, foreign_of, half, heard_is, hears_if, left_if, met_if, other, own_of, sort_of, waiting, answer_calls, calls_by, message_calls, next_calls, own_calls, request_calls}
+use Rattle.world_keeps_streams.proofs.Common.{◌≡◌, ℕ, ◌==◌, ◌&&◌, ◌||◌, not, Bool, true, false, if◌then◌else◌, List, [], ◌∷◌, ◌++◌, refl, ap, sym, subst, ◌∙◌, Host, same_host, HostMessage, same_host-true, Command, Order, orders_of, PairState, eqb-sym, marks_in, Hears, IsAsking, Sockets, Who, Mark, placed_event, tagged, with_box, with_place, Side, Fresh, begins_fresh, stays_same, boxes, Event, Message, Other, In, stays_ready, turn_of, pair_with, next_in, message_on, Moment, Crossed, Asked, event_in, events_of, places, program, Coupled, by_request, law_events, keeps, AText, AnRrp, AnRst, Sort, all_says, at_texts, foreign_of, half, heard_is, hears_if, left_if, met_if, other, own_of, sort_of, waiting, answer_calls, calls_by, message_calls, next_calls, own_calls, request_calls}
 use Rattle.interface.specs.declared.crossing.Crossing.TheVariants as crossing
 use Rattle.ncp_control.specs.Phases as program_phases
 use Rattle.host_keeps_streams.specs.Histories as calls

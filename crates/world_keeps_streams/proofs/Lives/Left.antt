@@ -44,7 +44,8 @@ none_found test (f ∷ es) e none i t = by (test f) refl i (none_found test es e
   by false u (inl is) rest = absurd (let no : true ≡ false = sym t ∙ ap test (sym is) ∙ u in cc)
   by false u (inr j) rest = rest (rw u at none) j t
 
-one_of : (origin : ℕ → ℕ) (place : ℕ) (fs : List Entry) (words : List Mark) (x : End) (e f : Entry) → Stand true origin place (map standing fs) words x → Among e fs → Among f fs → e ≡ f
+pub one_of : (origin : ℕ → ℕ) (place : ℕ) (fs : List Entry) (words : List Mark) (x : End) (e f : Entry)
+    → Stand true origin place (map standing fs) words x → Among e fs → Among f fs → e ≡ f
 one_of origin place [] words x e f h i j = absurd i
 one_of origin place (g ∷ []) words x e f h (inl i) (inl j) = sym i ∙ j
 one_of origin place (g ∷ []) words x e f h (inr i) j = absurd i

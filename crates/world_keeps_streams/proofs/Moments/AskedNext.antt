@@ -1,5 +1,5 @@
 -- A moment at which a host that keeps its ends with its peer makes one call with it, or none: what the law and the program have of the calls is had from all moments.
-use Rattle.world_keeps_streams.proofs.Common.{◌≡◌, inl, inr, ℕ, zero, suc, ◌==◌, Bool, true, false, List, [], ◌∷◌, ◌++◌, drop, refl, ap, sym, subst, ◌∙◌, Host, Entry, AreAllowed, IsHistory, IsTelling, ends_after, ends_now, pair_with, changed_when, where_it, HaveAddresses, Moment, event_in, events_of, program, IsTimeline, crossings_of, AreRefusing, held, keeps, mail_below, calls_by, own_calls}
+use Rattle.world_keeps_streams.proofs.Common.{◌≡◌, inl, inr, ℕ, zero, suc, ◌==◌, Bool, true, false, List, [], ◌∷◌, ◌++◌, drop, refl, ap, sym, subst, ◌∙◌, Host, Entry, AreAllowed, IsHistory, IsTelling, ends_now, pair_with, changed_when, where_it, HaveAddresses, Moment, event_in, events_of, program, IsTimeline, crossings_of, AreRefusing, held, keeps, mail_below, calls_by, own_calls}
 use Rattle.interface.specs.Mailboxes as mail
 use Rattle.host_keeps_streams.specs.Histories as calls
 use Rattle.promise.specs.declared.life.Life.{Life}

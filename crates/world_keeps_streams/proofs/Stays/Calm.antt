@@ -1,5 +1,5 @@
 -- What a host that doesn't stay, and says nothing, does by one moment: at most one call, of those that it makes by itself.
-use Rattle.world_keeps_streams.proofs.Common.{◌≡◌, ℕ, ◌==◌, Bool, true, false, not, ◌||◌, if◌then◌else◌, cond, List, [], ◌∷◌, ◌++◌, Option, Some, None, refl, ap, sym, subst, ◌∙◌, Host, same_host, Flow, Answer, HostMessage, same_host-true, Command, closed_end, commanded, contacted, interrupt_of, receiver_requested, requested, with_end, with_more_bits, Order, Legal, orders_of, data_taken, desk_of, listens_on, free_link, is_busy, is_receiving, sending_end, PairState, Parcel, pair_after, parcel_gone, is_ready, rfnm_phase, TurnState, answered_turn, failed_by, freed, is_gone, message_taken, orders_taken, settled_turn, with_desk, Entry, Listener, Phase, what_goes, put, Answered, AsksBack, Closes, Gives, Grants, Hears, IsAllowed, OpensReceiver, OpensSender, Says, Sends, Takes, turn_of, NcpState, owner_of, pair_with, with_pair, AreInOrder, at_owner, closed_socket, with_peer, next_in, offered_by, Peer, Request, next_is, next_pair, pair_changed, IsAsking, queue_by, clash, answer_calls, message_calls, next_calls, orders_heard, owner_calls, parcel_calls, request_calls}
+use Rattle.world_keeps_streams.proofs.Common.{◌≡◌, ℕ, ◌==◌, Bool, true, false, not, ◌||◌, if◌then◌else◌, cond, List, [], ◌∷◌, ◌++◌, Option, Some, None, refl, ap, sym, subst, ◌∙◌, Host, same_host, Flow, Answer, HostMessage, same_host-true, Command, closed_end, commanded, contacted, interrupt_of, receiver_requested, requested, with_end, with_more_bits, Order, Legal, orders_of, data_taken, desk_of, listens_on, free_link, is_busy, is_receiving, sending_end, PairState, Parcel, pair_after, parcel_gone, is_ready, rfnm_phase, TurnState, answered_turn, failed_by, freed, is_gone, message_taken, orders_taken, settled_turn, with_desk, Entry, Listener, Phase, what_goes, put, Answered, AsksBack, Closes, Gives, Grants, Hears, OpensReceiver, OpensSender, Takes, turn_of, NcpState, owner_of, pair_with, with_pair, AreInOrder, at_owner, closed_socket, with_peer, next_in, offered_by, Peer, Request, next_is, next_pair, pair_changed, IsAsking, queue_by, clash, answer_calls, message_calls, next_calls, orders_heard, owner_calls, parcel_calls, request_calls}
 use Rattle.interface.specs.declared.crossing.Answer.TheVariants as answer
 use Rattle.interface.specs.declared.crossing.Inbound.TheVariants as inbound
 use Rattle.ncp_control.specs.declared.command.Command.TheVariants as command

@@ -1,5 +1,6 @@
 -- A host that stays and owes an RRP has said nothing since its stay began; so a text fails only where its sender leaves.
-use Rattle.world_keeps_streams.proofs.Common.{◌≡◌, ◌⊎◌, ℕ, Bool, false, not, ◌&&◌, List, [], ◌∷◌, Some, refl, inl, inr, Host, same_host, Answer, failed_phase, Phase, Want, Gone, Heard, Ready, Message, Other, Event, Contact, Out, In, Told, Down, Up, Idle, Take, Hear, when, are, place, Put, Fetch, Clear, ClearAll, boxes, Plain, Pair, MaySend, pair_moved, pair, kind_in, is_ready, ready, begins, takes_reset, NoPlain, begin_quiet, carry, keeps}
+use Rattle.world_keeps_streams.proofs.Common.{◌≡◌, ◌⊎◌, ℕ, Bool, false, not, ◌&&◌, List, [], ◌∷◌, Some, refl, inl, inr, Host, same_host, Answer, failed_phase, is_ready, Phase, Want, Gone, Heard, Ready, Message, Other, Event, Contact, Out, In, Told, Down, Up, Idle, Take, Hear, when, are, place, Put, Fetch, Clear, ClearAll, boxes, Pair, MaySend, pair_moved, pair, kind_in, ready, begins, takes_reset, NoPlain, begin_quiet, carry, keeps}
+use Rattle.reset_law.specs.Pairs.{Plain}
 use Rattle.std.proofs.Common.{true}
 use Rattle.interface.specs.declared.crossing.Answer.TheVariants as answer
 use Rattle.ncp_control.specs.declared.phase.Phase.TheVariants.{Closed}

@@ -1,5 +1,5 @@
 -- What a host does by itself, before its peer has met it: a user asks for ends and closes them, answers come, and an RRP that nobody waits for.
-use Rattle.world_keeps_streams.proofs.Common.{◌≡◌, ℕ, ◌==◌, Bool, true, false, if◌then◌else◌, List, [], ◌∷◌, ◌++◌, refl, ap, sym, subst, ◌∙◌, append_assoc, Host, Command, Stream, Inv, PairState, freed, Entry, Listener, all_received, all_sent, Hears, Says, Answered, AreAllowed, IsAllowed, IsTelling, ends_by, ends_now, gone_by, gone_now, name_now, receiver_now, sender_now, received_at, sent_at, is_out, name_of, Fetched, Free, IsAsking, IsPairedCall, IsPosted, IsWordless, Joint, Party, Post, Stepped, Steps, queue_by, receives_receiver, receives_sender, sends_receiver, sends_sender, x_after, y_after}
+use Rattle.world_keeps_streams.proofs.Common.{◌≡◌, ℕ, ◌==◌, Bool, true, false, if◌then◌else◌, List, [], ◌∷◌, ◌++◌, refl, ap, sym, subst, ◌∙◌, append_assoc, Host, Command, Stream, Inv, PairState, freed, Entry, Listener, all_received, all_sent, Hears, Answered, AreAllowed, IsAllowed, IsTelling, ends_now, gone_by, gone_now, name_now, receiver_now, sender_now, received_at, sent_at, name_of, Fetched, Free, IsAsking, IsPairedCall, IsPosted, IsWordless, Joint, Party, Post, Stepped, Steps, queue_by, receives_receiver, receives_sender, sends_receiver, sends_sender, x_after, y_after}
 use Rattle.std.proofs.Common.{append-nil}
 use Rattle.ncp_control.specs.declared.command.Command.TheVariants as command
 use Rattle.stream_law.specs.Receivers as receivers

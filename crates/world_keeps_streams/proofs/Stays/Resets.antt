@@ -1,5 +1,6 @@
 -- What the law of resets says of a stay: how it begins, who says what in it, and what is outstanding.
-use Rattle.world_keeps_streams.proofs.Common.{◌≡◌, ℕ, Bool, true, false, not, ◌&&◌, ◌||◌, ◌==◌, List, [], ◌∷◌, Option, Some, None, is_some, refl, ap, sym, ◌∙◌, eq-eqb, Host, is_busy, PairState, Other, Event, Out, boxes, Plain, pair, kind_in, is_signal, ready, begins, takes_reset, NoPlain, alone_run, begin_quiet, contradicts, ready_phase, sound_run, stays_ready, Agrees, keeps}
+use Rattle.world_keeps_streams.proofs.Common.{◌≡◌, ℕ, Bool, true, false, not, ◌&&◌, ◌||◌, ◌==◌, List, [], ◌∷◌, Option, Some, None, is_some, refl, ap, sym, ◌∙◌, eq-eqb, Host, is_busy, PairState, Other, Event, Out, boxes, pair, kind_in, is_signal, ready, begins, takes_reset, NoPlain, alone_run, begin_quiet, contradicts, ready_phase, sound_run, stays_ready, Agrees, keeps}
+use Rattle.reset_law.specs.Pairs.{Plain}
 use Rattle.std.proofs.Common.{◌≢◌}
 use Rattle.reset_law.specs.Events.{Reset, Reply, is_up}
 use Rattle.reset_law.specs.Boxes.{Box, Empty, Waiting, Taken}

@@ -1,11 +1,11 @@
 -- Moments in which messages of a host are gone: answers about them, and hosts that start.
-use Rattle.world_keeps_streams.proofs.Common.{◌≡◌, inl, inr, ℕ, ◌==◌, Bool, true, false, not, ◌&&◌, if◌then◌else◌, List, [], ◌∷◌, ◌++◌, Some, is_some, refl, ap, sym, subst, ◌∙◌, eq-eqb, eqb-true, Host, same_host, Flow, Answer, same_host-true, Command, Stream, desk_of, settled, is_busy, PairState, TurnState, answered_turn, failed, freed, settled_turn, eqb-sym, put, Answered, IsTelling, is_out, Fetched, Free, Party, Steps, Clear, ClearAll, posted, boxes, Other, Begin, are, place, when, kind_in, is_signal, Plain, Pair, pair_moved, pair, alone_run, stays_ready, turn_of, NcpState, opening_state, pair_with, answer_leaves, Agrees, Moment, Crossed, IsStory, event_in, events_of, places, program, program_own, story_agrees, answer_calls, own_calls}
+use Rattle.world_keeps_streams.proofs.Common.{◌≡◌, inl, inr, ℕ, ◌==◌, Bool, true, false, not, ◌&&◌, if◌then◌else◌, List, [], ◌∷◌, ◌++◌, Some, is_some, refl, ap, sym, subst, ◌∙◌, eq-eqb, eqb-true, Host, same_host, Flow, Answer, same_host-true, Command, Stream, desk_of, settled, is_busy, PairState, TurnState, answered_turn, failed, freed, settled_turn, eqb-sym, put, Answered, IsTelling, is_out, Fetched, Free, Party, Steps, Clear, ClearAll, posted, boxes, Other, Begin, are, place, when, kind_in, is_signal, Pair, pair_moved, pair, alone_run, stays_ready, turn_of, NcpState, opening_state, pair_with, answer_leaves, Agrees, Moment, Crossed, IsStory, event_in, events_of, places, program, program_own, story_agrees, answer_calls, own_calls}
+use Rattle.reset_law.specs.Pairs.{Plain}
 use Rattle.interface.specs.declared.crossing.Answer.TheVariants as answer
 use Rattle.interface.specs.declared.crossing.Crossing.TheVariants as crossing
 use Rattle.interface.specs.declared.crossing.Inbound.TheVariants as inbound
 use Rattle.ncp_control.specs.Phases as program_phases
 use Rattle.ncp_control.specs.declared.phase.Phase.TheVariants as phase
-use Rattle.host_keeps_streams.specs.Histories as calls
 use Rattle.reset_law.specs.Boxes.{Box, Empty, Waiting, Taken, Fits}
 use Rattle.reset_law.specs.Events.{Reset, Reply}
 use Rattle.reset_law.specs.Runs.{IsRun}

@@ -1,5 +1,5 @@
 -- A host takes a message of its peer.
-use Rattle.world_keeps_streams.proofs.Common.{◌≡◌, ℕ, ◌==◌, Bool, true, false, not, ◌&&◌, if◌then◌else◌, List, [], ◌∷◌, ◌++◌, length, Option, Some, None, refl, ap, sym, subst, ◌∙◌, eqb-true, Host, same_host, HostMessage, same_host-true, Command, covers, for, is_size, Stream, Legal, orders_of, data_taken, desk_of, is_busy, PairState, TurnState, message_taken, orders_taken, with_desk, AreJoint, eqb-sym, IsTelling, Fetched, Free, Joint, Lies, Party, Post, Steps, Fetch, posted, boxes, In, Message, Other, are, place, when, stays_ready, accepted, turn_of, pair_with, message_leaves, IsApart, message_on, Moment, Crossed, IsStory, event_in, events_of, places, program, program_own, keeps, AText, AnRrp, AnRst, Sort, message_pair, plain_joint, sort_of, waiting, message_calls, orders_heard, own_calls}
+use Rattle.world_keeps_streams.proofs.Common.{◌≡◌, ℕ, ◌==◌, Bool, true, false, not, ◌&&◌, if◌then◌else◌, List, [], ◌∷◌, ◌++◌, length, Option, Some, None, refl, ap, sym, subst, ◌∙◌, eqb-true, Host, same_host, HostMessage, same_host-true, Command, covers, for, is_size, Stream, Legal, orders_of, data_taken, desk_of, is_busy, PairState, message_taken, orders_taken, with_desk, AreJoint, eqb-sym, IsTelling, Fetched, Free, Joint, Lies, Party, Post, Steps, Fetch, posted, boxes, In, Message, Other, are, place, when, stays_ready, accepted, turn_of, pair_with, message_leaves, IsApart, message_on, Moment, Crossed, IsStory, event_in, events_of, places, program, program_own, keeps, AText, AnRrp, AnRst, Sort, message_pair, plain_joint, sort_of, waiting, message_calls, orders_heard, own_calls}
 use Rattle.std.proofs.Common.{append-nil}
 use Rattle.interface.specs.declared.crossing.Crossing.TheVariants as crossing
 use Rattle.interface.specs.declared.crossing.Inbound.TheVariants as inbound

@@ -1,5 +1,5 @@
 -- What a host that doesn't stay leaves in its boxes; and what a host that stays knows of them.
-use Rattle.world_keeps_streams.proofs.Common.{◌≡◌, ◌⊎◌, inl, inr, ℕ, Bool, true, false, ◌&&◌, List, ◌++◌, refl, ap, sym, subst, ◌∙◌, Host, Command, Stream, is_busy, IsTelling, boxes, pair, stays_ready, pair_with, Agrees, Moment, IsStory, events_of, program, story_agrees, Free, Joint, Lies, Party, Post, Steps}
+use Rattle.world_keeps_streams.proofs.Common.{◌≡◌, ◌⊎◌, inl, inr, ℕ, Bool, true, false, List, ◌++◌, refl, ap, sym, subst, ◌∙◌, Host, Command, Stream, is_busy, IsTelling, boxes, pair, stays_ready, pair_with, Agrees, Moment, IsStory, events_of, program, story_agrees, Free, Joint, Lies, Party, Post, Steps}
 use Rattle.ncp_control.specs.Phases as program_phases
 use Rattle.ncp_control.specs.declared.phase.Phase as host
 use Rattle.ncp_control.specs.declared.phase.Phase.TheVariants as phase

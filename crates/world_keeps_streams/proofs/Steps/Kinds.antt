@@ -13,11 +13,11 @@ use Rattle.world_keeps_streams.proofs.Steps.Unsaid.{AllHear}
 
 -- ---- calls of which none closes an end
 
-abbrev NoClose : Call → Type 0
+abbrev pub NoClose : Call → Type 0
 NoClose (Closes socket e) = ⊥
 NoClose k = Unit {0}
 
-abbrev NoneClose : List calls.Moment → Type 0
+abbrev pub NoneClose : List calls.Moment → Type 0
 NoneClose [] = Unit {0}
 NoneClose (m ∷ ms) = NoClose m.call × NoneClose ms
 
@@ -40,7 +40,7 @@ none_said peer stamp [] q listening older n = n
 none_said peer stamp (c ∷ cs) q listening older n =
     none_said peer stamp cs (with_connections q (command_gone peer stamp c (desk_of q listening))) listening (called (Says stamp c) q listening ∷ older) (tt, n)
 
-none_if : (v : Bool) (xs ys : List calls.Moment) → NoneClose xs → NoneClose ys → NoneClose (if v then xs else ys)
+pub none_if : (v : Bool) (xs ys : List calls.Moment) → NoneClose xs → NoneClose ys → NoneClose (if v then xs else ys)
 none_if true xs ys n m = n
 none_if false xs ys n m = m
 
@@ -59,7 +59,7 @@ none_next : (peer : Host) (stamp : ℕ) (listening : List Listener) (o : Option 
 none_next peer stamp listening None = tt
 none_next peer stamp listening (Some (p, x)) = none_if (same_host peer p.host) (parcel_calls peer stamp x p.pair listening) [] (none_parcel peer stamp x p.pair listening) tt
 
-none_crossed : (a b : Host) (c : Crossing) (ms : List Moment) → NoneClose (calls_by a b (Crossed c) ms)
+pub none_crossed : (a b : Host) (c : Crossing) (ms : List Moment) → NoneClose (calls_by a b (Crossed c) ms)
 none_crossed a b (crossing.Out m) ms =
     none_if (same_host a m.flow.source) (next_calls b (places ms) (program a ms).listening (next_in (program a ms).peers)) [] (none_next b (places ms) (program a ms).listening (next_in (program a ms).peers)) tt
 none_crossed a b (crossing.In m) ms =
@@ -71,7 +71,8 @@ none_crossed a b (crossing.Answer kind f) ms =
 none_crossed a b (crossing.Down h) ms = tt
 none_crossed a b (crossing.Up h) ms = tt
 
-none_owner : (peer : Host) (call : Entry → Call) (q : PairState) (listening : List Listener) (o : Option (Host × Entry)) → ((e : Entry) → NoClose (call e)) → NoneClose (owner_calls peer call q listening o)
+pub none_owner : (peer : Host) (call : Entry → Call) (q : PairState) (listening : List Listener)
+    (o : Option (Host × Entry)) → ((e : Entry) → NoClose (call e)) → NoneClose (owner_calls peer call q listening o)
 none_owner peer call q listening None n = tt
 none_owner peer call q listening (Some (h, e)) n = none_if (same_host peer h) (called (call e) q listening ∷ []) [] (n e, tt) tt
 

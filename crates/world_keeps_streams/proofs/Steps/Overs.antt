@@ -1,5 +1,5 @@
 -- What the law's receivers have of a CLS of the sender: it names no link, so all of them hear it; and once it was heard nothing is granted more.
-use Rattle.world_keeps_streams.proofs.Common.{◌≡◌, ℕ, ◌==◌, ◌&&◌, not, Bool, true, false, if◌then◌else◌, List, [], ◌∷◌, ◌++◌, length, Option, Some, None, is_some, refl, ap, sym, subst, ◌∙◌, eqb-true, Host, header_of, Command, DataHeader, Rts, Str, All, Gvb, Ret, Cls, covers, for, is_size, DeskState, desk_of, listener_on, entry_at, free_link, is_receiving, receives_on, PairState, Closing, Entry, Listener, MayAllReceive, all_received, received_close, received_gone, received_open, Hears, Takes, Says, Sends, Answered, OpensReceiver, OpensSender, Grants, AsksBack, Gives, Closes, AreAllowed, IsHistory, IsTelling, gone_now, name_now, received_at, receiver_now, sender_now, answers_str, asked_received, closed_received, closes_on, cls_received, data_received, received_by, received_out, str_received, holds_now, step_received}
+use Rattle.world_keeps_streams.proofs.Common.{◌≡◌, ℕ, ◌==◌, ◌&&◌, not, Bool, true, false, if◌then◌else◌, List, [], ◌∷◌, ◌++◌, length, Option, Some, None, is_some, refl, ap, sym, subst, ◌∙◌, eqb-true, Host, header_of, Command, DataHeader, Rts, Str, All, Gvb, Ret, Cls, covers, for, is_size, DeskState, desk_of, listener_on, entry_at, free_link, is_receiving, receives_on, PairState, Closing, Entry, Listener, MayAllReceive, all_received, received_close, received_gone, received_open, Hears, Takes, Says, OpensReceiver, Grants, AsksBack, Closes, AreAllowed, IsHistory, IsTelling, gone_now, name_now, received_at, receiver_now, sender_now, answers_str, asked_received, closed_received, closes_on, cls_received, data_received, received_by, received_out, str_received, holds_now, step_received}
 use Rattle.ncp_control.specs.declared.command.Command.TheVariants as command
 use Rattle.ncp_control.specs.Allocation as counters
 use Rattle.stream_law.specs.Words.{holds}

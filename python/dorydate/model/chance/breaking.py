@@ -454,7 +454,7 @@ def granted_more(chance: Random, book: Book) -> None:
 def ended_otherwise(chance: Random, book: Book) -> None:
     life = a_life(chance, book)
     ended_by = over(book.log, life)
-    may = LEAVES[ended_by.by] if ended_by else {*FATES}
+    may = LEAVES[ended_by.left()] if ended_by else {*FATES}
     life.fate = chance.choice([it for it in FATES if it in may and (it != "ended" or sends(life))])
 
 

@@ -1,4 +1,4 @@
-use Rattle.std.proofs.Common.{◌∙◌, Bool, List, ap, length, sym, rules}
+use Rattle.std.proofs.Common.{rules}
 use Rattle.book_judge.proofs.Lost.{same_by_prefix}
 use Rattle.book_judge.proofs.bits.same_bits.Goals as goal
 

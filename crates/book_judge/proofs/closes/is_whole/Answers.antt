@@ -1,5 +1,4 @@
-use Rattle.book_judge.proofs.Common.{◌≡◌, true, rules, AgainAt, ClosedAt, HasTaken}
-use Rattle.std.specs.Bool.{OnTrue}
+use Rattle.book_judge.specs.Inside.Chains.{ClosedAt, HasTaken}
 use Rattle.book_judge.proofs.Elements.{when_true}
 use Rattle.book_judge.proofs.Lost.{again_taken, closed_by, closed_here, earlier_closed}
 use Rattle.book_judge.proofs.Shown.{earlier_all}

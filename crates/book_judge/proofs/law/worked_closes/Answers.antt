@@ -1,4 +1,4 @@
-use Rattle.book_judge.proofs.Common.{◌≡◌, ◌++◌, ◌∙◌, Bool, true, false, List, [], ◌∷◌, ap, refl, sym, subst, inl, inr, arith, Contains, IsBeside, Match, receives, sends, Fate, Life, gave, sent_log, took}
+use Rattle.book_judge.proofs.Common.{◌≡◌, ◌++◌, ◌∙◌, Bool, true, false, List, [], ◌∷◌, ap, refl, sym, subst, inl, inr, arith, Contains, IsBeside, ClosesWhole, Match, receives, sends, AreHanded, Fate, Life, gave, sent_log, took}
 use Rattle.net_sim.specs.Worked.{eight, four}
 use Rattle.promise.specs.declared.life.Fate.TheVariants as fate
 use Rattle.book_judge.proofs.Elements.{place_contains}
@@ -48,6 +48,20 @@ other_fate e = absurd (cc)
 not_twelve : eight ≡ eight ++ four → ⊥
 not_twelve e = absurd (cc)
 
+-- twelve bits were handed over, and eight were taken
+lost : ClosesWhole sent_log (took ∷ gave ∷ []) ([] ∷ (eight ++ four) ∷ []) (fate.Ended ∷ []) → ⊥
+lost w = not_twelve (w.took_handed took gave (eight ++ four) (inl (refl, refl)) (inr (inl (refl, refl))) matched)
+
+-- eight bits aren't a prefix of none
+none_given : AreHanded (took ∷ gave ∷ []) ([] ∷ [] ∷ []) → ⊥
+none_given h = let bad : eight ++ (h.1.0 refl).0 ≡ [] = (h.1.0 refl).1 in cc
+
+pub returns-clause-closes : goal.returns-clause-closes
+returns-clause-closes c = λ b. lost b.closes
+
+pub returns-clause-streams : goal.returns-clause-streams
+returns-clause-streams c = λ b. none_given b.streams.sent
+
 pub returns-clause-whole : goal.returns-clause-whole
 returns-clause-whole c = record {
   took_sent = λ x y beside there m.
@@ -71,7 +85,7 @@ returns-clause-lost c = record {
   place = 0;
   first = (
     record { took_sent = λ x y beside there m. absurd beside; took_handed = λ x y text beside given m. absurd beside },
-    λ w. not_twelve (w.took_handed took gave (eight ++ four) (inl (refl, refl)) (inr (inl (refl, refl))) matched),
+    lost,
   );
   at = (
     refl,

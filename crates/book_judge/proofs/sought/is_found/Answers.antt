@@ -1,4 +1,5 @@
-use Rattle.book_judge.proofs.Common.{ℕ, refl, ap, ◌∙◌, key, SoughtAt}
+use Rattle.book_judge.proofs.Common.{ℕ, refl, ap, ◌∙◌, SoughtAt}
+use Rattle.book_judge.specs.Inside.Asked.{key}
 use Rattle.std.specs.FinMap as map
 use Rattle.book_judge.proofs.Elements.{when_false}
 use Rattle.book_judge.proofs.Walks.{sought_keyed, walk_init, walk_on, walk_over, walk_smaller}

@@ -1,5 +1,5 @@
 use Rattle.std.proofs.Common.{rules}
-use Rattle.book_judge.proofs.SameText.{same_octets, other_lengths}
+use Rattle.book_judge.proofs.Crossed.SameText.{same_octets, other_lengths}
 use Rattle.book_judge.proofs.texts.same_text.Goals as goal
 
 pub returns-then-len : goal.returns-then-len

@@ -1,4 +1,6 @@
+use Rattle.std.specs.Prelude.{reverse}
 use Rattle.book_log.specs.Log.{fates_of, lives_of}
+use Rattle.book_judge.proofs.lemmas.{made_formed}
 use Rattle.command_line.proofs.Named.{closes_named, fates_named, formed_named, grants_named, lives_named, messages_named, only_kept, partners_named, run_named, safe_from_kept, streams_named}
 use Rattle.command_line.proofs.law.named_parts.Goals as goal
 
@@ -7,6 +9,10 @@ returns-clause-run c = λ b v j. run_named v b.crossings (lives_of b) b.handed (
 
 pub returns-clause-lives : goal.returns-clause-lives
 returns-clause-lives c = λ b v j. lives_named v b.crossings (lives_of b) b.handed (fates_of b) j
+
+pub returns-clause-made : goal.returns-clause-made
+returns-clause-made c = λ b v j none.
+    made_formed (reverse b.crossings) (lives_of b) ((lives_named v b.crossings (lives_of b) b.handed (fates_of b) j).0 none)
 
 pub returns-clause-formed : goal.returns-clause-formed
 returns-clause-formed c = λ b v j. formed_named v b.crossings (lives_of b) b.handed (fates_of b) j

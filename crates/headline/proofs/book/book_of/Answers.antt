@@ -1,11 +1,13 @@
 use Rattle.std.proofs.Common.{sym, subst}
 use Rattle.net_sim.specs.Book.{Kept}
 use Rattle.promise.specs.Arrived.{ArrivedBook}
+use Rattle.promise.specs.Ends.{AreContacts, AreLeft}
 use Rattle.promise.specs.Fates.{AreFated, ClosesWhole}
 use Rattle.promise.specs.Promised.{Promised}
 use Rattle.net_sim.proofs.lemmas.{world_fated}
-use Rattle.world_keeps_streams.proofs.lemmas.{world_arrived, world_ended, world_over}
-use Rattle.promise.specs.Over.{AreOver}
+use Rattle.world_keeps_streams.proofs.lemmas.{world_arrived, world_contacts, world_ended, world_over}
+use Rattle.world_keeps_streams.proofs.lemmas.{world_within}
+use Rattle.world_keeps_streams.specs.Within.{AreWithin}
 use Rattle.headline.proofs.Promise.{exact, promised}
 use Rattle.headline.proofs.book.book_of.Goals as goal
 
@@ -33,5 +35,17 @@ returns-clause-arrived g c =
 
 pub returns-clause-over : goal.returns-clause-over
 returns-clause-over g c =
-    subst (λ (k : Kept). AreOver k.book.contacts k.book.crossings k.book.lives k.fates) (sym c.book.ensures.value)
+    subst (λ (k : Kept). AreLeft k.book.contacts k.book.crossings k.book.lives k.fates) (sym c.book.ensures.value)
     (world_over g.C.Carrier.calls.seen (g.C.Carrier.calls.seen c.args.world.now.carrier).hosts c.args.world.now c.book.ensures.lawful)
+
+pub returns-clause-contacts : goal.returns-clause-contacts
+returns-clause-contacts g c =
+    subst (λ (k : Kept). AreContacts k.book.contacts k.book.crossings) (sym c.book.ensures.value)
+    (world_contacts g.C.Carrier.calls.seen
+    (g.C.Carrier.calls.seen c.args.world.now.carrier).hosts c.args.world.now c.book.ensures.lawful)
+
+pub returns-clause-within : goal.returns-clause-within
+returns-clause-within g c =
+    subst (λ (k : Kept). AreWithin k.book.contacts k.book.crossings k.book.lives) (sym c.book.ensures.value)
+    (world_within g.C.Carrier.calls.seen
+    (g.C.Carrier.calls.seen c.args.world.now.carrier).hosts c.args.world.now c.book.ensures.lawful)

@@ -8,28 +8,19 @@ use Rattle.sockets.specs.Requests.{refusal, served}
 use Rattle.sockets.specs.Sending.{next_out, offered}
 use Rattle.masked_worlds.proofs.law.worked_moments.Goals as goal
 
-pub returns-clause-anything : goal.returns-clause-anything
-returns-clause-anything c = ((λ off. absurd (cc)), tt)
-
-pub returns-clause-asks : goal.returns-clause-asks
-returns-clause-asks c = ((λ off. absurd (cc)), tt)
-
-pub returns-clause-unsaid : goal.returns-clause-unsaid
-unfolding next_out
-returns-clause-unsaid c mixed = absurd (let said = mixed.0 refl in cc)
-
-pub returns-clause-refused : goal.returns-clause-refused
-unfolding refusal
-returns-clause-refused c mixed = absurd (let asked = (mixed.0 refl).2 in cc)
-
-pub returns-clause-stays : goal.returns-clause-stays
-unfolding octets_of orders_of read_of command_of packed_count accepted refusal served next_out offered
-returns-clause-stays c = refl
-
-pub returns-clause-taken : goal.returns-clause-taken
-unfolding octets_of orders_of read_of command_of packed_count accepted refusal served next_out offered
-returns-clause-taken c = refl
-
-pub returns-clause-unheard : goal.returns-clause-unheard
-unfolding octets_of orders_of read_of command_of packed_count accepted refusal served next_out offered
-returns-clause-unheard c = refl
+pub returns : goal.returns
+unfolding accepted command_of next_out octets_of offered orders_of packed_count read_of refusal served
+returns c = record {
+  anything = ((λ off. absurd (cc)), tt);
+  asks = ((λ off. absurd (cc)), tt);
+  unsaid = λ mixed. absurd (let said = mixed.0 refl in cc);
+  refused = λ mixed. absurd (let asked = (mixed.0 refl).2 in cc);
+  stopped = refl;
+  twice = refl;
+  none = refl;
+  left = refl;
+  stays = refl;
+  others = refl;
+  taken = refl;
+  unheard = refl;
+}

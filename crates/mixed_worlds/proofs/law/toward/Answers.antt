@@ -1,4 +1,5 @@
-use Rattle.mixed_worlds.proofs.Common.{◌≡◌, Bool, true, false, if◌then◌else◌, refl, same_host, safe_messages, accepted, pair_with, message_about, message_leaves, places, program, crossings_of, Orders, mixed_kept}
+use Rattle.mixed_worlds.proofs.Common.{◌≡◌, Bool, true, false, List, ◌∷◌, if◌then◌else◌, refl, Host, same_host, HostMessage, Moment, Crossed, places, program, safe_messages, accepted, pair_with, message_about, message_leaves, crossings_of, Orders, mixed_kept}
+use Rattle.interface.specs.declared.crossing.Crossing.TheVariants as crossing
 use Rattle.interface.specs.declared.crossing.Inbound.TheVariants as inbound
 use Rattle.world_keeps_lives.proofs.lemmas.{live_end, safe_life}
 use Rattle.mixed_worlds.proofs.AskedLives.{data_reported, has_asked, plain_owner}
@@ -9,100 +10,9 @@ use Rattle.mixed_worlds.proofs.RealBooks.{beside_in}
 use Rattle.mixed_worlds.proofs.Sockets.{held}
 use Rattle.mixed_worlds.proofs.law.toward.Goals as goal
 
-pub returns-clause-ends : goal.returns-clause-ends
-returns-clause-ends c origin own foreign s m stamp h = any_message origin own foreign s m stamp h
-
-pub returns-clause-sockets : goal.returns-clause-sockets
-returns-clause-sockets c strange hosts moments mixed a socket off =
-    let orders : Orders = record {
-      request = c.orders.ensures.request;
-      message = c.orders.ensures.message;
-      answer = c.orders.ensures.answer;
-      offer = c.orders.ensures.offer;
-    } in
-    (held orders strange hosts a off socket moments mixed).socket
-
-pub returns-clause-live : goal.returns-clause-live
-returns-clause-live c strange hosts moments mixed x there off goes =
-    let orders : Orders = record {
-      request = c.orders.ensures.request;
-      message = c.orders.ensures.message;
-      answer = c.orders.ensures.answer;
-      offer = c.orders.ensures.offer;
-    } in
-    live_end (program x.host moments) (mixed_kept strange moments) x there goes
-    (held orders strange hosts x.host off x.socket moments mixed)
-
-pub returns-clause-taken : goal.returns-clause-taken
-returns-clause-taken c strange hosts moments mixed x there off kind =
-    let orders : Orders = record {
-      request = c.orders.ensures.request;
-      message = c.orders.ensures.message;
-      answer = c.orders.ensures.answer;
-      offer = c.orders.ensures.offer;
-    } in
-    (safe_life (program x.host moments) (mixed_kept strange moments) x there
-    (held orders strange hosts x.host off x.socket moments mixed)).1.within kind
-
-pub returns-clause-bounded : goal.returns-clause-bounded
-returns-clause-bounded c strange hosts moments mixed x there off kind =
-    let orders : Orders = record {
-      request = c.orders.ensures.request;
-      message = c.orders.ensures.message;
-      answer = c.orders.ensures.answer;
-      offer = c.orders.ensures.offer;
-    } in
-    (safe_life (program x.host moments) (mixed_kept strange moments) x there
-    (held orders strange hosts x.host off x.socket moments mixed)).1.bounded kind
-
-pub returns-clause-handed : goal.returns-clause-handed
-returns-clause-handed c strange hosts moments mixed x text there kind =
-    let orders : Orders = record {
-      request = c.orders.ensures.request;
-      message = c.orders.ensures.message;
-      answer = c.orders.ensures.answer;
-      offer = c.orders.ensures.offer;
-    } in
-    (safe_beside (program x.host moments) (mixed_kept strange moments) x text there
-    (held orders strange hosts x.host
-    (plain_owner orders strange hosts moments mixed x (beside_in x text (mixed_kept strange moments).book.lives
-    (mixed_kept strange moments).handed there)) x.socket moments mixed)).front kind
-
-pub returns-clause-owner : goal.returns-clause-owner
-returns-clause-owner c strange hosts moments mixed x there =
-    let orders : Orders = record {
-      request = c.orders.ensures.request;
-      message = c.orders.ensures.message;
-      answer = c.orders.ensures.answer;
-      offer = c.orders.ensures.offer;
-    } in
-    plain_owner orders strange hosts moments mixed x there
-
-pub returns-clause-asked : goal.returns-clause-asked
-returns-clause-asked c strange hosts moments mixed x there =
-    let orders : Orders = record {
-      request = c.orders.ensures.request;
-      message = c.orders.ensures.message;
-      answer = c.orders.ensures.answer;
-      offer = c.orders.ensures.offer;
-    } in
-    has_asked orders strange hosts moments mixed x there
-
-pub returns-clause-reported : goal.returns-clause-reported
-returns-clause-reported c strange hosts x moments mixed off n there =
-    let orders : Orders = record {
-      request = c.orders.ensures.request;
-      message = c.orders.ensures.message;
-      answer = c.orders.ensures.answer;
-      offer = c.orders.ensures.offer;
-    } in
-    data_reported orders strange hosts x moments mixed off n there
-
-pub returns-clause-sender : goal.returns-clause-sender
-returns-clause-sender c m moments = message_about (program m.flow.destination moments) m (places moments)
-
-pub returns-clause-others : goal.returns-clause-others
-returns-clause-others c a h m moments apart = by (same_host a m.flow.destination) where
+others_leave : (a h : Host) (m : HostMessage) (moments : List Moment) → same_host h m.flow.source ≡ false
+    → pair_with h (program a (Crossed (crossing.In m) ∷ moments)).peers ≡ pair_with h (program a moments).peers
+others_leave a h m moments apart = by (same_host a m.flow.destination) where
   by : (b : Bool)
       →
       pair_with h
@@ -111,15 +21,41 @@ returns-clause-others c a h m moments apart = by (same_host a m.flow.destination
   by true = message_leaves (program a moments) m (places moments) h apart
   by false = refl
 
-pub returns-clause-messages : goal.returns-clause-messages
-returns-clause-messages c strange hosts moments mixed = safe_messages hosts (crossings_of moments) mixed.run
-
-pub returns-clause-carried : goal.returns-clause-carried
-returns-clause-carried c strange hosts moments mixed x there =
+pub returns : goal.returns
+returns c =
     let orders : Orders = record {
       request = c.orders.ensures.request;
       message = c.orders.ensures.message;
       answer = c.orders.ensures.answer;
       offer = c.orders.ensures.offer;
     } in
-    is_carried orders strange hosts moments mixed x there
+    record {
+      ends = any_message;
+      sockets = λ strange hosts moments mixed a socket off.
+          (held orders strange hosts a off socket moments mixed).socket;
+      live = λ strange hosts moments mixed x there off goes.
+          live_end (program x.host moments) (mixed_kept strange moments) x there goes
+          (held orders strange hosts x.host off x.socket moments mixed);
+      taken = λ strange hosts moments mixed x there off kind.
+          (safe_life (program x.host moments) (mixed_kept strange moments) x there
+          (held orders strange hosts x.host off x.socket moments mixed)).1.within kind;
+      bounded = λ strange hosts moments mixed x there off kind.
+          (safe_life (program x.host moments) (mixed_kept strange moments) x there
+          (held orders strange hosts x.host off x.socket moments mixed)).1.bounded kind;
+      handed = λ strange hosts moments mixed x text there kind.
+          (safe_beside (program x.host moments) (mixed_kept strange moments) x text there
+          (held orders strange hosts x.host
+          (plain_owner orders strange hosts moments mixed x (beside_in x text (mixed_kept strange moments).book.lives
+          (mixed_kept strange moments).handed there)) x.socket moments mixed)).front kind;
+      owner = λ strange hosts moments mixed x there.
+          plain_owner orders strange hosts moments mixed x there;
+      asked = λ strange hosts moments mixed x there.
+          has_asked orders strange hosts moments mixed x there;
+      carried = λ strange hosts moments mixed x there.
+          is_carried orders strange hosts moments mixed x there;
+      reported = λ strange hosts x moments mixed off n there.
+          data_reported orders strange hosts x moments mixed off n there;
+      sender = λ m moments. message_about (program m.flow.destination moments) m (places moments);
+      others = others_leave;
+      messages = λ strange hosts moments mixed. safe_messages hosts (crossings_of moments) mixed.run;
+    }

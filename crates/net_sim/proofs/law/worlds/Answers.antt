@@ -1,5 +1,5 @@
 use Rattle.interface.specs.Calls.{Calls}
-use Rattle.net_sim.proofs.Books.Whole.{opening_whole, step_whole, run_whole, calm_whole}
+use Rattle.net_sim.proofs.Books.Nobody.{opening_whole, step_whole, run_whole, calm_whole}
 use Rattle.net_sim.proofs.law.worlds.Goals as goal
 
 pub returns-clause-opening : goal.returns-clause-opening

@@ -8,18 +8,13 @@ use Rattle.sockets.specs.Requests.{refusal, served, served_notices}
 use Rattle.sockets.specs.Sending.{next_out, offered}
 use Rattle.world_keeps_streams.proofs.law.worked_calls.Goals as goal
 
-pub returns-clause-first : goal.returns-clause-first
-unfolding octets_of orders_of read_of command_of packed_count accepted refusal served served_notices next_out offered
-returns-clause-first c = (refl, refl)
-
-pub returns-clause-second : goal.returns-clause-second
-unfolding octets_of orders_of read_of command_of packed_count accepted refusal served served_notices next_out offered
-returns-clause-second c = refl
-
-pub returns-clause-elsewhere : goal.returns-clause-elsewhere
-unfolding octets_of orders_of read_of command_of packed_count accepted refusal served served_notices next_out offered
-returns-clause-elsewhere c = refl
-
-pub returns-clause-contact : goal.returns-clause-contact
-unfolding octets_of orders_of read_of command_of packed_count accepted refusal served served_notices next_out offered
-returns-clause-contact c = refl
+pub returns : goal.returns
+unfolding accepted command_of next_out octets_of offered orders_of packed_count read_of refusal served served_notices
+returns c = record {
+  none = λ a b. refl;
+  first = (refl, refl);
+  second = refl;
+  elsewhere = refl;
+  contact = refl;
+  turned = λ own foreign gone. refl;
+}

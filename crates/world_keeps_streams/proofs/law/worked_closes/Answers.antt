@@ -1,4 +1,4 @@
-use Rattle.world_keeps_streams.proofs.Common.{◌≡◌, ℕ, Bool, true, false, List, [], ◌∷◌, ◌++◌, if◌then◌else◌, Option, None, refl, ap, subst, ◌∙◌, inl, inr, arith, Host, some_is, asked_with_size, spent, receiving_end, asked_at, Entry, AsksBack, Answered, Closes, Gives, Grants, HasClosed, Hears, OpensReceiver, OpensSender, Says, Sends, Takes, name_now, numbered, first, second, own_calls, gave, IsClosedByPartner, WasClosedBy, ended_moments, quit_moments, Crossed, program, none_there}
+use Rattle.world_keeps_streams.proofs.Common.{◌≡◌, ℕ, Bool, true, false, List, [], ◌∷◌, ◌++◌, if◌then◌else◌, Option, None, refl, ap, subst, ◌∙◌, inl, inr, arith, Host, some_is, asked_with_size, spent, receiving_end, asked_at, Entry, Closes, HasClosed, name_now, numbered, first, second, own_calls, gave, IsClosedByPartner, WasClosedBy, ended_moments, quit_moments, Crossed, program, none_there}
 use Rattle.bit_messages.specs.Octets.{octets_of}
 use Rattle.interface.specs.declared.crossing.Crossing.TheVariants as crossing
 use Rattle.ncp_control.specs.Packing.{packed_count}

@@ -1,4 +1,5 @@
-use Rattle.world_keeps_streams.proofs.Common.{◌≡◌, inl, inr, ◌||◌, Bool, true, false, List, [], ◌∷◌, ◌++◌, refl, ap, sym, subst, list_any, Crossing, Legal, control, first, second, Course, Leaves, crosses, is_contact, Called, Fate}
+use Rattle.world_keeps_streams.proofs.Common.{◌≡◌, inl, inr, ◌||◌, Bool, true, false, List, [], ◌∷◌, ◌++◌, refl, ap, sym, subst, list_any, Crossing, Legal, control, first, second, Course, crosses, is_contact, Called, Fate}
+use Rattle.promise.specs.Ends.{Leaves}
 use Rattle.bit_messages.specs.Octets.{octets_of}
 use Rattle.interface.specs.declared.crossing.Crossing.TheVariants as crossing
 use Rattle.ncp_control.specs.Reading.{read_of, command_of}
@@ -11,6 +12,7 @@ use Rattle.promise.specs.declared.life.Fate.TheVariants as fate
 use Rattle.promise.specs.declared.life.Life.{Life}
 use Rattle.world_keeps_streams.specs.WorkedEnds.{asker, begun_then, both_asked, contact, later_life, own_cls, partner_cls, second_life}
 use Rattle.world_keeps_streams.proofs.Ends.Courses.{begin, contacted_if}
+use Rattle.world_keeps_streams.proofs.Ends.Rows.{one_left}
 use Rattle.world_keeps_streams.proofs.worked_ends.worked_contacts.Goals as goal
 
 -- a course by which places have a contact of the two hosts
@@ -20,11 +22,6 @@ two_with v0 v1 v2 x = contacted_if v2 2 (crosses x 1 (crossing.In (control secon
 four_with : (v0 v1 v2 v3 v4 : Bool) → (c d : Crossing) → Life → Course
 four_with v0 v1 v2 v3 v4 c d x =
     contacted_if v4 4 (crosses x 3 d (contacted_if v3 3 (crosses x 2 c (contacted_if v2 2 (crosses x 1 (crossing.In str) (contacted_if v1 1 (crosses x 0 (crossing.Out rts) (contacted_if v0 0 begin))))))))
-
--- one life
-only_one : (contacts : List Called) (log : List Crossing) (f : Fate) → IsLeft contacts log asker f → AreLeft contacts log (asker ∷ []) (f ∷ [])
-only_one contacts log f left x g (inl e) = subst (λ (h : Fate). IsLeft contacts log x h) (sym e.1) (subst (λ (z : Life). IsLeft contacts log z f) (sym e.0) left)
-only_one contacts log f left x g (inr none) = absurd none
 
 both_two : (contacts : List Called) (log : List Crossing) (f h : Fate) → IsLeft contacts log asker f → IsLeft contacts log second_life h → AreLeft contacts log (asker ∷ second_life ∷ []) (f ∷ h ∷ [])
 both_two contacts log f h left more x g (inl e) = subst (λ (k : Fate). IsLeft contacts log x k) (sym e.1) (subst (λ (z : Life). IsLeft contacts log z f) (sym e.0) left)
@@ -36,7 +33,7 @@ unfolding octets_of orders_of read_of command_of
 returns-clause-reset c = record {
   contacts = contact first 2 second ∷ [];
   are = (λ e. absurd (let no : false ≡ true = e in cc), tt);
-  left = only_one (contact first 2 second ∷ []) (begun_then []) fate.Reset (record { begins = refl; fate = tt });
+  left = one_left (contact first 2 second ∷ []) (begun_then []) asker fate.Reset (record { begins = refl; fate = tt });
 }
 
 pub returns-clause-stopped : goal.returns-clause-stopped
@@ -44,7 +41,9 @@ unfolding octets_of orders_of read_of command_of
 returns-clause-stopped c = record {
   contacts = contact first 2 second ∷ [];
   are = (λ e. absurd (let no : false ≡ true = e in cc), tt);
-  left = only_one (contact first 2 second ∷ []) (begun_then (crossing.Down first ∷ [])) fate.Reset (record { begins = refl; fate = tt });
+  left =
+      one_left (contact first 2 second ∷ []) (begun_then (crossing.Down first ∷ [])) asker fate.Reset
+      (record { begins = refl; fate = tt });
 }
 
 pub returns-clause-open : goal.returns-clause-open
@@ -52,7 +51,7 @@ unfolding octets_of orders_of read_of command_of
 returns-clause-open c = record {
   contacts = [];
   are = (λ e. absurd (let no : false ≡ true = e in cc), tt);
-  left = only_one [] (begun_then []) fate.Open (record { begins = refl; fate = refl });
+  left = one_left [] (begun_then []) asker fate.Open (record { begins = refl; fate = refl });
 }
 
 pub returns-clause-both : goal.returns-clause-both

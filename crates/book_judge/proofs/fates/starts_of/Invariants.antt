@@ -1,6 +1,0 @@
-use Rattle.book_judge.proofs.Common.{◌≡◌, length, take, AreQuiet, AreStarts}
-use Rattle.book_judge.proofs.fates.starts_of.Given as goal
-
-abbrev pub invariant-loop-place : goal.invariant-loop-place
-invariant-loop-place l =
-    AreQuiet l.place (take l.count l.deeds) × AreStarts l.starts.items l.deeds × (length l.starts.items ≡ l.place)

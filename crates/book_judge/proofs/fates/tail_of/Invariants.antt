@@ -1,8 +1,0 @@
-use Rattle.book_judge.proofs.Common.{◌≤◌, drop, length, AreRequests}
-use Rattle.book_judge.proofs.fates.tail_of.Given as goal
-
-abbrev pub invariant-deeds : goal.invariant-deeds
-invariant-deeds l = AreRequests (drop l.tail l.deeds) × (l.tail ≤ length l.deeds)
-
-abbrev pub decreases-deeds : goal.decreases-deeds
-decreases-deeds l = l.tail

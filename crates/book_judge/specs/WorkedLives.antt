@@ -1,0 +1,16 @@
+-- A life whose host stops: words for worked examples.
+use Rattle.std.specs.Prelude.{List, ◌∷◌}
+use Rattle.interface.specs.declared.crossing.Crossing.{Crossing}
+use Rattle.interface.specs.declared.crossing.Crossing.TheVariants as crossing
+use Rattle.net_sim.specs.Timeline.{crossings_of}
+use Rattle.net_sim.specs.WorkedMoments.{bits_sent, eight_sent}
+use Rattle.promise.specs.declared.life.Life.{Life}
+use Rattle.world_keeps_lives.specs.WorkedFormed.{took}
+
+-- eight bits come in for its host after that has stopped
+abbrev pub stopped_log : List Crossing
+stopped_log = crossing.In eight_sent ∷ crossing.Down took.host ∷ crossings_of bits_sent
+
+-- its own request goes out at place 0, and its partner's comes in at place 2
+abbrev pub late_answer : Life
+late_answer = record took { own_stamp = 0; partner_stamp = 2 }

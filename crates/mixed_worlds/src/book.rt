@@ -1,0 +1,29 @@
+//! What is promised of the book of a world with strangers.
+
+ghost use Rattle.std.specs.Prelude.{◌≡◌};
+ghost use Rattle.mixed_worlds.specs.Laws.{KeepsAmong, KeepsToward};
+ghost use Rattle.net_sim.specs.MixedWorlds.{strange_in};
+
+use crate::law::worlds;
+use interface::Carrier;
+use net_sim::{Book, MixedWorld};
+
+/// Returns the book of a world with strangers. It keeps this promise, whatever the world's carrier is made of, and
+/// whatever strangers send and take:
+///
+/// - `among`: `KeepsAmong`, of hosts that run the program among each other. What crossed is a run of the mailboxes;
+///   lives and notices of data are made of what crossed; the lives are safe; an orderly close loses nothing; and a
+///   finished initial connection pairs the right four sockets.
+/// - `toward`: `KeepsToward`, of each such host toward all others, strangers too. Both requests of a life crossed; its
+///   bits are those of messages on one link; what was sent is a prefix of what was handed over; and what was taken is
+///   within what was granted.
+///
+/// Nothing is promised to arrive, and of a stranger nothing at all.
+pub fn book_among<C: Carrier>(world: &MixedWorld<C>) -> &Book
+    ensures value { result.now ≡ world.now.world.kept }
+    ensures among { KeepsAmong (strange_in world.now) (C.calls.seen world.now.world.carrier).hosts world.now.world }
+    ensures toward { KeepsToward (strange_in world.now) world.now.world }
+{
+    worlds::<C>();
+    world.book()
+}

@@ -1,0 +1,188 @@
+-- Worlds some of whose hosts are strangers: hosts of the carrier without a seat. What a stranger sends is offered to the carrier as it
+-- is, and what it takes is written down as a crossing.
+use Rattle.std.specs.Prelude.{◌≡◌, ◌⊎◌, Bool, true, false, not, if◌then◌else◌, List, [], ◌∷◌, filter, find, map, Option, Some, None, Result, Ok, Err}
+use Rattle.std.specs.Bool.{MatchBool}
+use Rattle.std.specs.List.{list_any}
+use Rattle.interface.specs.Calls.{Calls, Seen, crossing_of}
+use Rattle.interface.specs.Host.{Host, is_host, same_host}
+use Rattle.interface.specs.Mailboxes.{IsRun}
+use Rattle.interface.specs.declared.carrier.CarrierFault.{CarrierFault}
+use Rattle.interface.specs.declared.carrier.CarrierFault.TheVariants as fault
+use Rattle.interface.specs.declared.crossing.Crossing.TheVariants as crossing
+use Rattle.interface.specs.declared.crossing.Inbound.{Inbound}
+use Rattle.interface.specs.declared.message.HostMessage.{HostMessage}
+use Rattle.net_sim.specs.Book.{opening_kept}
+use Rattle.net_sim.specs.Carriers.{IsBooked}
+use Rattle.net_sim.specs.Clean.{HaveAddresses}
+use Rattle.net_sim.specs.Mixed.{AreMixed, mixed_kept}
+use Rattle.net_sim.specs.Reports.{AreReported}
+use Rattle.net_sim.specs.Story.{Moment}
+use Rattle.net_sim.specs.Timeline.{contacts_of, crossings_of}
+use Rattle.net_sim.specs.Told.{without_reports}
+use Rattle.net_sim.specs.Whole.{AreServed, seat_in}
+use Rattle.net_sim.specs.World.{Event, Net, Quiet, Offer, Take, Ask, Server, User, Typed}
+use Rattle.net_sim.specs.World.{WorldState, WorldFault, Carrier, changed, with_carrier, Does, Halts, Passes, StepGives, opening_seats, opening_services, stops, Seat}
+pub use Rattle.net_sim.specs.declared.mixed.MixedEvent.{MixedEvent}
+pub use Rattle.net_sim.specs.declared.mixed.MixedEvent.TheVariants.{Any, Out}
+pub use Rattle.net_sim.specs.declared.mixed.MixedFault.{MixedFault}
+pub use Rattle.net_sim.specs.declared.mixed.MixedFault.TheVariants.{World, NoProgram, HasProgram}
+pub use Rattle.net_sim.specs.declared.mixed.StrangersFault.{StrangersFault}
+use Rattle.net_sim.specs.declared.mixed.StrangersFault.TheVariants as absent
+
+-- ---- at first
+
+-- the hosts that run the program, in the carrier's order
+abbrev pub with_programs : (Host → Bool) → List Host → List Host
+with_programs strange hosts = filter (λ h. not (strange h)) hosts
+
+-- these hosts have seats, over a carrier whose log is empty
+abbrev pub opening_among : {C : Type 0} → Calls C → (Host → Bool) → C → WorldState C
+opening_among calls strange c = record {
+  carrier = c;
+  seats = opening_seats (with_programs strange (calls.seen c).hosts);
+  services = opening_services (with_programs strange (calls.seen c).hosts);
+  kept = opening_kept;
+  stopped = false;
+}
+
+-- ---- what a stranger does
+
+-- the carrier took its message, or not. Memory may run out for writing that down
+abbrev pub OutEnds : {C : Type 0} → HostMessage → Result (Unit {0}) CarrierFault → C → WorldState C → Result (Unit {0}) WorldFault → WorldState C → Type 0
+OutEnds m (Ok done) c old r new = Does (changed c (crossing.Out m ∷ []) old) r new ⊎ Halts c old r new
+OutEnds m (Err e) c old r new = Passes e c old r new
+
+-- its message is offered to the carrier as it is
+abbrev pub OutGives : {C : Type 0} → Calls C → HostMessage → WorldState C → Result (Unit {0}) WorldFault → WorldState C → Type 0
+OutGives {C} calls m old r new = (answer : Result (Unit {0}) CarrierFault) × (c : C) × calls.offers old.carrier m answer c × OutEnds m answer c old r new
+
+-- the carrier gave it something, nothing, or refused
+abbrev pub FetchEnds : {C : Type 0} → Result (Option Inbound) CarrierFault → C → WorldState C → Result (Unit {0}) WorldFault → WorldState C → Type 0
+FetchEnds (Ok None) c old r new = Does (with_carrier c old) r new
+FetchEnds (Ok (Some i)) c old r new = Does (changed c (crossing_of i ∷ []) old) r new ⊎ Halts c old r new
+FetchEnds (Err e) c old r new = Passes e c old r new
+
+-- it takes what came for it
+abbrev pub FetchGives : {C : Type 0} → Calls C → Host → WorldState C → Result (Unit {0}) WorldFault → WorldState C → Type 0
+FetchGives {C} calls h old r new = (answer : Result (Option Inbound) CarrierFault) × (c : C) × calls.takes old.carrier h answer c × FetchEnds answer c old r new
+
+-- ---- one event
+
+-- a world, and the hosts of its carrier that are strangers
+pub record MixedState (C : Type 0) : Type 0 where
+  pub world : WorldState C
+  pub strangers : List Host
+
+abbrev pub strange_in : {C : Type 0} → MixedState C → Host → Bool
+strange_in s h = is_host s.strangers h
+
+-- at first, where these of the carrier's hosts are strangers
+abbrev pub opening_mixed : {C : Type 0} → Calls C → C → List Host → MixedState C
+opening_mixed calls c named = record {
+  world = opening_among calls (λ h. is_host (filter (λ g. is_host named g) (calls.seen c).hosts) h) c;
+  strangers = filter (λ g. is_host named g) (calls.seen c).hosts;
+}
+
+-- the first of the named hosts that isn't in the network
+abbrev pub absent_in : List Host → List Host → Option Host
+absent_in hosts named = find (λ h. not (is_host hosts h)) named
+
+-- only hosts of the network can be strangers there; after that memory may run out
+abbrev pub OpensMixed : {C : Type 0} → Calls C → C → List Host → Result (MixedState C) StrangersFault → Type 0
+OpensMixed calls c named (Ok s) = (absent_in (calls.seen c).hosts named ≡ None) × (s ≡ opening_mixed calls c named)
+OpensMixed calls c named (Err (absent.NoSuch h)) = absent_in (calls.seen c).hosts named ≡ Some h
+OpensMixed calls c named (Err absent.OutOfMemory) = absent_in (calls.seen c).hosts named ≡ None
+
+-- the world answers, and its strangers are the same
+abbrev pub mixed_answer : Result (Unit {0}) WorldFault → Result (Unit {0}) MixedFault
+mixed_answer (Ok done) = Ok done
+mixed_answer (Err f) = Err (World f)
+
+abbrev pub OfWorld : {C : Type 0} → (Result (Unit {0}) WorldFault → WorldState C → Type 0) → MixedState C → Result (Unit {0}) MixedFault → MixedState C → Type 0
+OfWorld Gives old r new = (answer : Result (Unit {0}) WorldFault) × Gives answer new.world × (r ≡ mixed_answer answer) × (new.strangers ≡ old.strangers)
+
+-- it is refused, and nothing changes
+abbrev pub RefusesMixed : {C : Type 0} → MixedFault → MixedState C → Result (Unit {0}) MixedFault → MixedState C → Type 0
+RefusesMixed f old r new = (r ≡ Err f) × (new ≡ old)
+
+-- the host at which something is asked for
+abbrev pub asked_at : Event → Option Host
+asked_at (Net e) = None
+asked_at Quiet = None
+asked_at (Take h) = None
+asked_at (Offer h) = Some h
+asked_at (Ask h q) = Some h
+asked_at (Server h listen base) = Some h
+asked_at (User h peer listen own) = Some h
+asked_at (Typed h line) = Some h
+
+abbrev pub is_strange : (Host → Bool) → Option Host → Bool
+is_strange strange None = false
+is_strange strange (Some h) = strange h
+
+-- a stranger is asked for nothing, and all else is as in any world
+abbrev pub AskedGives : {C : Type 0} → Calls C → MixedState C → Event → Result (Unit {0}) MixedFault → MixedState C → Type 0
+AskedGives calls old e r new = MatchBool (is_strange (strange_in old) (asked_at e)) (RefusesMixed NoProgram old r new) (OfWorld (StepGives calls old.world e) old r new)
+
+-- but it takes what came for it
+abbrev pub AnyGives : {C : Type 0} → Calls C → MixedState C → Event → Result (Unit {0}) MixedFault → MixedState C → Type 0
+AnyGives calls old (Take h) r new = MatchBool (strange_in old h) (OfWorld (FetchGives calls h old.world) old r new) (OfWorld (StepGives calls old.world (Take h)) old r new)
+AnyGives calls old e r new = AskedGives calls old e r new
+
+abbrev pub has_seat : Host → List Seat → Bool
+has_seat h seats = list_any (λ s. same_host h s.host) seats
+
+-- only strangers send what no program says
+abbrev pub SaysGives : {C : Type 0} → Calls C → MixedState C → HostMessage → Result (Unit {0}) MixedFault → MixedState C → Type 0
+SaysGives calls old m r new =
+    MatchBool (strange_in old m.flow.source) (OfWorld (OutGives calls m old.world) old r new)
+    (RefusesMixed (if has_seat m.flow.source old.world.seats then HasProgram else World (Carrier fault.NoSuch)) old r new)
+
+abbrev pub MixedEventGives : {C : Type 0} → Calls C → MixedState C → MixedEvent → Result (Unit {0}) MixedFault → MixedState C → Type 0
+MixedEventGives calls old (Any e) r new = AnyGives calls old e r new
+MixedEventGives calls old (Out m) r new = SaysGives calls old m r new
+
+-- after memory has run out every event is refused as `Stopped`
+abbrev pub MixedStepGives : {C : Type 0} → Calls C → MixedState C → MixedEvent → Result (Unit {0}) MixedFault → MixedState C → Type 0
+MixedStepGives calls old e r new = MatchBool old.world.stopped (RefusesMixed (World (Carrier fault.Stopped)) old r new) (MixedEventGives calls old e r new)
+
+-- ---- several events
+
+abbrev pub mixed_stops : Result (Unit {0}) MixedFault → Bool
+mixed_stops (Ok done) = false
+mixed_stops (Err (World f)) = stops (Err f)
+mixed_stops (Err NoProgram) = false
+mixed_stops (Err HasProgram) = false
+
+-- one event after the other: it continues after a refusal, and ends when memory runs out
+abbrev pub MixedRuns : {C : Type 0} → Calls C → MixedState C → List MixedEvent → Result (Unit {0}) MixedFault → MixedState C → Type 0
+MixedRuns calls old [] r new = (r ≡ Ok tt) × (new ≡ old)
+MixedRuns {C} calls old (e ∷ events) r new =
+    (answer : Result (Unit {0}) MixedFault) × (mid : MixedState C) × MixedStepGives calls old e answer mid × MatchBool (mixed_stops answer) ((r ≡ answer) × (new ≡ mid)) (MixedRuns calls mid events r new)
+
+abbrev pub MixedRunGives : {C : Type 0} → Calls C → MixedState C → List MixedEvent → Result (Unit {0}) MixedFault → MixedState C → Type 0
+MixedRunGives calls old events r new = MatchBool old.world.stopped (RefusesMixed (World (Carrier fault.Stopped)) old r new) (MixedRuns calls old events r new)
+
+-- ---- all that was done
+
+-- what is kept describes one list of mixed moments, and until memory runs out each host with a program that is up has the program that
+-- comes of them
+pub record IsWholeAmong {C : Type 0} (strange : Host → Bool) (seen : C → Seen) (hosts : List Host) (w : WorldState C) : Type 0 where
+  pub moments : List Moment
+  pub mixed : AreMixed strange hosts moments
+  pub network : (seen w.carrier).hosts ≡ hosts
+  pub crossings : w.kept.book.crossings ≡ crossings_of moments
+  pub contacts : w.kept.book.contacts ≡ contacts_of moments
+  pub kept : without_reports w.kept ≡ mixed_kept strange moments
+  pub seats : w.stopped ≡ false → w.seats ≡ map (seat_in hosts moments) (with_programs strange hosts)
+  pub services : w.stopped ≡ false → AreServed (with_programs strange hosts) w.services
+
+-- a world with its book, in which each report is so at its place, over a carrier whose log is a run of the mailboxes between hosts that
+-- have addresses. Strangers are some of these hosts
+pub record IsLawfulAmong {C : Type 0} (strange : Host → Bool) (seen : C → Seen) (hosts : List Host) (w : WorldState C) : Type 0 where
+  pub whole : IsWholeAmong strange seen hosts w
+  pub booked : IsBooked seen w
+  pub run : IsRun hosts (seen w.carrier).log
+  pub addresses : HaveAddresses hosts
+  pub strangers : (h : Host) → strange h ≡ true → is_host hosts h ≡ true
+  pub reported : AreReported w

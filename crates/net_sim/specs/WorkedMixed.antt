@@ -1,0 +1,46 @@
+-- A small world with a stranger: words for worked examples. Hosts `first` and `second` run the program, and `third` runs anything.
+use Rattle.std.specs.Prelude.{◌≡◌, ◌⊎◌, true, false, List, [], ◌∷◌, Ok, Err, Result}
+use Rattle.interface.specs.Calls.{Seen}
+use Rattle.interface.specs.Host.{Host}
+use Rattle.interface.specs.declared.crossing.Crossing.TheVariants as crossing
+use Rattle.net_sim.specs.MixedWorlds.{MixedEvent, MixedFault, MixedState, MixedStepGives, OpensMixed, StrangersFault, opening_mixed}
+use Rattle.net_sim.specs.declared.mixed.StrangersFault.TheVariants as absent
+use Rattle.net_sim.specs.Worked.{accepting_carrier, any_carrier, message}
+use Rattle.net_sim.specs.MixedWorlds.{Out}
+use Rattle.sockets.specs.Worked.{first, second, third}
+
+-- hosts that aren't there
+abbrev pub fourth : Host
+fourth = record { imp = 4; host = 0 }
+
+abbrev pub fifth : Host
+fifth = record { imp = 5; host = 0 }
+
+-- the network of three hosts
+abbrev pub three_seen : Seen
+three_seen = record { hosts = first ∷ second ∷ third ∷ []; log = []; stopped = false }
+
+abbrev pub beside_third : MixedState Seen
+beside_third = opening_mixed any_carrier three_seen (third ∷ [])
+
+-- where these are named as strangers there is no world, for want of this host
+abbrev pub IsRefusedNaming : List Host → Host → Type 0
+IsRefusedNaming named h = (r : Result (MixedState Seen) StrangersFault) → OpensMixed any_carrier three_seen named r → r ≡ Err (absent.NoSuch h)
+
+-- or it is this one, unless memory is wanting
+abbrev pub IsMadeNaming : List Host → MixedState Seen → Type 0
+IsMadeNaming named s = (r : Result (MixedState Seen) StrangersFault) → OpensMixed any_carrier three_seen named r → (r ≡ Ok s) ⊎ (r ≡ Err absent.OutOfMemory)
+
+-- memory has run out
+abbrev pub spent : MixedState Seen
+spent = record beside_third { world = record beside_third.world { stopped = true } }
+
+-- an event is refused for this, and changes nothing
+abbrev pub IsRefusedThere : MixedState Seen → MixedEvent → MixedFault → Type 0
+IsRefusedThere s e f = (r : Result (Unit {0}) MixedFault) (new : MixedState Seen) → MixedStepGives any_carrier s e r new → (r ≡ Err f) × (new ≡ s)
+
+-- what a stranger says to a carrier that takes each message is written down, and nobody is notified, until memory runs out
+abbrev pub IsWritten : Type 0
+IsWritten =
+    (r : Result (Unit {0}) MixedFault) (new : MixedState Seen) → MixedStepGives accepting_carrier beside_third (Out (message third first 2)) r new → new.world.stopped ≡ false
+    → (new.world.kept.book.crossings ≡ crossing.Out (message third first 2) ∷ []) × (new.world.kept.book.notices ≡ [])

@@ -1,0 +1,182 @@
+//! Hosts over a carrier, some of which are strangers.
+
+ghost use Rattle.std.specs.Prelude.{◌≡◌, false, [], IfOk};
+ghost use Rattle.net_sim.specs.Carriers.{shown};
+ghost use Rattle.net_sim.specs.Handed.{AreUnhanded};
+ghost use Rattle.net_sim.specs.MixedWorlds.{IsLawfulAmong, MixedRunGives, MixedStepGives, OpensMixed, opening_mixed, strange_in};
+ghost use Rattle.promise.specs.Fates.{AreFated};
+
+use crate::WorldFault;
+use crate::book::Book;
+use crate::mixed::{MixedEvent, MixedFault, StrangersFault};
+use crate::parts::Hosts;
+use crate::seat::{Seat, ServiceSeat, opening_seats, opening_services};
+use crate::strangers::{
+    absent_in, follow_mixed, is_named_mixed, programs_of, runs_out_mixed, stops_mixed, strangers_of,
+};
+use crate::world::are_addresses;
+use interface::{Carrier, CarrierFault, HostAddr};
+use promise::{BitLog, Fate};
+use std::alloc::{AllocError, Global};
+use std::marker::Model;
+
+/// A carrier some of whose hosts are strangers, that run anything; the programs of the others, what else runs on them, and the book of
+/// all that happens to these.
+///
+/// It is seen as a world in which only hosts with programs have a seat and services, and its strangers. A stranger says what it likes to
+/// whom it likes, in its own name, and takes when it likes. An event that is refused changes nothing, and after memory has run out
+/// every event is refused as `Stopped`, as in a [`World`](crate::World).
+#[derive(Drop)]
+pub struct MixedWorld<C: Carrier> {
+    carrier: C,
+    hosts: Hosts,
+    strangers: Vec<HostAddr>,
+    stopped: bool,
+}
+
+impl<C: Carrier> Model for MixedWorld<C> {
+    ghost use Rattle.net_sim.specs.Inside.Mixed.{IsHeldAmong, mixed_of_hosts};
+    ghost use Rattle.net_sim.specs.MixedWorlds.{MixedState};
+
+    ghost Value = { MixedState C };
+
+    ghost view = { λ w. mixed_of_hosts w.carrier w.hosts w.strangers.items w.stopped };
+
+    ghost invariant = { λ w. IsHeldAmong C.calls.seen (mixed_of_hosts w.carrier w.hosts w.strangers.items w.stopped) };
+}
+
+impl<C: Carrier> MixedWorld<C> {
+    /// Returns a world over a carrier whose log is empty and that hasn't stopped, with an empty book. Of the carrier's hosts those that are
+    /// named here are strangers, and the others have programs that have just come up. A host may be named twice, and in any order.
+    ///
+    /// Errors: `NoSuch`, with the first host that is named and isn't in the network, and after that `OutOfMemory`.
+    pub fn new(
+        alloc: Global,
+        carrier: C,
+        named: &[HostAddr],
+    ) -> Result<MixedWorld<C>, StrangersFault>
+        requires unused { (C.calls.seen carrier).log ≡ [] }
+        requires running { (C.calls.seen carrier).stopped ≡ false }
+        ensures { OpensMixed (shown C.calls) carrier named.now result }
+    {
+        if let Some(host) = absent_in(carrier.hosts(), named) {
+            return Err(StrangersFault::NoSuch(host));
+        }
+        match MixedWorld::beside(alloc, carrier, named) {
+            Ok(world) => Ok(world),
+            Err(_) => Err(StrangersFault::OutOfMemory),
+        }
+    }
+
+    /// Returns such a world, in which those of the carrier's hosts that are named are strangers.
+    fn beside(alloc: Global, carrier: C, named: &[HostAddr]) -> Result<MixedWorld<C>, AllocError>
+        requires unused { (C.calls.seen carrier).log ≡ [] }
+        requires running { (C.calls.seen carrier).stopped ≡ false }
+        ensures { IfOk result (λ s. s ≡ opening_mixed (shown C.calls) carrier named.now) }
+    {
+        let strangers = strangers_of(alloc, carrier.hosts(), named)?;
+        let programs = programs_of(alloc, carrier.hosts(), &strangers)?;
+        let seats = opening_seats(alloc, &programs)?;
+        let services = opening_services(alloc, &programs)?;
+        are_addresses(carrier.hosts());
+        Ok(MixedWorld {
+            carrier,
+            hosts: Hosts {
+                seats,
+                services,
+                book: Book::new(alloc),
+                alloc,
+            },
+            strangers,
+            stopped: false,
+        })
+    }
+
+    /// Returns what happened so far. It is that of a lawful world with strangers, of which the laws of `mixed_worlds` speak: what is
+    /// promised where every host runs the program is promised between any two that do, whatever strangers send.
+    pub fn book(&self) -> &Book
+        ensures value { result.now ≡ self.now.world.kept }
+        ensures lawful { IsLawfulAmong (strange_in self.now) C.calls.seen (C.calls.seen self.now.world.carrier).hosts self.now.world }
+    {
+        &self.hosts.book
+    }
+
+    /// Returns what was handed over to be sent, a list of bits for each life, in the order in which the book has the lives. For a
+    /// receiving life it is empty.
+    pub fn handed(&self) -> &[BitLog]
+        ensures value { result.now ≡ self.now.world.kept.handed }
+        ensures empty { AreUnhanded self.now.world.kept.book.lives self.now.world.kept.handed }
+    {
+        self.book().handed()
+    }
+
+    /// Returns how far each life is, and how those ended that are over, in the order in which the book has the lives.
+    pub fn fates(&self) -> &[Fate]
+        ensures value { result.now ≡ self.now.world.kept.fates }
+        ensures fated { AreFated self.now.world.kept.book.lives self.now.world.kept.fates }
+    {
+        self.book().fates()
+    }
+
+    /// Returns the carrier.
+    pub fn carrier(&self) -> &C
+        ensures { result.now ≡ self.now.world.carrier }
+    {
+        &self.carrier
+    }
+
+    /// Returns the hosts with their programs, in the carrier's order.
+    pub fn seats(&self) -> &[Seat]
+        ensures { result.now ≡ self.now.world.seats }
+    {
+        &self.hosts.seats
+    }
+
+    /// Returns what runs on these hosts beside their programs, in the carrier's order.
+    pub fn services(&self) -> &[ServiceSeat]
+        ensures { result.now ≡ self.now.world.services }
+    {
+        &self.hosts.services
+    }
+
+    /// Returns the strangers, in the carrier's order.
+    pub fn strangers(&self) -> &[HostAddr]
+        ensures { result.now ≡ self.now.strangers }
+    {
+        &self.strangers
+    }
+
+    /// Lets one event happen, or refuses it.
+    ///
+    /// Errors: those of [`World::step`](crate::World::step), and before them `NoProgram` for what a stranger's user or program would be
+    /// asked for, and `HasProgram` where another than a stranger is to send a message that its program doesn't say.
+    pub fn step(&mut self, event: MixedEvent) -> Result<(), MixedFault>
+        ensures { MixedStepGives (shown C.calls) self.old event result self.new }
+    {
+        if self.stopped {
+            return Err(MixedFault::World(WorldFault::Carrier(CarrierFault::Stopped)));
+        }
+        is_named_mixed(&event);
+        let done = follow_mixed(&mut self.carrier, &mut self.hosts, &self.strangers, event);
+        // for the proof only: the log is a run of the mailboxes, which is a part of what such a world keeps
+        let _ = self.carrier.log();
+        self.stopped = runs_out_mixed(&done);
+        done
+    }
+
+    /// Lets one event happen after the other. It continues after a refusal, and ends when memory runs out.
+    pub fn run(&mut self, events: Vec<MixedEvent>) -> Result<(), MixedFault>
+        ensures { MixedRunGives (shown C.calls) self.old events.items result self.new }
+    {
+        if self.stopped {
+            return Err(MixedFault::World(WorldFault::Carrier(CarrierFault::Stopped)));
+        }
+        for event in events {
+            let done = self.step(event);
+            if stops_mixed(&done) {
+                return done;
+            }
+        }
+        Ok(())
+    }
+}

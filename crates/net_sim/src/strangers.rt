@@ -1,0 +1,288 @@
+//! What strangers do, and what is asked of them.
+
+ghost use Rattle.std.specs.Prelude.{◌≡◌, filter, IfOk};
+ghost use Rattle.interface.specs.Host.{is_host};
+ghost use Rattle.net_sim.specs.Carriers.{shown};
+ghost use Rattle.net_sim.specs.Inside.Mixed as inside;
+ghost use Rattle.net_sim.specs.Inside.Mixed.{mixed_after, mixed_of};
+ghost use Rattle.net_sim.specs.Inside.Parts.{IsOnce, AreLive, hosts_of, hosts_served, world_after, world_of};
+ghost use Rattle.net_sim.specs.Laws.MixedWorlds.{IsNamedMixed};
+ghost use Rattle.net_sim.specs.MixedWorlds as mixed;
+ghost use Rattle.net_sim.specs.World.{Take};
+ghost use Rattle.net_sim.specs.MixedWorlds.{AnyGives, AskedGives, FetchGives, MixedEventGives, OutGives, SaysGives, mixed_answer, with_programs};
+
+use crate::events::{self, follow, is_named};
+use crate::hosting::likely_place;
+use crate::mixed::{MixedEvent, MixedFault};
+use crate::parts::Hosts;
+use crate::seat::Seat;
+use crate::{Event, WorldFault};
+use interface::{Carrier, CarrierFault, HostAddr, HostMessage};
+use sockets::NcpFault;
+use std::alloc::{AllocError, Global};
+
+/// Returns whether a host is one of these.
+fn is_among(hosts: &[HostAddr], host: HostAddr) -> bool
+    ensures { result ≡ is_host hosts.now host }
+{
+    hosts.iter().any(|other| host == *other)
+}
+
+/// Returns the first of the named hosts that isn't in the network.
+pub(crate) fn absent_in(hosts: &[HostAddr], named: &[HostAddr]) -> Option<HostAddr>
+    ensures { result ≡ mixed.absent_in hosts.now named.now }
+{
+    named.iter().copied().find(|host| !is_among(hosts, *host))
+}
+
+/// Returns those of the carrier's hosts that are named as strangers.
+pub(crate) fn strangers_of(
+    alloc: Global,
+    hosts: &[HostAddr],
+    named: &[HostAddr],
+) -> Result<Vec<HostAddr>, AllocError>
+    ensures { IfOk result (λ found. found.items ≡ filter (λ h. is_host named.now h) hosts.now) }
+{
+    let mut found = Vec::new(alloc);
+    for host in hosts {
+        if is_among(named, *host) {
+            found.push(*host)?;
+        }
+    }
+    Ok(found)
+}
+
+/// Returns those of the carrier's hosts that run the program.
+pub(crate) fn programs_of(
+    alloc: Global,
+    hosts: &[HostAddr],
+    strangers: &[HostAddr],
+) -> Result<Vec<HostAddr>, AllocError>
+    ensures { IfOk result (λ found. found.items ≡ with_programs (λ h. is_host strangers.now h) hosts.now) }
+{
+    let mut found = Vec::new(alloc);
+    for host in hosts {
+        if !is_among(strangers, *host) {
+            found.push(*host)?;
+        }
+    }
+    Ok(found)
+}
+
+/// Returns whether a host has a seat.
+fn has_seat(seats: &[Seat], host: HostAddr) -> bool
+    ensures { result ≡ mixed.has_seat host seats.now }
+{
+    seats.iter().any(|seat| host == seat.host)
+}
+
+/// Returns the host that sends a message.
+fn source_of(message: &HostMessage) -> HostAddr
+    ensures { result ≡ message.now.flow.source }
+{
+    message.flow.source
+}
+
+/// Returns the host at which something is asked for.
+fn asked_at(event: &Event) -> Option<HostAddr>
+    ensures { result ≡ mixed.asked_at event.now }
+{
+    match event {
+        Event::Net(_) | Event::Quiet | Event::Take(_) => None,
+        Event::Offer(host)
+        | Event::Ask(host, _)
+        | Event::Server { host, .. }
+        | Event::User { host, .. }
+        | Event::Typed { host, .. } => Some(*host),
+    }
+}
+
+/// Returns whether a stranger is asked for something.
+fn asks_stranger(strangers: &[HostAddr], event: &Event) -> bool
+    ensures { result ≡ mixed.is_strange (λ h. is_host strangers.now h) (mixed.asked_at event.now) }
+{
+    match asked_at(event) {
+        Some(host) => is_among(strangers, host),
+        None => false,
+    }
+}
+
+/// Returns the answer of a world with strangers, by that of its world.
+fn answer_of(done: Result<(), WorldFault>) -> Result<(), MixedFault>
+    ensures { result ≡ mixed_answer done }
+{
+    match done {
+        Ok(()) => Ok(()),
+        Err(fault) => Err(MixedFault::World(fault)),
+    }
+}
+
+/// Offers a stranger's message to the network as it is.
+fn go_out<C: Carrier>(
+    carrier: &mut C,
+    hosts: &mut Hosts,
+    message: HostMessage,
+) -> Result<(), WorldFault>
+    ensures { OutGives (shown C.calls) message (world_of carrier.old hosts.old) result (world_after carrier.new hosts.new result) }
+{
+    let before = carrier.log().len();
+    if let Err(fault) = carrier.offer_out(message) {
+        return Err(WorldFault::Carrier(fault));
+    }
+    hosts.change(&carrier.log()[before..])
+}
+
+/// Lets a stranger take what came for it.
+fn fetch<C: Carrier>(carrier: &mut C, hosts: &mut Hosts, host: HostAddr) -> Result<(), WorldFault>
+    ensures { FetchGives (shown C.calls) host (world_of carrier.old hosts.old) result (world_after carrier.new hosts.new result) }
+{
+    let before = carrier.log().len();
+    match carrier.take_in(host) {
+        Ok(Some(_)) => hosts.change(&carrier.log()[before..]),
+        Ok(None) => Ok(()),
+        Err(fault) => Err(WorldFault::Carrier(fault)),
+    }
+}
+
+/// Offers a message of a stranger. Another host has a program, which says itself what goes out.
+fn say<C: Carrier>(
+    carrier: &mut C,
+    hosts: &mut Hosts,
+    strangers: &[HostAddr],
+    message: HostMessage,
+) -> Result<(), MixedFault>
+    ensures { SaysGives (shown C.calls) (mixed_of carrier.old hosts.old strangers.now) message result (mixed_after carrier.new hosts.new strangers.now result) }
+{
+    let source = source_of(&message);
+    if is_among(strangers, source) {
+        let done = go_out(carrier, hosts, message);
+        return answer_of(done);
+    }
+    // for the proof only: the carrier is asked nothing else here, and `log` says what it shows, which stays the same
+    let _ = carrier.log();
+    if has_seat(&hosts.seats, source) {
+        return Err(MixedFault::HasProgram);
+    }
+    Err(MixedFault::World(WorldFault::Carrier(CarrierFault::NoSuch)))
+}
+
+/// Lets a host take what came for it. A stranger's taking is only written down.
+fn take<C: Carrier>(
+    carrier: &mut C,
+    hosts: &mut Hosts,
+    strangers: &[HostAddr],
+    host: HostAddr,
+) -> Result<(), MixedFault>
+    requires once { IsOnce (hosts_of hosts.old.seats.items) }
+    requires live { AreLive hosts.old.seats.items }
+    requires order { hosts_served hosts.old.services.items ≡ hosts_of hosts.old.seats.items }
+    ensures { AnyGives (shown C.calls) (mixed_of carrier.old hosts.old strangers.now) (Take host) result (mixed_after carrier.new hosts.new strangers.now result) }
+{
+    if is_among(strangers, host) {
+        let done = fetch(carrier, hosts, host);
+        return answer_of(done);
+    }
+    let likely = likely_place(&hosts.seats, host);
+    let done = events::take(carrier, hosts, likely, host);
+    answer_of(done)
+}
+
+/// Lets happen what may happen in any world, unless a stranger is asked for it.
+fn ask<C: Carrier>(
+    carrier: &mut C,
+    hosts: &mut Hosts,
+    strangers: &[HostAddr],
+    event: &Event,
+) -> Result<(), MixedFault>
+    requires once { IsOnce (hosts_of hosts.old.seats.items) }
+    requires live { AreLive hosts.old.seats.items }
+    requires order { hosts_served hosts.old.services.items ≡ hosts_of hosts.old.seats.items }
+    ensures { AskedGives (shown C.calls) (mixed_of carrier.old hosts.old strangers.now) event.now result (mixed_after carrier.new hosts.new strangers.now result) }
+{
+    if asks_stranger(strangers, event) {
+        // for the proof only, as in `say`
+        let _ = carrier.log();
+        return Err(MixedFault::NoProgram);
+    }
+    let done = follow(carrier, hosts, event);
+    answer_of(done)
+}
+
+/// Lets happen what may happen in any world. A stranger takes what came for it, and is asked for nothing.
+fn happen<C: Carrier>(
+    carrier: &mut C,
+    hosts: &mut Hosts,
+    strangers: &[HostAddr],
+    event: &Event,
+) -> Result<(), MixedFault>
+    requires once { IsOnce (hosts_of hosts.old.seats.items) }
+    requires live { AreLive hosts.old.seats.items }
+    requires order { hosts_served hosts.old.services.items ≡ hosts_of hosts.old.seats.items }
+    ensures { AnyGives (shown C.calls) (mixed_of carrier.old hosts.old strangers.now) event.now result (mixed_after carrier.new hosts.new strangers.now result) }
+{
+    match event {
+        Event::Take(host) => take(carrier, hosts, strangers, *host),
+        Event::Net(_)
+        | Event::Quiet
+        | Event::Offer(_)
+        | Event::Ask(..)
+        | Event::Server { .. }
+        | Event::User { .. }
+        | Event::Typed { .. } => ask(carrier, hosts, strangers, event),
+    }
+}
+
+/// Lets any event happen.
+pub(crate) fn follow_mixed<C: Carrier>(
+    carrier: &mut C,
+    hosts: &mut Hosts,
+    strangers: &[HostAddr],
+    event: MixedEvent,
+) -> Result<(), MixedFault>
+    requires once { IsOnce (hosts_of hosts.old.seats.items) }
+    requires live { AreLive hosts.old.seats.items }
+    requires order { hosts_served hosts.old.services.items ≡ hosts_of hosts.old.seats.items }
+    ensures { MixedEventGives (shown C.calls) (mixed_of carrier.old hosts.old strangers.now) event result (mixed_after carrier.new hosts.new strangers.now result) }
+{
+    match event {
+        MixedEvent::Any(event) => happen(carrier, hosts, strangers, &event),
+        MixedEvent::Out(message) => say(carrier, hosts, strangers, message),
+    }
+}
+
+/// Proves that a user names its peer by an address, with numbers in their ranges, as their types promise.
+///
+/// It is there for the proof only, as `is_named` is.
+pub(crate) fn is_named_mixed(event: &MixedEvent)
+    ensures { IsNamedMixed event.now }
+{
+    if let MixedEvent::Any(event) = event {
+        is_named(event);
+    }
+}
+
+/// Returns whether a list of events ends after this answer.
+pub(crate) fn stops_mixed(done: &Result<(), MixedFault>) -> bool
+    ensures { result ≡ mixed.mixed_stops done.now }
+{
+    matches!(
+        done,
+        Err(MixedFault::World(
+            WorldFault::Carrier(CarrierFault::OutOfMemory | CarrierFault::Stopped)
+                | WorldFault::Program(NcpFault::OutOfMemory)
+        ))
+    )
+}
+
+/// Returns whether memory ran out.
+pub(crate) fn runs_out_mixed(done: &Result<(), MixedFault>) -> bool
+    ensures { result ≡ inside.mixed_runs_out done.now }
+{
+    matches!(
+        done,
+        Err(MixedFault::World(
+            WorldFault::Carrier(CarrierFault::OutOfMemory)
+                | WorldFault::Program(NcpFault::OutOfMemory)
+        ))
+    )
+}

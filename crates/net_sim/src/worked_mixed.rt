@@ -1,0 +1,40 @@
+//! A small world with a stranger.
+
+ghost use Rattle.std.specs.Prelude.{◌≡◌, [], ◌∷◌, None, Some, map};
+ghost use Rattle.interface.specs.declared.carrier.CarrierFault.TheVariants as fault;
+ghost use Rattle.net_sim.specs.MixedWorlds.{Any, Out, World, NoProgram, HasProgram, absent_in, opening_mixed};
+ghost use Rattle.net_sim.specs.Worked.{any_carrier, message};
+ghost use Rattle.net_sim.specs.WorkedMixed.{IsMadeNaming, IsRefusedNaming, IsRefusedThere, IsWritten, beside_third, fifth, fourth, spent, three_seen};
+ghost use Rattle.net_sim.specs.World.{Carrier, Ask, Offer};
+ghost use Rattle.sockets.specs.Worked.{first, second, third};
+ghost use Rattle.sockets.specs.declared.request.Request.TheVariants as request;
+
+/// Who has a seat, and what is refused by whom.
+pub fn worked_strangers()
+    // a stranger has no seat, and who isn't in the network isn't a stranger
+    ensures seats { map (λ s. s.host) beside_third.world.seats ≡ first ∷ second ∷ [] }
+    ensures services { map (λ s. s.host) beside_third.world.services ≡ first ∷ second ∷ [] }
+    ensures strangers { (opening_mixed any_carrier three_seen (fourth ∷ third ∷ [])).strangers ≡ third ∷ [] }
+
+    // the first host that is named and isn't there is refused, and none where all are; hosts are named in any order, and twice
+    ensures unknown { absent_in three_seen.hosts (third ∷ fourth ∷ fifth ∷ []) ≡ Some fourth }
+    ensures known { absent_in three_seen.hosts (third ∷ first ∷ third ∷ []) ≡ None }
+    ensures repeated { (opening_mixed any_carrier three_seen (third ∷ first ∷ third ∷ [])).strangers ≡ first ∷ third ∷ [] }
+    ensures refused { IsRefusedNaming (third ∷ fourth ∷ fifth ∷ []) fourth }
+    ensures made { IsMadeNaming (third ∷ []) beside_third }
+
+    // a stranger's user and program are asked for nothing, and a host that isn't there isn't a stranger
+    ensures asked { IsRefusedThere beside_third (Any (Ask third (request.Echo second 65))) NoProgram }
+    ensures offered { IsRefusedThere beside_third (Any (Offer third)) NoProgram }
+    ensures absent { IsRefusedThere beside_third (Any (Offer fourth)) (World (Carrier fault.NoSuch)) }
+
+    // no host speaks for another that runs the program, and none for one that isn't there
+    ensures program { IsRefusedThere beside_third (Out (message first second 2)) HasProgram }
+    ensures nobody { IsRefusedThere beside_third (Out (message fourth second 2)) (World (Carrier fault.NoSuch)) }
+
+    // after memory has run out nothing comes before Stopped
+    ensures stopped { IsRefusedThere spent (Out (message first second 2)) (World (Carrier fault.Stopped)) }
+    ensures stopped_asking { IsRefusedThere spent (Any (Offer third)) (World (Carrier fault.Stopped)) }
+
+    ensures written { IsWritten }
+{}

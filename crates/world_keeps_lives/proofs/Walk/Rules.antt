@@ -1,0 +1,133 @@
+-- What holds of each end of a pair, by rules that take all changes alike that name no request: for the walk of Leaves.antt.
+use Rattle.world_keeps_lives.proofs.Common.{◌≡◌, ℕ, zero, suc, ◌*◌, ◌<◌, ◌==◌, Bool, false, if◌then◌else◌, List, [], ◌∷◌, ◌++◌, map, filter, find, take, length, slice_index_or, Some, None, refl, subst, arith, eqb-true, Contains, Host, is_receive_socket, is_send_socket, Command, asked_on_link, asked_with_size, Legal, Order, changed_first, close_due, closed_by_partner, closed_when, has_cls, is_at, is_ending, is_open, refused_end, PairState, Parcel, asked_at, cls_sent, Closing, Entry, Notice, both}
+use Rattle.std.proofs.Common.{true}
+use Rattle.ncp_control.specs.declared.command.Command.TheVariants as command
+use Rattle.host_pairs.specs.Parcels as parcel
+use Rattle.host_pairs.specs.declared.entry.Closing.TheVariants as closing
+use Rattle.host_pairs.specs.declared.notice.Notice.TheVariants as notice
+
+-- ---- lists
+
+abbrev pub Each : {A : Type 0} → (A → Type 0) → List A → Type 0
+Each Q [] = Unit {0}
+Each Q (x ∷ xs) = Q x × Each Q xs
+
+pub each_append : {A : Type 0} (Q : A → Type 0) (xs ys : List A) → Each Q xs → Each Q ys → Each Q (xs ++ ys)
+each_append Q [] ys h k = k
+each_append Q (x ∷ xs) ys h k = (h.0, each_append Q xs ys h.1 k)
+
+pub each_weaker : {A : Type 0} (Q R : A → Type 0) (xs : List A) → ((x : A) → Q x → R x) → Each Q xs → Each R xs
+each_weaker Q R [] k h = tt
+each_weaker Q R (x ∷ xs) k h = (k x h.0, each_weaker Q R xs k h.1)
+
+pub each_map : {A : Type 0} (Q : A → Type 0) (change : A → A) (xs : List A) → ((x : A) → Q x → Q (change x)) → Each Q xs → Each Q (map change xs)
+each_map Q change [] k h = tt
+each_map Q change (x ∷ xs) k h = (k x h.0, each_map Q change xs k h.1)
+
+pub each_filter : {A : Type 0} (Q : A → Type 0) (test : A → Bool) (xs : List A) → Each Q xs → Each Q (filter test xs)
+each_filter Q test [] h = tt
+each_filter Q test (x ∷ xs) h = by (test x) refl (each_filter Q test xs h.1) where
+  by : (b : Bool) → test x ≡ b → Each Q (filter test xs) → Each Q (filter test (x ∷ xs))
+  by true t rest = rw t (h.0, rest)
+  by false t rest = rw t rest
+
+pub each_changed : {A : Type 0} (Q : A → Type 0) (test : A → Bool) (change : A → A) (xs : List A) → ((x : A) → test x ≡ true → Q x → Q (change x)) → Each Q xs → Each Q (changed_first test change xs)
+each_changed Q test change [] k h = tt
+each_changed Q test change (x ∷ xs) k h = by (test x) refl (each_changed Q test change xs k h.1) where
+  by : (b : Bool) → test x ≡ b → Each Q (changed_first test change xs) → Each Q (if b then change x ∷ xs else x ∷ changed_first test change xs)
+  by true t rest = (k x t h.0, h.1)
+  by false t rest = (h.0, rest)
+
+pub each_at : {A : Type 0} (Q : A → Type 0) (xs : List A) (x : A) (i : ℕ) → i < length xs → slice_index_or xs i x ≡ x → Each Q xs → Q x
+each_at Q [] x i less is h = absurd (omega (arith, less))
+each_at Q (y ∷ xs) x zero less is h = subst Q is h.0
+each_at Q (y ∷ xs) x (suc i) less is h = each_at Q xs x i (omega (arith, less)) is h.1
+
+pub each_in : {A : Type 0} (Q : A → Type 0) (xs : List A) (x : A) → Contains xs x → Each Q xs → Q x
+each_in Q xs x there h = each_at Q xs x there.0 there.1 there.2 h
+
+pub first_of : {A : Type 0} (x : A) (xs : List A) → Contains (x ∷ xs) x
+first_of x xs = (0, omega arith, refl)
+
+pub later_of : {A : Type 0} (y : A) (xs : List A) (x : A) → Contains xs x → Contains (y ∷ xs) x
+later_of y xs x there = (suc there.0, omega (arith, there.1), there.2)
+
+pub each_of : {A : Type 0} (xs : List A) → Each (λ (x : A). Contains xs x) xs
+each_of [] = tt
+each_of {A} (x ∷ xs) = (first_of x xs, each_weaker (λ (y : A). Contains xs y) (λ (y : A). Contains (x ∷ xs) y) xs (λ y there. later_of x xs y there) (each_of xs))
+
+pub found_in : {A : Type 0} (Q : A → Type 0) (test : A → Bool) (xs : List A) (x : A) → find test xs ≡ Some x → Each Q xs → Q x
+found_in Q test [] x is h = absurd (let both : None ≡ Some x = is in cc)
+found_in {A} Q test (y ∷ xs) x is h = by (test y) refl (λ k. found_in Q test xs x k h.1) where
+  by : (b : Bool) → test y ≡ b → (find test xs ≡ Some x → Q x) → Q x
+  by true t rest = let same : Some y ≡ Some x = rw t at is in let e : y ≡ x = cc in subst Q e h.0
+  by false t rest = rest (rw t at is)
+
+-- ---- changes that name no request
+
+pub record Quiet (e f : Entry) : Type 0 where
+  pub own : f.own ≡ e.own
+  pub foreign : f.foreign ≡ e.foreign
+  pub mine : f.mine ≡ e.mine
+  pub asked : f.asked ≡ e.asked
+  pub partner : f.partner ≡ e.partner
+  pub link : f.link ≡ e.link
+  pub closing : has_cls e.closing ≡ true → has_cls f.closing ≡ true
+  pub off : e.partner_closed ≡ true → f.partner_closed ≡ true
+
+pub due_still : (c : Closing) → has_cls c ≡ true → has_cls (close_due c) ≡ true
+due_still closing.No e = e
+due_still c e = e
+
+pub quiet_when : (b : Bool) (e : Entry) → Quiet e (closed_when b e)
+quiet_when true e = record { own = refl; foreign = refl; mine = refl; asked = refl; partner = refl; link = refl; closing = λ c. refl; off = λ c. c }
+quiet_when false e = record { own = refl; foreign = refl; mine = refl; asked = refl; partner = refl; link = refl; closing = λ c. c; off = λ c. c }
+
+pub quiet_off : (e : Entry) → Quiet e (closed_by_partner e)
+quiet_off e = record { own = refl; foreign = refl; mine = refl; asked = refl; partner = refl; link = refl; closing = λ c. due_still e.closing c; off = λ c. refl }
+
+-- whatever is at two sockets has them
+pub sockets_of : (own foreign : ℕ) (e : Entry) → is_at own foreign e ≡ true → (e.own ≡ own) × (e.foreign ≡ foreign)
+sockets_of own foreign e t = let parts : ((e.own == own) ≡ true) × ((e.foreign == foreign) ≡ true) = both (e.own == own) (e.foreign == foreign) t in (eqb-true e.own own parts.0, eqb-true e.foreign foreign parts.1)
+
+-- a notice of no opening, of no data, and of nothing that is returned
+abbrev pub IsOther : Notice → Type 0
+IsOther (notice.Opened socket peer foreign own partner) = ⊥
+IsOther (notice.Sent socket bits) = ⊥
+IsOther (notice.Arrived socket bits) = ⊥
+IsOther (notice.Returned socket messages bits) = ⊥
+IsOther n = Unit {0}
+
+-- what holds of each end, and of each notice
+pub record Rules (P : Entry → Type 0) (N : Notice → Type 0) (peer : Host) : Type 0 where
+  pub quiet : (e f : Entry) → Quiet e f → P e → P f
+  pub others : (n : Notice) → IsOther n → N n
+  pub opens : (e : Entry) (a b : ℕ) → P e → e.asked ≡ Some a → e.partner ≡ Some b → is_ending e ≡ false → N (notice.Opened e.own peer e.foreign a b)
+  pub returns : (e : Entry) (messages bits : ℕ) → P e → is_open e ≡ true → N (notice.Returned e.own messages bits)
+
+-- what holds of an end where it begins
+pub record Begins (P : Entry → Type 0) : Type 0 where
+  pub fresh : (e : Entry) → e.mine ≡ true → e.asked ≡ None → e.partner ≡ None → P e
+  pub refused : (own foreign stamp : ℕ) → P (refused_end own foreign stamp)
+
+-- a request of the peer is taken at this place
+pub record Hears (P : Entry → Type 0) (stamp : ℕ) (orders : List Order) : Type 0 where
+  pub begins : Begins P
+  pub rts : (own foreign link : ℕ) (e : Entry) → Contains orders (Legal (command.Rts foreign own link)) → is_receive_socket foreign ≡ true → is_send_socket own ≡ true → e.own ≡ own → e.foreign ≡ foreign → P e → P (asked_on_link stamp link e)
+  pub str : (own foreign size : ℕ) (e : Entry) → Contains orders (Legal (command.Str foreign own size)) → is_send_socket foreign ≡ true → is_receive_socket own ≡ true → e.own ≡ own → e.foreign ≡ foreign → P e → P (asked_with_size stamp size e)
+
+-- a request of the host itself goes out at this place
+pub record Goes (P : Entry → Type 0) (stamp : ℕ) (cs : List Command) : Type 0 where
+  pub rts : (own foreign link : ℕ) (e : Entry) → Contains cs (command.Rts own foreign link) → is_receive_socket own ≡ true → e.own ≡ own → e.foreign ≡ foreign → P e → P (asked_at stamp e)
+  pub str : (own foreign size : ℕ) (e : Entry) → Contains cs (command.Str own foreign size) → is_send_socket own ≡ true → e.own ≡ own → e.foreign ≡ foreign → P e → P (asked_at stamp e)
+
+pub quiet_sent : (e : Entry) → Quiet e (cls_sent e)
+quiet_sent e = record { own = refl; foreign = refl; mine = refl; asked = refl; partner = refl; link = refl; closing = λ c. refl; off = λ c. c }
+
+module _ (P : Entry → Type 0) (N : Notice → Type 0) (peer : Host) (rules : Rules P N peer) where
+  -- what goes out may: of commands each is by the rules, and what is reported of bits is so
+  abbrev pub MayTell : ℕ → Parcel → PairState → Type 0
+  MayTell stamp parcel.Reset q = Unit {0}
+  MayTell stamp parcel.Reply q = Unit {0}
+  MayTell stamp (parcel.Commands count) q = Goes P stamp (take count q.queue)
+  MayTell stamp (parcel.Bytes e size count) q = N (notice.Sent e.own (take (size * count) e.bits))

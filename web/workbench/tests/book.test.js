@@ -1,0 +1,70 @@
+/** What the promise says of lives and messages: as ./explain --book says it, and by the names of sites. */
+
+import assert from "node:assert/strict";
+import { readFileSync } from "node:fs";
+import { test } from "node:test";
+
+import { Book } from "../book.js";
+import { entriesOf, saidOf } from "../promised.js";
+
+/** @typedef {{log: string, entries: string[], said: {[line: string]: string[]}}} Told what ./explain --book says of a log */
+
+/** @type {Told[]} as `./check workbench` gives them */
+const told = process.env.STATES ? JSON.parse(readFileSync(process.env.STATES, "utf8")).books : [];
+
+const root = new URL("../../../", import.meta.url).pathname;
+const octets = readFileSync(`${root}logs/two-octets`, "utf8");
+const itself = (/** @type {string} */ host) => host;
+
+/**
+ * What is said of a line, as ./explain prints it.
+ *
+ * @param {string} log
+ * @param {number} line
+ * @param {(host: string) => string} [names]
+ */
+function printed(log, line, names = itself) {
+    const found = saidOf(new Book(log), line, names);
+    return found ? [found.title, ...found.said.map((it) => `  ${it.clause}: ${it.sentence}`)] : null;
+}
+
+test("each life and each message of data may be touched, and no other line", () => {
+    assert.deepEqual(entriesOf(new Book(octets), itself).map((it) => it.line), [10, 11, 7]);
+    assert.equal(printed(octets, 3), null);
+    assert.equal(printed(octets, 12), null);
+    assert.equal(printed(octets, 0), null);
+    assert.deepEqual(printed(octets, 8), printed(octets, 7));
+});
+
+test("clauses speak of a life, by the names of its sites", () => {
+    const names = (/** @type {string} */ host) => (host === "0/1" ? "UCLA" : "SRI");
+    assert.deepEqual(printed(octets, 10, names)?.slice(0, 2), [
+        "line 10: socket 16 of UCLA, which receives from socket 33 of SRI: 1 message, 16 bits, open",
+        "  promise.formed.own: Its own request went out in line 1: RTS 16 from 33 on link 5.",
+    ]);
+    assert(/arrived.all: It is open, and counts all 1 message that came in/.test(printed(octets, 10, names)?.[9] ?? ""));
+});
+
+test("a bit that was changed, and a message that was passed over, are said", () => {
+    const other = octets.replace("open 4849\nlife", "open 4848\nlife");
+    assert.deepEqual(printed(other, 10)?.filter((it) => /formed|streams/.test(it)), [
+        "  promise.formed: It isn't made of messages that crossed.",
+        "  promise.safe.streams.source: What it took is no prefix of what one life that it matches sent.",
+    ]);
+    const none = octets.replace("receive 1 16", "receive 0 0").replace("open 4849\nlife", "open -\nlife");
+    assert(/It counts 0 messages of the 1 that came in on its link/.test(printed(none, 10)?.join("\n") ?? ""));
+    assert(/The life of line 10, which that matches, doesn't count it/.test(printed(none, 7)?.join("\n") ?? ""));
+});
+
+test("./explain --book says the same of each life and message of books, whole and broken", () => {
+    let lines = 0;
+    for (const { log, entries, said } of told) {
+        const book = new Book(log);
+        assert.deepEqual(entriesOf(book, itself).map((it) => it.title), entries);
+        for (const [line, words] of Object.entries(said)) {
+            assert.deepEqual(printed(log, Number(line)), words, `line ${line} of\n${log}`);
+            lines += 1;
+        }
+    }
+    assert(!told.length || lines > 500, String(lines));
+});
