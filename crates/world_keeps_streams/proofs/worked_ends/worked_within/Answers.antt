@@ -12,8 +12,8 @@ use Rattle.promise.specs.Formed.{link_of}
 use Rattle.promise.specs.Safe.{before}
 use Rattle.promise.specs.declared.life.Life.{Life}
 use Rattle.world_keeps_streams.specs.Within.{CountNothingLater, CountsBefore}
-use Rattle.world_keeps_streams.specs.WorkedEnds.{InTime, asker, begun_then, came_late, came_sooner, contact, eight_elsewhere}
-use Rattle.world_keeps_streams.specs.WorkedEnds.{own_cls, partner_cls, took_later, took_one}
+use Rattle.world_keeps_streams.specs.WorkedEnds.{InTime, asker, begun_then, came_late, came_sooner}
+use Rattle.world_keeps_streams.specs.WorkedEnds.{contact, eight_elsewhere, own_cls, partner_cls, took_later, took_one}
 use Rattle.world_keeps_streams.proofs.Ends.Rows.{CountsBy, one_counts}
 use Rattle.world_keeps_streams.proofs.Lives.Lists.{IsOf, contains}
 use Rattle.world_keeps_streams.proofs.worked_ends.worked_within.Goals as goal
@@ -32,7 +32,8 @@ returns-clause-contact c = in_time (contact first 3 second ∷ []) (crossing.In 
 
 pub returns-clause-closed : goal.returns-clause-closed
 unfolding octets_of orders_of read_of command_of
-returns-clause-closed c = in_time [] (crossing.In partner_cls ∷ crossing.In eight_sent ∷ crossing.Out own_cls ∷ []) (omega arith)
+returns-clause-closed c =
+    in_time [] (crossing.In partner_cls ∷ crossing.In eight_sent ∷ crossing.Out own_cls ∷ []) (omega arith)
 
 pub returns-clause-open : goal.returns-clause-open
 unfolding octets_of orders_of read_of command_of
