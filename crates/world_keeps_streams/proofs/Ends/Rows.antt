@@ -1,6 +1,6 @@
 -- Books of one life.
-use Rattle.world_keeps_streams.proofs.Common.{◌≡◌, inl, inr, ℕ, List, [], ◌∷◌, sym, subst, Contains, Crossing}
-use Rattle.world_keeps_streams.proofs.Common.{Cause, Over, Stage, stage, Called, Fate}
+use Rattle.world_keeps_streams.proofs.Common.{◌≡◌, inl, inr, List, [], ◌∷◌, sym, subst, Crossing}
+use Rattle.world_keeps_streams.proofs.Common.{Over, Stage, stage, Called, Fate}
 use Rattle.promise.specs.Ends.{AreLeft, IsLeft}
 use Rattle.promise.specs.declared.life.Life.{Life}
 use Rattle.world_keeps_streams.specs.Within.{CountNothingLater, CountsBefore}

@@ -1,5 +1,5 @@
 -- What a life counts had crossed before it was over.
-use Rattle.world_keeps_streams.proofs.Common.{◌≡◌, inl, inr, ℕ, zero, suc, ◌<◌, ◌≤◌, ◌==◌, Bool, true, false, if◌then◌else◌, List, [], ◌∷◌, length, Option, Some, None, refl, ap, sym, subst, ◌∙◌, arith, same_flow-true, Seen, Host, Flow, Crossing, orders_of, Cause, Going, Over, Stage, each, heard, said, stage, IsBeside, text_of, texts_on, control_flow, Called, Fate, Kept, IsLawful, Asked, Crossed, Moment, places, program, contacts_of, crossings_of, WorldState, kept_fated, linked_end, live, HasOpenEnd, book_run, Course}
+use Rattle.world_keeps_streams.proofs.Common.{◌≡◌, inl, inr, ℕ, zero, suc, ◌<◌, ◌≤◌, ◌==◌, Bool, true, false, if◌then◌else◌, List, [], ◌∷◌, length, Option, Some, None, refl, ap, sym, subst, ◌∙◌, arith, same_flow-true, Seen, Host, Flow, Crossing, orders_of, Cause, Going, Over, Stage, each, heard, said, IsBeside, text_of, texts_on, control_flow, Called, Fate, Kept, IsLawful, Asked, Crossed, Moment, places, program, contacts_of, crossings_of, WorldState, kept_fated, linked_end, live, HasOpenEnd, book_run, Course}
 use Rattle.interface.specs.Mailboxes.{same_flow}
 use Rattle.interface.specs.declared.crossing.Crossing.TheVariants as crossing
 use Rattle.net_sim.specs.Told.{kept_in}

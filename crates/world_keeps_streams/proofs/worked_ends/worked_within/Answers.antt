@@ -11,7 +11,7 @@ use Rattle.promise.specs.Ends.{Closed}
 use Rattle.promise.specs.Formed.{link_of}
 use Rattle.promise.specs.Safe.{before}
 use Rattle.promise.specs.declared.life.Life.{Life}
-use Rattle.world_keeps_streams.specs.Within.{CountNothingLater, CountsBefore}
+use Rattle.world_keeps_streams.specs.Within.{CountNothingLater}
 use Rattle.world_keeps_streams.specs.WorkedEnds.{InTime, asker, begun_then, came_late, came_sooner}
 use Rattle.world_keeps_streams.specs.WorkedEnds.{contact, eight_elsewhere, own_cls, partner_cls, took_later, took_one}
 use Rattle.world_keeps_streams.proofs.Ends.Rows.{CountsBy, one_counts}
