@@ -38,6 +38,6 @@ none_long (t ∷ ts) l = absurd (omega (arith, l))
 pub some_long : (t : List Bool) (ts : List (List Bool)) → 1 ≤ length (t ∷ ts)
 some_long t ts = omega arith
 
-pub own_if : {A : Type 0} (b : Bool) (xs ys : A) → b ≡ true → (if b then xs else ys) ≡ xs
+pub own_if : {A : Type 0} (b : Bool) (xs ys : List A) → b ≡ true → (if b then xs else ys) ≡ xs
 own_if true xs ys e = refl
 own_if false xs ys e = absurd (untrue e)

@@ -1,5 +1,6 @@
 -- At all moments each life of the book has a fate that its stage leaves. One that continues is as far as its end is by the law of pairing.
-use Rattle.world_keeps_streams.proofs.Common.{◌≡◌, ◌⊎◌, inl, inr, ℕ, ◌==◌, ◌&&◌, not, Bool, true, false, if◌then◌else◌, List, [], ◌∷◌, Option, Some, None, is_some, refl, ap, sym, subst, ◌∙◌, arith, eqb-true, Contains, Seen, Host, Crossing, both, has_cls, is_called_off, is_due, is_ending, is_mine_on, is_sent, Closing, Entry, Notice, End, Ask, Close, Mark, came_from, standing, all_lives_gone, all_lives_taken, with_openings, all_gone, plain, pair_with, Asking, Cause, Course, Dropped, Going, Over, Stage, Stopped, cut, own_asked, own_closed, partner_asked, partner_closed, IsBeside, Called, Fate, Kept, IsLawful, Crossed, Moment, places, program, contacts_of, crossings_of, WorldState, host_in, notices_by, kept_fated, HasOpenEnd, live, unopened, book_run, or_right, or_left, or_from}
+use Rattle.world_keeps_streams.proofs.Common.{◌≡◌, ◌⊎◌, inl, inr, ℕ, ◌==◌, ◌&&◌, not, Bool, true, false, if◌then◌else◌, List, [], ◌∷◌, Option, Some, None, is_some, refl, ap, sym, subst, ◌∙◌, arith, eqb-true, Contains, Seen, Host, Crossing, both, has_cls, is_called_off, is_due, is_ending, is_mine_on, is_sent, Closing, Entry, Notice, End, Ask, Close, Mark, came_from, standing, all_lives_gone, all_lives_taken, with_openings, all_gone, plain, pair_with, Asking, Cause, Course, Dropped, Going, Over, Stage, Stopped, cut, own_asked, own_closed, partner_asked, partner_closed, IsBeside, Called, Fate, Kept, IsLawful, Crossed, Moment, places, program, contacts_of, crossings_of, WorldState, host_in, notices_by, kept_fated, HasOpenEnd, live, unopened, book_run, or_from}
+use Rattle.std.proofs.lemmas.Bool.{or_left, or_right}
 use Rattle.promise.specs.Ends.{Leaves}
 use Rattle.interface.specs.declared.crossing.Crossing.TheVariants as crossing
 use Rattle.host_pairs.specs.declared.entry.Closing.TheVariants as closing

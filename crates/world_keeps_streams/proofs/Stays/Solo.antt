@@ -1,5 +1,6 @@
 -- What a host did since it dropped its ends, where it has said nothing and wasn't in a stay, is what a host does by itself.
-use Rattle.world_keeps_streams.proofs.Common.{◌≡◌, ℕ, Bool, true, false, not, ◌&&◌, if◌then◌else◌, List, [], ◌∷◌, Option, Some, None, refl, ap, sym, subst, ◌∙◌, Host, same_host, Flow, Answer, HostMessage, same_host-true, PairState, Parcel, failed_phase, is_ready, Phase, Want, Gone, Heard, Ready, Message, Other, Event, Contact, Out, In, Told, Down, Up, Idle, Send, Take, Hear, Begin, when, are, boxes, MaySend, pair_moved, pair, ready, takes_reset, carry, contradicts, ready_phase, accepted, turn_of, opening_state, pair_with, served, next_in, offered, Peer, Request, answer_leaves, message_leaves, Agrees, message_on, Asked, Crossed, IsNext, IsStory, Moment, event_in, events_of, places, program, Coupled, program_own, story_agrees, keeps, AText, AnRrp, AnRst, Sort, sort_of, clash, answer_calls, calls_by, message_calls, next_calls, request_calls, and_from}
+use Rattle.world_keeps_streams.proofs.Common.{◌≡◌, ℕ, Bool, true, false, not, ◌&&◌, if◌then◌else◌, List, [], ◌∷◌, Option, Some, None, refl, ap, sym, subst, ◌∙◌, Host, same_host, Flow, Answer, HostMessage, same_host-true, PairState, Parcel, failed_phase, is_ready, Phase, Want, Gone, Heard, Ready, Message, Other, Event, Contact, Out, In, Told, Down, Up, Idle, Send, Take, Hear, Begin, when, are, boxes, MaySend, pair_moved, pair, ready, takes_reset, carry, contradicts, ready_phase, accepted, turn_of, opening_state, pair_with, served, next_in, offered, Peer, Request, answer_leaves, message_leaves, Agrees, message_on, Asked, Crossed, IsNext, IsStory, Moment, event_in, events_of, places, program, Coupled, program_own, story_agrees, keeps, AText, AnRrp, AnRst, Sort, sort_of, clash, answer_calls, calls_by, message_calls, next_calls, request_calls}
+use Rattle.std.proofs.lemmas.Bool.{and_from}
 use Rattle.interface.specs.declared.crossing.Answer.TheVariants as answer
 use Rattle.interface.specs.declared.crossing.Crossing.TheVariants as crossing
 use Rattle.interface.specs.declared.crossing.Inbound.TheVariants as inbound
