@@ -5,7 +5,7 @@ use Rattle.host_pairs.specs.Control.{orders_of}
 use Rattle.interface.specs.declared.crossing.Crossing.TheVariants as crossing
 use Rattle.net_sim.specs.WorkedMoments.{rts, str}
 use Rattle.book_judge.specs.WorkedLives.{late_answer}
-use Rattle.book_judge.proofs.Ends.Contacts.{suited_with}
+use Rattle.book_judge.proofs.Ends.Together.{suited_with}
 use Rattle.book_judge.proofs.Ends.Suited.{suited_alone}
 use Rattle.book_judge.proofs.law.worked_fates.Goals as goal
 
