@@ -79,8 +79,8 @@ class Fates:
         return over is None or (over.early is None and life.fate in self.leaves[over.left()])
 
     def first_strange(self, log: Sequence[Crossing], lives: Sequence[Life]) -> int | None:
-        """The place, counted from 1, of the first life that doesn't suit what crossed, or that a contact would have
-        reset together with an earlier one, as it did one of the two only; None where there is none."""
+        """The place, counted from 1, of the first life that doesn't suit what crossed, or of which a contact would have
+        reset an earlier one as well, but only one of the two is `reset`; None where there is none."""
         words: dict[Hashable, set[bool]] = {}
         for place, life in enumerate(lives, 1):
             if not self.suits(log, life):
@@ -100,6 +100,11 @@ class Fates:
     def reset_with(self, life: Life) -> Hashable:
         """What a life has in common with all that the same contact resets: its host and its peer."""
         return life.host, life.peer
+
+    def together(self, log: Sequence[Crossing], lives: Sequence[Life], life: Life) -> list[Life]:
+        """The other lives that a contact would reset with this one: all continue by what crossed."""
+        alike = [it for it in lives if it is not life and self.reset_with(it) == self.reset_with(life)]
+        return [it for it in alike if self.continues(log, it)] if self.continues(log, life) else []
 
     def is_early(self, asked: set[str]) -> bool:
         """Whether what would end a life comes too early, where these of its requests have crossed."""
@@ -157,4 +162,5 @@ class Fates:
         return "closes" if code == CLS and read_numbers(command, 4, 4) == [own, foreign] else None
 
 
-over = Fates().over
+RIGHT_FATES = Fates()
+over, together = RIGHT_FATES.over, RIGHT_FATES.together

@@ -175,6 +175,7 @@ BROKEN_LOGS = [
     (10, b"open", b"closed", FATES_10, "no CLS of socket 16 with socket 33 went out and no CLS of socket 33 with"),
     (11, b"open", b"stopped", FATES_11, "It says `stopped`, but its host, 0/2, hasn't stopped since it began."),
     (9, b"answer", b"down 0/2\nanswer", "broken run line 10\nbroken fates line 12", "0/2, stopped in line 9. It would"),
+    *((10, b"open 4849", f"{one} 4849\nlife 0/1 16 0/2 33 0 4 receive 0 0 1 100 0 0 {other} -".encode(), "malformed line 12\n" + FATES_11, f"Line 10 says `{one}`, and this one `{other}`. Both are lives of 0/1 with 0/2") for one, other in (("open", "reset"), ("reset", "open"))),
     (11, b"3 1 send", b"3 1 send", "kept", "The book is safe: 9 crossings, a run of the mailboxes, and 2 lives made of them."),
     # lives of the messages that crossed
     (11, b"send 1", b"send 2", "broken lives line 11\nbroken grants lines 10 11", "It isn't made of the messages that crossed: it counts 2 messages, and after its requests 1 went out on 0/2 0/1 5."),

@@ -233,7 +233,7 @@ owes_crosses x place c s t e =
 
 -- how far a life is by what crosses that a contact reset when as much had crossed: it continues as long as nothing has
 -- gone out since
-pub abbrev Behind : Bool → ℕ → Stage → Type 0
+abbrev pub Behind : Bool → ℕ → Stage → Type 0
 Behind calls m (Asking o p) = ⊥
 Behind calls m (Going o p) = calls ≡ true
 Behind calls m (Over Dropped n) = m ≤ n
@@ -248,7 +248,7 @@ pub record Reset (calls : Bool) (all : ℕ) (s t : Course) : Type 0 where
   pub early : t.early ≡ true → s.early ≡ true
   pub behind : Behind calls at t.stage
 
-pub abbrev Parted : Bool → ℕ → Course → Course → Type 0
+abbrev pub Parted : Bool → ℕ → Course → Course → Type 0
 Parted calls all s t = Alike s t ⊎ Reset calls all s t
 
 behind_begun : (calls : Bool) (m : ℕ) (s : Stage) → Behind calls m s → is_begun s ≡ true

@@ -115,16 +115,17 @@ halts_now contacts x [] e = by (list_any (is_contact x.host x.peer 0) contacts) 
   by : (b : Bool) → Halts (if b then ended_by (cut Dropped 0) opening else opening)
   by true = λ early. refl
   by false = λ early. refl
-halts_now contacts x (c ∷ log) e = by (list_any (is_contact x.host x.peer (length (c ∷ log))) contacts) e where
-  here : Course
-  here = crosses x (length log) c (course contacts x log)
+halts_now contacts x (c ∷ log) e =
+    by (halts_now contacts x log) (list_any (is_contact x.host x.peer (length (c ∷ log))) contacts) e where
+      here : Course
+      here = crosses x (length log) c (course contacts x log)
 
-  by : (b : Bool) → (b || still_contacts x.host x.peer c (contacts_now contacts x.host x.peer log)) ≡ true
-      → Halts (if b then ended_by (cut Dropped (length (c ∷ log))) here else here)
-  by true f = halts_contact (length (c ∷ log)) here
-  by false f =
-      crosses_halts x (length log) c (contacts_now contacts x.host x.peer log) (course contacts x log)
-      (halts_now contacts x log) f
+      by : (contacts_now contacts x.host x.peer log ≡ true → Halts (course contacts x log)) → (b : Bool)
+          → (b || still_contacts x.host x.peer c (contacts_now contacts x.host x.peer log)) ≡ true
+          → Halts (if b then ended_by (cut Dropped (length (c ∷ log))) here else here)
+      by before true f = halts_contact (length (c ∷ log)) here
+      by before false f =
+          crosses_halts x (length log) c (contacts_now contacts x.host x.peer log) (course contacts x log) before f
 
 -- ---- two lives
 
