@@ -197,8 +197,8 @@ pub(crate) fn courses_of(alloc: Global, log: &[Crossing]) -> Result<Courses, All
 }
 
 /// Returns the place of the first life whose fate isn't one that what crossed leaves it, or that disagrees with an
-/// earlier one on a contact, counted from 0; `None` where there is none. The log is the oldest first. A life that has no
-/// fate, and one whose requests haven't crossed, is none of these.
+/// earlier one on a contact, counted from 0; `None` where there is none. The log is the oldest first. A life that has
+/// no fate, and one whose requests haven't crossed, is none of these.
 ///
 /// A life begins with the second of its two requests, where nothing came between them that ends lives. It is over once
 /// its connections are dropped (by an RST, by an RRP that isn't owed, or by a message to its peer that fails), its host

@@ -108,11 +108,11 @@ pub fn worked_fates()
     ensures nothing { (x : Life) (f : Fate) → AreSuited [] (x ∷ []) (f ∷ []) }
     ensures early { (f : Fate) → AreSuited (crossing.In str ∷ crossing.Down late_answer.host ∷ crossing.Out rts ∷ []) (late_answer ∷ []) (f ∷ []) → ⊥ }
 
-    // where some contacts leave lives their fates, these suit what crossed: each by itself, and all of a host with a peer
+    // where some contacts leave lives their fates, these suit what crossed: each, and all of a host with a peer
     ensures contacts { (log : List Crossing) (lives : List Life) (fates : List Fate) → CanBeLeft log lives fates → AreSuited log lives fates }
 {}
 
-/// Lives that continue by what crossed, and contacts of their hosts, each of which resets all lives of its host with the peer.
+/// Lives that continue by what crossed, and contacts, each of which resets all lives of its host with the peer.
 pub fn worked_contacts()
     // of two lives of one host with one peer a contact resets both, and none of the peer's
     ensures both { AreSuited sent_log (took ∷ took_nothing ∷ []) (fate.Reset ∷ fate.Reset ∷ []) }

@@ -102,7 +102,9 @@ suited_logged log lives fates all = record { each = each; contact = contact } wh
       let s = all.each x b.0 b.1 in
       record {
         begins = s.begins;
-        fate = subst (λ (g : Fate). suits (stage [] x log) g ≡ true) (sym b.2) (suits_logged (stage [] x log) b.0 s.fate);
+        fate =
+            subst (λ (g : Fate). suits (stage [] x log) g ≡ true) (sym b.2)
+            (suits_logged (stage [] x log) b.0 s.fate);
       }
 
   contact : (x y : Life) (f : Fate) → IsBeside x fate.Reset lives (map logged_fate fates)

@@ -1,5 +1,9 @@
 -- What is known of contacts while lives are gone through, and the first life whose fate isn't left to it.
-use Rattle.book_judge.proofs.Common.{◌≡◌, inl, inr, ℕ, ◌+◌, ◌<◌, Bool, true, false, not, ◌&&◌, if◌then◌else◌, List, [], length, take, Option, Some, refl, ap, sym, subst, ◌∙◌, false≢true, get-empty, flow_cmp, Host, same_host, same_host-refl, same_host-true, Crossing, control_flow, stage, Asking, Going, Over, Stage, Course, course, IsBeside, Fate, Life, AreSuited, begun_by, begun_of, deeds_in, pace_of, same_bit, suits_after}
+use Rattle.book_judge.proofs.Common.{◌≡◌, inl, inr, ℕ, ◌+◌, ◌<◌, Bool, true, false, not, ◌&&◌, if◌then◌else◌, List, []}
+use Rattle.book_judge.proofs.Common.{length, take, Option, Some, refl, ap, sym, subst, ◌∙◌, false≢true, get-empty}
+use Rattle.book_judge.proofs.Common.{flow_cmp, Host, same_host, same_host-refl, same_host-true, Crossing, control_flow}
+use Rattle.book_judge.proofs.Common.{stage, Asking, Going, Over, Stage, Course, course, IsBeside, Fate, Life, AreSuited}
+use Rattle.book_judge.proofs.Common.{begun_by, begun_of, deeds_in, pace_of, same_bit, suits_after}
 use Rattle.std.proofs.Common.{None}
 use Rattle.std.specs.FinMap as map
 use Rattle.promise.specs.declared.life.Fate.TheVariants as fate
@@ -118,9 +122,15 @@ noted_contact log lives fates resets are x y f b c both = reset_true f (same tru
   same v w e g = let words : Some w ≡ Some v = sym g ∙ e in cc
 
   one : known_of resets y.host y.peer ≡ Some true
-  one =
-      are.all y.host y.peer true
-      (record { life = x; said = fate.Reset; beside = b; host = both.host; to = both.peer; still = both.one; is = refl })
+  one = are.all y.host y.peer true (record {
+    life = x;
+    said = fate.Reset;
+    beside = b;
+    host = both.host;
+    to = both.peer;
+    still = both.one;
+    is = refl;
+  })
 
   other : known_of resets y.host y.peer ≡ Some (is_reset f)
   other =
@@ -140,7 +150,8 @@ pub seen_none : (log : List Crossing) (fates : List Fate) (resets : map.FinMap f
     → AreSeen log [] fates resets
 seen_none log fates resets e = (λ x f b. absurd b, noted_none log fates resets e)
 
-module _ (log : List Crossing) (lives : List Life) (fates : List Fate) (place : ℕ) (x : Life) (o : Option Fate) (h : IsAt lives fates place x o) where
+module _ (log : List Crossing) (lives : List Life) (fates : List Fate) (place : ℕ) (x : Life) (o : Option Fate)
+    (h : IsAt lives fates place x o) where
   abbrev said : Option Bool
   said = reset_after (deeds_in log) x o
 
@@ -168,8 +179,10 @@ module _ (log : List Crossing) (lives : List Life) (fates : List Fate) (place : 
         → known_of (noted x said resets) g q ≡ Some r
     known_last g q r c e has =
         subst (λ (k : Host). known_of (noted x said resets) k q ≡ Some r) (ap (λ (y : Life). y.host) (sym e) ∙ c.host)
-        (subst (λ (k : Host). known_of (noted x said resets) x.host k ≡ Some r) (ap (λ (y : Life). y.peer) (sym e) ∙ c.to)
-        (ap (λ (w : Option Bool). known_of (noted x w resets) x.host x.peer) is ∙ known_here resets x.host x.peer r)) where
+        (subst (λ (k : Host). known_of (noted x said resets) x.host k ≡ Some r)
+        (ap (λ (y : Life). y.peer) (sym e) ∙ c.to)
+        (ap (λ (w : Option Bool). known_of (noted x w resets) x.host x.peer) is
+        ∙ known_here resets x.host x.peer r)) where
           is : said ≡ Some r
           is =
               said_is log x o c.said has (subst (λ (y : Life). continues (stage [] y log) ≡ true) e c.still)
@@ -199,7 +212,15 @@ module _ (log : List Crossing) (lives : List Life) (fates : List Fate) (place : 
     noted_all agree g q r c = elim (at_last lives fates place x o h c.life c.said c.beside) [
       | inl e ↦ known_last g q r c e.0 e.1
       | inr b ↦ known_older g q r agree
-          (are.all g q r (record { life = c.life; said = c.said; beside = b; host = c.host; to = c.to; still = c.still; is = c.is }))
+          (are.all g q r (record {
+            life = c.life;
+            said = c.said;
+            beside = b;
+            host = c.host;
+            to = c.to;
+            still = c.still;
+            is = c.is;
+          }))
     ]
 
     noted_some : (g q : Host) (r : Bool) → known_of (noted x said resets) g q ≡ Some r → Continues log more fates g q r
@@ -207,7 +228,8 @@ module _ (log : List Crossing) (lives : List Life) (fates : List Fate) (place : 
       by : (w : Option Bool) → said ≡ w → known_of (noted x w resets) g q ≡ Some r → Continues log more fates g q r
       by None e k = older g q r (are.some g q r k)
       by (Some w) e k =
-          here (same_host g x.host) (same_host q x.peer) refl refl (sym (known_set resets x.host x.peer w g q) ∙ k) where
+          here (same_host g x.host) (same_host q x.peer) refl refl
+          (sym (known_set resets x.host x.peer w g q) ∙ k) where
             it : IsSaid log x o w
             it = is_said log x o w e
 

@@ -73,7 +73,8 @@ pub record IsAt (lives : List Life) (fates : List Fate) (place : ℕ) (x : Life)
   pub life : x ≡ get_or lives place x
   pub said : o ≡ slice_get fates place
 
-module _ (lives : List Life) (fates : List Fate) (place : ℕ) (x : Life) (o : Option Fate) (h : IsAt lives fates place x o) where
+module _ (lives : List Life) (fates : List Fate) (place : ℕ) (x : Life) (o : Option Fate)
+    (h : IsAt lives fates place x o) where
   counted : length (take place lives) ≡ place
   counted = let less : place < length lives = h.less in length-take-le place lives (omega (arith, less))
 
@@ -82,7 +83,8 @@ module _ (lives : List Life) (fates : List Fate) (place : ℕ) (x : Life) (o : O
       → ((y ≡ x) × (o ≡ Some f)) ⊎ IsBeside y f (take place lives) fates
   at_last y f b =
       elim
-      (beside_last (take place lives) y x f fates (subst (λ (xs : List Life). IsBeside y f xs fates) (more_lives lives place x h.less h.life) b)) [
+      (beside_last (take place lives) y x f fates
+      (subst (λ (xs : List Life). IsBeside y f xs fates) (more_lives lives place x h.less h.life) b)) [
         | inl e ↦ inl (e.0, h.said ∙ ap (slice_get fates) (sym counted) ∙ e.1)
         | inr r ↦ inr r
       ]

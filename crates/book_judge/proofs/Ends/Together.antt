@@ -1,5 +1,9 @@
 -- A contact resets all lives of a host with a peer: since then nothing has gone out, so none of them continues.
-use Rattle.book_judge.proofs.Common.{◌≡◌, inl, inr, ℕ, ◌==◌, ◌&&◌, ◌||◌, not, Bool, true, false, if◌then◌else◌, List, [], ◌∷◌, length, refl, ap, sym, subst, ◌∙◌, false≢true, and_true, Host, same_host, same_flow, Crossing, orders_of, Legal, Order, Wrong, control_flow, Asking, Course, Dropped, Going, Over, Stage, Stopped, course, Cause, cut, ended_by, is_half, Fate, Life, stage, AreSuited, opening, Command}
+use Rattle.book_judge.proofs.Common.{◌≡◌, inl, inr, ℕ, ◌==◌, ◌&&◌, ◌||◌, not, Bool, true, false, if◌then◌else◌, List}
+use Rattle.book_judge.proofs.Common.{[], ◌∷◌, length, refl, ap, sym, subst, ◌∙◌, false≢true, and_true, Host, same_host}
+use Rattle.book_judge.proofs.Common.{same_flow, Crossing, orders_of, Legal, Order, Wrong, control_flow, Asking, Course}
+use Rattle.book_judge.proofs.Common.{Dropped, Going, Over, Stage, Stopped, course, Cause, cut, ended_by, is_half, Fate}
+use Rattle.book_judge.proofs.Common.{Life, stage, AreSuited, opening, Command}
 use Rattle.std.proofs.lemmas.Bool.{or_parts}
 use Rattle.std.specs.List.{list_any}
 use Rattle.interface.specs.declared.crossing.Crossing.TheVariants as crossing

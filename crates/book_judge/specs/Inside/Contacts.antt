@@ -58,7 +58,8 @@ noted x None resets = resets
 noted x (Some reset) resets = map.insert resets (control_flow x.host x.peer) reset
 
 -- a life of a host with a peer that continues by what crossed, and that a contact reset, or not
-pub record Continues (log : List Crossing) (lives : List Life) (fates : List Fate) (h peer : Host) (reset : Bool) : Type 0 where
+pub record Continues (log : List Crossing) (lives : List Life) (fates : List Fate) (h peer : Host) (reset : Bool)
+    : Type 0 where
   pub life : Life
   pub said : Fate
   pub beside : IsBeside life said lives fates
@@ -68,6 +69,9 @@ pub record Continues (log : List Crossing) (lives : List Life) (fates : List Fat
   pub is : is_reset said ≡ reset
 
 -- this is known exactly of the hosts and peers of such lives
-pub record AreNoted (log : List Crossing) (lives : List Life) (fates : List Fate) (resets : map.FinMap flow_cmp Bool) : Type 0 where
-  pub all : (h peer : Host) (reset : Bool) → Continues log lives fates h peer reset → known_of resets h peer ≡ Some reset
-  pub some : (h peer : Host) (reset : Bool) → known_of resets h peer ≡ Some reset → Continues log lives fates h peer reset
+pub record AreNoted (log : List Crossing) (lives : List Life) (fates : List Fate) (resets : map.FinMap flow_cmp Bool)
+    : Type 0 where
+  pub all : (h peer : Host) (reset : Bool) → Continues log lives fates h peer reset
+      → known_of resets h peer ≡ Some reset
+  pub some : (h peer : Host) (reset : Bool) → known_of resets h peer ≡ Some reset
+      → Continues log lives fates h peer reset

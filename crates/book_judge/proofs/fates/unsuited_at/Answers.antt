@@ -1,4 +1,4 @@
-use Rattle.book_judge.proofs.Common.{◌≡◌, Bool, Option, arith, ap, reverse, sym, take, ◌∙◌, deeds_in}
+use Rattle.book_judge.proofs.Common.{Bool, Option, arith, ap, reverse, sym, take, ◌∙◌, deeds_in}
 use Rattle.book_judge.specs.Inside.Contacts.{agrees, noted}
 use Rattle.book_judge.proofs.Ends.Noted.{disagrees, seen_more, seen_none, seen_suit, unsuited_by}
 use Rattle.book_judge.proofs.Ends.Suited.{all_suited}

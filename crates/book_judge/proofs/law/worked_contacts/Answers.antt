@@ -1,4 +1,6 @@
-use Rattle.book_judge.proofs.Common.{◌≡◌, [], ◌∷◌, inl, inr, true, false, refl, ap, sym, subst, ◌∙◌, false≢true, same_host, same_host-refl, Going, Asking, Stage, Host, Life, Fate, course, stage, suits, is_begun, AreSuited, IsSuited, IsBeside, gave, sent_log, took}
+use Rattle.book_judge.proofs.Common.{◌≡◌, [], ◌∷◌, inl, inr, true, false, refl, ap, sym, subst, ◌∙◌, false≢true}
+use Rattle.book_judge.proofs.Common.{same_host, same_host-refl, Going, Asking, Stage, Life, Fate, course, stage, suits}
+use Rattle.book_judge.proofs.Common.{is_begun, AreSuited, IsSuited, IsBeside, gave, sent_log, took}
 use Rattle.bit_messages.specs.Octets.{octets_of}
 use Rattle.ncp_control.specs.Reading.{command_of, read_of}
 use Rattle.host_pairs.specs.Control.{orders_of}
@@ -143,5 +145,8 @@ returns-clause-not_first c = λ at. at.1 first_suits
 pub returns-clause-unasked : goal.returns-clause-unasked
 returns-clause-unasked c =
     two_suit took unasked fate.Reset fate.Open (goes_on took fate.Reset took_goes took_begins refl)
-    (record { begins = λ e. absurd (false≢true (sym (ap is_begun never_asks) ∙ e)); fate = ap (λ (s : Stage). suits s fate.Open) never_asks })
+    (record {
+      begins = λ e. absurd (false≢true (sym (ap is_begun never_asks) ∙ e));
+      fate = ap (λ (s : Stage). suits s fate.Open) never_asks;
+    })
     (λ t. absurd (false≢true (sym (ap continues never_asks) ∙ t.other)))

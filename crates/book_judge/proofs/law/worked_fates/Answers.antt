@@ -24,7 +24,7 @@ early_late = refl
 
 pub returns-clause-early : goal.returns-clause-early
 returns-clause-early c = λ f all.
-    false≢true (sym ((all late_answer f (inl (refl, refl))).begins (ap is_begun begun_late)) ∙ early_late)
+    false≢true (sym ((all.each late_answer f (inl (refl, refl))).begins (ap is_begun begun_late)) ∙ early_late)
 
 pub returns-clause-contacts : goal.returns-clause-contacts
 returns-clause-contacts c = λ log lives fates can. suited_with can.contacts log lives fates can.are can.left
