@@ -148,7 +148,7 @@ DROPPED = [  # crossings that drop connections, and words of the cause
 
 
 def contacted(one: str, other: str) -> list[tuple[int, bytes, bytes, str, str]]:
-    """A second life of the first one's host and peer, the two with these fates: then one is `reset` without the other."""
+    """A second life of the first one's host and peer, the two with these fates, of which one is `reset`."""
     more = f"{one} 4849\nlife 0/1 16 0/2 33 0 4 receive 0 0 1 100 0 0 {other} -".encode()
     words = f"Line 10 says `{one}`, and this one `{other}`. Both are lives of 0/1 with 0/2"
     return [(10, b"open 4849", more, f"malformed line 12\n{FATES_11}", words)]

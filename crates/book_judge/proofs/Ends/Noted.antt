@@ -1,15 +1,16 @@
 -- What is known of contacts while lives are gone through, and the first life whose fate isn't left to it.
-use Rattle.book_judge.proofs.Common.{◌≡◌, inl, inr, ℕ, ◌+◌, ◌<◌, Bool, true, false, not, ◌&&◌, if◌then◌else◌, List, []}
-use Rattle.book_judge.proofs.Common.{length, take, Option, Some, refl, ap, sym, subst, ◌∙◌, false≢true, get-empty}
+use Rattle.book_judge.proofs.Common.{◌≡◌, inl, inr, ℕ, ◌+◌, Bool, true, false, not, ◌&&◌, if◌then◌else◌, List, []}
+use Rattle.book_judge.proofs.Common.{take, Option, Some, refl, ap, sym, subst, ◌∙◌, false≢true, get-empty}
 use Rattle.book_judge.proofs.Common.{flow_cmp, Host, same_host, same_host-refl, same_host-true, Crossing, control_flow}
 use Rattle.book_judge.proofs.Common.{stage, Asking, Going, Over, Stage, Course, course, IsBeside, Fate, Life, AreSuited}
-use Rattle.book_judge.proofs.Common.{begun_by, begun_of, deeds_in, pace_of, same_bit, suits_after}
+use Rattle.book_judge.proofs.Common.{begun_by, begun_of, deeds_in, pace_of, suits_after}
 use Rattle.std.proofs.Common.{None}
 use Rattle.std.specs.FinMap as map
 use Rattle.promise.specs.declared.life.Fate.TheVariants as fate
 use Rattle.book_judge.specs.Fates.{ContinueTogether, UnsuitedAt, continues}
 use Rattle.book_judge.specs.Inside.Contacts.{AreNoted, Continues, agrees, is_reset, known_of, noted}
 use Rattle.book_judge.specs.Inside.Contacts.{reset_after, reset_begun, says_same}
+use Rattle.book_judge.proofs.Crossed.SameText.{same_bit-true}
 use Rattle.book_judge.proofs.Mailboxes.{get_set}
 use Rattle.book_judge.proofs.Ends.Owed.{and_yes}
 use Rattle.book_judge.proofs.Ends.Reached.{all_crossings}
@@ -84,15 +85,9 @@ known_here resets g q r =
       by true false e f = absurd (false≢true f)
       by false b e f = absurd (false≢true e)
 
-bits_alike : (v w : Bool) → same_bit v w ≡ true → v ≡ w
-bits_alike true true e = refl
-bits_alike false false e = refl
-bits_alike true false e = absurd (false≢true e)
-bits_alike false true e = absurd (false≢true e)
-
 same_word : (known : Option Bool) (v w : Bool) → says_same known (Some w) ≡ true → known ≡ Some v → v ≡ w
 same_word None v w e k = absurd (cc)
-same_word (Some u) v w e k = let is : u ≡ v = cc in sym is ∙ bits_alike u w e
+same_word (Some u) v w e k = let is : u ≡ v = cc in sym is ∙ same_bit-true u w e
 
 other_word : (known : Option Bool) (w : Bool) → says_same known (Some w) ≡ false → known ≡ Some (not w)
 other_word None w e = absurd (false≢true (sym e))

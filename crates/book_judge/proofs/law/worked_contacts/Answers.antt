@@ -7,11 +7,8 @@ use Rattle.host_pairs.specs.Control.{orders_of}
 use Rattle.promise.specs.declared.life.Fate.TheVariants as fate
 use Rattle.book_judge.specs.Fates.{ContinueTogether, continues}
 use Rattle.book_judge.specs.WorkedLives.{took_nothing, unasked}
+use Rattle.book_judge.proofs.Worked.{gave_goes, took_goes}
 use Rattle.book_judge.proofs.law.worked_contacts.Goals as goal
-
-took_goes : stage [] took sent_log ≡ Going false false
-unfolding octets_of orders_of read_of command_of
-took_goes = refl
 
 took_begins : (course [] took sent_log).early ≡ false
 unfolding octets_of orders_of read_of command_of
@@ -24,10 +21,6 @@ nothing_goes = refl
 nothing_begins : (course [] took_nothing sent_log).early ≡ false
 unfolding octets_of orders_of read_of command_of
 nothing_begins = refl
-
-gave_goes : stage [] gave sent_log ≡ Going false false
-unfolding octets_of orders_of read_of command_of
-gave_goes = refl
 
 gave_begins : (course [] gave sent_log).early ≡ false
 unfolding octets_of orders_of read_of command_of
