@@ -1,6 +1,7 @@
 -- Statements and rows that are too long for a line in src/, each named after its function and clause.
 pub mod Elementary
 pub mod Rest
+pub mod Told
 pub mod Whole
 pub mod WorkedPackets
 pub mod WorkedParts

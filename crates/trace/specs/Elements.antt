@@ -1,5 +1,5 @@
 -- Elementary events: an event of a script, or within a calm each of its parts. First what all networks share, and then plain mailboxes.
-use Rattle.std.specs.Prelude.{ℕ, zero, suc, ◌-◌, Bool, ◌&&◌, drop, if◌then◌else◌, is_some, List, [], ◌∷◌, ◌++◌, map}
+use Rattle.std.specs.Prelude.{ℕ, zero, suc, ◌-◌, ◌==◌, Bool, false, ◌&&◌, drop, if◌then◌else◌, is_some, List, [], ◌∷◌, ◌++◌, map}
 use Rattle.leader1822.specs.Boxes.{Boxes, inbound_taken, is_running, next_for}
 use Rattle.interface.specs.Host.{Host}
 use Rattle.script.specs.declared.event.RawEvent.{RawEvent}
@@ -70,6 +70,23 @@ elements_in calm (event.Calm rounds) = calm rounds
 elements_in calm (event.Out m) = record { round = 0; event = event.Out m } ∷ []
 elements_in calm (event.Take h) = record { round = 0; event = event.Take h } ∷ []
 elements_in calm (event.Net e) = record { round = 0; event = event.Net e } ∷ []
+
+-- ---- rounds of a calm, of its elementary events
+
+-- the first of these elementary events is of this round
+abbrev pub begins_in : ℕ → List Element → Bool
+begins_in round [] = false
+begins_in round (x ∷ xs) = x.round == round
+
+-- one more before these rounds: in the first of them, or in a round of its own
+abbrev pub with_first : Bool → Element → List (List Element) → List (List Element)
+with_first same x [] = (x ∷ []) ∷ []
+with_first same x (round ∷ rounds) = if same then (x ∷ round) ∷ rounds else (x ∷ []) ∷ round ∷ rounds
+
+-- elementary events, round by round. A round without any is not among them
+abbrev pub by_round : List Element → List (List Element)
+by_round [] = []
+by_round (x ∷ xs) = with_first (begins_in x.round xs) x (by_round xs)
 
 -- what elementary events ask for
 abbrev pub events_of : List Element → List RawEvent

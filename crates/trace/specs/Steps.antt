@@ -1,5 +1,5 @@
 -- What the contracts of private functions say. No public clause cites this file.
-use Rattle.std.specs.Prelude.{◌≡◌, ℕ, true, false, List, drop, Option, Some, None, Result, Ok, Err, IfErr}
+use Rattle.std.specs.Prelude.{◌≡◌, ℕ, true, false, List, ◌∷◌, drop, length, Option, Some, None, Result, Ok, Err, IfErr}
 use Rattle.leader1822.specs.Boxes.{Boxes}
 use Rattle.interface.specs.declared.carrier.CarrierFault.{CarrierFault}
 use Rattle.replay.specs.InTurn.{Happening}
@@ -9,10 +9,10 @@ use Rattle.replay.specs.Steps.{Grew}
 use Rattle.replay.specs.declared.events.ReplayFault.{ReplayFault}
 use Rattle.replay.specs.declared.events.ReplayFault.TheVariants as fault
 use Rattle.script.specs.declared.event.RawEvent.{RawEvent}
-use Rattle.trace.specs.Traces.{EndsEvent, Inside, MayTell, StopsElement, TellsElement, TellsEvent, WritesTrace}
+use Rattle.trace.specs.Traces.{EndsEvent, EndsRound, Inside, MayTell, StopsElement, TellsElement, TellsEvent, TellsRound, WritesTrace}
 use Rattle.interface.specs.Host.{Host}
 use Rattle.script.specs.declared.event.RawEvent.TheVariants as event
-use Rattle.trace.specs.Elements.{from_boxes, is_given, no_course, round_left, taking, takings_from, then_course}
+use Rattle.trace.specs.Elements.{by_round, from_boxes, is_given, no_course, round_left, taking, takings_from, then_course}
 use Rattle.interface.specs.declared.crossing.Crossing.{Crossing}
 use Rattle.trace.specs.Parts.{Down, Waiting, SamePart, moves_host, reaches}
 use Rattle.trace.specs.Texts.{all_members}
@@ -39,6 +39,21 @@ ElementEnds calls inside spot old x r new before after = EndsAs (TellsElement ca
 abbrev pub EventEnds : {C : Type 0} → Calls C → Inside C → C → (Spot × RawEvent) → Result (Unit {0}) ReplayFault → C → Option (List ℕ) → Option (List ℕ) → Type 0
 EventEnds calls inside old e r new before after =
     EndsAs (TellsEvent calls inside) (EndsEvent calls inside (StopsElement calls)) (EndsEvent calls inside (MayTell calls)) old e r new before after
+
+-- the next round of a calm, at a place: its elementary events happened, and the rounds after it are left at the next place; or it ended early
+abbrev pub RoundEnds : {C P : Type 0} → Calls C → Inside C → (C → P → List Element) → Spot → C → P → Result P ReplayFault → C → Option (List ℕ) → Option (List ℕ) → Type 0
+RoundEnds calls inside left spot old place (Ok next) new before after =
+    (round : List Element) × (by_round (left old place) ≡ round ∷ by_round (left new next)) × WritesTrace (TellsRound calls inside spot old round new) before after
+RoundEnds calls inside left spot old place (Err fault.OutOfMemory) new before after =
+    (round : List Element) × (later : List (List Element)) × (by_round (left old place) ≡ round ∷ later)
+    × WritesTrace (EndsRound calls inside (StopsElement calls) spot old round new) before after
+RoundEnds calls inside left spot old place (Err fault.CannotWrite) new before after =
+    (round : List Element) × (later : List (List Element)) × (by_round (left old place) ≡ round ∷ later)
+    × (lines : List (List ℕ)) × EndsRound calls inside (MayTell calls) spot old round new lines
+
+-- all parts have these texts, and this many crossings are in the log
+abbrev pub IsAsBegun : {C : Type 0} → Calls C → Inside C → C → List (List ℕ) → ℕ → Type 0
+IsAsBegun calls inside c parts booked = (inside.members c ≡ parts) × (length (calls.seen c).log ≡ booked)
 
 -- ---- plain mailboxes
 
