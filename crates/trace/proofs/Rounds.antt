@@ -1,6 +1,7 @@
 -- The rounds of calms.
 pub mod Listed
 pub mod Numbered
+pub mod Once
 pub mod Plain
 pub mod Same
 pub mod Settled

@@ -16,6 +16,7 @@ pub use Rattle.trace.proofs.Named.{SameThen, answer_spelled, bits_closed, bits_s
 pub use Rattle.trace.proofs.PlainWords.{Any, bool_spelled, word_closed}
 pub use Rattle.trace.proofs.Rounds.Listed.{AllIn}
 pub use Rattle.trace.proofs.Rounds.Numbered.{IsIn, all_takings_in, then_in}
+pub use Rattle.trace.proofs.Rounds.Once.{event_front, event_once}
 pub use Rattle.trace.proofs.Rounds.Plain.{told}
 pub use Rattle.trace.proofs.Rounds.Settled.{Continues, IsDecided, goes_as, goes_back, plain_settled, same_answer, same_step}
 pub use Rattle.trace.proofs.Rounds.Whole.{AreRounds, Opened, none_told, opened_rounds, says_all}

@@ -1,5 +1,5 @@
 -- Words for worked examples: two hosts of IMP 1, one of IMP 2, and messages from the first to the third.
-use Rattle.std.specs.Prelude.{true, false, List, [], ◌∷◌}
+use Rattle.std.specs.Prelude.{ℕ, true, false, List, [], ◌∷◌}
 use Rattle.std.specs.FinMap as map
 use Rattle.interface.specs.declared.crossing.Answer.TheVariants as answer
 use Rattle.leader1822.specs.Boxes.{Boxes, offered, opening_boxes, with_queue}
@@ -51,3 +51,7 @@ with_down down = record (opening_boxes hosts) { down = down }
 -- the second host stops
 abbrev pub stop : Element
 stop = record { round = 0; event = event.Net (net.HostDown second) }
+
+-- a host takes in this round of a calm
+abbrev pub takes : ℕ → Host → Element
+takes round h = record { round = round; event = event.Take h }

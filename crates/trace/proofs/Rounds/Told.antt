@@ -106,6 +106,9 @@ IsFault (Ok p) q = ⊥
 IsFault (Err f) (Ok q) = ⊥
 IsFault (Err f) (Err g) = f ≡ g
 
+pub is_fault : {P Q : Type 0} (q : Result P ReplayFault) (r : Result Q ReplayFault) (f : ReplayFault) → q ≡ Err f → r ≡ Err f → IsFault q r
+is_fault {P} {Q} q r f one other = subst (λ (q : Result P ReplayFault). IsFault q r) (sym one) (subst (λ (r : Result Q ReplayFault). IsFault {P} {Q} (Err f) r) (sym other) refl)
+
 apart : fault.OutOfMemory ≡ fault.CannotWrite → ⊥
 apart e = absurd (cc)
 
@@ -171,6 +174,19 @@ rounds_end calls inside left spot old mid new place next all a b c h (round, is,
     let k = ends_told (TellsMoving calls inside spot) (TellsStill calls inside spot) old mid new all (by_round (left mid place)) (by_round (left new next)) round a b c is h
     (record { shown = written.shown; is_shown = (written.is_shown, still); written = written.written }) in
     record { shown = k.shown; is_shown = inr k.is_shown; written = k.written }
+
+-- as it is found where a round is over
+pub still_told : {C P : Type 0} (calls : Calls C) (inside : Inside C) (left : C → P → List Element) (spot : Spot) (old mid new : C) (place next : P) (all : List (List Element)) (parts : List (List ℕ)) (booked : ℕ) (a b c : Option (List ℕ))
+    → SoFar (TellsMoving calls inside spot) old all (by_round (left mid place)) mid a b → RoundEnds calls inside left spot mid place (Ok next) new b c → IsAsBegun calls inside mid parts booked → IsAsBegun calls inside new parts booked
+    → WritesTrace (TellsRounds calls inside spot old all new) a c
+still_told calls inside left spot old mid new place next all parts booked a b c h k begun now =
+    rounds_end calls inside left spot old mid new place next all a b c h k (is_still calls inside spot mid new k.0 k.2.shown parts booked k.2.is_shown begun now)
+
+pub moving_told : {C P : Type 0} (calls : Calls C) (inside : Inside C) (left : C → P → List Element) (spot : Spot) (old mid new : C) (place next : P) (all : List (List Element)) (parts : List (List ℕ)) (booked : ℕ) (a b c : Option (List ℕ))
+    → SoFar (TellsMoving calls inside spot) old all (by_round (left mid place)) mid a b → RoundEnds calls inside left spot mid place (Ok next) new b c → IsAsBegun calls inside mid parts booked → (IsAsBegun calls inside new parts booked → ⊥)
+    → SoFar (TellsMoving calls inside spot) old all (by_round (left new next)) new a c
+moving_told calls inside left spot old mid new place next all parts booked a b c h k begun moved =
+    rounds_more calls inside left spot old mid new place next all a b c h k (has_moved calls inside mid new parts booked begun moved)
 
 -- or all happened
 pub rounds_over : {C : Type 0} (calls : Calls C) (inside : Inside C) (spot : Spot) (old new : C) (all left : List (List Element)) (a b : Option (List ℕ)) → left ≡ [] → SoFar (TellsMoving calls inside spot) old all left new a b

@@ -10,7 +10,7 @@ abbrev pub invariant-elements : goal.invariant-elements
 invariant-elements g l =
     let calls : Calls g.row.C.Denot = g.C.Carrier.calls in
     let inside : Inside g.row.C.Denot = g.C.Inspect.inside in
-    InRound calls inside g.C.Inspect.left l.spot l.round l.fn.carrier l.begin l.carrier l.place (g.W.Output.contents l.fn.writer) (g.W.Output.contents l.writer)
+    InRound calls inside g.C.Inspect.left l.spot l.round l.fn.carrier l.initial.place l.carrier l.place (g.W.Output.contents l.fn.writer) (g.W.Output.contents l.writer)
     × (g.W.Output.failed l.writer ≡ false) × IfSome l.known (λ t. t.parts ≡ inside.members l.carrier) × (is_some l.known ≡ true)
 
 -- each has one more after it
