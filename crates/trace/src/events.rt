@@ -230,7 +230,7 @@ fn trace_round<C: Inspect, W: Output>(
             alloc,
             carrier,
             spot,
-            round,
+            element.round,
             &element.event,
             known,
             writer,

@@ -37,14 +37,15 @@ module _ {C : Type 0} (calls : Calls C) (inside : Inside C) (settled : AreSettle
       let one = none_told calls inside spot old new lines h in
       let two = none_told calls inside spot old other more k in
       (one.0 ∙ sym two.0, one.1 ∙ sym two.1)
-  rounds_once (round ∷ rounds) old new other lines more h k = by (opened_rounds calls inside spot old round rounds new lines h) (opened_rounds calls inside spot old round rounds other more k) where
-    by : Opened calls inside spot old round rounds new lines → Opened calls inside spot old round rounds other more → (new ≡ other) × (lines ≡ more)
-    by o p = after o.after p.after where
+  rounds_once (round ∷ rounds) old new other lines more h k = by (λ from ls ms one two. rounds_once rounds from new other ls ms one two) (opened_rounds calls inside spot old round rounds new lines h) (opened_rounds calls inside spot old round rounds other more k) where
+    by : ((from : C) (ls ms : List (List ℕ)) → TellsRounds calls inside spot from rounds new ls → TellsRounds calls inside spot from rounds other ms → (new ≡ other) × (ls ≡ ms))
+        → Opened calls inside spot old round rounds new lines → Opened calls inside spot old round rounds other more → (new ≡ other) × (lines ≡ more)
+    by onward o p = after o.after p.after where
       both : (o.mid ≡ p.mid) × (o.first ≡ p.first)
       both = round_once old round o.mid p.mid o.first p.first o.told p.told
 
       all : o.rest ≡ p.rest → lines ≡ more
-      all same = o.lines ∙ ap₂ (λ (xs ys : List (List ℕ)). xs ++ ys) both.1 same ∙ sym p.lines
+      all same = o.all ∙ ap₂ (λ (xs ys : List (List ℕ)). xs ++ ys) both.1 same ∙ sym p.all
 
       after : (IsStill calls inside old o.mid × (new ≡ o.mid) × (o.rest ≡ [])) ⊎ ((IsStill calls inside old o.mid → ⊥) × TellsRounds calls inside spot o.mid rounds new o.rest)
           → (IsStill calls inside old p.mid × (other ≡ p.mid) × (p.rest ≡ [])) ⊎ ((IsStill calls inside old p.mid → ⊥) × TellsRounds calls inside spot p.mid rounds other p.rest)
@@ -53,7 +54,7 @@ module _ {C : Type 0} (calls : Calls C) (inside : Inside C) (settled : AreSettle
       after (inl (still, last, none)) (inr (moved, later)) = absurd (moved (subst (λ (c : C). IsStill calls inside old c) both.0 still))
       after (inr (moved, later)) (inl (still, last, none)) = absurd (moved (subst (λ (c : C). IsStill calls inside old c) (sym both.0) still))
       after (inr (moved, later)) (inr (apart, others)) =
-          let one = rounds_once rounds p.mid new other o.rest p.rest (subst (λ (c : C). TellsRounds calls inside spot c rounds new o.rest) both.0 later) others in
+          let one = onward p.mid o.rest p.rest (subst (λ (c : C). TellsRounds calls inside spot c rounds new o.rest) both.0 later) others in
           (one.0, all one.1)
 
   -- the round in which memory ran out shows the first part of what it would show
@@ -67,20 +68,23 @@ module _ {C : Type 0} (calls : Calls C) (inside : Inside C) (settled : AreSettle
     by o =
         let (more, is) = round_front old last new o.mid own o.first (subst (λ (c : C). EndsRound calls inside (StopsElement calls) spot c last new own) before.0 goes) o.told in (
           more ++ o.rest,
-          o.lines ∙ ap (λ ls. ls ++ o.rest) is ∙ append_assoc own more o.rest ∙ ap (λ ls. (ls ++ own) ++ (more ++ o.rest)) (sym before.1),
+          o.all ∙ ap (λ ls. ls ++ o.rest) is ∙ append_assoc own more o.rest ∙ ap (λ ls. (ls ++ own) ++ (more ++ o.rest)) (sym before.1),
         )
-  rounds_front (d ∷ done) last left old mid new other front own whole (next, first, rest, (told, moved), later, all) goes k = by (opened_rounds calls inside spot old d (done ++ last ∷ left) other whole k) where
-    by : Opened calls inside spot old d (done ++ last ∷ left) other whole → (more : List (List ℕ)) × (whole ≡ (front ++ own) ++ more)
-    by o = after o.after where
+  rounds_front (d ∷ done) last left old mid new other front own whole (next, first, rest, (told, moved), later, all) goes k =
+      by (λ others. rounds_front done last left next mid new other rest own others.0 later goes others.1) (opened_rounds calls inside spot old d (done ++ last ∷ left) other whole k)
+    where
+    by : ((others : (shown : List (List ℕ)) × TellsRounds calls inside spot next (done ++ last ∷ left) other shown) → (more : List (List ℕ)) × (others.0 ≡ (rest ++ own) ++ more)) → Opened calls inside spot old d (done ++ last ∷ left) other whole
+        → (more : List (List ℕ)) × (whole ≡ (front ++ own) ++ more)
+    by onward o = after o.after where
       both : (next ≡ o.mid) × (first ≡ o.first)
       both = round_once old d next o.mid first o.first told o.told
 
       after : (IsStill calls inside old o.mid × (other ≡ o.mid) × (o.rest ≡ [])) ⊎ ((IsStill calls inside old o.mid → ⊥) × TellsRounds calls inside spot o.mid (done ++ last ∷ left) other o.rest) → (more : List (List ℕ)) × (whole ≡ (front ++ own) ++ more)
       after (inl (still, end, none)) = absurd (moved (subst (λ (c : C). IsStill calls inside old c) (sym both.0) still))
       after (inr (apart, others)) =
-          let (more, is) = rounds_front done last left next mid new other rest own o.rest later goes (subst (λ (c : C). TellsRounds calls inside spot c (done ++ last ∷ left) other o.rest) (sym both.0) others) in (
+          let (more, is) = onward (o.rest, subst (λ (c : C). TellsRounds calls inside spot c (done ++ last ∷ left) other o.rest) (sym both.0) others) in (
             more,
-            o.lines ∙ ap₂ (λ (xs ys : List (List ℕ)). xs ++ ys) (sym both.1) is ∙ sym (append_assoc first (rest ++ own) more) ∙ ap (λ ls. ls ++ more) (sym (append_assoc first rest own))
+            o.all ∙ ap₂ (λ (xs ys : List (List ℕ)). xs ++ ys) (sym both.1) is ∙ sym (append_assoc first (rest ++ own) more) ∙ ap (λ ls. ls ++ more) (sym (append_assoc first rest own))
                 ∙ ap (λ ls. (ls ++ own) ++ more) (sym all),
           )
 

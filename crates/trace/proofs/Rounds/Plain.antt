@@ -42,16 +42,16 @@ then_grows b first next h k =
     omega (arith, h, k, sum)
 
 takings_grow : (round : ℕ) (h : Host) (times : ℕ) (b : Boxes) → Grows b (takings from_boxes round h times b)
-takings_grow round h zero b = refl
+takings_grow round h zero b = omega arith
 takings_grow round h (suc times) b = by (λ c. takings_grow round h times c) (is_given b h) refl where
   by : ((c : Boxes) → Grows c (takings from_boxes round h times c)) → (given : Bool) → is_given b h ≡ given → Grows b (takings from_boxes round h (suc times) b)
   by more true e =
       subst (λ (c : Course Boxes). Grows b c) (sym (one_given from_boxes round h times b e))
-      (then_grows b (taking from_boxes round h b) (takings from_boxes round h times) (given_log b h e) (more (inbound_taken b h (next_for b h))))
-  by more false e = subst (λ (c : Course Boxes). Grows b c) (sym (none_given from_boxes round h times b e)) refl
+      (then_grows b (taking from_boxes round h b) (takings from_boxes round h times) (let one = given_log b h e in omega (arith, one)) (more (inbound_taken b h (next_for b h))))
+  by more false e = subst (λ (c : Course Boxes). Grows b c) (sym (none_given from_boxes round h times b e)) (omega arith)
 
 all_grow : (round : ℕ) (hosts : List Host) (b : Boxes) → Grows b (all_takings from_boxes round hosts b)
-all_grow round [] b = refl
+all_grow round [] b = omega arith
 all_grow round (h ∷ hosts) b =
     let first : Course Boxes = takings from_boxes round h 16 b in
     then_grows b first (all_takings from_boxes round hosts) (takings_grow round h 16 b) (all_grow round hosts first.left)

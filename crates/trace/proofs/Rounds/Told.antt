@@ -107,7 +107,7 @@ IsFault (Err f) (Ok q) = ⊥
 IsFault (Err f) (Err g) = f ≡ g
 
 pub is_fault : {P Q : Type 0} (q : Result P ReplayFault) (r : Result Q ReplayFault) (f : ReplayFault) → q ≡ Err f → r ≡ Err f → IsFault q r
-is_fault {P} {Q} q r f one other = subst (λ (q : Result P ReplayFault). IsFault q r) (sym one) (subst (λ (r : Result Q ReplayFault). IsFault {P} {Q} (Err f) r) (sym other) refl)
+is_fault {P} {Q} q r f one other = subst (λ (q : Result P ReplayFault). IsFault q r) (sym one) (subst (λ (r : Result Q ReplayFault). IsFault {P = P} {Q = Q} (Err f) r) (sym other) refl)
 
 apart : fault.OutOfMemory ≡ fault.CannotWrite → ⊥
 apart e = absurd (cc)

@@ -28,7 +28,7 @@ pub record Opened {C : Type 0} (calls : Calls C) (inside : Inside C) (spot : Spo
   pub rest : List (List ℕ)
   pub told : TellsRound calls inside spot old round mid first
   pub after : (IsStill calls inside old mid × (new ≡ mid) × (rest ≡ [])) ⊎ ((IsStill calls inside old mid → ⊥) × TellsRounds calls inside spot mid rounds new rest)
-  pub lines : lines ≡ first ++ rest
+  pub all : lines ≡ first ++ rest
 
 same_first : {X : Type 0} {x y : X} {xs ys : List X} → x ∷ xs ≡ y ∷ ys → x ≡ y
 same_first e = cc
@@ -39,7 +39,7 @@ same_rest e = cc
 pub opened_rounds : {C : Type 0} (calls : Calls C) (inside : Inside C) (spot : Spot) (old : C) (round : List Element) (rounds : List (List Element)) (new : C) (lines : List (List ℕ)) → TellsRounds calls inside spot old (round ∷ rounds) new lines
     → Opened calls inside spot old round rounds new lines
 opened_rounds calls inside spot old round rounds new lines (inl (mid, first, rest, (told, moved), later, all)) =
-    record { mid = mid; first = first; rest = rest; told = told; after = inr (moved, inl later); lines = all }
+    record { mid = mid; first = first; rest = rest; told = told; after = inr (moved, inl later); all = all }
 opened_rounds {C} calls inside spot old round rounds new lines (inr h) = by h.done h.last h.left h.parts h.mid h.front h.before h.own h.goes h.lines where
   by : (done : List (List Element)) (last : List Element) (left : List (List Element)) → round ∷ rounds ≡ done ++ last ∷ left → (from : C) (front : List (List ℕ)) → InTurn (TellsMoving calls inside spot) old done from front → (own : List (List ℕ))
       → TellsStill calls inside spot from last new own → lines ≡ front ++ own → Opened calls inside spot old round rounds new lines
@@ -52,7 +52,7 @@ opened_rounds {C} calls inside spot old round rounds new lines (inr h) = by h.do
         rest = [];
         told = here.0;
         after = inl (here.1, refl, refl);
-        lines = is ∙ ap (λ ls. ls ++ own) before.1 ∙ sym (append-nil own);
+        all = is ∙ ap (λ ls. ls ++ own) before.1 ∙ sym (append-nil own);
       }
   by (d ∷ done) last left parts from front (mid, first, rest, one, more, all) own goes is = record {
     mid = mid;
@@ -60,7 +60,7 @@ opened_rounds {C} calls inside spot old round rounds new lines (inr h) = by h.do
     rest = rest ++ own;
     told = subst (λ (r : List Element). TellsRound calls inside spot old r mid first) (sym (same_first parts)) one.0;
     after = inr (one.1, inr (record { done = done; last = last; left = left; parts = same_rest parts; mid = from; front = rest; before = more; own = own; goes = goes; lines = refl }));
-    lines = is ∙ ap (λ ls. ls ++ own) all ∙ append_assoc first rest own;
+    all = is ∙ ap (λ ls. ls ++ own) all ∙ append_assoc first rest own;
   }
 
 -- none is left
@@ -127,14 +127,14 @@ module _ {C S : Type 0} (x : Traced C S) (inside : Inside C) (whole : ℕ → S 
   -- after a round that left everything as it was, so do all
   nothing_more : (round times : ℕ) (old : C) (r : Result (Unit {0}) CarrierFault) (new : C) → x.Holds old → Goes x old (whole round (x.view old)) (Ok tt) old → Rounds x.calls times old r new → GoesOn r → (r ≡ Ok tt) × (new ≡ old)
   nothing_more round zero old r new holds still k goes = k
-  nothing_more round (suc times) old r new holds still k goes = by h.mid h.goes h.more where
+  nothing_more round (suc times) old r new holds still k goes = by (λ more. nothing_more round times old r new holds still more goes) h.mid h.goes h.more where
     h : Next round times old r new
     h = next round times old r new holds k goes
 
-    by : (mid : C) → Goes x old (whole round (x.view old)) (Ok tt) mid → Rounds x.calls times mid r new → (r ≡ Ok tt) × (new ≡ old)
-    by mid g more =
+    by : (Rounds x.calls times old r new → (r ≡ Ok tt) × (new ≡ old)) → (mid : C) → Goes x old (whole round (x.view old)) (Ok tt) mid → Rounds x.calls times mid r new → (r ≡ Ok tt) × (new ≡ old)
+    by others mid g more =
         let one = replays_once x.calls are.settled old (events_of (whole round (x.view old)).elements) mid old (shown_crossings g.run.crossings) (shown_crossings still.run.crossings) g.run.replays still.run.replays in
-        nothing_more round times old r new holds still (subst (λ (c : C). Rounds x.calls times c r new) one.carriers more) goes
+        others (subst (λ (c : C). Rounds x.calls times c r new) one.carriers more)
 
   -- what is told of rounds, and what all of them leave
   record Says (spot : Spot) (old new : C) (lines : List (List ℕ)) (r : Result (Unit {0}) CarrierFault) (other : C) : Type 0 where
@@ -164,61 +164,65 @@ module _ {C S : Type 0} (x : Traced C S) (inside : Inside C) (whole : ℕ → S 
   told_rounds spot round zero old new other lines r holds k goes t =
       let none : (new ≡ old) × (lines ≡ []) = none_told x.calls inside spot old new lines t in
       record { told = []; tells = none; run = subst (λ (c : C). Run x.calls old [] c) (sym k.1) (run_none x.calls old); same = k.1 ∙ sym none.0; ok = k.0 }
-  told_rounds spot round (suc times) old new other lines r holds k goes t = by (whole round (x.view old)).elements refl t where
-    h : Next round times old r other
-    h = next round times old r other holds k goes
+  told_rounds spot round (suc times) old new other lines r holds k goes t =
+      by (λ mid ls kept more tells. told_rounds spot (suc round) times mid new other ls r kept more goes tells) (whole round (x.view old)).elements refl t
+    where
+      h : Next round times old r other
+      h = next round times old r other holds k goes
 
-    later : List Element
-    later = (rounds_from whole (suc round) times (whole round (x.view old)).left).elements
+      later : List Element
+      later = (rounds_from whole (suc round) times (whole round (x.view old)).left).elements
 
-    -- the rounds after the first one
-    onward : (from : C) (ls : List (List ℕ)) → from ≡ h.mid → TellsRounds x.calls inside spot from (by_round later) new ls → Says spot h.mid new ls r other
-    onward from ls same more =
-        told_rounds spot (suc round) times h.mid new other ls r h.goes.holds h.more goes
-        (subst (λ (s : S). TellsRounds x.calls inside spot h.mid (by_round (rounds_from whole (suc round) times s).elements) new ls) (sym h.goes.left)
-        (subst (λ (c : C). TellsRounds x.calls inside spot c (by_round later) new ls) same more))
+      -- what is told of the rounds after the first one
+      onward : ((mid : C) (ls : List (List ℕ)) → x.Holds mid → Rounds x.calls times mid r other → TellsRounds x.calls inside spot mid (by_round (rounds_from whole (suc round) times (x.view mid)).elements) new ls → Says spot mid new ls r other)
+          → (from : C) (ls : List (List ℕ)) → from ≡ h.mid → TellsRounds x.calls inside spot from (by_round later) new ls → Says spot h.mid new ls r other
+      onward others from ls same more =
+          others h.mid ls h.goes.holds h.more
+          (subst (λ (s : S). TellsRounds x.calls inside spot h.mid (by_round (rounds_from whole (suc round) times s).elements) new ls) (sym h.goes.left)
+          (subst (λ (c : C). TellsRounds x.calls inside spot c (by_round later) new ls) same more))
 
-    by : (es : List Element) → (whole round (x.view old)).elements ≡ es → TellsRounds x.calls inside spot old (by_round ((whole round (x.view old)).elements ++ later)) new lines → Says spot old new lines r other
-    by [] none t =
-        let stays : h.mid ≡ old = (subst (λ (es : List Element). Replays x.calls old (events_of es) h.mid (shown_crossings h.goes.run.crossings)) none h.goes.run.replays).0 in
-        skipped spot old h.mid new other lines r stays
-        (onward old lines (sym stays) (subst (λ (es : List Element). TellsRounds x.calls inside spot old (by_round (es ++ later)) new lines) none t))
-    by (y ∷ es) some t = of (opened_rounds x.calls inside spot old (y ∷ es) (by_round later) new lines apart) where
-      all : AllIn round (y ∷ es)
-      all = subst (AllIn round) some (are.numbered round (x.view old))
+      by : ((mid : C) (ls : List (List ℕ)) → x.Holds mid → Rounds x.calls times mid r other → TellsRounds x.calls inside spot mid (by_round (rounds_from whole (suc round) times (x.view mid)).elements) new ls → Says spot mid new ls r other)
+          → (es : List Element) → (whole round (x.view old)).elements ≡ es → TellsRounds x.calls inside spot old (by_round ((whole round (x.view old)).elements ++ later)) new lines → Says spot old new lines r other
+      by others [] none t =
+          let stays : h.mid ≡ old = (subst (λ (es : List Element). Replays x.calls old (events_of es) h.mid (shown_crossings h.goes.run.crossings)) none h.goes.run.replays).0 in
+          skipped spot old h.mid new other lines r stays
+          (onward others old lines (sym stays) (subst (λ (es : List Element). TellsRounds x.calls inside spot old (by_round (es ++ later)) new lines) none t))
+      by others (y ∷ es) some t = of (opened_rounds x.calls inside spot old (y ∷ es) (by_round later) new lines apart) where
+        all : AllIn round (y ∷ es)
+        all = subst (AllIn round) some (are.numbered round (x.view old))
 
-      apart : TellsRounds x.calls inside spot old ((y ∷ es) ∷ by_round later) new lines
-      apart =
-          subst (λ (rounds : List (List Element)). TellsRounds x.calls inside spot old rounds new lines)
-          (ap (λ (es : List Element). by_round (es ++ later)) some ∙ whole_round round y es later all (later_begins whole are.numbered round (suc round) times (whole round (x.view old)).left (omega arith))) t
+        apart : TellsRounds x.calls inside spot old ((y ∷ es) ∷ by_round later) new lines
+        apart =
+            subst (λ (rounds : List (List Element)). TellsRounds x.calls inside spot old rounds new lines)
+            (ap (λ (es : List Element). by_round (es ++ later)) some ∙ whole_round round y es later all (later_begins whole are.numbered round (suc round) times (whole round (x.view old)).left (omega arith))) t
 
-      run : Run x.calls old (events_of (y ∷ es)) h.mid
-      run = subst (λ (es : List Element). Run x.calls old (events_of es) h.mid) some h.goes.run
+        run : Run x.calls old (events_of (y ∷ es)) h.mid
+        run = subst (λ (es : List Element). Run x.calls old (events_of es) h.mid) some h.goes.run
 
-      of : Opened x.calls inside spot old (y ∷ es) (by_round later) new lines → Says spot old new lines r other
-      of o = at o.after where
-        replayed : (shown : List Shown) × Replays x.calls old (events_of (y ∷ es)) o.mid shown
-        replayed = round_replays x.calls inside spot old o.mid (y ∷ es) o.first o.told
+        of : Opened x.calls inside spot old (y ∷ es) (by_round later) new lines → Says spot old new lines r other
+        of o = at o.after where
+          replayed : (shown : List Shown) × Replays x.calls old (events_of (y ∷ es)) o.mid shown
+          replayed = round_replays x.calls inside spot old o.mid (y ∷ es) o.first o.told
 
-        here : o.mid ≡ h.mid
-        here = (replays_once x.calls are.settled old (events_of (y ∷ es)) o.mid h.mid replayed.0 (shown_crossings run.crossings) replayed.1 run.replays).carriers
+          here : o.mid ≡ h.mid
+          here = (replays_once x.calls are.settled old (events_of (y ∷ es)) o.mid h.mid replayed.0 (shown_crossings run.crossings) replayed.1 run.replays).carriers
 
-        told : TellsRound x.calls inside spot old (y ∷ es) h.mid o.first
-        told = subst (λ (c : C). TellsRound x.calls inside spot old (y ∷ es) c o.first) here o.told
+          told : TellsRound x.calls inside spot old (y ∷ es) h.mid o.first
+          told = subst (λ (c : C). TellsRound x.calls inside spot old (y ∷ es) c o.first) here o.told
 
-        at : (IsStill x.calls inside old o.mid × (new ≡ o.mid) × (o.rest ≡ [])) ⊎ ((IsStill x.calls inside old o.mid → ⊥) × TellsRounds x.calls inside spot o.mid (by_round later) new o.rest) → Says spot old new lines r other
-        at (inl (still, last, none)) =
-            let stays : h.mid ≡ old = are.stays round old h.mid holds h.goes (subst (λ (c : C). IsStill x.calls inside old c) here still) in
-            let end = nothing_more round times old r other holds (subst (λ (c : C). Goes x old (whole round (x.view old)) (Ok tt) c) stays h.goes) (subst (λ (c : C). Rounds x.calls times c r other) stays h.more) goes in
-            joined spot old h.mid new other (y ∷ es) o.first o.rest lines r told run o.lines
-            (record {
-              told = [];
-              tells = (last ∙ here, none);
-              run = subst (λ (c : C). Run x.calls h.mid [] c) (stays ∙ sym end.1) (run_none x.calls h.mid);
-              same = end.1 ∙ sym stays ∙ sym here ∙ sym last;
-              ok = end.0;
-            })
-        at (inr (moved, more)) = joined spot old h.mid new other (y ∷ es) o.first o.rest lines r told run o.lines (onward o.mid o.rest here more)
+          at : (IsStill x.calls inside old o.mid × (new ≡ o.mid) × (o.rest ≡ [])) ⊎ ((IsStill x.calls inside old o.mid → ⊥) × TellsRounds x.calls inside spot o.mid (by_round later) new o.rest) → Says spot old new lines r other
+          at (inl (still, last, none)) =
+              let stays : h.mid ≡ old = are.stays round old h.mid holds h.goes (subst (λ (c : C). IsStill x.calls inside old c) here still) in
+              let end = nothing_more round times old r other holds (subst (λ (c : C). Goes x old (whole round (x.view old)) (Ok tt) c) stays h.goes) (subst (λ (c : C). Rounds x.calls times c r other) stays h.more) goes in
+              joined spot old h.mid new other (y ∷ es) o.first o.rest lines r told run o.all
+              (record {
+                told = [];
+                tells = (last ∙ here, none);
+                run = subst (λ (c : C). Run x.calls h.mid [] c) (stays ∙ sym end.1) (run_none x.calls h.mid);
+                same = end.1 ∙ sym stays ∙ sym here ∙ sym last;
+                ok = end.0;
+              })
+          at (inr (moved, more)) = joined spot old h.mid new other (y ∷ es) o.first o.rest lines r told run o.all (onward others o.mid o.rest here more)
 
   -- an event of one call is told whole
   one_told : (spot : Spot) (old new other : C) (e : RawEvent) (lines : List (List ℕ)) (shown : List Shown) → TellsRounds x.calls inside spot old ((record { round = 0; event = e } ∷ []) ∷ []) new lines → Happens x.calls old e other shown
@@ -238,7 +242,7 @@ module _ {C S : Type 0} (x : Traced C S) (inside : Inside C) (whole : ℕ → S 
 
       at : (new ≡ o.mid) × (o.rest ≡ []) → SaysAll x.calls inside spot old new lines other shown
       at (last, none) =
-          let whole : lines ≡ o.first = o.lines ∙ ap (λ ls. o.first ++ ls) none ∙ append-nil o.first in
+          let whole : lines ≡ o.first = o.all ∙ ap (λ ls. o.first ++ ls) none ∙ append-nil o.first in
           let (own, replayed) = round_replays x.calls inside spot old o.mid (one ∷ []) o.first o.told in
           let same = replays_once x.calls are.settled old (e ∷ []) other o.mid shown own alone replayed in
           record {
