@@ -8,3 +8,4 @@ pub mod WorkedParts
 pub mod WorkedUntold
 pub mod WorkedCalms
 pub mod WorkedPlaces
+pub mod WorkedTold

@@ -1,24 +1,16 @@
 -- Events are traced one after the other, and one of them may be the last.
-use Rattle.std.proofs.Common.{◌≡◌, ℕ, suc, ◌<◌, ◌≤◌, ◌+◌, List, [], ◌∷◌, ◌++◌, drop, get_or, length, Option, Some, Result, Ok, Err, is_ok, false, arith, refl, sym, ap, subst, ◌∙◌}
-use Rattle.std.proofs.lemmas.Bool.{false≢true}
+use Rattle.std.proofs.Common.{◌≡◌, ℕ, suc, ◌<◌, ◌≤◌, ◌+◌, List, [], ◌∷◌, ◌++◌, drop, get_or, length, Option, arith, refl, sym, ap, subst, ◌∙◌}
 use Rattle.std.proofs.lemmas.List.{append_assoc, append-nil, drop_all, drop_more}
 use Rattle.std.specs.Io.KnownBytes.{Appends}
 use Rattle.replay.specs.InTurn.{EndsInTurn, Happening, InTurn, text_of}
-use Rattle.replay.specs.declared.events.ReplayFault.{ReplayFault}
 use Rattle.replay.specs.declared.events.ReplayFault.TheVariants as fault
 use Rattle.replay.proofs.lemmas.{appends_more, appends_none, last_shown, last_written, one_written}
-use Rattle.replay.specs.Replay.{IsOneCall}
-use Rattle.interface.specs.Calls.{Calls}
 use Rattle.script.specs.Input.{ended_line}
 use Rattle.topology.specs.Topology.{TopologyFields}
 use Rattle.trace.specs.Texts.{object, opening_line}
-use Rattle.script.specs.declared.event.RawEvent.{RawEvent}
 use Rattle.script.specs.declared.event.RawEvent.TheVariants as event
-use Rattle.trace.specs.declared.element.Element.{Element}
 use Rattle.trace.specs.declared.element.Spot.{Spot}
-use Rattle.trace.specs.Elements.{elements_in}
-use Rattle.trace.specs.Steps.{ElementEnds, EndsAs, EventEnds}
-use Rattle.trace.specs.Traces.{AfterOpening, GoesOnWith, Inside, MayTell, StopsElement, TellsElement, WritesTrace, numbered_from}
+use Rattle.trace.specs.Traces.{AfterOpening, Inside, WritesTrace, numbered_from}
 
 -- of these events the first ones happened, their lines are written, and those are left
 pub record SoFar {S E : Type 0} (Happens : Happening S E (List ℕ)) (old : S) (all left : List E) (now : S) (before after : Option (List ℕ)) : Type 0 where

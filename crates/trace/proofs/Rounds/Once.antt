@@ -3,7 +3,7 @@ use Rattle.std.proofs.Common.{◌≡◌, ◌⊎◌, inl, inr, ℕ, List, [], ◌
 use Rattle.std.proofs.lemmas.List.{append_assoc, append-nil}
 use Rattle.interface.specs.Calls.{Calls}
 use Rattle.replay.proofs.lemmas.{OneReplay, ends_front, in_turn_once, replays_once}
-use Rattle.replay.specs.InTurn.{EndsInTurn, HappensOnce, InTurn, ShowsFront}
+use Rattle.replay.specs.InTurn.{HappensOnce, InTurn, ShowsFront}
 use Rattle.replay.specs.Output.{Shown}
 use Rattle.replay.specs.Settled.{AreSettled}
 use Rattle.trace.specs.declared.element.Element.{Element}
@@ -73,20 +73,20 @@ module _ {C : Type 0} (calls : Calls C) (inside : Inside C) (settled : AreSettle
   rounds_front (d ∷ done) last left old mid new other front own whole (next, first, rest, (told, moved), later, all) goes k =
       by (λ others. rounds_front done last left next mid new other rest own others.0 later goes others.1) (opened_rounds calls inside spot old d (done ++ last ∷ left) other whole k)
     where
-    by : ((others : (shown : List (List ℕ)) × TellsRounds calls inside spot next (done ++ last ∷ left) other shown) → (more : List (List ℕ)) × (others.0 ≡ (rest ++ own) ++ more)) → Opened calls inside spot old d (done ++ last ∷ left) other whole
-        → (more : List (List ℕ)) × (whole ≡ (front ++ own) ++ more)
-    by onward o = after o.after where
-      both : (next ≡ o.mid) × (first ≡ o.first)
-      both = round_once old d next o.mid first o.first told o.told
+      by : ((others : (shown : List (List ℕ)) × TellsRounds calls inside spot next (done ++ last ∷ left) other shown) → (more : List (List ℕ)) × (others.0 ≡ (rest ++ own) ++ more)) → Opened calls inside spot old d (done ++ last ∷ left) other whole
+          → (more : List (List ℕ)) × (whole ≡ (front ++ own) ++ more)
+      by onward o = after o.after where
+        both : (next ≡ o.mid) × (first ≡ o.first)
+        both = round_once old d next o.mid first o.first told o.told
 
-      after : (IsStill calls inside old o.mid × (other ≡ o.mid) × (o.rest ≡ [])) ⊎ ((IsStill calls inside old o.mid → ⊥) × TellsRounds calls inside spot o.mid (done ++ last ∷ left) other o.rest) → (more : List (List ℕ)) × (whole ≡ (front ++ own) ++ more)
-      after (inl (still, end, none)) = absurd (moved (subst (λ (c : C). IsStill calls inside old c) (sym both.0) still))
-      after (inr (apart, others)) =
-          let (more, is) = onward (o.rest, subst (λ (c : C). TellsRounds calls inside spot c (done ++ last ∷ left) other o.rest) (sym both.0) others) in (
-            more,
-            o.all ∙ ap₂ (λ (xs ys : List (List ℕ)). xs ++ ys) (sym both.1) is ∙ sym (append_assoc first (rest ++ own) more) ∙ ap (λ ls. ls ++ more) (sym (append_assoc first rest own))
-                ∙ ap (λ ls. (ls ++ own) ++ more) (sym all),
-          )
+        after : (IsStill calls inside old o.mid × (other ≡ o.mid) × (o.rest ≡ [])) ⊎ ((IsStill calls inside old o.mid → ⊥) × TellsRounds calls inside spot o.mid (done ++ last ∷ left) other o.rest) → (more : List (List ℕ)) × (whole ≡ (front ++ own) ++ more)
+        after (inl (still, end, none)) = absurd (moved (subst (λ (c : C). IsStill calls inside old c) (sym both.0) still))
+        after (inr (apart, others)) =
+            let (more, is) = onward (o.rest, subst (λ (c : C). TellsRounds calls inside spot c (done ++ last ∷ left) other o.rest) (sym both.0) others) in (
+              more,
+              o.all ∙ ap₂ (λ (xs ys : List (List ℕ)). xs ++ ys) (sym both.1) is ∙ sym (append_assoc first (rest ++ own) more) ∙ ap (λ ls. ls ++ more) (sym (append_assoc first rest own))
+                  ∙ ap (λ ls. (ls ++ own) ++ more) (sym all),
+            )
 
 -- ---- an event
 

@@ -1,7 +1,6 @@
 -- What is told of a calm of plain mailboxes says all of it: no round of theirs is still.
-use Rattle.std.proofs.Common.{◌≡◌, ◌&&◌, ◌+◌, ℕ, zero, suc, Bool, true, false, List, [], ◌∷◌, ◌++◌, length, Option, Some, None, Result, Ok, is_some, arith, refl, sym, ap, ◌∙◌, subst}
+use Rattle.std.proofs.Common.{◌≡◌, ◌&&◌, ◌+◌, ℕ, zero, suc, Bool, true, false, List, [], ◌∷◌, ◌++◌, length, Option, Some, None, Ok, is_some, arith, refl, sym, ap, subst}
 use Rattle.std.proofs.lemmas.List.{length-append}
-use Rattle.interface.specs.Calls.{crossing_of}
 use Rattle.interface.specs.Host.{Host}
 use Rattle.interface.specs.declared.Inbound.{Inbound}
 use Rattle.interface.specs.declared.crossing.Crossing.{Crossing}

@@ -1,5 +1,5 @@
 -- A calm is traced round by round.
-use Rattle.std.proofs.Common.{◌≡◌, ◌≢◌, ◌⊎◌, inl, inr, ℕ, ◌<◌, Bool, List, [], ◌∷◌, ◌++◌, length, Option, Some, Result, Ok, Err, is_ok, false, true, arith, refl, reverse, sym, ap, subst, ◌∙◌, suc}
+use Rattle.std.proofs.Common.{◌≡◌, ◌⊎◌, inl, inr, ℕ, ◌<◌, Bool, List, [], ◌∷◌, ◌++◌, length, Option, Some, Result, Ok, Err, false, true, arith, refl, reverse, sym, ap, subst, ◌∙◌, suc}
 use Rattle.std.proofs.lemmas.Bool.{eq-eqb, eqb-true}
 use Rattle.std.proofs.lemmas.List.{append_assoc, append-nil}
 use Rattle.interface.specs.Calls.{Calls}
@@ -18,7 +18,7 @@ use Rattle.trace.specs.Steps.{ElementEnds, EndsAs, EventEnds, IsAsBegun, RoundEn
 use Rattle.trace.specs.Traces.{EndsRound, GoesOnWith, Inside, IsStill, MayTell, StopsElement, TellsElement, TellsMoving, TellsRound, TellsRounds, TellsStill, WritesTrace}
 use Rattle.trace.proofs.Rounds.Listed.{AllIn, Begins, one_more_in, round_begun, round_over}
 use Rattle.trace.proofs.Rounds.Same.{as_long, grew_or_not, same_or_not}
-use Rattle.trace.proofs.Telling.{SoFar, all_told, ends_told, fails_told, none_yet, one_more}
+use Rattle.trace.proofs.Telling.{SoFar, all_told, ends_told, fails_told, one_more}
 
 -- ---- a round that is still, or is not
 

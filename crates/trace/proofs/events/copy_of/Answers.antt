@@ -1,4 +1,4 @@
-use Rattle.std.proofs.Common.{◌≡◌, ◌∙◌, ap, sym}
+use Rattle.std.proofs.Common.{◌∙◌, sym}
 use Rattle.std.specs.List.{each_same}
 use Rattle.trace.proofs.Rounds.Same.{alike}
 use Rattle.trace.proofs.events.copy_of.Goals as goal

@@ -1,4 +1,4 @@
-use Rattle.std.proofs.Common.{◌≡◌, Err, List, ap, refl, rules, subst, sym}
+use Rattle.std.proofs.Common.{◌≡◌, Err, List, refl, rules, subst, sym}
 use Rattle.interface.specs.Calls.{Calls}
 use Rattle.replay.specs.declared.events.ReplayFault.TheVariants as fault
 use Rattle.script.specs.declared.event.RawEvent.TheVariants as event
@@ -7,7 +7,7 @@ use Rattle.trace.specs.Steps.{EventEnds, RoundEnds}
 use Rattle.trace.specs.Traces.{Inside, TellsMoving}
 use Rattle.trace.specs.declared.element.Element.{Element}
 use Rattle.trace.proofs.Telling.{SoFar, none_yet}
-use Rattle.trace.proofs.Rounds.Told.{is_fault, moving_told, round_stops, rounds_early, rounds_over, still_told}
+use Rattle.trace.proofs.Rounds.Told.{is_fault, moving_told, round_stops, rounds_early, still_told}
 use Rattle.trace.proofs.events.trace_calm.Goals as goal
 
 pub rounds-init : goal.rounds-init
