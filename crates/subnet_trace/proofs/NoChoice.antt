@@ -1,6 +1,6 @@
 -- The calls of a subnet leave a replay no choice.
 use Rattle.std.proofs.Common.{true}
-use Rattle.subnet_trace.proofs.Common.{◌≡◌, ◌||◌, ◌++◌, Bool, false, [], ◌∷◌, Option, Some, None, Result, Ok, Err, refl, sym, ap, subst, ◌∙◌, false≢true, Host, GoesOn, outcome_of, Fails, Kept, refusal_of, running, subnet_calls, is_halt, is_memory, CarrierFault, Inbound}
+use Rattle.subnet_trace.proofs.Common.{◌≡◌, ◌||◌, Bool, false, [], Option, None, Result, Ok, Err, sym, ap, subst, ◌∙◌, false≢true, Host, GoesOn, outcome_of, Fails, Kept, refusal_of, running, subnet_calls, is_halt, is_memory, CarrierFault, Inbound}
 use Rattle.replay.specs.Settled.{AreSettled, Grows, SameEnd}
 use Rattle.subnet.specs.Calls.{Decided}
 use Rattle.subnet.specs.Calls as subnet

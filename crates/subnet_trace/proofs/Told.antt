@@ -1,10 +1,9 @@
 -- What is told of a calm of a subnet says all of it: a still round leaves the subnet as it was, and so do all rounds after it.
-use Rattle.subnet_trace.proofs.Common.{◌≡◌, ◌⊎◌, inl, inr, ◌==◌, ◌<◌, ◌≤◌, ◌+◌, ℕ, zero, suc, nat_lt, Bool, false, List, [], ◌∷◌, ◌++◌, if◌then◌else◌, filter, length, length-map, map, Option, None, Result, Ok, is_some, refl, sym, ap, ◌∙◌, subst, arith, false≢true, nat_tests, range_with_len, Host, Crossing, Direction, NetEvent, Shown, GoesOn, Happens, RawEvent, Kept, running, stepped, is_imp, Net, opening_subnet, ends_of, subnet_calls, Ends, Imp, Line, all_parts, is_part, part_name, parts_members, all_refreshing, all_turning, calling, can_resend, carrying, delivering, from_subnet, is_heard, is_working, live_frames, numbers_from, refreshing, round_from_line, round_of, round_of_hosts, sending, telling, turning, Course, no_course, then_course, IsOneNetwork, IsTold, SameTexts, subnet_inside, member}
+use Rattle.subnet_trace.proofs.Common.{◌≡◌, ◌⊎◌, inl, inr, ◌==◌, ◌<◌, ◌≤◌, ◌+◌, ℕ, zero, suc, nat_lt, Bool, false, List, [], ◌∷◌, ◌++◌, if◌then◌else◌, filter, length, length-map, map, Option, None, is_some, refl, sym, ap, ◌∙◌, arith, false≢true, nat_tests, range_with_len, Host, Crossing, Direction, NetEvent, Shown, Happens, RawEvent, Kept, is_imp, Net, opening_subnet, ends_of, subnet_calls, Ends, Imp, Line, all_parts, is_part, part_name, parts_members, all_refreshing, all_turning, calling, can_resend, carrying, delivering, from_subnet, is_heard, is_working, live_frames, numbers_from, refreshing, round_from_line, round_of, round_of_hosts, sending, telling, turning, Course, no_course, then_course, IsOneNetwork, IsTold, SameTexts, subnet_inside, member}
 use Rattle.std.proofs.Common.{true, slice_index_or}
 use Rattle.std.proofs.lemmas.Bool.{eqb-true}
 use Rattle.interface.specs.declared.NetEvent.TheVariants as net
 use Rattle.interface.specs.declared.event.Direction.TheVariants as way
-use Rattle.replay.specs.Replay.{Round}
 use Rattle.script.specs.declared.event.RawEvent.TheVariants as event
 use Rattle.subnet.specs.Opening.{hosts_from}
 use Rattle.subnet_trace.specs.Elements.{dropping}
@@ -14,7 +13,7 @@ use Rattle.subnet_trace.proofs.Calms.{Held, goes_round, held_by, traced}
 use Rattle.subnet_trace.proofs.NoChoice.{subnet_settled}
 use Rattle.subnet_trace.proofs.Reached.{Holds, one_opening, reached_holds, round_holds}
 use Rattle.subnet_trace.proofs.Whole.{whole}
-use Rattle.trace.proofs.lemmas.{AllIn, AllRoundsGo, AreRounds, Goes, IsIn, Traced, all_takings_in, member_once, says_all, then_in}
+use Rattle.trace.proofs.lemmas.{AllRoundsGo, AreRounds, Goes, IsIn, Traced, all_takings_in, member_once, says_all, then_in}
 use Rattle.trace.specs.declared.element.Spot.{Spot}
 use Rattle.trace.specs.Traces.{IsStill, SaysAll, TellsEvent}
 use Rattle.subnet_trace.proofs.Known.{told}
@@ -85,19 +84,19 @@ among_made f x (y ∷ xs) (inr h) = inr (among_made f x xs h)
 
 among_kept : (test : ℕ → Bool) (x : ℕ) (xs : List ℕ) → test x ≡ true → IsAmong x xs → IsAmong x (filter test xs)
 among_kept test x [] is h = absurd h
-among_kept test x (y ∷ xs) is h = by (test y) refl h where
-  by : (b : Bool) → test y ≡ b → (y ≡ x) ⊎ IsAmong x xs → IsAmong x (if b then y ∷ filter test xs else filter test xs)
-  by true e (inl same) = inl same
-  by true e (inr h) = inr (among_kept test x xs is h)
-  by false e (inl same) = absurd (false≢true (sym e ∙ ap test same ∙ is))
-  by false e (inr h) = among_kept test x xs is h
+among_kept test x (y ∷ xs) is h = by (λ k. among_kept test x xs is k) (test y) refl h where
+  by : (IsAmong x xs → IsAmong x (filter test xs)) → (b : Bool) → test y ≡ b → (y ≡ x) ⊎ IsAmong x xs → IsAmong x (if b then y ∷ filter test xs else filter test xs)
+  by more true e (inl same) = inl same
+  by more true e (inr h) = inr (more h)
+  by more false e (inl same) = absurd (false≢true (sym e ∙ ap test same ∙ is))
+  by more false e (inr h) = more h
 
 in_range : (from count x : ℕ) → from ≤ x → x < from + count → IsAmong x (range_with_len from count)
 in_range from zero x low high = absurd (omega (arith, low, high))
-in_range from (suc count) x low high = by (from == x) refl where
-  by : (b : Bool) → (from == x) ≡ b → (from ≡ x) ⊎ IsAmong x (range_with_len (from + 1) count)
-  by true e = inl (eqb-true from x e)
-  by false e = inr (in_range (from + 1) count x (grind (arith, nat_tests, low, e)) (omega (arith, high)))
+in_range from (suc count) x low high = by (λ above. in_range (from + 1) count x above (omega (arith, high))) (from == x) refl where
+  by : (from + 1 ≤ x → IsAmong x (range_with_len (from + 1) count)) → (b : Bool) → (from == x) ≡ b → (from ≡ x) ⊎ IsAmong x (range_with_len (from + 1) count)
+  by more true e = inl (eqb-true from x e)
+  by more false e = inr (more (grind (arith, nat_tests, low, e)))
 
 same_made : {X Y : Type 0} (f g : X → Y) (xs : List X) → map f xs ≡ map g xs → (x : X) → IsAmong x xs → f x ≡ g x
 same_made f g [] same x h = absurd h

@@ -1,4 +1,4 @@
-use Rattle.subnet_trace.proofs.Common.{◌≡◌, ◌⊎◌, inl, inr, ◌++◌, ℕ, List, [], ◌∷◌, None, Some, Ok, codes, length, refl, sym, ap, ◌∙◌, subst, arith, Happens, Kept, RawEvent, Shown, running, stepped, subnet_calls, subnet_inside, object}
+use Rattle.subnet_trace.proofs.Common.{◌≡◌, ◌⊎◌, inl, inr, ◌++◌, ℕ, List, [], ◌∷◌, None, Ok, codes, length, refl, sym, ap, ◌∙◌, subst, arith, Happens, Kept, running, stepped, subnet_calls, subnet_inside, object}
 use Rattle.interface.specs.declared.NetEvent.TheVariants as net
 use Rattle.routing.specs.RouteTable.{distance_to, next_of, vector_of}
 use Rattle.script.specs.declared.event.RawEvent.TheVariants as event
@@ -104,5 +104,5 @@ returns-clause-too_late c = λ spot new one other h.
     by one other o.first o.rest first.one o.all o.mid new (subst (λ (k : Kept). IsStill subnet_calls subnet_inside (running lonely) k) (sym first.same) still) o.after where
       by : {More : Type 0} (one other : List ℕ) (first rest : List (List ℕ)) → length first ≡ 1 → one ∷ other ∷ [] ≡ first ++ rest → (mid new : Kept) → IsStill subnet_calls subnet_inside (running lonely) mid
           → (IsStill subnet_calls subnet_inside (running lonely) mid × (new ≡ mid) × (rest ≡ [])) ⊎ ((IsStill subnet_calls subnet_inside (running lonely) mid → ⊥) × More) → ⊥
-      by one other first rest long all mid new still (inl (same, last, none)) = two_first one other first rest long none all
-      by one other first rest long all mid new still (inr (moved, more)) = moved still
+      by one other first rest long all mid new quiet (inl (same, last, none)) = two_first one other first rest long none all
+      by one other first rest long all mid new quiet (inr (moved, more)) = moved quiet
