@@ -1,11 +1,13 @@
 -- A document describes only topologies that keep the rules.
-use Rattle.std.proofs.Common.{◌≡◌, ◌+◌, ◌&&◌, ℕ, Bool, true, false, List, Option, Some, None, if◌then◌else◌, refl}
+use Rattle.std.proofs.Common.{◌≡◌, ◌+◌, ◌&&◌, ◌==◌, ℕ, Bool, true, false, List, Option, Some, None, codes}
+use Rattle.std.proofs.Common.{if◌then◌else◌, refl}
 use Rattle.std.proofs.Common.{subst}
 use Rattle.interface.specs.Host.{most_imps}
-use Rattle.toml.specs.Data.{Members}
+use Rattle.toml.specs.Data.{Data, Members, get, table}
 use Rattle.toml.specs.Parse.{parse_document}
-use Rattle.topology.specs.Topology.{IsTopology, TopologyFields, all_placed, are_imps, are_lines, by_number, topology_by}
-use Rattle.topology.specs.Topology.{topology_from, topology_if, topology_if_read, topology_in}
+use Rattle.topology.specs.Topology.{IsTopology, TopologyFields, all_placed, are_imps, are_lines, by_number, carrier_of}
+use Rattle.topology.specs.Topology.{imps_of, known_members, lines_of, raw_of, size, topology_by}
+use Rattle.topology.specs.Topology.{topology_from, topology_if, topology_if_read, topology_in, topology_of}
 use Rattle.topology.specs.declared.network.CarrierKind.{CarrierKind}
 use Rattle.topology.specs.declared.network.ImpHosts.{ImpHosts}
 use Rattle.topology.specs.declared.network.LineEnds.{LineEnds}
@@ -40,14 +42,22 @@ from_keeps (Some carrier) (Some raw) None lines t e = absurd (none_is e)
 from_keeps (Some carrier) (Some raw) (Some imps) None t e = absurd (none_is e)
 from_keeps (Some carrier) (Some raw) (Some imps) (Some lines) t e = by_keeps carrier raw imps lines t e
 
-if_keeps : (b : Bool) (o : Option TopologyFields) (t : TopologyFields) → (o ≡ Some t → IsTopology t)
-    → (if b then o else None) ≡ Some t → IsTopology t
-if_keeps true o t more e = more e
-if_keeps false o t more e = absurd (none_is e)
+data_keeps : (d : Data) (t : TopologyFields) → topology_of d ≡ Some t → IsTopology t
+data_keeps d t e = by (size d == known_members d) e where
+  found : Option TopologyFields
+  found =
+      topology_from (carrier_of (get (codes "carrier") d)) (raw_of (get (codes "raw") d))
+      (imps_of (get (codes "imp") d)) (lines_of (get (codes "line") d))
+
+  by : (known : Bool) → (if known then found else None) ≡ Some t → IsTopology t
+  by true e =
+      from_keeps (carrier_of (get (codes "carrier") d)) (raw_of (get (codes "raw") d))
+      (imps_of (get (codes "imp") d)) (lines_of (get (codes "line") d)) t e
+  by false e = absurd (none_is e)
 
 read_keeps : (o : Option Members) (t : TopologyFields) → topology_if_read o ≡ Some t → IsTopology t
 read_keeps None t e = absurd (none_is e)
-read_keeps (Some members) t e = if_keeps _ _ t (λ h. from_keeps _ _ _ _ t h) e
+read_keeps (Some all) t e = data_keeps (table all) t e
 
 pub described_keeps : (text : List ℕ) (t : TopologyFields) → topology_in text ≡ Some t → IsTopology t
 described_keeps text t e = read_keeps (parse_document text) t e
