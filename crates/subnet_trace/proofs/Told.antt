@@ -14,7 +14,6 @@ use Rattle.std.proofs.Common.{true, slice_index_or}
 use Rattle.std.proofs.lemmas.Bool.{eqb-true}
 use Rattle.interface.specs.declared.NetEvent.TheVariants as net
 use Rattle.interface.specs.declared.event.Direction.TheVariants as way
-use Rattle.script.specs.declared.event.RawEvent.TheVariants as event
 use Rattle.subnet.specs.Opening.{hosts_from}
 use Rattle.subnet_trace.specs.Elements.{dropping}
 use Rattle.subnet_trace.specs.Parts.{Part, part_text}
