@@ -22,9 +22,10 @@ use script::RawEvent;
 use std::alloc::{AllocError, Global};
 use topology::Topology;
 
-/// Prints the network and all parts of its carrier, hands each elementary event of each event to the carrier in order, and prints
-/// one line for each: a JSON object with the place of the event in the script, the elementary event, what it printed, and the
-/// parts that it changed, as they are after it. Each event comes after the number of its line in the script.
+/// Prints the network and all parts of its carrier, hands each elementary event of each event to the carrier in
+/// order, and prints one line for each: a JSON object with the place of the event in the script, the elementary
+/// event, what it printed, and the parts that it changed, as they are after it. Each event comes after the number of
+/// its line in the script.
 ///
 /// A refused event changes nothing, and has a line too.
 ///
@@ -115,8 +116,8 @@ fn trace_event<C: Inspect, W: Output>(
     }
 }
 
-/// Traces a calm, round by round. A round after which all parts and the log are as they were before it is the last one: every round
-/// after it would be the same.
+/// Traces a calm, round by round. A round after which all parts and the log are as they were before it is the last
+/// one: every round after it would be the same.
 fn trace_calm<C: Inspect, W: Output>(
     alloc: Global,
     carrier: &mut C,
@@ -202,7 +203,8 @@ fn are_same(one: &Members, other: &Members) -> bool
     !one.have_changed(other) && !other.have_changed(one)
 }
 
-/// Traces a round of a calm, which begins at a place: one of its elementary events after another. Returns the place after it.
+/// Traces a round of a calm, which begins at a place: one of its elementary events after another. Returns the place
+/// after it.
 fn trace_round<C: Inspect, W: Output>(
     alloc: Global,
     carrier: &mut C,
