@@ -2,7 +2,6 @@
 use Rattle.std.proofs.Common.{◌≡◌, ◌+◌, ◌&&◌, ◌==◌, ℕ, Bool, true, false, List, Option, Some, None, codes}
 use Rattle.std.proofs.Common.{if◌then◌else◌, refl}
 use Rattle.std.proofs.Common.{subst}
-use Rattle.std.proofs.lemmas.Str.Parse.{both}
 use Rattle.interface.specs.Host.{most_imps}
 use Rattle.toml.specs.Data.{Data, Members, get, table}
 use Rattle.toml.specs.Parse.{parse_document}
@@ -14,17 +13,19 @@ use Rattle.topology.specs.declared.network.ImpHosts.{ImpHosts}
 use Rattle.topology.specs.declared.network.LineEnds.{LineEnds}
 use Rattle.topology.proofs.Order.{numbered_rising}
 
-fits : (fit : Bool) (n t : TopologyFields) → topology_if fit n ≡ Some t → (fit ≡ true) × (n ≡ t)
-fits true n t e = (refl, (let same : Some n ≡ Some t = e in cc))
-fits false n t e = absurd (cc)
+fits : (placed good joined : Bool) (n t : TopologyFields) → topology_if (placed && (good && joined)) n ≡ Some t
+    → (good ≡ true) × (joined ≡ true) × (n ≡ t)
+fits true true true n t e = (refl, refl, (let same : Some n ≡ Some t = e in cc))
+fits true true false n t e = absurd (cc)
+fits true false joined n t e = absurd (cc)
+fits false good joined n t e = absurd (cc)
 
 by_keeps : (carrier : CarrierKind) (raw : Bool) (imps : List ImpHosts) (lines : List LineEnds) (t : TopologyFields)
     → topology_by carrier raw imps lines ≡ Some t → IsTopology t
 by_keeps carrier raw imps lines t e =
-    let n : TopologyFields = record { carrier = carrier; raw = raw; imps = by_number imps; lines = lines } in
-    let (fit, is) = fits (all_placed imps && (are_imps (by_number imps) && are_lines (by_number imps) lines)) n t e in
-    let (placed, rules) = both (all_placed imps) (are_imps (by_number imps) && are_lines (by_number imps) lines) fit in
-    let (good, joined) = both (are_imps (by_number imps)) (are_lines (by_number imps) lines) rules in
+    let all : List ImpHosts = by_number imps in
+    let n : TopologyFields = record { carrier = carrier; raw = raw; imps = all; lines = lines } in
+    let (good, joined, is) = fits (all_placed imps) (are_imps all) (are_lines all lines) n t e in
     subst IsTopology is (record { imps = good; rising = numbered_rising imps (most_imps + 1); lines = joined })
 
 from_keeps : (carrier : Option CarrierKind) (raw : Option Bool) (imps : Option (List ImpHosts))
