@@ -1,7 +1,13 @@
--- Which members of an object are other than they were. The members are in the same order each time, so each is compared with the one at its place.
-use Rattle.std.specs.Prelude.{ℕ, Bool, false, not, ◌++◌, ◌∷◌, List, [], if◌then◌else◌, length, nat_eq, slice_get, slice_set, Option, Some, None}
+-- Which parts are other than they were: those that are always there, and flows, which come and go.
+use Rattle.std.specs.Prelude.{ℕ, Bool, false, not, ◌++◌, ◌∷◌, List, [], filter, if◌then◌else◌, length, map, nat_eq, slice_get, slice_set, Option, Some, None}
 use Rattle.std.specs.Cmp.Lexicographic.{pointwise}
-use Rattle.trace.specs.Joined.{part_behind}
+use Rattle.std.specs.List.{flat_map, list_any}
+use Rattle.trace.specs.Flows.{gone, same_flow_part, same_name, told}
+use Rattle.trace.specs.Joined.{extended, part_behind}
+use Rattle.trace.specs.declared.all_parts.AllParts.{AllParts}
+use Rattle.trace.specs.declared.flow_part.FlowPart.{FlowPart}
+
+-- ---- those that are always there, in the same order each time: each is compared with the one at its place
 
 -- the member at a place has this text
 abbrev pub has_text : Option (List ℕ) → List ℕ → Bool
@@ -16,6 +22,43 @@ abbrev pub changed : List (List ℕ) → List (List ℕ) → List (List ℕ)
 changed before [] = []
 changed [] (now ∷ later) = now ∷ changed [] later
 changed (was ∷ before) (now ∷ later) = if pointwise nat_eq was now then changed before later else now ∷ changed before later
+
+-- ---- flows: each is compared with the one of its name
+
+-- a flow is told so in a list, and in whatever way
+abbrev pub is_told : List FlowPart → FlowPart → Bool
+is_told list p = list_any (λ q. same_flow_part q p) list
+
+abbrev pub is_there : List FlowPart → FlowPart → Bool
+is_there list p = list_any (λ q. same_name q p) list
+
+-- the flows that are new, or told otherwise than before
+abbrev pub altered : List FlowPart → List FlowPart → List FlowPart
+altered before now = filter (λ p. not (is_told before p)) now
+
+-- those that are there no more
+abbrev pub lost : List FlowPart → List FlowPart → List FlowPart
+lost before now = filter (λ p. not (is_there now p)) before
+
+-- a part that is new or other has its text, and one that is there no more has null
+abbrev pub changed_flows : List FlowPart → List FlowPart → List (List ℕ)
+changed_flows before now = map told (altered before now) ++ map gone (lost before now)
+
+-- list by list, each of which has its place
+abbrev pub changed_lists : List (List FlowPart) → List (List FlowPart) → List (List ℕ)
+changed_lists before [] = []
+changed_lists [] (now ∷ later) = changed_flows [] now ++ changed_lists [] later
+changed_lists (was ∷ before) (now ∷ later) = changed_flows was now ++ changed_lists before later
+
+-- ---- all parts
+
+-- as the members of an object
+abbrev pub members_of : AllParts → List (List ℕ)
+members_of p = p.fixed ++ flat_map (map told) p.flows
+
+-- those that are other than before, or there no more
+abbrev pub changed_parts : AllParts → AllParts → List (List ℕ)
+changed_parts before now = changed before.fixed now.fixed ++ changed_lists before.flows now.flows
 
 -- ---- one by one
 

@@ -6,14 +6,14 @@ ghost use Rattle.replay.specs.Failing.{TellsCannotWrite};
 ghost use Rattle.replay.specs.Replay.{GoesOn, Halts, IsCopied, IsOneCall};
 ghost use Rattle.script.specs.declared.event.RawEvent.TheVariants as script_event;
 ghost use Rattle.trace.specs.Steps.{Called, ElementEnds, EventEnds};
-ghost use Rattle.trace.specs.Changes.{changed};
+ghost use Rattle.trace.specs.Changes.{changed_parts};
 ghost use Rattle.trace.specs.Texts.{object};
 ghost use Rattle.trace.specs.Traces.{AfterOpening, HasHappened, MayTell, StopsElement, TraceEnds, Traces, WritesTrace};
 
+use crate::all_parts::AllParts;
 use crate::element::Spot;
 use crate::inspect::Inspect;
 use crate::line::print_line;
-use crate::members::Members;
 use crate::opening::print_opening;
 use interface::{Carrier, CarrierFault, Crossing};
 use replay::{Output, ReplayFault};
@@ -61,7 +61,7 @@ pub fn trace_events<C: Inspect, W: Output>(
 #[derive(Drop)]
 struct Texts {
     /// Each part with its name.
-    parts: Members,
+    parts: AllParts,
     /// The object of those that the last event changed.
     changed: Vec<u8>,
 }
@@ -170,7 +170,7 @@ fn trace_element<C: Inspect, W: Output>(
         return Err(ReplayFault::OutOfMemory);
     }
     let (_, crossings) = carrier.log().split_at(booked);
-    let texts = change(carrier, event, crossings, outcome, texts)?;
+    let texts = change(alloc, carrier, event, crossings, outcome, texts)?;
     print_line(
         spot,
         round,
@@ -205,6 +205,7 @@ fn known_texts<C: Inspect>(
 
 /// Returns the texts of all parts after an event that has just happened, with the object of those that it changed.
 fn change<C: Inspect>(
+    alloc: Global,
     carrier: &C,
     event: &RawEvent,
     crossings: &[Crossing],
@@ -213,12 +214,12 @@ fn change<C: Inspect>(
 ) -> Result<Texts, AllocError>
     requires { HasHappened C.calls C.inside.members texts.parts event.now crossings.now outcome carrier.now }
     ensures parts { IfOk result (λ t. t.parts ≡ C.inside.members carrier.now) }
-    ensures changed { IfOk result (λ t. t.changed.items ≡ object (changed texts.parts (C.inside.members carrier.now))) }
+    ensures changed { IfOk result (λ t. t.changed.items ≡ object (changed_parts texts.parts (C.inside.members carrier.now))) }
 {
     let Texts { mut parts, changed } = texts;
     let mut room = changed;
     room.clear();
-    let changed = carrier.change(event, crossings, outcome, &mut parts, room)?;
+    let changed = carrier.change(alloc, event, crossings, outcome, &mut parts, room)?;
     Ok(Texts { parts, changed })
 }
 

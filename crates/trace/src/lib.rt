@@ -10,9 +10,12 @@
 //! but for their logs: so a trace leaves nothing out.
 #![tactic(auto)]
 
+mod all_parts;
 mod element;
 mod events;
 mod fate;
+mod flow_lists;
+mod flow_part;
 mod inspect;
 pub mod json;
 pub mod law;
@@ -29,11 +32,14 @@ mod turn;
 mod values;
 pub mod worked;
 
+pub use all_parts::{AllParts, ended};
 pub use element::{Element, Spot};
 pub use events::trace_events;
 pub use fate::Fate;
+pub use flow_lists::FlowLists;
+pub use flow_part::{FlowPart, FlowState, Side};
 pub use inspect::Inspect;
-pub use members::{Members, ended, text_of};
+pub use members::{Members, text_of};
 pub use numbers::{beside_lines, event_lines};
 pub use opening::print_network;
 pub use parts::print_whole;

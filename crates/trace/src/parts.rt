@@ -9,8 +9,9 @@ ghost use Rattle.trace.specs.Changes.{changed};
 ghost use Rattle.trace.specs.Steps.{OnlyReached};
 ghost use Rattle.trace.specs.Texts.{all_members, member, object, part_name, part_text, whole_text};
 
+use crate::all_parts::ended;
 use crate::json::{Item, print_array};
-use crate::members::{Members, ended};
+use crate::members::Members;
 use crate::print::print_waiting;
 use interface::{Carrier, Crossing, HostAddr, NetEvent};
 use leader1822::PlainBoxes;

@@ -2,8 +2,9 @@
 use Rattle.world_trace.proofs.Common.{◌≡◌, inl, ℕ, suc, false, List, [], ◌∷◌, length, map, le-ltb, arith, refl, sym, append-nil, flat_map, Calls, Host, IsAtRest, WorldState, up_in, Event, Offer, Quiet, Take, InTurn, none_changed, Spot, when_false, Again, Repeated, crosses, seat_member, services_member, TellsInCalm, TellsRound}
 use Rattle.net_sim.specs.Rest.{Leaves}
 use Rattle.world_replay.specs.Rounds.{turn_of}
+use Rattle.trace.specs.declared.all_parts.AllParts.{AllParts}
 
-module _ {C : Type 0} (calls : Calls C) (members : C → List (List ℕ)) (spot : Spot) (round : ℕ) where
+module _ {C : Type 0} (calls : Calls C) (members : C → AllParts) (spot : Spot) (round : ℕ) where
   abbrev Tells : WorldState C → Event → WorldState C → List (List ℕ) → Type 0
   Tells = TellsInCalm calls members spot round
 
