@@ -55,7 +55,7 @@ once calls settled old e new other lines more h k =
     replays_once calls settled old (e ∷ []) new other lines more (new, lines, [], h, (refl, refl), sym (append-nil lines)) (other, more, [], k, (refl, refl), sym (append-nil more))
 
 -- what is left, and what the lines have as printed
-abbrev Ends : {C : Type 0} → C → C → AllParts → List raw.Shown → Type 0
+abbrev Ends : {C : Type 0} → C → C → List (List ℕ) → List raw.Shown → Type 0
 Ends new other lines prints = (new ≡ other) × HavePrinted lines (raw_texts prints)
 
 element_printed : {C : Type 0} (calls : Calls C) (inside : Inside C) → AreSettled calls → (spot : Spot) (x : Element) (old new other : C) (lines : List (List ℕ)) (prints : List raw.Shown)

@@ -1,14 +1,13 @@
 -- Members are compared with those that were at their places, one after the other.
-use Rattle.std.proofs.Common.{◌≡◌, ℕ, zero, suc, ◌<◌, ◌+◌, Bool, true, false, not, nat_lt, nat_eq, List, [], ◌∷◌, ◌++◌, Option, codes, drop, get_or, if◌then◌else◌, length, map, arith, refl, sym, ap, subst, ◌∙◌}
+use Rattle.std.proofs.Common.{◌≡◌, ℕ, zero, suc, ◌<◌, ◌≤◌, ◌+◌, Bool, true, false, not, nat_lt, nat_eq, List, [], ◌∷◌, ◌++◌, drop, get_or, if◌then◌else◌, length, map, arith, refl, sym, ap, ◌∙◌}
 use Rattle.std.proofs.lemmas.Bool.Decides.{nat_tests}
-use Rattle.std.proofs.lemmas.List.{drop_more, length-map}
+use Rattle.std.proofs.lemmas.List.{drop_all, drop_more, length-map}
 use Rattle.std.proofs.lemmas.Option.{slice_get_read}
 use Rattle.std.specs.Cmp.Lexicographic.{pointwise}
-use Rattle.std.specs.Io.KnownBytes.{Appends}
 use Rattle.std.specs.Prelude.{slice_index_or}
 use Rattle.trace.specs.Changes.{changed, is_at}
-use Rattle.trace.specs.Joined.{part_behind, place_behind}
-use Rattle.trace.proofs.Left.{Remains, left, maybe_printed, text_at}
+use Rattle.trace.specs.Joined.{extended}
+use Rattle.trace.proofs.Left.{text_at}
 
 -- the text of what is at a place
 pub text_there : {X : Type 0} (text : X → List ℕ) (xs : List X) (ts : List (List ℕ)) (i : ℕ) (x : X) → ts ≡ map text xs → i < length ts → x ≡ get_or xs i x → slice_index_or ts i [] ≡ text x
@@ -54,13 +53,21 @@ pub next_same : (before now : List (List ℕ)) (i : ℕ) (x : List ℕ) → i < 
     → changed before now ≡ changed (drop (i + 1) before) (drop (i + 1) now)
 next_same before now i x lt is same all = all ∙ changed_step before now i x lt is ∙ ap (λ (t : Bool). unless t x ++ changed (drop (i + 1) before) (drop (i + 1) now)) same
 
--- the member at a place is printed, unless it is as it was
-pub member_printed : (before now : List (List ℕ)) (i place next : ℕ) (x : List ℕ) (same : Bool) (whole : List ℕ) (a b c : Option (List ℕ)) → i < length now → slice_index_or now i [] ≡ x → same ≡ is_at before i x → next ≡ place_behind place (not same)
-    → Remains a b (left (codes "{") (codes "}") place (changed (drop i before) (drop i now))) whole → Appends b c (part_behind (not same) place x)
-    → Remains a c (left (codes "{") (codes "}") next (changed (drop (i + 1) before) (drop (i + 1) now))) whole
-member_printed before now i place next x same whole a b c lt is test goes remains printed =
-    let later : List (List ℕ) = changed (drop (i + 1) before) (drop (i + 1) now) in
-    let here : left (codes "{") (codes "}") place (changed (drop i before) (drop i now)) ≡ left (codes "{") (codes "}") place (unless same x ++ later) =
-    ap (left (codes "{") (codes "}") place) (changed_step before now i x lt is ∙ ap (λ (t : Bool). unless t x ++ later) (sym test)) in
-    subst (λ (n : ℕ). Remains a c (left (codes "{") (codes "}") n later) whole) (sym goes)
-    (maybe_printed (codes "{") (codes "}") (not same) x later place whole a b c (subst (λ zs. Remains a b zs whole) here remains) printed)
+-- the member at a place is added to an object, unless it is as it was
+pub member_added : (before now : List (List ℕ)) (i : ℕ) (x text later whole : List ℕ) → i < length now → slice_index_or now i [] ≡ x → is_at before i x ≡ false → later ≡ extended text (x ∷ [])
+    → extended text (changed (drop i before) (drop i now)) ≡ whole → extended later (changed (drop (i + 1) before) (drop (i + 1) now)) ≡ whole
+member_added before now i x text later whole lt is other added all =
+    let rest : List (List ℕ) = changed (drop (i + 1) before) (drop (i + 1) now) in
+    ap (λ (t : List ℕ). extended t rest) added ∙ ap (λ (same : Bool). extended text (unless same x ++ rest)) (sym other) ∙ ap (extended text) (sym (changed_step before now i x lt is)) ∙ all
+
+pub member_left_out : (before now : List (List ℕ)) (i : ℕ) (x text whole : List ℕ) → i < length now → slice_index_or now i [] ≡ x → is_at before i x ≡ true
+    → extended text (changed (drop i before) (drop i now)) ≡ whole → extended text (changed (drop (i + 1) before) (drop (i + 1) now)) ≡ whole
+member_left_out before now i x text whole lt is same all =
+    ap (λ (t : Bool). extended text (unless t x ++ changed (drop (i + 1) before) (drop (i + 1) now))) (sym same) ∙ ap (extended text) (sym (changed_step before now i x lt is)) ∙ all
+
+none_changed : (before : List (List ℕ)) → changed before [] ≡ []
+none_changed [] = refl
+none_changed (w ∷ before) = refl
+
+pub members_added : (before now : List (List ℕ)) (i : ℕ) (text whole : List ℕ) → length now ≤ i → extended text (changed (drop i before) (drop i now)) ≡ whole → text ≡ whole
+members_added before now i text whole past all = ap (extended text) (sym (ap (changed (drop i before)) (drop_all i now past) ∙ none_changed (drop i before))) ∙ all

@@ -5,7 +5,9 @@ pub mod Left
 pub mod Named
 pub mod PlainWords
 pub mod Printed
+pub mod Extending
 pub mod FirstLine
+pub mod Flowing
 pub mod Each
 pub mod Rest
 pub mod Calms

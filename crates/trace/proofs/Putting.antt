@@ -1,14 +1,11 @@
 -- Members are put in the place of those before them, one after the other, and those that have changed into an object.
-use Rattle.std.proofs.Common.{◌≡◌, ℕ, zero, suc, ◌<◌, ◌≤◌, ◌+◌, ◌-◌, Bool, true, false, not, nat_eq, List, [], ◌∷◌, ◌++◌, codes, drop, length, slice_set, take, arith, refl, sym, ap, ◌∙◌}
+use Rattle.std.proofs.Common.{◌≡◌, ℕ, zero, suc, ◌<◌, ◌≤◌, ◌+◌, ◌-◌, Bool, true, false, not, nat_eq, List, [], ◌∷◌, ◌++◌, drop, length, slice_set, take, arith, refl, sym, ap, ◌∙◌}
 use Rattle.std.proofs.lemmas.List.{append_assoc, append-nil, length-append, take_all}
 use Rattle.std.proofs.Math.Seq.{drop-append_seam}
 use Rattle.std.specs.Cmp.Lexicographic.{bytes_decides, pointwise}
 use Rattle.trace.specs.Changes.{changed, is_at, put_at, put_text}
-use Rattle.trace.specs.Joined.{mark, part_behind}
-use Rattle.trace.specs.Texts.{further, object}
-use Rattle.trace.proofs.Changed.{none_changed}
+use Rattle.trace.specs.Joined.{extended, part_behind}
 use Rattle.trace.proofs.Changing.{first, unless}
-use Rattle.trace.proofs.Left.{left, left_end}
 
 -- as many members as this place are put there, and those of them that have changed are in this object; these are left
 pub record PutSoFar (before now : List (List ℕ)) (place : ℕ) (known : List (List ℕ)) (text : List ℕ) (olds news : List (List ℕ)) : Type 0 where
@@ -16,7 +13,7 @@ pub record PutSoFar (before now : List (List ℕ)) (place : ℕ) (known : List (
   pub count : place ≡ length front
   pub there : known ≡ front ++ olds
   pub all : now ≡ front ++ news
-  pub written : text ++ left (codes "{") (codes "}") (length text) (changed olds news) ≡ object (changed before now)
+  pub written : extended text (changed olds news) ≡ extended [] (changed before now)
 
 pub none_put : (before now : List (List ℕ)) → PutSoFar before now 0 before [] before now
 none_put before now = record { front = []; count = refl; there = refl; all = refl; written = refl }
@@ -46,29 +43,10 @@ as_was [] i x e = refl
 as_was (m ∷ ms) zero x e = ap (λ (y : List ℕ). y ∷ ms) (sym ((bytes_decides m x).0 e))
 as_was (m ∷ ms) (suc i) x e = ap (λ (ys : List (List ℕ)). m ∷ ys) (as_was ms i x e)
 
-long_mark : (n : ℕ) → length (mark (codes "{") (codes ",") n) ≡ 1
-long_mark zero = refl
-long_mark (suc n) = refl
-
-left_first : (n : ℕ) (y : List ℕ) (ys : List (List ℕ)) → left (codes "{") (codes "}") n (y ∷ ys) ≡ mark (codes "{") (codes ",") n ++ (y ++ further (codes "}") ys)
-left_first zero y ys = refl
-left_first (suc n) y ys = refl
-
-left_later : (n : ℕ) (ys : List (List ℕ)) → 0 < n → left (codes "{") (codes "}") n ys ≡ further (codes "}") ys
-left_later zero ys some = absurd (omega (arith, some))
-left_later (suc n) ys some = refl
-
 -- the text of an object with one member more, unless it is as it was
-text_more : (same : Bool) (text y : List ℕ) (ys : List (List ℕ))
-    → (text ++ part_behind (not same) (length text) y) ++ left (codes "{") (codes "}") (length (text ++ part_behind (not same) (length text) y)) ys ≡ text ++ left (codes "{") (codes "}") (length text) (unless same y ++ ys)
-text_more true text y ys = ap (λ (t : List ℕ). t ++ left (codes "{") (codes "}") (length t) ys) (append-nil text)
-text_more false text y ys =
-    let item : List ℕ = mark (codes "{") (codes ",") (length text) ++ y in
-    let long : length (text ++ item) ≡ length text + (1 + length y) = length-append text item ∙ ap (λ (n : ℕ). length text + n) (length-append (mark (codes "{") (codes ",") (length text)) y ∙ ap (λ (n : ℕ). n + length y) (long_mark (length text))) in
-    let some : 0 < length (text ++ item) = omega (arith, long) in
-    ap (λ (t : List ℕ). (text ++ item) ++ t) (left_later (length (text ++ item)) ys some)
-    ∙ append_assoc text item (further (codes "}") ys)
-    ∙ ap (λ (t : List ℕ). text ++ t) (append_assoc (mark (codes "{") (codes ",") (length text)) y (further (codes "}") ys) ∙ sym (left_first (length text) y ys))
+text_more : (same : Bool) (text y : List ℕ) (ys : List (List ℕ)) → extended (text ++ part_behind (not same) (length text) y) ys ≡ extended text (unless same y ++ ys)
+text_more true text y ys = ap (λ (t : List ℕ). extended t ys) (append-nil text)
+text_more false text y ys = refl
 
 -- the next one is put in its place, or cannot have changed
 pub put_more : (may : Bool) (before now : List (List ℕ)) (place : ℕ) (known later : List (List ℕ)) (text longer : List ℕ) (olds news : List (List ℕ)) (x y : List ℕ)
@@ -79,7 +57,7 @@ put_more may before now place known later text longer olds news x y kept put add
   count = ap (λ (n : ℕ). n + 1) h.count ∙ sym (length-append h.front (y ∷ []));
   there = put ∙ by may refl;
   all = h.all ∙ sym (append_assoc h.front (y ∷ []) news);
-  written = ap (λ (t : List ℕ). t ++ left (codes "{") (codes "}") (length t) (changed olds news)) added ∙ also may refl ∙ h.written;
+  written = ap (λ (t : List ℕ). extended t (changed olds news)) added ∙ also may refl ∙ h.written;
 } where
   by : (b : Bool) → may ≡ b → put_at b known place y ≡ (h.front ++ y ∷ []) ++ olds
   by true e =
@@ -87,28 +65,28 @@ put_more may before now place known later text longer olds news x y kept put add
       ∙ sym (append_assoc h.front (y ∷ []) olds)
   by false e = h.there ∙ ap (λ (z : List ℕ). h.front ++ z ∷ olds) (sym (kept e)) ∙ sym (append_assoc h.front (y ∷ []) olds)
 
-  also : (b : Bool) → may ≡ b → put_text b known place y text ++ left (codes "{") (codes "}") (length (put_text b known place y text)) (changed olds news) ≡ text ++ left (codes "{") (codes "}") (length text) (changed (x ∷ olds) (y ∷ news))
+  also : (b : Bool) → may ≡ b → extended (put_text b known place y text) (changed olds news) ≡ extended text (changed (x ∷ olds) (y ∷ news))
   also true e =
       let test : is_at known place y ≡ pointwise nat_eq x y = ap (λ (ks : List (List ℕ)). is_at ks place y) h.there ∙ ap (λ (n : ℕ). is_at (h.front ++ x ∷ olds) n y) h.count ∙ at_front h.front olds x y in
       text_more (is_at known place y) text y (changed olds news)
-      ∙ ap (λ (t : Bool). text ++ left (codes "{") (codes "}") (length text) (unless t y ++ changed olds news)) test
-      ∙ ap (λ (ys : List (List ℕ)). text ++ left (codes "{") (codes "}") (length text) ys) (sym (first x y olds news))
+      ∙ ap (λ (t : Bool). extended text (unless t y ++ changed olds news)) test
+      ∙ ap (λ (ys : List (List ℕ)). extended text ys) (sym (first x y olds news))
   also false e =
       let same : pointwise nat_eq x y ≡ true = ap (pointwise nat_eq x) (kept e) ∙ (bytes_decides x x).1 refl in
-      ap (λ (t : List ℕ). t ++ left (codes "{") (codes "}") (length t) (changed olds news)) (append-nil text)
-      ∙ ap (λ (t : Bool). text ++ left (codes "{") (codes "}") (length text) (unless t y ++ changed olds news)) (sym same)
-      ∙ ap (λ (ys : List (List ℕ)). text ++ left (codes "{") (codes "}") (length text) ys) (sym (first x y olds news))
+      ap (λ (t : List ℕ). extended t (changed olds news)) (append-nil text)
+      ∙ ap (λ (t : Bool). extended text (unless t y ++ changed olds news)) (sym same)
+      ∙ ap (λ (ys : List (List ℕ)). extended text ys) (sym (first x y olds news))
 
 -- all are
 pub record AllPut (before now known : List (List ℕ)) (text : List ℕ) : Type 0 where
   pub all : known ≡ now
-  pub written : text ++ mark (codes "{}") (codes "}") (length text) ≡ object (changed before now)
+  pub written : text ≡ extended [] (changed before now)
 
 pub all_put : (before now : List (List ℕ)) (place : ℕ) (known : List (List ℕ)) (text : List ℕ) (olds news : List (List ℕ)) → olds ≡ [] → news ≡ [] → PutSoFar before now place known text olds news → AllPut before now known text
 all_put before now place known text olds news none over h =
     let ends : changed olds news ≡ [] = ap (λ (os : List (List ℕ)). changed os news) none ∙ ap (changed []) over in record {
       all = h.there ∙ ap (λ (os : List (List ℕ)). h.front ++ os) (none ∙ sym over) ∙ sym h.all;
-      written = ap (λ (t : List ℕ). text ++ t) (sym (left_end (codes "{") (codes "}") (length text))) ∙ ap (λ (ys : List (List ℕ)). text ++ left (codes "{") (codes "}") (length text) ys) (sym ends) ∙ h.written;
+      written = ap (λ (ys : List (List ℕ)). extended text ys) (sym ends) ∙ h.written;
     }
 
 -- a member is there, where some are left
@@ -116,7 +94,3 @@ pub is_within : (before now : List (List ℕ)) (place : ℕ) (known : List (List
 is_within before now place known text olds news x h =
     let long : length known ≡ length h.front + suc (length olds) = ap length h.there ∙ length-append h.front (x ∷ olds) in
     omega (arith, h.count, long)
-
--- where all are as they were none is put
-pub none_more : (before now : List (List ℕ)) (text : List ℕ) → text ≡ [] → before ≡ now → text ++ mark (codes "{}") (codes "}") (length text) ≡ object (changed before now)
-none_more before now text empty same = ap (λ (t : List ℕ). t ++ mark (codes "{}") (codes "}") (length t)) empty ∙ sym (ap object (ap (λ (ms : List (List ℕ)). changed ms now) same ∙ none_changed now))
