@@ -1,5 +1,5 @@
 -- What the contracts of private functions say. No public clause cites this file.
-use Rattle.std.specs.Prelude.{◌≡◌, ℕ, Bool, List, [], ◌∷◌, ◌++◌, Option, Some, None, codes, if◌then◌else◌, map, nat_lt}
+use Rattle.std.specs.Prelude.{◌≡◌, ℕ, Bool, List, [], ◌∷◌, ◌++◌, Option, Some, None, codes, if◌then◌else◌, map, nat_lt, slice_index_or, slice_set, ◌+◌}
 use Rattle.std.specs.Fmt.{decimal}
 use Rattle.std.specs.List.{flat_map}
 use Rattle.imp_node.specs.Arrival.{Arrival, arrival_has_room}
@@ -12,7 +12,8 @@ use Rattle.subnet.specs.Events.{is_imp}
 use Rattle.subnet.specs.Net.{Net}
 use Rattle.subnet_trace.specs.Fates.{arrival_fate}
 use Rattle.subnet_trace.specs.Parts.{Part, Imp, flows_at, part_name, part_text}
-use Rattle.subnet_trace.specs.Texts.{distances_text, heard_text, host_object, next_text, packet_text, port_object, slot_text}
+use Rattle.subnet_trace.specs.Texts.{distances_text, heard_text, host_object, kept_of, next_text, packet_text, port_object, slot_text, sources_of}
+use Rattle.trace.specs.Changes.{changed_flows}
 use Rattle.trace.specs.Flows.{told}
 use Rattle.trace.specs.Joined.{mark}
 use Rattle.trace.specs.Texts.{array, member}
@@ -46,6 +47,17 @@ place_after place (Some port) = 1
 -- what is known of a flow, at this side
 abbrev pub known_part : {V : Type 0} → Side → (Flow → V → FlowState) → (V → ℕ) → Flow × V → FlowPart
 known_part side state number e = record { side = side; flow = e.0; state = state e.0 e.1; number = number e.1 }
+
+-- the two lists of an IMP in the place of those from this place on, if they may have changed
+abbrev pub put_lists : Bool → List (List FlowPart) → ℕ → Option State → List (List FlowPart)
+put_lists may lists place o = if may then slice_set (slice_set lists place (sources_of o)) (place + 1) (kept_of o) else lists
+
+-- and what is other in them
+abbrev pub changed_at : Bool → List (List FlowPart) → ℕ → Option State → List (List ℕ)
+changed_at may lists place o =
+    if may
+    then changed_flows (slice_index_or lists place []) (sources_of o) ++ changed_flows (slice_index_or lists (place + 1) []) (kept_of o)
+    else []
 
 -- members after this many others, and the place after them
 abbrev pub members_behind : ℕ → List (List ℕ) → List ℕ

@@ -1,18 +1,17 @@
 //! The parts of a subnet, printed, and those that an event has changed.
 
-ghost use Rattle.std.specs.Prelude.{◌≡◌, ◌<◌, ◌+◌, ◌++◌, [], IfOk, OnOk, false, length, option_copied, slice_index_or, slice_set};
+ghost use Rattle.std.specs.Prelude.{◌≡◌, ◌<◌, ◌+◌, ◌++◌, [], IfOk, OnOk, false, length, option_copied};
 ghost use Rattle.std.specs.Io.KnownBytes.{Appends};
 ghost use Rattle.replay.specs.Failing.{TellsFailure};
 ghost use Rattle.script.specs.declared.event.RawEvent.TheVariants as raw;
 ghost use Rattle.subnet_trace.specs.Parts as parts;
 ghost use Rattle.subnet_trace.specs.Parts.{Imp, Line, part_name, part_text, parts_members, parts_of_net, all_parts};
 ghost use Rattle.subnet.specs.Events.{is_imp};
-ghost use Rattle.subnet_trace.specs.Printing.{flow_members, flows_there, imp_members, members_behind, named, place_after_members};
+ghost use Rattle.subnet_trace.specs.Printing.{changed_at, flow_members, flows_there, imp_members, members_behind, named, place_after_members, put_lists};
 ghost use Rattle.subnet_trace.specs.Scopes as scopes;
 ghost use Rattle.subnet_trace.specs.Scopes.{HasFlowsIn, IsOnlyIn, OnlyIn, scope_of};
-ghost use Rattle.subnet_trace.specs.Texts as texts;
 ghost use Rattle.subnet_trace.specs.Texts.{line_text};
-ghost use Rattle.trace.specs.Changes.{changed, changed_flows, changed_lists, changed_parts, members_of};
+ghost use Rattle.trace.specs.Changes.{changed, changed_lists, changed_parts, members_of};
 ghost use Rattle.trace.specs.Joined.{extended, part_behind, place_behind};
 ghost use Rattle.trace.specs.Texts.{member, object};
 
@@ -274,9 +273,10 @@ fn change_fixed(
     known: &mut Members,
     object: Vec<u8>,
 ) -> Result<Vec<u8>, AllocError>
-    requires { IsOnlyIn scope known.old subnet.now.net }
+    requires inside { IsOnlyIn scope known.old subnet.now.net }
+    requires empty { object.items ≡ [] }
     ensures known { OnOk result (known.new ≡ parts_members subnet.now.net (all_parts subnet.now.net)) }
-    ensures changed { IfOk result (λ text. text.items ≡ extended object.items (changed known.old (parts_members subnet.now.net (all_parts subnet.now.net)))) }
+    ensures changed { IfOk result (λ text. text.items ≡ extended [] (changed known.old (parts_members subnet.now.net (all_parts subnet.now.net)))) }
 {
     let mut text = object;
     let mut place: usize = 0;
@@ -301,18 +301,23 @@ fn change_fixed(
     Ok(text)
 }
 
-/// Puts the flows of an IMP in the place of those before them, of which the first list is at a place. Adds what has changed to an object.
+/// Puts the flows of an IMP, if they may have changed, in the place of those before them, of which the first list is at a place. Adds what
+/// has changed to an object.
 fn put_flows(
     alloc: Global,
+    may: bool,
     imp: Option<&Imp>,
     place: usize,
     known: &mut FlowLists,
     object: Vec<u8>,
 ) -> Result<Vec<u8>, AllocError>
     requires { place + 1 < length known.old }
-    ensures known { OnOk result (known.new ≡ slice_set (slice_set known.old place (texts.sources_of (option_copied imp))) (place + 1) (texts.kept_of (option_copied imp))) }
-    ensures changed { IfOk result (λ text. text.items ≡ extended object.items (changed_flows (slice_index_or known.old place []) (texts.sources_of (option_copied imp)) ++ changed_flows (slice_index_or known.old (place + 1) []) (texts.kept_of (option_copied imp)))) }
+    ensures known { OnOk result (known.new ≡ put_lists may known.old place (option_copied imp)) }
+    ensures changed { IfOk result (λ text. text.items ≡ extended object.items (changed_at may known.old place (option_copied imp))) }
 {
+    if !may {
+        return Ok(object);
+    }
     let text = known.put(place, sources_of(alloc, imp)?, object)?;
     known.put(place + 1, kept_of(alloc, imp)?, text)
 }
@@ -333,9 +338,8 @@ fn change_flows(
     let mut place: usize = 0;
     for number in 0..subnet.imp_places() {
         if subnet.is_imp(number) {
-            if has_imp(scope, number) {
-                text = put_flows(alloc, subnet.imp(number), place, known, text)?;
-            }
+            let may = has_imp(scope, number);
+            text = put_flows(alloc, may, subnet.imp(number), place, known, text)?;
             place += 2;
         }
     }

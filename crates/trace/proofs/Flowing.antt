@@ -1,12 +1,22 @@
 -- Lists of flows are compared with those before, flow by flow.
-use Rattle.std.proofs.Common.{◌≡◌, ℕ, zero, suc, ◌<◌, ◌≤◌, ◌+◌, ◌||◌, Bool, true, false, not, nat_lt, List, [], ◌∷◌, ◌++◌, drop, filter, get_or, if◌then◌else◌, length, map, arith, refl, sym, ap, ap₂, ◌∙◌}
+use Rattle.std.proofs.Common.{◌≡◌, ℕ, zero, suc, ◌<◌, ◌≤◌, ◌+◌, ◌==◌, ◌&&◌, ◌||◌, Bool, true, false, not, nat_lt, List, [], ◌∷◌, ◌++◌, codes, drop, filter, get_or, if◌then◌else◌, length, map, arith, refl, sym, ap, ap₂, ◌∙◌}
+use Rattle.std.proofs.lemmas.Bool.{eq-eqb}
 use Rattle.std.proofs.lemmas.Bool.Decides.{nat_tests}
-use Rattle.std.proofs.lemmas.List.{append-nil, drop_all, drop_more, length-append}
+use Rattle.std.proofs.lemmas.List.{append_assoc, append-nil, drop_all, drop_more, length-append}
 use Rattle.std.specs.Prelude.{slice_index_or}
-use Rattle.trace.specs.Changes.{changed_flows, changed_lists}
-use Rattle.trace.specs.Flows.{gone, told}
-use Rattle.trace.specs.Joined.{extended}
+use Rattle.std.specs.List.{list_any}
+use Rattle.interface.proofs.lemmas.{same_flow-refl}
+use Rattle.trace.specs.Changes.{changed, changed_flows, changed_lists, changed_parts}
+use Rattle.trace.specs.Flows.{gone, same_flow_part, same_name, same_side, same_state, told}
+use Rattle.trace.specs.Joined.{extended, mark}
+use Rattle.trace.specs.Texts.{object}
+use Rattle.trace.specs.declared.all_parts.AllParts.{AllParts}
 use Rattle.trace.specs.declared.flow_part.FlowPart.{FlowPart}
+use Rattle.trace.specs.declared.flow_part.FlowState.{FlowState}
+use Rattle.trace.specs.declared.flow_part.FlowState.TheVariants as state
+use Rattle.trace.specs.declared.flow_part.Side.{Side}
+use Rattle.trace.specs.declared.flow_part.Side.TheVariants as side
+use Rattle.trace.proofs.Changed.{none_changed}
 use Rattle.trace.proofs.Extending.{extended_twice}
 
 -- ---- those of which something holds, one after the other
@@ -54,11 +64,16 @@ lists_first : (before now : List (List FlowPart)) (x : List FlowPart) → change
 lists_first [] now x = refl
 lists_first (b ∷ before) now x = refl
 
+none_step : (now : List (List FlowPart)) (i : ℕ) → i < length now → changed_lists [] (drop i now) ≡ changed_flows [] (slice_index_or now i []) ++ changed_lists [] (drop (suc i) now)
+none_step [] i lt = absurd (omega (arith, lt))
+none_step (x ∷ now) zero lt = refl
+none_step (x ∷ now) (suc i) lt = none_step now i (omega (arith, lt))
+
 lists_step : (before now : List (List FlowPart)) (i : ℕ) → i < length now
     → changed_lists (drop i before) (drop i now) ≡ changed_flows (slice_index_or before i []) (slice_index_or now i []) ++ changed_lists (drop (suc i) before) (drop (suc i) now)
 lists_step before [] i lt = absurd (omega (arith, lt))
 lists_step before (x ∷ now) zero lt = lists_first before now x
-lists_step [] (x ∷ now) (suc i) lt = lists_step [] now i (omega (arith, lt))
+lists_step [] (x ∷ now) (suc i) lt = none_step now i (omega (arith, lt))
 lists_step (b ∷ before) (x ∷ now) (suc i) lt = lists_step before now i (omega (arith, lt))
 
 next_list : (before now : List (List FlowPart)) (i : ℕ) (was is : List FlowPart) → i < length now → was ≡ slice_index_or before i [] → is ≡ slice_index_or now i []
@@ -108,11 +123,72 @@ lists_added before now i text whole past all = ap (extended text) (sym (lists_ov
 
 -- ---- two tests
 
+more : (n : ℕ) → true ≡ nat_lt 0 (suc n)
+more n = grind (arith, nat_tests)
+
 pub differs : (xs ys : List FlowPart) → (nat_lt 0 (length xs) || nat_lt 0 (length ys)) ≡ nat_lt 0 (length (map told xs ++ map gone ys))
 differs [] [] = refl
-differs [] (y ∷ ys) = refl
-differs (x ∷ xs) ys = refl
+differs [] (y ∷ ys) = sym (more (length ys)) ∙ more (length (map gone ys))
+differs (x ∷ xs) ys = ap (λ (b : Bool). b || nat_lt 0 (length ys)) (sym (more (length xs))) ∙ more (length (map told xs ++ map gone ys))
 
 pub either_changed : (xs ys : List (List ℕ)) → (nat_lt 0 (length xs) || nat_lt 0 (length ys)) ≡ nat_lt 0 (length (xs ++ ys))
 either_changed [] ys = refl
-either_changed (x ∷ xs) ys = refl
+either_changed (x ∷ xs) ys = ap (λ (b : Bool). b || nat_lt 0 (length ys)) (sym (more (length xs))) ∙ more (length (xs ++ ys))
+
+-- ---- where all are as they were
+
+side_same : (x : Side) → same_side x x ≡ true
+side_same side.Source = refl
+side_same side.Kept = refl
+
+state_same : (x : FlowState) → same_state x x ≡ true
+state_same state.Outstanding = refl
+state_same state.Answered = refl
+state_same state.Idle = refl
+state_same state.Waits = refl
+state_same state.Taken = refl
+state_same state.Dead = refl
+state_same state.Never = refl
+
+name_same : (p : FlowPart) → same_name p p ≡ true
+name_same p = ap₂ (λ (a b : Bool). a && b) (side_same p.side) (same_flow-refl p.flow)
+
+part_same : (p : FlowPart) → same_flow_part p p ≡ true
+part_same p =
+    let number : (p.number == p.number) ≡ true = eq-eqb p.number p.number refl in
+    ap₂ (λ (a b : Bool). a && b) (ap₂ (λ (a b : Bool). a && b) (name_same p) (state_same p.state)) number
+
+found : (test : FlowPart → Bool) (front back : List FlowPart) (x : FlowPart) → test x ≡ true → list_any test (front ++ x ∷ back) ≡ true
+found test [] back x e = ap (λ (b : Bool). b || list_any test back) e
+found test (y ∷ front) back x e = by (test y) (found test front back x e) where
+  by : (b : Bool) → list_any test (front ++ x ∷ back) ≡ true → (b || list_any test (front ++ x ∷ back)) ≡ true
+  by true h = refl
+  by false h = h
+
+-- each of a list is found in it, and so none has another text or is lost
+all_found : (same : FlowPart → FlowPart → Bool) → ((p : FlowPart) → same p p ≡ true) → (front xs : List FlowPart) → filter (λ p. not (list_any (λ q. same q p) (front ++ xs))) xs ≡ []
+all_found same itself front [] = refl
+all_found same itself front (x ∷ xs) =
+    let there : list_any (λ q. same q x) (front ++ x ∷ xs) ≡ true = found (λ q. same q x) front xs x (itself x) in
+    let whole : (front ++ x ∷ []) ++ xs ≡ front ++ x ∷ xs = append_assoc front (x ∷ []) xs in
+    keeps (λ p. not (list_any (λ q. same q p) (front ++ x ∷ xs))) x xs false (ap not there)
+    ∙ ap (λ (all : List FlowPart). filter (λ p. not (list_any (λ q. same q p) all)) xs) (sym whole) ∙ all_found same itself (front ++ x ∷ []) xs
+
+pub no_flow_changed : (xs : List FlowPart) → changed_flows xs xs ≡ []
+no_flow_changed xs = ap₂ (λ (a b : List FlowPart). map told a ++ map gone b) (all_found same_flow_part part_same [] xs) (all_found same_name name_same [] xs)
+
+no_list_changed : (ls : List (List FlowPart)) → changed_lists ls ls ≡ []
+no_list_changed [] = refl
+no_list_changed (l ∷ ls) = ap₂ (λ (a b : List (List ℕ)). a ++ b) (no_flow_changed l) (no_list_changed ls)
+
+pub no_part_changed : (p : AllParts) → changed_parts p p ≡ []
+no_part_changed p = ap₂ (λ (a b : List (List ℕ)). a ++ b) (none_changed p.fixed) (no_list_changed p.flows)
+
+-- and nothing is put into an object
+pub none_changed_now : (before now : AllParts) (text : List ℕ) → text ≡ [] → before ≡ now → text ++ mark (codes "{}") (codes "}") (length text) ≡ object (changed_parts before now)
+none_changed_now before now text empty same =
+    ap (λ (t : List ℕ). t ++ mark (codes "{}") (codes "}") (length t)) empty ∙ sym (ap object (ap (λ (p : AllParts). changed_parts p now) same ∙ no_part_changed now))
+
+-- a carrier of which nothing is known of flows
+pub without_flows : (before : AllParts) (now : List (List ℕ)) → changed_parts before (record { fixed = now; flows = [] }) ≡ changed before.fixed now
+without_flows before now = ap (λ (xs : List (List ℕ)). changed before.fixed now ++ xs) (no_lists before.flows) ∙ append-nil (changed before.fixed now)

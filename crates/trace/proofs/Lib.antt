@@ -8,6 +8,7 @@ pub mod Printed
 pub mod Extending
 pub mod FirstLine
 pub mod Flowing
+pub mod FlowTexts
 pub mod Each
 pub mod Rest
 pub mod Calms

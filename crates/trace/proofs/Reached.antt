@@ -18,9 +18,10 @@ use Rattle.trace.specs.Changes.{put_at, put_text}
 use Rattle.trace.specs.Parts.{Down, Waiting, SamePart, moves_host, reaches}
 use Rattle.trace.specs.Steps.{OnlyReached}
 use Rattle.trace.specs.Texts.{all_members, member, object, part_name, part_text, parts_members, queues_text}
+use Rattle.trace.specs.declared.all_parts.AllParts.{AllParts}
 use Rattle.trace.specs.Traces.{HasHappened, change_text, plain_inside}
 use Rattle.trace.proofs.Calling.{happens}
-use Rattle.trace.proofs.Changed.{none_changed}
+use Rattle.trace.proofs.Flowing.{no_part_changed}
 use Rattle.trace.proofs.Each.{left_of, refused_leaves, went}
 use Rattle.trace.proofs.Putting.{PutSoFar, none_put, put_more}
 use Rattle.trace.proofs.Rest.{down_left, frame, queues_left}
@@ -40,36 +41,36 @@ refused_same old new (event.Take h) f one gives goes = take_refused old new h f 
 refused_same old new (event.Net e) f one gives goes = (went {T = Unit {0}} (step_refusal old e) (step_grows old e) (λ done. new ≡ stepped old e) old (Err f) new gives goes).1
 refused_same old new (event.Calm rounds) f one gives goes = absurd one
 
-pub refused_texts : (texts : List (List ℕ)) (e : RawEvent) (crossings : List Crossing) (f : CarrierFault) (new : Boxes) → HasHappened plain_calls all_members texts e crossings (Err f) new → texts ≡ all_members new
-refused_texts texts e crossings f new h = h.known ∙ ap all_members (sym (refused_same h.old new e f h.one_call h.gives h.goes_on))
+pub refused_texts : (texts : AllParts) (e : RawEvent) (crossings : List Crossing) (f : CarrierFault) (new : Boxes) → HasHappened plain_calls plain_inside.members texts e crossings (Err f) new → texts ≡ plain_inside.members new
+refused_texts texts e crossings f new h = h.known ∙ ap plain_inside.members (sym (refused_same h.old new e f h.one_call h.gives h.goes_on))
 
 pub refused_parts : (old new : Boxes) (e : RawEvent) (shown : List Shown) → IsOneCall e → (h : Happens plain_calls old e new shown) → is_ok h.outcome ≡ false → change_text plain_inside old new ≡ codes "{}"
 refused_parts old new e shown one h refused = by h.outcome h.gives h.goes_on refused where
   by : (r : Result (Unit {0}) CarrierFault) → EventGives plain_calls old e r new → GoesOn r → is_ok r ≡ false → change_text plain_inside old new ≡ codes "{}"
   by (Ok done) gives goes r_err = absurd (false≢true (sym r_err))
-  by (Err f) gives goes r_err = ap (λ (b : Boxes). change_text plain_inside old b) (refused_same old new e f one gives goes) ∙ ap object (none_changed (all_members old))
+  by (Err f) gives goes r_err = ap (λ (b : Boxes). change_text plain_inside old b) (refused_same old new e f one gives goes) ∙ ap object (no_part_changed (plain_inside.members old))
 
 -- ---- calls that keep all parts
 
-pub offer_keeps : (old new : Boxes) (m : HostMessage) (e : CarrierFault) → is_memory e ≡ false → plain_calls.offers old m (Err e) new → all_members new ≡ all_members old
-offer_keeps old new m e lasts h = ap all_members (refused_leaves {T = Unit {0}} (offer_refusal old m.flow) true (λ done. new ≡ offered old m) old e new lasts h)
+pub offer_keeps : (old new : Boxes) (m : HostMessage) (e : CarrierFault) → is_memory e ≡ false → plain_calls.offers old m (Err e) new → plain_inside.members new ≡ plain_inside.members old
+offer_keeps old new m e lasts h = ap plain_inside.members (refused_leaves {T = Unit {0}} (offer_refusal old m.flow) true (λ done. new ≡ offered old m) old e new lasts h)
 
-pub take_keeps : (old new : Boxes) (h : Host) (e : CarrierFault) → is_memory e ≡ false → plain_calls.takes old h (Err e) new → all_members new ≡ all_members old
-take_keeps old new h e lasts t = ap all_members (refused_leaves {T = Option Inbound} (host_refusal old h) (take_grows old h) (λ o. (o ≡ next_for old h) × (new ≡ inbound_taken old h o)) old e new lasts t)
+pub take_keeps : (old new : Boxes) (h : Host) (e : CarrierFault) → is_memory e ≡ false → plain_calls.takes old h (Err e) new → plain_inside.members new ≡ plain_inside.members old
+take_keeps old new h e lasts t = ap plain_inside.members (refused_leaves {T = Option Inbound} (host_refusal old h) (take_grows old h) (λ o. (o ≡ next_for old h) × (new ≡ inbound_taken old h o)) old e new lasts t)
 
-pub none_keeps : (old new : Boxes) (h : Host) → plain_calls.takes old h (Ok None) new → all_members new ≡ all_members old
-none_keeps old new h t = ap all_members t.1.1
+pub none_keeps : (old new : Boxes) (h : Host) → plain_calls.takes old h (Ok None) new → plain_inside.members new ≡ plain_inside.members old
+none_keeps old new h t = ap plain_inside.members t.1.1
 
 -- ---- any event
 
-pub only_reached : (texts : List (List ℕ)) (e : RawEvent) (crossings : List Crossing) (r : Result (Unit {0}) CarrierFault) (new : Boxes) → HasHappened plain_calls all_members texts e crossings r new → OnlyReached texts e crossings new
+pub only_reached : (texts : AllParts) (e : RawEvent) (crossings : List Crossing) (r : Result (Unit {0}) CarrierFault) (new : Boxes) → HasHappened plain_calls plain_inside.members texts e crossings r new → OnlyReached texts.fixed e crossings new
 only_reached texts e crossings r new h =
     let shown : List Shown = shown_crossings crossings ++ shown_refusal r in
-    let k : Happens plain_calls h.old e new shown = happens plain_calls all_members texts e crossings r new h in
+    let k : Happens plain_calls h.old e new shown = happens plain_calls plain_inside.members texts e crossings r new h in
     let crossed : crossings_of shown ≡ crossings = crossings_shown crossings r in
     let left = left_of h.old new e shown h.one_call k in record {
       old = h.old;
-      known = h.known;
+      known = ap (λ (p : AllParts). p.fixed) h.known;
       hosts = (frame h.old new e shown h.one_call k).hosts;
       down = down_left h.old new e left;
       waiting = λ g none. queues_left h.old new e shown g left k (ap (λ (cs : List Crossing). reaches e cs g) crossed ∙ none);

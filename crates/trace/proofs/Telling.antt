@@ -17,6 +17,7 @@ use Rattle.script.specs.declared.event.RawEvent.TheVariants as event
 use Rattle.trace.specs.declared.element.Element.{Element}
 use Rattle.trace.specs.declared.element.Spot.{Spot}
 use Rattle.trace.specs.Elements.{elements_in}
+use Rattle.trace.specs.Changes.{members_of}
 use Rattle.trace.specs.Steps.{ElementEnds, EndsAs, EventEnds}
 use Rattle.trace.specs.Traces.{AfterOpening, GoesOnWith, Inside, MayTell, StopsElement, TellsElement, WritesTrace, numbered_from}
 
@@ -144,9 +145,9 @@ numbered_none events i n past = ap (numbered_from n) (drop_all i events past)
 
 -- ---- the first line
 
-pub opened : {C : Type 0} (inside : Inside C) (t : TopologyFields) (opening : C) (AreLines : List (List ℕ) → Type 0) (a b c : Option (List ℕ)) → Appends a b (ended_line (opening_line t (object (inside.members opening)))) → WritesTrace AreLines b c → WritesTrace (AfterOpening inside t opening AreLines) a c
+pub opened : {C : Type 0} (inside : Inside C) (t : TopologyFields) (opening : C) (AreLines : List (List ℕ) → Type 0) (a b c : Option (List ℕ)) → Appends a b (ended_line (opening_line t (object (members_of (inside.members opening))))) → WritesTrace AreLines b c → WritesTrace (AfterOpening inside t opening AreLines) a c
 opened inside t opening AreLines a b c first others = record {
-  shown = opening_line t (object (inside.members opening)) ∷ others.shown;
+  shown = opening_line t (object (members_of (inside.members opening))) ∷ others.shown;
   is_shown = (others.shown, refl, others.is_shown);
-  written = appends_more a b c (ended_line (opening_line t (object (inside.members opening)))) (text_of (λ line. line) others.shown) first others.written;
+  written = appends_more a b c (ended_line (opening_line t (object (members_of (inside.members opening))))) (text_of (λ line. line) others.shown) first others.written;
 }
