@@ -16,8 +16,9 @@ ghost use Rattle.subnet_trace.specs.Fates.{fate_of};
 ghost use Rattle.subnet_trace.specs.Parts.{Part, Imp, Line, SamePart, is_named, is_part};
 ghost use Rattle.subnet_trace.specs.Told.{IsOneNetwork, SameTexts};
 ghost use Rattle.subnet_trace.specs.declared.place.Stage.TheVariants as stage;
+ghost use Rattle.trace.specs.Flows.{told};
 ghost use Rattle.trace.specs.declared.fate.Fate.TheVariants as fates;
-ghost use Rattle.subnet_trace.specs.Texts.{channel_text, frame_text, heard_text, imp_text, kept_text, line_text, next_text, packet_text, slot_text, source_text, whole_text};
+ghost use Rattle.subnet_trace.specs.Texts.{channel_text, frame_text, heard_text, imp_text, kept_of, kept_part, line_text, next_text, packet_text, slot_text, source_part, sources_of, whole_text};
 ghost use Rattle.subnet_trace.specs.Worked.{arrives, distances_frame, end_down_at_2, fate_at_1, fate_at_2, flow, frame_on, full_at_1, full_at_2, gone, heard_on_two, hosts_down_at_2, long, looping};
 ghost use Rattle.subnet_trace.specs.Worked.{no_slot_at_2, nowhere, piece, piece_frame, rfnm, sends, slot, takes, tells, two_lines, unmarked_frame, waiting_at_2, with_dead};
 ghost use Rattle.subnet_trace.specs.Laws.WorkedPackets.{WorkedPacketsBusy, WorkedPacketsPacket, WorkedPacketsSlot};
@@ -46,14 +47,17 @@ pub fn worked_packets()
 
 /// Hosts, ports, flows, IMPs and lines.
 pub fn worked_parts()
-    ensures source { source_text (opening_node 1 1 0) (flow, standing.Outstanding 7) ≡ codes "{\"state\":\"outstanding\",\"from\":\"0/1\",\"to\":\"1/2\",\"link\":5,\"number\":7}" }
-    ensures idle { source_text (opening_node 1 1 0) (flow, standing.Idle 7) ≡ codes "{\"state\":\"idle\",\"from\":\"0/1\",\"to\":\"1/2\",\"link\":5,\"number\":7}" }
+    ensures source { told (source_part (opening_node 1 1 0) (flow, standing.Outstanding 7)) ≡ codes "\"source 0/1 1/2 5\":{\"state\":\"outstanding\",\"number\":7}" }
+    ensures idle { told (source_part (opening_node 1 1 0) (flow, standing.Idle 7)) ≡ codes "\"source 0/1 1/2 5\":{\"state\":\"idle\",\"number\":7}" }
 
     // a Dead that was given at once waits: the flow is not idle, though its last number is. A Dead of another flow doesn't matter
-    ensures dead { source_text (with_dead flow) (flow, standing.Idle 7) ≡ codes "{\"state\":\"dead\",\"from\":\"0/1\",\"to\":\"1/2\",\"link\":5,\"number\":7}" }
+    ensures dead { told (source_part (with_dead flow) (flow, standing.Idle 7)) ≡ codes "\"source 0/1 1/2 5\":{\"state\":\"dead\",\"number\":7}" }
     ensures other_dead { WorkedPartsOtherDead }
-    ensures answered { source_text (with_dead flow) (flow, standing.Answered 7) ≡ codes "{\"state\":\"answered\",\"from\":\"0/1\",\"to\":\"1/2\",\"link\":5,\"number\":7}" }
-    ensures kept { kept_text (flow, record { number = 7; fate = fate.Waits }) ≡ codes "{\"fate\":\"waits\",\"from\":\"0/1\",\"to\":\"1/2\",\"link\":5,\"number\":7}" }
+    ensures answered { told (source_part (with_dead flow) (flow, standing.Answered 7)) ≡ codes "\"source 0/1 1/2 5\":{\"state\":\"answered\",\"number\":7}" }
+    ensures kept { told (kept_part (flow, record { number = 7; fate = fate.Waits })) ≡ codes "\"kept 0/1 1/2 5\":{\"fate\":\"waits\",\"number\":7}" }
+
+    // an IMP that is down knows of no flow
+    ensures none_known { (sources_of None ≡ []) × (kept_of None ≡ []) }
     ensures host { WorkedPartsHost }
     ensures port { WorkedPartsPort }
     ensures heard { heard_text (Some (0 ∷ 62 ∷ [])) ≡ codes "{\"1\":0,\"2\":62}" }
@@ -75,8 +79,8 @@ pub fn worked_untold()
     ensures channel { frame_text (frame_on long) ≡ frame_text (frame_on (2 * long)) }
     ensures message { whole_text (record { flow = flow; number = long; text = [] }) ≡ whole_text (record { flow = flow; number = 2 * long; text = [] }) }
     ensures answer { WorkedUntoldAnswer }
-    ensures begun { source_text (opening_node 1 1 0) (flow, standing.Idle long) ≡ source_text (opening_node 1 1 0) (flow, standing.Idle (2 * long)) }
-    ensures noted { kept_text (flow, record { number = long; fate = fate.Waits }) ≡ kept_text (flow, record { number = 2 * long; fate = fate.Waits }) }
+    ensures begun { told (source_part (opening_node 1 1 0) (flow, standing.Idle long)) ≡ told (source_part (opening_node 1 1 0) (flow, standing.Idle (2 * long))) }
+    ensures noted { told (kept_part (flow, record { number = long; fate = fate.Waits })) ≡ told (kept_part (flow, record { number = 2 * long; fate = fate.Waits })) }
 
     // a distance of 64 is not printed, as one of 63 isn't, nor that the last ones are missing
     ensures too_far { heard_text (Some (64 ∷ [])) ≡ heard_text (Some (63 ∷ [])) }

@@ -1,5 +1,5 @@
 -- What is known of a flow has a text of its own.
-use Rattle.std.proofs.Common.{◌≡◌, ℕ, ◌==◌, false, List, [], ◌∷◌, ◌++◌, codes, if◌then◌else◌, refl, sym, ap, ◌∙◌}
+use Rattle.std.proofs.Common.{◌≡◌, ℕ, ◌==◌, false, List, [], ◌∷◌, ◌++◌, codes, if◌then◌else◌, lit<, refl, sym, ap, ◌∙◌}
 use Rattle.std.proofs.lemmas.List.{append_assoc}
 use Rattle.std.proofs.lemmas.List.Elements.{All-append, All-cons}
 use Rattle.std.specs.Fmt.{decimal}
