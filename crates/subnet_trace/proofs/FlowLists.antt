@@ -95,8 +95,8 @@ two_put now whole place known later text longer olds news x y a b put added h = 
   there = put ∙ ap₂ (λ (ks : List (List FlowPart)) (n : ℕ). slice_set (slice_set ks n a) (n + 1) b) h.there h.count ∙ two_set h.front olds x y a b;
   all = h.all ∙ two_more h.front news a b;
   written = ap (λ (t : List ℕ). extended t (changed_lists olds news)) (added ∙ ap₂ (λ (was wie : List FlowPart). extended text (changed_flows was a ++ changed_flows wie b)) first second)
-  ∙ extended_twice text (changed_flows x a ++ changed_flows y b) (changed_lists olds news)
-  ∙ ap (extended text) (append_assoc (changed_flows x a) (changed_flows y b) (changed_lists olds news)) ∙ h.written;
+      ∙ extended_twice text (changed_flows x a ++ changed_flows y b) (changed_lists olds news)
+      ∙ ap (extended text) (append_assoc (changed_flows x a) (changed_flows y b) (changed_lists olds news)) ∙ h.written;
 } where
   first : slice_index_or known place [] ≡ x
   first = ap₂ (λ (ks : List (List FlowPart)) (n : ℕ). slice_index_or ks n []) h.there h.count ∙ first_at h.front olds x y

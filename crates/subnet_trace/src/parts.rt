@@ -203,11 +203,7 @@ fn push_imp(
 /// Returns the IMPs and the lines, each with its name, as the members of an object: the IMPs by rising number, and the lines in order.
 ///
 /// Errors: `AllocError`.
-fn all_members(
-    alloc: Global,
-    subnet: &Subnet,
-    notes: &mut Notes,
-) -> Result<Members, AllocError>
+fn all_members(alloc: Global, subnet: &Subnet, notes: &mut Notes) -> Result<Members, AllocError>
     ensures { IfOk result (λ members. members ≡ parts_members subnet.now.net (all_parts subnet.now.net)) }
 {
     let mut members = Members::new(alloc);

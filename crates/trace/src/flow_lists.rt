@@ -180,11 +180,7 @@ fn add_altered(
 }
 
 /// Adds that flows are there no more.
-fn add_lost(
-    before: &[FlowPart],
-    now: &[FlowPart],
-    object: Vec<u8>,
-) -> Result<Vec<u8>, AllocError>
+fn add_lost(before: &[FlowPart], now: &[FlowPart], object: Vec<u8>) -> Result<Vec<u8>, AllocError>
     ensures { IfOk result (λ text. text.items ≡ extended object.items (map gone (lost before.now now.now))) }
 {
     let mut text = object;
