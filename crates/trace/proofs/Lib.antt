@@ -9,6 +9,7 @@ pub mod Extending
 pub mod FirstLine
 pub mod Flowing
 pub mod FlowTexts
+pub mod FlowLaws
 pub mod Each
 pub mod Rest
 pub mod Calms

@@ -1,7 +1,7 @@
 -- Which parts are other than they were: those that are always there, and flows, which come and go.
-use Rattle.std.specs.Prelude.{ℕ, Bool, false, not, ◌++◌, ◌∷◌, List, [], filter, if◌then◌else◌, length, map, nat_eq, slice_get, slice_set, Option, Some, None}
+use Rattle.std.specs.Prelude.{◌≡◌, ◌<◌, ℕ, Bool, false, not, ◌++◌, ◌∷◌, List, [], filter, if◌then◌else◌, length, map, nat_eq, slice_get, slice_index_or, slice_set, Option, Some, None}
 use Rattle.std.specs.Cmp.Lexicographic.{pointwise}
-use Rattle.std.specs.List.{flat_map, list_any}
+use Rattle.std.specs.List.{Contains, flat_map, list_any}
 use Rattle.trace.specs.Flows.{gone, same_flow_part, same_name, told}
 use Rattle.trace.specs.Joined.{extended, part_behind}
 use Rattle.trace.specs.declared.all_parts.AllParts.{AllParts}
@@ -59,6 +59,12 @@ members_of p = p.fixed ++ flat_map (map told) p.flows
 -- those that are other than before, or there no more
 abbrev pub changed_parts : AllParts → AllParts → List (List ℕ)
 changed_parts before now = changed before.fixed now.fixed ++ changed_lists before.flows now.flows
+
+-- a flow was in the list at this place, of which there is one now, and is there no more
+pub record IsLostAt (before now : List (List FlowPart)) (place : ℕ) (p : FlowPart) : Type 0 where
+  pub place : place < length now
+  pub was : Contains (slice_index_or before place []) p
+  pub none : is_there (slice_index_or now place []) p ≡ false
 
 -- ---- one by one
 
