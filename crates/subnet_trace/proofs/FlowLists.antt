@@ -56,7 +56,7 @@ pub record FlowsPut (now : List (List FlowPart)) (whole : List ℕ) (place : ℕ
 pub flows_begin : (before now : List (List FlowPart)) (text : List ℕ) → FlowsPut now (extended text (changed_lists before now)) 0 before text before now
 flows_begin before now text = record { front = []; count = refl; there = refl; all = refl; written = refl }
 
-two_set : (front rest : List (List FlowPart)) (x y a b : List FlowPart) → slice_set (slice_set (front ++ x ∷ y ∷ rest) (length front) a) (length front + 1) b ≡ (front ++ a ∷ b ∷ []) ++ rest
+two_set : (front rest : List (List FlowPart)) (x y a b : List FlowPart) → slice_set (slice_set (front ++ x ∷ y ∷ rest) (length front) a) (suc (length front)) b ≡ (front ++ a ∷ b ∷ []) ++ rest
 two_set [] rest x y a b = refl
 two_set (z ∷ front) rest x y a b = ap (λ (zs : List (List FlowPart)). z ∷ zs) (two_set front rest x y a b)
 
@@ -64,7 +64,7 @@ first_at : (front rest : List (List FlowPart)) (x y : List FlowPart) → slice_i
 first_at [] rest x y = refl
 first_at (z ∷ front) rest x y = first_at front rest x y
 
-second_at : (front rest : List (List FlowPart)) (x y : List FlowPart) → slice_index_or (front ++ x ∷ y ∷ rest) (length front + 1) [] ≡ y
+second_at : (front rest : List (List FlowPart)) (x y : List FlowPart) → slice_index_or (front ++ x ∷ y ∷ rest) (suc (length front)) [] ≡ y
 second_at [] rest x y = refl
 second_at (z ∷ front) rest x y = second_at front rest x y
 
@@ -92,17 +92,20 @@ pub two_put : (now : List (List FlowPart)) (whole : List ℕ) (place : ℕ) (kno
 two_put now whole place known later text longer olds news x y a b put added h = record {
   front = h.front ++ a ∷ b ∷ [];
   count = two_places place h.front a b h.count;
-  there = put ∙ ap₂ (λ (ks : List (List FlowPart)) (n : ℕ). slice_set (slice_set ks n a) (n + 1) b) h.there h.count ∙ two_set h.front olds x y a b;
+  there = put ∙ ap (λ (n : ℕ). slice_set (slice_set known place a) n b) after ∙ ap₂ (λ (ks : List (List FlowPart)) (n : ℕ). slice_set (slice_set ks n a) (suc n) b) h.there h.count ∙ two_set h.front olds x y a b;
   all = h.all ∙ two_more h.front news a b;
   written = ap (λ (t : List ℕ). extended t (changed_lists olds news)) (added ∙ ap₂ (λ (was wie : List FlowPart). extended text (changed_flows was a ++ changed_flows wie b)) first second)
       ∙ extended_twice text (changed_flows x a ++ changed_flows y b) (changed_lists olds news)
       ∙ ap (extended text) (append_assoc (changed_flows x a) (changed_flows y b) (changed_lists olds news)) ∙ h.written;
 } where
+  after : place + 1 ≡ suc place
+  after = omega arith
+
   first : slice_index_or known place [] ≡ x
   first = ap₂ (λ (ks : List (List FlowPart)) (n : ℕ). slice_index_or ks n []) h.there h.count ∙ first_at h.front olds x y
 
   second : slice_index_or known (place + 1) [] ≡ y
-  second = ap₂ (λ (ks : List (List FlowPart)) (n : ℕ). slice_index_or ks (n + 1) []) h.there h.count ∙ second_at h.front olds x y
+  second = ap (λ (n : ℕ). slice_index_or known n []) after ∙ ap₂ (λ (ks : List (List FlowPart)) (n : ℕ). slice_index_or ks (suc n) []) h.there h.count ∙ second_at h.front olds x y
 
 pub two_within : (now : List (List FlowPart)) (whole : List ℕ) (place : ℕ) (known : List (List FlowPart)) (text : List ℕ) (olds news : List (List FlowPart)) (x y : List FlowPart) → FlowsPut now whole place known text (x ∷ y ∷ olds) news → place + 1 < length known
 two_within now whole place known text olds news x y h =

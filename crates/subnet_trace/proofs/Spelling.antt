@@ -8,7 +8,7 @@ use Rattle.script.specs.Steps.{Lacks}
 use Rattle.script.proofs.lemmas.{unmarked_where}
 use Rattle.trace.specs.Texts.{bits_members, flow_members}
 pub use Rattle.trace.proofs.lemmas.{Any, bool_spelled, word_closed}
-use Rattle.trace.proofs.lemmas.{Words, answer_spelled, bits_closed, bits_same, flow_closed, flow_same, other_first, strings_spelled, told_once}
+use Rattle.trace.proofs.lemmas.{Words, answer_spelled, bits_closed, bits_same, flow_closed, flow_same, other_first, part_once, strings_spelled}
 use Rattle.subnet_trace.specs.Texts.{awaits_host, fate_state, kept_part, piece_members, source_part, standing_state}
 use Rattle.trace.specs.Flows.{told}
 use Rattle.trace.specs.declared.flow_part.FlowPart.{FlowPart}
@@ -187,6 +187,7 @@ standing_in state.Answered l = standing.Answered l
 standing_in x l = standing.Idle l
 
 standing_again : (waits : Bool) (s : Standing) → standing_in (standing_state waits s) (last_of s) ≡ s
+unfolding standing_in
 standing_again true (standing.Idle l) = refl
 standing_again false (standing.Idle l) = refl
 standing_again waits (standing.Outstanding l) = refl
@@ -195,7 +196,7 @@ standing_again waits (standing.Answered l) = refl
 -- of two IMPs
 pub source_once : (s t : State) (e f : Flow × Standing) → IsSourceTold e → IsSourceTold f → told (source_part s e) ≡ told (source_part t f) → e ≡ f
 source_once s t e f p q h =
-    let same : source_part s e ≡ source_part t f = told_once (source_part s e) (source_part t f) (record { flow = p.flow; number = p.number }) (record { flow = q.flow; number = q.number }) h in
+    let same : source_part s e ≡ source_part t f = part_once (source_part s e) (source_part t f) (record { flow = p.flow; number = p.number }) (record { flow = q.flow; number = q.number }) h in
     let standings : e.1 ≡ f.1 = sym (standing_again (awaits_host s e.0) e.1) ∙ ap (λ (x : FlowPart). standing_in x.state x.number) same ∙ standing_again (awaits_host t f.0) f.1 in
     λ i. ((same i).flow, standings i)
 
@@ -206,6 +207,7 @@ fate_in state.Dead = fate.Dead
 fate_in x = fate.Never
 
 fate_again : (x : Fate) → fate_in (fate_state x) ≡ x
+unfolding fate_in
 fate_again fate.Waits = refl
 fate_again fate.Taken = refl
 fate_again fate.Dead = refl
@@ -213,6 +215,6 @@ fate_again fate.Never = refl
 
 pub kept_once : (e f : Flow × Noted) → IsKeptTold e → IsKeptTold f → told (kept_part e) ≡ told (kept_part f) → e ≡ f
 kept_once e f p q h =
-    let same : kept_part e ≡ kept_part f = told_once (kept_part e) (kept_part f) (record { flow = p.flow; number = p.number }) (record { flow = q.flow; number = q.number }) h in
+    let same : kept_part e ≡ kept_part f = part_once (kept_part e) (kept_part f) (record { flow = p.flow; number = p.number }) (record { flow = q.flow; number = q.number }) h in
     let fates : e.1.fate ≡ f.1.fate = sym (fate_again e.1.fate) ∙ ap (λ (x : FlowPart). fate_in x.state) same ∙ fate_again f.1.fate in
     λ i. ((same i).flow, record { number = (same i).number; fate = fates i })

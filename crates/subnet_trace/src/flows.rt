@@ -106,7 +106,7 @@ fn parts_of<V: Known>(
 
 /// Returns what an IMP, which may be down, knows of the flows that begin there.
 pub(crate) fn sources_of(alloc: Global, imp: Option<&Imp>) -> Result<Vec<FlowPart>, AllocError>
-    ensures { IfOk result (λ parts. parts.items ≡ texts.sources_of (option_copied imp)) }
+    ensures { IfOk result (λ parts. parts.items ≡ texts.sources_of (option_copied imp.entry)) }
 {
     match imp {
         Some(imp) => parts_of(alloc, Side::Source, imp, imp.sources().iter()),
@@ -116,7 +116,7 @@ pub(crate) fn sources_of(alloc: Global, imp: Option<&Imp>) -> Result<Vec<FlowPar
 
 /// Returns what an IMP, which may be down, knows of the flows that end there.
 pub(crate) fn kept_of(alloc: Global, imp: Option<&Imp>) -> Result<Vec<FlowPart>, AllocError>
-    ensures { IfOk result (λ parts. parts.items ≡ texts.kept_of (option_copied imp)) }
+    ensures { IfOk result (λ parts. parts.items ≡ texts.kept_of (option_copied imp.entry)) }
 {
     match imp {
         Some(imp) => parts_of(alloc, Side::Kept, imp, imp.kept_flows().iter()),

@@ -1,12 +1,13 @@
 //! The parts of a subnet, printed, and those that an event has changed.
 
-ghost use Rattle.std.specs.Prelude.{◌≡◌, ◌<◌, ◌+◌, ◌++◌, [], IfOk, OnOk, false, length, option_copied};
+ghost use Rattle.std.specs.Prelude.{◌≡◌, ◌<◌, ◌+◌, ◌++◌, [], IfOk, OnOk, false, length};
 ghost use Rattle.std.specs.Io.KnownBytes.{Appends};
 ghost use Rattle.replay.specs.Failing.{TellsFailure};
 ghost use Rattle.script.specs.declared.event.RawEvent.TheVariants as raw;
 ghost use Rattle.subnet_trace.specs.Parts as parts;
 ghost use Rattle.subnet_trace.specs.Parts.{Imp, Line, part_name, part_text, parts_members, parts_of_net, all_parts};
 ghost use Rattle.subnet.specs.Events.{is_imp};
+ghost use Rattle.subnet.specs.Net.{imp_at};
 ghost use Rattle.subnet_trace.specs.Printing.{changed_at, flow_members, flows_there, imp_members, members_behind, named, place_after_members, put_lists};
 ghost use Rattle.subnet_trace.specs.Scopes as scopes;
 ghost use Rattle.subnet_trace.specs.Scopes.{HasFlowsIn, IsOnlyIn, OnlyIn, scope_of};
@@ -19,7 +20,6 @@ use crate::flows::{kept_of, print_known, sources_of};
 use crate::imp::print_imp;
 use crate::lists::InLine;
 use crate::ways::{Notes, Ways};
-use imp_node::Imp;
 use interface::{Direction, NetEvent};
 use replay::{Output, WriteFailed};
 use script::RawEvent;
@@ -302,18 +302,20 @@ fn change_fixed(
 fn put_flows(
     alloc: Global,
     may: bool,
-    imp: Option<&Imp>,
+    subnet: &Subnet,
+    number: u8,
     place: usize,
     known: &mut FlowLists,
     object: Vec<u8>,
 ) -> Result<Vec<u8>, AllocError>
     requires { place + 1 < length known.old }
-    ensures known { OnOk result (known.new ≡ put_lists may known.old place (option_copied imp)) }
-    ensures changed { IfOk result (λ text. text.items ≡ extended object.items (changed_at may known.old place (option_copied imp))) }
+    ensures known { OnOk result (known.new ≡ put_lists may known.old place (imp_at subnet.now.net.imps number)) }
+    ensures changed { IfOk result (λ text. text.items ≡ extended object.items (changed_at may known.old place (imp_at subnet.now.net.imps number))) }
 {
     if !may {
         return Ok(object);
     }
+    let imp = subnet.imp(number);
     let text = known.put(place, sources_of(alloc, imp)?, object)?;
     known.put(place + 1, kept_of(alloc, imp)?, text)
 }
@@ -335,7 +337,7 @@ fn change_flows(
     for number in 0..subnet.imp_places() {
         if subnet.is_imp(number) {
             let may = has_imp(scope, number);
-            text = put_flows(alloc, may, subnet.imp(number), place, known, text)?;
+            text = put_flows(alloc, may, subnet, number, place, known, text)?;
             place += 2;
         }
     }

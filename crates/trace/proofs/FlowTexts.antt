@@ -128,8 +128,8 @@ pub record IsFlowPartNamed (p : FlowPart) : Type 0 where
   pub flow : IsFlowNamed p.flow
   pub number : IsShort p.number
 
-pub told_once : (p q : FlowPart) → IsFlowPartNamed p → IsFlowPartNamed q → told p ≡ told q → p ≡ q
-told_once p q np nq e =
+pub part_once : (p q : FlowPart) → IsFlowPartNamed p → IsFlowPartNamed q → told p ≡ told q → p ≡ q
+part_once p q np nq e =
     let cut = same_cut 34 (flow_name p) (58 ∷ object (flow_members p)) (flow_name q) (58 ∷ object (flow_members q)) (name_closed p) (name_closed q) (rest_same (sym (parted p) ∙ e ∙ parted q)) in
     let names = same_cut 32 (side_word p.side) (flow_text p.flow) (side_word q.side) (flow_text q.flow) (side_whole p.side) (side_whole q.side) cut.front in
     let sides : p.side ≡ q.side = side_once p.side q.side names.front in

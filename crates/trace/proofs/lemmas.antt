@@ -3,7 +3,7 @@ pub use Rattle.trace.proofs.Calling.{happens}
 pub use Rattle.trace.proofs.Calms.{elementary}
 pub use Rattle.trace.proofs.Changed.{none_changed}
 pub use Rattle.trace.proofs.Extending.{ended_object, extended_twice}
-pub use Rattle.trace.proofs.FlowTexts.{IsFlowPartNamed, told_once}
+pub use Rattle.trace.proofs.FlowTexts.{IsFlowPartNamed, part_once}
 pub use Rattle.trace.proofs.Flowing.{no_flow_changed, no_part_changed, none_changed_now}
 pub use Rattle.trace.proofs.Courses.{AllEvents, all_takings_events, idle_rounds, none_events, one_events, passes, rounds_events, takes_here, takings_all, then_events, then_twice}
 pub use Rattle.trace.proofs.Going.{AllRoundsGo, AllTakeSo, Goes, TakesSo, Traced, calm_holds, crossings_are, elementary_of, goes_all, goes_calmly, goes_chain, goes_none, goes_then, or_first, run_one}

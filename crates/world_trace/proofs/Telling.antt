@@ -1,5 +1,5 @@
 -- Events are traced one after the other, and one of them may be the last.
-use Rattle.world_trace.proofs.Common.{Bool, true, false, nat_lt, lt-ltb, ◌≡◌, ◌⊎◌, inl, inr, ℕ, suc, ◌<◌, ◌+◌, List, [], ◌∷◌, ◌++◌, drop, get_or, length, reverse, Option, Some, Result, Ok, Err, arith, refl, sym, ap, ap₂, map, subst, ◌∙◌, false≢true, append_assoc, append-nil, length-append, reverse-append, reverse-reverse, Appends, Crossing, WorldState, Calls, Event, appends_more, appends_none, last_shown, last_written, one_written, Happening, InTurn, text_of, ReplayFault, ended_line, WritesTrace, numbered_from, Spot, HappensInCalm, MayDo, StopsIn, WorldEvent, AreTextsOf, EventEnds, IsAsBefore, StepEnds, state_objects, event_text, line_of, seat_member, services_member, Texts, none_changed, object, shown, MayTell, StopsOne, TellsInCalm}
+use Rattle.world_trace.proofs.Common.{Bool, true, false, nat_lt, lt-ltb, ◌≡◌, ◌⊎◌, inl, inr, ℕ, suc, ◌<◌, ◌+◌, List, [], ◌∷◌, ◌++◌, drop, get_or, length, reverse, Option, Some, Result, Ok, Err, arith, refl, sym, ap, ap₂, map, subst, ◌∙◌, false≢true, append_assoc, append-nil, length-append, reverse-append, reverse-reverse, Appends, Crossing, WorldState, Calls, Event, appends_more, appends_none, last_shown, last_written, one_written, Happening, InTurn, text_of, ReplayFault, ended_line, WritesTrace, numbered_from, Spot, HappensInCalm, MayDo, StopsIn, WorldEvent, AreTextsOf, EventEnds, IsAsBefore, StepEnds, state_objects, event_text, line_of, seat_member, services_member, Texts, none_changed, no_part_changed, object, shown, MayTell, StopsOne, TellsInCalm}
 use Rattle.std.proofs.lemmas.List.{length-reverse}
 use Rattle.std.proofs.Math.Seq.{drop-append_seam}
 use Rattle.replay.specs.InTurn.{EndsInTurn}
@@ -15,7 +15,7 @@ use Rattle.world_trace.specs.Steps.{AreChanged, AreChanges, HasPassed, OneEnds, 
 use Rattle.world_trace.specs.Texts.{opening_text, world_line}
 use Rattle.world_trace.specs.declared.line.Passed.{Passed}
 use Rattle.world_trace.specs.declared.texts.Changes.{Changes}
-use Rattle.trace.specs.Changes.{changed}
+use Rattle.trace.specs.Changes.{changed, changed_parts}
 use Rattle.trace.specs.declared.all_parts.AllParts.{AllParts}
 use Rattle.world_trace.proofs.Stays.{IsQuiet}
 use Rattle.world_trace.specs.Traces.{AfterOpening, IsUnchanged, TellsOne, change_of, state_of}
@@ -92,7 +92,7 @@ no_line AreLines a is = record { shown = []; is_shown = is; written = appends_no
 -- what the texts of two states have that is other than before
 pub changes_are : {C : Type 0} (members : C → AllParts) (old new : WorldState C) (before texts : Texts) (c : Changes) → AreTextsOf members old before → AreTextsOf members new texts → AreChanged before texts c → AreChanges members old new c.parts.items c.programs.items c.services.items
 changes_are members old new before texts c h k are = record {
-  parts_are = are.parts ∙ ap object (ap₂ changed h.parts k.parts);
+  parts_are = are.parts ∙ ap object (ap₂ changed_parts h.parts k.parts);
   programs_are = are.programs ∙ ap object (ap₂ changed h.programs k.programs);
   services_are = are.services ∙ ap object (ap₂ changed h.services k.services);
 }
@@ -105,7 +105,7 @@ line_is members spot round old new e event printed parts programs services cross
     let change : List (List ℕ) = state_objects parts programs services in
     let crossings : drop crossed (reverse new.kept.book.crossings) ≡ gains.crossings =
     ap (λ n. drop n (reverse new.kept.book.crossings)) count ∙ crossings_gained old.kept.book.crossings new.kept.book.crossings gains.crossings gains.crossed in
-    let new_parts : List ℕ = object (changed (members old.carrier) (members new.carrier)) in
+    let new_parts : List ℕ = object (changed_parts (members old.carrier) (members new.carrier)) in
     let new_programs : List ℕ = object (changed (map seat_member old.seats) (map seat_member new.seats)) in
     let state : change ≡ change_of members old new =
     ap (λ (t : List ℕ). state_objects t programs services) are.parts_are ∙ ap (λ (t : List ℕ). state_objects new_parts t services) are.programs_are ∙ ap (λ (t : List ℕ). state_objects new_parts new_programs t) are.services_are in
@@ -143,14 +143,14 @@ is_changed r xs said is none = absurd (false≢true (sym (said ∙ ap (λ (ys : 
 -- an event by which something crosses, or a part changes
 pub step_heard : {C : Type 0} (calls : Calls C) (members : C → AllParts) (spot : Spot) (round : ℕ) (old new : WorldState C) (e : Event) (event printed parts programs services : List ℕ) (crossed : ℕ) (a b : Option (List ℕ))
     → ShowsInCalm calls old e new printed → event ≡ event_text (world.Happen e) → crossed ≡ length old.kept.book.crossings → AreChanges members old new parts programs services
-    → (length old.kept.book.crossings < length new.kept.book.crossings) ⊎ (changed (members old.carrier) (members new.carrier) ≡ [] → ⊥)
+    → (length old.kept.book.crossings < length new.kept.book.crossings) ⊎ (changed_parts (members old.carrier) (members new.carrier) ≡ [] → ⊥)
     → Appends a b (ended_line (line_of spot round event (drop crossed (reverse new.kept.book.crossings)) printed (state_objects parts programs services))) → StepEnds calls members spot round old e (Ok tt) new a b
 step_heard {C} calls members spot round old new e event printed parts programs services crossed a b (shown, happens, says) named count are some written =
     let line : List ℕ = world_line spot round (world.Happen e) happens.gains.crossings shown (change_of members old new) in
     one_line line (TellsInCalm calls members spot round old e new) a b (inr ((shown, happens, refl), λ none same. heard none same some))
     (subst (λ (line : List ℕ). Appends a b (ended_line line)) (line_is members spot round old new (world.Happen e) event printed parts programs services crossed shown happens.gains named says count are) written)
   where
-    heard : shown ≡ [] → IsUnchanged members old new → (length old.kept.book.crossings < length new.kept.book.crossings) ⊎ (changed (members old.carrier) (members new.carrier) ≡ [] → ⊥) → ⊥
+    heard : shown ≡ [] → IsUnchanged members old new → (length old.kept.book.crossings < length new.kept.book.crossings) ⊎ (changed_parts (members old.carrier) (members new.carrier) ≡ [] → ⊥) → ⊥
     heard none same (inl more) = shown_crossed calls old new e shown happens more none
     heard none same (inr other) = other same.parts
 
@@ -165,7 +165,7 @@ none_gained calls old new e shown h same =
     h.lines ∙ same_news old.kept new.kept old.kept h.gains none (gains_once old.kept new.kept old.kept h.gains none same)
 
 -- only parts may have changed, and none is other than before
-quiet_unchanged : {C : Type 0} (members : C → AllParts) (old new : WorldState C) → changed (members old.carrier) (members new.carrier) ≡ [] → new.seats ≡ old.seats → new.services ≡ old.services → IsUnchanged members old new
+quiet_unchanged : {C : Type 0} (members : C → AllParts) (old new : WorldState C) → changed_parts (members old.carrier) (members new.carrier) ≡ [] → new.seats ≡ old.seats → new.services ≡ old.services → IsUnchanged members old new
 quiet_unchanged members old new parts seats services = record {
   parts = parts;
   programs = ap (λ seats. changed (map seat_member old.seats) (map seat_member seats)) seats ∙ none_changed (map seat_member old.seats);
@@ -173,7 +173,7 @@ quiet_unchanged members old new parts seats services = record {
 }
 
 pub step_quiet : {C : Type 0} (own : Calls C) (members : C → AllParts) (spot : Spot) (round : ℕ) (old new : WorldState C) (e : Event) (printed : List ℕ) (a : Option (List ℕ))
-    → ShowsInCalm (shown own) old e new printed → ((lines : List Shown) → HappensInCalm (shown own) old e new lines → IsQuiet own old new) → changed (members old.carrier) (members new.carrier) ≡ [] → StepEnds (shown own) members spot round old e (Ok tt) new a a
+    → ShowsInCalm (shown own) old e new printed → ((lines : List Shown) → HappensInCalm (shown own) old e new lines → IsQuiet own old new) → changed_parts (members old.carrier) (members new.carrier) ≡ [] → StepEnds (shown own) members spot round old e (Ok tt) new a a
 step_quiet {C} own members spot round old new e printed a (lines, happens, says) quiet none =
     let q = quiet lines happens in
     no_line (TellsInCalm (shown own) members spot round old e new) a (inl (
@@ -189,7 +189,7 @@ step_still {C} calls members spot round old new e printed a (shown, happens, say
     let all = still shown happens in
     no_line (TellsInCalm calls members spot round old e new) a (inl (
       subst (λ (ls : List Shown). HappensInCalm calls old e new ls) (none_gained calls old new e shown happens all.kept) happens,
-      quiet_unchanged members old new (ap (changed (members old.carrier)) all.parts ∙ none_changed (members old.carrier)) all.seats all.services,
+      quiet_unchanged members old new (ap (changed_parts (members old.carrier)) all.parts ∙ no_part_changed (members old.carrier)) all.seats all.services,
       refl,
     ))
 

@@ -1,6 +1,5 @@
-use Rattle.subnet_trace.proofs.Common.{◌≡◌, ◌∙◌, ◌+◌, ◌<◌, ◌≤◌, ℕ, List, Option, ap, arith, length, rules, subst, sym, Net, imp_at, Scope, State}
+use Rattle.subnet_trace.proofs.Common.{◌≡◌, ◌∙◌, ◌+◌, ◌<◌, ◌≤◌, ℕ, List, ap, arith, length, rules, subst, sym, Net, Scope}
 use Rattle.subnet_trace.specs.Parts.{all_flows}
-use Rattle.subnet_trace.specs.Printing.{changed_at, put_lists}
 use Rattle.subnet_trace.specs.Scopes.{HasFlowsIn}
 use Rattle.trace.specs.Changes.{changed_lists}
 use Rattle.trace.specs.Joined.{extended}
@@ -34,8 +33,8 @@ loop-number-preserved c =
         omega (arith, c.loop-number.invariant.2, w.place-is),
         subst (λ (k : ℕ). FlowsAt s c.args.known.now n r whole (i + 1) k c.if-is_imp.known c.if-is_imp.text.items) (sym w.place-is)
             (put_at_imp s c.args.known.now n r whole i place w.has_imp-may.result c.loop-number.known c.if-is_imp.known c.loop-number.text.items c.if-is_imp.text.items lt (sym c.is_imp.ensures ∙ w.if-is_imp.true) w.has_imp-may.ensures
-            (w.known-is ∙ w.in_ok-text.ensures.known ∙ ap (λ (o : Option State). put_lists w.has_imp-may.result c.loop-number.known place o) w.imp.ensures)
-            (ap (λ t. t.items) w.text-is ∙ w.in_ok-text.ensures.changed ∙ ap (λ (o : Option State). extended c.loop-number.text.items (changed_at w.has_imp-may.result c.loop-number.known place o)) w.imp.ensures)
+            (w.known-is ∙ w.in_ok-text.ensures.known)
+            (ap (λ t. t.items) w.text-is ∙ w.in_ok-text.ensures.changed)
             c.loop-number.invariant.3),
       )
       | else-is_imp w ↦ (
