@@ -20,7 +20,7 @@ use Rattle.command_line.specs.Printed.{log_of, shown_book}
 use Rattle.command_line.specs.Replayed.{EndsFrom, EndsOver}
 use Rattle.command_line.proofs.Lived.{lived, none_lived}
 use Rattle.command_line.proofs.Once.{world_once}
-use Rattle.command_line.proofs.Settled.{plain_settled}
+use Rattle.trace.proofs.lemmas.{plain_settled}
 
 -- ---- a network without host programs
 

@@ -66,3 +66,7 @@ with_flows flows = record { fixed = codes "a" ∷ []; flows = flows }
 -- the second host stops
 abbrev pub stop : Element
 stop = record { round = 0; event = event.Net (net.HostDown second) }
+
+-- a host takes in this round of a calm
+abbrev pub takes : ℕ → Host → Element
+takes round h = record { round = round; event = event.Take h }

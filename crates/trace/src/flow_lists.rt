@@ -1,5 +1,6 @@
 //! Lists of flows, and which of them have changed.
 
+ghost use Rattle.std.specs.Bool.{OnFalse, OnTrue};
 ghost use Rattle.std.specs.Prelude.{◌≡◌, ◌<◌, ◌++◌, [], ◌∷◌, IfOk, OnOk, length, map, nat_lt, slice_index_or, slice_set};
 ghost use Rattle.trace.specs.Changes.{altered, changed_flows, changed_lists, is_told, is_there, lost};
 ghost use Rattle.trace.specs.Flows.{gone, told};
@@ -17,7 +18,8 @@ pub struct FlowLists {
 }
 
 impl Model for FlowLists {
-    ghost use Rattle.std.specs.Prelude.{List, map};
+    ghost use Rattle.std.specs.Bool.{OnFalse, OnTrue};
+ghost use Rattle.std.specs.Prelude.{List, map};
     ghost use Rattle.trace.specs.declared.flow_part.FlowPart.{FlowPart};
 
     ghost Value = { List (List FlowPart) };
@@ -75,6 +77,35 @@ impl FlowLists {
         false
     }
 
+    /// Returns the same lists again.
+    ///
+    /// Errors: `AllocError`.
+    pub(crate) fn copy(&self, alloc: Global) -> Result<FlowLists, AllocError>
+        ensures { IfOk result (λ copy. copy ≡ self.now) }
+    {
+        let mut copy = FlowLists::new(alloc);
+        for place in 0..self.lists.len() {
+            copy.push(copy_of(alloc, self.at(place))?)?;
+        }
+        Ok(copy)
+    }
+
+    /// Returns whether others are the same lists.
+    pub(crate) fn is_same(&self, other: &FlowLists) -> bool
+        ensures same { OnTrue result (self.now ≡ other.now) }
+        ensures apart { OnFalse result (self.now ≡ other.now → ⊥) }
+    {
+        if self.lists.len() != other.lists.len() {
+            return false;
+        }
+        for place in 0..self.lists.len() {
+            if !are_same(self.at(place), other.at(place)) {
+                return false;
+            }
+        }
+        true
+    }
+
     /// Returns the list at a place, if there is one.
     fn at(&self, place: usize) -> &[FlowPart]
         ensures { result.now ≡ slice_index_or self.now place [] }
@@ -97,6 +128,33 @@ impl FlowLists {
         }
         Ok(text)
     }
+}
+
+/// Returns the same list again.
+fn copy_of(alloc: Global, list: &[FlowPart]) -> Result<Vec<FlowPart>, AllocError>
+    ensures { IfOk result (λ copy. copy.items ≡ list.now) }
+{
+    let mut copy = Vec::new(alloc);
+    for part in list {
+        copy.push(*part)?;
+    }
+    Ok(copy)
+}
+
+/// Returns whether two lists are the same.
+fn are_same(one: &[FlowPart], other: &[FlowPart]) -> bool
+    ensures same { OnTrue result (one.now ≡ other.now) }
+    ensures apart { OnFalse result (one.now ≡ other.now → ⊥) }
+{
+    if one.len() != other.len() {
+        return false;
+    }
+    for place in 0..one.len() {
+        if !one[place].is_same(&other[place]) {
+            return false;
+        }
+    }
+    true
 }
 
 /// Returns whether a flow is told so in a list. It is looked for first at a place, where it mostly is.

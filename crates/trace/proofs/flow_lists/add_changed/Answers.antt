@@ -3,7 +3,7 @@ use Rattle.std.proofs.lemmas.Result.{IfOk-weaker}
 use Rattle.trace.specs.Changes.{altered, changed_flows, lost}
 use Rattle.trace.specs.Flows.{gone, told}
 use Rattle.trace.specs.Joined.{extended}
-use Rattle.trace.proofs.Extending.{extended_twice}
+use Rattle.trace.proofs.Changes.Extending.{extended_twice}
 use Rattle.trace.proofs.flow_lists.add_changed.Goals as goal
 
 pub returns : goal.returns

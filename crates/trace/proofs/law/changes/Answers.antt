@@ -1,6 +1,6 @@
-use Rattle.trace.proofs.Changed.{none}
-use Rattle.trace.proofs.FlowLaws.{all_lost, kept, only}
-use Rattle.trace.proofs.Flowing.{no_part_changed}
+use Rattle.trace.proofs.Changes.Changed.{none}
+use Rattle.trace.proofs.Changes.FlowLaws.{all_lost, kept, only}
+use Rattle.trace.proofs.Changes.Flowing.{no_part_changed}
 use Rattle.trace.proofs.law.changes.Goals as goal
 
 pub returns-clause-kept : goal.returns-clause-kept

@@ -6,9 +6,9 @@ use Rattle.trace.specs.Joined.{mark}
 use Rattle.trace.specs.Parts.{Down}
 use Rattle.trace.specs.Steps.{OnlyReached}
 use Rattle.trace.specs.Texts.{all_members, member, object, part_name, part_text}
-use Rattle.trace.proofs.Extending.{ended_object}
-use Rattle.trace.proofs.Putting.{AllPut, all_put}
-use Rattle.trace.proofs.Reached.{begin_put, host_put, waiting_left, waiting_none}
+use Rattle.trace.proofs.Changes.Extending.{ended_object}
+use Rattle.trace.proofs.Changes.Putting.{AllPut, all_put}
+use Rattle.trace.proofs.Changes.Reached.{begin_put, host_put, waiting_left, waiting_none}
 use Rattle.trace.proofs.parts.change.Goals as goal
 
 pub loop-index-init : goal.loop-index-init

@@ -3,7 +3,7 @@ use Rattle.std.proofs.lemmas.Result.{IfOk-weaker}
 use Rattle.trace.specs.Changes.{changed, changed_lists, changed_parts}
 use Rattle.trace.specs.Joined.{extended, mark}
 use Rattle.trace.specs.Texts.{object}
-use Rattle.trace.proofs.Extending.{ended_object, extended_twice}
+use Rattle.trace.proofs.Changes.Extending.{ended_object, extended_twice}
 use Rattle.trace.proofs.all_parts.AllParts.changed.Goals as goal
 
 pub returns : goal.returns

@@ -2,7 +2,7 @@ use Rattle.std.proofs.Common.{◌<◌, arith, length, List, ℕ}
 use Rattle.trace.specs.Changes.{changed_lists}
 use Rattle.trace.specs.Joined.{extended}
 use Rattle.trace.specs.declared.flow_part.FlowPart.{FlowPart}
-use Rattle.trace.proofs.Flowing.{list_added}
+use Rattle.trace.proofs.Changes.Flowing.{list_added}
 use Rattle.trace.proofs.flow_lists.FlowLists.add_changed.Goals as goal
 
 pub loop-place-preserved : goal.loop-place-preserved

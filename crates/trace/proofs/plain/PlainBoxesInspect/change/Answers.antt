@@ -8,8 +8,8 @@ use Rattle.trace.specs.Texts.{all_members, object}
 use Rattle.trace.specs.Traces.{HasHappened, plain_inside}
 use Rattle.trace.specs.declared.all_parts.AllParts.{AllParts}
 use Rattle.trace.specs.declared.flow_part.FlowPart.{FlowPart}
-use Rattle.trace.proofs.Flowing.{none_changed_now, without_flows}
-use Rattle.trace.proofs.Reached.{only_reached, refused_texts}
+use Rattle.trace.proofs.Changes.Flowing.{none_changed_now, without_flows}
+use Rattle.trace.proofs.Changes.Reached.{only_reached, refused_texts}
 use Rattle.trace.proofs.plain.PlainBoxesInspect.change.Goals as goal
 
 pub change-requires-clause-reached : goal.change-requires-clause-reached

@@ -16,8 +16,8 @@ use Rattle.trace.specs.declared.flow_part.FlowState.{FlowState}
 use Rattle.trace.specs.declared.flow_part.FlowState.TheVariants as state
 use Rattle.trace.specs.declared.flow_part.Side.{Side}
 use Rattle.trace.specs.declared.flow_part.Side.TheVariants as side
-use Rattle.trace.proofs.Changed.{none_changed}
-use Rattle.trace.proofs.Extending.{extended_twice}
+use Rattle.trace.proofs.Changes.Changed.{none_changed}
+use Rattle.trace.proofs.Changes.Extending.{extended_twice}
 
 -- ---- those of which something holds, one after the other
 

@@ -21,9 +21,9 @@ use Rattle.trace.specs.Texts.{all_members, member, object, part_name, part_text,
 use Rattle.trace.specs.declared.all_parts.AllParts.{AllParts}
 use Rattle.trace.specs.Traces.{HasHappened, change_text, plain_inside}
 use Rattle.trace.proofs.Calling.{happens}
-use Rattle.trace.proofs.Flowing.{no_part_changed}
+use Rattle.trace.proofs.Changes.Flowing.{no_part_changed}
 use Rattle.trace.proofs.Each.{left_of, refused_leaves, went}
-use Rattle.trace.proofs.Putting.{PutSoFar, none_put, put_more}
+use Rattle.trace.proofs.Changes.Putting.{PutSoFar, none_put, put_more}
 use Rattle.trace.proofs.Rest.{down_left, frame, queues_left}
 
 -- ---- a refused event

@@ -5,7 +5,7 @@ use Rattle.std.proofs.Math.Seq.{drop-append_seam}
 use Rattle.std.specs.Cmp.Lexicographic.{bytes_decides, pointwise}
 use Rattle.trace.specs.Changes.{changed, is_at, put_at, put_text}
 use Rattle.trace.specs.Joined.{extended, part_behind}
-use Rattle.trace.proofs.Changing.{first, unless}
+use Rattle.trace.proofs.Changes.Changing.{first, unless}
 
 -- as many members as this place are put there, and those of them that have changed are in this object; these are left
 pub record PutSoFar (before now : List (List ℕ)) (place : ℕ) (known : List (List ℕ)) (text : List ℕ) (olds news : List (List ℕ)) : Type 0 where

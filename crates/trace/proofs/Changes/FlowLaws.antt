@@ -14,8 +14,8 @@ use Rattle.trace.specs.declared.flow_part.FlowState.{FlowState}
 use Rattle.trace.specs.declared.flow_part.FlowState.TheVariants as state
 use Rattle.trace.specs.declared.flow_part.Side.{Side}
 use Rattle.trace.specs.declared.flow_part.Side.TheVariants as side
-use Rattle.trace.proofs.Changed as fixed
-use Rattle.trace.proofs.Flowing.{keeps}
+use Rattle.trace.proofs.Changes.Changed as fixed
+use Rattle.trace.proofs.Changes.Flowing.{keeps}
 
 -- ---- two that are the same
 

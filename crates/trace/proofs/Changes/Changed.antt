@@ -4,7 +4,7 @@ use Rattle.std.proofs.lemmas.List.Elements.{Contains-append_cases, Contains-appe
 use Rattle.std.specs.Cmp.Lexicographic.{bytes_decides, pointwise}
 use Rattle.std.specs.List.{Contains}
 use Rattle.trace.specs.Changes.{changed}
-use Rattle.trace.proofs.Changing.{first, unless}
+use Rattle.trace.proofs.Changes.Changing.{first, unless}
 
 -- one more at the beginning of each list
 abbrev IsKept : List (List ℕ) → List (List ℕ) → List ℕ → Type 0
