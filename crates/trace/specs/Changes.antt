@@ -1,5 +1,6 @@
 -- Which parts are other than they were: those that are always there, and flows, which come and go.
-use Rattle.std.specs.Prelude.{◌≡◌, ◌<◌, ℕ, Bool, false, not, ◌++◌, ◌∷◌, List, [], filter, if◌then◌else◌, length, map, nat_eq, slice_get, slice_index_or, slice_set, Option, Some, None}
+use Rattle.std.specs.Prelude.{◌≡◌, ◌<◌, ℕ, Bool, false, not, ◌++◌, ◌∷◌, List, [], filter, if◌then◌else◌, length, map}
+use Rattle.std.specs.Prelude.{nat_eq, slice_get, slice_index_or, slice_set, Option, Some, None}
 use Rattle.std.specs.Cmp.Lexicographic.{pointwise}
 use Rattle.std.specs.List.{Contains, flat_map, list_any}
 use Rattle.trace.specs.Flows.{gone, same_flow_part, same_name, told}
@@ -21,7 +22,8 @@ is_at members place text = has_text (slice_get members place) text
 abbrev pub changed : List (List ℕ) → List (List ℕ) → List (List ℕ)
 changed before [] = []
 changed [] (now ∷ later) = now ∷ changed [] later
-changed (was ∷ before) (now ∷ later) = if pointwise nat_eq was now then changed before later else now ∷ changed before later
+changed (was ∷ before)
+    (now ∷ later) = if pointwise nat_eq was now then changed before later else now ∷ changed before later
 
 -- ---- flows: each is compared with the one of its name
 
@@ -74,4 +76,5 @@ put_at may members place text = if may then slice_set members place text else me
 
 -- and in the text of an object without its end, of members that have changed, if it is other than that member
 abbrev pub put_text : Bool → List (List ℕ) → ℕ → List ℕ → List ℕ → List ℕ
-put_text may members place text object = object ++ (if may then part_behind (not (is_at members place text)) (length object) text else [])
+put_text may members place text object = object ++
+    (if may then part_behind (not (is_at members place text)) (length object) text else [])

@@ -37,7 +37,8 @@ flow_name p = side_word p.side ++ (codes " " ++ flow_text p.flow)
 
 -- what is known, and the number of the message that it is known of
 abbrev pub flow_members : FlowPart → List (List ℕ)
-flow_members p = member (state_name p.side) (quoted (state_word p.state)) ∷ member (codes "number") (decimal p.number) ∷ []
+flow_members p = member (state_name p.side) (quoted (state_word p.state)) ∷ member (codes "number")
+    (decimal p.number) ∷ []
 
 -- the part with its name
 abbrev pub told : FlowPart → List ℕ

@@ -19,7 +19,7 @@ pub struct FlowLists {
 
 impl Model for FlowLists {
     ghost use Rattle.std.specs.Bool.{OnFalse, OnTrue};
-ghost use Rattle.std.specs.Prelude.{List, map};
+    ghost use Rattle.std.specs.Prelude.{List, map};
     ghost use Rattle.trace.specs.declared.flow_part.FlowPart.{FlowPart};
 
     ghost Value = { List (List FlowPart) };

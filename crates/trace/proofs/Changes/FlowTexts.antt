@@ -18,7 +18,8 @@ use Rattle.trace.specs.declared.flow_part.FlowState.{FlowState}
 use Rattle.trace.specs.declared.flow_part.FlowState.TheVariants as state
 use Rattle.trace.specs.declared.flow_part.Side.{Side}
 use Rattle.trace.specs.declared.flow_part.Side.TheVariants as side
-use Rattle.trace.proofs.Closed.{AreClosed, also_closed, first_same, member_once, none_closed, object_once, other_first, quoted_once, rest_same, string_closed}
+use Rattle.trace.proofs.Closed.{AreClosed, also_closed, first_same, member_once, none_closed, object_once, other_first}
+use Rattle.trace.proofs.Closed.{quoted_once, rest_same, string_closed}
 use Rattle.trace.proofs.Decimals.{decimal_closed, decimal_lacks, short_once}
 use Rattle.trace.proofs.Named.{host_words}
 
@@ -71,24 +72,29 @@ side_whole side.Kept = unmarked_where 32 (codes "kept") refl
 host_whole : (h : Host) → Lacks 32 (host_text h)
 host_whole h =
     let P : ℕ → Type 0 = λ x. (x == 32) ≡ false in
-    All-append P (decimal h.host) (47 ∷ decimal h.imp) (decimal_lacks 32 h.host (lit< tt)) (All-cons P 47 (decimal h.imp) refl (decimal_lacks 32 h.imp (lit< tt)))
+    All-append P (decimal h.host) (47 ∷ decimal h.imp) (decimal_lacks 32 h.host (lit< tt))
+    (All-cons P 47 (decimal h.imp) refl (decimal_lacks 32 h.imp (lit< tt)))
 
 host_plain : (h : Host) → Lacks 34 (host_text h)
 host_plain h =
     let P : ℕ → Type 0 = λ x. (x == 34) ≡ false in
-    All-append P (decimal h.host) (47 ∷ decimal h.imp) (decimal_lacks 34 h.host (lit< tt)) (All-cons P 47 (decimal h.imp) refl (decimal_lacks 34 h.imp (lit< tt)))
+    All-append P (decimal h.host) (47 ∷ decimal h.imp) (decimal_lacks 34 h.host (lit< tt))
+    (All-cons P 47 (decimal h.imp) refl (decimal_lacks 34 h.imp (lit< tt)))
 
 flow_plain : (f : Flow) → Lacks 34 (flow_text f)
 flow_plain f =
     let P : ℕ → Type 0 = λ x. (x == 34) ≡ false in
     All-append P (host_text f.source) (32 ∷ (host_text f.destination ++ 32 ∷ decimal f.link.0)) (host_plain f.source)
     (All-cons P 32 (host_text f.destination ++ 32 ∷ decimal f.link.0) refl
-    (All-append P (host_text f.destination) (32 ∷ decimal f.link.0) (host_plain f.destination) (All-cons P 32 (decimal f.link.0) refl (decimal_lacks 34 f.link.0 (lit< tt)))))
+    (All-append P (host_text f.destination) (32 ∷ decimal f.link.0) (host_plain f.destination)
+    (All-cons P 32 (decimal f.link.0) refl (decimal_lacks 34 f.link.0 (lit< tt)))))
 
 flow_text_once : (f g : Flow) → IsFlowNamed f → IsFlowNamed g → flow_text f ≡ flow_text g → f ≡ g
 flow_text_once f g p q e =
-    let first = same_cut 32 (host_text f.source) (host_text f.destination ++ 32 ∷ decimal f.link.0) (host_text g.source) (host_text g.destination ++ 32 ∷ decimal g.link.0) (host_whole f.source) (host_whole g.source) e in
-    let second = same_cut 32 (host_text f.destination) (decimal f.link.0) (host_text g.destination) (decimal g.link.0) (host_whole f.destination) (host_whole g.destination) first.back in
+    let first = same_cut 32 (host_text f.source) (host_text f.destination ++ 32 ∷ decimal f.link.0) (host_text g.source)
+    (host_text g.destination ++ 32 ∷ decimal g.link.0) (host_whole f.source) (host_whole g.source) e in
+    let second = same_cut 32 (host_text f.destination) (decimal f.link.0) (host_text g.destination) (decimal g.link.0)
+    (host_whole f.destination) (host_whole g.destination) first.back in
     let source : f.source ≡ g.source = host_words.once f.source g.source p.source q.source first.front in
     let destination : f.destination ≡ g.destination = host_words.once f.destination g.destination p.destination q.destination second.front in
     let link : f.link.0 ≡ g.link.0 = short_once f.link.0 g.link.0 p.link q.link second.back in
@@ -97,7 +103,8 @@ flow_text_once f g p q e =
 name_closed : (p : FlowPart) → Lacks 34 (flow_name p)
 name_closed p =
     let P : ℕ → Type 0 = λ x. (x == 34) ≡ false in
-    All-append P (side_word p.side) (32 ∷ flow_text p.flow) (side_plain p.side) (All-cons P 32 (flow_text p.flow) refl (flow_plain p.flow))
+    All-append P (side_word p.side) (32 ∷ flow_text p.flow) (side_plain p.side)
+    (All-cons P 32 (flow_text p.flow) refl (flow_plain p.flow))
 
 -- ---- a part
 
@@ -105,16 +112,20 @@ abbrev known_members : Side → FlowState → ℕ → List (List ℕ)
 known_members s x n = member (state_name s) (quoted (state_word x)) ∷ member (codes "number") (decimal n) ∷ []
 
 known_closed : (s : Side) (x : FlowState) (n : ℕ) → AreClosed (known_members s x n)
-known_closed s x n = also_closed (state_name s) (name_plain s) (string_closed (state_word x) (state_plain x)) (also_closed (codes "number") refl (decimal_closed n) none_closed)
+known_closed s x n = also_closed (state_name s) (name_plain s) (string_closed (state_word x) (state_plain x))
+    (also_closed (codes "number") refl (decimal_closed n) none_closed)
 
 record SameKnown (x y : FlowState) (m n : ℕ) : Type 0 where
   state : x ≡ y
   number : m ≡ n
 
-known_once : (s : Side) (x y : FlowState) (m n : ℕ) → IsShort m → IsShort n → object (known_members s x m) ≡ object (known_members s y n) → SameKnown x y m n
+known_once : (s : Side) (x y : FlowState) (m n : ℕ) → IsShort m → IsShort n
+    → object (known_members s x m) ≡ object (known_members s y n) → SameKnown x y m n
 known_once s x y m n p q e =
-    let all = object_once (known_members s x m) (known_members s y n) (known_closed s x m).all (known_closed s y n).all e in
-    let words : state_word x ≡ state_word y = quoted_once (state_word x) (state_word y) (member_once (state_name s) (quoted (state_word x)) (quoted (state_word y)) (first_same all)) in record {
+    let all = object_once (known_members s x m) (known_members s y n) (known_closed s x m).all
+    (known_closed s y n).all e in
+    let words : state_word x ≡ state_word y = quoted_once (state_word x) (state_word y)
+    (member_once (state_name s) (quoted (state_word x)) (quoted (state_word y)) (first_same all)) in record {
       state = sym (state_again x) ∙ ap state_in words ∙ state_again y;
       number = short_once m n p q (member_once (codes "number") (decimal m) (decimal n) (first_same (rest_same all)));
     }
@@ -130,8 +141,10 @@ pub record IsFlowPartNamed (p : FlowPart) : Type 0 where
 
 pub part_once : (p q : FlowPart) → IsFlowPartNamed p → IsFlowPartNamed q → told p ≡ told q → p ≡ q
 part_once p q np nq e =
-    let cut = same_cut 34 (flow_name p) (58 ∷ object (flow_members p)) (flow_name q) (58 ∷ object (flow_members q)) (name_closed p) (name_closed q) (rest_same (sym (parted p) ∙ e ∙ parted q)) in
-    let names = same_cut 32 (side_word p.side) (flow_text p.flow) (side_word q.side) (flow_text q.flow) (side_whole p.side) (side_whole q.side) cut.front in
+    let cut = same_cut 34 (flow_name p) (58 ∷ object (flow_members p)) (flow_name q) (58 ∷ object (flow_members q))
+    (name_closed p) (name_closed q) (rest_same (sym (parted p) ∙ e ∙ parted q)) in
+    let names = same_cut 32 (side_word p.side) (flow_text p.flow) (side_word q.side) (flow_text q.flow)
+    (side_whole p.side) (side_whole q.side) cut.front in
     let sides : p.side ≡ q.side = side_once p.side q.side names.front in
     let flows : p.flow ≡ q.flow = flow_text_once p.flow q.flow np.flow nq.flow names.back in
     let behind : object (known_members p.side p.state p.number) ≡ object (known_members p.side q.state q.number) =
