@@ -4,7 +4,8 @@ ghost use Rattle.std.specs.Prelude.{◌≡◌, None, OnOk, Some, false, map};
 ghost use Rattle.std.specs.Io.KnownBytes.{Appends};
 ghost use Rattle.replay.specs.Failing.{TellsFailure};
 ghost use Rattle.subnet_trace.specs.Printing.{begun_text, held_text};
-ghost use Rattle.subnet_trace.specs.Texts.{channel_text, heard_text, host_object, imp_text, packet_text, port_object, slot_text, told_text};
+ghost use Rattle.subnet_trace.specs.Texts.{channel_text, heard_text, host_object, imp_text, packet_text, port_object};
+ghost use Rattle.subnet_trace.specs.Texts.{slot_text, told_text};
 ghost use Rattle.subnet_trace.specs.Texts.{whole_text};
 
 use crate::lists::{All, Held};
@@ -161,7 +162,8 @@ fn print_ends<W: Output>(imp: &Imp, noted: Option<&Ways>, writer: &mut W) -> Res
     print_heard(imp.routes(), noted, writer)
 }
 
-/// Prints the packets that an IMP holds outside of channels: those that wait for one, and those of messages in reassembly.
+/// Prints the packets that an IMP holds outside of channels: those that wait for one, and those of messages in
+/// reassembly.
 fn print_held<W: Output>(imp: &Imp, writer: &mut W) -> Result<(), WriteFailed>
     requires { W.failed writer.old ≡ false }
     ensures written { OnOk result (Appends (W.contents writer.old) (W.contents writer.new) (held_text imp.now)) }

@@ -1,4 +1,5 @@
-//! What traces of subnets promise, as laws over their definitions. The functions here do nothing: each clause is the law.
+//! What traces of subnets promise, as laws over their definitions. The functions here do nothing: each clause is the
+//! law.
 
 ghost use Rattle.std.specs.List.{All};
 ghost use Rattle.std.specs.Prelude.{◌≡◌, ℕ, List, Option, codes, false, is_ok};
@@ -21,8 +22,8 @@ ghost use Rattle.subnet_trace.specs.Laws.Rest.{RestParts};
 ghost use Rattle.subnet_trace.specs.Laws.Told.{ToldEvents};
 ghost use Rattle.subnet_trace.specs.Laws.Whole.{WholeReplays};
 
-/// An event of a script is its elementary events one after another: each of them only, as a line of a script, leaves what the
-/// event leaves and prints what it prints. So a calm is a list of calls of the subnet.
+/// An event of a script is its elementary events one after another: each of them only, as a line of a script, leaves
+/// what the event leaves and prints what it prints. So a calm is a list of calls of the subnet.
 pub fn elementary()
     ensures course { ElementaryCourse }
 
@@ -37,8 +38,9 @@ pub fn elementary()
     ensures beginning { (n : Net) (rounds : ℕ) → calm_left n (beginning rounds) ≡ calm_of n rounds }
 {}
 
-/// What is told of an event says all of it, though a calm is told up to its first still round only: the elementary events that have
-/// a line leave what the whole event leaves, and print what it prints. So all rounds after a still one change nothing, and print nothing.
+/// What is told of an event says all of it, though a calm is told up to its first still round only: the elementary
+/// events that have a line leave what the whole event leaves, and print what it prints. So all rounds after a still one
+/// change nothing, and print nothing.
 pub fn told()
     ensures events { ToldEvents }
 {}

@@ -8,7 +8,8 @@ ghost use Rattle.subnet_trace.specs.Parts as parts;
 ghost use Rattle.subnet_trace.specs.Parts.{Imp, Line, part_name, part_text, parts_members, parts_of_net, all_parts};
 ghost use Rattle.subnet.specs.Events.{is_imp};
 ghost use Rattle.subnet.specs.Net.{imp_at};
-ghost use Rattle.subnet_trace.specs.Printing.{changed_at, flow_members, flows_there, imp_members, members_behind, named, place_after_members, put_lists};
+ghost use Rattle.subnet_trace.specs.Printing.{changed_at, flow_members, flows_there, imp_members, members_behind};
+ghost use Rattle.subnet_trace.specs.Printing.{named, place_after_members, put_lists};
 ghost use Rattle.subnet_trace.specs.Scopes as scopes;
 ghost use Rattle.subnet_trace.specs.Scopes.{HasFlowsIn, IsOnlyIn, OnlyIn, scope_of};
 ghost use Rattle.subnet_trace.specs.Texts.{line_text};
@@ -200,7 +201,8 @@ fn push_imp(
     members.push(alloc, &part)
 }
 
-/// Returns the IMPs and the lines, each with its name, as the members of an object: the IMPs by rising number, and the lines in order.
+/// Returns the IMPs and the lines, each with its name, as the members of an object: the IMPs by rising number, and the
+/// lines in order.
 ///
 /// Errors: `AllocError`.
 fn all_members(alloc: Global, subnet: &Subnet, notes: &mut Notes) -> Result<Members, AllocError>
@@ -262,7 +264,8 @@ pub(crate) fn parts_of(
     })
 }
 
-/// Puts the IMPs and lines that are among these parts in the place of those before them. Adds those that have changed to an object.
+/// Puts the IMPs and lines that are among these parts in the place of those before them. Adds those that have changed
+/// to an object.
 fn change_fixed(
     subnet: &Subnet,
     scope: Scope,
@@ -297,8 +300,8 @@ fn change_fixed(
     Ok(text)
 }
 
-/// Puts the flows of an IMP, if they may have changed, in the place of those before them, of which the first list is at a place. Adds what
-/// has changed to an object.
+/// Puts the flows of an IMP, if they may have changed, in the place of those before them, of which the first list is at
+/// a place. Adds what has changed to an object.
 fn put_flows(
     alloc: Global,
     may: bool,
@@ -320,7 +323,8 @@ fn put_flows(
     known.put(place + 1, kept_of(alloc, imp)?, text)
 }
 
-/// Puts the flows of the IMPs that are among these parts in the place of those before them. Adds those that have changed to an object.
+/// Puts the flows of the IMPs that are among these parts in the place of those before them. Adds those that have
+/// changed to an object.
 fn change_flows(
     alloc: Global,
     subnet: &Subnet,
@@ -344,8 +348,8 @@ fn change_flows(
     Ok(text)
 }
 
-/// Puts the parts that an event can change in the place of those before it. Returns the object of those that have changed, which
-/// begins in this room.
+/// Puts the parts that an event can change in the place of those before it. Returns the object of those that have
+/// changed, which begins in this room.
 ///
 /// Errors: `AllocError`.
 pub(crate) fn change(
@@ -365,7 +369,8 @@ pub(crate) fn change(
     ended(change_flows(alloc, subnet, scope, &mut known.flows, text)?)
 }
 
-/// Prints an IMP after this many other parts. It prints nothing where there is none of this number. Returns the place after it.
+/// Prints an IMP after this many other parts. It prints nothing where there is none of this number. Returns the place
+/// after it.
 fn print_imp_of<W: Output>(
     place: usize,
     subnet: &Subnet,
@@ -385,7 +390,8 @@ fn print_imp_of<W: Output>(
     Ok(1)
 }
 
-/// Prints the IMPs by rising number, and the lines in order, as an object without its end. Returns the place after them.
+/// Prints the IMPs by rising number, and the lines in order, as an object without its end. Returns the place after
+/// them.
 fn print_fixed<W: Output>(subnet: &Subnet, writer: &mut W) -> Result<usize, WriteFailed>
     requires { W.failed writer.old ≡ false }
     ensures written { OnOk result (Appends (W.contents writer.old) (W.contents writer.new) (members_behind 0 (parts_members subnet.now.net (all_parts subnet.now.net)))) }
@@ -405,7 +411,8 @@ fn print_fixed<W: Output>(subnet: &Subnet, writer: &mut W) -> Result<usize, Writ
     Ok(place)
 }
 
-/// Prints what an IMP knows of flows after this many other parts, if there is one of this number that is up. Returns the place after it.
+/// Prints what an IMP knows of flows after this many other parts, if there is one of this number that is up. Returns
+/// the place after it.
 fn print_flows_of<W: Output>(
     place: usize,
     subnet: &Subnet,
@@ -426,7 +433,8 @@ fn print_flows_of<W: Output>(
     }
 }
 
-/// Prints all parts, as a JSON object: the IMPs by rising number, the lines in order, and the flows of each IMP by rising number.
+/// Prints all parts, as a JSON object: the IMPs by rising number, the lines in order, and the flows of each IMP by
+/// rising number.
 ///
 /// Errors: `WriteFailed`.
 pub fn print_whole<W: Output>(subnet: &Subnet, writer: &mut W) -> Result<(), WriteFailed>

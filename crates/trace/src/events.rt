@@ -23,16 +23,19 @@ use script::RawEvent;
 use std::alloc::{AllocError, Global};
 use topology::Topology;
 
-/// Prints the network and all parts of its carrier, hands each elementary event of each event to the carrier in order, and prints
-/// one line for each: a JSON object with the place of the event in the script, the elementary event, what it printed, and the
-/// parts that it changed, as they are after it. Each event comes after the number of its line in the script.
+/// Prints the network and all parts of its carrier, hands each elementary event of each event to the carrier in order,
+/// and prints one line for each: a JSON object with the place of the event in the script, the elementary event, what it
+/// printed, and the parts that it changed, as they are after it. Each event comes after the number of its line in the
+/// script.
 ///
 /// A refused event changes nothing, and has a line too.
 ///
 /// Errors:
-/// - `OutOfMemory`: memory ran out at one elementary event, or for its line. The first line and those of the events before it were
+/// - `OutOfMemory`: memory ran out at one elementary event, or for its line. The first line and those of the events
+/// before it were
 ///   written, and none of its own.
-/// - `CannotWrite`: a write failed. The carrier had already processed the elementary event whose line it was. Nothing more was
+/// - `CannotWrite`: a write failed. The carrier had already processed the elementary event whose line it was. Nothing
+/// more was
 ///   asked of the writer, which is the only one to know how much of its last lines it wrote.
 pub fn trace_events<C: Inspect, W: Output>(
     alloc: Global,
@@ -43,7 +46,8 @@ pub fn trace_events<C: Inspect, W: Output>(
 ) -> Result<(), ReplayFault>
     requires whole { W.failed writer.old ≡ false }
 
-    // first the network, and then each elementary event in turn went as the carrier says that its calls may go, and its line was written
+    // first the network, and then each elementary event in turn went as the carrier says that its calls may go, and its
+    // line was written
     ensures traced { OnOk result (WritesTrace (AfterOpening C.inside network.now carrier.old (Traces C.calls C.inside carrier.old events.now carrier.new)) (W.contents writer.old) (W.contents writer.new)) }
 
     // memory ran out at one of them: the first line and those before it were written, and nothing else
@@ -116,8 +120,8 @@ fn trace_event<C: Inspect, W: Output>(
     }
 }
 
-/// Traces a calm, round by round. A round after which all parts and the log are as they were before it is the last one: every round
-/// after it would be the same.
+/// Traces a calm, round by round. A round after which all parts and the log are as they were before it is the last one:
+/// every round after it would be the same.
 fn trace_calm<C: Inspect, W: Output>(
     alloc: Global,
     carrier: &mut C,
@@ -215,7 +219,8 @@ fn are_same(one: &Members, other: &Members) -> bool
     !one.have_changed(other) && !other.have_changed(one)
 }
 
-/// Traces a round of a calm, which begins at a place: one of its elementary events after another. Returns the place after it.
+/// Traces a round of a calm, which begins at a place: one of its elementary events after another. Returns the place
+/// after it.
 fn trace_round<C: Inspect, W: Output>(
     alloc: Global,
     carrier: &mut C,

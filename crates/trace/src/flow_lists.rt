@@ -1,7 +1,8 @@
 //! Lists of flows, and which of them have changed.
 
 ghost use Rattle.std.specs.Bool.{OnFalse, OnTrue};
-ghost use Rattle.std.specs.Prelude.{◌≡◌, ◌<◌, ◌++◌, [], ◌∷◌, IfOk, OnOk, length, map, nat_lt, slice_index_or, slice_set};
+ghost use Rattle.std.specs.Prelude.{◌≡◌, ◌<◌, ◌++◌, [], ◌∷◌, IfOk, OnOk, length, map, nat_lt, slice_index_or};
+ghost use Rattle.std.specs.Prelude.{slice_set};
 ghost use Rattle.trace.specs.Changes.{altered, changed_flows, changed_lists, is_told, is_there, lost};
 ghost use Rattle.trace.specs.Flows.{gone, told};
 ghost use Rattle.trace.specs.Joined.{extended};
@@ -46,8 +47,8 @@ impl FlowLists {
         Ok(self.lists.push(list)?)
     }
 
-    /// Puts a list in the place of the one at a place. Adds what has changed by it to an object of members that have changed. `object`
-    /// is the text of this object without its end.
+    /// Puts a list in the place of the one at a place. Adds what has changed by it to an object of members that have
+    /// changed. `object` is the text of this object without its end.
     ///
     /// Errors: `AllocError`.
     pub fn put(

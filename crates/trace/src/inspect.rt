@@ -20,13 +20,14 @@ use replay::{Output, WriteFailed};
 use script::RawEvent;
 use std::alloc::{AllocError, Global};
 
-/// A carrier whose inside can be traced: it lists the elementary events of a calm one after another, and says which parts an event
-/// has changed.
+/// A carrier whose inside can be traced: it lists the elementary events of a calm one after another, and says which
+/// parts an event has changed.
 pub trait Inspect: Carrier {
     /// A place in a calm, between two of its elementary events.
     type Place: Copy;
 
-    /// What is kept of texts that were made, by which the same ones are made again with less work. No text depends on it.
+    /// What is kept of texts that were made, by which the same ones are made again with less work. No text depends on
+    /// it.
     type Notes: Drop;
 
     /// What it shows of its inside.
@@ -64,8 +65,8 @@ pub trait Inspect: Carrier {
     fn members(&self, alloc: Global, notes: &mut Self::Notes) -> Result<AllParts, AllocError>
         ensures { IfOk result (λ members. members ≡ inside.members self.now) };
 
-    /// Puts the texts of the parts that an event has changed in the place of those before it. Returns these parts, each with its name,
-    /// as the text of an object, which begins in this room.
+    /// Puts the texts of the parts that an event has changed in the place of those before it. Returns these parts, each
+    /// with its name, as the text of an object, which begins in this room.
     ///
     /// Errors: `AllocError`.
     fn change(

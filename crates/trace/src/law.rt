@@ -30,8 +30,8 @@ pub fn elementary()
     ensures one_call { (old : Boxes) (e : RawEvent) → All IsOneCall (events_of (elements_of old e)) }
 {}
 
-/// What is told of an event says all of it, though a calm is told up to its first still round only: the elementary events that have
-/// a line leave what the whole event leaves, and print what it prints.
+/// What is told of an event says all of it, though a calm is told up to its first still round only: the elementary
+/// events that have a line leave what the whole event leaves, and print what it prints.
 pub fn told()
     ensures events { ToldEvents }
 {}
@@ -55,13 +55,14 @@ pub fn whole()
     ensures reached { (hosts : List Host) (events : List RawEvent) (new : Boxes) (shown : List Shown) → All IsEvent events → Replays plain_calls (opening_boxes hosts) events new shown → IsTold new }
 {}
 
-/// What a line says of all parts. A reader who puts the parts of a line in the place of those before has all, where `null` stands for a
-/// flow that is there no more.
+/// What a line says of all parts. A reader who puts the parts of a line in the place of those before has all, where
+/// `null` stands for a flow that is there no more.
 pub fn changes()
     // each part that is there now is among those of the line, or was there before
     ensures kept { (before now : AllParts) (t : List ℕ) → Contains (members_of now) t → Contains (changed_parts before now) t ⊎ Contains (members_of before) t }
 
-    // those of the line are there now, or are flows that were there before; and each flow that is there no more is among them
+    // those of the line are there now, or are flows that were there before; and each flow that is there no more is
+    // among them
     ensures only { (before now : AllParts) (t : List ℕ) → Contains (changed_parts before now) t → Contains (members_of now) t ⊎ Contains (flat_map (map gone) before.flows) t }
     ensures lost { (before now : AllParts) (place : ℕ) (p : FlowPart) → IsLostAt before.flows now.flows place p → Contains (changed_parts before now) (gone p) }
 
@@ -72,7 +73,8 @@ pub fn changes()
     ensures same { (now : AllParts) → changed_parts now now ≡ [] }
 {}
 
-/// The first line of a trace describes the network: which carrier it has, its IMPs with their hosts, and its lines in their order.
+/// The first line of a trace describes the network: which carrier it has, its IMPs with their hosts, and its lines in
+/// their order.
 pub fn network()
     ensures one { (one other : TopologyFields) (parts rest : List ℕ) → IsTopology one → IsTopology other → opening_line one parts ≡ opening_line other rest → one ≡ other }
 {}

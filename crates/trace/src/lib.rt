@@ -1,14 +1,15 @@
 //! Traces: what happens inside a network, event by event.
 //!
-//! A replay prints what crosses the interfaces of hosts. A trace prints the rest: first the network with all its *parts*, and
-//! then, for each *elementary event* of a replay, an event of the script or within a calm each of its parts, the parts of the
-//! network that it has changed. [`trace_events`] prints a trace, one JSON object a line, over any carrier whose inside can be
-//! traced ([`Inspect`]). Plain mailboxes are one: here are their elementary events, their parts, and the JSON text of each part.
+//! A replay prints what crosses the interfaces of hosts. A trace prints the rest: first the network with all its
+//! *parts*, and then, for each *elementary event* of a replay, an event of the script or within a calm each of its
+//! parts, the parts of the network that it has changed. [`trace_events`] prints a trace, one JSON object a line, over
+//! any carrier whose inside can be traced ([`Inspect`]). Plain mailboxes are one: here are their elementary events,
+//! their parts, and the JSON text of each part.
 //!
-//! A reader of traces may rely on these laws ([`law`]). A calm is its elementary events one after another; it is told up to
-//! its first still round, after which every round would be the same. An event changes
-//! no part but those that it can change, and none where it is refused. The first line describes the network, and states with equal texts of all parts are equal,
-//! but for their logs: so a trace leaves nothing out.
+//! A reader of traces may rely on these laws ([`law`]). A calm is its elementary events one after another; it is told
+//! up to its first still round, after which every round would be the same. An event changes
+//! no part but those that it can change, and none where it is refused. The first line describes the network, and states
+//! with equal texts of all parts are equal, but for their logs: so a trace leaves nothing out.
 #![tactic(auto)]
 
 mod all_parts;

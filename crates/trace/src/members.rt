@@ -46,8 +46,8 @@ impl Members {
         Ok(self.texts.push(text)?)
     }
 
-    /// Puts the text of an item, if it may have changed, in the place of the member at a place. Adds it to an object of members that
-    /// have changed, if it is other than that member. `object` is the text of this object without its end.
+    /// Puts the text of an item, if it may have changed, in the place of the member at a place. Adds it to an object of
+    /// members that have changed, if it is other than that member. `object` is the text of this object without its end.
     ///
     /// Errors: `AllocError`.
     pub fn put<T: Item>(
@@ -109,8 +109,8 @@ impl Members {
         false
     }
 
-    /// Adds the members that are other than the ones that were at their places to an object of members that have changed. `object` is
-    /// the text of this object without its end.
+    /// Adds the members that are other than the ones that were at their places to an object of members that have
+    /// changed. `object` is the text of this object without its end.
     ///
     /// Errors: `AllocError`.
     pub fn add_changed(&self, before: &Members, object: Vec<u8>) -> Result<Vec<u8>, AllocError>

@@ -48,8 +48,8 @@ impl Item for LineEnds {
     }
 }
 
-/// Prints the first line of a trace up to its parts: the number of this form of traces, and the network. What it prints is
-/// followed by the object of all parts, `}` and the end of the line.
+/// Prints the first line of a trace up to its parts: the number of this form of traces, and the network. What it prints
+/// is followed by the object of all parts, `}` and the end of the line.
 ///
 /// Errors: `WriteFailed`.
 pub fn print_network<W: Output>(network: &Topology, writer: &mut W) -> Result<(), WriteFailed>

@@ -124,8 +124,8 @@ fn open_parts<W: Output>(boxes: &PlainBoxes, writer: &mut W) -> Result<(), Write
     print_array(&boxes.down(), writer)
 }
 
-/// Puts the parts that an event can change, which let these cross, in the place of those before it. Returns the object of those that
-/// have changed, which begins in this room.
+/// Puts the parts that an event can change, which let these cross, in the place of those before it. Returns the object
+/// of those that have changed, which begins in this room.
 ///
 /// Errors: `AllocError`.
 pub(crate) fn change(

@@ -13,11 +13,13 @@ ghost use Rattle.trace.specs.Flows.{gone, told};
 ghost use Rattle.trace.specs.Parts.{Down, Waiting, SamePart, is_named, parts_of};
 ghost use Rattle.trace.specs.Texts.{answer_object, crossing_object, part_name, part_text, queues_text, whole_text};
 ghost use Rattle.trace.specs.Traces.{IsStill, MayTell, asking_from, numbered_from, plain_inside};
-ghost use Rattle.trace.specs.Worked.{first, flow, hosts, known, on_link, one_waits, second, short, stop, takes, third, with_down, with_flows};
+ghost use Rattle.trace.specs.Worked.{first, flow, hosts, known, on_link, one_waits, second, short, stop, takes, third};
+ghost use Rattle.trace.specs.Worked.{with_down, with_flows};
 ghost use Rattle.trace.specs.declared.flow_part.FlowState.TheVariants as state;
 ghost use Rattle.trace.specs.declared.flow_part.Side.TheVariants as side;
 ghost use Rattle.trace.specs.Laws.WorkedTexts.{WorkedTextsQueues};
-ghost use Rattle.trace.specs.Laws.WorkedLines.{WorkedLinesDelivered, WorkedLinesOpening, WorkedLinesRefused, WorkedLinesStart, WorkedLinesTaken};
+ghost use Rattle.trace.specs.Laws.WorkedLines.{WorkedLinesDelivered, WorkedLinesOpening, WorkedLinesRefused};
+ghost use Rattle.trace.specs.Laws.WorkedLines.{WorkedLinesStart, WorkedLinesTaken};
 
 /// The text of each part.
 pub fn worked_texts()
@@ -43,7 +45,8 @@ pub fn worked_texts()
 
 /// Which parts an event can change.
 pub fn worked_parts()
-    // a message that goes out, or is given up: what waits for its two hosts, in the order of the hosts, whether it is refused or not
+    // a message that goes out, or is given up: what waits for its two hosts, in the order of the hosts, whether it is
+    // refused or not
     ensures out { parts_of hosts (event.Out short) (crossing.Out short ∷ []) ≡ Waiting first ∷ Waiting third ∷ [] }
     ensures refused { parts_of hosts (event.Out short) [] ≡ Waiting first ∷ Waiting third ∷ [] }
     ensures given_up { parts_of hosts (event.Net (net.GiveUp flow)) [] ≡ Waiting first ∷ Waiting third ∷ [] }
