@@ -6,6 +6,7 @@ use Rattle.world_replay.specs.Gains.{Gains}
 use Rattle.world_replay.specs.Output.{Shown as Printed}
 use Rattle.world_script.specs.declared.event.WorldEvent.TheVariants as worlds
 use Rattle.world_trace.specs.Traces.{EndsIn, IsHeard, IsSilent, IsUnchanged, TellsStep}
+use Rattle.trace.specs.Changes.{members_of}
 use Rattle.trace.specs.Traces.{EndsEvent, StopsElement}
 use Rattle.trace.specs.declared.all_parts.AllParts.{AllParts}
 use Rattle.command_line.specs.Events.{Asked}
@@ -22,7 +23,7 @@ from_once : {C : Type 0} (calls : Calls C) (inside : Inside C) → AreSettled ca
 from_once calls inside settled t opening events before after other h k =
     let one : (h.last ≡ k.last) × (h.traced.is_shown.0 ≡ k.traced.is_shown.0) =
     in_turn_once (TellsEvent calls inside) (event_once calls inside settled) opening (numbered_from 1 events) h.last k.last h.traced.is_shown.0 k.traced.is_shown.0 h.traced.is_shown.2 k.traced.is_shown.2 in
-    let same : h.traced.shown ≡ k.traced.shown = h.traced.is_shown.1 ∙ ap (λ ls. opening_line t (object (inside.members opening)) ∷ ls) one.1 ∙ sym k.traced.is_shown.1 in
+    let same : h.traced.shown ≡ k.traced.shown = h.traced.is_shown.1 ∙ ap (λ ls. opening_line t (object (members_of (inside.members opening))) ∷ ls) one.1 ∙ sym k.traced.is_shown.1 in
     h.traced.written ∙ ap (λ ls. before ++ text_of (λ line. line) ls) same ∙ sym k.traced.written
 
 -- ---- the first part of a trace
@@ -42,7 +43,7 @@ from_front calls inside settled t opening events before part whole h k =
     ends_front (TellsEvent calls inside) (EndsEvent calls inside (StopsElement calls)) (event_once calls inside settled) (event_front calls inside settled) opening (numbered_from 1 events) h.last k.last h.traced.is_shown.0 k.traced.is_shown.0
     h.traced.is_shown.2 k.traced.is_shown.2 in
     text_front before part whole h.traced.shown k.traced.shown starts.0 h.traced.written k.traced.written
-    (k.traced.is_shown.1 ∙ ap (λ ls. opening_line t (object (inside.members opening)) ∷ ls) starts.1 ∙ ap (λ ls. ls ++ starts.0) (sym h.traced.is_shown.1))
+    (k.traced.is_shown.1 ∙ ap (λ ls. opening_line t (object (members_of (inside.members opening))) ∷ ls) starts.1 ∙ ap (λ ls. ls ++ starts.0) (sym h.traced.is_shown.1))
 
 -- ---- worlds
 

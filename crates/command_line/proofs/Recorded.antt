@@ -21,6 +21,7 @@ use Rattle.topology.proofs.lemmas.{described_keeps, hosts_listed}
 use Rattle.topology.specs.Topology.{IsTopology, site_of, sites_of}
 use Rattle.topology.specs.declared.network.CarrierKind.TheVariants as kind
 use Rattle.trace.proofs.lemmas.{told}
+use Rattle.trace.specs.Changes.{members_of}
 use Rattle.trace.specs.Elements.{events_of}
 use Rattle.trace.specs.Traces.{SaysAll}
 use Rattle.trace.specs.declared.element.Element.{Element}
@@ -223,11 +224,11 @@ raw_from {C} calls inside Holds settled each t opening lines events book out tra
     let replays : of_network.Replays calls opening (alone (zip lines events)) h.shows.last h.shown = subst (λ (es : List RawEvent). of_network.Replays calls opening es h.shows.last h.shown) (sym (alone_of lines events fit)) h.shows.replayed in
     let (same, (recorded, are, prints)) = events_printed calls inside Holds settled each 1 (zip lines events) opening k.last h.shows.last others h.shown (subst (All IsEvent) (sym (alone_of lines events fit)) valid) holds tells replays in
     record {
-      opening = opening_line t (object (inside.members opening));
+      opening = opening_line t (object (members_of (inside.members opening)));
       recorded = recorded;
       lives = [];
       written = k.traced.written;
-      traced = is ∙ ap (λ (ls : List (List ℕ)). opening_line t (object (inside.members opening)) ∷ ls) are;
+      traced = is ∙ ap (λ (ls : List (List ℕ)). opening_line t (object (members_of (inside.members opening))) ∷ ls) are;
       printed =
           h.written
           ∙ ap₂ (λ (xs ys : List ℕ). xs ++ (ys ++ codes "end\n")) (sym (flat_map-map ended_line (raw.shown_text Sizes) h.shown) ∙ ap in_lines prints) (sym (no_lives book));

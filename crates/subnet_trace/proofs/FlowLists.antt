@@ -1,5 +1,5 @@
 -- The flows of all IMPs are listed, and those that an event can have changed are put in the place of those before.
-use Rattle.subnet_trace.proofs.Common.{◌≡◌, ℕ, zero, suc, ◌<◌, ◌≤◌, ◌+◌, ◌-◌, Bool, true, false, List, [], ◌∷◌, ◌++◌, filter, if◌then◌else◌, length, map, slice_set, refl, sym, ap, ap₂, ◌∙◌, arith, subst, range_with_len, is_imp, Net, imp_at, has_imp, Scope}
+use Rattle.subnet_trace.proofs.Common.{◌≡◌, ℕ, zero, suc, ◌<◌, ◌≤◌, ◌+◌, ◌-◌, Bool, true, false, List, [], ◌∷◌, ◌++◌, filter, if◌then◌else◌, length, map, slice_set, refl, sym, ap, ap₂, ◌∙◌, arith, subst, Option, range_with_len, State, is_imp, Net, imp_at, has_imp, Scope}
 use Rattle.std.proofs.lemmas.List.{append_assoc, append-nil, length-append}
 use Rattle.std.specs.List.{flat_map}
 use Rattle.std.specs.Prelude.{slice_index_or}
@@ -121,6 +121,23 @@ flows_put now whole place known text olds news none over h = record {
   all = h.there ∙ ap (λ (os : List (List FlowPart)). h.front ++ os) (none ∙ sym over) ∙ sym h.all;
   written = ap₂ (λ (os ns : List (List FlowPart)). extended text (changed_lists os ns)) (sym none) (sym over) ∙ h.written;
 }
+
+-- ---- both lists of an IMP
+
+other_at : (lists : List (List FlowPart)) (place : ℕ) (a : List FlowPart) → slice_index_or (slice_set lists place a) (suc place) [] ≡ slice_index_or lists (suc place) []
+other_at [] place a = refl
+other_at (x ∷ lists) zero a = refl
+other_at (x ∷ lists) (suc place) a = other_at lists place a
+
+pub both_put : (lists mid : List (List FlowPart)) (place : ℕ) (o : Option State) (a b : List FlowPart) (object first text : List ℕ) → a ≡ sources_of o → b ≡ kept_of o → mid ≡ slice_set lists place a
+    → first ≡ extended object (changed_flows (slice_index_or lists place []) a) → text ≡ extended first (changed_flows (slice_index_or mid (place + 1) []) b) → text ≡ extended object (changed_at true lists place o)
+both_put lists mid place o a b object first text sources kept put one two =
+    let after : place + 1 ≡ suc place = omega arith in
+    let there : slice_index_or mid (place + 1) [] ≡ slice_index_or lists (place + 1) [] =
+    ap₂ (λ (ls : List (List FlowPart)) (n : ℕ). slice_index_or ls n []) put after ∙ other_at lists place a ∙ ap (λ (n : ℕ). slice_index_or lists n []) (sym after) in
+    two ∙ ap₂ (λ (t : List ℕ) (was : List FlowPart). extended t (changed_flows was b)) one there
+    ∙ extended_twice object (changed_flows (slice_index_or lists place []) a) (changed_flows (slice_index_or lists (place + 1) []) b)
+    ∙ ap₂ (λ (x y : List FlowPart). extended object (changed_flows (slice_index_or lists place []) x ++ changed_flows (slice_index_or lists (place + 1) []) y)) sources kept
 
 -- ---- those of an IMP
 

@@ -49,16 +49,16 @@ object_behind (x ∷ xs) =
 -- these are left to be printed of all
 pub record AreLeft (a b : Option (List ℕ)) (place start : ℕ) (xs all : List (List ℕ)) : Type 0 where
   pub text : Remains a b (members_behind place xs) (members_behind start all)
-  pub place : place_after_members place xs ≡ place_after_members start all
+  pub next : place_after_members place xs ≡ place_after_members start all
 
 pub all_are_left : (a : Option (List ℕ)) (start : ℕ) (all : List (List ℕ)) → AreLeft a a start start all all
-all_are_left a start all = record { text = λ last printed. printed; place = refl }
+all_are_left a start all = record { text = λ last printed. printed; next = refl }
 
 -- some are printed
 pub members_printed : (a b c : Option (List ℕ)) (place start : ℕ) (xs rest all : List (List ℕ)) → AreLeft a b place start (xs ++ rest) all → Appends b c (members_behind place xs) → AreLeft a c (place_after_members place xs) start rest all
 members_printed a b c place start xs rest all h printed = record {
   text = more_printed (members_behind place xs) (members_behind (place_after_members place xs) rest) (members_behind start all) a b c (subst (λ (zs : List ℕ). Remains a b zs (members_behind start all)) (behind_append place xs rest) h.text) printed;
-  place = sym (after_append place xs rest) ∙ h.place;
+  next = sym (after_append place xs rest) ∙ h.next;
 }
 
 pub one_printed : (a b c : Option (List ℕ)) (place start : ℕ) (x : List ℕ) (rest all : List (List ℕ)) → AreLeft a b place start (x ∷ rest) all → Appends b c (mark (codes "{") (codes ",") place ++ x) → AreLeft a c 1 start rest all
@@ -70,7 +70,15 @@ pub all_written : (a b : Option (List ℕ)) (place start : ℕ) (xs all : List (
 all_written a b place start xs all none h = h.text b (subst (λ (ys : List (List ℕ)). Appends b b (members_behind place ys)) (sym none) (appends_none b))
 
 pub last_place : (a b : Option (List ℕ)) (place start : ℕ) (xs all : List (List ℕ)) → xs ≡ [] → AreLeft a b place start xs all → place ≡ place_after_members start all
-last_place a b place start xs all none h = sym (ap (place_after_members place) none) ∙ h.place
+last_place a b place start xs all none h = sym (ap (place_after_members place) none) ∙ h.next
+
+-- two lists of members, one after the other
+pub both_printed : (a b c : Option (List ℕ)) (place next : ℕ) (xs ys : List (List ℕ)) → Appends a b (members_behind place xs) → next ≡ place_after_members place xs → Appends b c (members_behind next ys) → Appends a c (members_behind place (xs ++ ys))
+both_printed a b c place next xs ys first is second =
+    subst (Appends a c) (ap (λ (n : ℕ). members_behind place xs ++ members_behind n ys) is ∙ sym (behind_append place xs ys)) (Appends-trans a b c (members_behind place xs) (members_behind next ys) first second)
+
+pub both_after : (place next last : ℕ) (xs ys : List (List ℕ)) → next ≡ place_after_members place xs → last ≡ place_after_members next ys → last ≡ place_after_members place (xs ++ ys)
+both_after place next last xs ys is after = after ∙ ap (λ (n : ℕ). place_after_members n ys) is ∙ sym (after_append place xs ys)
 
 -- ---- IMPs and lines
 

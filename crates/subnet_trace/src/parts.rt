@@ -1,6 +1,6 @@
 //! The parts of a subnet, printed, and those that an event has changed.
 
-ghost use Rattle.std.specs.Prelude.{◌≡◌, ◌<◌, ◌+◌, ◌++◌, [], IfOk, OnOk, false, length};
+ghost use Rattle.std.specs.Prelude.{◌≡◌, ◌<◌, ◌≤◌, ◌+◌, ◌++◌, [], IfOk, OnOk, false, length};
 ghost use Rattle.std.specs.Io.KnownBytes.{Appends};
 ghost use Rattle.replay.specs.Failing.{TellsFailure};
 ghost use Rattle.script.specs.declared.event.RawEvent.TheVariants as raw;
@@ -311,7 +311,8 @@ fn put_flows(
     known: &mut FlowLists,
     object: Vec<u8>,
 ) -> Result<Vec<u8>, AllocError>
-    requires { place + 1 < length known.old }
+    requires within { place + 1 < length known.old }
+    requires small { place ≤ 510 }
     ensures known { OnOk result (known.new ≡ put_lists may known.old place (imp_at subnet.now.net.imps number)) }
     ensures changed { IfOk result (λ text. text.items ≡ extended object.items (changed_at may known.old place (imp_at subnet.now.net.imps number))) }
 {

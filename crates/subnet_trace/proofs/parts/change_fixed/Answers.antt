@@ -10,7 +10,7 @@ pub loop-number-init : goal.loop-number-init
 loop-number-init c =
     let n : Net = c.args.subnet.now.net in
     let r : IsOnlyIn c.args.scope c.args.known.now n = c.requires.inside in
-    (r, c.imp_places-number-end.ensures, omega arith, none_are c.args.known.now c.args.scope n r c.args.room.items c.requires.empty)
+    (r, c.imp_places-number-end.ensures, omega arith, none_are c.args.known.now c.args.scope n r c.args.object.items c.requires.empty)
 
 pub put-requires : goal.put-requires
 put-requires c =
@@ -23,7 +23,7 @@ loop-number-preserved c =
     let n : Net = c.args.subnet.now.net in
     let s : Scope = c.args.scope in
     let i : ℕ = c.loop-number.number in
-    let r : OnlyIn c.args.known.now s n = c.loop-number.invariant.0 in
+    let r : IsOnlyIn s c.args.known.now n = c.loop-number.invariant.0 in
     let lt : i < length n.imps = omega (arith, c.loop-number-test.true, c.loop-number.invariant.1) in
     let before : List (List ℕ) = c.args.known.now in
     let now : List (List ℕ) = parts_members n (all_parts n) in
@@ -55,7 +55,7 @@ loop-number-2-init c =
     let n : Net = c.args.subnet.now.net in
     let s : Scope = c.args.scope in
     let i : ℕ = c.loop-number.number in
-    let r : OnlyIn c.args.known.now s n = c.loop-number.invariant.0 in
+    let r : IsOnlyIn s c.args.known.now n = c.loop-number.invariant.0 in
     let past : length n.imps ≤ i = omega (arith, c.loop-number-test.false, c.loop-number.invariant.1) in
     let few : c.imp_places-number-end.result ≤ 255 = search rules in
     (r, ap length c.lines-lines.ensures, omega (arith, few, c.loop-number.invariant.2, c.loop-number.auto.number-end), imps_put c.args.known.now s n r i c.loop-number.place c.loop-number.known c.loop-number.text.items past c.loop-number.invariant.3)
@@ -71,7 +71,7 @@ loop-number-2-preserved c =
     let n : Net = c.args.subnet.now.net in
     let s : Scope = c.args.scope in
     let l : ℕ = c.loop-number-2.number in
-    let r : OnlyIn c.args.known.now s n = c.loop-number-2.invariant.0 in
+    let r : IsOnlyIn s c.args.known.now n = c.loop-number-2.invariant.0 in
     let lt : l < length n.lines = omega (arith, c.loop-number-2-test.true, c.loop-number-2.invariant.1) in
     let wire : c.index-lines-number.result ≡ wire_at n.lines l = get_or_read c.lines-lines.result.now l c.index-lines-number.result c.loop-number-2-test.true c.index-lines-number.is no_wire ∙ ap (λ ws. wire_at ws l) c.lines-lines.ensures in
     let place : ℕ = c.loop-number-2.place in

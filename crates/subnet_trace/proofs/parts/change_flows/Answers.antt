@@ -10,12 +10,17 @@ use Rattle.subnet_trace.proofs.parts.change_flows.Goals as goal
 pub loop-number-init : goal.loop-number-init
 loop-number-init c = (c.requires, c.imp_places-number-end.ensures, omega arith, flows_start c.args.scope c.args.known.now c.args.subnet.now.net c.requires c.args.object.items)
 
-pub put_flows-requires : goal.put_flows-requires
-put_flows-requires c =
+pub put_flows-requires-clause-within : goal.put_flows-requires-clause-within
+put_flows-requires-clause-within c =
     let n : Net = c.args.subnet.now.net in
     let r : HasFlowsIn c.args.scope c.args.known.now n = c.loop-number.invariant.0 in
     within_at c.args.scope c.args.known.now n r (extended c.args.object.items (changed_lists c.args.known.now (all_flows n))) c.loop-number.number c.loop-number.place c.loop-number.known c.loop-number.text.items
     (omega (arith, c.loop-number-test.true, c.loop-number.invariant.1)) (sym c.is_imp.ensures ∙ c.if-is_imp.true) c.loop-number.invariant.3
+
+pub put_flows-requires-clause-small : goal.put_flows-requires-clause-small
+put_flows-requires-clause-small c =
+    let few : c.imp_places-number-end.result ≤ 255 = search rules in
+    omega (arith, few, c.loop-number-test.true, c.loop-number.invariant.1, c.loop-number.invariant.2, c.imp_places-number-end.ensures)
 
 pub loop-number-preserved : goal.loop-number-preserved
 loop-number-preserved c =
