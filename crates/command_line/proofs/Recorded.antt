@@ -1,5 +1,5 @@
 -- What a replay prints is what its trace has as printed.
-use Rattle.command_line.proofs.Common.{◌≡◌, inl, inr, ℕ, ◌+◌, Bool, true, false, List, [], ◌∷◌, ◌++◌, Some, codes, map, zip, arith, refl, sym, ap, ap₂, subst, ◌∙◌, length-append, map-append, Calls, Crossing, plain_calls, shown, WorldState, opening_world, Life, OneReplay, in_turn_once, replays_once, text_of, AreSettled, Sizes, ended_line, RawEvent, subnet_calls, subnet_inside, TopologyFields, CarrierKind, object, opening_line, Inside, TellsElement, TellsEvent, change_text, numbered_from, plain_inside, Spot, happens_once, shown_settled, Happens, HappensInCalm, WorldEvent, opening_text, world_line, TellsIn, TellsInCalm, TellsOne, TellsRound, change_of, first_rounds, state_of, ends_of, plain_of, subnet_of, Raw, World, ReplaysFrom, ReplaysInput, ReplaysOn, ReplaysOver, book_text, TracesAll, TracesFrom, TracesInput, TracesOver, WorldTracesFrom, asked_count}
+use Rattle.command_line.proofs.Common.{◌≡◌, inl, inr, ℕ, ◌+◌, Bool, true, false, List, [], ◌∷◌, ◌++◌, Some, codes, map, zip, arith, refl, sym, ap, ap₂, subst, ◌∙◌, length-append, map-append, Calls, Crossing, plain_calls, shown, WorldState, opening_world, Life, OneReplay, in_turn_once, replays_once, text_of, AreSettled, Sizes, ended_line, RawEvent, subnet_calls, subnet_inside, TopologyFields, CarrierKind, object, opening_line, Inside, TellsEvent, numbered_from, plain_inside, Spot, happens_once, shown_settled, Happens, HappensInCalm, WorldEvent, opening_text, world_line, TellsIn, TellsInCalm, TellsOne, TellsRound, change_of, first_rounds, state_of, ends_of, plain_of, subnet_of, Raw, World, ReplaysFrom, ReplaysInput, ReplaysOn, ReplaysOver, book_text, TracesAll, TracesFrom, TracesInput, TracesOver, WorldTracesFrom, asked_count}
 use Rattle.std.proofs.Common.{◌≤◌, suc, zero, length}
 use Rattle.std.proofs.lemmas.Grind.{flat_map-append}
 use Rattle.std.proofs.lemmas.List.{append-nil, length-map}
@@ -23,7 +23,7 @@ use Rattle.topology.specs.declared.network.CarrierKind.TheVariants as kind
 use Rattle.trace.proofs.lemmas.{told}
 use Rattle.trace.specs.Changes.{members_of}
 use Rattle.trace.specs.Elements.{events_of}
-use Rattle.trace.specs.Traces.{SaysAll}
+use Rattle.trace.specs.Traces.{SaysAll, TellsElement, change_text}
 use Rattle.trace.specs.declared.element.Element.{Element}
 use Rattle.trace.specs.declared.all_parts.AllParts.{AllParts}
 use Rattle.world_replay.proofs.lemmas.Accounts.{AreParts, ShowsAs, round_as}
@@ -90,7 +90,7 @@ elements_printed {C} calls inside settled spot (x ∷ xs) old new other lines pr
           (subst (λ (ts : List (List ℕ)). HavePrinted (first ++ rest) ts) (sym (ap raw_texts whole ∙ map-append (raw.shown_text Sizes) begin later)) (more_printed first rest (raw_texts begin) (raw_texts later) here.1 there.1)),
     )
 
--- what is told of an event says all of it, in states of which something holds that all events keep
+-- what is traced of an event says all of it, in states of which something holds that all events keep
 record AreSaid {C : Type 0} (calls : Calls C) (inside : Inside C) (Holds : C → Type 0) : Type 0 where
   says : (spot : Spot) (old new other : C) (e : RawEvent) (lines : List (List ℕ)) (prints : List raw.Shown) → Holds old → TellsEvent calls inside old (spot, e) new lines → of_network.Happens calls old e other prints → SaysAll calls inside spot old new lines other prints
   kept : (old new : C) (e : RawEvent) (prints : List raw.Shown) → IsEvent e → Holds old → of_network.Happens calls old e new prints → Holds new

@@ -1,4 +1,4 @@
--- What is told of a calm of a subnet says all of it: a still round leaves the subnet as it was, and so do all rounds
+-- What is traced of a calm of a subnet says all of it: a still round leaves the subnet as it was, and so do all rounds
 -- after it.
 use Rattle.subnet_trace.proofs.Common.{◌≡◌, ◌⊎◌, inl, inr, ◌==◌, ◌<◌, ◌≤◌, ◌+◌, ℕ, zero, suc, nat_lt, Bool, false, List}
 use Rattle.subnet_trace.proofs.Common.{[], ◌∷◌, ◌++◌, if◌then◌else◌, filter, length, length-map, map, Option, None}
@@ -22,7 +22,7 @@ use Rattle.subnet_trace.proofs.Calms.{Held, goes_round, held_by, traced}
 use Rattle.subnet_trace.proofs.NoChoice.{subnet_settled}
 use Rattle.subnet_trace.proofs.Reached.{Holds, one_opening, reached_holds, round_holds}
 use Rattle.subnet_trace.proofs.Whole.{whole}
-use Rattle.trace.proofs.lemmas.{AllRoundsGo, AreRounds, Goes, IsIn, Traced, all_takings_in, member_once, says_all}
+use Rattle.trace.proofs.lemmas.{AllRoundsGo, AreRounds, Goes, IsIn, Traced, all_takings_in, first_same, member_once, rest_same, says_all}
 use Rattle.trace.proofs.lemmas.{then_in}
 use Rattle.trace.specs.declared.element.Spot.{Spot}
 use Rattle.trace.specs.Traces.{IsStill, SaysAll, TellsEvent}
@@ -75,12 +75,6 @@ round_in round n =
 
 -- ---- the same members are the same texts
 
-same_head : {X : Type 0} {x y : X} {xs ys : List X} → x ∷ xs ≡ y ∷ ys → x ≡ y
-same_head e = cc
-
-same_tail : {X : Type 0} {x y : X} {xs ys : List X} → x ∷ xs ≡ y ∷ ys → xs ≡ ys
-same_tail e = cc
-
 -- it is among these
 abbrev IsAmong : {X : Type 0} → X → List X → Type 0
 IsAmong x [] = ⊥
@@ -121,8 +115,8 @@ in_range from (suc count) x low high =
 
 same_made : {X Y : Type 0} (f g : X → Y) (xs : List X) → map f xs ≡ map g xs → (x : X) → IsAmong x xs → f x ≡ g x
 same_made f g [] same x h = absurd h
-same_made f g (y ∷ xs) same x (inl here) = ap f (sym here) ∙ same_head same ∙ ap g here
-same_made f g (y ∷ xs) same x (inr h) = same_made f g xs (same_tail same) x h
+same_made f g (y ∷ xs) same x (inl here) = ap f (sym here) ∙ first_same same ∙ ap g here
+same_made f g (y ∷ xs) same x (inr h) = same_made f g xs (rest_same same) x h
 
 site_within : (sites : List (Option ℕ)) (i : ℕ) → is_some (slice_index_or sites i None) ≡ true → i < length sites
 site_within [] zero some = absurd (cc)

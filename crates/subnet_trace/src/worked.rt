@@ -11,14 +11,7 @@ ghost use Rattle.link_table.specs.declared.destination.Fate.TheVariants as fate;
 ghost use Rattle.link_table.specs.declared.source.Standing.TheVariants as standing;
 ghost use Rattle.subnet.specs.Examples.{ask_frame, data_frame, expecting, imp_1, imp_2, keeping_ours, opened_pair};
 ghost use Rattle.subnet.specs.Examples.{pair, passing_frame, past_one, rfnm_frame, sending_ours, serving_ours};
-ghost use Rattle.subnet.specs.Calls.{Kept, running};
-ghost use Rattle.subnet.specs.Events.{stepped};
-ghost use Rattle.subnet.specs.Working.{subnet_calls};
 ghost use Rattle.subnet_trace.specs.Elements.{calm_left, calm_of};
-ghost use Rattle.subnet_trace.specs.Traced.{subnet_inside};
-ghost use Rattle.trace.specs.Elements.{by_round};
-ghost use Rattle.trace.specs.Traces.{TellsEvent};
-ghost use Rattle.trace.specs.declared.element.Spot.{Spot};
 ghost use Rattle.script.specs.declared.event.RawEvent.TheVariants as event;
 ghost use Rattle.subnet_trace.specs.Fates.{fate_of};
 ghost use Rattle.subnet_trace.specs.Parts.{Part, Imp, Line, SamePart, is_named, is_part};
@@ -31,7 +24,7 @@ ghost use Rattle.subnet_trace.specs.Texts.{line_text, next_text, packet_text, sl
 ghost use Rattle.subnet_trace.specs.Texts.{whole_text};
 ghost use Rattle.subnet_trace.specs.Worked.{arrives, distances_frame, end_down_at_2, fate_at_1, fate_at_2, flow};
 ghost use Rattle.subnet_trace.specs.Worked.{frame_on, full_at_1, full_at_2, gone, heard_on_two, hosts_down_at_2};
-ghost use Rattle.subnet_trace.specs.Worked.{lonely, long, looping};
+ghost use Rattle.subnet_trace.specs.Worked.{long, looping};
 ghost use Rattle.subnet_trace.specs.Worked.{no_slot_at_2, nowhere, piece, piece_frame, rfnm, sends, slot, takes, tells};
 ghost use Rattle.subnet_trace.specs.Worked.{two_lines, unmarked_frame, waiting_at_2, with_dead};
 ghost use Rattle.subnet_trace.specs.Laws.WorkedPackets.{WorkedPacketsBusy, WorkedPacketsPacket, WorkedPacketsSlot};
@@ -40,7 +33,7 @@ ghost use Rattle.subnet_trace.specs.Laws.WorkedParts.{WorkedPartsPort};
 ghost use Rattle.subnet_trace.specs.Laws.WorkedUntold.{WorkedUntoldAnswer};
 ghost use Rattle.subnet_trace.specs.Laws.WorkedCalms.{WorkedCalmsAgain, WorkedCalmsLater, WorkedCalmsTaking};
 ghost use Rattle.subnet_trace.specs.Laws.WorkedPlaces.{WorkedPlacesTelling};
-ghost use Rattle.subnet_trace.specs.Laws.WorkedTold.{WorkedToldOnce, WorkedToldTooLate};
+ghost use Rattle.subnet_trace.specs.Laws.WorkedStill.{Endings};
 
 /// Packets, channels, slots and frames.
 pub fn worked_packets()
@@ -204,17 +197,9 @@ pub fn worked_calms()
     ensures quiet { calm_of (pair None None [] []) 2 ≡ [] }
 {}
 
-/// How a calm is told: up to the end of its first still round.
-#[tactic(auto, unfolding(routing::specs::RouteTable::distance_to, link_table::specs::Numbers::is_new, link_table::specs::Numbers::modulus, routing::specs::RouteTable::next_of, link_table::specs::Numbers::oldest, imp_channel::specs::Line::submitted, routing::specs::RouteTable::vector_of, link_table::specs::Numbers::window))]
-pub fn worked_told()
-    // a round that sends distances to no one changes nothing
-    ensures rounds { by_round (calm_of lonely 2) ≡ (tells 1 1 ∷ []) ∷ (tells 2 1 ∷ []) ∷ [] }
-    ensures unmoved { stepped lonely (net.Route 1) ≡ lonely }
-
-    // so the first one is told, and no other
-    ensures once { WorkedToldOnce }
-    ensures too_early { (spot : Spot) (new : Kept) → TellsEvent subnet_calls subnet_inside (running lonely) (spot, event.Calm 2) new [] → ⊥ }
-    ensures too_late { WorkedToldTooLate }
+/// Where the trace of a calm ends: with its first still round.
+pub fn worked_still()
+    ensures { Endings }
 {}
 
 /// What is left of a calm at a place.

@@ -13,33 +13,28 @@ use Rattle.topology.specs.declared.network.ImpHosts.{ImpHosts}
 use Rattle.topology.specs.declared.network.LineEnds.{LineEnds}
 use Rattle.topology.proofs.Order.{numbered_rising}
 
-none_is : {X : Type 0} {x : X} → None ≡ Some x → ⊥
-none_is e = absurd (cc)
-
-both : (a b : Bool) → (a && b) ≡ true → (a ≡ true) × (b ≡ true)
-both true b e = (refl, e)
-both false b e = absurd (cc)
-
-fits : (fit : Bool) (n t : TopologyFields) → topology_if fit n ≡ Some t → (fit ≡ true) × (n ≡ t)
-fits true n t e = (refl, (let same : Some n ≡ Some t = e in cc))
-fits false n t e = absurd (none_is e)
+fits : (placed good joined : Bool) (n t : TopologyFields) → topology_if (placed && (good && joined)) n ≡ Some t
+    → (good ≡ true) × (joined ≡ true) × (n ≡ t)
+fits true true true n t e = (refl, refl, (let same : Some n ≡ Some t = e in cc))
+fits true true false n t e = absurd (cc)
+fits true false joined n t e = absurd (cc)
+fits false good joined n t e = absurd (cc)
 
 by_keeps : (carrier : CarrierKind) (raw : Bool) (imps : List ImpHosts) (lines : List LineEnds) (t : TopologyFields)
     → topology_by carrier raw imps lines ≡ Some t → IsTopology t
 by_keeps carrier raw imps lines t e =
-    let n : TopologyFields = record { carrier = carrier; raw = raw; imps = by_number imps; lines = lines } in
-    let (fit, is) = fits (all_placed imps && (are_imps (by_number imps) && are_lines (by_number imps) lines)) n t e in
-    let (placed, rules) = both (all_placed imps) (are_imps (by_number imps) && are_lines (by_number imps) lines) fit in
-    let (good, joined) = both (are_imps (by_number imps)) (are_lines (by_number imps) lines) rules in
+    let all : List ImpHosts = by_number imps in
+    let n : TopologyFields = record { carrier = carrier; raw = raw; imps = all; lines = lines } in
+    let (good, joined, is) = fits (all_placed imps) (are_imps all) (are_lines all lines) n t e in
     subst IsTopology is (record { imps = good; rising = numbered_rising imps (most_imps + 1); lines = joined })
 
 from_keeps : (carrier : Option CarrierKind) (raw : Option Bool) (imps : Option (List ImpHosts))
     (lines : Option (List LineEnds)) (t : TopologyFields) → topology_from carrier raw imps lines ≡ Some t
     → IsTopology t
-from_keeps None raw imps lines t e = absurd (none_is e)
-from_keeps (Some carrier) None imps lines t e = absurd (none_is e)
-from_keeps (Some carrier) (Some raw) None lines t e = absurd (none_is e)
-from_keeps (Some carrier) (Some raw) (Some imps) None t e = absurd (none_is e)
+from_keeps None raw imps lines t e = absurd (cc)
+from_keeps (Some carrier) None imps lines t e = absurd (cc)
+from_keeps (Some carrier) (Some raw) None lines t e = absurd (cc)
+from_keeps (Some carrier) (Some raw) (Some imps) None t e = absurd (cc)
 from_keeps (Some carrier) (Some raw) (Some imps) (Some lines) t e = by_keeps carrier raw imps lines t e
 
 data_keeps : (d : Data) (t : TopologyFields) → topology_of d ≡ Some t → IsTopology t
@@ -53,10 +48,10 @@ data_keeps d t e = by (size d == known_members d) e where
   by true e =
       from_keeps (carrier_of (get (codes "carrier") d)) (raw_of (get (codes "raw") d))
       (imps_of (get (codes "imp") d)) (lines_of (get (codes "line") d)) t e
-  by false e = absurd (none_is e)
+  by false e = absurd (cc)
 
 read_keeps : (o : Option Members) (t : TopologyFields) → topology_if_read o ≡ Some t → IsTopology t
-read_keeps None t e = absurd (none_is e)
+read_keeps None t e = absurd (cc)
 read_keeps (Some all) t e = data_keeps (table all) t e
 
 pub described_keeps : (text : List ℕ) (t : TopologyFields) → topology_in text ≡ Some t → IsTopology t

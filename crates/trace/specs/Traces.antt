@@ -78,7 +78,7 @@ abbrev pub TellsMoving : {C : Type 0} → Calls C → Inside C → Spot → Happ
 TellsMoving calls inside spot old round new lines =
     TellsRound calls inside spot old round new lines × (IsStill calls inside old new → ⊥)
 
--- these rounds happen one after the other, and none of them is still; or the first still one is the last that is told
+-- these rounds happen one after the other, and none of them is still; or the first still one is the last that is traced
 abbrev pub TellsRounds : {C : Type 0} → Calls C → Inside C → Spot → Happening C (List (List Element)) (List ℕ)
 TellsRounds calls inside spot old rounds new lines =
     InTurn (TellsMoving calls inside spot) old rounds new lines
@@ -86,12 +86,12 @@ TellsRounds calls inside spot old rounds new lines =
 
 -- ---- events
 
--- an event of a script is told round by round; one that is no calm is one round
+-- an event of a script is traced round by round; one that is no calm is one round
 abbrev pub TellsEvent : {C : Type 0} → Calls C → Inside C → Happening C (Spot × RawEvent) (List ℕ)
 TellsEvent calls inside old e new lines =
     TellsRounds calls inside e.0 old (by_round (elements_in (inside.calm old) e.1)) new lines
 
--- what is told of an event says all of it: the elementary events that have a line, replayed as events of their own,
+-- what is traced of an event says all of it: the elementary events that have a line, replayed as events of their own,
 -- leave what the whole
 -- event leaves and print what it prints
 pub record SaysAll {C : Type 0} (calls : Calls C) (inside : Inside C) (spot : Spot) (old new : C)

@@ -23,10 +23,10 @@ use script::RawEvent;
 use std::alloc::{AllocError, Global};
 use topology::Topology;
 
-/// Prints the network and all parts of its carrier, hands each elementary event of each event to the carrier in order,
-/// and prints one line for each: a JSON object with the place of the event in the script, the elementary event, what it
-/// printed, and the parts that it changed, as they are after it. Each event comes after the number of its line in the
-/// script.
+/// Prints the network and all parts of its carrier, hands each elementary event of each event to the carrier in
+/// order, and prints one line for each: a JSON object with the place of the event in the script, the elementary
+/// event, what it printed, and the parts that it changed, as they are after it. Each event comes after the number of
+/// its line in the script.
 ///
 /// A refused event changes nothing, and has a line too.
 ///
@@ -120,8 +120,8 @@ fn trace_event<C: Inspect, W: Output>(
     }
 }
 
-/// Traces a calm, round by round. A round after which all parts and the log are as they were before it is the last one:
-/// every round after it would be the same.
+/// Traces a calm, round by round. A round after which all parts and the log are as they were before it is the last
+/// one: every round after it would be the same.
 fn trace_calm<C: Inspect, W: Output>(
     alloc: Global,
     carrier: &mut C,

@@ -13,8 +13,8 @@ ghost use Rattle.trace.specs.Flows.{gone, told};
 ghost use Rattle.trace.specs.Parts.{Down, Waiting, SamePart, is_named, parts_of};
 ghost use Rattle.trace.specs.Texts.{answer_object, crossing_object, part_name, part_text, queues_text, whole_text};
 ghost use Rattle.trace.specs.Traces.{IsStill, MayTell, asking_from, numbered_from, plain_inside};
-ghost use Rattle.trace.specs.Worked.{first, flow, hosts, known, on_link, one_waits, second, short, stop, takes, third};
-ghost use Rattle.trace.specs.Worked.{with_down, with_flows};
+ghost use Rattle.trace.specs.Worked.{first, flow, hosts, known, on_link, one_waits, second, short, started, stop, takes};
+ghost use Rattle.trace.specs.Worked.{third, three_takings, with_down, with_flows};
 ghost use Rattle.trace.specs.declared.flow_part.FlowState.TheVariants as state;
 ghost use Rattle.trace.specs.declared.flow_part.Side.TheVariants as side;
 ghost use Rattle.trace.specs.Laws.WorkedTexts.{WorkedTextsQueues};
@@ -147,14 +147,14 @@ pub fn worked_rounds()
     ensures one_round { by_round (stop ∷ []) ≡ (stop ∷ []) ∷ [] }
 
     // elementary events of one round are together, and those of two rounds apart; a round without any is not there
-    ensures rounds { by_round (takes 1 first ∷ takes 1 third ∷ takes 3 first ∷ []) ≡ (takes 1 first ∷ takes 1 third ∷ []) ∷ (takes 3 first ∷ []) ∷ [] }
+    ensures rounds { by_round three_takings ≡ (takes 1 first ∷ takes 1 third ∷ []) ∷ (takes 3 first ∷ []) ∷ [] }
 
     // nothing is other than it was, be it that something changed and changed back
     ensures still { IsStill plain_calls plain_inside (with_down (first ∷ [])) (with_down (first ∷ [])) }
 
     // a round that changes a part is not still, nor is one in which something crosses
     ensures changes { IsStill plain_calls plain_inside (with_down []) (with_down (first ∷ [])) → ⊥ }
-    ensures crosses { IsStill plain_calls plain_inside (opening_boxes hosts) (record (opening_boxes hosts) { log = crossing.Up first ∷ [] }) → ⊥ }
+    ensures crosses { IsStill plain_calls plain_inside (opening_boxes hosts) started → ⊥ }
 {}
 
 /// What is known where a write failed: the carrier had processed the elementary event.

@@ -1,4 +1,4 @@
--- Where a carrier's calls leave a replay no choice, an event has one trace, and what is told where memory runs out is
+-- Where a carrier's calls leave a replay no choice, an event has one trace, and what is traced where memory runs out is
 -- the first part of it.
 use Rattle.std.proofs.Common.{◌≡◌, ◌⊎◌, inl, inr, ℕ, List, [], ◌∷◌, ◌++◌, refl, sym, ap, ap₂, ◌∙◌, subst}
 use Rattle.std.proofs.lemmas.List.{append_assoc, append-nil}

@@ -1,4 +1,4 @@
--- What is told of a calm of plain mailboxes says all of it: no round of theirs is still.
+-- What is traced of a calm of plain mailboxes says all of it: no round of theirs is still.
 use Rattle.std.proofs.Common.{◌≡◌, ◌&&◌, ◌+◌, ℕ, zero, suc, Bool, true, false, List, [], ◌∷◌, ◌++◌, length, Option}
 use Rattle.std.proofs.Common.{Some, None, Ok, is_some, arith, refl, sym, ap, subst}
 use Rattle.std.proofs.lemmas.List.{length-append}

@@ -26,7 +26,7 @@ both_same (n ∷ one) (m ∷ other) h k =
     ap (λ (x : List ℕ). x ∷ one) (sym ((bytes_decides m n).0 here.0))
     ∙ ap (λ (xs : List (List ℕ)). m ∷ xs) (both_same one other here.1 there.1)
 
--- how the code tells it
+-- how the code sees it
 none_told : (xs : List (List ℕ)) → nat_lt 0 (length xs) ≡ false → xs ≡ []
 none_told [] none = refl
 none_told (x ∷ xs) none = let some : 0 < length (x ∷ xs) =
@@ -85,7 +85,7 @@ grew_or_not (x ∷ more) old new grown =
 
 -- ---- a copy
 
--- lists that are alike place by place, seen through a function that cannot tell such items apart
+-- lists that are alike place by place, seen through a function that takes such items for the same
 pub alike : {X Y : Type 0} (f : X → Y) (R : X → X → Type 0) (xs ys : List X) → ((x y : X) → R x y → f y ≡ f x)
     → AllZip R xs ys → map f ys ≡ map f xs
 alike f R [] [] each h = refl

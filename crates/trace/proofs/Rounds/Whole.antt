@@ -1,4 +1,4 @@
--- What is told of a calm says all of it: over any carrier whose calls leave a replay no choice.
+-- What is traced of a calm says all of it: over any carrier whose calls leave a replay no choice.
 use Rattle.std.proofs.Common.{◌≡◌, ◌⊎◌, inl, inr, ◌==◌, ◌<◌, ℕ, zero, suc, Bool, true, false, List, [], ◌∷◌, ◌++◌}
 use Rattle.std.proofs.Common.{length, Result, Ok, Err, arith, refl, sym, ap, ◌∙◌, subst}
 use Rattle.std.proofs.lemmas.Bool.{eqb-true}
@@ -17,12 +17,13 @@ use Rattle.trace.specs.declared.element.Spot.{Spot}
 use Rattle.trace.specs.Elements.{Course, begins_in, by_round, events_of, rounds_from}
 use Rattle.trace.specs.Traces.{Inside, IsStill, SaysAll, TellsElement, TellsEvent, TellsMoving, TellsRound, TellsRounds}
 use Rattle.trace.specs.Traces.{TellsStill}
+use Rattle.trace.proofs.Closed.{first_same, rest_same}
 use Rattle.trace.proofs.Going.{AllRoundsGo, Goes, Run, Traced, crossings_are, run_none, run_then}
 use Rattle.trace.proofs.Rounds.Listed.{AllIn, whole_round}
 
--- ---- rounds that are told, the first of them apart
+-- ---- rounds that are traced, the first of them apart
 
--- the first round is told. It is still, and the last that is told; or it isn't, and the others are told after it
+-- the first round is traced. It is still, and the last that is traced; or it isn't, and the others are traced after it
 pub record Opened {C : Type 0} (calls : Calls C) (inside : Inside C) (spot : Spot) (old : C) (round : List Element)
     (rounds : List (List Element)) (new : C) (lines : List (List ℕ)) : Type 0 where
   pub mid : C
@@ -32,12 +33,6 @@ pub record Opened {C : Type 0} (calls : Calls C) (inside : Inside C) (spot : Spo
   pub after : (IsStill calls inside old mid × (new ≡ mid) × (rest ≡ []))
       ⊎ ((IsStill calls inside old mid → ⊥) × TellsRounds calls inside spot mid rounds new rest)
   pub all : lines ≡ first ++ rest
-
-same_first : {X : Type 0} {x y : X} {xs ys : List X} → x ∷ xs ≡ y ∷ ys → x ≡ y
-same_first e = cc
-
-same_rest : {X : Type 0} {x y : X} {xs ys : List X} → x ∷ xs ≡ y ∷ ys → xs ≡ ys
-same_rest e = cc
 
 pub opened_rounds : {C : Type 0} (calls : Calls C) (inside : Inside C) (spot : Spot) (old : C) (round : List Element)
     (rounds : List (List Element)) (new : C) (lines : List (List ℕ))
@@ -54,7 +49,7 @@ opened_rounds {C} calls inside spot old round rounds new lines (inr h) =
           → Opened calls inside spot old round rounds new lines
       by [] last left parts from front before own goes is =
           let here : TellsStill calls inside spot old round new own =
-          subst (λ (r : List Element). TellsStill calls inside spot old r new own) (sym (same_first parts))
+          subst (λ (r : List Element). TellsStill calls inside spot old r new own) (sym (first_same parts))
           (subst (λ (c : C). TellsStill calls inside spot c last new own) before.0 goes) in
           record {
             mid = new;
@@ -69,14 +64,14 @@ opened_rounds {C} calls inside spot old round rounds new lines (inr h) =
         first = first;
         rest = rest ++ own;
         told = subst (λ (r : List Element). TellsRound calls inside spot old r mid first)
-            (sym (same_first parts)) one.0;
+            (sym (first_same parts)) one.0;
         after = inr (
           one.1,
           inr (record {
             done = done;
             last = last;
             left = left;
-            parts = same_rest parts;
+            parts = rest_same parts;
             mid =
                 from;
             front = rest;
@@ -98,7 +93,7 @@ none_told calls inside spot old new lines (inr h) = absurd (by h.done h.parts) w
   by [] parts = let long : 0 ≡ suc (length h.left) = ap length parts in omega (arith, long)
   by (d ∷ done) parts = let long : 0 ≡ suc (length (done ++ h.last ∷ h.left)) = ap length parts in omega (arith, long)
 
--- ---- what is told replays
+-- ---- what is traced replays
 
 -- events one after the other, and then others
 pub in_turn_then : {S E L : Type 0} (Happens : Happening S E L) (old mid new : S) (xs ys : List E) (first rest : List L)
@@ -192,7 +187,7 @@ module _ {C S : Type 0} (x : Traced C S) (inside : Inside C) (whole : ℕ → S 
             (shown_crossings g.run.crossings) (shown_crossings still.run.crossings) g.run.replays still.run.replays in
             others (subst (λ (c : C). Rounds x.calls times c r new) one.carriers more)
 
-  -- what is told of rounds, and what all of them leave
+  -- what is traced of rounds, and what all of them leave
   record Says (spot : Spot) (old new : C) (lines : List (List ℕ)) (r : Result (Unit {0}) CarrierFault)
       (other : C) : Type 0 where
     told : List Element
@@ -206,7 +201,7 @@ module _ {C S : Type 0} (x : Traced C S) (inside : Inside C) (whole : ℕ → S 
       → mid ≡ old → Says spot mid new lines r other → Says spot old new lines r other
   skipped spot old mid new other lines r same h = subst (λ (c : C). Says spot c new lines r other) same h
 
-  -- the first round is told, and then others are
+  -- the first round is traced, and then others are
   joined : (spot : Spot) (old mid new other : C) (round : List Element) (first rest lines : List (List ℕ))
       (r : Result (Unit {0}) CarrierFault) → TellsRound x.calls inside spot old round mid first
       → Run x.calls old (events_of round) mid
@@ -246,7 +241,7 @@ module _ {C S : Type 0} (x : Traced C S) (inside : Inside C) (whole : ℕ → S 
       later : List Element
       later = (rounds_from whole (suc round) times (whole round (x.view old)).left).elements
 
-      -- what is told of the rounds after the first one
+      -- what is traced of the rounds after the first one
       onward : ((mid : C) (ls : List (List ℕ)) → x.Holds mid → Rounds x.calls times mid r other
           → TellsRounds x.calls inside spot mid
           (by_round (rounds_from whole (suc round) times (x.view mid)).elements) new ls → Says spot mid new ls r other)
@@ -318,7 +313,7 @@ module _ {C S : Type 0} (x : Traced C S) (inside : Inside C) (whole : ℕ → S 
             at (inr (moved, more)) = joined spot old h.mid new other (y ∷ es) o.first o.rest lines r told run o.all
                 (onward others o.mid o.rest here more)
 
-  -- an event of one call is told whole
+  -- an event of one call is traced whole
   one_told : (spot : Spot) (old new other : C) (e : RawEvent) (lines : List (List ℕ)) (shown : List Shown)
       → TellsRounds x.calls inside spot old ((record { round = 0; event = e } ∷ []) ∷ []) new lines
       → Happens x.calls old e other shown
@@ -355,7 +350,7 @@ module _ {C S : Type 0} (x : Traced C S) (inside : Inside C) (whole : ℕ → S 
                 left = sym (same.carriers ∙ sym last);
               }
 
-  -- and so is a calm, though it is not told to its end
+  -- and so is a calm, though it is not traced to its end
   calm_told : (spot : Spot) (old new other : C) (rounds : ℕ) (lines : List (List ℕ)) (shown : List Shown) → x.Holds old
       → TellsRounds x.calls inside spot old (by_round (inside.calm old rounds)) new lines
       → Happens x.calls old (event.Calm rounds) other shown

@@ -14,7 +14,7 @@ use Rattle.trace.specs.Texts.{trace_line}
 use Rattle.trace.specs.Traces.{IsStill, TellsElement, TellsEvent, TellsRounds, change_text}
 use Rattle.trace.specs.declared.element.Element.{Element}
 use Rattle.trace.specs.declared.element.Spot.{Spot}
-use Rattle.subnet_trace.proofs.worked.worked_told.Goals as goal
+use Rattle.subnet_trace.proofs.worked.worked_still.Goals as goal
 
 unmoved : stepped lonely (net.Route 1) ≡ lonely
 unfolding vector_of distance_to next_of
@@ -23,12 +23,6 @@ unmoved = refl
 rounds : by_round (calm_of lonely 2) ≡ (tells 1 1 ∷ []) ∷ (tells 2 1 ∷ []) ∷ []
 unfolding vector_of distance_to next_of
 rounds = refl
-
-pub returns-clause-rounds : goal.returns-clause-rounds
-returns-clause-rounds c = rounds
-
-pub returns-clause-unmoved : goal.returns-clause-unmoved
-returns-clause-unmoved c = unmoved
 
 -- ---- the first round
 
@@ -49,8 +43,10 @@ happens = record {
 unchanged : change_text subnet_inside (running lonely) (running lonely) ≡ codes "{}"
 unchanged = ap object (none_changed (subnet_inside.members (running lonely)))
 
-pub returns-clause-once : goal.returns-clause-once
-returns-clause-once c = λ spot.
+once : (spot : Spot)
+    → TellsEvent subnet_calls subnet_inside (running lonely) (spot, event.Calm 2) (running lonely)
+    (trace_line spot (tells 1 1) None [] (codes "{}") ∷ [])
+once = λ spot.
     let line : List ℕ = trace_line spot (tells 1 1) None [] (codes "{}") in
     let told : TellsElement subnet_calls subnet_inside spot (running lonely) (tells 1 1) (running lonely) (line ∷ []) =
     ([], happens, ap (λ (parts : List ℕ). trace_line spot (tells 1 1) None [] parts ∷ []) (sym unchanged)) in
@@ -103,8 +99,9 @@ none_first : (first rest : List (List ℕ)) → length first ≡ 1 → [] ≡ fi
 none_first [] rest one all = omega (arith, one)
 none_first (x ∷ first) rest one all = let long = ap length all in absurd (omega (arith, long))
 
-pub returns-clause-too_early : goal.returns-clause-too_early
-returns-clause-too_early c = λ spot new h.
+too_early : (spot : Spot) (new : Kept)
+    → TellsEvent subnet_calls subnet_inside (running lonely) (spot, event.Calm 2) new [] → ⊥
+too_early = λ spot new h.
     let o = opened spot new [] h in
     none_first o.first o.rest (first_of spot o.mid o.first new [] o).one o.all
 
@@ -116,8 +113,9 @@ two_first one other (x ∷ first) rest long none all =
     (all ∙ ap (λ (ls : List (List ℕ)). (x ∷ first) ++ ls) none ∙ append-nil (x ∷ first)) in
     omega (arith, here, long)
 
-pub returns-clause-too_late : goal.returns-clause-too_late
-returns-clause-too_late c = λ spot new one other h.
+too_late : (spot : Spot) (new : Kept) (one other : List ℕ)
+    → TellsEvent subnet_calls subnet_inside (running lonely) (spot, event.Calm 2) new (one ∷ other ∷ []) → ⊥
+too_late = λ spot new one other h.
     let o = opened spot new (one ∷ other ∷ []) h in
     let first = first_of spot o.mid o.first new (one ∷ other ∷ []) o in
     by one other o.first o.rest first.one o.all o.mid new
@@ -131,3 +129,6 @@ returns-clause-too_late c = λ spot new one other h.
       by one other first rest long all mid new quiet (inl (same, last, none)) =
           two_first one other first rest long none all
       by one other first rest long all mid new quiet (inr (moved, more)) = moved quiet
+
+pub returns : goal.returns
+returns c = record { rounds = rounds; unmoved = unmoved; once = once; too_early = too_early; too_late = too_late }

@@ -1,4 +1,4 @@
--- What is told of an event says all of it, though a calm is told up to its first still round only.
+-- What is traced of an event says all of it, though a calm is traced up to its first still round only.
 use Rattle.std.specs.Prelude.{ℕ, List, Option}
 use Rattle.replay.specs.Output.{Shown}
 use Rattle.replay.specs.Replay.{Happens}
@@ -12,9 +12,9 @@ use Rattle.trace.specs.Traces.{SaysAll, TellsEvent}
 use Rattle.trace.specs.declared.element.Spot.{Spot}
 
 -- of each subnet that a replay comes to
-abbrev pub ToldEvents : Type 0
-ToldEvents =
-    (sites : List (Option ℕ)) (ends : List Ends) (old new other : Kept) (spot : Spot) (e : RawEvent)
-    (lines : List (List ℕ)) (shown : List Shown) → IsReached sites ends old →
-    TellsEvent subnet_calls subnet_inside old (spot, e) new lines → Happens subnet_calls old e other shown →
-    SaysAll subnet_calls subnet_inside spot old new lines other shown
+pub record Saying : Type 0 where
+  pub events :
+      (sites : List (Option ℕ)) (ends : List Ends) (old new other : Kept) (spot : Spot) (e : RawEvent)
+      (lines : List (List ℕ)) (shown : List Shown) → IsReached sites ends old →
+      TellsEvent subnet_calls subnet_inside old (spot, e) new lines → Happens subnet_calls old e other shown →
+      SaysAll subnet_calls subnet_inside spot old new lines other shown
