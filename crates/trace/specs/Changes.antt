@@ -64,7 +64,7 @@ changed_parts before now = changed before.fixed now.fixed ++ changed_lists befor
 
 -- a flow was in the list at this place, of which there is one now, and is there no more
 pub record IsLostAt (before now : List (List FlowPart)) (place : ℕ) (p : FlowPart) : Type 0 where
-  pub place : place < length now
+  pub within : place < length now
   pub was : Contains (slice_index_or before place []) p
   pub none : is_there (slice_index_or now place []) p ≡ false
 

@@ -10,7 +10,7 @@ pub returns-clause-only : goal.returns-clause-only
 returns-clause-only c = only
 
 pub returns-clause-lost : goal.returns-clause-lost
-returns-clause-lost c = λ before now place p h. all_lost before now place p h.place h.was h.none
+returns-clause-lost c = λ before now place p h. all_lost before now place p h.within h.was h.none
 
 pub returns-clause-none : goal.returns-clause-none
 returns-clause-none c = none
