@@ -72,6 +72,26 @@ class OfBooks(unittest.TestCase):
         down = ("life 0/1 16", "down 0/1\nlife 0/1 16")
         self.assertIn("0/1 stopped in line 10", said(11, down, ("100 0 0 open", "100 0 0 stopped"))["over"])
 
+    def test_what_a_life_counts(self) -> None:
+        self.assertEqual(said(11)["within"], "Nothing that crossed has ended it.")
+        ended = ("life 0/1 16", "down 0/2\nlife 0/1 16"), ("0 0 0 0 open", "0 0 0 0 stopped")
+        clauses = said(12, *ended)
+        self.assertEqual(clauses["within"], "What ended it crossed in line 10, after all that it counts: 1 message.")
+        self.assertEqual(said(11, *ended)["within"], "Nothing that crossed has ended it.")
+        data = "out 0/2 0/1 5"
+        late = (data, f"down 0/2\nup 0/2\n{data}"), ("0 0 0 0 open", "0 0 0 0 stopped")
+        words = "What ended it crossed in line 7, and it counts what crossed later, in line 9."
+        self.assertEqual(said(13, *late)["within"], words)
+        contact = said(10, ("1 100 0 0 open", "1 100 0 0 reset"))
+        self.assertEqual(contact["within"], "A contact ended it, which doesn't cross: after it nothing is counted.")
+
+    def test_contacts(self) -> None:
+        self.assertRegex(said(7)["contacts"], "^It isn't just an RST, .* with 0/1 since 0/2 last sent there")
+        reset = ("life 0/1 16", "out 0/1 0/2 0 48 00080001000C\nlife 0/1 16")
+        self.assertRegex(said(10, reset)["contacts"], "^It is an RST, .* a user of 0/1 may have contacted 0/2 before.$")
+        two = ("life 0/1 16", "out 0/1 0/2 0 56 00080002000C0C\nlife 0/1 16")
+        self.assertRegex(said(10, two)["contacts"], "^It isn't just an RST, ")
+
     def test_other_bits(self) -> None:
         clauses = said(10, ("100 0 0 open 4849", "100 0 0 open 4848"))
         self.assertEqual(clauses["promise.formed"], "It isn't made of messages that crossed.")

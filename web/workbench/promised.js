@@ -1,7 +1,8 @@
 /** What each clause of the promise says of a life or a message of a book, as `./explain --book LINE` does. */
 
 import { TABLE } from "../../python/dorydate/sentences/table.mjs";
-import { bitsOf } from "./book.js";
+import { bitsOf, commandsOf } from "./book.js";
+import { COMMANDS } from "./commands.js";
 import { LEAVES, overBy } from "./over.js";
 import { filled, listed } from "./words.js";
 
@@ -61,7 +62,8 @@ export function saidOf(book, line, names) {
     }
     const it = book.log[line - 1];
     const out = it?.kind === "out" ? line - 1 : it?.kind === "in" ? book.lastOut(it.flow, line - 1) : -1;
-    return out < 0 ? null : { title: messageTitle(book, out, names), begins: out + 1, said: ofMessage(book, out) };
+    if (out < 0) return null;
+    return { title: messageTitle(book, out, names), begins: out + 1, said: ofMessage(book, out, names) };
 }
 
 /**
@@ -100,6 +102,7 @@ function ofLife(book, life, names) {
         life.receives ? source(life, others) : handedOver(life),
         ...(life.receives ? [life] : others).map((it) => grants(life, it)),
         over(book, life, names),
+        within(book, life),
         whole(life, others),
         allCounted(book, life),
         allThere(book, life, others),
@@ -231,6 +234,22 @@ function over(book, life, names) {
 }
 
 /**
+ * Whether all that it counts crossed before it was over.
+ *
+ * @param {Book} book
+ * @param {Life} life
+ */
+function within(book, life) {
+    const { by, place } = overBy(book, life) ?? { by: "", place: -1 };
+    if (!by || (life.fate === "reset" && by !== "reset")) {
+        return said("within", life.fate === "reset" ? "called" : "continues");
+    }
+    const late = book.countedBy(life).find((it) => it > place);
+    const name = late === undefined ? "in time" : "too late";
+    return said("within", name, { place: place + 1, late: (late ?? 0) + 1, messages: life.messages });
+}
+
+/**
  * Whether it has all that its partner sent, where it ended.
  *
  * @param {Life} life
@@ -280,10 +299,12 @@ function allThere(book, life, others) {
 /**
  * @param {Book} book
  * @param {number} at where it went out
+ * @param {Names} names
  */
-function ofMessage(book, at) {
+function ofMessage(book, at, names) {
     const { log } = book;
-    const { flow } = log[at];
+    const { flow, text } = log[at];
+    const [source, destination, link] = flow.split(" ");
     const [before, next] = [book.lastOut(flow, at), log.findIndex((it, to) => to > at && it.kind === "out" && it.flow === flow)];
     const since = log.slice(at + 1, next < 0 ? undefined : next);
     const isEmpty = before < 0 || log.slice(before, at).some((it) => frees(it, flow));
@@ -292,11 +313,14 @@ function ofMessage(book, at) {
     const answer = since.findIndex((it) => it.kind === "answer" && it.flow === flow);
     const isRfnm = since[answer]?.answer === "rfnm";
     const told = answer < 0 ? "unanswered" : isRfnm ? "rfnm" : "other answer";
+    const [hosts, commands] = [{ source: names(source), destination: names(destination) }, commandsOf(text)];
+    const isReset = link === "0" && commands.map((it) => COMMANDS[it[0]].name).join() === "RST";
     return [
         said("promise.run", isEmpty ? "run" : "box", { line: before + 1 }),
         said("promise.safe.messages.once", taken < 0 ? "untaken" : "taken", { line: line(taken) }),
         said("promise.safe.messages.answered", told, { answer: ANSWERS[since[answer]?.answer] ?? "", line: line(answer) }),
-        ...(flow.endsWith(" 0") ? [] : ofData(book, at, isRfnm && taken >= 0 ? line(taken) - 1 : -1)),
+        said("contacts", isReset ? "only rst" : "no contact", hosts),
+        ...(link === "0" ? [] : ofData(book, at, isRfnm && taken >= 0 ? line(taken) - 1 : -1)),
     ];
 }
 

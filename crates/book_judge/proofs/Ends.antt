@@ -2,6 +2,8 @@
 pub mod Reached
 pub mod Suited
 pub mod Contacts
+pub mod Together
+pub mod Noted
 pub mod Keys
 pub mod Owed
 pub mod Changed

@@ -2,6 +2,10 @@
 use Rattle.book_judge.proofs.Common.{◌≡◌, true, false, List, [], ◌∷◌, refl, sym, ◌∙◌, Host, is_host, Empty, Fits, Flow, Answer, Crossing, HostMessage, same_flow-refl, same_host-refl, IsSomeRun, StraysAt}
 use Rattle.interface.specs.declared.crossing.Answer.TheVariants as answer
 use Rattle.interface.specs.declared.crossing.Crossing.TheVariants as crossing
+use Rattle.bit_messages.specs.Octets.{octets_of}
+use Rattle.ncp_control.specs.Reading.{command_of, read_of}
+use Rattle.host_pairs.specs.Control.{orders_of}
+use Rattle.book_judge.proofs.Common.{Going, gave, sent_log, stage, took}
 
 is_there : (h : Host) → is_host (h ∷ []) h ≡ true
 is_there h = rw (same_host-refl h) refl
@@ -46,3 +50,13 @@ strays_earlier m s = s.1 (answered m)
 
 pub strays_later : (m : HostMessage) → StraysAt (log_of m) 3 → ⊥
 strays_later m s = answered_twice m s.0
+
+-- ---- lives of a world in which eight bits were sent: both continue
+
+pub took_goes : stage [] took sent_log ≡ Going false false
+unfolding octets_of orders_of read_of command_of
+took_goes = refl
+
+pub gave_goes : stage [] gave sent_log ≡ Going false false
+unfolding octets_of orders_of read_of command_of
+gave_goes = refl

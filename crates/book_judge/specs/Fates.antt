@@ -47,9 +47,26 @@ pub record IsSuited (log : List Crossing) (x : Life) (f : Fate) : Type 0 where
   pub begins : is_begun (stage [] x log) ≡ true → (course [] x log).early ≡ false
   pub fate : suits (stage [] x log) f ≡ true
 
-abbrev pub AreSuited : List Crossing → List Life → List Fate → Type 0
-AreSuited log lives fates = (x : Life) (f : Fate) → IsBeside x f lives fates → IsSuited log x f
+-- it has begun, and nothing that crossed has ended it
+abbrev pub continues : Stage → Bool
+continues (Asking own partner) = false
+continues (Going own partner) = true
+continues (Over cause place) = false
 
--- the place of the first life that hasn't
+-- two lives of one host with one peer that continue by what crossed. A contact drops all connections with the peer, and
+-- after it an RST goes out first, which would end them: so a contact has reset both, or neither
+pub record ContinueTogether (log : List Crossing) (x y : Life) : Type 0 where
+  pub host : x.host ≡ y.host
+  pub peer : x.peer ≡ y.peer
+  pub one : continues (stage [] x log) ≡ true
+  pub other : continues (stage [] y log) ≡ true
+
+-- each life has a fate that what crossed leaves it; and a contact that reset one life reset all with it
+pub record AreSuited (log : List Crossing) (lives : List Life) (fates : List Fate) : Type 0 where
+  pub each : (x : Life) (f : Fate) → IsBeside x f lives fates → IsSuited log x f
+  pub contact : (x y : Life) (f : Fate) → IsBeside x fate.Reset lives fates → IsBeside y f lives fates
+      → ContinueTogether log x y → f ≡ fate.Reset
+
+-- the place of the first life with which they aren't so
 abbrev pub UnsuitedAt : List Crossing → List Life → List Fate → ℕ → Type 0
 UnsuitedAt log lives fates place = EndsAt (λ n. AreSuited log (take n lives) fates) place

@@ -10,6 +10,7 @@ pub mod Keys
 pub mod Deeds
 pub mod Changes
 pub mod Begins
+pub mod Contacts
 use Rattle.std.specs.Prelude.{ℕ, Bool, true, false, not, ◌&&◌, nat_le, if◌then◌else◌, List, [], ◌∷◌, slice_get, Option, Some, None}
 use Rattle.std.specs.FinMap as map
 use Rattle.interface.specs.Flow.{flow_cmp}

@@ -1,5 +1,5 @@
--- A life whose host stops: words for worked examples.
-use Rattle.std.specs.Prelude.{List, ◌∷◌}
+-- A life whose host stops, and a second life of a host with its peer: words for worked examples.
+use Rattle.std.specs.Prelude.{List, [], ◌∷◌}
 use Rattle.interface.specs.declared.crossing.Crossing.{Crossing}
 use Rattle.interface.specs.declared.crossing.Crossing.TheVariants as crossing
 use Rattle.net_sim.specs.Timeline.{crossings_of}
@@ -14,3 +14,11 @@ stopped_log = crossing.In eight_sent ∷ crossing.Down took.host ∷ crossings_o
 -- its own request goes out at place 0, and its partner's comes in at place 2
 abbrev pub late_answer : Life
 late_answer = record took { own_stamp = 0; partner_stamp = 2 }
+
+-- it has taken nothing
+abbrev pub took_nothing : Life
+took_nothing = record took { messages = 0; bits = [] }
+
+-- none of its requests crosses
+abbrev pub unasked : Life
+unasked = record took { own_stamp = 99; partner_stamp = 99 }

@@ -6,6 +6,7 @@ ghost use Rattle.book_judge.specs.Fates as left;
 ghost use Rattle.book_judge.specs.Fates.{AreSuited, UnsuitedAt};
 ghost use Rattle.book_judge.specs.Inside.Begins as begun;
 ghost use Rattle.book_judge.specs.Inside.Begins.{AreCourses, IsKnown, pace_at};
+ghost use Rattle.book_judge.specs.Inside.Contacts as contact;
 ghost use Rattle.book_judge.specs.Inside.Deeds as tests;
 ghost use Rattle.book_judge.specs.Inside.Deeds.{deeds_in};
 ghost use Rattle.promise.specs.Ends as ends;
@@ -13,11 +14,14 @@ ghost use Rattle.book_judge.specs.declared.fates.deeds.Deed.{Deed};
 
 mod begins;
 mod changes;
+mod contacts;
 mod deeds;
 mod key_map;
 
+use crate::flow_map::FlowMap;
 use begins::{Ahead, Known, Reached, ahead_of, key, known_by};
 use changes::{Change, changes_of};
+use contacts::{agrees, note};
 use deeds::deeds_of;
 use interface::Crossing;
 use key_map::Key;
@@ -73,6 +77,25 @@ fn suits_known(known: Option<Known>, fate: Fate) -> bool
         Some(known) => !known.early && suits(known.reached, fate),
         None => true,
     }
+}
+
+/// Returns whether a contact has reset a life with this fate; `None` where it doesn't continue by what crossed.
+fn reset_at(reached: Reached, fate: Fate) -> Option<bool>
+    ensures { (at : ℕ → ℕ) → result ≡ contact.reset_at (begun.stage_of at reached) fate }
+{
+    match reached {
+        Reached::Going { .. } => Some(fate == Fate::Reset),
+        _ => None,
+    }
+}
+
+/// Returns the same by what is known of a life.
+fn reset_known(known: Option<Known>, fate: Option<Fate>) -> Option<bool>
+    ensures { (at : ℕ → ℕ) → result ≡ contact.reset_begun (option_map (pace_at at) known) fate }
+{
+    let known = known?;
+    let fate = fate?;
+    reset_at(known.reached, fate)
 }
 
 /// Returns the request of a life that its host takes, or the one that it sends.
@@ -142,6 +165,13 @@ impl Courses {
             None => true,
         }
     }
+
+    /// Returns whether a contact has reset a life, if it has a fate and continues by deeds.
+    fn reset(&self, life: &Life, fate: Option<Fate>) -> Option<bool>
+        ensures { (deeds : List Deed) → AreCourses deeds self.now → result ≡ contact.reset_after deeds life.now fate }
+    {
+        reset_known(self.known(life), fate)
+    }
 }
 
 /// Returns the fate of the life at a place, if it has one.
@@ -166,15 +196,16 @@ pub(crate) fn courses_of(alloc: Global, log: &[Crossing]) -> Result<Courses, All
     Ok(Courses { changes, ahead })
 }
 
-/// Returns the place of the first life whose fate isn't one that what crossed leaves it, counted from 0; `None`
-/// where each has such a fate. The log is the oldest first. A life that has no fate, and one whose requests haven't
-/// crossed, is none of these.
+/// Returns the place of the first life whose fate isn't one that what crossed leaves it, or that disagrees with an
+/// earlier one on a contact, counted from 0; `None` where there is none. The log is the oldest first. A life that has
+/// no fate, and one whose requests haven't crossed, is none of these.
 ///
 /// A life begins with the second of its two requests, where nothing came between them that ends lives. It is over once
 /// its connections are dropped (by an RST, by an RRP that isn't owed, or by a message to its peer that fails), its host
 /// stops, or both CLS have crossed (NIC 8246, RTS, STR, CLS, RST and RRP). Where its own CLS is the first of these, a
 /// user of its host has closed it. A contact of its host doesn't cross, so one that has begun may have been reset:
-/// but not where its own CLS went out last, since after a contact an RST goes out first.
+/// but not where its own CLS went out last, since after a contact an RST goes out first. So of the lives of one host
+/// with one peer that continue by what crossed, a contact has reset all or none.
 ///
 /// Errors: `AllocError`.
 pub fn unsuited_at(
@@ -186,10 +217,14 @@ pub fn unsuited_at(
     ensures { IfOk result (λ found. MatchOption found (AreSuited (reverse log.now) lives.now fates.now) (λ place. UnsuitedAt (reverse log.now) lives.now fates.now place)) }
 {
     let courses = courses_of(alloc, log)?;
+    let mut resets = FlowMap::new(alloc);
     for (place, life) in lives.iter().enumerate() {
-        if !courses.suits(life, fate_at(fates, place)) {
+        let fate = fate_at(fates, place);
+        let reset = courses.reset(life, fate);
+        if !courses.suits(life, fate) || !agrees(&resets, life, reset) {
             return Ok(Some(place));
         }
+        note(&mut resets, life, reset)?;
     }
     Ok(None)
 }

@@ -14,7 +14,7 @@ ghost use Rattle.net_sim.specs.declared.auditing.findings.Finding.TheVariants as
 ghost use Rattle.net_sim.specs.Findings.{ShowsLife};
 ghost use Rattle.net_sim.specs.Worked.{eight, four};
 ghost use Rattle.net_sim.specs.WorkedMoments.{rts, str};
-ghost use Rattle.book_judge.specs.WorkedLives.{late_answer, stopped_log};
+ghost use Rattle.book_judge.specs.WorkedLives.{late_answer, stopped_log, took_nothing, unasked};
 ghost use Rattle.promise.specs.Ends.{CanBeLeft, Closed, Dropped, Going, Over, Stopped};
 ghost use Rattle.promise.specs.Fates.{ClosesWhole};
 ghost use Rattle.promise.specs.Formed.{FormedBook};
@@ -23,7 +23,7 @@ ghost use Rattle.promise.specs.declared.life.Fate.TheVariants as fate;
 ghost use Rattle.promise.specs.declared.life.Life.{Life};
 ghost use Rattle.world_keeps_lives.specs.WorkedFormed.{gave, sent_log, took};
 ghost use Rattle.book_judge.specs.Broken.{IsBroken, first_closed, only_malformed, unbroken};
-ghost use Rattle.book_judge.specs.Fates.{AreSuited, suits};
+ghost use Rattle.book_judge.specs.Fates.{AreSuited, UnsuitedAt, suits};
 ghost use Rattle.book_judge.specs.Lives.{AreMade, UnmadeAt};
 ghost use Rattle.book_judge.specs.Runs.{IsSomeRun, StraysAt};
 
@@ -108,8 +108,25 @@ pub fn worked_fates()
     ensures nothing { (x : Life) (f : Fate) → AreSuited [] (x ∷ []) (f ∷ []) }
     ensures early { (f : Fate) → AreSuited (crossing.In str ∷ crossing.Down late_answer.host ∷ crossing.Out rts ∷ []) (late_answer ∷ []) (f ∷ []) → ⊥ }
 
-    // where some contacts leave lives their fates, these suit what crossed
+    // where some contacts leave lives their fates, these suit what crossed: each, and all of a host with a peer
     ensures contacts { (log : List Crossing) (lives : List Life) (fates : List Fate) → CanBeLeft log lives fates → AreSuited log lives fates }
+{}
+
+/// Lives that continue by what crossed, and contacts, each of which resets all lives of its host with the peer.
+pub fn worked_contacts()
+    // of two lives of one host with one peer a contact resets both, and none of the peer's
+    ensures both { AreSuited sent_log (took ∷ took_nothing ∷ []) (fate.Reset ∷ fate.Reset ∷ []) }
+    ensures neither { AreSuited sent_log (took ∷ took_nothing ∷ []) (fate.Open ∷ fate.Closing ∷ []) }
+    ensures not_peers { AreSuited sent_log (took ∷ gave ∷ []) (fate.Reset ∷ fate.Open ∷ []) }
+
+    // not one without the other, whichever it is; and it is the second that is named
+    ensures not_one { AreSuited sent_log (took ∷ took_nothing ∷ []) (fate.Reset ∷ fate.Open ∷ []) → ⊥ }
+    ensures not_other { AreSuited sent_log (took ∷ took_nothing ∷ []) (fate.Open ∷ fate.Reset ∷ []) → ⊥ }
+    ensures second { UnsuitedAt sent_log (took ∷ took_nothing ∷ []) (fate.Reset ∷ fate.Open ∷ []) 1 }
+    ensures not_first { UnsuitedAt sent_log (took ∷ took_nothing ∷ []) (fate.Reset ∷ fate.Open ∷ []) 0 → ⊥ }
+
+    // a life that hasn't begun continues with none
+    ensures unasked { AreSuited sent_log (took ∷ unasked ∷ []) (fate.Reset ∷ fate.Open ∷ []) }
 {}
 
 /// Lives of small logs, the newest crossing first.

@@ -1,6 +1,6 @@
 -- What `--log` writes, `--audit` reads and calls kept.
 use Rattle.command_line.proofs.Common.{◌≡◌, ℕ, Bool, true, List, [], ◌∷◌, Option, Some, None, IfSome, Result, Ok, Err, MatchResult, inl, inr, map, refl, sym, subst, reverse-reverse, fates_of, lives_of, lives_back, Host, IsRun, SafeMessages, Crossing, Says, AreFated, ClosesWhole, Fate, Life, Calls, TopologyFields, CarrierKind, AreSuited, IsSomeRun, AuditsLog, IsAuditFault, IsSomeLog, Judged, SaysOf, kept, Verdict, plain_calls, subnet_calls, plain_of, subnet_of, Raw, World, Logged, LogsFrom, LogsOver, raw_book, world_book, AuditFault}
-use Rattle.std.proofs.Common.{reverse}
+use Rattle.std.proofs.Common.{ap, reverse, ◌∙◌}
 use Rattle.book_log.specs.Log.{Book, logged_fate}
 use Rattle.book_log.proofs.lemmas.{book_once, fates_back}
 use Rattle.headline.proofs.lemmas.{kept_promise}
@@ -11,7 +11,7 @@ use Rattle.promise.specs.Ends.{Asking, Closed, Dropped, Going, Over, Stage, Stop
 use Rattle.promise.specs.Fates.{IsBeside}
 use Rattle.promise.specs.declared.life.Fate.TheVariants as fate
 use Rattle.topology.specs.declared.network.CarrierKind.TheVariants as kind
-use Rattle.book_judge.specs.Fates.{suits}
+use Rattle.book_judge.specs.Fates.{ContinueTogether, IsSuited, suits}
 use Rattle.book_judge.proofs.lemmas.{made_twice, made_with}
 use Rattle.command_line.specs.Audits.{IsKeptLog, SaysKept}
 use Rattle.command_line.specs.Events.{Asked}
@@ -85,15 +85,35 @@ logged_beside x f (y ∷ lives) (g ∷ fates) h = elim h [
   | inr r ↦ (let b = logged_beside x f lives fates r in (b.0, inr b.1, b.2))
 ]
 
+reset_logged : (f : Fate) → fate.Reset ≡ logged_fate f → f ≡ fate.Reset
+reset_logged fate.Open e = absurd (cc)
+reset_logged fate.Closing e = absurd (cc)
+reset_logged fate.Closed e = absurd (cc)
+reset_logged fate.Ended e = absurd (cc)
+reset_logged fate.Reset e = refl
+reset_logged fate.Stopped e = absurd (cc)
+
 suited_logged : (log : List Crossing) (lives : List Life) (fates : List Fate) → AreSuited log lives fates
     → AreSuited log lives (map logged_fate fates)
-suited_logged log lives fates all x f h =
-    let b = logged_beside x f lives fates h in
-    let s = all x b.0 b.1 in
-    record {
-      begins = s.begins;
-      fate = subst (λ (g : Fate). suits (stage [] x log) g ≡ true) (sym b.2) (suits_logged (stage [] x log) b.0 s.fate);
-    }
+suited_logged log lives fates all = record { each = each; contact = contact } where
+  each : (x : Life) (f : Fate) → IsBeside x f lives (map logged_fate fates) → IsSuited log x f
+  each x f h =
+      let b = logged_beside x f lives fates h in
+      let s = all.each x b.0 b.1 in
+      record {
+        begins = s.begins;
+        fate =
+            subst (λ (g : Fate). suits (stage [] x log) g ≡ true) (sym b.2)
+            (suits_logged (stage [] x log) b.0 s.fate);
+      }
+
+  contact : (x y : Life) (f : Fate) → IsBeside x fate.Reset lives (map logged_fate fates)
+      → IsBeside y f lives (map logged_fate fates) → ContinueTogether log x y → f ≡ fate.Reset
+  contact x y f h i both =
+      let b = logged_beside x fate.Reset lives fates h in
+      let c = logged_beside y f lives fates i in
+      c.2 ∙ ap logged_fate
+      (all.contact x y c.0 (subst (λ (g : Fate). IsBeside x g lives fates) (reset_logged b.0 b.2) b.1) c.1 both)
 
 -- the lives and fates of the log of a world are those of its book
 says_logged : (k : Kept) → AreFated k.book.lives k.fates
@@ -113,7 +133,8 @@ kept_from calls opening (Raw events) octets h = record {
       kept_from_safe (reverse (calls.seen h.last).log) [] [] []
       (run_twice (calls.seen h.last).hosts (calls.seen h.last).log h.run) (λ x there. absurd (none_there x there))
       (turned audit.Kept (calls.seen h.last).log [] [] (kept_alone (calls.seen h.last).log h.messages))
-      (none_closes (reverse (reverse (calls.seen h.last).log))) (λ x f beside. absurd beside);
+      (none_closes (reverse (reverse (calls.seen h.last).log)))
+      (record { each = λ x f beside. absurd beside; contact = λ x y f beside other both. absurd beside });
 }
 kept_from calls opening (World events) octets h = record {
   book = world_book h.last.kept;

@@ -16,7 +16,7 @@ use Rattle.headline.specs.Promise.{IsExact, KeepsPromise}
 use Rattle.world_keeps_connections.proofs.lemmas.{world_joined}
 use Rattle.world_keeps_lives.proofs.lemmas.{world_drained, world_handed, world_taken, world_told}
 use Rattle.world_keeps_pairing.proofs.lemmas.{world_alone, world_partners}
-use Rattle.world_keeps_streams.specs.Within.{AreWithin}
+use Rattle.world_keeps_streams.specs.Within.{CountNothingLater}
 use Rattle.world_keeps_streams.proofs.lemmas.{world_agrees, world_answered, world_arrives, world_calms, world_came, world_closes, world_comes, world_firsts, world_formed, world_handed_over, world_rests, world_sent, world_settles, world_source}
 
 -- what is left of a run without its newest crossings is one
@@ -70,7 +70,7 @@ exact seen w lawful = record {
 pub given : {C : Type 0} (seen : C → Seen) (w : WorldState C) (k : Kept) → k ≡ w.kept → Promised (seen w.carrier).hosts k.book k.handed → AreFated k.book.lives k.fates
     → ClosesWhole k.book.crossings k.book.lives k.handed k.fates → ArrivedBook k.book.contacts k.book.crossings k.book.lives k.fates
     → AreLeft k.book.contacts k.book.crossings k.book.lives k.fates → AreContacts k.book.contacts k.book.crossings
-    → AreWithin k.book.contacts k.book.crossings k.book.lives → IsExact seen w → KeepsPromise seen w
+    → CountNothingLater k.book.contacts k.book.crossings k.book.lives → IsExact seen w → KeepsPromise seen w
 given seen w k is promised fated whole arrived over contacts within exact = record {
   promised = subst (λ (j : Kept). Promised (seen w.carrier).hosts j.book j.handed) is promised;
   fated = subst (λ (j : Kept). AreFated j.book.lives j.fates) is fated;
@@ -78,6 +78,6 @@ given seen w k is promised fated whole arrived over contacts within exact = reco
   arrived = subst (λ (j : Kept). ArrivedBook j.book.contacts j.book.crossings j.book.lives j.fates) is arrived;
   over = subst (λ (j : Kept). AreLeft j.book.contacts j.book.crossings j.book.lives j.fates) is over;
   contacts = subst (λ (j : Kept). AreContacts j.book.contacts j.book.crossings) is contacts;
-  within = subst (λ (j : Kept). AreWithin j.book.contacts j.book.crossings j.book.lives) is within;
+  within = subst (λ (j : Kept). CountNothingLater j.book.contacts j.book.crossings j.book.lives) is within;
   exact = exact;
 }

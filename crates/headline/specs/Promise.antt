@@ -14,7 +14,7 @@ use Rattle.world_keeps_streams.specs.Came.{AllCame}
 use Rattle.world_keeps_streams.specs.Closes.{AllClose, AllHanded}
 use Rattle.world_keeps_streams.specs.Rests.{AllAgree, AllCalm, AllRest}
 use Rattle.world_keeps_streams.specs.Settled.{EachAgrees, HasSettled}
-use Rattle.world_keeps_streams.specs.Within.{AreWithin}
+use Rattle.world_keeps_streams.specs.Within.{CountNothingLater}
 
 -- a world is lawful; in its moments data arrive, and RFNM of data means that they did; lives agree where their ends
 -- close and where they rest; all that was ever sent had come in when a CLS was taken, and what was handed over was sent
@@ -42,5 +42,5 @@ pub record KeepsPromise {C : Type 0} (seen : C → Seen) (w : WorldState C) : Ty
   pub arrived : ArrivedBook w.kept.book.contacts w.kept.book.crossings w.kept.book.lives w.kept.fates
   pub over : AreLeft w.kept.book.contacts w.kept.book.crossings w.kept.book.lives w.kept.fates
   pub contacts : AreContacts w.kept.book.contacts w.kept.book.crossings
-  pub within : AreWithin w.kept.book.contacts w.kept.book.crossings w.kept.book.lives
+  pub within : CountNothingLater w.kept.book.contacts w.kept.book.crossings w.kept.book.lives
   pub exact : IsExact seen w

@@ -6,7 +6,7 @@ ghost use Rattle.promise.specs.Arrived.{ArrivedBook};
 ghost use Rattle.promise.specs.Ends.{AreContacts, AreLeft};
 ghost use Rattle.promise.specs.Fates.{AreFated, ClosesWhole};
 ghost use Rattle.promise.specs.Promised.{Promised};
-ghost use Rattle.world_keeps_streams.specs.Within.{AreWithin};
+ghost use Rattle.world_keeps_streams.specs.Within.{CountNothingLater};
 
 use interface::Carrier;
 use net_sim::{Book, World};
@@ -22,7 +22,7 @@ use net_sim::{Book, World};
 /// - `arrived`: `ArrivedBook`. An open receiving life has all that came in, so RFNM of data means that they arrived.
 /// - `over`: `AreLeft`. Nothing ends a life between its requests, and it is over by what its fate says.
 /// - `contacts`: `AreContacts`. What a host sends to another next after a contact with it is an RST.
-/// - `within`: `AreWithin`. A life that is over counts no message that crossed after what ended it.
+/// - `within`: `CountNothingLater`. A life that is over counts no message that crossed after what ended it.
 ///
 /// By `lawful` the world is exact (`IsExact`): the book says what the programs of all hosts make of what crossed and of
 /// what their users asked for.
@@ -35,7 +35,7 @@ pub fn book_of<C: Carrier>(world: &World<C>) -> &Book
     ensures arrived { ArrivedBook result.now.book.contacts result.now.book.crossings result.now.book.lives result.now.fates }
     ensures over { AreLeft result.now.book.contacts result.now.book.crossings result.now.book.lives result.now.fates }
     ensures contacts { AreContacts result.now.book.contacts result.now.book.crossings }
-    ensures within { AreWithin result.now.book.contacts result.now.book.crossings result.now.book.lives }
+    ensures within { CountNothingLater result.now.book.contacts result.now.book.crossings result.now.book.lives }
 {
     world.book()
 }

@@ -1,7 +1,8 @@
 //! The promise of the book of a world, on the call by which a program gets the book.
 //!
 //! [`book_of`] ensures it. All that a reader must believe of it is in the crate `promise`, with the mailboxes and the
-//! reading of texts, to which its first page leads; but `AreWithin`, in `specs/Within.antt` of `world_keeps_streams`.
+//! reading of texts, to which its first page leads; but
+//! `CountNothingLater`, in `specs/Within.antt` of `world_keeps_streams`.
 //! What the clause `lawful` says beside it needs the rules of a host's program.
 //!
 //! Each part is proved in a crate of its own: the messages in `net_sim`, the partners in `world_keeps_pairing`, what is about only one host

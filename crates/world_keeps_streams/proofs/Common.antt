@@ -89,7 +89,7 @@ pub use Rattle.sockets.specs.Worked.{control, first, second}
 pub use Rattle.sockets.specs.declared.peer.Peer.{Peer}
 pub use Rattle.sockets.specs.declared.request.Request.{Request}
 pub use Rattle.std.proofs.Common.{Bool, IsTrue, List, None, Option, Some, [], ap, arith, cond, drop, eq-eqb, false, filter, find, if◌then◌else◌, inl, inr, is_some, length, map, nat_le, nat_lt, not, refl, slice_index_or, subst, suc, sym, take, true, zero, ℕ, ◌&&◌, ◌*◌, ◌++◌, ◌+◌, ◌<◌, ◌==◌, ◌||◌, ◌∙◌, ◌∷◌, ◌≡◌, ◌≤◌, ◌⊎◌}
-pub use Rattle.std.proofs.lemmas.Bool.{eqb-true, ne_eqb}
+pub use Rattle.std.proofs.lemmas.Bool.{eqb-true, ne_eqb, or_from}
 pub use Rattle.std.proofs.lemmas.List.{append_assoc, length-append, map-append}
 pub use Rattle.std.specs.List.{Contains, flat_map, list_any}
 pub use Rattle.std.specs.Prelude.{option_map}

@@ -38,7 +38,7 @@ use Rattle.world_keeps_streams.specs.Came.{AllCame}
 use Rattle.world_keeps_streams.specs.Closes.{AllClose, AllHanded, EachHanded, TookAll, WasClosedByPartner}
 use Rattle.world_keeps_streams.specs.Rests.{Agree, AllAgree, AllCalm, AllRest, AreAtRest, AreSettled}
 use Rattle.world_keeps_streams.specs.Settled.{EachAgrees, HasSettled}
-use Rattle.world_keeps_streams.specs.Within.{AreWithin}
+use Rattle.world_keeps_streams.specs.Within.{CountNothingLater}
 
 -- What each host's program does with a peer, over every list of moments in which what crosses is a run of the
 -- mailboxes.
@@ -155,7 +155,8 @@ pub record Lives : Type 0 where
   -- a life that is over counts no message that crossed after what ended it
   pub within :
       (hosts : List Host) (moments : List Moment) → HaveAddresses hosts → mail.IsRun hosts (crossings_of moments) →
-      IsTimeline hosts moments → AreWithin (contacts_of moments) (crossings_of moments) (kept_in moments).book.lives
+      IsTimeline hosts moments →
+      CountNothingLater (contacts_of moments) (crossings_of moments) (kept_in moments).book.lives
   -- each life is made of messages that crossed: its two requests are in those at its stamps, and its bits are the data
   -- of the first messages on its link after both, as many as it counts
   pub formed :
@@ -231,7 +232,7 @@ pub record Worlds {C : Type 0} (seen : C → Seen) : Type 0 where
       AreContacts w.kept.book.contacts w.kept.book.crossings
   pub within :
       (hosts : List Host) (w : WorldState C) → IsLawful seen hosts w →
-      AreWithin w.kept.book.contacts w.kept.book.crossings w.kept.book.lives
+      CountNothingLater w.kept.book.contacts w.kept.book.crossings w.kept.book.lives
   pub formed :
       (hosts : List Host) (w : WorldState C) → IsLawful seen hosts w →
       FormedBook w.kept.book.crossings w.kept.book.lives

@@ -14,7 +14,7 @@ CountsBefore log place x = x.messages ≤ length (texts_on x (link_of log x) (be
 
 -- a life that is over counts no message that crossed after what ended it: after both CLS, after its connections were
 -- dropped, or after its host stopped
-abbrev pub AreWithin : List Called → List Crossing → List Life → Type 0
-AreWithin contacts log lives =
+abbrev pub CountNothingLater : List Called → List Crossing → List Life → Type 0
+CountNothingLater contacts log lives =
     (x : Life) (cause : Cause) (place : ℕ) → Contains lives x → stage contacts x log ≡ Over cause place
     → CountsBefore log place x

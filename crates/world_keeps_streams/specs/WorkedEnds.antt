@@ -10,8 +10,9 @@ use Rattle.promise.specs.declared.book.Called.{Called}
 use Rattle.promise.specs.declared.life.Fate.{Fate}
 use Rattle.promise.specs.declared.life.Life.{Life}
 use Rattle.net_sim.specs.Worked.{taker_of_nothing}
-use Rattle.net_sim.specs.WorkedMoments.{rts, str}
-use Rattle.sockets.specs.Worked.{CLS, RTS, STR, control, first, on_link, second}
+use Rattle.net_sim.specs.WorkedMoments.{eight_sent, rts, str}
+use Rattle.world_keeps_streams.specs.Within.{CountNothingLater}
+use Rattle.sockets.specs.Worked.{CLS, RTS, STR, control, first, message, on_link, second}
 
 -- its own request is the RTS that went out at place 0, and its partner's the STR that came in at place 1
 abbrev pub asker : Life
@@ -93,3 +94,27 @@ asked_later = begun_then (crossing.In (control second first (STR 35 18 8)) ∷ c
 
 abbrev pub later_life : Life
 later_life = record second_life { own_stamp = 2; partner_stamp = 3 }
+
+-- ---- what a life counts
+
+-- lives that count one message, which came in after their requests
+abbrev pub took_one : Life
+took_one = record asker { messages = 1 }
+
+abbrev pub took_later : Life
+took_later = record after_rst { messages = 1 }
+
+-- a message with eight bits on another link than theirs
+abbrev pub eight_elsewhere : HostMessage
+eight_elsewhere = message second first 3 (0 ∷ 8 ∷ 0 ∷ 1 ∷ 0 ∷ 255 ∷ [])
+
+-- a message comes in after the stop of the host, or before the requests
+abbrev pub came_late : List Crossing
+came_late = begun_then (crossing.In eight_sent ∷ crossing.Down first ∷ [])
+
+abbrev pub came_sooner : List Crossing
+came_sooner = crossing.Down first ∷ begun_then [] ++ crossing.In eight_sent ∷ []
+
+-- the first of them counts nothing later, where this came after its requests
+abbrev pub InTime : List Called → List Crossing → Type 0
+InTime contacts more = CountNothingLater contacts (begun_then more) (took_one ∷ [])

@@ -7,13 +7,15 @@ ghost use Rattle.interface.specs.declared.crossing.Crossing.TheVariants as cross
 ghost use Rattle.promise.specs.Ends.{Asking, CanBeLeft, Closed, Dropped, Going, Leaves, Over, Stopped, course, stage};
 ghost use Rattle.promise.specs.declared.life.Fate.{Fate};
 ghost use Rattle.promise.specs.declared.life.Fate.TheVariants as fate;
-ghost use Rattle.net_sim.specs.WorkedMoments.{all_given, rts, str};
+ghost use Rattle.net_sim.specs.WorkedMoments.{eight_sent, rts, str};
 ghost use Rattle.net_sim.specs.WorkedResets.{rrp, rst};
 ghost use Rattle.sockets.specs.Worked.{CLS, RTS, STR, control, first, second, third};
-ghost use Rattle.world_keeps_streams.specs.WorkedEnds.{Left, answered_by, answerer, after_rst, asked_later, asker};
-ghost use Rattle.world_keeps_streams.specs.WorkedEnds.{begun_then, between, both_asked, contact, is_early};
-ghost use Rattle.world_keeps_streams.specs.WorkedEnds.{late_answer, later_life, other_cls, own_cls, partner_cls};
-ghost use Rattle.world_keeps_streams.specs.WorkedEnds.{second_life, second_time, stage_by, told};
+ghost use Rattle.world_keeps_streams.specs.Within.{CountNothingLater};
+ghost use Rattle.world_keeps_streams.specs.WorkedEnds.{InTime, Left, answered_by, answerer, after_rst, asked_later};
+ghost use Rattle.world_keeps_streams.specs.WorkedEnds.{asker, begun_then, between, both_asked, came_late, came_sooner};
+ghost use Rattle.world_keeps_streams.specs.WorkedEnds.{contact, eight_elsewhere, is_early, late_answer, later_life};
+ghost use Rattle.world_keeps_streams.specs.WorkedEnds.{other_cls, own_cls, partner_cls, second_life, second_time};
+ghost use Rattle.world_keeps_streams.specs.WorkedEnds.{stage_by, told, took_later, took_one};
 
 /// Requests: a life begins with the second of them.
 #[tactic(auto, unfolding(ncp_control::specs::Reading::command_of, bit_messages::specs::Octets::octets_of, host_pairs::specs::Control::orders_of, ncp_control::specs::Reading::read_of))]
@@ -179,4 +181,28 @@ pub fn worked_contacts()
 
     // a life that a CLS of its own closed first isn't ended, with any contacts
     ensures own_first { CanBeLeft (begun_then (crossing.In partner_cls ∷ crossing.Out own_cls ∷ [])) (asker ∷ []) (fate.Ended ∷ []) → ⊥ }
+{}
+
+/// What a life that is over counts: no message that crossed after what ended it.
+pub fn worked_within()
+    // what came in before its host stopped, before a contact, or before the second CLS
+    ensures stopped { InTime [] (crossing.Down first ∷ crossing.In eight_sent ∷ []) }
+    ensures contact { InTime (contact first 3 second ∷ []) (crossing.In eight_sent ∷ []) }
+    ensures closed { InTime [] (crossing.In partner_cls ∷ crossing.In eight_sent ∷ crossing.Out own_cls ∷ []) }
+
+    // of a life that continues nothing is asked
+    ensures open { InTime [] (crossing.Out own_cls ∷ []) }
+
+    // nothing that came in after that
+    ensures after_stop { InTime [] (crossing.In eight_sent ∷ crossing.Down first ∷ []) → ⊥ }
+    ensures after_reset { InTime [] (crossing.In eight_sent ∷ crossing.In (rst second first) ∷ []) → ⊥ }
+    ensures after_contact { InTime (contact first 2 second ∷ []) (crossing.In eight_sent ∷ []) → ⊥ }
+    ensures after_cls { InTime [] (crossing.In eight_sent ∷ crossing.In partner_cls ∷ crossing.Out own_cls ∷ []) → ⊥ }
+
+    // each life is asked, and not only the first
+    ensures second { CountNothingLater [] came_late (asker ∷ took_one ∷ []) → ⊥ }
+
+    // only messages of its own link count, and only those that come after both of its requests
+    ensures link { InTime [] (crossing.Down first ∷ crossing.In eight_elsewhere ∷ []) → ⊥ }
+    ensures sooner { CountNothingLater [] came_sooner (took_later ∷ []) → ⊥ }
 {}

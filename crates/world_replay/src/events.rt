@@ -19,7 +19,7 @@ use replay::{Detail, Line, Output, ReplayFault};
 use world_script::WorldEvent;
 
 /// How many rounds of a calm pass before each further one is seen at once.
-const UNSEEN_ROUNDS: u32 = 64;
+pub const UNSEEN_ROUNDS: u32 = 64;
 
 /// Lets each event happen in order, and prints what it shows: each crossing, each notice after the crossings that
 /// were before it, each report after its notice, and then the refusal, if there is one. Of a message it prints as much

@@ -23,7 +23,7 @@ pub mod worked_drives;
 pub mod worked_ends;
 pub mod worked_rounds;
 
-pub use events::{has_calmed, replay_events, replay_in_calm};
+pub use events::{UNSEEN_ROUNDS, has_calmed, replay_events, replay_in_calm};
 pub use lines::LifeLine;
 pub use print::print_lives;
 pub use replay::{Detail, Output, ReplayFault, WriteFailed};

@@ -15,6 +15,7 @@ from dorydate.model.arrived import Arrived
 from dorydate.model.audit import is_passed, last_out, match, own_request, partner_request
 from dorydate.model.bits import Bits
 from dorydate.model.book import Life
+from dorydate.model.commands import RST
 from dorydate.model.crossings import Answered, Crossing, Passed, Turned
 from dorydate.model.fates import LEAVES
 from dorydate.model.fates import over as crossed_by
@@ -97,6 +98,7 @@ def of_life(book: Book, at: int) -> Iterator[Said]:
     yield stream(book, at, others)
     yield from grants(book, life, others)
     yield Said("over", over(book, life))
+    yield Said("within", within(book, life))
     yield Said("whole", whole(book, life, others))
     yield Said("arrived.all", all_counted(book, life))
     yield Said("arrived.closed", all_there(book, life, others))
@@ -196,6 +198,18 @@ def over(book: Book, life: Life) -> str:
     return filled(SAID[name], hosts, line=begun, place=found.last.place + 1, what=what)
 
 
+def within(book: Book, life: Life) -> str:
+    """Whether all that it counts crossed before it was over."""
+    found = crossed_by(book.log, life)
+    if found is None or found.last is None or (life.fate == "reset" and found.by != "reset"):
+        return SAID["called" if life.fate == "reset" else "continues"]
+    place = found.last.place
+    late = next((it for it in READING.counted(book.log, life) if it > place), None)
+    if late is None:
+        return filled(SAID["in time"], place=place + 1, messages=life.messages)
+    return filled(SAID["too late"], place=place + 1, late=late + 1)
+
+
 def whole(book: Book, life: Life, others: list[Life]) -> str:
     """Whether it has all that its partner sent, where it ended."""
     if not life.receives() or life.fate != "ended" or not others:
@@ -240,6 +254,9 @@ def of_message(book: Book, at: int) -> Iterator[Said]:
     yield Said("promise.safe.messages.once", filled(SAID["taken"], line=taken[0] + 1) if taken else SAID["untaken"])
     answer = next((place for place in range(at + 1, end) if is_answer(log[place], flow)), None)
     yield Said("promise.safe.messages.answered", answer_in_words(book, answer))
+    hosts = {"source": spell_host(flow.source), "destination": spell_host(flow.destination)}
+    is_reset = flow.link == 0 and list(firsts.RIGHT.commands(message.text)) == [bytes([RST])]
+    yield Said("contacts", filled(SAID["only rst" if is_reset else "no contact"], hosts))
     if flow.link != 0:
         yield Said("promise.told", SAID["sent"])
         yield from arrived(book, at, taken, answer)

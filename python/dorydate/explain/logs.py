@@ -387,11 +387,26 @@ def why_fates(book: Book, numbers: list[int]) -> str:
     if over.early:
         begins = "A life begins only where nothing that ends lives comes between its two requests."
         return f"{why_early(life, over.early)} {begins}"
+    if life.fate in fates.LEAVES[over.left()]:
+        return why_contact(book, numbers[0] - len(book.log) - 1)
     sooner = ", or `reset` if its user contacted the peer before that."
     left = {"reset": "`reset`.", "stopped": f"`stopped`{sooner}", "closed out": f"`closed`{sooner}"}
     left["closed in"] = "`closed` or `ended`."
     may_be = left[over.left() or ""] if over.by else "`open`, or `reset` if its user has contacted the peer."
     return f"It says `{life.fate}`, but {why_over(life, over)} It would be {may_be}"
+
+
+def why_contact(book: Book, place: int) -> str:
+    """With which earlier life one disagrees on a contact of their host, which would have reset both."""
+    life, earlier = book.lives[place], book.lives[:place]
+    others = [it for it in fates.together(book.log, earlier, life) if (it.fate == "reset") != (life.fate == "reset")]
+    if not others:
+        return "No cause was found."
+    host, peer, other = spell_host(life.host), spell_host(life.peer), earlier.index(others[0])
+    line = f"Line {len(book.log) + other + 1} says `{others[0].fate}`, and this one `{life.fate}`."
+    both = f"Both are lives of {host} with {peer} that have begun, and nothing that crossed has ended either."
+    why = f"A contact drops all connections with {peer}, and the RST that then goes out first ends what begins later."
+    return f"{line} {both} {why} So both are `reset`, or neither is."
 
 
 def why_early(life: Life, deed: Deed) -> str:

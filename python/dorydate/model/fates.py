@@ -5,7 +5,7 @@ It was written from docs/audit.md, in another language and another form than the
 
 from __future__ import annotations
 
-from collections.abc import Iterator, Sequence
+from collections.abc import Hashable, Iterator, Sequence
 from typing import NamedTuple
 
 from dorydate.model.audit import CONTROL
@@ -78,6 +78,34 @@ class Fates:
         over = self.over(log, life)
         return over is None or (over.early is None and life.fate in self.leaves[over.left()])
 
+    def first_strange(self, log: Sequence[Crossing], lives: Sequence[Life]) -> int | None:
+        """The place, counted from 1, of the first life that doesn't suit what crossed, or of which a contact would have
+        reset an earlier one as well, but only one of the two is `reset`; None where there is none."""
+        words: dict[Hashable, set[bool]] = {}
+        for place, life in enumerate(lives, 1):
+            if not self.suits(log, life):
+                return place
+            if self.continues(log, life):
+                said = words.setdefault(self.reset_with(life), set())
+                said.add(life.fate == "reset")
+                if len(said) > 1:
+                    return place
+        return None
+
+    def continues(self, log: Sequence[Crossing], life: Life) -> bool:
+        """Whether a life has begun, and nothing that crossed has ended it."""
+        over = self.over(log, life)
+        return over is not None and over.by is None
+
+    def reset_with(self, life: Life) -> Hashable:
+        """What a life has in common with all that the same contact resets: its host and its peer."""
+        return life.host, life.peer
+
+    def together(self, log: Sequence[Crossing], lives: Sequence[Life], life: Life) -> list[Life]:
+        """The other lives that a contact would reset with this one: all continue by what crossed."""
+        alike = [it for it in lives if it is not life and self.reset_with(it) == self.reset_with(life)]
+        return [it for it in alike if self.continues(log, it)] if self.continues(log, life) else []
+
     def is_early(self, asked: set[str]) -> bool:
         """Whether what would end a life comes too early, where these of its requests have crossed."""
         return len(asked) == 1
@@ -134,4 +162,5 @@ class Fates:
         return "closes" if code == CLS and read_numbers(command, 4, 4) == [own, foreign] else None
 
 
-over = Fates().over
+RIGHT_FATES = Fates()
+over, together = RIGHT_FATES.over, RIGHT_FATES.together

@@ -2,7 +2,7 @@
 
 from __future__ import annotations
 
-from collections.abc import Callable, Iterable, Iterator, Sequence
+from collections.abc import Callable, Hashable, Iterable, Iterator, Sequence
 from dataclasses import replace
 from typing import TypeVar
 
@@ -734,6 +734,50 @@ class NothingBefore(Judge):
     fates = EarlyBegin
 
 
+class EachByItself(Fates):
+    def continues(self, log: Sequence[Crossing], life: Life) -> bool:
+        return False
+
+
+class ResetOfOne(Judge):
+    """A contact may reset one life of several."""
+
+    fates = EachByItself
+
+
+class WithAnyPeer(Fates):
+    def reset_with(self, life: Life) -> Hashable:
+        return life.host
+
+
+class ResetsAllOfTheHost(Judge):
+    """A contact resets all lives of its host, with any peer."""
+
+    fates = WithAnyPeer
+
+
+class OfBothHosts(Fates):
+    def reset_with(self, life: Life) -> Hashable:
+        return frozenset([life.host, life.peer])
+
+
+class ResetsThePeers(Judge):
+    """A contact resets the lives of the peer, too."""
+
+    fates = OfBothHosts
+
+
+class OverToo(Fates):
+    def continues(self, log: Sequence[Crossing], life: Life) -> bool:
+        return self.over(log, life) is not None
+
+
+class ResetsWhatIsOver(Judge):
+    """A contact resets lives that are over."""
+
+    fates = OverToo
+
+
 class CountsOn(Judge):
     """A life may count messages that crossed after it was over."""
 
@@ -752,7 +796,7 @@ JUDGES: list[type[Judge]] = [
     NoFates, OpenIsBelieved, ResetsCross, AlwaysClosed, StopsEndNothing, PeersStopEnds, RstTakenResetsNothing,
     RstSentResetsNothing, RrpTakenResets, OwedRrpResets, RrpResetsNothing, OwedAfterStop, FailuresResetNothing,
     FailsWhileOwed, OneClsEnds, AnyClsCounts, EndedThoughClosedFirst, ResetBeforeItsCls, LastClsFirst, BeginsAnyhow,
-    NothingBefore, CountsOn,
+    NothingBefore, ResetOfOne, ResetsAllOfTheHost, ResetsThePeers, ResetsWhatIsOver, CountsOn,
 ]  # fmt: skip
 
 

@@ -71,9 +71,9 @@ class Judge:
         return over.last is None or max(placed.places, default=-1) < over.last.place
 
     def of_fates(self, book: Book) -> str | None:
-        """The first life whose fate isn't one that what crossed leaves it, None where each has such a fate."""
-        fates = self.fates()
-        place = next((place for place, life in enumerate(book.lives, 1) if not fates.suits(book.log, life)), None)
+        """The first life whose fate isn't one that what crossed leaves it, or that disagrees with an earlier one on a
+        contact; None where there is none."""
+        place = self.fates().first_strange(book.log, book.lives)
         return None if place is None else f"broken fates line {self.line(book.log, place)}"
 
     def of_book(self, book: Book) -> list[str | None]:

@@ -145,6 +145,15 @@ DROPPED = [  # crossings that drop connections, and words of the cause
     (9, b"rfnm", b"incomplete", "0/2 dropped its connections with 0/1 in line 9, where a message of its host failed."),
     (9, b"1 5", b"1 5\n" + RST, "0/1 dropped its connections with 0/2 in line 10, where RST went out."),
 ]
+
+
+def contacted(one: str, other: str) -> list[tuple[int, bytes, bytes, str, str]]:
+    """A second life of the first one's host and peer, the two with these fates, of which one is `reset`."""
+    more = f"{one} 4849\nlife 0/1 16 0/2 33 0 4 receive 0 0 1 100 0 0 {other} -".encode()
+    words = f"Line 10 says `{one}`, and this one `{other}`. Both are lives of 0/1 with 0/2"
+    return [(10, b"open 4849", more, f"malformed line 12\n{FATES_11}", words)]
+
+
 # what is changed in a line of that log, the verdict, and words of what is said of the two lines
 BROKEN_LOGS = [
     (10, b"4849", b"4848", "broken lives line 10\nbroken streams lines 10 11", "Line 10 took what line 11 didn't send: at octet 2 what was taken has 48, and what was sent has 49."),
@@ -175,6 +184,8 @@ BROKEN_LOGS = [
     (10, b"open", b"closed", FATES_10, "no CLS of socket 16 with socket 33 went out and no CLS of socket 33 with"),
     (11, b"open", b"stopped", FATES_11, "It says `stopped`, but its host, 0/2, hasn't stopped since it began."),
     (9, b"answer", b"down 0/2\nanswer", "broken run line 10\nbroken fates line 12", "0/2, stopped in line 9. It would"),
+    *contacted("open", "reset"),
+    *contacted("reset", "open"),
     (11, b"3 1 send", b"3 1 send", "kept", "The book is safe: 9 crossings, a run of the mailboxes, and 2 lives made of them."),
     # lives of the messages that crossed
     (11, b"send 1", b"send 2", "broken lives line 11\nbroken grants lines 10 11", "It isn't made of the messages that crossed: it counts 2 messages, and after its requests 1 went out on 0/2 0/1 5."),

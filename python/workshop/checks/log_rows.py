@@ -162,6 +162,46 @@ def late(crossed: str, receiver: str, sender: str, named: int) -> tuple[str, str
     return f"{crossings}{lives}{ALL_TAKEN}end\n", wanted
 
 
+def contacted(words: str, named: int, between: str = "", peer: str = "0/2") -> tuple[str, str]:
+    """The short log, then a second connection of host 0/1, with 0/2 or another, its four lives with these fates, and
+    which of them is named."""
+    first = f"{ASKS}{OFFERS}{DATA}{between}"
+    crossings = first + f"{asks(RTS_6)}{OFFERS}".replace("0/2", peer)
+    at = first.count(LINE_FEED)
+    lives = [
+        *(RECEIVER, SENDER),
+        f"life 0/1 16 {peer} 33 {at} {at + 4} receive 0 0 1 100 0 0 open -",
+        f"life {peer} 33 0/1 16 {at + 3} {at + 1} send 0 0 0 0 0 0 open -",
+    ]
+    said = "".join(f"{life.replace('open', word)}\n" for life, word in zip(lives, words.split()))
+    wanted = f"broken fates line {crossings.count(LINE_FEED) + named}" if named else "kept"
+    return f"{crossings}{said}{ALL_TAKEN}{LIST}{LIST}end\n", wanted
+
+
+# the fates of the receiver and the sender of each connection, and which of them is named; what crosses between the two
+CONTACTED = [
+    contacted("open open open open", 0),
+    # a contact resets all lives of its host with the peer, and none of the peer's
+    contacted("reset open reset open", 0),
+    contacted("open reset open reset", 0),
+    contacted("reset reset reset reset", 0),
+    contacted("reset open open open", 3),
+    contacted("open open reset open", 3),
+    contacted("open reset open open", 4),
+    contacted("reset open reset reset", 4),
+    contacted("reset reset open open", 3),
+    # not those with others
+    contacted("reset open open open", 0, peer="0/3"),
+    contacted("open open reset open", 0, peer="0/3"),
+    # nor those that something else had ended, or begun after that
+    contacted("reset reset open open", 0, RST),
+    contacted("reset reset reset open", 0, RST),
+    contacted("open stopped open open", 0, "down 0/2\nup 0/2\n"),
+    contacted("open reset open open", 0, "down 0/2\nup 0/2\n"),
+    contacted("reset stopped open open", 3, "down 0/2\nup 0/2\n"),
+]
+
+
 RRP_BACK = control("0/2", "0/1", "0D")
 LATE = [
     late("", "open", "open", 0),
@@ -377,7 +417,7 @@ def rows() -> Iterator[tuple[bytes, str]]:
         if text not in SHORT:
             raise ValueError(f"the short log has no {text}")
         yield SHORT.replace(text, other, 1).encode(), wanted
-    yield from ((text.encode(), wanted) for text, wanted in [*FATES, *LATE])
+    yield from ((text.encode(), wanted) for text, wanted in [*FATES, *CONTACTED, *LATE])
     for wanted, lines in LINES.items():
         yield from ((f"{line}\nend\n".encode(), wanted) for line in lines)
     yield from ((f"{line}\nend\n".encode("latin-1"), "bad log line 1") for line in BAD_LINES)

@@ -1,7 +1,7 @@
 """What a long calm has printed is seen while it lasts, and calms that rest end at once (a second).
 
 Two echo services send one octet to and fro for as long as a calm lasts. From its 65th round on the program has to write whole lines after each
-round, so that an interrupt loses none of them. A network that rests has to end at once, however many rounds it is given, also where a host has more to
+round, and of a trace each line, so that an interrupt loses none of them. A network that rests has to end at once, however many rounds it is given, also where a host has more to
 say than its IMP has room for.
 
 ./check seen [PROGRAM]: without one it takes the proved program, or the one that was built without proofs.
@@ -9,6 +9,7 @@ say than its IMP has room for.
 
 from __future__ import annotations
 
+import json
 import socket
 import subprocess
 import sys
@@ -37,18 +38,18 @@ def dialogue(rounds: int) -> bytes:
     return spelled_input(PAIR, [*JOINED, "send 0/1 101 8 5A", f"calm {rounds}"])
 
 
-def printed(program: str, octets: bytes) -> bytes:
+def printed(program: str, octets: bytes, *options: str) -> bytes:
     """What the program prints to its end."""
-    return subprocess.run([program], input=octets, stdout=subprocess.PIPE, check=True).stdout
+    return subprocess.run([program, *options], input=octets, stdout=subprocess.PIPE, check=True).stdout
 
 
-def writes_of(program: str, octets: bytes) -> list[bytes]:
+def writes_of(program: str, octets: bytes, *options: str) -> list[bytes]:
     """What the program writes, a list of octets for each write."""
     ours, theirs = socket.socketpair(socket.AF_UNIX, socket.SOCK_SEQPACKET)
     with tempfile.TemporaryFile() as source, ours:
         source.write(octets)
         source.seek(0)
-        with subprocess.Popen([program], stdin=source, stdout=theirs.fileno()):
+        with subprocess.Popen([program, *options], stdin=source, stdout=theirs.fileno()):
             theirs.close()
             return [*iter(lambda: ours.recv(1 << 20), b"")]
 
@@ -64,6 +65,19 @@ def faults_of_dialogue(program: str) -> list[str]:
         wrong.append(f"100 rounds of a long calm were written in {len(writes)} writes")
     if any(not it.endswith(b"\n") for it in writes):
         wrong.append("a write ends within a line")
+    return wrong
+
+
+def faults_of_trace(program: str) -> list[str]:
+    """What is wrong with the trace of a dialogue: each line of a round after the first UNSEEN has to be written at once."""
+    octets = dialogue(UNSEEN + 100)
+    writes, whole = writes_of(program, octets, "--trace"), printed(program, octets, "--trace")
+    late = [it for it in whole.splitlines(keepends=True)[1:] if json.loads(it)["round"] > UNSEEN]
+    wrong = []
+    if b"".join(writes) != whole:
+        wrong.append("the writes are not the trace")
+    if len(late) < 100 or writes[1 - len(late) :] != late[1:]:
+        wrong.append(f"{len(late)} lines of late rounds of a trace were written in {len(writes)} writes")
     return wrong
 
 
@@ -88,8 +102,8 @@ def main() -> int:
     if program is None:
         print("check seen: there is no program of these sources")
         return 1
-    wrong = faults_of_dialogue(program) + faults_of_resting(program)
+    wrong = faults_of_dialogue(program) + faults_of_trace(program) + faults_of_resting(program)
     for it in wrong:
         print(f"check seen: {it}")
-    print(f"check seen: a dialogue without end and {len(RESTING)} calms that rest: {len(wrong)} faults")
+    print(f"check seen: a dialogue without end, its trace, and {len(RESTING)} calms that rest: {len(wrong)} faults")
     return 1 if wrong else 0

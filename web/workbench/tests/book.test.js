@@ -42,7 +42,19 @@ test("clauses speak of a life, by the names of its sites", () => {
         "line 10: socket 16 of UCLA, which receives from socket 33 of SRI: 1 message, 16 bits, open",
         "  promise.formed.own: Its own request went out in line 1: RTS 16 from 33 on link 5.",
     ]);
-    assert(/arrived.all: It is open, and counts all 1 message that came in/.test(printed(octets, 10, names)?.[9] ?? ""));
+    const said = [10, 7].flatMap((line) => printed(octets, line, names)).join("\n");
+    assert(/arrived.all: It is open, and counts all 1 message that came in/.test(said));
+    assert(/contacts: .* with UCLA since SRI last sent there or stopped/.test(said));
+});
+
+test("what a life counts is told before and after its end", () => {
+    const stopped = octets.replace("0 0 0 0 open", "0 0 0 0 stopped");
+    const before = stopped.replace("life 0/1", "down 0/2\nlife 0/1");
+    const after = stopped.replace("out 0/2 0/1 5", "down 0/2\nup 0/2\nout 0/2 0/1 5");
+    const within = (/** @type {string} */ log, /** @type {number} */ line) =>
+        printed(log, line)?.find((it) => it.startsWith("  within:"));
+    assert(/ended it crossed in line 10, after all that it counts: 1 message/.test(within(before, 12) ?? ""));
+    assert(/ended it crossed in line 7, and it counts what crossed later, in line 9/.test(within(after, 13) ?? ""));
 });
 
 test("a bit that was changed, and a message that was passed over, are said", () => {

@@ -1,6 +1,6 @@
 -- Contacts of a life's host don't cross. With them it is as far as without them, or one has reset it; and what goes out
 -- to its peer next is then an RST.
-use Rattle.book_judge.proofs.Common.{◌≡◌, ◌⊎◌, inl, inr, ℕ, suc, ◌≤◌, ◌==◌, ◌&&◌, ◌||◌, not, Bool, true, false, if◌then◌else◌, List, [], ◌∷◌, length, refl, ap, sym, subst, ◌∙◌, arith, ◌-◌, drop, Option, Some, None, false≢true, false_from_ne_true, or_right, Host, same_host, same_flow, Flow, Crossing, HostMessage, orders_of, Legal, Order, Wrong, control_flow, before, receives, Contains, Asking, Closed, Course, Dropped, Going, Over, Stage, Stopped, course, Cause, cut, ended_by, is_half, Fate, Life, FormedBook, text_of, flow_of, link_of, texts_of, texts_on, AreMade, AreSuited, IsSuited, suits, is_begun, acts, after, asked, closed, deeds_at, opening, step, is_of, owes_by, stamp, Act, Deed, length-append, same_host-true, or-false, Command}
+use Rattle.book_judge.proofs.Common.{◌≡◌, ◌⊎◌, inl, inr, ℕ, suc, ◌≤◌, ◌==◌, ◌&&◌, ◌||◌, not, Bool, true, false, if◌then◌else◌, List, [], ◌∷◌, length, refl, ap, sym, subst, ◌∙◌, arith, ◌-◌, drop, Option, Some, None, false≢true, false_from_ne_true, or_right, Host, same_host, same_flow, Flow, Crossing, HostMessage, orders_of, Legal, Order, Wrong, control_flow, before, receives, Contains, Asking, Closed, Course, Dropped, Going, Over, Stage, Stopped, course, Cause, cut, ended_by, is_half, Fate, Life, FormedBook, text_of, flow_of, link_of, texts_of, texts_on, AreMade, IsSuited, suits, is_begun, acts, after, asked, closed, deeds_at, opening, step, is_of, owes_by, stamp, Act, Deed, length-append, same_host-true, or-false, Command}
 use Rattle.std.proofs.Common.{zero}
 use Rattle.promise.specs.Ends.{stage}
 use Rattle.std.proofs.lemmas.Bool.{or_left}
@@ -8,7 +8,7 @@ use Rattle.std.specs.List.{list_any}
 use Rattle.interface.specs.declared.crossing.Crossing.TheVariants as crossing
 use Rattle.ncp_control.specs.declared.command.Command.TheVariants as command
 use Rattle.promise.specs.Ends as ends
-use Rattle.promise.specs.Ends.{AreContacts, AreLeft, IsLeft, Leaves, asks_for, closes, contacts_now}
+use Rattle.promise.specs.Ends.{AreContacts, IsLeft, Leaves, asks_for, closes, contacts_now}
 use Rattle.promise.specs.Ends.{crosses, each, fails, heard, is_contact, partner_asked, partner_closed, said}
 use Rattle.promise.specs.Ends.{still_contacts}
 use Rattle.std.specs.Prelude.{nat_lt}
@@ -20,10 +20,10 @@ use Rattle.book_judge.proofs.Ends.Reached.{one_crossing}
 
 -- ---- as far with contacts as without
 
-record Alike (s t : Course) : Type 0 where
-  stage : s.stage ≡ t.stage
-  owes : s.owes ≡ t.owes
-  early : t.early ≡ true → s.early ≡ true
+pub record Alike (s t : Course) : Type 0 where
+  pub stage : s.stage ≡ t.stage
+  pub owes : s.owes ≡ t.owes
+  pub early : t.early ≡ true → s.early ≡ true
 
 alike_if : (b : Bool) (p s q t : Course) → Alike p q → Alike s t → Alike (if b then p else s) (if b then q else t)
 alike_if true p s q t h k = h
@@ -233,22 +233,22 @@ owes_crosses x place c s t e =
 
 -- how far a life is by what crosses that a contact reset when as much had crossed: it continues as long as nothing has
 -- gone out since
-abbrev Behind : Bool → ℕ → Stage → Type 0
+abbrev pub Behind : Bool → ℕ → Stage → Type 0
 Behind calls m (Asking o p) = ⊥
 Behind calls m (Going o p) = calls ≡ true
 Behind calls m (Over Dropped n) = m ≤ n
 Behind calls m (Over Stopped n) = m ≤ n
 Behind calls m (Over (Closed first) n) = (first ≡ true) × (m ≤ n)
 
-record Reset (calls : Bool) (all : ℕ) (s t : Course) : Type 0 where
-  at : ℕ
-  within : at ≤ all
-  stage : s.stage ≡ Over Dropped at
-  owes : s.owes ≡ t.owes
-  early : t.early ≡ true → s.early ≡ true
-  behind : Behind calls at t.stage
+pub record Reset (calls : Bool) (all : ℕ) (s t : Course) : Type 0 where
+  pub at : ℕ
+  pub within : at ≤ all
+  pub stage : s.stage ≡ Over Dropped at
+  pub owes : s.owes ≡ t.owes
+  pub early : t.early ≡ true → s.early ≡ true
+  pub behind : Behind calls at t.stage
 
-abbrev Parted : Bool → ℕ → Course → Course → Type 0
+abbrev pub Parted : Bool → ℕ → Course → Course → Type 0
 Parted calls all s t = Alike s t ⊎ Reset calls all s t
 
 behind_begun : (calls : Bool) (m : ℕ) (s : Stage) → Behind calls m s → is_begun s ≡ true
@@ -457,7 +457,7 @@ parted_called true calls place s t (inr h) = inr (record {
   behind = behind_calls calls h.at t.stage h.behind;
 })
 
-parted : (contacts : List Called) (x : Life) (log : List Crossing) → AreContacts contacts log
+pub parted : (contacts : List Called) (x : Life) (log : List Crossing) → AreContacts contacts log
     → Parted (contacts_now contacts x.host x.peer log) (length log) (course contacts x log) (course [] x log)
 parted contacts x [] are =
     subst (λ (v : Bool). Parted v 0 (course contacts x []) opening)
@@ -501,7 +501,7 @@ leaves_suits (Over (Closed first) place) fate.Reset h = absurd h
 leaves_suits (Over (Closed first) place) fate.Stopped h = absurd h
 
 -- what is left to one that was reset
-dropped_reset : (m : ℕ) (f : Fate) → Leaves (Over Dropped m) f → f ≡ fate.Reset
+pub dropped_reset : (m : ℕ) (f : Fate) → Leaves (Over Dropped m) f → f ≡ fate.Reset
 dropped_reset m fate.Reset h = refl
 dropped_reset m fate.Open h = absurd h
 dropped_reset m fate.Closing h = absurd h
@@ -516,7 +516,7 @@ reset_suits calls m (Over Dropped n) h = refl
 reset_suits calls m (Over Stopped n) h = refl
 reset_suits calls m (Over (Closed first) n) h = h.0
 
-one_suited : (contacts : List Called) (log : List Crossing) (x : Life) (f : Fate) → AreContacts contacts log
+pub one_suited : (contacts : List Called) (log : List Crossing) (x : Life) (f : Fate) → AreContacts contacts log
     → IsLeft contacts log x f → IsSuited log x f
 one_suited contacts log x f are left = by (parted contacts x log are) where
   early : ((course [] x log).early ≡ true → (course contacts x log).early ≡ true) → (course [] x log).early ≡ false
@@ -534,11 +534,6 @@ one_suited contacts log x f are left = by (parted contacts x log are) where
         ap (suits (stage [] x log)) (dropped_reset h.at f (subst (λ (s : Stage). Leaves s f) h.stage left.fate))
         ∙ reset_suits (contacts_now contacts x.host x.peer log) h.at (stage [] x log) h.behind;
   }
-
--- where contacts leave lives their fates, these suit what crossed
-pub suited_with : (contacts : List Called) (log : List Crossing) (lives : List Life) (fates : List Fate)
-    → AreContacts contacts log → AreLeft contacts log lives fates → AreSuited log lives fates
-suited_with contacts log lives fates are left x f b = one_suited contacts log x f are (left x f b)
 
 -- ---- what lives are made of
 

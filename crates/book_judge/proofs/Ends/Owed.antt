@@ -16,7 +16,7 @@ number_set m k n f = ap (λ (o : Option ℕ). unwrap_or o 0) (get_set m k n f) �
   by true = refl
   by false = refl
 
-and_yes : (b : Bool) → (b && true) ≡ b
+pub and_yes : (b : Bool) → (b && true) ≡ b
 and_yes true = refl
 and_yes false = refl
 

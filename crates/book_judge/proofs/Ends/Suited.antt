@@ -1,9 +1,9 @@
 -- Deeds of a log, and the first life whose fate they don't leave it.
-use Rattle.book_judge.proofs.Common.{◌≡◌, ◌⊎◌, inl, inr, ℕ, zero, suc, ◌+◌, ◌-◌, ◌<◌, ◌≤◌, Bool, true, false, List, [], ◌∷◌, ◌++◌, length, drop, get_or, reverse, take, Option, Some, refl, ap, arith, subst, sym, ◌∙◌, not, ◌&&◌, length-drop, length-take-le, take_all, take_more, Host, Crossing, orders_within, stage, Asking, Going, Over, Stage, Course, course, IsBeside, Fate, Life, AreSuited, suits, IsSuited, is_begun, deeds_by, deeds_in, suits_after, begun_by, begun_of, pace_of, suits_begun, Deed, false≢true, and_true}
+use Rattle.book_judge.proofs.Common.{◌≡◌, ◌⊎◌, inl, inr, ℕ, zero, suc, ◌+◌, ◌-◌, ◌<◌, ◌≤◌, Bool, true, false, List, [], ◌∷◌, ◌++◌, length, drop, get_or, take, Option, Some, refl, ap, arith, subst, sym, ◌∙◌, not, ◌&&◌, length-drop, length-take-le, take_all, take_more, Host, Crossing, orders_within, stage, Asking, Going, Over, Stage, Course, course, IsBeside, Fate, Life, AreSuited, suits, IsSuited, is_begun, deeds_by, deeds_in, suits_after, begun_by, begun_of, pace_of, suits_begun, Deed, false≢true, and_true}
 use Rattle.std.proofs.Common.{None}
 use Rattle.std.proofs.lemmas.Bool.{not-true}
 use Rattle.std.specs.List.{slice_get}
-use Rattle.book_judge.specs.Fates.{UnsuitedAt}
+use Rattle.promise.specs.declared.life.Fate.TheVariants as fate
 use Rattle.book_judge.proofs.Ends.Reached.{all_crossings}
 
 -- ---- deeds of a text
@@ -56,9 +56,49 @@ beside_there [] y f (g ∷ fates) e = inl (refl, (let s : g ≡ f = cc in sym s)
 beside_there (z ∷ lives) y f [] e = absurd (cc)
 beside_there (z ∷ lives) y f (g ∷ fates) e = inr (beside_there lives y f fates e)
 
+beside_more : (lives : List Life) (x y : Life) (f : Fate) (fates : List Fate) → IsBeside x f lives fates
+    → IsBeside x f (lives ++ y ∷ []) fates
+beside_more [] x y f fates b = absurd b
+beside_more (z ∷ lives) x y f [] b = absurd b
+beside_more (z ∷ lives) x y f (g ∷ fates) b =
+    elim b [ inl e ↦ inl e | inr r ↦ inr (beside_more lives x y f fates r) ]
+
 more_lives : (lives : List Life) (place : ℕ) (x : Life) → place < length lives → x ≡ get_or lives place x
     → take (place + 1) lives ≡ take place lives ++ x ∷ []
 more_lives lives place x h at = take_more lives place x h ∙ ap (λ (z : Life). take place lives ++ z ∷ []) (sym at)
+
+-- the life at a place, and its fate, if it has one
+pub record IsAt (lives : List Life) (fates : List Fate) (place : ℕ) (x : Life) (o : Option Fate) : Type 0 where
+  pub less : place < length lives
+  pub life : x ≡ get_or lives place x
+  pub said : o ≡ slice_get fates place
+
+module _ (lives : List Life) (fates : List Fate) (place : ℕ) (x : Life) (o : Option Fate)
+    (h : IsAt lives fates place x o) where
+  counted : length (take place lives) ≡ place
+  counted = let less : place < length lives = h.less in length-take-le place lives (omega (arith, less))
+
+  -- it is the last of those up to it
+  pub at_last : (y : Life) (f : Fate) → IsBeside y f (take (place + 1) lives) fates
+      → ((y ≡ x) × (o ≡ Some f)) ⊎ IsBeside y f (take place lives) fates
+  at_last y f b =
+      elim
+      (beside_last (take place lives) y x f fates
+      (subst (λ (xs : List Life). IsBeside y f xs fates) (more_lives lives place x h.less h.life) b)) [
+        | inl e ↦ inl (e.0, h.said ∙ ap (slice_get fates) (sym counted) ∙ e.1)
+        | inr r ↦ inr r
+      ]
+
+  pub at_here : (f : Fate) → o ≡ Some f → IsBeside x f (take (place + 1) lives) fates
+  at_here f e =
+      subst (λ (xs : List Life). IsBeside x f xs fates) (sym (more_lives lives place x h.less h.life))
+      (beside_there (take place lives) x f fates (ap (slice_get fates) counted ∙ sym h.said ∙ e))
+
+  pub at_older : (y : Life) (f : Fate) → IsBeside y f (take place lives) fates
+      → IsBeside y f (take (place + 1) lives) fates
+  at_older y f b =
+      subst (λ (xs : List Life). IsBeside y f xs fates) (sym (more_lives lives place x h.less h.life))
+      (beside_more (take place lives) y x f fates b)
 
 -- what suits a life by its stage
 and_both : (a b : Bool) → not a ≡ true → b ≡ true → (not a && b) ≡ true
@@ -85,46 +125,37 @@ suits_is : (x : Life) (log : List Crossing) (f : Fate)
     → suits_after (deeds_in log) x (Some f) ≡ suits_begun (begun_by (course [] x log).early (stage [] x log)) f
 suits_is x log f = ap (λ (k : Course). suits_begun (begun_of (pace_of k)) f) (all_crossings x log)
 
-one_suited : (log : List Crossing) (x : Life) (deeds : List Deed) (o : Option Fate) (f : Fate)
-    → deeds ≡ deeds_in (reverse log) → o ≡ Some f → suits_after deeds x o ≡ true → IsSuited (reverse log) x f
-one_suited log x deeds o f are e s = record { begins = both.0; fate = both.1 } where
-  both : (is_begun (stage [] x (reverse log)) ≡ true → (course [] x (reverse log)).early ≡ false)
-      × (suits (stage [] x (reverse log)) f ≡ true)
+one_suited : (log : List Crossing) (x : Life) (o : Option Fate) (f : Fate) → o ≡ Some f
+    → suits_after (deeds_in log) x o ≡ true → IsSuited log x f
+one_suited log x o f e s = record { begins = both.0; fate = both.1 } where
+  both : (is_begun (stage [] x log) ≡ true → (course [] x log).early ≡ false) × (suits (stage [] x log) f ≡ true)
   both =
-      suited_by (course [] x (reverse log)).early (stage [] x (reverse log)) f
-      (sym (ap (λ (ds : List Deed). suits_after ds x (Some f)) are ∙ suits_is x (reverse log) f)
-      ∙ ap (suits_after deeds x) (sym e) ∙ s)
+      suited_by (course [] x log).early (stage [] x log) f
+      (sym (suits_is x log f) ∙ ap (suits_after (deeds_in log) x) (sym e) ∙ s)
 
-pub suited_more : (log : List Crossing) (lives : List Life) (fates : List Fate) (deeds : List Deed) (place : ℕ) (x : Life) (o : Option Fate)
-    → place < length lives → x ≡ get_or lives place x
-    → o ≡ slice_get fates place → deeds ≡ deeds_in (reverse log) → suits_after deeds x o ≡ true → AreSuited
-    (reverse log) (take place lives) fates → AreSuited (reverse log) (take (place + 1) lives) fates
-suited_more log lives fates deeds place x o h at got are s all y f b =
-    let count : length (take place lives) ≡ place = length-take-le place lives (omega (arith, h)) in
-    elim
-    (beside_last (take place lives) y x f fates (subst (λ (xs : List Life). IsBeside y f xs fates) (more_lives lives place x h at) b)) [
-      | inl e ↦ subst (λ (z : Life). IsSuited (reverse log) z f) (sym e.0)
-          (one_suited log x deeds o f are (got ∙ ap (slice_get fates) (sym count) ∙ e.1) s)
-      | inr r ↦ all y f r
-    ]
+-- what of fates is about each life by itself
+abbrev pub EachSuits : List Crossing → List Life → List Fate → Type 0
+EachSuits log lives fates = (x : Life) (f : Fate) → IsBeside x f lives fates → IsSuited log x f
 
-pub unsuited_here : (log : List Crossing) (lives : List Life) (fates : List Fate) (deeds : List Deed) (place : ℕ) (x : Life) (o : Option Fate)
-    → place < length lives → x ≡ get_or lives place x
-    → o ≡ slice_get fates place → deeds ≡ deeds_in (reverse log) → suits_after deeds x o ≡ false → AreSuited
-    (reverse log) (take place lives) fates → UnsuitedAt (reverse log) lives fates place
-unsuited_here log lives fates deeds place x o h at got are s all = (all, λ more. by o refl more) where
-  by : (p : Option Fate) → o ≡ p → AreSuited (reverse log) (take (place + 1) lives) fates → ⊥
-  by None e more = let both : true ≡ false = ap (suits_after deeds x) (sym e) ∙ s in cc
-  by (Some f) e more =
-      let count : length (take place lives) ≡ place = length-take-le place lives (omega (arith, h)) in
-      let there : IsBeside x f (take (place + 1) lives) fates = subst (λ (xs : List Life). IsBeside x f xs fates)
-      (sym (more_lives lives place x h at))
-      (beside_there (take place lives) x f fates (ap (slice_get fates) count ∙ sym got ∙ e)) in
+pub each_more : (log : List Crossing) (lives : List Life) (fates : List Fate) (place : ℕ) (x : Life) (o : Option Fate)
+    → IsAt lives fates place x o → suits_after (deeds_in log) x o ≡ true → EachSuits log (take place lives) fates
+    → EachSuits log (take (place + 1) lives) fates
+each_more log lives fates place x o h s all y f b = elim (at_last lives fates place x o h y f b) [
+  | inl e ↦ subst (λ (z : Life). IsSuited log z f) (sym e.0) (one_suited log x o f e.1 s)
+  | inr r ↦ all y f r
+]
+
+pub each_fails : (log : List Crossing) (lives : List Life) (fates : List Fate) (place : ℕ) (x : Life) (o : Option Fate)
+    → IsAt lives fates place x o → suits_after (deeds_in log) x o ≡ false
+    → EachSuits log (take (place + 1) lives) fates → ⊥
+each_fails log lives fates place x o h s all = by o refl where
+  by : (p : Option Fate) → o ≡ p → ⊥
+  by None e = let both : true ≡ false = ap (suits_after (deeds_in log) x) (sym e) ∙ s in cc
+  by (Some f) e =
+      let one : IsSuited log x f = all x f (at_here lives fates place x o h f e) in
       let both : false ≡ true =
-      sym s ∙ ap (suits_after deeds x) e ∙ ap (λ (ds : List Deed). suits_after ds x (Some f)) are
-      ∙ suits_is x (reverse log) f
-      ∙ suits_back (course [] x (reverse log)).early (stage [] x (reverse log)) f (more x f there).begins
-      (more x f there).fate in
+      sym s ∙ ap (suits_after (deeds_in log) x) e ∙ suits_is x log f
+      ∙ suits_back (course [] x log).early (stage [] x log) f one.begins one.fate in
       cc
 
 beside_front : (n : ℕ) (x : Life) (f : Fate) (lives : List Life) (fates : List Fate)
@@ -138,13 +169,20 @@ beside_front (suc n) x f (y ∷ lives) (g ∷ fates) b =
 -- the first of several lives whose fates suit have such fates
 pub suited_front : (log : List Crossing) (lives : List Life) (fates : List Fate) (n : ℕ) → AreSuited log lives fates
     → AreSuited log (take n lives) fates
-suited_front log lives fates n all x f b = all x f (beside_front n x f lives fates b)
+suited_front log lives fates n all = record {
+  each = λ x f b. all.each x f (beside_front n x f lives fates b);
+  contact = λ x y f b c both. all.contact x y f (beside_front n x fate.Reset lives fates b)
+      (beside_front n y f lives fates c) both;
+}
 
 pub all_suited : (log : List Crossing) (lives : List Life) (fates : List Fate) (place : ℕ) → length lives ≤ place
-    → AreSuited (reverse log) (take place lives) fates → AreSuited (reverse log) lives fates
+    → AreSuited log (take place lives) fates → AreSuited log lives fates
 all_suited log lives fates place past all =
-    subst (λ (xs : List Life). AreSuited (reverse log) xs fates) (take_all place lives past) all
+    subst (λ (xs : List Life). AreSuited log xs fates) (take_all place lives past) all
 
 -- where nothing crossed no life has begun
 pub suited_alone : (x : Life) (f : Fate) → AreSuited [] (x ∷ []) (f ∷ [])
-suited_alone x f y g b = record { begins = λ e. absurd (false≢true e); fate = refl }
+suited_alone x f = record {
+  each = λ y g b. record { begins = λ e. absurd (false≢true e); fate = refl };
+  contact = λ y z g b c both. absurd (false≢true both.one);
+}

@@ -1,7 +1,7 @@
 -- Which parts are among those that have changed: those that are always there, and flows.
 use Rattle.std.proofs.Common.{◌≡◌, ◌⊎◌, inl, inr, ℕ, zero, suc, ◌<◌, ◌==◌, ◌&&◌, ◌||◌, Bool, true, false, not, List, []}
 use Rattle.std.proofs.Common.{◌∷◌, ◌++◌, filter, length, map, arith, refl, sym, ap, subst, ◌∙◌}
-use Rattle.std.proofs.lemmas.Bool.Decides.{eqb_tells}
+use Rattle.std.proofs.lemmas.Bool.Decides.{nat_tests}
 use Rattle.std.proofs.lemmas.List.Elements.{Contains-append_cases, Contains-append_left, Contains-append_right}
 use Rattle.std.proofs.lemmas.List.Elements.{Contains-push, Contains-push_cases}
 use Rattle.std.specs.List.{Contains, flat_map, list_any}
@@ -46,7 +46,7 @@ part_is p q e =
     let sides : p.side ≡ q.side = side_is p.side q.side names.0 in
     let flows : p.flow ≡ q.flow = same_flow-true p.flow q.flow names.1 in
     let states : p.state ≡ q.state = state_is p.state q.state inner.1 in
-    let numbers : p.number ≡ q.number = eqb_tells p.number q.number outer.1 in
+    let numbers : p.number ≡ q.number = grind (arith, nat_tests, outer.1) in
     λ i. record { side = sides i; flow = flows i; state = states i; number = numbers i }
 
 -- ---- one list
@@ -69,11 +69,12 @@ only_one x y h = elim (Contains-push_cases [] x y h) [
 -- a flow that was told so was there
 told_before : (before : List FlowPart) (p : FlowPart) → is_told before p ≡ true → Contains (map told before) (told p)
 told_before [] p e = absurd (cc)
-told_before (q ∷ before) p e = by (same_flow_part q p) refl e where
-  by : (b : Bool) → same_flow_part q p ≡ b → (b || is_told before p) ≡ true → Contains (map told (q ∷ before)) (told p)
-  by true same h = subst (λ (t : List ℕ). Contains (map told (q ∷ before)) t) (ap told (part_is q p same))
+told_before (q ∷ before) p e = by (same_flow_part q p) refl (λ h. told_before before p h) e where
+  by : (b : Bool) → same_flow_part q p ≡ b → (is_told before p ≡ true → Contains (map told before) (told p))
+      → (b || is_told before p) ≡ true → Contains (map told (q ∷ before)) (told p)
+  by true same before_it h = subst (λ (t : List ℕ). Contains (map told (q ∷ before)) t) (ap told (part_is q p same))
       (here (told q) (map told before))
-  by false other h = later (told q) (map told before) (told p) (told_before before p h)
+  by false other before_it h = later (told q) (map told before) (told p) (before_it h)
 
 -- what passes a test is among what does
 passes : (text : FlowPart → List ℕ) (test : FlowPart → Bool) (x : FlowPart) (xs : List FlowPart) → test x ≡ true
@@ -93,16 +94,20 @@ passes_later text test x xs t h = by (test x) refl where
 passed : (text : FlowPart → List ℕ) (test : FlowPart → Bool) (xs : List FlowPart) (t : List ℕ)
     → Contains (map text (filter test xs)) t → Contains (map text xs) t
 passed text test [] t h = h
-passed text test (x ∷ xs) t h = by (test x) refl where
-  by : (b : Bool) → test x ≡ b → Contains (map text (x ∷ xs)) t
-  by true e = elim
-      (Contains-append_cases (text x ∷ []) (map text (filter test xs)) t
-      (subst (λ (ps : List FlowPart). Contains (map text ps) t) (keeps test x xs true e) h)) [
+passed text test (x ∷ xs) t h = by (test x) refl (λ g. passed text test xs t g) where
+  by : (b : Bool) → test x ≡ b → (Contains (map text (filter test xs)) t → Contains (map text xs) t)
+      → Contains (map text (x ∷ xs)) t
+  by true e among =
+      let there : Contains (text x ∷ map text (filter test xs)) t =
+      subst (λ (ps : List FlowPart). Contains (map text ps) t) (keeps test x xs true e) h in
+      elim (Contains-append_cases (text x ∷ []) (map text (filter test xs)) t there) [
         | inl first ↦ Contains-append_left (text x ∷ []) (map text xs) t first
-        | inr rest ↦ later (text x) (map text xs) t (passed text test xs t rest)
+        | inr rest ↦ later (text x) (map text xs) t (among rest)
       ]
-  by false e = later (text x) (map text xs) t
-      (passed text test xs t (subst (λ (ps : List FlowPart). Contains (map text ps) t) (keeps test x xs false e) h))
+  by false e among =
+      let there : Contains (map text (filter test xs)) t =
+      subst (λ (ps : List FlowPart). Contains (map text ps) t) (keeps test x xs false e) h in
+      later (text x) (map text xs) t (among there)
 
 abbrev Either : List (List ℕ) → List (List ℕ) → List ℕ → Type 0
 Either xs ys t = Contains xs t ⊎ Contains ys t

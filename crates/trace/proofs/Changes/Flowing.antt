@@ -23,7 +23,7 @@ use Rattle.trace.proofs.Changes.Extending.{extended_twice}
 
 -- ---- those of which something holds, one after the other
 
-keeps : (test : FlowPart → Bool) (x : FlowPart) (xs : List FlowPart) (b : Bool) → test x ≡ b
+pub keeps : (test : FlowPart → Bool) (x : FlowPart) (xs : List FlowPart) (b : Bool) → test x ≡ b
     → filter test (x ∷ xs) ≡ (if b then x ∷ filter test xs else filter test xs)
 keeps test x xs true e = rw e refl
 keeps test x xs false e = rw e refl
@@ -196,7 +196,7 @@ state_same state.Never = refl
 name_same : (p : FlowPart) → same_name p p ≡ true
 name_same p = ap₂ (λ (a b : Bool). a && b) (side_same p.side) (same_flow-refl p.flow)
 
-part_same : (p : FlowPart) → same_flow_part p p ≡ true
+pub part_same : (p : FlowPart) → same_flow_part p p ≡ true
 part_same p =
     let number : (p.number == p.number) ≡ true = eq-eqb p.number p.number refl in
     ap₂ (λ (a b : Bool). a && b) (ap₂ (λ (a b : Bool). a && b) (name_same p) (state_same p.state)) number

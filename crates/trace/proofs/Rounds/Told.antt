@@ -19,7 +19,8 @@ use Rattle.trace.specs.Steps.{ElementEnds, EndsAs, EventEnds, IsAsBegun, RoundEn
 use Rattle.trace.specs.Traces.{EndsRound, GoesOnWith, Inside, IsStill, MayTell, StopsElement, TellsElement, TellsMoving}
 use Rattle.trace.specs.Traces.{TellsRound, TellsRounds, TellsStill, WritesTrace}
 use Rattle.trace.proofs.Rounds.Listed.{AllIn, Begins, one_more_in, round_begun, round_over}
-use Rattle.trace.proofs.Rounds.Same.{as_long, grew_or_not, same_or_not}
+use Rattle.trace.proofs.Changes.Deciding.{parts_or_not}
+use Rattle.trace.proofs.Rounds.Same.{as_long, grew_or_not}
 use Rattle.trace.proofs.Telling.{SoFar, all_told, ends_told, fails_told, one_more}
 use Rattle.trace.specs.declared.all_parts.AllParts.{AllParts}
 
@@ -42,7 +43,7 @@ pub still_or_moving : {C : Type 0} (calls : Calls C) (inside : Inside C) (spot :
     → IsStill calls inside old new ⊎ (IsStill calls inside old new → ⊥)
 still_or_moving calls inside spot old new round lines h =
     let (more, grown) = round_grown calls inside spot old new round lines h in
-    by (same_or_not (inside.members new) (inside.members old))
+    by (parts_or_not (inside.members new) (inside.members old))
     (grew_or_not more (calls.seen old).log (calls.seen new).log grown)
   where
     by : (inside.members new ≡ inside.members old) ⊎ (inside.members new ≡ inside.members old → ⊥)

@@ -26,9 +26,7 @@ use Rattle.world_keeps_streams.proofs.Moments.In.{notices_there}
 use Rattle.world_keeps_streams.proofs.Requests.Sides.{Lawful, lives_in}
 use Rattle.world_keeps_streams.proofs.Steps.JoinedAll.{joined}
 use Rattle.world_keeps_streams.proofs.Steps.Streams.{has_receiver}
-
-pub unlike : (v : Bool) → v ≡ true → v ≡ false → ⊥
-unlike v e f = let same : true ≡ false = sym e ∙ f in absurd (cc)
+use Rattle.world_keeps_streams.proofs.Facts.{unlike}
 
 -- ---- the one end on a link
 

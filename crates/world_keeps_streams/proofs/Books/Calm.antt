@@ -15,8 +15,9 @@ use Rattle.world_keeps_streams.proofs.Books.Unclosed.{all_answered, taker_open, 
 use Rattle.world_keeps_streams.proofs.Deeds.Effects.{Among}
 use Rattle.world_keeps_streams.proofs.Requests.Sides.{Lawful, coupled_in}
 use Rattle.world_keeps_streams.proofs.Stays.Resets.{up_ready}
-use Rattle.world_keeps_streams.proofs.Steps.GoesOut.{ready_as, ready_phase}
+use Rattle.world_keeps_streams.proofs.Steps.GoesOut.{ready_phase}
 use Rattle.world_keeps_streams.proofs.Tidy.Mute.{none_in, none_next, none_queued, not_busy, nothing_goes}
+use Rattle.world_keeps_streams.proofs.Calls.Chain.{ready_both}
 
 -- ---- a program that has nothing to say
 
@@ -25,7 +26,7 @@ module _ (hosts : List Host) (ms : List Moment) (l : Lawful hosts ms) (h p : Hos
   agrees = story_agrees ms h p (coupled_in hosts ms l).story
 
   is_ready : program_phases.is_ready (pair_with p (program h ms).peers).phase ≡ true
-  is_ready = sym (ready_as h p ms (coupled_in hosts ms l).story) ∙ stays_ready (events_of ms) h p stays
+  is_ready = sym (ready_both h p ms (coupled_in hosts ms l).story) ∙ stays_ready (events_of ms) h p stays
 
   pub free : (k : ℕ) → is_busy (pair_with p (program h ms).peers).busy k ≡ false
   free k =

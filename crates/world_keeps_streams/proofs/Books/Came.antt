@@ -5,7 +5,7 @@ use Rattle.promise.specs.Safe.{before, named, receives}
 use Rattle.promise.specs.declared.life.Life.{Life}
 use Rattle.world_keeps_streams.specs.Came.{AllCame, CameAll}
 use Rattle.world_keeps_streams.proofs.Books.All.{all_given}
-use Rattle.world_keeps_streams.proofs.Books.Arrives.{rest_lawful, unlike}
+use Rattle.world_keeps_streams.proofs.Books.Arrives.{rest_lawful}
 use Rattle.world_keeps_streams.proofs.Books.Books.{one_own, same_name}
 use Rattle.world_keeps_streams.proofs.Books.CameIn.{came_as}
 use Rattle.world_keeps_streams.proofs.Books.Clauses.{OldGranter, settled_s}
@@ -17,10 +17,7 @@ use Rattle.world_keeps_streams.proofs.Books.Finished.{Done, Fixed, has_sent, has
 use Rattle.world_keeps_streams.proofs.Lives.Lists.{IsOf, Named, contains, grown, is_of, named_itself, of_left, of_map}
 use Rattle.world_keeps_streams.proofs.Requests.Sides.{Heard, Lawful, Own, lives_in}
 use Rattle.world_keeps_streams.proofs.Steps.Overs.{over_alike}
-
-none_long : (ts : List (List Bool)) → length ts ≤ 0 → ts ≡ []
-none_long [] l = refl
-none_long (t ∷ ts) l = absurd (omega (arith, l))
+use Rattle.world_keeps_streams.proofs.Facts.{none_long, unlike}
 
 -- ---- a life by its names
 

@@ -18,12 +18,10 @@ use Rattle.world_keeps_lives.proofs.lemmas as books
 use Rattle.world_keeps_lives.proofs.lemmas.{WasAt, texts_none, texts_same}
 use Rattle.world_keeps_streams.specs.Calls.{called}
 use Rattle.world_keeps_streams.proofs.Books.All.{all_given}
-use Rattle.world_keeps_streams.proofs.Books.Arrives.{unlike}
 use Rattle.world_keeps_streams.proofs.Books.Books.{one_own}
 use Rattle.world_keeps_streams.proofs.Books.Closes as closes
 use Rattle.world_keeps_streams.proofs.Books.Closes.{AtLink}
 use Rattle.world_keeps_streams.proofs.Books.Firsts.{together}
-use Rattle.world_keeps_streams.proofs.Books.Given.{off}
 use Rattle.world_keeps_streams.proofs.Books.Later.{named_request, one_number, one_stamp}
 use Rattle.world_keeps_streams.proofs.Books.Lies.{Boxed, lies_there}
 use Rattle.world_keeps_streams.proofs.Books.Run.{below, whole}
@@ -34,9 +32,10 @@ use Rattle.world_keeps_streams.proofs.Lives.Lists.{IsOf, grown, is_of, of_drop, 
 use Rattle.world_keeps_streams.proofs.Requests.Sides.{Heard, Lawful, Own, coupled_in, lives_in, own_on}
 use Rattle.world_keeps_streams.proofs.Stays.Meets.{solo_there}
 use Rattle.world_keeps_streams.proofs.Stays.Resets.{stays_on}
-use Rattle.world_keeps_streams.proofs.Steps.GoesOut.{ready_as}
 use Rattle.world_keeps_streams.proofs.Steps.Joined.{Joined}
 use Rattle.world_keeps_streams.proofs.Steps.JoinedAll.{joined}
+use Rattle.world_keeps_streams.proofs.Calls.Chain.{ready_both}
+use Rattle.world_keeps_streams.proofs.Facts.{unlike, no_zero}
 
 max_less : (p q k : ℕ) → p < k → q < k → max p q < k
 max_less p q zero i j = absurd (omega (arith, i))
@@ -68,7 +67,7 @@ module _ (hosts : List Host) (a b : Host) (m : HostMessage) (ms : List Moment) (
   end = ap (λ (s : Receiver). s.end) (sym (j.received_a stays)) ∙ waits_of j.x j.joint.inv_x boxed.connection boxed.size boxed.bits boxed.is
 
   ready : phases.is_ready (pair_with b (program a ms).peers).phase ≡ true
-  ready = sym (ready_as a b ms (coupled_in hosts ms older).story) ∙ stays_ready (events_of ms) a b stays
+  ready = sym (ready_both a b ms (coupled_in hosts ms older).story) ∙ stays_ready (events_of ms) a b stays
 
   mine : same_host a m.flow.destination ≡ true
   mine = subst (λ (h : Host). same_host a h ≡ true) host (same_host-refl a)
@@ -123,7 +122,7 @@ module _ (hosts : List Host) where
 
   stands : (ms : List Moment) (l : Lawful hosts ms) (x : Life) (f : AtLink ms x) → Stands x.host x.peer f.link x.socket x.foreign x.own_stamp ms
   stands ms l x f = record {
-    other = ap (λ (k : ℕ). k == 0) (closes.place_is hosts ms l x f) ∙ off (closes.n hosts ms l x f);
+    other = ap (λ (k : ℕ). k == 0) (closes.place_is hosts ms l x f) ∙ no_zero (closes.n hosts ms l x f);
     stays = closes.stays hosts ms l x f;
     end = subst (λ (k : ℕ). (receiver_now numbered x.peer k (own_calls x.host x.peer ms)).end ≡ Some (name_now numbered x.peer (own_calls x.host x.peer ms) x.socket x.foreign)) (sym (closes.place_is hosts ms l x f))
         ((closes.law hosts ms l x f).end ∙ ap (λ (k : ℕ). Some (name_now numbered x.peer (own_calls x.host x.peer ms) k f.end.end.foreign)) (closes.own hosts ms l x f)

@@ -11,7 +11,7 @@ use Rattle.promise.specs.declared.life.Life.{Life}
 use Rattle.net_sim.proofs.lemmas.{flow_of}
 use Rattle.world_keeps_streams.specs.Rests.{AllRest}
 use Rattle.world_keeps_streams.proofs.Books.All.{all_given}
-use Rattle.world_keeps_streams.proofs.Books.Arrives.{end_at, on_link, one_end, rest_lawful, stays_of, unlike}
+use Rattle.world_keeps_streams.proofs.Books.Arrives.{end_at, on_link, one_end, rest_lawful, stays_of}
 use Rattle.world_keeps_streams.proofs.Books.Books.{one_receiver, one_sender}
 use Rattle.world_keeps_streams.proofs.Books.Clauses.{OldGranter, settled_r, settled_s}
 use Rattle.world_keeps_streams.proofs.Books.Run.{Given, whole}
@@ -23,6 +23,7 @@ use Rattle.world_keeps_streams.proofs.Lives.Lists.{IsOf, is_of, of_drop, of_part
 use Rattle.world_keeps_streams.proofs.Requests.Sides.{Heard, Lawful, Own, lives_in}
 use Rattle.world_keeps_streams.proofs.Steps.Joined.{post_in}
 use Rattle.world_keeps_streams.proofs.Steps.Streams.{has_receiver}
+use Rattle.world_keeps_streams.proofs.Facts.{unlike}
 
 free_box : (b : Box) → IsPosted Free b → waiting_in b ≡ []
 free_box Empty p = refl

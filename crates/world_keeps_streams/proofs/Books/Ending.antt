@@ -27,17 +27,17 @@ use Rattle.world_keeps_streams.proofs.Steps.Shut.{IsShut, asked_calls, closed_sh
 use Rattle.world_keeps_streams.proofs.Steps.Streams.{all_allowed, has_receiver}
 use Rattle.world_keeps_streams.proofs.Steps.Unsaid.{AllHear, IsHere, here_calls}
 use Rattle.world_keeps_streams.proofs.Books.All.{all_given}
-use Rattle.world_keeps_streams.proofs.Books.Arrives.{end_at, stays_of, unlike}
+use Rattle.world_keeps_streams.proofs.Books.Arrives.{end_at, stays_of}
 use Rattle.world_keeps_streams.proofs.Books.Books.{one_own}
 use Rattle.world_keeps_streams.proofs.Books.Clauses.{settled_r}
 use Rattle.world_keeps_streams.proofs.Books.Closes as closes
 use Rattle.world_keeps_streams.proofs.Books.Closes.{AtLink}
-use Rattle.world_keeps_streams.proofs.Books.Given.{off}
 use Rattle.world_keeps_streams.proofs.Books.Goes.{since_bound, since_on}
 use Rattle.world_keeps_streams.proofs.Books.Later as later
 use Rattle.world_keeps_streams.proofs.Books.Later.{named_request}
 use Rattle.world_keeps_streams.proofs.Books.Run.{below, whole}
 use Rattle.world_keeps_streams.proofs.Books.Whole.{GoesOn, PresentR, Receives, Whole, present_in, since}
+use Rattle.world_keeps_streams.proofs.Facts.{unlike, no_zero, own_if}
 
 -- ---- a receiving life that isn't over
 
@@ -89,13 +89,13 @@ module _ (hosts : List Host) (y : Moment) (ms : List Moment) (l : Lawful hosts (
     by true e = absurd (unlike (stay.stays x.host x.peer (events_of ms)) was (begins_fresh hosts (event_in y) (events_of ms) (coupled_in hosts (y ∷ ms) l).run x.host x.peer e).left)
 
   own_is : own_calls x.host x.peer (y ∷ ms) ≡ calls_by x.host x.peer y ms ++ own_calls x.host x.peer ms
-  own_is = later.own_if (keeps x.host x.peer (event_in y) (events_of ms)) (calls_by x.host x.peer y ms ++ own_calls x.host x.peer ms) [] (stays_on x.host x.peer (event_in y) (events_of ms) on none).0
+  own_is = own_if (keeps x.host x.peer (event_in y) (events_of ms)) (calls_by x.host x.peer y ms ++ own_calls x.host x.peer ms) [] (stays_on x.host x.peer (event_in y) (events_of ms) on none).0
 
   history : IsHistory x.peer (calls_by x.host x.peer y ms ++ own_calls x.host x.peer ms)
   history = subst (λ (cs : List calls.Moment). IsHistory x.peer cs) own_is (chain hosts l.0 (y ∷ ms) l.1 l.2 x.host x.peer).0
 
   may : (m : ℕ) → AreAllowed numbered x.peer (suc m) (calls_by x.host x.peer y ms ++ own_calls x.host x.peer ms)
-  may m = subst (λ (cs : List calls.Moment). AreAllowed numbered x.peer (suc m) cs) own_is (all_allowed hosts l.0 (suc m) (off m) x.host x.peer (y ∷ ms) l.1 l.2)
+  may m = subst (λ (cs : List calls.Moment). AreAllowed numbered x.peer (suc m) cs) own_is (all_allowed hosts l.0 (suc m) (no_zero m) x.host x.peer (y ∷ ms) l.1 l.2)
 
   -- the number of its connection
   abbrev its_g : ℕ
@@ -126,7 +126,7 @@ module _ (hosts : List Host) (y : Moment) (ms : List Moment) (l : Lawful hosts (
         end_was =
             end_back numbered numbered_tells x.peer (suc m) its_c (calls_by x.host x.peer y ms) (own_calls x.host x.peer ms) history (may m)
             (closed_shut numbered numbered_tells x.peer (suc m) its_c (own_calls x.host x.peer ms) (chain hosts l.0 ms old.1 old.2 x.host x.peer).0
-            (all_allowed hosts l.0 (suc m) (off m) x.host x.peer ms old.1 old.2) closed_was).asked
+            (all_allowed hosts l.0 (suc m) (no_zero m) x.host x.peer ms old.1 old.2) closed_was).asked
             (subst (λ (cs : List calls.Moment). (receiver_now numbered x.peer (suc m) cs).end ≡ Some its_c) own_is end)
 
   -- ---- the life then
@@ -222,7 +222,7 @@ module _ (hosts : List Host) (y : Moment) (ms : List Moment) (l : Lawful hosts (
           → (receiver_now numbered x.peer (suc its_n) (own_calls x.host x.peer (y ∷ ms))).over its_c ≡ true
       by (inl e) =
           absurd (no_end (filter (receives_on (suc its_n)) (pair_with x.peer (program x.host (y ∷ ms)).peers).entries) (receiver_now numbered x.peer (suc its_n) (own_calls x.host x.peer (y ∷ ms)))
-          (has_receiver hosts l.0 (suc its_n) (off its_n) x.host x.peer (y ∷ ms) l.1 l.2) (ap (λ (v : Receiver). v.end) (sym (law_is its_n)) ∙ e))
+          (has_receiver hosts l.0 (suc its_n) (no_zero its_n) x.host x.peer (y ∷ ms) l.1 l.2) (ap (λ (v : Receiver). v.end) (sym (law_is its_n)) ∙ e))
       by (inr e) = ap (λ (v : Receiver). v.over its_c) (sym (law_is its_n)) ∙ e
 
     -- ---- while it continued its end had taken the sender's CLS
@@ -257,7 +257,7 @@ module _ (hosts : List Host) (y : Moment) (ms : List Moment) (l : Lawful hosts (
             here_calls numbered numbered_tells x.peer (suc its_n) its_c (calls_by x.host x.peer y ms) (own_calls x.host x.peer ms) all history (may its_n)
             (record { end = end_was; late = λ said. absurd (unsaid unheard said) }) in
             no_end (filter (receives_on (suc its_n)) (pair_with x.peer (program x.host (y ∷ ms)).peers).entries) (receiver_now numbered x.peer (suc its_n) (own_calls x.host x.peer (y ∷ ms)))
-            (has_receiver hosts l.0 (suc its_n) (off its_n) x.host x.peer (y ∷ ms) l.1 l.2) (ap (λ (cs : List calls.Moment). (receiver_now numbered x.peer (suc its_n) cs).end) own_is ∙ here.end)
+            (has_receiver hosts l.0 (suc its_n) (no_zero its_n) x.host x.peer (y ∷ ms) l.1 l.2) (ap (λ (cs : List calls.Moment). (receiver_now numbered x.peer (suc its_n) cs).end) own_is ∙ here.end)
 
         by : (v : Bool) → (receiver_now numbered x.peer (suc its_n) (own_calls x.host x.peer ms)).over its_c ≡ v → (receiver_now numbered x.peer (suc its_n) (own_calls x.host x.peer ms)).over its_c ≡ true
         by true e = e
@@ -313,7 +313,7 @@ module _ (hosts : List Host) (y : Moment) (ms : List Moment) (l : Lawful hosts (
     history_new = subst (λ (cs : List calls.Moment). IsHistory x.peer cs) is (chain hosts l.0 (y ∷ ms) l.1 l.2 x.host x.peer).0
 
     may_new : AreAllowed numbered x.peer (suc m) (calls_by x.host x.peer y ms ++ own_calls x.host x.peer ms)
-    may_new = subst (λ (cs : List calls.Moment). AreAllowed numbered x.peer (suc m) cs) is (all_allowed hosts l.0 (suc m) (off m) x.host x.peer (y ∷ ms) l.1 l.2)
+    may_new = subst (λ (cs : List calls.Moment). AreAllowed numbered x.peer (suc m) cs) is (all_allowed hosts l.0 (suc m) (no_zero m) x.host x.peer (y ∷ ms) l.1 l.2)
 
     closed_was : HasClosed numbered x.peer (suc m) its (own_calls x.host x.peer ms)
     closed_was =
@@ -323,7 +323,7 @@ module _ (hosts : List Host) (y : Moment) (ms : List Moment) (l : Lawful hosts (
     shut_was : IsShut (receiver_now numbered x.peer (suc m) (own_calls x.host x.peer ms)) its
     shut_was =
         closed_shut numbered numbered_tells x.peer (suc m) its (own_calls x.host x.peer ms) (chain hosts l.0 ms older.1 older.2 x.host x.peer).0
-        (all_allowed hosts l.0 (suc m) (off m) x.host x.peer ms older.1 older.2) closed_was
+        (all_allowed hosts l.0 (suc m) (no_zero m) x.host x.peer ms older.1 older.2) closed_was
 
     end_was_new : (receiver_now numbered x.peer (suc m) (own_calls x.host x.peer ms)).end ≡ Some its
     end_was_new =
@@ -345,13 +345,13 @@ module _ (hosts : List Host) (y : Moment) (ms : List Moment) (l : Lawful hosts (
     unshut =
         none_said (filter (receives_on (suc m)) (pair_with x.peer (program x.host ms).peers).entries) (receiver_now numbered x.peer (suc m) (own_calls x.host x.peer ms))
         (λ e j own foreign. was_open hosts y ms l x kind sends host opens e (among_filter (receives_on (suc m)) (pair_with x.peer (program x.host ms).peers).entries e j).0 own foreign)
-        (has_receiver hosts l.0 (suc m) (off m) x.host x.peer ms older.1 older.2) end_was_new (shut_was.closed end_was_new)
+        (has_receiver hosts l.0 (suc m) (no_zero m) x.host x.peer ms older.1 older.2) end_was_new (shut_was.closed end_was_new)
 
   begins_open : IsOpen (y ∷ ms) x
   unfolding IsOpen
   begins_open m end closed = by (keeps x.host x.peer (event_in y) (events_of ms)) refl where
     by : (v : Bool) → keeps x.host x.peer (event_in y) (events_of ms) ≡ v → ⊥
-    by true on = unshut (later.own_if (keeps x.host x.peer (event_in y) (events_of ms)) (calls_by x.host x.peer y ms ++ own_calls x.host x.peer ms) [] on) m end closed
+    by true on = unshut (own_if (keeps x.host x.peer (event_in y) (events_of ms)) (calls_by x.host x.peer y ms ++ own_calls x.host x.peer ms) [] on) m end closed
     by false away =
         subst (λ (cs : List calls.Moment). HasClosed numbered x.peer (suc m) its cs)
         (ap (λ (v : Bool). if v then calls_by x.host x.peer y ms ++ own_calls x.host x.peer ms else []) away) closed

@@ -1,5 +1,5 @@
 -- What was sent to a receiving life when its end had taken its partner's CLS stays all that is sent to it, whatever becomes of both lives later.
-use Rattle.world_keeps_streams.proofs.Common.{◌≡◌, ◌⊎◌, inl, inr, ℕ, suc, ◌+◌, ◌≤◌, ◌==◌, Bool, true, false, if◌then◌else◌, List, [], ◌∷◌, ◌++◌, length, map, take, drop, Some, refl, ap, sym, subst, ◌∙◌, arith, eqb-true, Host, IsSafe, safe_inv, numbered, receiver_now, sender_now, numbered_tells, Fresh, begins_either, Match, Name, own_request, Moment, event_in, events_of, crossings_of, keeps, calls_by, own_calls}
+use Rattle.world_keeps_streams.proofs.Common.{◌≡◌, ◌⊎◌, inl, inr, ℕ, suc, ◌+◌, ◌≤◌, ◌==◌, Bool, true, false, List, [], ◌∷◌, ◌++◌, length, map, take, drop, Some, refl, ap, sym, subst, ◌∙◌, arith, eqb-true, Host, IsSafe, safe_inv, numbered, receiver_now, sender_now, numbered_tells, Fresh, begins_either, Match, Name, own_request, Moment, event_in, events_of, crossings_of, keeps, calls_by, own_calls}
 use Rattle.stream_law.specs.Receivers.{Receiver}
 use Rattle.stream_law.specs.Senders.{Sender}
 use Rattle.host_keeps_streams.specs.Histories as calls
@@ -11,7 +11,6 @@ use Rattle.world_keeps_streams.proofs.Books.Books.{one_own, one_sender, same_nam
 use Rattle.world_keeps_streams.proofs.Books.Clauses.{match_grows, stays_in}
 use Rattle.world_keeps_streams.proofs.Books.Goes.{since_bound, since_on}
 use Rattle.world_keeps_streams.proofs.Books.Later.{Answers, Before, answers_before, at_now, before, early_on, fresh, named_request, none_on, one_number}
-use Rattle.world_keeps_streams.proofs.Books.Given.{off}
 use Rattle.world_keeps_streams.proofs.Books.Run.{Given, below, whole_keeps}
 use Rattle.world_keeps_streams.proofs.Books.Source.{one_matches}
 use Rattle.world_keeps_streams.proofs.Books.Whole.{HasR, HasS, PresentR, PresentS, Whole, present_in, since}
@@ -24,13 +23,7 @@ use Rattle.world_keeps_streams.proofs.Steps.Closed as closed
 use Rattle.world_keeps_streams.proofs.Steps.Joined.{Joined, Keeps, numbered_by_peer, turned_tells}
 use Rattle.world_keeps_streams.proofs.Steps.Overs as overs
 use Rattle.world_keeps_streams.proofs.Steps.Streams.{all_allowed}
-
-own_if : (b : Bool) (xs ys : List calls.Moment) → b ≡ true → (if b then xs else ys) ≡ xs
-own_if true xs ys e = refl
-own_if false xs ys e = absurd (let no : false ≡ true = e in cc)
-
-some_long : (t : List Bool) (ts : List (List Bool)) → 1 ≤ length (t ∷ ts)
-some_long t ts = omega arith
+use Rattle.world_keeps_streams.proofs.Facts.{some_long, no_zero, own_if}
 
 -- ---- two hosts, one that receives and one that sends: this much was sent in the connection on each link, and something on link `n` only
 
@@ -172,7 +165,7 @@ module _ (hosts : List Host) (a b : Host) (T : ℕ → List (List Bool)) (n : �
             kept =
                 overs.kept_calls numbered numbered_tells b (suc m) c (calls_by a b z ms) (own_calls a b ms)
                 (subst (λ (cs : List calls.Moment). calls.IsHistory b cs) own (chain hosts l.0 (z ∷ ms) l.1 l.2 a b).0)
-                (subst (λ (cs : List calls.Moment). calls.AreAllowed numbered b (suc m) cs) own (all_allowed hosts l.0 (suc m) (off m) a b (z ∷ ms) l.1 l.2))
+                (subst (λ (cs : List calls.Moment). calls.AreAllowed numbered b (suc m) cs) own (all_allowed hosts l.0 (suc m) (no_zero m) a b (z ∷ ms) l.1 l.2))
                 (ap (λ (r : Receiver). r.over c) (sym (((at_now hosts a b ms (below hosts z ms l)).j m).received_a both_on.1)) ∙ (f m).0)
 
       still_sent : (v : Bool) → stay.stays b a (events_of (z ∷ ms)) ≡ v → ((at_now hosts a b (z ∷ ms) l).j m).x.sender.sent c ≡ ((at_now hosts a b ms (below hosts z ms l)).j m).x.sender.sent c

@@ -8,13 +8,15 @@ use Rattle.world_keeps_lives.specs.Firsts.{FirstBook}
 use Rattle.world_keeps_lives.proofs.lemmas as books
 use Rattle.world_keeps_lives.proofs.lemmas.{HasOwner, Together}
 use Rattle.world_keeps_streams.proofs.Books.Arrives.{arrives}
-use Rattle.world_keeps_streams.proofs.Carried.Calls.{Carries, contains_among, recent, since}
+use Rattle.world_keeps_streams.proofs.Carried.Calls.{Carries, recent, since}
 use Rattle.world_keeps_streams.proofs.Carried.Step.{LifeFor}
 use Rattle.world_keeps_streams.proofs.Carried.World.{carries_numbered}
 use Rattle.world_keeps_streams.proofs.Deeds.Effects.{Among, among_kept}
-use Rattle.world_keeps_streams.proofs.Lives.Lists.{IsOf, contains, of_drop}
+use Rattle.world_keeps_streams.proofs.Lives.Lists.{contains, of_drop}
 use Rattle.world_keeps_streams.proofs.Requests.Sides.{Lawful, lives_in}
 use Rattle.world_keeps_streams.proofs.Steps.Streams.{has_sender}
+use Rattle.world_keeps_streams.proofs.Lives.Present.{from_among}
+use Rattle.world_keeps_streams.proofs.Lives.Opened.{contains_among}
 
 -- of the ends on a link there is one that sends
 one_of : (name : ℕ → ℕ → ℕ) (xs : List Entry) (s : Sender) → AreSender name xs s → (e f : Entry) → Among e xs → Among f xs → e ≡ f
@@ -23,11 +25,6 @@ one_of name (x ∷ []) s h e f (inl i) (inl j) = sym i ∙ j
 one_of name (x ∷ []) s h e f (inl i) (inr j) = absurd j
 one_of name (x ∷ []) s h e f (inr i) j = absurd i
 one_of name (x ∷ y ∷ more) s h e f i j = absurd h
-
-from_among : (x : Life) (xs : List Life) → Among x xs → IsOf x xs
-from_among x [] i = absurd i
-from_among x (y ∷ ys) (inl e) = inl (sym e)
-from_among x (y ∷ ys) (inr i) = inr (from_among x ys i)
 
 module _ (hosts : List Host) where
   one_sender : (ms : List Moment) → Lawful hosts ms → (a b : Host) (link : ℕ) → (link == 0) ≡ false → (e f : Entry) → Contains (pair_with b (program a ms).peers).entries e → Contains (pair_with b (program a ms).peers).entries f

@@ -1,5 +1,5 @@
 -- What a safe book asks of two hosts, but for their lives: requests and streams.
-use Rattle.world_keeps_streams.proofs.Common.{◌≡◌, ℕ, suc, ◌==◌, ◌≤◌, true, false, List, [], ◌∷◌, refl, ne_eqb, Host, numbered, receiver_now, sender_now, numbered_tells, Moment, event_in, events_of, own_calls, numbered_by_peer}
+use Rattle.world_keeps_streams.proofs.Common.{◌≡◌, ℕ, suc, ◌≤◌, true, false, List, [], ◌∷◌, refl, Host, numbered, receiver_now, sender_now, numbered_tells, Moment, event_in, events_of, own_calls, numbered_by_peer}
 use Rattle.reset_law.specs.Stays as stay
 use Rattle.promise.specs.Safe.{receives, sends}
 use Rattle.promise.specs.declared.life.Life.{Life}
@@ -16,6 +16,7 @@ use Rattle.world_keeps_streams.proofs.Steps.JoinedAll as joint
 use Rattle.world_keeps_streams.proofs.Steps.Joining.{Goes}
 use Rattle.world_keeps_streams.proofs.Stays.Meets.{meets}
 use Rattle.world_keeps_streams.proofs.Steps.Streams.{all_allowed}
+use Rattle.world_keeps_streams.proofs.Facts.{no_zero}
 
 -- ---- the requests of ends that are there
 
@@ -25,15 +26,12 @@ counts hosts ms l a b = heard_calls numbered numbered_tells 1 hosts l.0 ms l.1 l
 
 -- ---- the streams
 
-pub off : (n : ℕ) → (suc n == 0) ≡ false
-off n = ne_eqb (suc n) 0 (λ e. absurd (cc))
-
 pub goes_on : (hosts : List Host) (a b : Host) (y : Moment) (ms : List Moment) → Lawful hosts (y ∷ ms) → stay.begins a b (event_in y) (events_of ms) ≡ false → (n : ℕ) (j : Joined a b (suc n) ms)
     → (k : Joined a b (suc n) (y ∷ ms)) × Keeps (stay.stays a b (events_of (y ∷ ms))) (stay.stays b a (events_of (y ∷ ms))) j.x k.x
-goes_on hosts a b y ms l none n j = let g : Goes a b (suc n) y ms j = joint.goes (suc n) (off n) hosts l.0 a b y ms l.1 l.2 j none in (g.joined, g.keeps_x)
+goes_on hosts a b y ms l none n j = let g : Goes a b (suc n) y ms j = joint.goes (suc n) (no_zero n) hosts l.0 a b y ms l.1 l.2 j none in (g.joined, g.keeps_x)
 
 meets_at : (hosts : List Host) (a b : Host) (y : Moment) (ms : List Moment) → Lawful hosts (y ∷ ms) → stay.begins a b (event_in y) (events_of ms) ≡ true → (n : ℕ) → Joined a b (suc n) (y ∷ ms)
-meets_at hosts a b y ms l new n = meets (suc n) (off n) hosts l.0 a b y ms l.1 l.2 new
+meets_at hosts a b y ms l new n = meets (suc n) (no_zero n) hosts l.0 a b y ms l.1 l.2 new
 
 -- ---- so what is left is asked of lives
 

@@ -1,5 +1,5 @@
 -- A receiving life that its partner has closed, and no user of its host, has all that its partner sent, whatever becomes of both later.
-use Rattle.world_keeps_streams.proofs.Common.{◌≡◌, ◌⊎◌, inl, inr, ℕ, zero, suc, ◌+◌, ◌≤◌, Bool, true, false, List, [], ◌∷◌, ◌++◌, length, map, take, drop, if◌then◌else◌, Some, refl, ap, sym, subst, ◌∙◌, arith, Contains, Seen, Host, is_receive_socket, is_send_socket, Allocation, IsSafe, safe_inv, HasClosed, name_now, numbered, receiver_now, closed_first, numbered_tells, receiver, Fresh, asks_once, begins_fresh, IsLawful, Match, Name, own_request, partner_request, Asked, Crossed, Moment, event_in, events_of, crossings_of, WorldState, law_events, keeps, steps, book_run, calls_by, own_calls, IsClosedByPartner, WasClosedByPartner}
+use Rattle.world_keeps_streams.proofs.Common.{◌≡◌, ◌⊎◌, inl, inr, ℕ, zero, suc, ◌+◌, ◌≤◌, Bool, true, false, List, [], ◌∷◌, ◌++◌, length, map, take, drop, Some, refl, ap, sym, subst, ◌∙◌, arith, Contains, Seen, Host, is_receive_socket, is_send_socket, Allocation, IsSafe, safe_inv, HasClosed, name_now, numbered, receiver_now, closed_first, numbered_tells, receiver, Fresh, asks_once, begins_fresh, IsLawful, Match, Name, own_request, partner_request, Asked, Crossed, Moment, event_in, events_of, crossings_of, WorldState, law_events, keeps, steps, book_run, calls_by, own_calls, IsClosedByPartner, WasClosedByPartner}
 use Rattle.stream_law.specs.Receivers.{Receiver}
 use Rattle.host_keeps_streams.specs.Histories as calls
 use Rattle.reset_law.specs.Stays as stay
@@ -16,35 +16,24 @@ use Rattle.world_keeps_streams.proofs.Steps.Joined.{IsSettled, Keeps}
 use Rattle.world_keeps_streams.proofs.Steps.Overs.{Kept, kept_calls, over_alike}
 use Rattle.world_keeps_streams.proofs.Steps.Streams.{all_allowed}
 use Rattle.world_keeps_streams.proofs.Books.All.{all_given}
-use Rattle.world_keeps_streams.proofs.Books.Arrives.{rest_lawful, unlike}
+use Rattle.world_keeps_streams.proofs.Books.Arrives.{rest_lawful}
 use Rattle.world_keeps_streams.proofs.Books.Books.{one_own, one_place, one_sender, same_name}
 use Rattle.world_keeps_streams.proofs.Books.Clauses.{OldGranter, Older, match_grows, older, settled_s, stays_in}
 use Rattle.world_keeps_streams.proofs.Books.Closes as closes
 use Rattle.world_keeps_streams.proofs.Books.Closes.{AtLink}
-use Rattle.world_keeps_streams.proofs.Books.Given.{off}
 use Rattle.world_keeps_streams.proofs.Books.Goes.{since_bound, since_new, since_on}
 use Rattle.world_keeps_streams.proofs.Books.Run.{Given, below, whole, whole_keeps}
 use Rattle.world_keeps_streams.proofs.Books.Source.{Granter, granted_of, one_matches}
 use Rattle.world_keeps_streams.proofs.Books.Whole.{HasR, HasS, PresentR, PresentS, Whole, present_in, since}
+use Rattle.world_keeps_streams.proofs.Facts.{none_long, some_long, unlike, no_zero, own_if}
 
 -- ---- words
-
-none_long : (ts : List (List Bool)) → length ts ≤ 0 → ts ≡ []
-none_long [] l = refl
-none_long (t ∷ ts) l = absurd (omega (arith, l))
-
-some_long : (t : List Bool) (ts : List (List Bool)) → 1 ≤ length (t ∷ ts)
-some_long t ts = omega arith
 
 pub named_request : (x y : Life) → Named x y → own_request y ≡ own_request x
 named_request x y n =
     ap (λ (k : ℕ). let r : Name = record { place = k; own = y.socket; foreign = y.foreign } in r) n.own
     ∙ ap (λ (k : ℕ). let r : Name = record { place = x.own_stamp; own = k; foreign = y.foreign } in r) n.socket
     ∙ ap (λ (k : ℕ). let r : Name = record { place = x.own_stamp; own = x.socket; foreign = k } in r) n.foreign
-
-pub own_if : (b : Bool) (xs ys : List calls.Moment) → b ≡ true → (if b then xs else ys) ≡ xs
-own_if true xs ys e = refl
-own_if false xs ys e = absurd (let no : false ≡ true = e in cc)
 
 -- ---- two hosts, and what a life of the one has
 
@@ -346,7 +335,7 @@ module _ (hosts : List Host) (a b : Host) where
             kept =
                 kept_calls numbered numbered_tells b (suc m) c (calls_by a b z ms) (own_calls a b ms)
                 (subst (λ (cs : List calls.Moment). calls.IsHistory b cs) own (chain hosts l.0 (z ∷ ms) l.1 l.2 a b).0)
-                (subst (λ (cs : List calls.Moment). calls.AreAllowed numbered b (suc m) cs) own (all_allowed hosts l.0 (suc m) (off m) a b (z ∷ ms) l.1 l.2))
+                (subst (λ (cs : List calls.Moment). calls.AreAllowed numbered b (suc m) cs) own (all_allowed hosts l.0 (suc m) (no_zero m) a b (z ∷ ms) l.1 l.2))
                 (subst (λ (r : Receiver). r.over c ≡ true) old (shut m).0)
 
     through_on : (t : Life) → Through ms (below hosts z ms l) t → stay.begins a b (event_in z) (events_of ms) ≡ false → Through (z ∷ ms) l ((grown z ms).change t)

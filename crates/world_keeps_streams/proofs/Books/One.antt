@@ -5,13 +5,14 @@ use Rattle.reset_law.specs.Stays as stay
 use Rattle.promise.specs.Safe.{named}
 use Rattle.promise.specs.declared.life.Life.{Life}
 use Rattle.world_keeps_pairing.proofs.lemmas.{IsPair}
-use Rattle.world_keeps_streams.proofs.Books.Arrives.{end_at, stays_of, unlike}
+use Rattle.world_keeps_streams.proofs.Books.Arrives.{end_at, stays_of}
 use Rattle.world_keeps_streams.proofs.Books.Closes as closes
 use Rattle.world_keeps_streams.proofs.Books.Given.{counts}
 use Rattle.world_keeps_streams.proofs.Deeds.Effects.{Among}
 use Rattle.world_keeps_streams.proofs.Requests.Now.{heard_now}
 use Rattle.world_keeps_streams.proofs.Requests.Sides.{Heard, Lawful, Own, law_joined, lives_in}
 use Rattle.world_keeps_streams.proofs.Steps.Joined.{Joined, party}
+use Rattle.world_keeps_streams.proofs.Facts.{unlike}
 
 -- ---- small facts
 

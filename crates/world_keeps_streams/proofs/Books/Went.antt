@@ -9,6 +9,7 @@ use Rattle.net_sim.specs.Told.{kept_in}
 use Rattle.world_keeps_streams.proofs.Lives.Fates.{beside_of, was_life}
 use Rattle.world_keeps_streams.proofs.Lives.Lists.{IsOf, Named, at_off, named_itself}
 use Rattle.world_keeps_streams.proofs.Requests.Sides.{lives_in}
+use Rattle.world_keeps_streams.proofs.Carried.Owned.{where_length}
 
 -- ---- names
 
@@ -28,10 +29,6 @@ named_when false f x names = named_itself x
 
 -- ---- there are as many lists as lives
 
-where_long : (test : Life → Bool) (f : Life → Life) (lives : List Life) → length (where_it test f lives) ≡ length lives
-where_long test f [] = refl
-where_long test f (x ∷ lives) = ap (λ (n : ℕ). suc n) (where_long test f lives)
-
 to_long : (test : Life → Bool) (bits : List Bool) (lives : List Life) (handed : List (List Bool)) → length handed ≡ length lives → length (handed_to test bits lives handed) ≡ length lives
 to_long test bits [] handed e = e
 to_long test bits (x ∷ lives) [] e = e
@@ -45,11 +42,11 @@ even_told h (notice.Opened socket peer foreign own partner) k e =
     let a : length (k.handed ++ [] ∷ []) ≡ length k.handed + 1 = length-append k.handed ([] ∷ []) in
     let b : length (k.book.lives ++ new_life h socket peer foreign own partner ∷ []) ≡ length k.book.lives + 1 = length-append k.book.lives (new_life h socket peer foreign own partner ∷ []) in
     a ∙ ap (λ (n : ℕ). n + 1) e ∙ sym b
-even_told h (notice.Ended socket peer foreign) k e = e ∙ sym (where_long (lives_between h socket peer foreign) life_ended k.book.lives)
-even_told h (notice.PairReset peer) k e = e ∙ sym (where_long (lives_with h peer) life_ended k.book.lives)
-even_told h (notice.Sent socket bits) k e = e ∙ sym (where_long (lives_at h socket) (carried bits) k.book.lives)
-even_told h (notice.Arrived socket bits) k e = e ∙ sym (where_long (lives_at h socket) (carried bits) k.book.lives)
-even_told h (notice.Returned socket m b) k e = e ∙ sym (where_long (lives_at h socket) (returned m b) k.book.lives)
+even_told h (notice.Ended socket peer foreign) k e = e ∙ sym (where_length (lives_between h socket peer foreign) life_ended k.book.lives)
+even_told h (notice.PairReset peer) k e = e ∙ sym (where_length (lives_with h peer) life_ended k.book.lives)
+even_told h (notice.Sent socket bits) k e = e ∙ sym (where_length (lives_at h socket) (carried bits) k.book.lives)
+even_told h (notice.Arrived socket bits) k e = e ∙ sym (where_length (lives_at h socket) (carried bits) k.book.lives)
+even_told h (notice.Returned socket m b) k e = e ∙ sym (where_length (lives_at h socket) (returned m b) k.book.lives)
 even_told h n k e = e
 
 even_all : (h : Host) (ns : List Notice) (k : Kept) → IsEven k → IsEven (all_told h ns k)
@@ -57,10 +54,10 @@ even_all h [] k e = e
 even_all h (n ∷ ns) k e = even_all h ns (book_told h n k) (even_told h n k e)
 
 even_by : (y : Moment) (k : Kept) → IsEven k → IsEven (kept_by y k)
-even_by (Crossed (crossing.Down h)) k e = e ∙ sym (where_long (lives_on h) life_ended k.book.lives)
+even_by (Crossed (crossing.Down h)) k e = e ∙ sym (where_length (lives_on h) life_ended k.book.lives)
 even_by (Crossed c) k e = e
 even_by (Asked h (request.Send socket bits)) k e = to_long (lives_at h socket) bits k.book.lives k.handed e
-even_by (Asked h (request.Grant socket m b)) k e = e ∙ sym (where_long (lives_at h socket) (granted m b) k.book.lives)
+even_by (Asked h (request.Grant socket m b)) k e = e ∙ sym (where_length (lives_at h socket) (granted m b) k.book.lives)
 even_by (Asked h r) k e = e
 
 even : (ms : List Moment) → IsEven (kept_in ms)

@@ -1,5 +1,5 @@
 -- Each call of a host since it dropped its ends with a peer might be made, whether or not both have met since.
-use Rattle.world_keeps_streams.proofs.Common.{◌≡◌, ℕ, ◌==◌, Bool, true, false, ◌&&◌, if◌then◌else◌, List, [], ◌∷◌, ◌++◌, take, Option, Some, None, refl, sym, subst, ◌∙◌, Host, same_host, same_host-true, Command, Order, Legal, orders_of, desk_of, listens_on, is_busy, PairState, Parcel, command_gone, with_connections, is_ready, TurnState, Entry, Listener, Answered, AreAllowed, AsksBack, Closes, Gives, Grants, Hears, IsAllowed, OpensReceiver, OpensSender, Says, Sends, Takes, sender_now, In, Message, Other, pair, ready_phase, takes_in_stay, turn_of, NcpState, owner_of, pair_with, next_in, Peer, Request, HaveAddresses, message_on, Asked, Crossed, Moment, event_in, events_of, places, program, IsTimeline, crossings_of, coupled, clash, keeps, AText, AnRrp, AnRst, Sort, mail_below, sort_of, answer_calls, calls_by, commands_said, message_calls, next_calls, orders_heard, own_calls, owner_calls, parcel_calls, request_calls}
+use Rattle.world_keeps_streams.proofs.Common.{◌≡◌, ℕ, ◌==◌, Bool, true, false, ◌&&◌, if◌then◌else◌, List, [], ◌∷◌, ◌++◌, take, Option, Some, None, refl, sym, subst, ◌∙◌, Host, same_host, same_host-true, Command, Order, Legal, orders_of, desk_of, listens_on, is_busy, PairState, Parcel, command_gone, with_connections, is_ready, TurnState, Entry, Listener, Answered, AreAllowed, AsksBack, Closes, Gives, Grants, Hears, IsAllowed, OpensReceiver, OpensSender, Says, Sends, Takes, sender_now, In, Message, Other, pair, ready_phase, takes_in_stay, turn_of, NcpState, owner_of, pair_with, next_in, Peer, Request, HaveAddresses, message_on, Asked, Crossed, Moment, event_in, events_of, places, program, IsTimeline, crossings_of, coupled, clash, keeps, AText, AnRrp, AnRst, Sort, mail_below, sort_of, answer_calls, calls_by, commands_said, message_calls, next_calls, orders_heard, own_calls, owner_calls, parcel_calls, request_calls, both}
 use Rattle.interface.specs.Mailboxes as mail
 use Rattle.interface.specs.declared.crossing.Crossing.TheVariants as crossing
 use Rattle.ncp_control.specs.declared.command.Command.TheVariants as command
@@ -113,17 +113,12 @@ module _ (hosts : List Host) (addresses : HaveAddresses hosts) (a b : Host) wher
   quiet_if true cs n = n refl
   quiet_if false cs n = tt
 
-  both_true : (d e : Bool) → (d && e) ≡ true → (d ≡ true) × (e ≡ true)
-  both_true true true t = (refl, refl)
-  both_true true false t = absurd (cc)
-  both_true false e t = absurd (cc)
-
   left_quiet : (x : Moment) (moments : List Moment) → mail.IsRun hosts (crossings_of (x ∷ moments)) → IsTimeline hosts (x ∷ moments) → stay.stays a b (events_of moments) ≡ false → HearNoRts (calls_by a b x moments)
   left_quiet (Crossed (crossing.Out m)) moments run time left =
       quiet_if (same_host a m.flow.source) (next_calls b (places moments) (program a moments).listening (next_in (program a moments).peers)) (λ t. next_quiet b (places moments) (program a moments).listening (next_in (program a moments).peers))
   left_quiet (Crossed (crossing.In m)) moments run time left =
       quiet_if (same_host a m.flow.destination && same_host b m.flow.source) (message_calls b (places moments) m.flow.link.0 m.text (turn_of (program a moments) b))
-      (λ t. message_quiet b (places moments) m.flow.link.0 m.text (turn_of (program a moments) b) (λ r is. alone (both_true (same_host a m.flow.destination) (same_host b m.flow.source) t) r is)) where
+      (λ t. message_quiet b (places moments) m.flow.link.0 m.text (turn_of (program a moments) b) (λ r is. alone (both (same_host a m.flow.destination) (same_host b m.flow.source) t) r is)) where
         events : IsRun hosts (In m.flow.source m.flow.destination m.flow.link.0 (message_on m.flow.link.0 m.text) ∷ events_of moments)
         events = (coupled hosts addresses (Crossed (crossing.In m) ∷ moments) run time).run
 

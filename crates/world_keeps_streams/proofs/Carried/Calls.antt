@@ -1,5 +1,5 @@
 -- The lives of a host with one peer beside the calls of its program, and what comes of it for the host's book.
-use Rattle.world_keeps_streams.proofs.Common.{◌≡◌, inl, inr, ℕ, zero, suc, ◌<◌, ◌==◌, ◌||◌, Bool, true, false, if◌then◌else◌, List, [], ◌∷◌, ◌++◌, drop, length, slice_index_or, Some, refl, ap, sym, ◌∙◌, subst, eq-eqb, arith, eqb-true, Contains, Host, entry_at, Entry, AreAllowed, IsHistory, IsTelling, ends_after, gone_now, receiver_now, sender_now, holds_now, name_of, AreApart, is_among, numbers, Ask, Asks, Close, Mark, pair_with, Moment, event_in, events_of, program, AreRefusing, keeps, own_calls}
+use Rattle.world_keeps_streams.proofs.Common.{◌≡◌, inl, inr, ℕ, suc, ◌==◌, Bool, true, false, if◌then◌else◌, List, [], ◌∷◌, ◌++◌, drop, length, Some, refl, ap, sym, ◌∙◌, subst, eq-eqb, arith, eqb-true, Contains, Host, entry_at, Entry, AreAllowed, IsHistory, IsTelling, ends_after, gone_now, receiver_now, sender_now, holds_now, name_of, AreApart, is_among, numbers, Ask, Asks, Close, Mark, pair_with, Moment, event_in, events_of, program, AreRefusing, keeps, own_calls}
 use Rattle.host_keeps_streams.specs.Histories as calls
 use Rattle.host_keeps_streams.proofs.lemmas.{Holds}
 use Rattle.host_keeps_streams.specs.Names.{named}
@@ -10,7 +10,7 @@ use Rattle.world_keeps_streams.proofs.Deeds.Kinds.{deed_of}
 use Rattle.world_keeps_streams.proofs.Deeds.Law.{receiver_by}
 use Rattle.world_keeps_streams.proofs.Deeds.Sent.{sender_by}
 use Rattle.world_keeps_streams.proofs.Deeds.Told.{After}
-use Rattle.world_keeps_streams.proofs.Deeds.Ends.{Fits, call_does}
+use Rattle.world_keeps_streams.proofs.Deeds.Ends.{Fits, call_does, among_number}
 use Rattle.world_keeps_streams.proofs.Carried.Step.{AreOwned, Carry}
 use Rattle.world_keeps_streams.proofs.Carried.All.{carry_next}
 use Rattle.world_keeps_streams.proofs.Heard.Ends.{heard_ends}
@@ -42,14 +42,6 @@ asks_after k p [] w a = a
 asks_after k p (Ask q ∷ ms) w a = inr (asks_after k p ms w a)
 asks_after k p (Close ∷ ms) w a = asks_after k p ms w a
 
-among_number : (name : ℕ → ℕ → ℕ) (es : List Entry) (e : Entry) → Among e es → is_among (named name e) (numbers name es) ≡ true
-among_number name [] e there = absurd there
-among_number name (y ∷ ys) e (inl is) = rw (eq-eqb (named name y) (named name e) (ap (λ (z : Entry). named name z) is)) refl
-among_number name (y ∷ ys) e (inr there) = by (named name y == named name e) (among_number name ys e there) where
-  by : (v : Bool) → is_among (named name e) (numbers name ys) ≡ true → (v || is_among (named name e) (numbers name ys)) ≡ true
-  by true t = refl
-  by false t = t
-
 found_among : (name : ℕ → ℕ → ℕ) (es : List Entry) → AreApart (numbers name es) → (e : Entry) → Among e es → entry_at e.own e.foreign es ≡ Some e
 found_among name [] apart e there = absurd there
 found_among name (y ∷ ys) apart e (inl is) = subst (λ (z : Entry). entry_at z.own z.foreign (y ∷ ys) ≡ Some z) is (rw (eq-eqb y.own y.own refl, eq-eqb y.foreign y.foreign refl) refl)
@@ -76,13 +68,6 @@ call_next number tells a b cs m lives holds refusing fits old now c =
     (λ e there v has link i allowed may origin. heard_ends origin number tells b link (m ∷ cs) i allowed may e.own e.foreign e v (found_among (name_of number (gone_now b (m ∷ cs))) (ends_after b m) (holds_now number tells b link (m ∷ cs) i allowed).sound.apart e there) has)
 
 -- ---- elements of a list
-
-pub contains_among : {A : Type 0} (xs : List A) (x : A) → Contains xs x → Among x xs
-contains_among {A} xs x h = from xs h.0 h.1 h.2 where
-  from : (xs : List A) (i : ℕ) → i < length xs → slice_index_or xs i x ≡ x → Among x xs
-  from [] i less is = absurd (omega (arith, less))
-  from (y ∷ ys) zero less is = inl is
-  from (y ∷ ys) (suc i) less is = inr (from ys i (omega (arith, less)) is)
 
 pub among_contains : {A : Type 0} (xs : List A) (x : A) → Among x xs → Contains xs x
 among_contains [] x h = absurd h

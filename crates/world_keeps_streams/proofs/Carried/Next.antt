@@ -11,10 +11,7 @@ use Rattle.world_keeps_streams.proofs.Deeds.Ends.{Does, IsAt}
 use Rattle.world_keeps_streams.proofs.Deeds.Told.{After}
 use Rattle.world_keeps_streams.proofs.Carried.Streams.{EndOf, HasSent, HasTaken, IsSent, IsTaken, among_there, end_opened, end_own, end_there, gone_more, gone_one, gone_same, sent_step, taken_step, the_end}
 use Rattle.world_keeps_streams.proofs.Carried.Step.{AreOwned, CarriedOn, Carry, by_goes, by_over, by_same, by_stamp}
-
-and_off : (b : Bool) → (b && false) ≡ false
-and_off true = refl
-and_off false = refl
+use Rattle.world_keeps_streams.proofs.Facts.{and_off}
 
 module _ (told next_told : ℕ → ℕ → ℕ → ℕ → Type 0) (grows : (own foreign g v : ℕ) → told own foreign g v → next_told own foreign g v) (number : ℕ → ℕ → ℕ → ℕ) (tells : IsTelling number) (a b : Host) (gone : ℕ → ℕ → ℕ) (es : List Entry) (r : ℕ → Receiver) (s : ℕ → Sender) where
   -- ---- where a life is hit, the law is

@@ -82,7 +82,7 @@ drop_map f (suc n) (x ∷ xs) new l = drop_map f n xs new (omega (arith, l))
 pub after_dropped : (a b : Host) (d : Deed) (n : ℕ) (lives : List Life) → n ≤ length lives → drop n (After a b d lives) ≡ After a b d (drop n lives)
 after_dropped a b d n lives l = drop_map (λ x. life_by a b d x) n lives (new_by a b d) l
 
-where_length : (test : Life → Bool) (f : Life → Life) (ls : List Life) → length (where_it test f ls) ≡ length ls
+pub where_length : (test : Life → Bool) (f : Life → Life) (ls : List Life) → length (where_it test f ls) ≡ length ls
 where_length test f [] = refl
 where_length test f (x ∷ xs) = ap (λ (n : ℕ). suc n) (where_length test f xs)
 

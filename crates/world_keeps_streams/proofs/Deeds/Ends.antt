@@ -15,6 +15,7 @@ use Rattle.world_keeps_lives.proofs.lemmas.{IsLess, IsRefusing, called_less, clo
 use Rattle.world_keeps_streams.proofs.Deeds.Effects as deeds
 use Rattle.world_keeps_streams.proofs.Deeds.Effects.{Among, Becomes, Comes, Deed, From, HasLink, IsLinked, IsNew, OpensAs, Stays, among_filter, changed_comes, changed_stays, filtered_stays, found_among, joined_comes, mapped_stays, stays_comes, stays_same, stays_then}
 use Rattle.world_keeps_streams.proofs.Deeds.Kinds.{arrives, arrives_if, closings, deed_of, hears, matches, opens, opens_by, returns, says, sweeps}
+use Rattle.world_keeps_streams.proofs.Facts.{and_off}
 
 -- ---- at which ends
 
@@ -153,7 +154,7 @@ module _ (x y : ℕ) (change : Entry → Entry) (es : List Entry) (e : Entry) (f
 
 -- ---- ends that go
 
-among_number : (name : ℕ → ℕ → ℕ) (es : List Entry) (e : Entry) → Among e es → is_among (named name e) (numbers name es) ≡ true
+pub among_number : (name : ℕ → ℕ → ℕ) (es : List Entry) (e : Entry) → Among e es → is_among (named name e) (numbers name es) ≡ true
 among_number name [] e h = absurd h
 among_number name (x ∷ xs) e (inl s) = let t : (named name x == named name e) ≡ true = eq-eqb (named name x) (named name e) (ap (λ (y : Entry). named name y) s) in rw t refl
 among_number name (x ∷ xs) e (inr s) = by (named name x == named name e) (among_number name xs e s) where
@@ -205,10 +206,6 @@ Fits (OpensSender own foreign size) q = is_receive_socket own ≡ false
 Fits (Grants socket m n e) q = (find (is_mine_on socket) q.entries ≡ Some e) × (is_open e ≡ true)
 Fits c q = Unit {0}
 
-and_none : (b : Bool) → (b && false) ≡ false
-and_none true = refl
-and_none false = refl
-
 module _ (name : ℕ → ℕ → ℕ) (p : Host) (q : PairState) (listening : List Listener) (refusing : AreRefusing q.entries) (apart : AreApart (numbers name q.entries)) where
   join_refused : (x y stamp : ℕ) → Does deeds.Nothing q.entries (q.entries ++ refused_end x y stamp ∷ [])
   join_refused x y stamp = (joined_comes deeds.Nothing (refused_end x y stamp) q.entries (record { unasked = refl; linked = λ m r. absurd (let t : false ≡ true = m in cc) }), tt)
@@ -217,7 +214,7 @@ module _ (name : ℕ → ℕ → ℕ) (p : Host) (q : PairState) (listening : Li
   join_new e n = (joined_comes deeds.Nothing e q.entries n, tt)
 
   lacks_partner : (e : Entry) → is_some e.partner ≡ false → has_opened e ≡ false
-  lacks_partner e f = ap (λ (b : Bool). is_some e.asked && b) f ∙ and_none (is_some e.asked)
+  lacks_partner e f = ap (λ (b : Bool). is_some e.asked && b) f ∙ and_off (is_some e.asked)
 
   matched_does : (x y : ℕ) (c : Command) (e : Entry) (change : Entry → Entry) → entry_at x y q.entries ≡ Some e → (change e).own ≡ e.own → (change e).foreign ≡ e.foreign → (change e).mine ≡ e.mine → IsRefusing (change e) → (IsLinked e → IsLinked (change e))
       → Does (matches x y change q.entries (Some e)) q.entries (commands.matched_once p x y c e change (desk_of q listening)).entries

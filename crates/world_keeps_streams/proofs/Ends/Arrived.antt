@@ -16,7 +16,7 @@ use Rattle.world_keeps_lives.proofs.lemmas.{end_link, named_there}
 use Rattle.world_keeps_streams.specs.Answered as moments
 use Rattle.world_keeps_streams.proofs.Books.All.{all_given}
 use Rattle.world_keeps_streams.proofs.Books.Answered.{answered}
-use Rattle.world_keeps_streams.proofs.Books.Arrives.{rest_lawful, unlike}
+use Rattle.world_keeps_streams.proofs.Books.Arrives.{rest_lawful}
 use Rattle.world_keeps_streams.proofs.Books.Books.{one_receiver}
 use Rattle.world_keeps_streams.proofs.Books.Came.{match_named, partner_named as request_named}
 use Rattle.world_keeps_streams.proofs.Books.CameIn.{came_as}
@@ -40,6 +40,7 @@ use Rattle.world_keeps_streams.proofs.Lives.Fates.{beside_of, beside_over}
 use Rattle.world_keeps_streams.proofs.Lives.Lists.{Grown, IsOf, Named, contains, grown, is_of, named_itself, of_drop, of_left, of_map, of_parts}
 use Rattle.world_keeps_streams.proofs.Requests.Names.{request_grows}
 use Rattle.world_keeps_streams.proofs.Requests.Sides.{Heard, Lawful, Own, lives_in}
+use Rattle.world_keeps_streams.proofs.Facts.{unlike}
 
 -- ---- in the law of streams: a receiver that hasn't closed first has taken all that came
 
@@ -592,7 +593,7 @@ record Parted (ms : List Moment) (c : Crossing) (older : List Crossing) : Type 0
   is : ms ≡ later ++ Crossed c ∷ earlier
   below : crossings_of earlier ≡ older
 
-same_head : (c d : Crossing) (xs ys : List Crossing) → c ∷ xs ≡ d ∷ ys → (c ≡ d) × (xs ≡ ys)
+pub same_head : (c d : Crossing) (xs ys : List Crossing) → c ∷ xs ≡ d ∷ ys → (c ≡ d) × (xs ≡ ys)
 same_head c d xs ys e = ((let heads : c ≡ d = cc in heads), (let tails : xs ≡ ys = cc in tails))
 
 parted : (ms : List Moment) (newer older : List Crossing) (c : Crossing) → crossings_of ms ≡ newer ++ c ∷ older

@@ -20,7 +20,6 @@ use Rattle.reset_law.specs.Stays as stay
 use Rattle.sockets.specs.declared.request.Request.TheVariants as request
 use Rattle.world_keeps_pairing.specs.Steps.{keeps}
 use Rattle.world_keeps_streams.specs.Calls.{called}
-use Rattle.world_keeps_streams.proofs.Books.Given.{off}
 use Rattle.world_keeps_streams.proofs.Books.Run.{below}
 use Rattle.world_keeps_streams.proofs.Calls.Chain.{Chained, chain, idle, takes_by}
 use Rattle.world_keeps_streams.proofs.Calls.Leads.{is_reset}
@@ -31,6 +30,7 @@ use Rattle.world_keeps_streams.proofs.Requests.Sides.{Lawful, coupled_in}
 use Rattle.world_keeps_streams.proofs.Steps.GoesOut.{ready_phase}
 use Rattle.world_keeps_streams.proofs.Steps.Streams.{all_allowed}
 use Rattle.world_keeps_streams.proofs.Ends.Holds.{AllOn, Has, has_calls, holds, on_if, on_message, on_next, on_request}
+use Rattle.world_keeps_streams.proofs.Facts.{no_zero}
 
 -- ---- one moment, by the law of resets
 
@@ -103,7 +103,7 @@ module _ (hosts : List Host) (a b : Host) (l : ℕ) (off_zero : (l == 0) ≡ fal
       (ends_now b cs)) (sym is) (has_calls l b (suc zero) (calls_by a b y ms) (own_calls a b ms)
       (subst (λ (cs : List calls.Moment). IsHistory b cs) is now.0) (subst
       (λ (cs : List calls.Moment). AreAllowed numbered b (suc zero) cs) is
-      (all_allowed hosts lawful.0 (suc zero) (off zero) a b (y ∷ ms) lawful.1 lawful.2)) on
+      (all_allowed hosts lawful.0 (suc zero) (no_zero zero) a b (y ∷ ms) lawful.1 lawful.2)) on
       (subst (λ (es : List Entry). Has (holds l) es) (sym was.1) h))) where
         lower : Lawful hosts ms
         lower = below hosts y ms lawful

@@ -10,10 +10,7 @@ use Rattle.world_keeps_streams.proofs.Ends.Fails.{asked_here, down_here, off_hos
 use Rattle.world_keeps_streams.proofs.Ends.Kinds.{Kind, away, beside, out_here, pace}
 use Rattle.world_keeps_streams.proofs.Ends.Ties.{end_in}
 use Rattle.world_keeps_streams.proofs.Requests.Sides.{Lawful, coupled_in}
-
-and_off : (a b c : Bool) → b ≡ false → (a && b && c) ≡ false
-and_off true b c e = ap (λ (v : Bool). v && c) e
-and_off false b c e = refl
+use Rattle.world_keeps_streams.proofs.Facts.{middle_off}
 
 first_off : (a b c : Bool) → a ≡ false → (a && b && c) ≡ false
 first_off a b c e = ap (λ (v : Bool). v && b && c) e
@@ -36,7 +33,7 @@ module _ (hosts : List Host) (x : Life) where
     by true false e f =
         beside (key_of x) (Crossed (crossing.Out m)) ms next.peer.host (offer_about (program m.flow.source ms) (places ms) next.peer next.parcel next.next)
         (λ same. off_host x.peer m.flow.destination f (ap (λ (y : HostMessage). y.flow.destination) next.message ∙ same))
-        (same_pace true (and_off (same_host x.host m.flow.source) (same_host x.peer m.flow.destination)
+        (same_pace true (middle_off (same_host x.host m.flow.source) (same_host x.peer m.flow.destination)
         (0 == m.flow.link.0) f))
         (ap (λ (v : Bool). end_in (at x.socket x.foreign (pair_with x.peer (if v then (offered (program x.host ms) (places ms)).0 else program x.host ms).peers).entries)) e
         ∙ ap (λ (q : PairState). end_in (at x.socket x.foreign q.entries)) (offer_leaves (program x.host ms) (places ms) (own e).peer (own e).parcel x.peer (own e).next (ap (λ (y : HostMessage). same_host x.peer y.flow.destination) (sym (own e).message) ∙ f))) (λ d. d) where
@@ -69,7 +66,7 @@ module _ (hosts : List Host) (x : Life) where
         ∙ ap (λ (q : PairState). end_in (at x.socket x.foreign q.entries)) (message_leaves (program x.host ms) m (places ms) x.peer f)) (λ d. d)
     by false w e f =
         away (key_of x) (Crossed (crossing.In m)) ms (off_host x.host m.flow.destination e)
-        (same_pace (and_off (same_host x.peer m.flow.source) (same_host x.host m.flow.destination)
+        (same_pace (middle_off (same_host x.peer m.flow.source) (same_host x.host m.flow.destination)
         (0 == m.flow.link.0) e))
         (ap (λ (v : Bool). end_in (at x.socket x.foreign (pair_with x.peer (if v then (accepted (program x.host ms) (inbound.Message m) (places ms)).0 else program x.host ms).peers).entries)) e) (λ d. d)
 

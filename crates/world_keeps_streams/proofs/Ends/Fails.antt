@@ -22,10 +22,7 @@ use Rattle.world_keeps_streams.proofs.Lives.Fates.{TellsEnd, TellsOpening, Tells
 use Rattle.world_keeps_streams.proofs.Lives.LeavesEnds.{answer_quiet, quiet_tells, request_quiet}
 use Rattle.world_keeps_streams.proofs.Requests.Sides.{Lawful, coupled_in}
 use Rattle.world_keeps_streams.proofs.Ends.Kinds.{Kind, ItDrops, ItIdles, ItStays, ItStops, away, end_of, openings_some, pace}
-
-ready_is : (ph : Phase) → is_ready ph ≡ true → ph ≡ phase.Ready
-ready_is phase.Ready e = refl
-ready_is ph e = absurd (let no : false ≡ true = e in cc)
+use Rattle.world_keeps_streams.proofs.Steps.GoesOut.{ready_phase}
 
 if_ready_end : (v : Bool) (e : End) → v ≡ true → (if v then e else nothing) ≡ e
 if_ready_end true e t = refl
@@ -132,7 +129,7 @@ module _ (hosts : List Host) (f : Flow) (ms : List Moment) (socket foreign own p
     before = was hosts kind f ms l socket foreign own partner
 
     law_ready : (pair f.source f.destination (events_of ms)).phase ≡ phase.Ready
-    law_ready = before.phase ∙ ready_is (pair_with f.destination (program f.source ms).peers).phase ready
+    law_ready = before.phase ∙ ready_phase (pair_with f.destination (program f.source ms).peers).phase ready
 
     owed_is : (pair_with f.destination (program f.source ms).peers).owed ≡ (course_in that ms).owes
     owed_is = sym (owes_is hosts that ms (lower_told hosts kind f ms l socket foreign own partner))
@@ -146,7 +143,7 @@ module _ (hosts : List Host) (f : Flow) (ms : List Moment) (socket foreign own p
     by true e =
         stays_told kind (told_ends hosts kind f ms l socket foreign own partner
         ∙ if_ready_end _ (end_of that ms) (ap is_ready (phase_then true e))) (ap pace (cut_when kind true e fail))
-        (owed_notices (program f.source ms) kind f (places ms) fail (ap (λ (ph : Phase). is_gone ph || not (pair_with f.destination (program f.source ms).peers).owed) (ready_is (pair_with f.destination (program f.source ms).peers).phase ready) ∙ ap not (owed_is ∙ e)))
+        (owed_notices (program f.source ms) kind f (places ms) fail (ap (λ (ph : Phase). is_gone ph || not (pair_with f.destination (program f.source ms).peers).owed) (ready_phase (pair_with f.destination (program f.source ms).peers).phase ready) ∙ ap not (owed_is ∙ e)))
     by false e = ItDrops (record {
       stage = ap (λ (j : Course). j.stage) (cut_when kind false e fail);
       ends = told_ends hosts kind f ms l socket foreign own partner ∙ if_unready_end _ (end_of that ms) (ap is_ready (phase_then false e));
@@ -160,7 +157,7 @@ module _ (hosts : List Host) (f : Flow) (ms : List Moment) (socket foreign own p
       stays_told answer.Rfnm (told_ends hosts answer.Rfnm f ms l socket foreign own partner ∙ if_ready_end _ (end_of that ms) (ap is_ready (sym (phase_is hosts answer.Rfnm f ms l socket foreign own partner) ∙ ap (rfnm_phase f.link.0) law_ready) ∙ rfnm_ready f.link.0)) refl
       (rfnm_notices (program f.source ms) f (places ms)) where
         law_ready : (pair f.source f.destination (events_of ms)).phase ≡ phase.Ready
-        law_ready = (was hosts answer.Rfnm f ms l socket foreign own partner).phase ∙ ready_is (pair_with f.destination (program f.source ms).peers).phase ready
+        law_ready = (was hosts answer.Rfnm f ms l socket foreign own partner).phase ∙ ready_phase (pair_with f.destination (program f.source ms).peers).phase ready
   ready_kind kind l ready = failed_kind kind l refl refl ready (course_in that ms).owes refl
 
   pub told_here : (kind : Answer) (l : Lawful hosts (Crossed (crossing.Answer kind f) ∷ ms)) → Kind that (Crossed (crossing.Answer kind f)) ms

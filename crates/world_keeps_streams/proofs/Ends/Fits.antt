@@ -1,5 +1,6 @@
 -- At all moments each life of the book has a fate that its stage leaves. One that continues is as far as its end is by the law of pairing.
-use Rattle.world_keeps_streams.proofs.Common.{◌≡◌, ◌⊎◌, inl, inr, ℕ, ◌==◌, ◌&&◌, ◌||◌, not, Bool, true, false, if◌then◌else◌, List, [], ◌∷◌, Option, Some, None, is_some, refl, ap, sym, subst, ◌∙◌, arith, eqb-true, Contains, Seen, Host, Crossing, both, has_cls, is_called_off, is_due, is_ending, is_mine_on, is_sent, Closing, Entry, Notice, End, Ask, Close, Mark, came_from, standing, all_lives_gone, all_lives_taken, with_openings, all_gone, plain, pair_with, Asking, Cause, Course, Dropped, Going, Over, Stage, Stopped, cut, own_asked, own_closed, partner_asked, partner_closed, IsBeside, Called, Fate, Kept, IsLawful, Crossed, Moment, places, program, contacts_of, crossings_of, WorldState, host_in, notices_by, kept_fated, HasOpenEnd, live, unopened, book_run}
+use Rattle.world_keeps_streams.proofs.Common.{◌≡◌, ◌⊎◌, inl, inr, ℕ, ◌==◌, ◌&&◌, not, Bool, true, false, if◌then◌else◌, List, [], ◌∷◌, Option, Some, None, is_some, refl, ap, sym, subst, ◌∙◌, arith, eqb-true, Contains, Seen, Host, Crossing, both, has_cls, is_called_off, is_due, is_ending, is_mine_on, is_sent, Closing, Entry, Notice, End, Ask, Close, Mark, came_from, standing, all_lives_gone, all_lives_taken, with_openings, all_gone, plain, pair_with, Asking, Cause, Course, Dropped, Going, Over, Stage, Stopped, cut, own_asked, own_closed, partner_asked, partner_closed, IsBeside, Called, Fate, Kept, IsLawful, Crossed, Moment, places, program, contacts_of, crossings_of, WorldState, host_in, notices_by, kept_fated, HasOpenEnd, live, unopened, book_run, or_from}
+use Rattle.std.proofs.lemmas.Bool.{or_left, or_right}
 use Rattle.promise.specs.Ends.{Leaves}
 use Rattle.interface.specs.declared.crossing.Crossing.TheVariants as crossing
 use Rattle.host_pairs.specs.declared.entry.Closing.TheVariants as closing
@@ -17,17 +18,18 @@ use Rattle.world_keeps_streams.proofs.Books.Run.{below}
 use Rattle.world_keeps_streams.proofs.Deeds.Effects.{Among}
 use Rattle.world_keeps_streams.proofs.Ends.Courses.{course_in, course_key, course_same, key_named, key_of}
 use Rattle.world_keeps_streams.proofs.Ends.Every.{kind_here}
-use Rattle.world_keeps_streams.proofs.Ends.Halves.{asked_below, begun_stays, both_false, half_own, half_partner, over_stays}
+use Rattle.world_keeps_streams.proofs.Ends.Halves.{asked_below, begun_stays, half_own, half_partner, over_stays}
 use Rattle.world_keeps_streams.proofs.Ends.Kinds.{Hears, ItDrops, ItHears, ItIdles, ItSays, ItStays, ItStops, Kind, Pace, Says, among_none, end_of, openings_some, stage_of}
 use Rattle.world_keeps_streams.proofs.Ends.MarkedEnds.{HearsOn, HearsOver, SaysOn, SaysOver, asked_heard, asks_here, begin_hears, begin_hears_early, begin_says, begin_says_early, hears_here, hears_lock, none_hears, none_says, partner_said, says_lock}
 use Rattle.world_keeps_streams.proofs.Ends.Marks.{is_asking, never, none_some, own_early, own_marks, partner_early, partner_marks}
 use Rattle.world_keeps_streams.proofs.Ends.Opens.{one_end, undue_asked, undue_heard, unshut_end}
 use Rattle.world_keeps_streams.proofs.Ends.Ties.{IsGoing, entry_is, going, itself, law_end}
 use Rattle.world_keeps_streams.proofs.Ends.Unshut.{Unshut, is_shut, unshut_next}
-use Rattle.world_keeps_streams.proofs.Lives.Fates.{Came, How, IsBegun, IsCls, IsDown, Moved, TellsEnd, TellsOpening, TellsReset, beside_of, beside_over, came, ends_named, opening_named, resets_named}
+use Rattle.world_keeps_streams.proofs.Lives.Fates.{Came, How, IsBegun, IsCls, IsDown, Moved, TellsEnd, TellsOpening, TellsReset, beside_of, beside_over, came, ends_named, opening_named, resets_named, cls_over}
 use Rattle.world_keeps_streams.proofs.Lives.Lists.{Named, contains}
 use Rattle.world_keeps_streams.proofs.Lives.Opened.{contains_among, no_openings}
 use Rattle.world_keeps_streams.proofs.Requests.Sides.{Lawful, coupled_in}
+use Rattle.world_keeps_streams.proofs.Books.Began.{sent_cls}
 
 -- ---- stages and fates
 
@@ -78,23 +80,6 @@ goes_leaves o p fate.Stopped goes = never goes
 cls_leaves : (b : Bool) (n : ℕ) (f : Fate) → IsCls f → Leaves (unordered (Over (Closed b) n)) f
 cls_leaves b n f (inl e) = subst (λ (g : Fate). Leaves (Over (Closed false) n) g) (sym e) tt
 cls_leaves b n f (inr e) = subst (λ (g : Fate). Leaves (Over (Closed false) n) g) (sym e) refl
-
-cls_over : (f : Fate) → IsCls f → is_over f ≡ true
-cls_over f (inl e) = ap is_over e
-cls_over f (inr e) = ap is_over e
-
-sent_ends : (c : Closing) → is_sent c ≡ true → has_cls c ≡ true
-sent_ends closing.Sent e = refl
-sent_ends closing.No e = never (sym e)
-sent_ends closing.Due e = never (sym e)
-sent_ends closing.Queued e = never (sym e)
-
-or_first : (v w : Bool) → v ≡ true → (v || w) ≡ true
-or_first v w e = ap (λ (u : Bool). u || w) e
-
-or_second : (v w : Bool) → w ≡ true → (v || w) ≡ true
-or_second true w e = refl
-or_second false w e = e
 
 -- ---- a life's fate and its end
 
@@ -268,7 +253,7 @@ module _ (k : Life) (y : Moment) (ms : List Moment) (f : Fate) where
                     (s.may (places ms) (omega arith)) asked_now
                     ∙ ap (λ (e : End). Going e.gone e.taken) (sym s.ends),
                 s.early
-                    ∙ both_false (course_in k ms).early (own_early k (places ms) s.marks (stage_of k ms)) half.1
+                    ∙ or_from (course_in k ms).early (own_early k (places ms) s.marks (stage_of k ms)) half.1
                     (ap (λ (t : Stage). own_early k (places ms) s.marks t) half.0
                     ∙ begin_says_early k (places ms) s.marks (end_of k ms) (places ms) k.own_stamp at clear.1 e
                     (s.may (places ms) (omega arith)) asked_now),
@@ -305,7 +290,7 @@ module _ (k : Life) (y : Moment) (ms : List Moment) (f : Fate) where
                 ∙ begin_hears k (places ms) s.marks (end_of k ms) k.partner_stamp s.here at clear.0 e s.fit partner_now
                 ∙ ap (λ (e : End). Going e.gone e.taken) (sym s.ends),
             s.early
-                ∙ both_false (course_in k ms).early (partner_early k (places ms) s.marks (stage_of k ms)) half.1
+                ∙ or_from (course_in k ms).early (partner_early k (places ms) s.marks (stage_of k ms)) half.1
                 (ap (λ (t : Stage). partner_early k (places ms) s.marks t) half.0
                 ∙ begin_hears_early k (places ms) s.marks (end_of k ms) k.partner_stamp at clear.0 e s.fit partner_now),
             inr e,
@@ -432,11 +417,11 @@ module _ (hosts : List Host) where
     clear_before = (by_gone (end_of (key_of x) ms).gone refl, by_taken (end_of (key_of x) ms).taken refl) where
       by_gone : (v : Bool) → (end_of (key_of x) ms).gone ≡ v → (end_of (key_of x) ms).gone ≡ false
       by_gone false e = e
-      by_gone true e = absurd (not_shut (λ d there own foreign. or_first (has_cls d.closing) d.partner_closed (sent_ends d.closing (ap (λ (z : End). z.gone) (sym (ends_as d there own foreign)) ∙ e))))
+      by_gone true e = absurd (not_shut (λ d there own foreign. or_left (has_cls d.closing) d.partner_closed (sent_cls d.closing (ap (λ (z : End). z.gone) (sym (ends_as d there own foreign)) ∙ e))))
 
       by_taken : (v : Bool) → (end_of (key_of x) ms).taken ≡ v → (end_of (key_of x) ms).taken ≡ false
       by_taken false e = e
-      by_taken true e = absurd (not_shut (λ d there own foreign. or_second (has_cls d.closing) d.partner_closed (ap (λ (z : End). z.taken) (sym (ends_as d there own foreign)) ∙ e)))
+      by_taken true e = absurd (not_shut (λ d there own foreign. or_right (has_cls d.closing) d.partner_closed (ap (λ (z : End). z.taken) (sym (ends_as d there own foreign)) ∙ e)))
 
     -- nor has a user closed it
     unending : (e : Entry) → Among e (pair_with x.peer (program x.host ms).peers).entries → e.own ≡ x.socket

@@ -1,6 +1,6 @@
 -- Before a life begins: while only one of its requests is there, its stage is that of this one, and no CLS, reset or
 -- stop has come since. And one that has begun, or is over, stays so.
-use Rattle.world_keeps_streams.proofs.Common.{◌≡◌, inl, inr, ℕ, ◌+◌, ◌<◌, ◌≤◌, ◌==◌, ◌&&◌, ◌||◌, not, Bool, true, false, if◌then◌else◌, List, [], ◌∷◌, Some, refl, ap, sym, subst, ◌∙◌, arith, eqb-true, Host, same_host, Legal, Order, Wrong, orders_of, Command, both, End, Mark, Asked, Crossed, Moment, places, Asking, Cause, Course, Dropped, Going, Over, Stage, Stopped, all_gone, cut, each, ended_by, fails, heard, own_asked, own_closed, own_step, partner_asked, partner_closed, partner_step, said, control_flow}
+use Rattle.world_keeps_streams.proofs.Common.{◌≡◌, inl, inr, ℕ, ◌+◌, ◌<◌, ◌≤◌, ◌==◌, ◌&&◌, ◌||◌, not, Bool, true, false, if◌then◌else◌, List, [], ◌∷◌, Some, refl, ap, sym, subst, ◌∙◌, arith, eqb-true, Host, same_host, Legal, Order, Wrong, orders_of, Command, both, End, Mark, Asked, Crossed, Moment, places, Asking, Cause, Course, Dropped, Going, Over, Stage, Stopped, all_gone, cut, each, ended_by, fails, heard, own_asked, own_closed, own_step, partner_asked, partner_closed, partner_step, said, control_flow, or_from}
 use Rattle.interface.specs.Mailboxes.{same_flow}
 use Rattle.interface.specs.declared.crossing.Crossing.TheVariants as crossing
 use Rattle.ncp_control.specs.declared.command.Command.TheVariants as command
@@ -102,9 +102,6 @@ over_stays x y ms c n is =
 
 -- ---- and what has begun was early if it was so when it began
 
-pub both_false : (v w : Bool) → v ≡ false → w ≡ false → (v || w) ≡ false
-both_false v w e f = ap (λ (u : Bool). u || w) e ∙ f
-
 begun_cut : (c : Cause) (place : ℕ) (s : Stage) → is_asking s ≡ false → is_asking (cut c place s) ≡ false
 begun_cut c place (Asking o p) g = g
 begun_cut c place (Going o p) g = refl
@@ -123,17 +120,17 @@ begun_stays x y ms begun early = (moved_keeps x (places ms) Begun closed y (cour
     own_close =
         λ k b. (
           begun_own_closed x (places ms) k.stage b.0,
-          both_false k.early (is_half k.stage) b.1
+          or_from k.early (is_half k.stage) b.1
               (not_half k.stage b.0),
         );
     partner_close =
         λ k b. (
           begun_partner_closed x (places ms) k.stage b.0,
-          both_false k.early (is_half k.stage) b.1
+          or_from k.early (is_half k.stage) b.1
               (not_half k.stage b.0),
         );
     cuts =
-        λ c k b. (begun_cut c (places ms) k.stage b.0, both_false k.early (is_half k.stage) b.1 (not_half k.stage b.0));
+        λ c k b. (begun_cut c (places ms) k.stage b.0, or_from k.early (is_half k.stage) b.1 (not_half k.stage b.0));
     owed = λ v k b. b;
   }
 
@@ -206,7 +203,7 @@ module _ (x : Life) where
       (let n : places ms ≤ places (y ∷ ms) = places_next y ms in omega (arith, n, partner))) where
         ends : (change : Stage → Stage) → change (Asking false false) ≡ Asking false false → (k : Course) → Unasked k
             → Unasked (ended_by change k)
-        ends change same k u = (ap change u.0 ∙ same, both_false k.early (is_half k.stage) u.1 (ap is_half u.0))
+        ends change same k u = (ap change u.0 ∙ same, or_from k.early (is_half k.stage) u.1 (ap is_half u.0))
 
         closed : 1 + places ms ≤ x.own_stamp → 1 + places ms ≤ x.partner_stamp → Closed x (places ms) Unasked
         closed own partner = record {
@@ -303,7 +300,7 @@ module _ (x : Life) (hosts : List Host) (kind : (y : Moment) (ms : List Moment) 
       → Half r ms → own_marks x (places ms) marks r ≡ s → own_early x (places ms) marks r ≡ false → Half s (y ∷ ms)
   said_half r s y ms marks stage early h now on = (
     stage ∙ ap (λ (t : Stage). own_marks x (places ms) marks t) h.0 ∙ now,
-    early ∙ both_false (course_in x ms).early (own_early x (places ms) marks (stage_of x ms)) h.1
+    early ∙ or_from (course_in x ms).early (own_early x (places ms) marks (stage_of x ms)) h.1
         (ap (λ (t : Stage). own_early x (places ms) marks t) h.0 ∙ on),
   )
 
@@ -314,7 +311,7 @@ module _ (x : Life) (hosts : List Host) (kind : (y : Moment) (ms : List Moment) 
       → Half s (y ∷ ms)
   heard_half r s y ms marks stage early h now on = (
     stage ∙ ap (λ (t : Stage). partner_marks x (places ms) marks t) h.0 ∙ now,
-    early ∙ both_false (course_in x ms).early (partner_early x (places ms) marks (stage_of x ms)) h.1
+    early ∙ or_from (course_in x ms).early (partner_early x (places ms) marks (stage_of x ms)) h.1
         (ap (λ (t : Stage). partner_early x (places ms) marks t) h.0 ∙ on),
   )
 

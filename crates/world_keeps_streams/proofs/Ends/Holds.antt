@@ -14,9 +14,9 @@ use Rattle.stream_law.specs.Senders.{Sender}
 use Rattle.host_pairs.specs.Parcels as parcel
 use Rattle.sockets.specs.declared.request.Request.TheVariants as request
 use Rattle.world_keeps_streams.specs.Calls.{called}
-use Rattle.world_keeps_streams.proofs.Books.Given.{off}
 use Rattle.world_keeps_streams.proofs.Deeds.Effects.{Among, among_kept, among_mapped}
 use Rattle.world_keeps_streams.proofs.Ends.Marks.{never}
+use Rattle.world_keeps_streams.proofs.Facts.{clash, no_zero}
 
 -- ---- lists
 
@@ -29,7 +29,7 @@ has_changed : (w test : Entry → Bool) (change : Entry → Entry) (es : List En
     → Has w (changed_first test change es)
 has_changed w test change [] k h = absurd h.1
 has_changed w test change (x ∷ xs) k h =
-    by (test x) refl h.1 (λ off i. has_changed w test change xs (λ y f. k y (rw off f)) (h.0, i, h.2)) where
+    by (test x) refl h.1 (λ no_zero i. has_changed w test change xs (λ y f. k y (rw no_zero f)) (h.0, i, h.2)) where
       here : (x ≡ h.0) → w x ≡ true
       here same = subst (λ (y : Entry). w y ≡ true) (sym same) h.2
 
@@ -74,14 +74,11 @@ holds_parts l e h =
     let r : (is_some e.asked ≡ true) × (is_some e.partner ≡ true) = both (is_some e.asked) (is_some e.partner) q.1 in
     record { sends = q.0; asked = r.0; partner = r.1; live = not_is (has_cls e.closing) p.1 }
 
-clash : {A : Type 0} (v : Bool) → v ≡ true → v ≡ false → A
-clash v e f = never (sym e ∙ f)
-
 module _ (l : ℕ) where
   -- an answer waited for on the link: it doesn't close now
   undrained : (busy : List ℕ) (e : Entry) → is_busy busy l ≡ true → sends_on l e ≡ true → must_close busy e ≡ false
   undrained busy e on sends =
-      off (is_due e.closing) (is_receiving e) (length e.bits == 0) (is_answered busy e.link)
+      no_zero (is_due e.closing) (is_receiving e) (length e.bits == 0) (is_answered busy e.link)
       (not_is (is_receiving e) parts.0) (waits e.link parts.1) where
         parts : (not (is_receiving e) ≡ true) × (is_link l e.link ≡ true)
         parts = both (not (is_receiving e)) (is_link l e.link) sends
@@ -90,11 +87,11 @@ module _ (l : ℕ) where
         waits None t = never (sym t)
         waits (Some k) t = ap (λ (n : ℕ). not (is_busy busy n)) (eqb-true k l t) ∙ ap not on
 
-        off : (d r z a : Bool) → r ≡ false → a ≡ false → (d && (r || (z && a))) ≡ false
-        off true true z a e f = e
-        off true false true a e f = f
-        off true false false a e f = refl
-        off false r z a e f = refl
+        no_zero : (d r z a : Bool) → r ≡ false → a ≡ false → (d && (r || (z && a))) ≡ false
+        no_zero true true z a e f = e
+        no_zero true false true a e f = f
+        no_zero true false false a e f = refl
+        no_zero false r z a e f = refl
 
   has_settled : (busy : List ℕ) (d : DeskState) → is_busy busy l ≡ true → Has (holds l) d.entries
       → Has (holds l) (settled busy d).entries
@@ -102,8 +99,8 @@ module _ (l : ℕ) where
       has_mapped (holds l) (λ e. closed_when (must_close busy e) e) d.entries
       (λ e t. when (must_close busy e) e (undrained busy e on (holds_parts l e t).sends) t) h where
         when : (v : Bool) (e : Entry) → v ≡ false → holds l e ≡ true → holds l (closed_when v e) ≡ true
-        when true e off t = never off
-        when false e off t = t
+        when true e no_zero t = never no_zero
+        when false e no_zero t = t
 
   unsent : (c : Closing) → has_cls c ≡ false → is_sent c ≡ false
   unsent closing.Sent e = never e

@@ -9,6 +9,7 @@ use Rattle.host_pairs.specs.Entries.{is_drained, is_over}
 use Rattle.host_pairs.specs.declared.entry.Closing.TheVariants as closing
 use Rattle.host_pairs.specs.declared.notice.Notice.TheVariants as notice
 use Rattle.world_keeps_streams.proofs.Deeds.Effects.{Among, Changed, among_changed, among_either, among_filter, among_map, found_among}
+use Rattle.world_keeps_streams.proofs.Facts.{clash}
 
 -- ---- notices of no such end
 
@@ -37,8 +38,6 @@ pub record IsTest (Lax : Type 0) (test : Entry → Bool) : Type 0 where
       (record e { closing = closing.Queued }) ≡ false
 
 -- the own CLS has gone out; the partner's was taken; both
-clash : {A : Type 0} (v : Bool) → v ≡ true → v ≡ false → A
-clash v e f = absurd (let no : true ≡ false = sym e ∙ f in cc)
 
 pub test_any : IsTest (Unit {0}) (λ e. false)
 test_any =

@@ -19,11 +19,9 @@ use Rattle.world_keeps_streams.proofs.Requests.Sides.{Lawful, coupled_in}
 use Rattle.world_keeps_streams.proofs.Steps.Streams.{has_sender}
 use Rattle.world_keeps_streams.proofs.Tidy.Pairs.{Each, IsTidy}
 use Rattle.world_keeps_streams.proofs.Tidy.Programs.{all_tidy}
+use Rattle.world_keeps_streams.proofs.Facts.{clash}
 
 -- ---- lists
-
-clash : {A : Type 0} (v : Bool) → v ≡ true → v ≡ false → A
-clash v e f = never (sym e ∙ f)
 
 each_among : (Q : Entry → Type 0) (es : List Entry) (e : Entry) → Each Q es → Among e es → Q e
 each_among Q [] e h i = absurd i

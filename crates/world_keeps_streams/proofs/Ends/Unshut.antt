@@ -14,7 +14,6 @@ use Rattle.sockets.specs.declared.request.Request.TheVariants as request
 use Rattle.promise.specs.declared.life.Life.{Life}
 use Rattle.world_keeps_pairing.specs.Steps.{keeps}
 use Rattle.world_keeps_streams.specs.Calls.{called}
-use Rattle.world_keeps_streams.proofs.Books.Given.{off}
 use Rattle.world_keeps_streams.proofs.Books.Run.{below}
 use Rattle.world_keeps_streams.proofs.Calls.Chain.{Chained, chain}
 use Rattle.world_keeps_streams.proofs.Deeds.Effects.{Among, Changed, among_changed, among_filter}
@@ -24,15 +23,12 @@ use Rattle.world_keeps_streams.proofs.Lives.Fates.{IsClose}
 use Rattle.world_keeps_streams.proofs.Requests.Sides.{Lawful}
 use Rattle.world_keeps_streams.proofs.Steps.Kinds.{NoClose, NoneClose, none_crossed, none_if, none_owner}
 use Rattle.world_keeps_streams.proofs.Steps.Streams.{all_allowed}
+use Rattle.world_keeps_streams.proofs.Facts.{middle_off, no_zero}
 
 -- ---- an end that its user has closed, and its partner hasn't
 
 abbrev pub is_shut : Entry → Bool
 is_shut e = e.mine && is_called_off e.closing && not e.partner_closed
-
-middle_off : (a b c : Bool) → b ≡ false → (a && b && c) ≡ false
-middle_off true b c e = ap (λ (v : Bool). v && c) e
-middle_off false b c e = refl
 
 last_off : (a b : Bool) → (a && b && false) ≡ false
 last_off true true = refl
@@ -53,11 +49,11 @@ cls_off closing.Sent e = refl
 
 pub test_shut : IsTest (Unit {0}) is_shut
 test_shut = record {
-  passes = λ e over off. tt;
-  same = λ e f mine is off t.
+  passes = λ e over no_zero. tt;
+  same = λ e f mine is no_zero t.
       ap (λ (v : Bool). v && is_called_off f.closing && not f.partner_closed) mine
       ∙ ap (λ (c : Closing). e.mine && is_called_off c && not f.partner_closed) is
-      ∙ ap (λ (v : Bool). e.mine && is_called_off e.closing && not v) off ∙ t;
+      ∙ ap (λ (v : Bool). e.mine && is_called_off e.closing && not v) no_zero ∙ t;
   fresh = λ e unsent untaken calm. elim calm [
     | inl m ↦ ap (λ (v : Bool). v && is_called_off e.closing && not e.partner_closed) m
     | inr c ↦ middle_off e.mine (is_called_off e.closing) (not e.partner_closed) c
@@ -100,8 +96,8 @@ module _ (g : Host) (own foreign link : ℕ) where
       (changed_first (is_at o f) cls_sent es) e there).0) where
         sent : (x : Entry) → has_cls x.closing ≡ true → (x.own ≡ own → x.foreign ≡ foreign → is_shut x ≡ false)
             → (cls_sent x).own ≡ own → (cls_sent x).foreign ≡ foreign → is_shut (cls_sent x) ≡ false
-        sent x has off is at =
-            ap (λ (v : Bool). x.mine && v && not x.partner_closed) (sym (cls_off x.closing has)) ∙ off is at
+        sent x has no_zero is at =
+            ap (λ (v : Bool). x.mine && v && not x.partner_closed) (sym (cls_off x.closing has)) ∙ no_zero is at
 
         by : Among e es ⊎ Changed (is_at o f) cls_sent es e → e.own ≡ own → e.foreign ≡ foreign → is_shut e ≡ false
         by (inl i) = h e i
@@ -269,7 +265,7 @@ unshut_next hosts y ms l x goes none h =
           (walk x.peer x.socket x.foreign (suc zero) (calls_by x.host x.peer y ms) (own_calls x.host x.peer ms)
           (subst (λ (cs : List calls.Moment). IsHistory x.peer cs) is now.0)
           (subst (λ (cs : List calls.Moment). AreAllowed numbered x.peer (suc zero) cs) is
-          (all_allowed hosts l.0 (suc zero) (off zero) x.host x.peer (y ∷ ms) l.1 l.2)) (others x goes ms y none)
+          (all_allowed hosts l.0 (suc zero) (no_zero zero) x.host x.peer (y ∷ ms) l.1 l.2)) (others x goes ms y none)
           (subst (λ (es : List Entry). AreUnshut x.socket x.foreign es) (sym was.1) h))
       by false e =
           subst (λ (cs : List calls.Moment). AreUnshut x.socket x.foreign (ends_now x.peer cs))

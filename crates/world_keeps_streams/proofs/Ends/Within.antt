@@ -1,5 +1,5 @@
 -- What a life counts had crossed before it was over.
-use Rattle.world_keeps_streams.proofs.Common.{◌≡◌, inl, inr, ℕ, zero, suc, ◌<◌, ◌≤◌, ◌==◌, Bool, true, false, if◌then◌else◌, List, [], ◌∷◌, length, Option, Some, None, refl, ap, sym, subst, ◌∙◌, arith, same_flow-true, Seen, Host, Flow, Crossing, orders_of, Cause, Going, Over, Stage, each, heard, said, stage, IsBeside, text_of, texts_on, control_flow, Called, Fate, Kept, IsLawful, Asked, Crossed, Moment, places, program, contacts_of, crossings_of, WorldState, kept_fated, linked_end, live, HasOpenEnd, book_run, Course}
+use Rattle.world_keeps_streams.proofs.Common.{◌≡◌, inl, inr, ℕ, zero, suc, ◌<◌, ◌≤◌, ◌==◌, Bool, true, false, if◌then◌else◌, List, [], ◌∷◌, length, Option, Some, None, refl, ap, sym, subst, ◌∙◌, arith, same_flow-true, Seen, Host, Flow, Crossing, orders_of, Cause, Going, Over, Stage, each, heard, said, IsBeside, text_of, texts_on, control_flow, Called, Fate, Kept, IsLawful, Asked, Crossed, Moment, places, program, contacts_of, crossings_of, WorldState, kept_fated, linked_end, live, HasOpenEnd, book_run, Course}
 use Rattle.interface.specs.Mailboxes.{same_flow}
 use Rattle.interface.specs.declared.crossing.Crossing.TheVariants as crossing
 use Rattle.net_sim.specs.Told.{kept_in}
@@ -9,7 +9,7 @@ use Rattle.promise.specs.Formed.{data_in, first_data, flow_of, joined, link_of}
 use Rattle.promise.specs.Safe.{before, receives}
 use Rattle.promise.specs.declared.life.Life.{Life}
 use Rattle.world_keeps_lives.proofs.lemmas.{end_link, texts_same}
-use Rattle.world_keeps_streams.specs.Within.{AreWithin, CountsBefore}
+use Rattle.world_keeps_streams.specs.Within.{CountNothingLater, CountsBefore}
 use Rattle.world_keeps_streams.proofs.Books.Firsts.{formed, together}
 use Rattle.world_keeps_streams.proofs.Books.Placed.{before_end, before_later, link_later}
 use Rattle.world_keeps_streams.proofs.Books.Run.{below}
@@ -259,7 +259,7 @@ fate_beside (y ∷ lives) (g ∷ fates) x a (inr i) =
     let r : (f : Fate) × IsBeside x f lives fates = fate_beside lives fates x a.1 i in (r.0, inr r.1)
 
 pub within : (hosts : List Host) (ms : List Moment) → Lawful hosts ms
-    → AreWithin (contacts_of ms) (crossings_of ms) (kept_in ms).book.lives
+    → CountNothingLater (contacts_of ms) (crossings_of ms) (kept_in ms).book.lives
 within hosts ms l x c n there over = (within_now hosts ms l x beside.0 beside.1 c n is).1 where
   beside : (f : Fate) × IsBeside x f (kept_in ms).book.lives (kept_in ms).fates
   beside =
@@ -272,11 +272,12 @@ within hosts ms l x c n there over = (within_now hosts ms l x beside.0 beside.1 
       (sym (course_key (contacts_of ms) x (crossings_of ms)) ∙ course_same (key_of x) ms)) ∙ over
 
 pub world_within : {C : Type 0} (seen : C → Seen) (hosts : List Host) (w : WorldState C) → IsLawful seen hosts w
-    → AreWithin w.kept.book.contacts w.kept.book.crossings w.kept.book.lives
+    → CountNothingLater w.kept.book.contacts w.kept.book.crossings w.kept.book.lives
 world_within seen hosts w lawful =
-    subst (λ (cs : List Called). AreWithin cs w.kept.book.crossings w.kept.book.lives) (sym lawful.whole.contacts)
-    (subst (λ (log : List Crossing). AreWithin (contacts_of lawful.whole.moments) log w.kept.book.lives)
+    subst (λ (cs : List Called). CountNothingLater cs w.kept.book.crossings w.kept.book.lives)
+    (sym lawful.whole.contacts)
+    (subst (λ (log : List Crossing). CountNothingLater (contacts_of lawful.whole.moments) log w.kept.book.lives)
     (sym lawful.whole.crossings)
-    (subst (λ (k : Kept). AreWithin (contacts_of lawful.whole.moments) (crossings_of lawful.whole.moments)
+    (subst (λ (k : Kept). CountNothingLater (contacts_of lawful.whole.moments) (crossings_of lawful.whole.moments)
     k.book.lives) (sym lawful.whole.kept)
     (within hosts lawful.whole.moments (lawful.addresses, book_run seen hosts w lawful, lawful.whole.timeline))))

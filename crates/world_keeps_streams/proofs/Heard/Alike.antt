@@ -1,5 +1,5 @@
 -- What a host heard by its calls is what the law of pairing has it hear.
-use Rattle.world_keeps_streams.proofs.Common.{◌≡◌, ℕ, ◌==◌, ◌&&◌, Bool, true, false, if◌then◌else◌, List, [], ◌∷◌, ◌++◌, take, Option, Some, None, refl, ap, sym, subst, ◌∙◌, append_assoc, Host, same_host, HostMessage, same_host-true, Command, Order, Legal, Wrong, orders_of, desk_of, listens_on, is_busy, PairState, Parcel, command_gone, with_connections, is_ready, TurnState, order_taken, Entry, Listener, eqb-sym, mark_of, marks_in, Answered, AsksBack, Closes, Gives, Grants, Hears, OpensReceiver, OpensSender, Says, Takes, Sockets, Who, Mark, Ask, Close, placed_event, tagged, with_box, with_place, Side, hears, says, Fresh, begins_fresh, stays_same, boxes, Event, In, Message, Other, stays_ready, turn_of, NcpState, owner_of, pair_with, next_in, Peer, Request, HaveAddresses, message_on, Asked, Crossed, Moment, event_in, events_of, places, program, IsTimeline, crossings_of, Coupled, by_request, coupled, IsAsking, law_events, keeps, AText, AnRrp, AnRst, AreOrigins, Sort, all_hears, all_says, at_texts, foreign_of, half, heard_is, hears_if, left_if, mail_below, met_if, other, own_of, sort_of, waiting, answer_calls, calls_by, commands_said, message_calls, next_calls, orders_heard, own_calls, owner_calls, parcel_calls, request_calls}
+use Rattle.world_keeps_streams.proofs.Common.{◌≡◌, ℕ, ◌==◌, ◌&&◌, Bool, true, false, if◌then◌else◌, List, [], ◌∷◌, ◌++◌, take, Option, Some, None, refl, ap, sym, subst, ◌∙◌, append_assoc, Host, same_host, HostMessage, same_host-true, Command, Order, Legal, Wrong, orders_of, desk_of, listens_on, is_busy, PairState, Parcel, command_gone, with_connections, is_ready, TurnState, order_taken, Entry, Listener, eqb-sym, mark_of, marks_in, Answered, AsksBack, Closes, Gives, Grants, Hears, OpensReceiver, OpensSender, Says, Takes, Sockets, Who, Mark, Ask, Close, placed_event, tagged, with_box, with_place, Side, hears, Fresh, begins_fresh, stays_same, boxes, Event, In, Message, Other, stays_ready, turn_of, NcpState, owner_of, pair_with, next_in, Peer, Request, HaveAddresses, message_on, Asked, Crossed, Moment, event_in, events_of, places, program, IsTimeline, crossings_of, Coupled, by_request, coupled, IsAsking, law_events, keeps, AText, AnRrp, AnRst, AreOrigins, Sort, all_hears, all_says, at_texts, foreign_of, half, heard_is, hears_if, left_if, mail_below, met_if, other, own_of, sort_of, waiting, answer_calls, calls_by, commands_said, message_calls, next_calls, orders_heard, own_calls, owner_calls, parcel_calls, request_calls}
 use Rattle.interface.specs.Mailboxes as mail
 use Rattle.interface.specs.declared.crossing.Crossing.TheVariants as crossing
 use Rattle.ncp_control.specs.declared.command.Command.TheVariants as command
@@ -19,6 +19,7 @@ use Rattle.world_keeps_streams.proofs.Heard.Lists.{heard_list, mark_heard}
 use Rattle.world_keeps_streams.proofs.Stays.Meets.{solo_there}
 use Rattle.world_keeps_streams.proofs.Stays.Quiet.{Asks, IsSolo, Quiet, Replied, Told}
 use Rattle.world_keeps_streams.proofs.Stays.Resets.{stays_on}
+use Rattle.world_keeps_streams.proofs.Heard.Marks.{said_heard}
 
 -- ---- lists of marks
 
@@ -120,10 +121,6 @@ hears_heard : (ms : List Mark) (x : Side) → (all_hears ms x).heard ≡ upon ms
 hears_heard [] x = refl
 hears_heard (m ∷ ms) x = hears_heard ms (hears m x)
 
-says_heard : (ms : List Mark) (x : Side) → (all_says ms x).heard ≡ x.heard
-says_heard [] x = refl
-says_heard (m ∷ ms) x = says_heard ms (says m x)
-
 left_heard : (k : Bool) (x : Side) → (left_if k x).heard ≡ x.heard
 left_heard true x = refl
 left_heard false x = refl
@@ -138,7 +135,7 @@ module _ (h p : Host) (spoken heard : List (List Bool) → List Mark) (e : Event
       ∙ left_heard (keeps h p e events) (hears_if (stay.stays h p events) (heard (stay.heard_by p h 0 e)) (all_says (spoken (stay.said_by h p 0 e)) x))
       ∙ ap (λ (v : Bool). (hears_if v (heard (stay.heard_by p h 0 e)) (all_says (spoken (stay.said_by h p 0 e)) x)).heard) stays
       ∙ hears_heard (heard (stay.heard_by p h 0 e)) (all_says (spoken (stay.said_by h p 0 e)) x)
-      ∙ ap (λ (w : List Mark). upon (heard (stay.heard_by p h 0 e)) w) (says_heard (spoken (stay.said_by h p 0 e)) x)
+      ∙ ap (λ (w : List Mark). upon (heard (stay.heard_by p h 0 e)) w) (said_heard (spoken (stay.said_by h p 0 e)) x)
 
 -- ---- all moments
 

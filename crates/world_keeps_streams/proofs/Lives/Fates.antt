@@ -135,7 +135,7 @@ IsCls g = (g ≡ fate.Closed) ⊎ (g ≡ fate.Ended)
 abbrev pub How : Host → Life → List Notice → Fate → Type 0
 How h x ns g = (is_over g ≡ false) ⊎ ((IsCls g × (h ≡ x.host) × TellsEnd x ns) ⊎ ((g ≡ fate.Reset) × (h ≡ x.host) × TellsReset x ns))
 
-cls_over : (g : Fate) → IsCls g → is_over g ≡ true
+pub cls_over : (g : Fate) → IsCls g → is_over g ≡ true
 cls_over g (inl e) = ap is_over e
 cls_over g (inr e) = ap is_over e
 

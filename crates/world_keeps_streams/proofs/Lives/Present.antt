@@ -1,5 +1,5 @@
 -- The lives of two hosts that stay, as a safe book asks for them.
-use Rattle.world_keeps_streams.proofs.Common.{◌≡◌, inl, inr, ℕ, zero, suc, ◌≤◌, ◌==◌, true, false, List, [], ◌∷◌, drop, refl, sym, subst, arith, ne_eqb, Host, is_receive_socket, AreAllowed, gone_now, numbered, receiver_now, sender_now, Sockets, Who, Asks, Mark, Side, pair_with, Moment, events_of, program, crossings_of, Coupled, law_events, origin_in, ArePaired, are_origins, at_texts, even_odd, foreign_of, half, life_paired, other, own_of, receiver_half, sender_half, served_in, own_calls, numbered_by_peer}
+use Rattle.world_keeps_streams.proofs.Common.{◌≡◌, inl, inr, ℕ, zero, suc, ◌≤◌, ◌==◌, true, false, List, [], ◌∷◌, drop, refl, sym, subst, arith, Host, is_receive_socket, AreAllowed, gone_now, numbered, receiver_now, sender_now, Sockets, Who, Asks, Mark, Side, pair_with, Moment, events_of, program, crossings_of, Coupled, law_events, origin_in, ArePaired, are_origins, at_texts, even_odd, foreign_of, half, life_paired, other, own_of, receiver_half, sender_half, served_in, own_calls, numbered_by_peer}
 use Rattle.pairing_law.specs.Links.{Receiver, Sender}
 use Rattle.reset_law.specs.Stays as stay
 use Rattle.promise.specs.Safe.{receives, sends}
@@ -20,6 +20,7 @@ use Rattle.world_keeps_streams.proofs.Books.Whole.{Away, HasReceives, HasSends, 
 use Rattle.world_keeps_streams.proofs.Heard.Alike.{heard_marks}
 use Rattle.world_keeps_streams.proofs.Heard.Calls.{own_may}
 use Rattle.world_keeps_streams.proofs.Steps.JoinedAll.{joined}
+use Rattle.world_keeps_streams.proofs.Facts.{no_zero}
 
 -- ---- words
 
@@ -28,13 +29,10 @@ to_among x [] i = absurd i
 to_among x (y ∷ ys) (inl e) = inl (sym e)
 to_among x (y ∷ ys) (inr i) = inr (to_among x ys i)
 
-from_among : (x : Life) (xs : List Life) → Among x xs → IsOf x xs
+pub from_among : (x : Life) (xs : List Life) → Among x xs → IsOf x xs
 from_among x [] i = absurd i
 from_among x (y ∷ ys) (inl e) = inl (sym e)
 from_among x (y ∷ ys) (inr i) = inr (from_among x ys i)
-
-off : (n : ℕ) → (suc n == 0) ≡ false
-off n = ne_eqb (suc n) 0 (λ e. absurd (cc))
 
 -- ---- what the calls of a host that stays heard, its side of the law of pairing has heard
 
@@ -142,7 +140,7 @@ module _ (hosts : List Host) (a b : Host) (mine : (ms : List Moment) → Lawful 
 
   pub taken_by : (ms : List Moment) → Lawful hosts ms → stay.stays a b (events_of ms) ≡ true → (n c : ℕ) → 1 ≤ ((receiver_now numbered b (suc n) (own_calls a b ms)).granted c).messages → HasReceives a b (Own a b) (Heard a b) ms n c
   taken_by ms l stays n c some =
-      elim ((mine ms l).takes (suc n) (off n) c) [
+      elim ((mine ms l).takes (suc n) (no_zero n) c) [
         | inl u ↦ absurd (let no : ((receiver_now numbered b (suc n) (own_calls a b ms)).granted c).messages ≡ 0 = u.granted_messages in omega (arith, some, no))
         | inr v ↦
             (let there : IsOf v.0.life (present_in a b ms) = (recent_present hosts a b none_mine ms l v.0.life (from_among v.0.life (drop (carried.since a b ms) (lives_in ms)) v.0.there) v.0.host v.0.peer).1 in
@@ -160,7 +158,7 @@ module _ (hosts : List Host) (a b : Host) (mine : (ms : List Moment) → Lawful 
 
   pub sent_by : (ms : List Moment) → Lawful hosts ms → stay.stays b a (events_of ms) ≡ true → (n c : ℕ) → ((sender_now numbered_by_peer a (suc n) (own_calls b a ms)).sent c ≡ [] → ⊥) → HasSends a b (Own a b) (Heard a b) ms n c
   sent_by ms l stays n c some =
-      elim ((theirs ms l).sends (suc n) (off n) c) [
+      elim ((theirs ms l).sends (suc n) (no_zero n) c) [
         | inl u ↦ absurd (some u)
         | inr v ↦
             (let there : IsOf v.0.life (present_in a b ms) =

@@ -1,5 +1,5 @@
 -- The lives of a host with one peer are carried by its calls at a moment at which an answer comes back.
-use Rattle.world_keeps_streams.proofs.Common.{◌≡◌, ℕ, ◌==◌, Bool, true, false, not, ◌&&◌, ◌||◌, if◌then◌else◌, List, [], ◌∷◌, ◌++◌, is_some, refl, ap, sym, subst, ◌∙◌, Host, same_host, Flow, Answer, same_host-true, is_busy, PairState, TurnState, answered_turn, failed, failed_by, freed, is_gone, settled_turn, Notice, Phase, put, Answered, AreAllowed, IsTelling, ends_after, ends_now, pair, turn_of, NcpState, pair_with, all_told, crossed, HaveAddresses, Agrees, Crossed, IsStory, Moment, event_in, events_of, places, program, IsTimeline, crossings_of, coupled, program_own, story_agrees, keeps, mail_below, calls_by, own_calls}
+use Rattle.world_keeps_streams.proofs.Common.{◌≡◌, ℕ, ◌==◌, Bool, true, false, not, ◌&&◌, ◌||◌, if◌then◌else◌, List, [], ◌∷◌, ◌++◌, is_some, refl, ap, sym, subst, ◌∙◌, Host, same_host, Flow, Answer, same_host-true, is_busy, PairState, TurnState, answered_turn, failed, failed_by, freed, is_gone, settled_turn, Notice, Phase, put, Answered, AreAllowed, IsTelling, ends_after, ends_now, pair, turn_of, NcpState, pair_with, all_told, crossed, HaveAddresses, Agrees, Crossed, IsStory, Moment, event_in, events_of, places, program, IsTimeline, crossings_of, coupled, program_own, story_agrees, keeps, mail_below, calls_by, own_calls, both}
 use Rattle.interface.specs.Mailboxes as mail
 use Rattle.interface.specs.declared.crossing.Answer.TheVariants as answer
 use Rattle.interface.specs.declared.crossing.Crossing.TheVariants as crossing
@@ -17,7 +17,7 @@ use Rattle.world_keeps_streams.proofs.Deeds.Told.{call_told}
 use Rattle.world_keeps_streams.proofs.Carried.Calls.{Carries}
 use Rattle.world_keeps_streams.proofs.Carried.Owned.{told_lives}
 use Rattle.world_keeps_streams.proofs.Carried.Moments.{single_next}
-use Rattle.world_keeps_streams.proofs.Moments.Out.{allowed_at, both_same, history_at, placed_in}
+use Rattle.world_keeps_streams.proofs.Moments.Out.{allowed_at, history_at, placed_in}
 
 -- ---- an answer after which the pair is ready
 
@@ -39,7 +39,7 @@ answered_quiet p answer.Rfnm l t none ready = ap (λ (ns : List Notice). ns ++ [
 answered_quiet p kind l t none ready = failed_quiet p (record t { pair = freed l t.pair }) none ready
 
 -- what is accepted
-accepted_pair : (s : NcpState) (kind : Answer) (f : Flow) (stamp : ℕ) → same_host s.own f.source ≡ true → is_busy (pair_with f.destination s.peers).busy f.link.0 ≡ true
+pub accepted_pair : (s : NcpState) (kind : Answer) (f : Flow) (stamp : ℕ) → same_host s.own f.source ≡ true → is_busy (pair_with f.destination s.peers).busy f.link.0 ≡ true
     → pair_with f.destination (accepted s (inbound.Answer kind f) stamp).0.peers ≡ (answered_turn f.destination kind f.link.0 (turn_of s f.destination)).pair
 unfolding accepted
 accepted_pair s kind f stamp own busy = rw (own, busy) (put f.destination (answered_turn f.destination kind f.link.0 (turn_of s f.destination)).pair s.peers)
@@ -88,7 +88,7 @@ module _ (number : ℕ → ℕ → ℕ → ℕ) (tells : IsTelling number) (host
     ready_by : program_phases.is_ready (pair_with b (program a (Crossed (crossing.Answer kind f) ∷ ms)).peers).phase ≡ true
     ready_by =
         sym (ready_both a b (Crossed (crossing.Answer kind f) ∷ ms) story)
-        ∙ (both_same (stay.ready a b (events_of (Crossed (crossing.Answer kind f) ∷ ms))) (not (stay.takes_reset a b (event_in (Crossed (crossing.Answer kind f))))) on).0
+        ∙ (both (stay.ready a b (events_of (Crossed (crossing.Answer kind f) ∷ ms))) (not (stay.takes_reset a b (event_in (Crossed (crossing.Answer kind f))))) on).0
 
     ready_now : program_phases.is_ready (answered_turn f.destination kind f.link.0 (turn_of (program a ms) f.destination)).pair.phase ≡ true
     ready_now =
@@ -121,5 +121,5 @@ module _ (number : ℕ → ℕ → ℕ → ℕ) (tells : IsTelling number) (host
   pub keeps_answer : (kind : Answer) (f : Flow) (ms : List Moment) → mail.IsRun hosts (crossings_of (Crossed (crossing.Answer kind f) ∷ ms)) → IsTimeline hosts (Crossed (crossing.Answer kind f) ∷ ms)
       → keeps a b (event_in (Crossed (crossing.Answer kind f))) (events_of ms) ≡ true → (same_host a f.source && same_host b f.destination) ≡ true → Carries number a b ms → Carries number a b (Crossed (crossing.Answer kind f) ∷ ms)
   keeps_answer kind f ms run time on these c =
-      let t : (same_host a f.source ≡ true) × (same_host b f.destination ≡ true) = both_same (same_host a f.source) (same_host b f.destination) these in
+      let t : (same_host a f.source ≡ true) × (same_host b f.destination ≡ true) = both (same_host a f.source) (same_host b f.destination) these in
       answer_next kind f ms run time on t.0 t.1 c

@@ -1,5 +1,5 @@
 -- The lives of a host with one peer are carried by its calls at a moment at which a message of the peer comes in.
-use Rattle.world_keeps_streams.proofs.Common.{◌≡◌, ℕ, ◌==◌, ◌&&◌, not, Bool, true, false, List, [], ◌∷◌, ◌++◌, drop, refl, ap, sym, subst, ◌∙◌, Host, same_host, HostMessage, same_host-true, Legal, Order, Wrong, orders_of, data_taken, desk_of, PairState, TurnState, message_taken, orders_taken, reply_notices, with_desk, Entry, Notice, Phase, AreJoint, IsJoint, orders_idle, AreAllowed, Hears, IsHistory, IsTelling, Takes, In, Message, Other, are, turn_of, NcpState, pair_with, all_told, crossed, HaveAddresses, IsApart, message_on, Crossed, Moment, event_in, events_of, places, program, IsTimeline, crossings_of, coupled, program_own, held, keeps, AText, AnRrp, AnRst, Sort, mail_below, message_pair, plain_joint, sort_of, calls_by, message_calls, orders_heard, own_calls}
+use Rattle.world_keeps_streams.proofs.Common.{◌≡◌, ℕ, ◌==◌, ◌&&◌, not, Bool, true, false, List, [], ◌∷◌, ◌++◌, drop, refl, ap, sym, subst, ◌∙◌, Host, same_host, HostMessage, same_host-true, Legal, Order, Wrong, orders_of, data_taken, desk_of, PairState, TurnState, message_taken, orders_taken, reply_notices, with_desk, Entry, Notice, Phase, AreJoint, IsJoint, orders_idle, AreAllowed, Hears, IsHistory, IsTelling, Takes, In, Message, Other, are, turn_of, NcpState, pair_with, all_told, crossed, HaveAddresses, IsApart, message_on, Crossed, Moment, event_in, events_of, places, program, IsTimeline, crossings_of, coupled, program_own, held, keeps, AText, AnRrp, AnRst, Sort, mail_below, message_pair, plain_joint, sort_of, calls_by, message_calls, orders_heard, own_calls, both}
 use Rattle.interface.specs.Mailboxes as mail
 use Rattle.interface.specs.declared.crossing.Crossing.TheVariants as crossing
 use Rattle.interface.specs.declared.crossing.Inbound.TheVariants as inbound
@@ -34,11 +34,6 @@ notices_there s m stamp own = rw own refl
 reply_lives : (a b : Host) (p : Phase) (ls : List Life) → all_lives a (reply_notices b p) ls ≡ ls
 reply_lives a b phase.Closed ls = refl
 reply_lives a b p ls = refl
-
-both_true : (d e : Bool) → (d && e) ≡ true → (d ≡ true) × (e ≡ true)
-both_true true true t = (refl, refl)
-both_true true false t = absurd (cc)
-both_true false e t = absurd (cc)
 
 module _ (number : ℕ → ℕ → ℕ → ℕ) (tells : IsTelling number) (hosts : List Host) (addresses : HaveAddresses hosts) (a b : Host)
     (allowed : (ms : List Moment) → mail.IsRun hosts (crossings_of ms) → IsTimeline hosts ms → (link : ℕ) → (link == 0) ≡ false → AreAllowed number b link (own_calls a b ms)) where
@@ -203,5 +198,5 @@ module _ (number : ℕ → ℕ → ℕ → ℕ) (tells : IsTelling number) (host
   pub keeps_in : (m : HostMessage) (ms : List Moment) → mail.IsRun hosts (crossings_of (Crossed (crossing.In m) ∷ ms)) → IsTimeline hosts (Crossed (crossing.In m) ∷ ms) → keeps a b (event_in (Crossed (crossing.In m))) (events_of ms) ≡ true
       → (same_host a m.flow.destination && same_host b m.flow.source) ≡ true → Carries number a b ms → Carries number a b (Crossed (crossing.In m) ∷ ms)
   keeps_in m ms run time on here old =
-      let two : (same_host a m.flow.destination ≡ true) × (same_host b m.flow.source ≡ true) = both_true (same_host a m.flow.destination) (same_host b m.flow.source) here in
+      let two : (same_host a m.flow.destination ≡ true) × (same_host b m.flow.source ≡ true) = both (same_host a m.flow.destination) (same_host b m.flow.source) here in
       here_next m ms run time on two.0 two.1 old

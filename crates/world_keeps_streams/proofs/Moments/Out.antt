@@ -1,5 +1,5 @@
 -- The lives of a host with one peer are carried by its calls at a moment at which a message goes out to the peer.
-use Rattle.world_keeps_streams.proofs.Common.{◌≡◌, ℕ, ◌==◌, Bool, true, false, ◌&&◌, List, [], ◌∷◌, ◌++◌, take, drop, Some, refl, ap, sym, subst, ◌∙◌, Host, same_host, HostMessage, same_host-true, Command, DeskState, desk_of, PairState, Parcel, next_of, parcel_gone, with_connections, Entry, Listener, Notice, pair_range, AreAllowed, IsHistory, IsTelling, Says, Sends, turn_of, NcpState, pair_with, next_in, Peer, next_is, next_pair, all_told, crossed, HaveAddresses, Crossed, IsNext, IsStory, Moment, event_in, events_of, places, program, IsTimeline, crossings_of, coupled, GoodTurn, Place, has_ends, held, origin_in, keeps, mail_below, offered_pair, programs_ranged, served_in, calls_by, commands_said, own_calls, parcel_calls}
+use Rattle.world_keeps_streams.proofs.Common.{◌≡◌, ℕ, ◌==◌, true, false, ◌&&◌, List, [], ◌∷◌, ◌++◌, take, drop, Some, refl, ap, sym, subst, ◌∙◌, Host, same_host, HostMessage, same_host-true, Command, DeskState, desk_of, PairState, Parcel, next_of, parcel_gone, with_connections, Entry, Listener, Notice, pair_range, AreAllowed, IsHistory, IsTelling, Says, Sends, turn_of, NcpState, pair_with, next_in, Peer, next_is, next_pair, all_told, crossed, HaveAddresses, Crossed, IsNext, IsStory, Moment, event_in, events_of, places, program, IsTimeline, crossings_of, coupled, GoodTurn, Place, has_ends, held, origin_in, keeps, mail_below, offered_pair, programs_ranged, served_in, calls_by, commands_said, own_calls, parcel_calls, both}
 use Rattle.interface.specs.Mailboxes as mail
 use Rattle.interface.specs.declared.crossing.Crossing.TheVariants as crossing
 use Rattle.host_pairs.specs.Parcels as parcel
@@ -19,11 +19,6 @@ use Rattle.world_keeps_streams.proofs.Carried.Heard.{AllAllowed}
 use Rattle.world_keeps_streams.proofs.Carried.Moments.{kept_next, placed_first, single_next}
 use Rattle.world_keeps_streams.proofs.Carried.Said.{PlacedAt, said_all}
 use Rattle.world_keeps_streams.proofs.Carried.Still.{still_next}
-
-pub both_same : (t u : Bool) → (t && u) ≡ true → (t ≡ true) × (u ≡ true)
-both_same true true e = (refl, refl)
-both_same true false e = absurd (let no : false ≡ true = e in cc)
-both_same false u e = absurd (let no : false ≡ true = e in cc)
 
 -- what is said comes upon what was before
 said_onto : (b : Host) (stamp : ℕ) (cs : List Command) (q : PairState) (listening : List Listener) (older base : List calls.Moment) → commands_said b stamp cs q listening older ++ base ≡ commands_said b stamp cs q listening (older ++ base)
@@ -168,5 +163,5 @@ module _ (number : ℕ → ℕ → ℕ → ℕ) (tells : IsTelling number) (host
   pub keeps_out : (m : HostMessage) (ms : List Moment) → mail.IsRun hosts (crossings_of (Crossed (crossing.Out m) ∷ ms)) → IsTimeline hosts (Crossed (crossing.Out m) ∷ ms)
       → keeps a b (event_in (Crossed (crossing.Out m))) (events_of ms) ≡ true → (same_host a m.flow.source && same_host b m.flow.destination) ≡ true → Carries number a b ms → Carries number a b (Crossed (crossing.Out m) ∷ ms)
   keeps_out m ms run time on these c =
-      let t : (same_host a m.flow.source ≡ true) × (same_host b m.flow.destination ≡ true) = both_same (same_host a m.flow.source) (same_host b m.flow.destination) these in
+      let t : (same_host a m.flow.source ≡ true) × (same_host b m.flow.destination ≡ true) = both (same_host a m.flow.source) (same_host b m.flow.destination) these in
       out_next m ms run time on t.0 t.1 c

@@ -18,7 +18,7 @@ owed_taken true Reply p none e = e
 owed_taken true (Other text) p none e = e
 owed_taken false m p none e = e
 
-not_taken : (a b x y : Host) (l : ℕ) (m : Message) → takes_reset a b (In x y l m) ≡ false → m ≡ Reset → are a b y x ≡ false
+pub not_taken : (a b x y : Host) (l : ℕ) (m : Message) → takes_reset a b (In x y l m) ≡ false → m ≡ Reset → are a b y x ≡ false
 not_taken a b x y l Reset e is = e
 not_taken a b x y l Reply e is = absurd (cc)
 not_taken a b x y l (Other text) e is = absurd (cc)

@@ -1,5 +1,6 @@
 -- What a host did since it dropped its ends, where it has said nothing and wasn't in a stay, is what a host does by itself.
 use Rattle.world_keeps_streams.proofs.Common.{◌≡◌, ℕ, Bool, true, false, not, ◌&&◌, if◌then◌else◌, List, [], ◌∷◌, Option, Some, None, refl, ap, sym, subst, ◌∙◌, Host, same_host, Flow, Answer, HostMessage, same_host-true, PairState, Parcel, failed_phase, is_ready, Phase, Want, Gone, Heard, Ready, Message, Other, Event, Contact, Out, In, Told, Down, Up, Idle, Send, Take, Hear, Begin, when, are, boxes, MaySend, pair_moved, pair, ready, takes_reset, carry, contradicts, ready_phase, accepted, turn_of, opening_state, pair_with, served, next_in, offered, Peer, Request, answer_leaves, message_leaves, Agrees, message_on, Asked, Crossed, IsNext, IsStory, Moment, event_in, events_of, places, program, Coupled, program_own, story_agrees, keeps, AText, AnRrp, AnRst, Sort, sort_of, clash, answer_calls, calls_by, message_calls, next_calls, request_calls}
+use Rattle.std.proofs.lemmas.Bool.{and_from}
 use Rattle.interface.specs.declared.crossing.Answer.TheVariants as answer
 use Rattle.interface.specs.declared.crossing.Crossing.TheVariants as crossing
 use Rattle.interface.specs.declared.crossing.Inbound.TheVariants as inbound
@@ -13,6 +14,7 @@ use Rattle.reset_law.specs.Stays.{stays}
 use Rattle.pairing_law.proofs.lemmas.{waits_in_stay}
 use Rattle.world_keeps_streams.proofs.Stays.Calm.{Calm, Calms, answer_calm, offer_calm, reply_calm, request_calm, still}
 use Rattle.world_keeps_streams.proofs.Calls.Chain.{ready_both}
+use Rattle.world_keeps_streams.proofs.Stays.Owing.{not_taken}
 
 -- ---- nothing was said before either
 
@@ -56,16 +58,11 @@ begin_silent : (t : Bool) (p : law.Pair) → is_ready (pair_moved (when t Begin)
 begin_silent true p r e = absurd (cc)
 begin_silent false p r e = e
 
-no_reset : (a b x y : Host) (l : ℕ) (m : Message) → takes_reset a b (In x y l m) ≡ false → m ≡ Reset → are a b y x ≡ false
-no_reset a b x y l Reset e is = e
-no_reset a b x y l Reply e is = absurd (cc)
-no_reset a b x y l (Other text) e is = absurd (cc)
-
 pub silent_before : (a b : Host) (e : Event) (events : List Event) → keeps a b e events ≡ true → (pair a b (e ∷ events)).begun ≡ false → (pair a b events).begun ≡ false
 silent_before a b (Contact x y) events k e = call_silent (are a b x y) (pair a b events) (both_true _ false k).0 e
 silent_before a b (Out x y l m) events k e = out_silent (are a b x y) l m (pair a b events) e
 silent_before a b (In x y l m) events k e =
-    in_silent (are a b y x) m (pair a b events) (no_reset a b x y l m (both_true (ready a b (In x y l m ∷ events)) (takes_reset a b (In x y l m)) k).1) e
+    in_silent (are a b y x) m (pair a b events) (not_taken a b x y l m (both_true (ready a b (In x y l m ∷ events)) (takes_reset a b (In x y l m)) k).1) e
 silent_before a b (Told x y l kind) events k e = told_silent (are a b x y) l kind (pair a b events) (both_true _ false k).0 e
 silent_before a b (Down x) events k e = begin_silent (same_host a x) (pair a b events) (both_true _ false k).0 e
 silent_before a b (Up x) events k e = begin_silent (same_host a x) (pair a b events) (both_true _ false k).0 e
@@ -78,9 +75,6 @@ only_reply : (l : ℕ) (m : Message) (p : law.Pair) → MaySend p l m → is_rea
 only_reply l Reset p may r e = absurd (cc)
 only_reply l Reply p may r e = (r, may.1)
 only_reply l (Other text) p may r e = absurd (cc)
-
-one_true : (s t : Bool) → s ≡ true → t ≡ true → (s && t) ≡ true
-one_true s t e f = rw (e, f) refl
 
 module _ (a b : Host) where
   abbrev before : List Moment → PairState
@@ -109,7 +103,7 @@ module _ (a b : Host) where
           let found : next_in (program a moments).peers ≡ Some (n.peer, n.parcel) = subst (λ (h : Host). next_in (program h moments).peers ≡ Some (n.peer, n.parcel)) (sym is) n.next in
           let peer : g.host ≡ m.flow.destination = ap (λ (o : Option (Peer × Parcel)). host_in b o) (sym next ∙ found) ∙ sym (ap (λ (h : HostMessage). h.flow.destination) n.message) in
           let there : same_host b m.flow.destination ≡ true = subst (λ (h : Host). same_host b h ≡ true) peer same in
-          let both : are a b m.flow.source m.flow.destination ≡ true = one_true (same_host a m.flow.source) (same_host b m.flow.destination) e there in
+          let both : are a b m.flow.source m.flow.destination ≡ true = and_from (same_host a m.flow.source) (same_host b m.flow.destination) e there in
           let msg : Message = message_on m.flow.link.0 m.text in
           let may : MaySend (pair a b events) m.flow.link.0 msg = carry (λ v w. MaySend (pair v w events) m.flow.link.0 msg) a b m.flow.source m.flow.destination both run.1 in
           let o : (is_ready (pair a b events).phase ≡ true) × ((pair a b events).owed ≡ true) =
@@ -136,10 +130,10 @@ module _ (a b : Host) where
       sorted : same_host a m.flow.destination ≡ true → same_host b m.flow.source ≡ true → Sort m.flow.link.0 m.text → Result m.flow.source
       sorted f g (AnRst zero orders is) =
           let takes : takes_reset a b (In m.flow.source m.flow.destination m.flow.link.0 Reset) ≡ false = subst (λ (n : Message). takes_reset a b (In m.flow.source m.flow.destination m.flow.link.0 n) ≡ false) is none in
-          absurd (contradicts (are a b m.flow.destination m.flow.source) (one_true (same_host a m.flow.destination) (same_host b m.flow.source) f g) takes)
+          absurd (contradicts (are a b m.flow.destination m.flow.source) (and_from (same_host a m.flow.destination) (same_host b m.flow.source) f g) takes)
       sorted f g (AnRrp zero orders is) = reply_calm (program a moments) (places moments) m (own_is m.flow.destination f) zero orders
       sorted f g (AText is) =
-          let both : are b a m.flow.source m.flow.destination ≡ true = one_true (same_host b m.flow.source) (same_host a m.flow.destination) g f in
+          let both : are b a m.flow.source m.flow.destination ≡ true = and_from (same_host b m.flow.source) (same_host a m.flow.destination) g f in
           let now : ready a b (In m.flow.source m.flow.destination m.flow.link.0 (Other m.text) ∷ events) ≡ true =
           subst (λ (n : Message). ready a b (In m.flow.source m.flow.destination m.flow.link.0 n ∷ events) ≡ true) is r in
           let was : ready a b events ≡ true = text_ready (are a b m.flow.destination m.flow.source) m.text (pair a b events) now in

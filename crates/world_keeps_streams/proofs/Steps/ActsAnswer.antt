@@ -1,5 +1,5 @@
 -- Moments in which messages of a host are gone: answers about them, and hosts that start.
-use Rattle.world_keeps_streams.proofs.Common.{◌≡◌, inl, inr, ℕ, ◌==◌, Bool, true, false, not, ◌&&◌, if◌then◌else◌, List, [], ◌∷◌, ◌++◌, Some, is_some, refl, ap, sym, subst, ◌∙◌, eq-eqb, eqb-true, Host, same_host, Flow, Answer, same_host-true, Command, Stream, desk_of, settled, is_busy, PairState, TurnState, answered_turn, failed, freed, settled_turn, eqb-sym, put, Answered, IsTelling, is_out, Fetched, Free, Party, Steps, Clear, ClearAll, posted, boxes, Other, Begin, are, place, when, kind_in, is_signal, Pair, pair_moved, pair, alone_run, stays_ready, turn_of, NcpState, opening_state, pair_with, answer_leaves, Agrees, Moment, Crossed, IsStory, event_in, events_of, places, program, program_own, story_agrees, answer_calls, own_calls}
+use Rattle.world_keeps_streams.proofs.Common.{◌≡◌, inl, inr, ℕ, ◌==◌, Bool, true, false, ◌&&◌, if◌then◌else◌, List, [], ◌∷◌, ◌++◌, Some, is_some, refl, ap, sym, subst, ◌∙◌, eq-eqb, eqb-true, Host, same_host, Flow, Answer, same_host-true, Command, Stream, desk_of, settled, is_busy, PairState, TurnState, answered_turn, failed, freed, settled_turn, eqb-sym, Answered, IsTelling, is_out, Fetched, Free, Party, Steps, Clear, ClearAll, posted, boxes, Other, are, place, when, kind_in, is_signal, pair, alone_run, stays_ready, turn_of, NcpState, opening_state, pair_with, answer_leaves, Agrees, Moment, Crossed, IsStory, event_in, events_of, places, program, program_own, story_agrees, answer_calls, own_calls}
 use Rattle.reset_law.specs.Pairs.{Plain}
 use Rattle.interface.specs.declared.crossing.Answer.TheVariants as answer
 use Rattle.interface.specs.declared.crossing.Crossing.TheVariants as crossing
@@ -14,14 +14,13 @@ use Rattle.sockets.specs.Accepting.{accepted}
 use Rattle.net_sim.proofs.lemmas.{freed_busy}
 use Rattle.world_keeps_streams.specs.Calls.{called}
 use Rattle.world_keeps_streams.proofs.Steps.Going.{Goes, answered_here, elsewhere_here, stays_as}
-use Rattle.world_keeps_streams.proofs.Steps.GoesOut.{IsCleared, box_is_free, out_cleared, ready_as, ready_phase}
+use Rattle.world_keeps_streams.proofs.Steps.GoesOut.{IsCleared, box_is_free, out_cleared, ready_phase}
 use Rattle.world_keeps_streams.proofs.Steps.Held.{Acted, Held, HereIn, act_by}
 use Rattle.world_keeps_streams.proofs.Steps.Joined.{commands_in, post_in}
 use Rattle.world_keeps_streams.proofs.Stays.Owing.{told_rfnm}
-
-kept_start : (t : Bool) (q : Pair) → (program_phases.is_ready (pair_moved (when t Begin) q).phase && not false) ≡ true → t ≡ false
-kept_start true q k = absurd (let no : false ≡ true = k in cc)
-kept_start false q k = refl
+use Rattle.world_keeps_streams.proofs.Calls.Chain.{ready_both}
+use Rattle.world_keeps_streams.proofs.Moments.Answer.{accepted_pair}
+use Rattle.world_keeps_streams.proofs.Steps.ActsAsked.{kept_stop}
 
 cleared_all : (t : Bool) (here : ℕ) (X : ℕ → Box) (l : ℕ) → IsCleared (X l) (posted here (when t ClearAll) X l)
 cleared_all true here X l = inr refl
@@ -74,16 +73,11 @@ answered_settles p kind k t e r =
     let is : failed p (record t { pair = freed k t.pair }) ≡ settled_turn (record t { pair = freed k t.pair }) = failed_settles p (record t { pair = freed k t.pair }) e t.pair.owed refl r in
     (sym (ap (λ (u : TurnState). u.pair.entries) is), sym (ap (λ (u : TurnState). u.pair.queue) is))
 
-answered_there : (s : NcpState) (kind : Answer) (f : Flow) (stamp : ℕ) → same_host s.own f.source ≡ true → is_busy (pair_with f.destination s.peers).busy f.link.0 ≡ true
-    → pair_with f.destination (accepted s (inbound.Answer kind f) stamp).0.peers ≡ (answered_turn f.destination kind f.link.0 (turn_of s f.destination)).pair
-unfolding accepted
-answered_there s kind f stamp own busy = rw (own, busy) (put f.destination (answered_turn f.destination kind f.link.0 (turn_of s f.destination)).pair s.peers)
-
 answered_pair : (s : NcpState) (kind : Answer) (f : Flow) (stamp : ℕ) (p : Host) → p ≡ f.destination → same_host s.own f.source ≡ true → is_busy (pair_with p s.peers).busy f.link.0 ≡ true
     → pair_with p (accepted s (inbound.Answer kind f) stamp).0.peers ≡ (answered_turn p kind f.link.0 (turn_of s p)).pair
 answered_pair s kind f stamp p is own busy =
     subst (λ (h : Host). pair_with h (accepted s (inbound.Answer kind f) stamp).0.peers ≡ (answered_turn h kind f.link.0 (turn_of s h)).pair) (sym is)
-    (answered_there s kind f stamp own (subst (λ (h : Host). is_busy (pair_with h s.peers).busy f.link.0 ≡ true) is busy))
+    (accepted_pair s kind f stamp own (subst (λ (h : Host). is_busy (pair_with h s.peers).busy f.link.0 ≡ true) is busy))
 
 module _ (number other : ℕ → ℕ → ℕ → ℕ) (tells : IsTelling number) (others : IsTelling other) (link : ℕ) (off : (link == 0) ≡ false) (steps : Steps number other tells others link) (hosts : List Host) (h p : Host) (moments : List Moment) (rest : List Command) (b : Party) (x y : Stream)
     (held : Held number other tells others link h p moments (commands_in (boxes h p (events_of moments) 0)) rest (post_in (boxes h p (events_of moments) link)) b x y) where
@@ -99,7 +93,7 @@ module _ (number other : ℕ → ℕ → ℕ → ℕ) (tells : IsTelling number)
   act_up g old =
       act_by number other tells others link steps h p (Crossed (crossing.Up g)) moments (commands_in (X 0)) rest (post_in (X link)) b x y
       (commands_in (boxes h p (events_of (Crossed (crossing.Up g) ∷ moments)) 0)) (post_in (boxes h p (events_of (Crossed (crossing.Up g) ∷ moments)) link)) b old held
-      (λ k e f here. by (same_host h g) (kept_start (same_host h g) (pair h p (events_of moments)) k) here)
+      (λ k e f here. by (same_host h g) (kept_stop (same_host h g) (pair h p (events_of moments)) k) here)
       (λ left j. out_cleared number other tells others link steps h p (Crossed (crossing.Up g) ∷ moments) b x y left (X 0) (boxes h p (events_of (Crossed (crossing.Up g) ∷ moments)) 0) (X link) (boxes h p (events_of (Crossed (crossing.Up g) ∷ moments)) link) rest
       (cleared_all (same_host h g) (place (events_of moments)) X 0) (cleared_all (same_host h g) (place (events_of moments)) X link) j) where
         by : (t : Bool) → t ≡ false → HereIn number other tells others link h p moments (commands_in (X 0)) (post_in (X link)) b x y
@@ -145,10 +139,10 @@ module _ (number other : ℕ → ℕ → ℕ → ℕ) (tells : IsTelling number)
       rfnm plain = told_rfnm hosts f.source f.destination f.link.0 kind (events_of moments) run h p are_these stays (stays_ready (events_of (Crossed (crossing.Answer kind f) ∷ moments)) h p still) plain
 
       now_ready : program_phases.is_ready (pair_with p (program h (Crossed (crossing.Answer kind f) ∷ moments)).peers).phase ≡ true
-      now_ready = sym (ready_as h p (Crossed (crossing.Answer kind f) ∷ moments) story) ∙ stays_ready (events_of (Crossed (crossing.Answer kind f) ∷ moments)) h p still
+      now_ready = sym (ready_both h p (Crossed (crossing.Answer kind f) ∷ moments) story) ∙ stays_ready (events_of (Crossed (crossing.Answer kind f) ∷ moments)) h p still
 
       was_ready : (pair_with p (program h moments).peers).phase ≡ phase.Ready
-      was_ready = ready_phase (pair_with p (program h moments).peers).phase (sym (ready_as h p moments story.1) ∙ stays_ready (events_of moments) h p stays)
+      was_ready = ready_phase (pair_with p (program h moments).peers).phase (sym (ready_both h p moments story.1) ∙ stays_ready (events_of moments) h p stays)
 
       changed : pair_with p (accepted (program h moments) (inbound.Answer kind f) (places moments)).0.peers ≡ (answered_turn p kind f.link.0 (turn_of (program h moments) p)).pair
       changed = answered_pair (program h moments) kind f (places moments) p peer_host own_is outstanding

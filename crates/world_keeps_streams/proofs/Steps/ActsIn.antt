@@ -16,10 +16,10 @@ use Rattle.reset_law.specs.Runs.{IsRun}
 use Rattle.reset_law.specs.Stays as stay
 use Rattle.world_keeps_streams.proofs.Steps.Going.{Goes, Here, passes_here, stays_as, takes_here}
 use Rattle.world_keeps_streams.proofs.Steps.GoesHeard.{blind, deaf, heard_run, reply_heard}
-use Rattle.world_keeps_streams.proofs.Steps.GoesOut.{ready_as}
 use Rattle.world_keeps_streams.proofs.Steps.Held.{Acted, Held, HereIn, act_by, acted_out, left_held, side}
 use Rattle.world_keeps_streams.proofs.Steps.Joined.{IsSettled, commands_in, commands_of_message, legal_in, post_in}
 use Rattle.world_keeps_streams.proofs.Calls.MayCalls.{MayCalls}
+use Rattle.world_keeps_streams.proofs.Calls.Chain.{ready_both}
 
 -- what a receiver that takes data keeps
 pub record Took (old new : Receiver) : Type 0 where
@@ -201,7 +201,7 @@ module _ (number other : ℕ → ℕ → ℕ → ℕ) (tells : IsTelling number)
       module _ (k : keeps h p (event_in (Crossed (crossing.In m))) (events_of moments) ≡ true) (e : stay.stays h p (events_of moments) ≡ true) (here : HereIn number other tells others link h p moments front post (peer_by Y) x y)
           (may : MayCalls (message_calls p (places moments) m.flow.link.0 m.text (turn_of (program h moments) p))) where
         ready : program_phases.is_ready (pair_with p (program h moments).peers).phase ≡ true
-        ready = sym (ready_as h p moments story.1) ∙ stays_ready (events_of moments) h p e
+        ready = sym (ready_both h p moments story.1) ∙ stays_ready (events_of moments) h p e
 
         own_is : same_host (program h moments).own m.flow.destination ≡ true
         own_is = ap (λ (g : Host). same_host g m.flow.destination) (program_own h moments) ∙ mine

@@ -8,16 +8,14 @@ use Rattle.reset_law.specs.Runs.{IsRun}
 use Rattle.ncp_control.specs.Phases as phases
 use Rattle.reset_law.specs.Stays as stay
 use Rattle.world_keeps_streams.proofs.Steps.Going.{Goes, stays_as}
-use Rattle.world_keeps_streams.proofs.Steps.GoesOut.{box_is_free, ready_as, ready_phase}
+use Rattle.world_keeps_streams.proofs.Steps.GoesOut.{box_is_free, ready_phase}
 use Rattle.world_keeps_streams.proofs.Steps.GoesSaid.{parcel_goes}
 use Rattle.world_keeps_streams.proofs.Steps.Held.{Acted, Held, HereIn, act_by, acted_out, side}
 use Rattle.world_keeps_streams.proofs.Steps.Joined.{commands_in, post_in}
 use Rattle.world_keeps_streams.proofs.Calls.MayCalls.{MayCalls}
 use Rattle.world_keeps_streams.proofs.Stays.Resets.{leaves_by}
-
-clash : (P : Type 0) (t : Bool) → t ≡ true → t ≡ false → P
-clash P true e f = absurd (let no : true ≡ false = f in cc)
-clash P false e f = absurd (let no : false ≡ true = e in cc)
+use Rattle.world_keeps_streams.proofs.Steps.GoesHeard.{clash}
+use Rattle.world_keeps_streams.proofs.Calls.Chain.{ready_both}
 
 -- where a request of the one hasn't gone out, the other hasn't taken it
 abbrev pub FindsNone : (ℕ → ℕ → ℕ → ℕ) → (ℕ → ℕ → ℕ → ℕ) → Host → Host → List Moment → Party → Type 0
@@ -153,7 +151,7 @@ module _ (number other : ℕ → ℕ → ℕ → ℕ) (tells : IsTelling number)
             text_is = ap (λ (k : HostMessage). k.text) n.message ∙ ap (λ (k : PairState). text_for k n.parcel) (sym same_pair)
 
             ready : (pair_with p (program h moments).peers).phase ≡ phase.Ready
-            ready = ready_phase (pair_with p (program h moments).peers).phase (sym (ready_as h p moments story.1) ∙ stays_ready (events_of moments) h p e)
+            ready = ready_phase (pair_with p (program h moments).peers).phase (sym (ready_both h p moments story.1) ∙ stays_ready (events_of moments) h p e)
 
             goes_next : next_of (pair_with p (program h moments).peers) ≡ Some n.parcel
             goes_next = ap next_of same_pair ∙ next_is n.peer n.parcel (program h moments).peers n.next

@@ -1,21 +1,16 @@
 -- A connection that the law's sender has closed stays closed, and nothing is sent in it any more.
-use Rattle.world_keeps_streams.proofs.Common.{◌≡◌, ℕ, ◌==◌, ◌&&◌, not, Bool, true, false, if◌then◌else◌, List, [], ◌∷◌, ◌++◌, Option, Some, None, refl, ap, sym, subst, ◌∙◌, eqb-true, Host, Allocation, Word, Rts, All, Gvb, Cls, for, Entry, all_sent, AreAllowed, IsHistory, IsTelling, gone_now, name_now, receiver_now, sender_now, sent_at, holds_now}
+use Rattle.world_keeps_streams.proofs.Common.{◌≡◌, ℕ, ◌==◌, Bool, true, false, if◌then◌else◌, List, [], ◌∷◌, ◌++◌, Option, Some, None, refl, ap, sym, subst, ◌∙◌, eqb-true, Host, Allocation, Word, Rts, All, Gvb, Cls, for, Entry, all_sent, AreAllowed, IsHistory, IsTelling, gone_now, name_now, receiver_now, sender_now, sent_at, holds_now}
 use Rattle.ncp_control.specs.Allocation as counters
 use Rattle.stream_law.specs.Senders as senders
 use Rattle.stream_law.specs.Senders.{Sender}
 use Rattle.host_keeps_streams.specs.Closings.{MayAllSend}
 use Rattle.host_keeps_streams.specs.Histories as calls
 use Rattle.host_keeps_streams.proofs.lemmas.{Holds, step_sent}
+use Rattle.world_keeps_streams.proofs.Facts.{last_off}
 
 pub record Kept (old new : Sender) (c : ℕ) : Type 0 where
   pub closed : new.closed c ≡ true
   pub sent : new.sent c ≡ old.sent c
-
-open_unclosed : (u v w : Bool) → (u && not v && not w) ≡ true → w ≡ false
-open_unclosed u v false e = refl
-open_unclosed false v true e = absurd (let no : false ≡ true = e in cc)
-open_unclosed true true true e = absurd (let no : false ≡ true = e in cc)
-open_unclosed true false true e = absurd (let no : false ≡ true = e in cc)
 
 module _ (s : Sender) (c : ℕ) (o : s.closed c ≡ true) where
   itself : Kept s s c
@@ -57,7 +52,7 @@ module _ (s : Sender) (c : ℕ) (o : s.closed c ≡ true) where
   not_sent : (k : ℕ) (bits : List Bool) → senders.is_open k s ≡ true → for k (s.sent k ++ bits ∷ []) s.sent c ≡ s.sent c
   not_sent k bits opened = by (c == k) refl where
     by : (v : Bool) → (c == k) ≡ v → (if v then s.sent k ++ bits ∷ [] else s.sent c) ≡ s.sent c
-    by true e = absurd (let no : true ≡ false = sym o ∙ ap s.closed (eqb-true c k e) ∙ open_unclosed s.opened s.shut (s.closed k) opened in cc)
+    by true e = absurd (let no : true ≡ false = sym o ∙ ap s.closed (eqb-true c k e) ∙ last_off s.opened s.shut (s.closed k) opened in cc)
     by false e = refl
 
   kept_move : (m : senders.Move) → senders.May m s → Kept s (senders.moved m s) c

@@ -1,5 +1,5 @@
 -- What a host that doesn't stay leaves in its boxes; and what a host that stays knows of them.
-use Rattle.world_keeps_streams.proofs.Common.{◌≡◌, ◌⊎◌, inl, inr, ℕ, Bool, true, false, List, ◌++◌, refl, ap, sym, subst, ◌∙◌, Host, Command, Stream, is_busy, IsTelling, boxes, pair, stays_ready, pair_with, Agrees, Moment, IsStory, events_of, program, story_agrees, Free, Joint, Lies, Party, Post, Steps}
+use Rattle.world_keeps_streams.proofs.Common.{◌≡◌, ◌⊎◌, inl, inr, ℕ, Bool, true, false, List, ◌++◌, refl, ap, sym, subst, ◌∙◌, Host, Command, Stream, is_busy, IsTelling, boxes, stays_ready, pair_with, Moment, IsStory, events_of, program, story_agrees, Free, Joint, Lies, Party, Post, Steps}
 use Rattle.ncp_control.specs.Phases as program_phases
 use Rattle.ncp_control.specs.declared.phase.Phase as host
 use Rattle.ncp_control.specs.declared.phase.Phase.TheVariants as phase
@@ -11,11 +11,6 @@ use Rattle.world_keeps_streams.proofs.Steps.Joined.{commands_in, post_in}
 use Rattle.world_keeps_streams.proofs.Stays.Resets.{box_busy, up_ready}
 
 -- ---- phases
-
-pub ready_as : (h p : Host) (moments : List Moment) → IsStory moments → stay.ready h p (events_of moments) ≡ program_phases.is_ready (pair_with p (program h moments).peers).phase
-ready_as h p moments story =
-    let a : Agrees (pair_with p (program h moments).peers) (pair h p (events_of moments)) = story_agrees moments h p story in
-    ap program_phases.is_ready a.phase
 
 pub ready_phase : (ph : host.Phase) → program_phases.is_ready ph ≡ true → ph ≡ phase.Ready
 ready_phase phase.Ready e = refl

@@ -1,5 +1,5 @@
 -- One host of a world beside one peer of it, upon two streams of a link; and what one moment more makes of it.
-use Rattle.world_keeps_streams.proofs.Common.{◌≡◌, ℕ, Bool, true, false, if◌then◌else◌, List, [], ◌∷◌, ◌++◌, refl, sym, subst, Host, Command, Stream, AreAllowed, IsTelling, gone_now, receiver_now, sender_now, pair_with, Moment, event_in, events_of, program, Joint, Party, Post, Steps, keeps, calls_by, own_calls}
+use Rattle.world_keeps_streams.proofs.Common.{◌≡◌, ℕ, Bool, true, false, List, [], ◌∷◌, ◌++◌, refl, sym, subst, Host, Command, Stream, AreAllowed, IsTelling, gone_now, receiver_now, sender_now, pair_with, Moment, event_in, events_of, program, Joint, Party, Post, Steps, keeps, calls_by, own_calls}
 use Rattle.std.proofs.lemmas.List.{append-nil}
 use Rattle.stream_law.specs.Within.{IsPrefix}
 use Rattle.host_keeps_streams.specs.Histories as calls
@@ -7,6 +7,7 @@ use Rattle.reset_law.specs.Stays as stay
 use Rattle.world_keeps_streams.proofs.Steps.Going.{Goes, Here, standing}
 use Rattle.world_keeps_streams.proofs.Steps.Joined.{IsSettled}
 use Rattle.world_keeps_streams.proofs.Stays.Resets.{stays_on}
+use Rattle.world_keeps_streams.proofs.Facts.{own_if}
 
 abbrev pub side : Host → Host → List Moment → List Command → Post → Party
 side h p moments pending post = record {
@@ -16,10 +17,6 @@ side h p moments pending post = record {
   pending = pending;
   post = post;
 }
-
-own_if : (b : Bool) (xs ys : List calls.Moment) → b ≡ true → (if b then xs else ys) ≡ xs
-own_if true xs ys e = refl
-own_if false xs ys e = absurd (let no : false ≡ true = e in cc)
 
 module _ (number other : ℕ → ℕ → ℕ → ℕ) (tells : IsTelling number) (others : IsTelling other) (link : ℕ) where
   -- what waits to be taken comes first; after it, while the host stays, what waits in its program

@@ -11,6 +11,7 @@ use Rattle.host_keeps_streams.specs.Histories.{Call}
 use Rattle.host_keeps_streams.specs.Moves.{asks_for, on_link}
 use Rattle.host_keeps_streams.specs.Names.{named}
 use Rattle.host_keeps_streams.proofs.lemmas.{Holds}
+use Rattle.world_keeps_streams.proofs.Facts.{last_off}
 
 -- ---- moves other than the hearing of a CLS
 
@@ -184,12 +185,6 @@ for_other {A} c k x f off = by (c == k) refl where
   by true e = absurd (off e)
   by false e = refl
 
-open_unheard : (u v w : Bool) → (u && not v && not w) ≡ true → w ≡ false
-open_unheard u v false e = refl
-open_unheard false v true e = absurd (let no : false ≡ true = e in cc)
-open_unheard true true true e = absurd (let no : false ≡ true = e in cc)
-open_unheard true false true e = absurd (let no : false ≡ true = e in cc)
-
 module _ (r : Receiver) (c : ℕ) (o : r.over c ≡ true) where
   itself : Kept r r c
   itself = record { over = o; first = refl; granted = refl; taken = refl }
@@ -225,7 +220,7 @@ module _ (r : Receiver) (c : ℕ) (o : r.over c ≡ true) where
       first = refl;
       granted = refl;
       taken = for_other c k (r.taken k ++ bits ∷ []) r.taken
-          (λ same. unlike r c k same o (open_unheard r.opened r.closed (r.over k) (open_there (receivers.is_open k r) (is_size z (r.size k)) (covers r.allocation (length bits)) t)));
+          (λ same. unlike r c k same o (last_off r.opened r.closed (r.over k) (open_there (receivers.is_open k r) (is_size z (r.size k)) (covers r.allocation (length bits)) t)));
     })
     by false t = rw t itself
 
@@ -235,7 +230,7 @@ module _ (r : Receiver) (c : ℕ) (o : r.over c ≡ true) where
   kept_move (receivers.Grant k m n) may = record {
     over = o;
     first = refl;
-    granted = for_other c k (counters.added (r.granted k) m n) r.granted (λ same. unlike r c k same o (open_unheard r.opened r.closed (r.over k) may.1));
+    granted = for_other c k (counters.added (r.granted k) m n) r.granted (λ same. unlike r c k same o (last_off r.opened r.closed (r.over k) may.1));
     taken = refl;
   }
   kept_move (receivers.AskBack k m n) may = itself

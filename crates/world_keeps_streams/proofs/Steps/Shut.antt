@@ -8,6 +8,7 @@ use Rattle.host_keeps_streams.specs.Histories as calls
 use Rattle.host_keeps_streams.specs.Histories.{Call, IsClosing}
 use Rattle.host_keeps_streams.specs.Names.{named}
 use Rattle.host_keeps_streams.proofs.lemmas.{Holds}
+use Rattle.world_keeps_streams.proofs.Facts.{unlike}
 
 -- ---- a connection that was asked for
 
@@ -54,9 +55,6 @@ shut_same : (r t : Receiver) (c : ℕ) → Same r t → IsShut r c → IsShut t 
 shut_same r t c s h = record { asked = ap (λ (f : ℕ → Bool). f c) s.asked ∙ h.asked; closed = λ e. s.closed ∙ h.closed (sym s.end ∙ e) }
 
 -- ---- one move
-
-unlike : (v : Bool) → v ≡ true → v ≡ false → ⊥
-unlike v e f = let no : true ≡ false = sym e ∙ f in absurd (cc)
 
 known_move : (m : receivers.Move) (r : Receiver) → Known r → Known (receivers.moved m r)
 known_move (receivers.Ask k) r h c e = let same : k ≡ c = some_is k c e in subst (λ (j : ℕ). for k true r.asked j ≡ true) same (for_here k true r.asked)

@@ -11,14 +11,12 @@ use Rattle.host_keeps_streams.specs.Histories.{Call}
 use Rattle.host_keeps_streams.proofs.lemmas.{Holds}
 use Rattle.world_keeps_streams.proofs.Deeds.Effects.{Among, among_kept, found_among}
 use Rattle.world_keeps_streams.proofs.Books.Arrives.{one_end}
+use Rattle.world_keeps_streams.proofs.Facts.{unlike}
 
 -- its end is there, and it has said its CLS only where it has heard the sender's
 pub record IsHere (r : Receiver) (c : ℕ) : Type 0 where
   pub end : r.end ≡ Some c
   pub late : r.closed ≡ true → r.over c ≡ true
-
-unlike : (v : Bool) → v ≡ true → v ≡ false → ⊥
-unlike v e f = let not : true ≡ false = sym e ∙ f in absurd (cc)
 
 -- ---- moves by which none is said, and no end goes
 

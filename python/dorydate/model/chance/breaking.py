@@ -13,7 +13,7 @@ from dorydate.model.audit import CONTROL, match
 from dorydate.model.bits import Bits
 from dorydate.model.book import Fate, Life
 from dorydate.model.crossings import Answer, Answered, Crossing, Passed, Turned
-from dorydate.model.fates import LEAVES, over
+from dorydate.model.fates import LEAVES, over, together
 from dorydate.model.log import Book
 from dorydate.model.names import Flow, HostName
 
@@ -443,6 +443,15 @@ def ended_sent_more(chance: Random, book: Book) -> None:
     life.granted = [AMOUNTS - 1, AMOUNTS - 1]
 
 
+# ---- contacts
+
+
+@way("a contact resets one of several lives")
+def reset_alone(chance: Random, book: Book) -> None:
+    life = a_life(chance, book, lambda it: together(book.log, book.lives, it))
+    life.fate = "open" if life.fate == "reset" else "reset"
+
+
 # ---- changes that break nothing: what they change is not promised
 
 
@@ -455,6 +464,8 @@ def ended_otherwise(chance: Random, book: Book) -> None:
     life = a_life(chance, book)
     ended_by = over(book.log, life)
     may = LEAVES[ended_by.left()] if ended_by else {*FATES}
+    if together(book.log, book.lives, life):
+        may = {it for it in may if (it == "reset") == (life.fate == "reset")}
     life.fate = chance.choice([it for it in FATES if it in may and (it != "ended" or sends(life))])
 
 

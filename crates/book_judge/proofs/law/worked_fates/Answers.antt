@@ -5,7 +5,7 @@ use Rattle.host_pairs.specs.Control.{orders_of}
 use Rattle.interface.specs.declared.crossing.Crossing.TheVariants as crossing
 use Rattle.net_sim.specs.WorkedMoments.{rts, str}
 use Rattle.book_judge.specs.WorkedLives.{late_answer}
-use Rattle.book_judge.proofs.Ends.Contacts.{suited_with}
+use Rattle.book_judge.proofs.Ends.Together.{suited_with}
 use Rattle.book_judge.proofs.Ends.Suited.{suited_alone}
 use Rattle.book_judge.proofs.law.worked_fates.Goals as goal
 
@@ -24,7 +24,7 @@ early_late = refl
 
 pub returns-clause-early : goal.returns-clause-early
 returns-clause-early c = λ f all.
-    false≢true (sym ((all late_answer f (inl (refl, refl))).begins (ap is_begun begun_late)) ∙ early_late)
+    false≢true (sym ((all.each late_answer f (inl (refl, refl))).begins (ap is_begun begun_late)) ∙ early_late)
 
 pub returns-clause-contacts : goal.returns-clause-contacts
 returns-clause-contacts c = λ log lives fates can. suited_with can.contacts log lives fates can.are can.left

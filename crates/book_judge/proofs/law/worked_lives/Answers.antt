@@ -5,15 +5,8 @@ use Rattle.host_pairs.specs.Control.{orders_of}
 use Rattle.book_judge.specs.WorkedLives.{stopped_log}
 use Rattle.book_judge.proofs.Crossed.Made.{made_formed, none_made}
 use Rattle.book_judge.proofs.Named.{contains_cases, contains_head, contains_none}
+use Rattle.book_judge.proofs.Worked.{gave_goes, took_goes}
 use Rattle.book_judge.proofs.law.worked_lives.Goals as goal
-
-took_goes : stage [] took sent_log ≡ Going false false
-unfolding octets_of orders_of read_of command_of
-took_goes = refl
-
-gave_goes : stage [] gave sent_log ≡ Going false false
-unfolding octets_of orders_of read_of command_of
-gave_goes = refl
 
 going_made : (x : Life) → stage [] x sent_log ≡ Going false false → IsFormed sent_log x → IsMade sent_log x
 going_made x goes f = record {

@@ -7,7 +7,7 @@ use Rattle.promise.specs.Promised.{Promised}
 use Rattle.net_sim.proofs.lemmas.{world_fated}
 use Rattle.world_keeps_streams.proofs.lemmas.{world_arrived, world_contacts, world_ended, world_over}
 use Rattle.world_keeps_streams.proofs.lemmas.{world_within}
-use Rattle.world_keeps_streams.specs.Within.{AreWithin}
+use Rattle.world_keeps_streams.specs.Within.{CountNothingLater}
 use Rattle.headline.proofs.Promise.{exact, promised}
 use Rattle.headline.proofs.book.book_of.Goals as goal
 
@@ -46,6 +46,6 @@ returns-clause-contacts g c =
 
 pub returns-clause-within : goal.returns-clause-within
 returns-clause-within g c =
-    subst (λ (k : Kept). AreWithin k.book.contacts k.book.crossings k.book.lives) (sym c.book.ensures.value)
+    subst (λ (k : Kept). CountNothingLater k.book.contacts k.book.crossings k.book.lives) (sym c.book.ensures.value)
     (world_within g.C.Carrier.calls.seen
     (g.C.Carrier.calls.seen c.args.world.now.carrier).hosts c.args.world.now c.book.ensures.lawful)

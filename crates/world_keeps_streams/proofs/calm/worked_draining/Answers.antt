@@ -1,4 +1,5 @@
-use Rattle.world_keeps_streams.proofs.Common.{◌≡◌, ℕ, zero, suc, ◌==◌, Bool, true, false, [], ◌∷◌, Option, is_some, refl, ap, arith, ne_eqb, HostMessage, first, second, program, crossings_of, none_there, NoneOut}
+use Rattle.world_keeps_streams.proofs.Common.{◌≡◌, zero, suc, Bool, true, false, [], ◌∷◌, Option, is_some, refl, ap, arith, HostMessage, first, second, program, crossings_of, none_there, NoneOut}
+use Rattle.world_keeps_streams.proofs.Facts.{untrue, unfalse, no_zero}
 use Rattle.bit_messages.specs.Octets.{octets_of}
 use Rattle.interface.specs.Mailboxes.{Box, Empty, Taken, Waiting}
 use Rattle.ncp_control.specs.Packing.{packed_count}
@@ -15,22 +16,13 @@ is_empty Empty = true
 is_empty (Waiting place text) = false
 is_empty (Taken place text) = false
 
-not_both : false ≡ true → ⊥
-not_both e = absurd (cc)
-
-not_some : true ≡ false → ⊥
-not_some e = absurd (cc)
-
-not_control : (n : ℕ) → (suc n == 0) ≡ false
-not_control n = ne_eqb (suc n) 0 (λ e. omega (arith, e))
-
 none_out : NoneOut first second (crossings_of draining_moments)
 none_out zero = refl
-none_out (suc n) = rw (not_control n) refl
+none_out (suc n) = rw (no_zero n) refl
 
 none_back : NoneOut second first (crossings_of draining_moments)
 none_back zero = refl
-none_back (suc n) = rw (not_control n) refl
+none_back (suc n) = rw (no_zero n) refl
 
 pub returns-clause-drains : goal.returns-clause-drains
 unfolding octets_of orders_of read_of command_of packed_count accepted refusal served served_notices next_out offered
@@ -64,23 +56,23 @@ returns-clause-open c = record { unclosed = refl; opened = refl; drains = λ clo
 
 pub returns-clause-unanswered : goal.returns-clause-unanswered
 unfolding is_empty
-returns-clause-unanswered c f = not_both (ap is_empty (f.idle.there 0))
+returns-clause-unanswered c f = untrue (ap is_empty (f.idle.there 0))
 
 pub returns-clause-queued : goal.returns-clause-queued
 unfolding octets_of orders_of read_of command_of packed_count accepted refusal served served_notices next_out offered
-returns-clause-queued c f = not_some (ap (λ (o : Option HostMessage). is_some o) f.idle.mute_back)
+returns-clause-queued c f = unfalse (ap (λ (o : Option HostMessage). is_some o) f.idle.mute_back)
 
 pub returns-clause-closed : goal.returns-clause-closed
-returns-clause-closed c f = not_some f.unclosed
+returns-clause-closed c f = unfalse f.unclosed
 
 pub returns-clause-heard : goal.returns-clause-heard
-returns-clause-heard c f = not_some f.unclosed
+returns-clause-heard c f = unfalse f.unclosed
 
 pub returns-clause-said : goal.returns-clause-said
-returns-clause-said c f = not_both f.opened
+returns-clause-said c f = untrue f.opened
 
 pub returns-clause-shut : goal.returns-clause-shut
-returns-clause-shut c f = not_both f.opened
+returns-clause-shut c f = untrue f.opened
 
 pub returns-clause-drained : goal.returns-clause-drained
 returns-clause-drained c f = f.drains refl refl

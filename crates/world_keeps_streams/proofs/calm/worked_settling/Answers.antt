@@ -1,4 +1,5 @@
 use Rattle.world_keeps_streams.proofs.Common.{◌≡◌, zero, suc, ◌==◌, ◌&&◌, Bool, true, false, if◌then◌else◌, [], ◌∷◌, Option, Some, None, is_some, refl, ap, subst, ◌∙◌, arith, Host, same_host, box_of, Flow, HostMessage, NcpState, opening_state, first, second, Seat}
+use Rattle.world_keeps_streams.proofs.Facts.{untrue, unfalse}
 use Rattle.interface.specs.Mailboxes.{Box, Empty, Taken, Waiting, is_up}
 use Rattle.interface.specs.declared.crossing.Crossing.TheVariants as crossing
 use Rattle.sockets.specs.Sending.{next_out}
@@ -13,18 +14,12 @@ is_empty Empty = true
 is_empty (Waiting place text) = false
 is_empty (Taken place text) = false
 
-not_both : false ≡ true → ⊥
-not_both e = absurd (cc)
-
 program_in : Option Seat → Option NcpState
 program_in None = None
 program_in (Some seat) = seat.program
 
 program_is : (s t : NcpState) → Some s ≡ Some t → s ≡ t
 program_is s t e = cc
-
-not_some : true ≡ false → ⊥
-not_some e = absurd (cc)
 
 opening_mute : (h : Host) → next_out (opening_state h) ≡ None
 unfolding next_out
@@ -55,11 +50,11 @@ returns-clause-down c = record { running = refl; silent = two_silent false; answ
 
 pub returns-clause-speaks : goal.returns-clause-speaks
 unfolding next_out served
-returns-clause-speaks c f = not_some (ap (λ (o : Option HostMessage). is_some o) (f.silent 0 (omega arith) (record { host = first; program = Some (served (opening_state first) (request.Contact second)) }) refl (served (opening_state first) (request.Contact second)) refl))
+returns-clause-speaks c f = unfalse (ap (λ (o : Option HostMessage). is_some o) (f.silent 0 (omega arith) (record { host = first; program = Some (served (opening_state first) (request.Contact second)) }) refl (served (opening_state first) (request.Contact second)) refl))
 
 pub returns-clause-waits : goal.returns-clause-waits
 unfolding is_empty
-returns-clause-waits c f = not_both (ap is_empty (f.answered (record { source = first; destination = second; link = record { 0 = 0 } }) refl refl))
+returns-clause-waits c f = untrue (ap is_empty (f.answered (record { source = first; destination = second; link = record { 0 = 0 } }) refl refl))
 
 pub returns-clause-halted : goal.returns-clause-halted
-returns-clause-halted c f = not_some f.running
+returns-clause-halted c f = unfalse f.running

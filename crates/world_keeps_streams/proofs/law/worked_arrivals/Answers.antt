@@ -1,4 +1,5 @@
 use Rattle.world_keeps_streams.proofs.Common.{◌≡◌, inl, inr, ℕ, Bool, true, false, List, [], ◌∷◌, Option, None, refl, ap, ◌∙◌, arith, Host, same_host, some_is, asked_on_link, asked_with_size, spent, is_open, receiving_end, sending_end, asked_at, Entry, first, second, program, bits_sent, none_there}
+use Rattle.world_keeps_streams.proofs.Facts.{untrue}
 use Rattle.bit_messages.specs.Octets.{octets_of}
 use Rattle.ncp_control.specs.Packing.{packed_count}
 use Rattle.ncp_control.specs.Reading.{read_of, command_of}
@@ -19,9 +20,6 @@ first_open (e ∷ es) = is_open e
 
 other_host : second ≡ first → ⊥
 other_host e = let no : false ≡ true = ap (λ (h : Host). same_host h first) e in absurd (cc)
-
-not_both : false ≡ true → ⊥
-not_both e = absurd (cc)
 
 pub returns-clause-open : goal.returns-clause-open
 unfolding octets_of orders_of read_of command_of packed_count accepted refusal served served_notices next_out offered
@@ -90,4 +88,4 @@ returns-clause-unclosed c f = elim f.unclosed [
 ]
 
 pub returns-clause-itself : goal.returns-clause-itself
-returns-clause-itself c f = not_both f.matches.sending
+returns-clause-itself c f = untrue f.matches.sending

@@ -1,4 +1,5 @@
 use Rattle.world_keeps_streams.proofs.Common.{◌≡◌, ℕ, zero, suc, ◌==◌, Bool, true, false, Option, is_some, refl, ap, arith, ne_eqb, HostMessage, asked_on_link, asked_with_size, spent, receiving_end, sending_end, asked_at, first, second, program, crossings_of, none_there, NoneOut}
+use Rattle.world_keeps_streams.proofs.Facts.{untrue, unfalse}
 use Rattle.bit_messages.specs.Octets.{octets_of}
 use Rattle.interface.specs.Mailboxes.{Box, Empty, Taken, Waiting}
 use Rattle.ncp_control.specs.Packing.{packed_count}
@@ -15,12 +16,6 @@ is_empty : Box → Bool
 is_empty Empty = true
 is_empty (Waiting place text) = false
 is_empty (Taken place text) = false
-
-not_both : false ≡ true → ⊥
-not_both e = absurd (cc)
-
-not_some : true ≡ false → ⊥
-not_some e = absurd (cc)
 
 not_control : (n : ℕ) → (suc (suc (suc n)) == 0) ≡ false
 not_control n = ne_eqb (suc (suc (suc n))) 0 (λ e. omega (arith, e))
@@ -69,20 +64,20 @@ returns-clause-calm c = record {
 
 pub returns-clause-unanswered : goal.returns-clause-unanswered
 unfolding is_empty
-returns-clause-unanswered c f = not_both (ap is_empty (f.idle.back 2))
+returns-clause-unanswered c f = untrue (ap is_empty (f.idle.back 2))
 
 pub returns-clause-out : goal.returns-clause-out
 unfolding is_empty
-returns-clause-out c f = not_both (ap is_empty (f.idle.there 0))
+returns-clause-out c f = untrue (ap is_empty (f.idle.there 0))
 
 pub returns-clause-granting : goal.returns-clause-granting
 unfolding octets_of orders_of read_of command_of packed_count accepted refusal served served_notices next_out offered
-returns-clause-granting c f = not_some (ap (λ (o : Option HostMessage). is_some o) f.idle.mute)
+returns-clause-granting c f = unfalse (ap (λ (o : Option HostMessage). is_some o) f.idle.mute)
 
 pub returns-clause-returning : goal.returns-clause-returning
 unfolding octets_of orders_of read_of command_of packed_count accepted refusal served served_notices next_out offered
-returns-clause-returning c f = not_some (ap (λ (o : Option HostMessage). is_some o) f.idle.mute_back)
+returns-clause-returning c f = unfalse (ap (λ (o : Option HostMessage). is_some o) f.idle.mute_back)
 
 pub returns-clause-closing : goal.returns-clause-closing
 unfolding octets_of orders_of read_of command_of packed_count accepted refusal served served_notices next_out offered
-returns-clause-closing c f = not_some (ap (λ (o : Option HostMessage). is_some o) f.idle.mute)
+returns-clause-closing c f = unfalse (ap (λ (o : Option HostMessage). is_some o) f.idle.mute)

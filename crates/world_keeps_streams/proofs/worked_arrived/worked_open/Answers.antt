@@ -1,5 +1,6 @@
 use Rattle.world_keeps_streams.proofs.Common.{◌≡◌, inl, inr, ℕ, Bool, false, List, ◌∷◌, ◌++◌, length, if◌then◌else◌, Option, Some, refl, ap, sym, subst, ◌∙◌, arith, Contains, Flow, Crossing, Going, stage, IsBeside, texts_on, Match, sent_log, each_in, took_nothing}
 use Rattle.std.proofs.Common.{true, []}
+use Rattle.world_keeps_streams.proofs.Ends.Arrived.{same_head}
 use Rattle.bit_messages.specs.Octets.{octets_of}
 use Rattle.interface.specs.declared.crossing.Answer.TheVariants as answer
 use Rattle.interface.specs.declared.crossing.Crossing.TheVariants as crossing
@@ -22,19 +23,16 @@ all_other : List Crossing → Bool
 all_other [] = true
 all_other (c ∷ log) = if is_answer c then false else all_other log
 
-heads : (c d : Crossing) (xs ys : List Crossing) → c ∷ xs ≡ d ∷ ys → (c ≡ d) × (xs ≡ ys)
-heads c d xs ys e = ((let same : c ≡ d = cc in same), (let rest : xs ≡ ys = cc in rest))
-
 none_answered : (log newer older : List Crossing) (f : Flow) → all_other log ≡ true
     → log ≡ newer ++ crossing.Answer answer.Rfnm f ∷ older → ⊥
 unfolding is_answer all_other
 none_answered [] [] older f o e = let no : [] ≡ crossing.Answer answer.Rfnm f ∷ older = e in cc
 none_answered [] (d ∷ newer) older f o e = let no : [] ≡ d ∷ (newer ++ crossing.Answer answer.Rfnm f ∷ older) = e in cc
 none_answered (c ∷ log) [] older f o e =
-    let is : c ≡ crossing.Answer answer.Rfnm f = (heads c (crossing.Answer answer.Rfnm f) log older e).0 in
+    let is : c ≡ crossing.Answer answer.Rfnm f = (same_head c (crossing.Answer answer.Rfnm f) log older e).0 in
     let no : false ≡ true = ap (λ (d : Crossing). if is_answer d then false else all_other log) (sym is) ∙ o in cc
 none_answered (c ∷ log) (d ∷ newer) older f o e = by (is_answer c) o
-    (λ p. none_answered log newer older f p (heads c d log (newer ++ crossing.Answer answer.Rfnm f ∷ older) e).1) where
+    (λ p. none_answered log newer older f p (same_head c d log (newer ++ crossing.Answer answer.Rfnm f ∷ older) e).1) where
       by : (v : Bool) → (if v then false else all_other log) ≡ true → (all_other log ≡ true → ⊥) → ⊥
       by true p rest = let no : false ≡ true = p in cc
       by false p rest = rest p

@@ -1,0 +1,43 @@
+-- Small facts of truth values, numbers and lists.
+use Rattle.world_keeps_streams.proofs.Common.{◌≡◌, ◌≤◌, ◌==◌, ◌&&◌, not, ℕ, suc, Bool, true, false, if◌then◌else◌}
+use Rattle.world_keeps_streams.proofs.Common.{List, [], ◌∷◌, length, refl, ap, sym, ◌∙◌, arith, ne_eqb}
+
+pub unlike : (v : Bool) → v ≡ true → v ≡ false → ⊥
+unlike v e f = let same : true ≡ false = sym e ∙ f in absurd (cc)
+
+pub clash : {A : Type 0} (v : Bool) → v ≡ true → v ≡ false → A
+clash v e f = absurd (unlike v e f)
+
+pub untrue : false ≡ true → ⊥
+untrue e = unlike false e refl
+
+pub unfalse : true ≡ false → ⊥
+unfalse e = unlike true refl e
+
+pub and_off : (b : Bool) → (b && false) ≡ false
+and_off true = refl
+and_off false = refl
+
+pub middle_off : (a b c : Bool) → b ≡ false → (a && b && c) ≡ false
+middle_off true b c e = ap (λ (v : Bool). v && c) e
+middle_off false b c e = refl
+
+pub last_off : (u v w : Bool) → (u && not v && not w) ≡ true → w ≡ false
+last_off u v false e = refl
+last_off false v true e = absurd (untrue e)
+last_off true true true e = absurd (untrue e)
+last_off true false true e = absurd (untrue e)
+
+pub no_zero : (n : ℕ) → (suc n == 0) ≡ false
+no_zero n = ne_eqb (suc n) 0 (λ e. absurd (cc))
+
+pub none_long : (ts : List (List Bool)) → length ts ≤ 0 → ts ≡ []
+none_long [] l = refl
+none_long (t ∷ ts) l = absurd (omega (arith, l))
+
+pub some_long : (t : List Bool) (ts : List (List Bool)) → 1 ≤ length (t ∷ ts)
+some_long t ts = omega arith
+
+pub own_if : {A : Type 0} (b : Bool) (xs ys : List A) → b ≡ true → (if b then xs else ys) ≡ xs
+own_if true xs ys e = refl
+own_if false xs ys e = absurd (untrue e)
