@@ -78,6 +78,18 @@ returns-in_err-spelled-clause-ends g c =
     (no_line (StopsOne calls c.args.world.now (event_of c.args.event) c.happen_in_calm.new.world) (g.W.Output.contents c.args.writer.now)
     (inr (step_may calls c.args.world.now c.happen_in_calm.new.world (event_of c.args.event) c.in_ok-printed.printed.items c.in_ok-printed.ensures.shown)))
 
+pub returns-in_err-changes-clause-ends : goal.returns-in_err-changes-clause-ends
+returns-in_err-changes-clause-ends g c =
+    let calls : Calls g.row.C.Denot = shown g.C.Carrier.calls in
+    let same : c.from_residual-in_err-changes.result ≡ Err fault.OutOfMemory = search rules in
+    let new : WorldState g.row.C.Denot = c.happen_in_calm.new.world in
+    subst
+    (λ r. StepEnds calls g.C.Inspect.inside.members c.args.spot c.args.round c.args.world.now (event_of c.args.event) r
+    new (g.W.Output.contents c.args.writer.now) (g.W.Output.contents c.args.writer.now)) (sym same)
+    (no_line (StopsOne calls c.args.world.now (event_of c.args.event) new) (g.W.Output.contents c.args.writer.now)
+    (inr (step_may calls c.args.world.now new (event_of c.args.event) c.in_ok-printed.printed.items
+    c.in_ok-printed.ensures.shown)))
+
 pub returns-in_err-print_line-clause-ends : goal.returns-in_err-print_line-clause-ends
 returns-in_err-print_line-clause-ends g c =
     let calls : Calls g.row.C.Denot = shown g.C.Carrier.calls in
