@@ -4,50 +4,42 @@
 //! The functions `worked_..` state the rules by examples: each row is one that another reading of its rule
 //! would fail.
 
-ghost use Rattle.std.specs.Prelude.{◌≡◌, ℕ, ◌==◌, if◌then◌else◌, true, false, [], ◌∷◌, ◌++◌, length, map, replicate, All, Any, ◌⊎◌, Some, None};
+ghost use Rattle.std.specs.Prelude.{◌≡◌, ℕ, true, false, [], ◌∷◌, map, All, Some, None};
 ghost use Rattle.interface.specs.declared.address.Flow.{Flow};
 ghost use Rattle.interface.specs.declared.message.HostMessage.{HostMessage};
 ghost use Rattle.imp_channel.specs.Holding.{carried_by};
 ghost use Rattle.imp_channel.specs.declared.frame.Frame.{Frame};
 ghost use Rattle.interface.specs.declared.carrier.CarrierFault.TheVariants as fault;
 ghost use Rattle.interface.specs.declared.crossing.Answer.TheVariants as answer;
-ghost use Rattle.interface.specs.declared.crossing.Inbound.TheVariants as inbound;
 ghost use Rattle.packetiser.specs.declared.packet.PacketKind.TheVariants as kind;
-ghost use Rattle.imp_node.specs.Arrival.{Old, arrival, from_line, from_line_refusal, ignored};
-ghost use Rattle.imp_node.specs.Examples.{host, flow, only_packet, first_packet, unmarked_packet, packets_to, packet_frame, ack_frame, from_2, from_3, from_3_near_2, imp, busy, messages_between};
-ghost use Rattle.imp_node.specs.Examples.{queueing, serving, slots_of, empty_message, sent_imp, sent_answered, sent_never, noting, after_question, told_back, question_from, sent_within};
-ghost use Rattle.imp_node.specs.Flows.{answer_packet, is_idle, next_number, noted};
-ghost use Rattle.imp_node.specs.Lines.{on_port, route, resend, end_down, end_up, end_down_refusal, end_up_refusal};
+ghost use Rattle.imp_node.specs.Arrival.{Old, arrival, from_line, ignored};
+ghost use Rattle.imp_node.specs.Examples.{host, flow, only_packet, packets_to, packet_frame, ack_frame, imp, busy};
+ghost use Rattle.imp_node.specs.Examples.{serving, slots_of, empty_message, sent_imp, sent_answered, sent_never, noting, after_question, told_back, question_from, sent_within};
+ghost use Rattle.imp_node.specs.Flows.{answer_packet, is_idle, noted};
+ghost use Rattle.imp_node.specs.Lines.{on_port, route, resend, end_down, end_up};
 ghost use Rattle.imp_node.specs.Asking.{ask, ask_refusal};
-ghost use Rattle.imp_node.specs.Contents.{packets, messages};
+ghost use Rattle.imp_node.specs.Contents.{packets};
 ghost use Rattle.imp_node.specs.Making.{Leaves, from_host_makes, from_line_makes, to_host_makes, ask_makes, host_down_makes};
-ghost use Rattle.imp_node.specs.Offering.{begins, way_of, way_has_room, from_host, from_host_refusal};
-ghost use Rattle.imp_node.specs.Pump.{pump};
-ghost use Rattle.imp_node.specs.Queries.{outstanding, last, kept, packet_has, message_has, holds, is_request_between, is_message_between, holds_data, holds_packet, packet_touches, message_touches};
-ghost use Rattle.imp_node.specs.Queries.{touches};
-ghost use Rattle.imp_node.specs.Room.{stored_count};
+ghost use Rattle.imp_node.specs.Offering.{begins, from_host, from_host_refusal};
+ghost use Rattle.imp_node.specs.Queries.{outstanding, kept};
 ghost use Rattle.imp_node.specs.State.{State, host_at, opening_node};
-ghost use Rattle.imp_node.specs.Stopping.{give_up, give_up_refusal, forget_refusal, host_down_refusal, host_up_refusal, forget, abandon, stopped, message_returned, host_down, host_up};
-ghost use Rattle.imp_node.specs.Sides.{IsImp, sender, receiver, ended_with, AllUnmoved, Moved};
-ghost use Rattle.imp_node.specs.Moves.{OfferMoves, ArrivalSays, FrameMoves, ReturningMoves, Becomes, source_down, destination_down};
-ghost use Rattle.imp_node.specs.declared.waiting.Message.{Message};
+ghost use Rattle.imp_node.specs.Stopping.{give_up, give_up_refusal, host_up_refusal, forget, abandon, host_down, host_up};
+ghost use Rattle.imp_node.specs.Sides.{IsImp};
 ghost use Rattle.std.specs.FinMap as map;
-ghost use Rattle.link_table.specs.Keys.{is_from};
 ghost use Rattle.link_table.specs.declared.destination.Fate.TheVariants as fate;
-ghost use Rattle.packetiser.specs.PacketFields.{PacketFields, IsPacket};
-ghost use Rattle.imp_node.specs.Taking.{to_host, to_host_refusal, next_for, gives};
+ghost use Rattle.packetiser.specs.PacketFields.{IsPacket};
+ghost use Rattle.imp_node.specs.Taking.{to_host};
 ghost use Rattle.imp_node.specs.Turns.{from_line_grows, to_host_grows, resend_grows, route_grows, end_down_grows, end_up_grows, give_up_grows, ask_grows, forget_grows, abandon_grows, host_down_grows};
 ghost use Rattle.imp_node.specs.Turns.{host_up_grows};
-ghost use Rattle.imp_node.specs.Laws.Moving.{MovingAnswerTaken, MovingHostUp, MovingMessageTaken};
-ghost use Rattle.imp_node.specs.Laws.Asking.{AskingNoData};
-ghost use Rattle.imp_node.specs.Laws.WorkedPump.{WorkedPumpFreed, WorkedPumpInOrder};
-ghost use Rattle.imp_node.specs.Laws.WorkedRoom.{WorkedRoomRepeated};
-ghost use Rattle.imp_node.specs.Laws.WorkedRoutes.{WorkedRoutesChannelsInOrder, WorkedRoutesRerouted, WorkedRoutesTold};
-ghost use Rattle.imp_node.specs.Laws.WorkedArrivals.{WorkedArrivalsLost, WorkedArrivalsNoSlot, WorkedArrivalsSlotCleared, WorkedArrivalsUndeliverable};
-ghost use Rattle.imp_node.specs.Laws.WorkedHosts.{WorkedHostsBlockedFirst, WorkedHostsDead, WorkedHostsGivesNothing, WorkedHostsHere, WorkedHostsNowhere};
-ghost use Rattle.imp_node.specs.Laws.WorkedFates.{WorkedFatesOlderStopped, WorkedFatesOlderTaken, WorkedFatesRepeatFrees, WorkedFatesRepeatKeeps, WorkedFatesStopped, WorkedFatesUnmarked};
-ghost use Rattle.imp_node.specs.Laws.WorkedFates.{WorkedFatesUnmarkedAsked};
-ghost use Rattle.imp_node.specs.Laws.WorkedAnswers.{WorkedAnswersBeginsNone, WorkedAnswersInQueue, WorkedAnswersNoData, WorkedAnswersQuestions, WorkedAnswersSlots};
+ghost use Rattle.imp_node.specs.Laws.Moving.{Moving};
+ghost use Rattle.imp_node.specs.Laws.Asking.{Asking};
+ghost use Rattle.imp_node.specs.Laws.WorkedPump.{WorkedPump};
+ghost use Rattle.imp_node.specs.Laws.WorkedRoom.{WorkedRoom};
+ghost use Rattle.imp_node.specs.Laws.WorkedRoutes.{WorkedRoutes};
+ghost use Rattle.imp_node.specs.Laws.WorkedArrivals.{WorkedArrivals};
+ghost use Rattle.imp_node.specs.Laws.WorkedHosts.{WorkedHosts};
+ghost use Rattle.imp_node.specs.Laws.WorkedFates.{WorkedFates};
+ghost use Rattle.imp_node.specs.Laws.WorkedAnswers.{WorkedAnswers};
 
 /// Which packets are in an IMP, and in the frames that it puts on lines, after each call: those that were in
 /// it, and those that the rule of the call makes. Nothing else comes about.
@@ -83,37 +75,7 @@ pub fn holding()
 /// How each call moves the flows of an IMP: what becomes of the named flow at its source and at its
 /// destination, and that all other flows stay as they were.
 pub fn moving()
-    // a message is offered: see `OfferMoves`
-    ensures from_host { (s : State) (m : HostMessage) → OfferMoves (way_of s m.flow) m s (from_host s m).state }
-
-    // a frame moves no flow, or brings a packet that moves its own by what its arrival is, and that says what the packet is
-    ensures from_line { (s : State) (k : ℕ) (f : Frame) → FrameMoves f s (from_line s k f).state }
-    ensures arrivals { (s : State) (p : PacketFields) → ArrivalSays (arrival s p) s p }
-
-    ensures answer_taken { MovingAnswerTaken }
-
-    ensures message_taken { MovingMessageTaken }
-
-    // if neither waits, nothing changes
-    ensures nothing_taken { (s : State) (h : ℕ) → (host_at s h).answers ≡ [] → (host_at s h).queue ≡ [] → AllUnmoved s (to_host s h).state }
-
-    // the outstanding message of a flow is given up, or last numbers are forgotten
-    ensures give_up { (s : State) (f : Flow) → Moved s (give_up s f).state f (ended_with answer.Incomplete (sender s f)) (receiver s f) }
-    ensures forget { (s : State) (imp : ℕ) (f : Flow) → Becomes s (forget s imp).state f (sender s f) (record (receiver s f) { kept = if is_from imp f then None else map.get s.kept f }) }
-
-    // a host goes down by these two steps: it stops, and then each message that waited for it is dead, and its source is notified
-    ensures stopped { (s : State) (h : ℕ) (f : Flow) → Becomes s (stopped s h) f (source_down (f.source.host == h) (sender s f)) (destination_down (f.destination.host == h) (receiver s f)) }
-    ensures returned { (m : Message) (s : State) → ReturningMoves m s (message_returned m s) }
-
-    ensures host_up { MovingHostUp }
-
-    // the other calls move no flow
-    ensures resend { (s : State) → AllUnmoved s (resend s).state }
-    ensures route { (s : State) → AllUnmoved s (route s).state }
-    ensures end_down { (s : State) (k : ℕ) → AllUnmoved s (end_down s k).state }
-    ensures end_up { (s : State) (k : ℕ) → AllUnmoved s (end_up s k).state }
-    ensures abandon { (s : State) (f : Flow) → AllUnmoved s (abandon s f).state }
-    ensures ask { (s : State) (f : Flow) → AllUnmoved s (ask s f).state }
+    ensures { Moving }
 {}
 
 /// What holds of an IMP that was not short of memory, after each call if it held before: it has its number,
@@ -142,114 +104,29 @@ pub fn sound()
 
 /// What the answers to queries say.
 pub fn asking()
-    // what an IMP holds of a message is in one of its packets or messages, and what it doesn't hold in none
-    ensures held { (s : State) (f : Flow) (n : ℕ) → holds s f n ≡ true → Any (λ p. packet_has f n p ≡ true) (packets s) ⊎ Any (λ m. message_has f n m ≡ true) (messages s) }
-    ensures not_held { (s : State) (f : Flow) (n : ℕ) → holds s f n ≡ false → All (λ p. packet_has f n p ≡ false) (packets s) × All (λ m. message_has f n m ≡ false) (messages s) }
-
-    // the same of data from one IMP to another, questions counted, and of anything of a flow from or to an IMP
-    ensures data { (s : State) (from to : ℕ) → holds_data s from to ≡ true → Any (λ p. is_request_between from to p ≡ true) (packets s) ⊎ Any (λ m. is_message_between from to m ≡ true) (messages s) }
-    ensures no_data { AskingNoData }
-    ensures touched { (s : State) (imp : ℕ) → touches s imp ≡ true → Any (λ p. packet_touches imp p ≡ true) (packets s) ⊎ Any (λ m. message_touches imp m ≡ true) (messages s) }
-    ensures untouched { (s : State) (imp : ℕ) → touches s imp ≡ false → All (λ p. packet_touches imp p ≡ false) (packets s) × All (λ m. message_touches imp m ≡ false) (messages s) }
-
-    // a message of a flow that begins is refused only if there is no room, and else begins the next number
-    ensures begins { (s : State) (m : HostMessage) → begins s m.flow ≡ true → from_host_refusal s m ≡ (if way_has_room (way_of s m.flow) s m then None else Some fault.NoRoom) }
-    ensures number { (s : State) (m : HostMessage) → begins s m.flow ≡ true → last (from_host s m).state m.flow ≡ Some (next_number s m.flow) }
-
-    // and one of a flow that does not begin is refused, or begins none
-    ensures no_number { (s : State) (m : HostMessage) → begins s m.flow ≡ false → from_host_refusal s m ≡ None → last (from_host s m).state m.flow ≡ last s m.flow }
+    ensures { Asking }
 {}
 
 /// Waiting packets go out in order, into the lowest free channels of their routes' lines.
 #[tactic(auto, unfolding(routing::specs::RouteTable::distance_to, routing::specs::RouteTable::next_of, imp_channel::specs::Line::submitted, routing::specs::RouteTable::vector_of))]
 pub fn worked_pump()
-    ensures in_order { WorkedPumpInOrder }
-    ensures gone { (pump [] (imp 1 (Some from_2 ∷ []) (packets_to 2 2))).state.store ≡ [] }
-
-    // of nine packets the ninth waits, and a packet after it that is for another neighbour goes out
-    ensures overtaken { map (λ out. out.port) (pump [] (imp 1 (Some from_2 ∷ Some from_3 ∷ []) (packets_to 2 9 ++ packets_to 3 1))).frames ≡ replicate 8 0 ++ 1 ∷ [] }
-    ensures waits { (pump [] (imp 1 (Some from_2 ∷ Some from_3 ∷ []) (packets_to 2 9 ++ packets_to 3 1))).state.store ≡ only_packet (flow (host 0 1) (host 0 2) 8) 0 ∷ [] }
-
-    ensures freed { WorkedPumpFreed }
-
-    // packets without a live route are dropped
-    ensures dropped { (pump [] (imp 1 (None ∷ Some from_3 ∷ []) (packets_to 2 2))).state ≡ imp 1 (None ∷ Some from_3 ∷ []) [] }
+    ensures { WorkedPump }
 {}
 
 /// The store has 32 places, those in channels counted, and a frame without room counts as lost.
-#[tactic(auto, unfolding(routing::specs::RouteTable::distance_to, routing::specs::RouteTable::next_of, imp_channel::specs::Line::submitted, routing::specs::RouteTable::vector_of))]
 pub fn worked_room()
-    // of 32 packets for one neighbour eight are in channels, and all 32 count
-    ensures counted { (stored_count (busy 32) ≡ 32) × (length (busy 32).store ≡ 24) }
-
-    // then a fresh packet for that neighbour changes nothing and is not acknowledged
-    ensures lost { from_line (busy 32) 1 (packet_frame 0 (only_packet (flow (host 0 3) (host 0 2) 5) 0)) ≡ ignored (busy 32) }
-
-    // room is asked for before acknowledgements are taken: that the same frame would free a channel does not help
-    ensures asked_before { from_line (busy 32) 0 (record (packet_frame 0 (only_packet (flow (host 0 2) (host 0 2) 5) 0)) { acks = ack_frame.acks }) ≡ ignored (busy 32) }
-
-    // a packet without a route is dropped, so it calls for no room, and is acknowledged
-    ensures dropped { (from_line (busy 32) 1 (packet_frame 0 (only_packet (flow (host 0 3) (host 0 5) 5) 0))).frames ≡ on_port 1 ack_frame ∷ [] }
-
-    // the 32nd packet has room: it is acknowledged, and waits as the 24th
-    ensures stored { (from_line (busy 31) 1 (packet_frame 0 (only_packet (flow (host 0 3) (host 0 2) 5) 0))).frames ≡ on_port 1 ack_frame ∷ [] }
-    ensures waiting { length (from_line (busy 31) 1 (packet_frame 0 (only_packet (flow (host 0 3) (host 0 2) 5) 0))).state.store ≡ 24 }
-
-    ensures repeated { WorkedRoomRepeated }
-
-    // a host's message of one packet has room beside 31 packets, and none beside 32
-    ensures offered { from_host_refusal (busy 31) (empty_message (flow (host 0 1) (host 0 2) 40)) ≡ None }
-    ensures no_room { from_host_refusal (busy 32) (empty_message (flow (host 0 1) (host 0 2) 40)) ≡ Some fault.NoRoom }
+    ensures { WorkedRoom }
 {}
 
 /// What an IMP announces of routes, and that packets find another one.
 #[tactic(auto, unfolding(routing::specs::RouteTable::distance_to, routing::specs::RouteTable::next_of, imp_channel::specs::Line::submitted, routing::specs::RouteTable::vector_of))]
 pub fn worked_routes()
-    ensures told { WorkedRoutesTold }
-
-    ensures rerouted { WorkedRoutesRerouted }
-
-    // and is dropped where none does
-    ensures unrouted { (end_down (busy 1) 0).frames ≡ [] }
-    ensures nothing_kept { (end_down (busy 1) 0).state.store ≡ [] }
-
-    // of nine packets eight are in channels: the one that waits goes first on the other line, and the last of the eight waits now
-    ensures waiting_first { (end_down (pump [] (imp 1 (Some from_2 ∷ Some from_3_near_2 ∷ []) (packets_to 2 9))).state 0).state.store ≡ only_packet (flow (host 0 1) (host 0 2) 7) 0 ∷ [] }
-
-    ensures channels_in_order { WorkedRoutesChannelsInOrder }
-
-    // what is not acknowledged is sent again, in order of its channels
-    ensures sent_again { (resend (busy 2)).frames ≡ (pump [] (imp 1 (Some from_2 ∷ Some from_3 ∷ []) (packets_to 2 2))).frames }
+    ensures { WorkedRoutes }
 {}
 
 /// What a fresh packet for a host of the IMP comes to. Host 0 at IMP 1 is served over port 0, from IMP 2.
 pub fn worked_arrivals()
-    // the one packet of an empty message: it is acknowledged, and the message waits
-    ensures queued { (host_at (from_line (serving []) 0 (packet_frame 0 (only_packet (flow (host 0 2) (host 0 1) 2) 0))).state 0).queue ≡ messages_between (host 0 2) (host 0 1) 1 }
-    ensures acknowledged { (from_line (serving []) 0 (packet_frame 0 (only_packet (flow (host 0 2) (host 0 1) 2) 0))).frames ≡ on_port 0 ack_frame ∷ [] }
-
-    // the sixteenth message has room, and for the seventeenth the frame counts as lost
-    ensures sixteen { length (host_at (from_line (serving (messages_between (host 0 2) (host 0 1) 15)) 0 (packet_frame 0 (only_packet (flow (host 0 2) (host 0 1) 50) 0))).state 0).queue ≡ 16 }
-    ensures lost { WorkedArrivalsLost }
-
-    // a body without a mark calls for no room in the queue: it is acknowledged, and no message waits
-    ensures unmarked { (from_line (serving (messages_between (host 0 2) (host 0 1) 16)) 0 (packet_frame 0 (unmarked_packet (flow (host 0 2) (host 0 1) 50) 0))).frames ≡ on_port 0 ack_frame ∷ [] }
-    ensures no_message { (host_at (from_line (serving []) 0 (packet_frame 0 (unmarked_packet (flow (host 0 2) (host 0 1) 50) 0))).state 0).queue ≡ [] }
-
-    ensures no_slot { WorkedArrivalsNoSlot }
-    ensures eighth_slot { length (from_line (record (serving []) { slots = slots_of 7 }) 0 (packet_frame 0 (first_packet (flow (host 0 2) (host 0 1) 7) 0 (replicate 1008 false)))).state.slots ≡ 8 }
-
-    ensures undeliverable { WorkedArrivalsUndeliverable }
-
-    // that Dead calls for room: beside 32 packets the frame counts as lost, but not where no live route leads to the source
-    ensures dead_has_room { from_line (busy 32) 1 (packet_frame 0 (only_packet (flow (host 0 3) (host 2 1) 5) 0)) ≡ ignored (busy 32) }
-    ensures dead_is_dropped { (from_line (busy 32) 1 (packet_frame 0 (only_packet (flow (host 0 5) (host 2 1) 5) 0))).frames ≡ on_port 1 ack_frame ∷ [] }
-
-    ensures slot_cleared { WorkedArrivalsSlotCleared }
-
-    // an answer to a message that isn't outstanding is acknowledged, and nothing waits for the host
-    ensures stale { (from_line (serving []) 0 (packet_frame 0 (answer_packet kind.Rfnm (flow (host 0 1) (host 0 2) 5) 0))).frames ≡ on_port 0 ack_frame ∷ [] }
-    ensures none_told { (host_at (from_line (serving []) 0 (packet_frame 0 (answer_packet kind.Rfnm (flow (host 0 1) (host 0 2) 5) 0))).state 0).answers ≡ [] }
+    ensures { WorkedArrivals }
 {}
 
 /// What a question about a message comes to. Host 0 at IMP 1 is served over port 0, from host 0 at IMP 2 on
@@ -327,49 +204,8 @@ pub fn worked_asking()
 {}
 
 /// Hosts at IMP 1: what they send, take and leave to others.
-#[tactic(auto, unfolding(link_table::specs::Flows::begun, routing::specs::RouteTable::distance_to, link_table::specs::Flows::flow_answered, link_table::specs::Flows::handed, link_table::specs::Numbers::is_new, routing::specs::RouteTable::next_of, imp_channel::specs::Line::submitted, routing::specs::RouteTable::vector_of))]
 pub fn worked_hosts()
-    ensures nowhere { WorkedHostsNowhere }
-    ensures nothing_sent { (from_host (imp 1 (None ∷ []) []) (empty_message (flow (host 0 1) (host 0 2) 7))).frames ≡ [] }
-    ensures accepted { from_host_refusal (imp 1 (None ∷ []) []) (empty_message (flow (host 0 1) (host 0 2) 7)) ≡ None }
-    ensures blocked { from_host_refusal (from_host (imp 1 (None ∷ []) []) (empty_message (flow (host 0 1) (host 0 2) 7))).state (empty_message (flow (host 0 1) (host 0 2) 7)) ≡ Some fault.Blocked }
-
-    // IMP 2 was heard: the packet of an empty message goes out, with the number 0
-    ensures away { (from_host (imp 1 (Some from_2 ∷ []) []) (empty_message (flow (host 0 1) (host 0 2) 7))).frames ≡ on_port 0 (packet_frame 0 (only_packet (flow (host 0 1) (host 0 2) 7) 0)) ∷ [] }
-
-    // within one IMP a message waits after fifteen others, and has no room after sixteen
-    ensures within { from_host_refusal (queueing (messages_between (host 0 1) (host 1 1) 15)) (empty_message (flow (host 0 1) (host 1 1) 17)) ≡ None }
-    ensures queue_full { from_host_refusal (queueing (messages_between (host 0 1) (host 1 1) 16)) (empty_message (flow (host 0 1) (host 1 1) 18)) ≡ Some fault.NoRoom }
-    ensures here { WorkedHostsHere }
-
-    ensures blocked_first { WorkedHostsBlockedFirst }
-
-    // the refusals before that: a host of another IMP, a host that isn't there
-    ensures other_imp { from_host_refusal (imp 1 (Some from_2 ∷ []) []) (empty_message (flow (host 0 3) (host 0 2) 7)) ≡ Some fault.NoSuch }
-    ensures other_host { from_host_refusal (imp 1 (Some from_2 ∷ []) []) (empty_message (flow (host 2 1) (host 0 2) 7)) ≡ Some fault.NoSuch }
-
-    // a message that is taken gives its source an RFNM, which goes out in the same step, and not before
-    ensures taken { next_for (serving (messages_between (host 0 2) (host 0 1) 2)) 0 ≡ Some (inbound.Message (empty_message (flow (host 0 2) (host 0 1) 2))) }
-    ensures rfnm { (to_host (serving (messages_between (host 0 2) (host 0 1) 2)) 0).frames ≡ on_port 0 (packet_frame 0 (answer_packet kind.Rfnm (flow (host 0 2) (host 0 1) 2) 0)) ∷ [] }
-
-    // without a live route to the source the RFNM is dropped, so that beside 32 packets the message is taken all the same
-    ensures needs_no_room { to_host_refusal (record (serving (messages_between (host 0 5) (host 0 1) 1)) { store = packets_to 2 32 }) 0 ≡ None }
-
-    // a source at the same IMP whose message is not outstanding any more gets none
-    ensures given_up { (host_at (to_host (queueing (messages_between (host 0 1) (host 1 1) 1)) 1).state 0).answers ≡ [] }
-
-    ensures dead { WorkedHostsDead }
-    ensures cleared { host_at (host_down (serving (messages_between (host 0 2) (host 0 1) 2)) 0).state 0 ≡ record { up = false; answers = []; queue = [] } }
-
-    // only where there is room: beside 31 packets the first Dead is stored, and the second is not
-    ensures dead_with_room { stored_count (host_down (record (serving (messages_between (host 0 2) (host 0 1) 2)) { store = packets_to 2 31 }) 0).state ≡ 32 }
-
-    // a host gets something where an answer or a message waits, and nothing refuses the taking
-    ensures gives { (gives (serving (messages_between (host 0 2) (host 0 1) 1)) 0 ≡ true) × (gives (from_host (imp 1 (None ∷ []) []) (empty_message (flow (host 0 1) (host 0 2) 7))).state 0 ≡ true) }
-    ensures gives_nothing { WorkedHostsGivesNothing }
-
-    // nothing waits: nothing is given
-    ensures nothing { (to_host_refusal (serving []) 0 ≡ None) × (next_for (serving []) 0 ≡ None) × ((to_host (serving []) 0).frames ≡ []) }
+    ensures { WorkedHosts }
 {}
 
 /// The flows of an IMP's hosts: what is begun, answered and given up. Host 0 at IMP 1 has sent an empty
@@ -403,16 +239,7 @@ pub fn worked_flows()
 /// What is kept of messages that were not taken, and what a repeat brings. Host 0 at IMP 1 is served over port 0, from host 0 at
 /// IMP 2 on link 2.
 pub fn worked_fates()
-    ensures unmarked { WorkedFatesUnmarked }
-    ensures unmarked_asked { WorkedFatesUnmarkedAsked }
-
-    ensures stopped { WorkedFatesStopped }
-
-    ensures older_stopped { WorkedFatesOlderStopped }
-    ensures older_taken { WorkedFatesOlderTaken }
-
-    ensures repeat_frees { WorkedFatesRepeatFrees }
-    ensures repeat_keeps { WorkedFatesRepeatKeeps }
+    ensures { WorkedFates }
 {}
 
 /// What comes up again, and what is thrown away.
@@ -462,42 +289,6 @@ pub fn worked_memory()
 {}
 
 /// The refusals of the other calls, and what an IMP says that it holds.
-#[tactic(auto, unfolding(routing::specs::RouteTable::distance_to, routing::specs::RouteTable::next_of, imp_channel::specs::Line::submitted, routing::specs::RouteTable::vector_of))]
 pub fn worked_answers()
-    // hosts and ends of lines that are down, up or not there
-    ensures host_not_there { (to_host_refusal (serving []) 2 ≡ Some fault.NoSuch) × (host_down_refusal (serving []) 2 ≡ Some fault.NoSuch) × (host_up_refusal (serving []) 2 ≡ Some fault.NoSuch) }
-    ensures host_is_down { (to_host_refusal (host_down (serving []) 0).state 0 ≡ Some fault.IsDown) × (host_down_refusal (host_down (serving []) 0).state 0 ≡ Some fault.IsDown) }
-    ensures host_is_up { host_up_refusal (serving []) 0 ≡ Some fault.IsUp }
-    ensures end_not_there { (end_down_refusal (serving []) 1 ≡ Some fault.NoSuch) × (end_up_refusal (serving []) 1 ≡ Some fault.NoSuch) × (from_line_refusal (serving []) 1 ≡ Some fault.NoSuch) }
-    ensures end_is_down { end_down_refusal (end_down (serving []) 0).state 0 ≡ Some fault.IsDown }
-    ensures end_is_up { end_up_refusal (serving []) 0 ≡ Some fault.IsUp }
-    ensures own_numbers { (forget_refusal (serving []) 1 ≡ Some fault.NoSuch) × (forget_refusal (serving []) 2 ≡ None) }
-    ensures slots { WorkedAnswersSlots }
-
-    // a taking whose RFNM has no room is refused, and a frame at an end that is down is ignored
-    ensures no_room { to_host_refusal (record (serving (messages_between (host 0 2) (host 0 1) 1)) { store = packets_to 2 32 }) 0 ≡ Some fault.NoRoom }
-    ensures ignored { from_line (end_down (serving []) 0).state 0 (packet_frame 0 (only_packet (flow (host 0 2) (host 0 1) 2) 0)) ≡ ignored (end_down (serving []) 0).state }
-
-    // packets in channels and those that wait, messages in queues: each with its flow and its number
-    ensures in_channel { (holds (busy 9) (flow (host 0 1) (host 0 2) 0) 0 ≡ true) × (holds (busy 9) (flow (host 0 1) (host 0 2) 0) 1 ≡ false) }
-    ensures waiting { (holds (busy 9) (flow (host 0 1) (host 0 2) 8) 0 ≡ true) × (holds (busy 9) (flow (host 0 1) (host 0 2) 9) 0 ≡ false) }
-    ensures in_slot { holds (record (serving []) { slots = slots_of 1 }) (flow (host 0 2) (host 0 1) 0) 0 ≡ true }
-    ensures in_queue { WorkedAnswersInQueue }
-
-    // a packet that waits and one in a channel are held in the store or a channel; a piece in a slot is not
-    ensures packet_held { (holds_packet (imp 1 (None ∷ []) (packets_to 2 1)) ≡ true) × (holds_packet (busy 1) ≡ true) }
-    ensures no_packet_held { (holds_packet (busy 0) ≡ false) × (holds_packet (record (serving []) { slots = slots_of 1 }) ≡ false) }
-
-    // an answer that waits for a host does not count
-    ensures answers_aside { touches (from_host (imp 1 (None ∷ []) []) (empty_message (flow (host 0 1) (host 0 2) 7))).state 2 ≡ false }
-
-    // data from one IMP to another; an RFNM is none, but is something of a flow from or to both
-    ensures data { (holds_data (busy 1) 1 2 ≡ true) × (holds_data (busy 1) 2 1 ≡ false) × (touches (busy 1) 1 ≡ true) × (touches (busy 1) 2 ≡ true) × (touches (busy 1) 3 ≡ false) }
-    ensures no_data { WorkedAnswersNoData }
-
-    ensures questions { WorkedAnswersQuestions }
-
-    // what would begin a number: from a host here that is up, to an IMP with a route or a host here that is up
-    ensures begins { (begins (imp 1 (Some from_2 ∷ []) []) (flow (host 0 1) (host 0 2) 7) ≡ true) × (begins (imp 1 (Some from_2 ∷ []) []) (flow (host 0 1) (host 1 1) 7) ≡ true) }
-    ensures begins_none { WorkedAnswersBeginsNone }
+    ensures { WorkedAnswers }
 {}

@@ -1,16 +1,15 @@
 //! What mailboxes promise, as laws over their definitions. The functions here do nothing: each clause is the law.
 
-ghost use Rattle.std.specs.Prelude.{◌≡◌, ◌≢◌, ℕ, Bool, true, false, List, [], ◌∷◌, Some, slice_get};
+ghost use Rattle.std.specs.Prelude.{◌≡◌, ◌≢◌, ℕ, false, List, [], ◌∷◌, Some, slice_get};
 ghost use Rattle.interface.specs.Host.{Host, is_host, InOrder};
-ghost use Rattle.interface.specs.Mailboxes.{IsRun, EachIsRun, Box, Empty, Waiting, Taken, WaitsWith, box_of};
+ghost use Rattle.interface.specs.Mailboxes.{IsRun, Empty, Waiting, Taken, box_of};
 ghost use Rattle.interface.specs.Messages.{SafeMessages, NeverTaken};
 ghost use Rattle.interface.specs.declared.crossing.Answer.{Answer};
 ghost use Rattle.interface.specs.declared.crossing.Answer.TheVariants as answer;
 ghost use Rattle.interface.specs.declared.crossing.Crossing.{Crossing};
 ghost use Rattle.interface.specs.declared.crossing.Crossing.TheVariants as crossing;
 ghost use Rattle.interface.specs.declared.message.HostMessage.{HostMessage};
-ghost use Rattle.interface.specs.Laws.Mailboxes.{MailboxesOwnStory};
-ghost use Rattle.interface.specs.Laws.WorkedRuns.{WorkedRunsNotTaken, WorkedRunsTaken, WorkedRunsWaiting};
+ghost use Rattle.interface.specs.Laws.{Mailboxes, WorkedRuns};
 
 /// Hosts in order, as a carrier names them.
 pub fn hosts()
@@ -20,13 +19,7 @@ pub fn hosts()
 
 /// A network may be looked at one flow at a time (BBN Report 1822: one message outstanding on a link).
 pub fn mailboxes()
-    // if each flow's part of a log is a run of its own box and its two hosts, the log is a run
-    ensures flow_by_flow { (hosts : List Host) (log : List Crossing) → EachIsRun hosts log → IsRun hosts log }
-
-    // the box of a text that waits is that of a message which waits, with this text
-    ensures waiting { (box : Box) (text : List Bool) → WaitsWith box text → (place : ℕ) × (box ≡ Waiting place text) }
-
-    ensures own_story { MailboxesOwnStory }
+    ensures { Mailboxes }
 {}
 
 /// Logs that are no run, and boxes after a few crossings: the rules of the mailboxes one by one.
@@ -64,14 +57,7 @@ pub fn worked_boxes()
 
 /// Logs that are runs: what the rules of the mailboxes allow.
 pub fn worked_runs()
-    ensures taken { WorkedRunsTaken }
-
-    ensures waiting { WorkedRunsWaiting }
-
-    ensures not_taken { WorkedRunsNotTaken }
-
-    // a host of the network goes down, and comes up again
-    ensures restarted { (hosts : List Host) (h : Host) → is_host hosts h ≡ true → IsRun hosts (crossing.Up h ∷ crossing.Down h ∷ []) }
+    ensures { WorkedRuns }
 {}
 
 /// Logs whose messages aren't safe, one for each part of what that is.

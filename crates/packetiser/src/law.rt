@@ -1,24 +1,19 @@
 //! What packets, cutting and reassembly promise, as laws over the definitions that their calls cite. The
 //! functions here do nothing: each clause is a law.
 
-ghost use Rattle.std.specs.Prelude.{◌≡◌, ℕ, ◌+◌, ◌<◌, ◌≤◌, Bool, true, false, List, [], ◌∷◌, ◌++◌, length, map, None, Some, Ok, Err, All, IsPermutation, if◌then◌else◌};
-ghost use Rattle.bit_messages.specs.Body.{body, most_text_bits, has_mark, strip_fault};
+ghost use Rattle.std.specs.Prelude.{◌≡◌, ℕ, ◌<◌, ◌≤◌, Bool, true, false, List, [], ◌∷◌, length, map, None, Ok, Err, All};
+ghost use Rattle.bit_messages.specs.Body.{body, most_text_bits};
 ghost use Rattle.bit_messages.specs.Octets.{bits_of};
-ghost use Rattle.bit_messages.specs.declared.fault.BitFault.TheVariants as bit_fault;
-ghost use Rattle.interface.specs.Flow.{same_flow};
 ghost use Rattle.interface.specs.declared.address.Flow.{Flow};
 ghost use Rattle.packetiser.specs.PacketFields.{PacketFields, IsPacket, flow_of};
 ghost use Rattle.packetiser.specs.Examples.{flow, request, request_packet, header, with_octet, with_octets, sixteen_bits, about_it};
 ghost use Rattle.packetiser.specs.Format.{spelling, read_of, is_bad_length};
 ghost use Rattle.packetiser.specs.Pieces.{piece_count, places, packets_of, IsBodySize, CarriesPieceOf};
-ghost use Rattle.packetiser.specs.Slots.{SlotState, IsTable, IsPieceFor, slot_of, kept_for, joined_pieces, is_whole_from, answer_of, added, without, packets_in, in_some_order, has_room};
-ghost use Rattle.packetiser.specs.Rejoining.{AreAmong, IsGathered, IsRejoined};
+ghost use Rattle.packetiser.specs.Slots.{SlotState, IsPieceFor, slot_of, kept_for, joined_pieces, is_whole_from, answer_of, added, without};
 ghost use Rattle.packetiser.specs.declared.fault.PacketFault.TheVariants as fault;
 ghost use Rattle.packetiser.specs.declared.packet.PacketKind.TheVariants as kind;
 ghost use Rattle.packetiser.specs.declared.reassembly.Added.TheVariants as answer;
-ghost use Rattle.packetiser.specs.Laws.Rejoining.{RejoiningAnswered, RejoiningAnyOrder, RejoiningHeld, RejoiningInterleaved, RejoiningStillThere, RejoiningUndisturbed};
-ghost use Rattle.packetiser.specs.Laws.Holding.{HoldingWhole};
-ghost use Rattle.packetiser.specs.Laws.NotGathered.{NotGatheredAnotherNumber};
+ghost use Rattle.packetiser.specs.Laws.{Rejoining, Holding, NotGathered};
 
 /// Each packet has one spelling, and only spellings are read.
 pub fn spellings()
@@ -100,23 +95,7 @@ pub fn joining()
 
 /// The pieces of one message rejoin to its body, in whatever order and however often they come.
 pub fn rejoining()
-    ensures any_order { RejoiningAnyOrder }
-
-    ensures answered { RejoiningAnswered }
-    ensures held { RejoiningHeld }
-
-    // a flow that has a slot has room
-    ensures room { (slots : List SlotState) (f : Flow) (s : SlotState) → slot_of slots f ≡ Some s → has_room slots f ≡ true }
-
-    ensures undisturbed { RejoiningUndisturbed }
-    ensures still_there { RejoiningStillThere }
-
-    ensures interleaved { RejoiningInterleaved }
-
-    // a packet and an emptied slot touch their own flow's slot only
-    ensures other_packets { (slots : List SlotState) (p : PacketFields) (f : Flow) → same_flow f (flow_of p) ≡ false → slot_of (added slots p) f ≡ slot_of slots f }
-    ensures other_discards { (slots : List SlotState) (f g : Flow) → same_flow f g ≡ false → slot_of (without slots g) f ≡ slot_of slots f }
-    ensures discarded { (slots : List SlotState) (f : Flow) → slot_of (without slots f) f ≡ None }
+    ensures { Rejoining }
 {}
 
 /// A message of one packet needs no slot, and empties that of an older message of its flow.
@@ -129,34 +108,10 @@ pub fn single()
 
 /// What slots hold came in packets, and nothing is made of pieces of two messages.
 pub fn holding()
-    // what is held was held, or is the packet that came
-    ensures added_only { (slots : List SlotState) (p : PacketFields) → AreAmong (packets_in (added slots p)) (packets_in slots ++ p ∷ []) }
-    ensures discarded_only { (slots : List SlotState) (f : Flow) → AreAmong (packets_in (without slots f)) (packets_in slots) }
-
-    ensures whole { HoldingWhole }
-
-    // the same from the answer, and such a body has 16 to 8064 bits in units of sixteen
-    ensures body { (slots : List SlotState) (p : PacketFields) (w : List Bool) → IsTable slots → IsPacket p → p.kind ≡ kind.Data → answer_of slots p ≡ answer.Whole w → IsRejoined slots p w }
-
-    // a list of bits of that size is stripped to a text unless it has no mark
-    ensures stripped { (w : List Bool) → IsBodySize (length w) → strip_fault w ≡ (if has_mark w then None else Some bit_fault.NoMark) }
-
-    // there stay at most eight slots, one for each flow, with pieces of one message each
-    ensures table { (slots : List SlotState) (p : PacketFields) → IsTable slots → IsPacket p → p.kind ≡ kind.Data → IsTable (added slots p) }
-    ensures emptied { (slots : List SlotState) (f : Flow) → IsTable slots → IsTable (without slots f) }
-
-    // the order in which slots are named has each of them once
-    ensures named { (slots : List SlotState) → IsPermutation (in_some_order slots) slots }
+    ensures { Holding }
 {}
 
 /// What is no gathered message: each list of pieces has one thing wrong.
 pub fn not_gathered()
-    ensures another_number { NotGatheredAnotherNumber }
-
-    // other bits than those that came
-    ensures other_bits { (p : PacketFields) → IsGathered [] p (record p { bits = true ∷ p.bits } ∷ []) → ⊥ }
-
-    // the first piece only, and the last one only
-    ensures last_missing { (p : PacketFields) → IsGathered [] (record p { place = 0; last = false }) (record p { place = 0; last = false } ∷ []) → ⊥ }
-    ensures first_missing { (p : PacketFields) → IsGathered [] (record p { place = 1; last = true }) (record p { place = 1; last = true } ∷ []) → ⊥ }
+    ensures { NotGathered }
 {}

@@ -1,14 +1,13 @@
 //! The laws of route tables, stated over their definitions. The functions here do nothing: each clause is
 //! a law.
 
-ghost use Rattle.std.specs.Prelude.{◌≡◌, ◌≢◌, ℕ, ◌<◌, ◌≤◌, Some, List, [], ◌∷◌};
+ghost use Rattle.std.specs.Prelude.{◌≡◌, ◌≢◌, ℕ, ◌<◌, ◌≤◌, Some, [], ◌∷◌};
 ghost use Rattle.interface.specs.Host.{most_imps};
 ghost use Rattle.routing.specs.Vector.{IsVector, infinite};
-ghost use Rattle.routing.specs.Settle.{AreTablesOf, IsNearer, settled};
+ghost use Rattle.routing.specs.Settle.{IsNearer};
 ghost use Rattle.routing.specs.Walks.{IsDistance};
 ghost use Rattle.routing.specs.RouteTable.{Table, distance_in, distance_to, vector_of, next_of, IsNext};
-ghost use Rattle.routing.specs.Laws.Settling.{SettlingRight};
-ghost use Rattle.routing.specs.Laws.WorkedRounds.{WorkedRoundsOne, WorkedRoundsTwo};
+ghost use Rattle.routing.specs.Laws.{Settling, WorkedRounds};
 
 /// A table's vector announces its distances, and its next line attains the distance to another IMP.
 pub fn tables()
@@ -26,15 +25,12 @@ pub fn tables()
 /// infinite distance, from whatever the tables had heard before, each table is right: its distances are
 /// those of shortest walks over the live lines, and its next lines lead nearer.
 pub fn settling()
-    ensures kept { (graph : List (ℕ × ℕ)) (tables : List Table) (rounds : ℕ) → AreTablesOf graph tables → AreTablesOf graph (settled graph tables rounds) }
-    ensures right { SettlingRight }
+    ensures { Settling }
 {}
 
 /// What one round is: three IMPs in a row that have heard nothing.
 pub fn worked_rounds()
-    ensures one { WorkedRoundsOne }
-
-    ensures two { WorkedRoundsTwo }
+    ensures { WorkedRounds }
 {}
 
 /// Ports that lead no nearer.

@@ -18,16 +18,16 @@ ghost use Rattle.interface.specs.declared.event.Direction.TheVariants as way;
 ghost use Rattle.interface.specs.declared.event.NetEvent.{NetEvent};
 ghost use Rattle.interface.specs.declared.event.NetEvent.TheVariants as event;
 ghost use Rattle.interface.specs.declared.message.HostMessage.{HostMessage};
-ghost use Rattle.imp_node.specs.Examples.{host, flow, only_packet, packets_to, packet_frame, ack_frame};
+ghost use Rattle.imp_node.specs.Examples.{host, flow, packets_to, ack_frame};
 ghost use Rattle.imp_node.specs.Lines.{on_port};
 ghost use Rattle.imp_node.specs.State.{State, opening_node, no_host, port_at};
 ghost use Rattle.subnet.specs.Calls.{Kept, running, step_grows, round_grows};
-ghost use Rattle.subnet.specs.Alive.{packets, messages, is_alive};
-ghost use Rattle.subnet.specs.Events.{offer_refusal, offer_out, take_refusal, taken_by_host, gives, crossings_of, take_in, deliver, drop_frame, giving_up_refusal, starting_refusal, imp_stopped};
+ghost use Rattle.subnet.specs.Alive.{packets, messages};
+ghost use Rattle.subnet.specs.Events.{offer_refusal, offer_out, take_refusal, taken_by_host, crossings_of, take_in, deliver, starting_refusal, imp_stopped};
 ghost use Rattle.subnet.specs.Events.{imp_started, quiet_round, step_refusal, stepped};
-ghost use Rattle.subnet.specs.Examples.{ours, our_message, our_queued, data_frame, rfnm_frame, ask_frame, never_frame, passing_frame, imp_1, imp_2, wire, pair, opened_pair, begun_up_to};
+ghost use Rattle.subnet.specs.Examples.{ours, our_message, data_frame, rfnm_frame, ask_frame, passing_frame, imp_1, imp_2, wire, pair, begun_up_to};
 ghost use Rattle.subnet.specs.Examples.{outstanding_up_to, answered_up_to, expecting, expecting_cut_off, expecting_full, one_host_down, hosts_down, cut_off, serving_ours, keeping_up_to, keeping_ours};
-ghost use Rattle.subnet.specs.Examples.{keeping_own, sending_ours, past_one, first_in_row, middle_in_row, flow_1_3, row, expecting_at_3, keeping_at_3, full_of, triangle};
+ghost use Rattle.subnet.specs.Examples.{sending_ours, first_in_row, middle_in_row, row, expecting_at_3, keeping_at_3, full_of, triangle};
 ghost use Rattle.subnet.specs.Flows.{host_is_up};
 ghost use Rattle.subnet.specs.Making.{NothingNew, OnlyNew, offer_makes, take_makes, deliver_makes, asking_makes, stop_makes};
 ghost use Rattle.subnet.specs.Net.{Net, imp_at, wire_at, port_of, line_from, put_one, frames_on};
@@ -39,12 +39,7 @@ ghost use Rattle.subnet.specs.Run.{Call, OffersMessages, ran};
 ghost use Rattle.subnet.specs.Seen.{seen, IsListed, SameNetwork};
 ghost use Rattle.subnet.specs.Sound.{IsSound};
 ghost use Rattle.subnet.specs.Working.{IsWorking, SubnetOffer, SubnetTake, SubnetStep, SubnetRound, seen_of};
-ghost use Rattle.subnet.specs.Laws.WorkedFrames.{WorkedFramesIgnored, WorkedFramesKilled, WorkedFramesNoFrame};
-ghost use Rattle.subnet.specs.Laws.WorkedStillAlive.{WorkedStillAliveAlive, WorkedStillAliveGiveUpAsked, WorkedStillAliveOfferAsked, WorkedStillAliveOfferFull, WorkedStillAliveOther};
-ghost use Rattle.subnet.specs.Laws.WorkedStillAlive.{WorkedStillAliveStartAsked};
-ghost use Rattle.subnet.specs.Laws.WorkedRefusals.{WorkedRefusalsForgetDown, WorkedRefusalsForgetItself, WorkedRefusalsGivesNothing, WorkedRefusalsHostsDown, WorkedRefusalsImpDown};
-ghost use Rattle.subnet.specs.Laws.WorkedRefusals.{WorkedRefusalsNotThere, WorkedRefusalsOtherLine, WorkedRefusalsStartUp};
-ghost use Rattle.subnet.specs.Laws.WorkedRounds.{WorkedRoundsToldFirst, WorkedRoundsTooLate};
+ghost use Rattle.subnet.specs.Laws.{WorkedFrames, WorkedStillAlive, WorkedRefusals, WorkedRounds};
 
 /// The law of the subnet: for every topology of at most 63 IMPs, with any lines, and for every list of offers,
 /// takings, events and quiet rounds from its opening on, of which some are refused, the log that the hosts see is
@@ -244,85 +239,13 @@ pub fn worked_lines()
 {}
 
 /// Frames that are delivered and dropped.
-#[tactic(auto, unfolding(routing::specs::RouteTable::distance_to, link_table::specs::Numbers::is_new, link_table::specs::Numbers::modulus, routing::specs::RouteTable::next_of, link_table::specs::Numbers::oldest, imp_channel::specs::Line::submitted, routing::specs::RouteTable::vector_of, link_table::specs::Numbers::window))]
 pub fn worked_frames()
-    // a frame that is delivered stays alive, and its acknowledgement goes back
-    ensures stays { (deliver (pair (Some imp_1) (Some imp_2) (data_frame 0 ∷ []) []) 0 way.Forward 0).lines ≡ wire (data_frame 0 ∷ []) (ack_frame ∷ []) ∷ [] }
-    ensures came { messages (deliver (pair (Some imp_1) (Some imp_2) (data_frame 0 ∷ []) []) 0 way.Forward 0) ≡ our_queued 0 ∷ [] }
-
-    // a frame that is dropped is gone, and no other
-    ensures dropped { (drop_frame (pair (Some imp_1) (Some imp_2) (data_frame 0 ∷ data_frame 1 ∷ data_frame 2 ∷ []) []) 0 way.Forward 1).lines ≡ wire (data_frame 0 ∷ data_frame 2 ∷ []) [] ∷ [] }
-    ensures killed { WorkedFramesKilled }
-
-    ensures ignored { WorkedFramesIgnored }
-
-    ensures no_frame { WorkedFramesNoFrame }
+    ensures { WorkedFrames }
 {}
 
 /// What is alive, and the four refusals that wait for packets to die.
-#[tactic(auto, unfolding(routing::specs::RouteTable::distance_to, link_table::specs::Numbers::is_new, link_table::specs::Numbers::modulus, routing::specs::RouteTable::next_of, link_table::specs::Numbers::oldest, imp_channel::specs::Line::submitted, routing::specs::RouteTable::vector_of, link_table::specs::Numbers::window))]
 pub fn worked_still_alive()
-    ensures alive { WorkedStillAliveAlive }
-    ensures asked { (is_alive (pair (Some imp_1) (Some imp_2) (ask_frame 0 ∷ []) []) ours 0 ≡ true) × (is_alive (pair (Some imp_1) (Some imp_2) [] (never_frame 0 ∷ [])) ours 0 ≡ true) }
-    ensures other { WorkedStillAliveOther }
-
-    // an offer: the number 32,767 before the last is alive, and the next one is not in the way
-    ensures offer_window { offer_refusal (pair (Some (begun_up_to 32767)) (Some imp_2) (data_frame 0 ∷ []) []) our_message ≡ Some fault.StillAlive }
-    ensures offer_within { offer_refusal (pair (Some (begun_up_to 32767)) (Some imp_2) (data_frame 1 ∷ []) []) our_message ≡ None }
-
-    ensures offer_asked { WorkedStillAliveOfferAsked }
-
-    // numbers wrap around, also where fewer were begun; an answer counts like data
-    ensures offer_round { offer_refusal (pair (Some (begun_up_to 0)) (Some imp_2) [] (rfnm_frame 32769 ∷ [])) our_message ≡ Some fault.StillAlive }
-
-    // before the first number nothing is in the way
-    ensures offer_first { offer_refusal (pair (Some imp_1) (Some imp_2) (data_frame 32769 ∷ []) []) our_message ≡ None }
-
-    // or the destination's IMP keeps the number that would be begun: number 0 was taken and answered, and 1 to 65,535 were given up.
-    // Another number that it keeps is not in the way, and neither is this one once it was forgotten
-    ensures offer_kept { offer_refusal (pair (Some (begun_up_to 65535)) (Some keeping_ours) [] []) our_message ≡ Some fault.StillAlive }
-    ensures offer_unkept { offer_refusal (pair (Some (begun_up_to 65534)) (Some keeping_ours) [] []) our_message ≡ None }
-    ensures forget_kept { step_refusal (pair (Some (begun_up_to 65535)) (Some keeping_ours) [] []) (event.Forget 2 1) ≡ None }
-    ensures offer_forgotten { offer_refusal (stepped (pair (Some (begun_up_to 65535)) (Some keeping_ours) [] []) (event.Forget 2 1)) our_message ≡ None }
-
-    ensures offer_full { WorkedStillAliveOfferFull }
-    ensures offer_nowhere { offer_refusal (pair (Some (record (begun_up_to 32767) { routes = record { own = 1; heard = None ∷ [] } })) (Some imp_2) (data_frame 0 ∷ []) []) our_message ≡ None }
-    ensures offer_down { offer_refusal (pair (Some (record (begun_up_to 32767) { hosts = no_host ∷ no_host ∷ [] })) (Some imp_2) (data_frame 0 ∷ []) []) our_message ≡ Some fault.IsDown }
-
-    // giving up: the outstanding number is alive, as data, as an answer that travels, as a question, or in a queue
-    ensures give_up_data { giving_up_refusal (pair (Some expecting) (Some imp_2) (data_frame 0 ∷ []) []) ours ≡ Some fault.StillAlive }
-    ensures give_up_rfnm { giving_up_refusal (pair (Some expecting) (Some imp_2) [] (rfnm_frame 0 ∷ [])) ours ≡ Some fault.StillAlive }
-    ensures give_up_asked { WorkedStillAliveGiveUpAsked }
-    ensures give_up_queued { giving_up_refusal (pair (Some expecting) (Some serving_ours) [] []) ours ≡ Some fault.StillAlive }
-    ensures give_up_other { giving_up_refusal (pair (Some expecting) (Some imp_2) (data_frame 1 ∷ []) []) ours ≡ None }
-    ensures give_up_none { giving_up_refusal (pair (Some imp_1) (Some imp_2) (data_frame 0 ∷ []) []) ours ≡ Some fault.NotOutstanding }
-
-    // forgetting, at IMP 2 what came from IMP 1: data or a question from there is alive, on a line or in a queue. Data the other way
-    // and answers don't count, and neither does the packet that says that a message never came
-    ensures forget_data { step_refusal (pair (Some imp_1) (Some imp_2) (data_frame 0 ∷ []) []) (event.Forget 2 1) ≡ Some fault.StillAlive }
-    ensures forget_asked { step_refusal (pair (Some imp_1) (Some imp_2) (ask_frame 0 ∷ []) []) (event.Forget 2 1) ≡ Some fault.StillAlive }
-    ensures forget_queued { step_refusal (pair (Some imp_1) (Some serving_ours) [] []) (event.Forget 2 1) ≡ Some fault.StillAlive }
-    ensures forget_back { step_refusal (pair (Some imp_1) (Some imp_2) (data_frame 0 ∷ []) []) (event.Forget 1 2) ≡ None }
-    ensures forget_answer { step_refusal (pair (Some imp_1) (Some imp_2) [] (rfnm_frame 0 ∷ [])) (event.Forget 2 1) ≡ None }
-    ensures forget_never { step_refusal (pair (Some imp_1) (Some imp_2) [] (never_frame 0 ∷ [])) (event.Forget 2 1) ≡ None }
-
-    // or a message from there to here is outstanding; one the other way doesn't count
-    ensures forget_awaited { step_refusal (pair (Some expecting) (Some imp_2) [] []) (event.Forget 2 1) ≡ Some fault.StillAlive }
-    ensures forget_own { step_refusal (pair (Some expecting) (Some imp_2) [] []) (event.Forget 1 2) ≡ None }
-
-    // an IMP comes up: something of a flow from it is alive, also an answer or a question. What only travelled over it for others doesn't count
-    ensures start_answer { starting_refusal (pair None (Some imp_2) [] (rfnm_frame 0 ∷ [])) 1 ≡ Some fault.StillAlive }
-    ensures start_asked { WorkedStillAliveStartAsked }
-    ensures start_destination { starting_refusal (pair (Some imp_1) None (data_frame 0 ∷ []) []) 2 ≡ Some fault.StillAlive }
-    ensures start_passing { starting_refusal (pair None (Some imp_2) (passing_frame ∷ []) []) 1 ≡ None }
-
-    // or another IMP keeps the number of a flow from it; what it keeps itself, of its own flows or of others, is not in the way
-    ensures start_kept { starting_refusal (pair None (Some keeping_ours) [] []) 1 ≡ Some fault.StillAlive }
-    ensures start_own { starting_refusal (pair (Some keeping_own) (Some imp_2) [] []) 1 ≡ Some fault.IsUp }
-    ensures start_keeper { starting_refusal (pair (Some imp_1) (Some keeping_ours) [] []) 2 ≡ Some fault.IsUp }
-
-    // or a message to a host at it is outstanding at another IMP
-    ensures start_awaited { starting_refusal (pair (Some expecting) None [] []) 2 ≡ Some fault.StillAlive }
+    ensures { WorkedStillAlive }
 {}
 
 /// What an offer looks at before packets: whether its flow is idle. And which number that the destination's IMP keeps is in the
@@ -395,48 +318,14 @@ pub fn worked_stops()
 {}
 
 /// Which refusal comes first, and when a taking gives something.
-#[tactic(auto, unfolding(routing::specs::RouteTable::distance_to, link_table::specs::Numbers::is_new, link_table::specs::Numbers::modulus, routing::specs::RouteTable::next_of, link_table::specs::Numbers::oldest, imp_channel::specs::Line::submitted, routing::specs::RouteTable::vector_of, link_table::specs::Numbers::window))]
 pub fn worked_refusals()
-    ensures forget_down { WorkedRefusalsForgetDown }
-    ensures start_up { WorkedRefusalsStartUp }
-
-    ensures forget_itself { WorkedRefusalsForgetItself }
-
-    ensures imp_down { WorkedRefusalsImpDown }
-    ensures hosts_down { WorkedRefusalsHostsDown }
-
-    // it has no slot
-    ensures no_slot { step_refusal (pair (Some imp_1) None [] []) (event.Abandon ours) ≡ Some fault.NoSuch }
-
-    ensures not_there { WorkedRefusalsNotThere }
-
-    ensures other_line { WorkedRefusalsOtherLine }
-
-    // a host gets something where a message waits for it, and nothing where none does, where its IMP is down, or where the network
-    // doesn't have it
-    ensures gives { gives (pair (Some imp_1) (Some serving_ours) [] []) (host 0 2) ≡ true }
-    ensures gives_nothing { WorkedRefusalsGivesNothing }
+    ensures { WorkedRefusals }
 {}
 
 /// What a quiet round does to IMPs and frames.
 #[tactic(auto, unfolding(routing::specs::RouteTable::distance_to, link_table::specs::Numbers::is_new, link_table::specs::Numbers::modulus, routing::specs::RouteTable::next_of, link_table::specs::Numbers::oldest, imp_channel::specs::Line::submitted, routing::specs::RouteTable::vector_of, link_table::specs::Numbers::window))]
 pub fn worked_rounds()
-    // after one round from the opening each IMP has heard what the other could announce before the round, and no frame is left
-    ensures heard { quiet_round opened_pair ≡ pair (Some imp_1) (Some imp_2) [] [] }
-
-    ensures told_first { WorkedRoundsToldFirst }
-
-    // a packet that came before is sent again and acknowledged, and its acknowledgement is delivered in the same round
-    ensures acknowledged { (packets (quiet_round (pair (Some sending_ours) (Some past_one) [] [])) ≡ []) × ((quiet_round (pair (Some sending_ours) (Some past_one) [] [])).lines ≡ wire [] [] ∷ []) }
-
-    // lines have their turns in order, one direction after the other. So what IMP 1 sends by IMP 2 to IMP 3, which is down, has
-    // gone over both lines after one round
-    ensures passed_on { frames_on way.Back (wire_at (quiet_round (row (Some first_in_row) (Some middle_in_row) None (packet_frame 0 (only_packet flow_1_3 0) ∷ []) [])).lines 1) ≡ [] }
-
-    ensures too_late { WorkedRoundsTooLate }
-
-    // an IMP that is down announces nothing, and frames to it are dropped
-    ensures down { quiet_round (pair (Some imp_1) None (data_frame 0 ∷ []) []) ≡ pair (Some imp_1) None [] [] }
+    ensures { WorkedRounds }
 {}
 
 /// When memory may run out.

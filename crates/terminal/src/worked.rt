@@ -2,15 +2,10 @@
 //! wrong. The functions do nothing; each clause is a row.
 
 ghost use Rattle.std.specs.Prelude.{◌≡◌, [], ◌∷◌, None, Some};
-ghost use Rattle.bit_messages.specs.Octets.{bits_of};
-ghost use Rattle.interface.specs.Host.{Host};
-ghost use Rattle.host_pairs.specs.declared.notice.Notice.TheVariants as notice;
-ghost use Rattle.sockets.specs.declared.request.Request.TheVariants as request;
 ghost use Rattle.terminal.specs.Lines.{lines_heard, line_fault, spelled};
-ghost use Rattle.terminal.specs.Machines.{echo_turn, opening_echo, opening_terminal, terminal_turn, turn};
+ghost use Rattle.terminal.specs.Machines.{echo_turn, terminal_turn};
 ghost use Rattle.terminal.specs.declared.fault.TerminalFault.TheVariants as fault;
-ghost use Rattle.terminal.specs.Laws.WorkedEcho.{WorkedEchoFives, WorkedEchoInParts, WorkedEchoSeven};
-ghost use Rattle.terminal.specs.Laws.WorkedTerminal.{WorkedTerminalInParts, WorkedTerminalLine};
+ghost use Rattle.terminal.specs.Laws.{WorkedEcho, WorkedTerminal};
 
 /// Lines that go out, and octets that come in.
 pub fn worked_lines()
@@ -45,36 +40,11 @@ pub fn worked_lines()
 /// What the echo service does, with the sockets 100 and 101.
 #[tactic(auto, unfolding(crate::specs::Machines::echo_turn))]
 pub fn worked_echo()
-    // an octet is granted again, and then goes back
-    ensures octet { echo_turn (opening_echo 100 101) (notice.Arrived 100 (bits_of (65 ∷ []))) ≡ (opening_echo 100 101, request.Grant 100 1 8 ∷ request.Send 101 (bits_of (65 ∷ [])) ∷ []) }
-
-    // a message without bits costs a message too; there is nothing to send
-    ensures no_bits { echo_turn (opening_echo 100 101) (notice.Arrived 100 []) ≡ (opening_echo 100 101, request.Grant 100 1 0 ∷ []) }
-
-    ensures in_parts { WorkedEchoInParts }
-
-    ensures fives { WorkedEchoFives }
-    ensures seven { WorkedEchoSeven }
-
-    // bits on another socket aren't for it, and what it has sent itself is no arrival
-    ensures others_bits { echo_turn (opening_echo 100 101) (notice.Arrived 16 (bits_of (65 ∷ []))) ≡ (opening_echo 100 101, []) }
-    ensures own_bits { echo_turn (opening_echo 100 101) (notice.Sent 101 (bits_of (65 ∷ []))) ≡ (opening_echo 100 101, []) }
-
-    // where one end has ended the other is closed
-    ensures receive_ended { (peer : Host) → echo_turn (opening_echo 100 101) (notice.Ended 100 peer 19) ≡ (opening_echo 100 101, request.Close 101 ∷ []) }
-    ensures send_ended { (peer : Host) → echo_turn (opening_echo 100 101) (notice.Ended 101 peer 18) ≡ (opening_echo 100 101, request.Close 100 ∷ []) }
-    ensures other_ended { (peer : Host) → echo_turn (opening_echo 100 101) (notice.Ended 7 peer 16) ≡ (opening_echo 100 101, []) }
+    ensures { WorkedEcho }
 {}
 
 /// What the line terminal does, with the sockets 18 and 19.
 #[tactic(auto, unfolding(crate::specs::Machines::terminal_turn, crate::specs::Machines::terminal_heard, bit_messages::specs::Octets::octets_of))]
 pub fn worked_terminal()
-    ensures line { WorkedTerminalLine }
-
-    ensures in_parts { WorkedTerminalInParts }
-
-    // its other socket and its ends
-    ensures others_bits { terminal_turn (opening_terminal 18 19) (notice.Arrived 19 (bits_of (72 ∷ 13 ∷ 10 ∷ []))) ≡ turn (opening_terminal 18 19) [] [] }
-    ensures receive_ended { (peer : Host) → terminal_turn (opening_terminal 18 19) (notice.Ended 18 peer 101) ≡ turn (opening_terminal 18 19) (request.Close 19 ∷ []) [] }
-    ensures send_ended { (peer : Host) → terminal_turn (opening_terminal 18 19) (notice.Ended 19 peer 100) ≡ turn (opening_terminal 18 19) (request.Close 18 ∷ []) [] }
+    ensures { WorkedTerminal }
 {}

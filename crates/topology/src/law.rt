@@ -7,7 +7,7 @@ ghost use Rattle.interface.specs.Host.{Host, is_host};
 ghost use Rattle.topology.specs.declared.network.CarrierKind.TheVariants as kind;
 ghost use Rattle.topology.specs.Examples.{document, raw_document, imp_table, line_table, two_imps, one_imp, one_line, imp_hosts, line, five_lines};
 ghost use Rattle.topology.specs.Topology.{AreSites, TopologyFields, most_network_lines, IsTopology, hosts_from, hosts_of, has_host, has_ports, imp_of, sites_of, topology_of};
-ghost use Rattle.topology.specs.Laws.WorkedSites.{WorkedSitesSites};
+ghost use Rattle.topology.specs.Laws.{WorkedSites};
 
 /// The hosts of a topology are those that its IMPs have.
 pub fn hosts_of_imps()
@@ -26,8 +26,7 @@ pub fn sites()
 
 /// IMPs 1 and 3 with one host and two: there is no site 2, and host 1 of IMP 3 comes last.
 pub fn worked_sites()
-    ensures sites { WorkedSitesSites }
-    ensures hosts { hosts_from 0 (None ∷ Some 1 ∷ None ∷ Some 2 ∷ []) ≡ record { imp = 1; host = 0 } ∷ record { imp = 3; host = 0 } ∷ record { imp = 3; host = 1 } ∷ [] }
+    ensures { WorkedSites }
 {}
 
 /// Small documents, and what they describe.

@@ -17,7 +17,7 @@ ghost use Rattle.world_replay.specs.Printed.{life_text, notice_text, refusal_tex
 ghost use Rattle.world_replay.specs.Replay.{HappensInCalm, IsOfCalm, MayDo, quiet_rounds};
 ghost use Rattle.world_replay.specs.Worked.{after, came, counting, went, said_at, told_at};
 ghost use Rattle.world_script.specs.declared.event.WorldEvent.TheVariants.{Calm, Happen};
-ghost use Rattle.world_replay.specs.Laws.WorkedNews.{WorkedNewsReported};
+ghost use Rattle.world_replay.specs.Laws.{WorkedNews};
 
 /// The words of a line.
 pub fn worked_lines()
@@ -74,28 +74,7 @@ pub fn worked_reports()
 
 /// Crossings, notices and reports in one list.
 pub fn worked_news()
-    // each notice is after the crossing that it comes of, and before the next one
-    ensures between { shown_in_turn 0 (went ∷ came ∷ []) (told_in_turn 0 (told_at 1 ∷ told_at 2 ∷ []) []) ≡ Crossed went ∷ Noticed (told_at 1) ∷ Crossed came ∷ Noticed (told_at 2) ∷ [] }
-
-    // several of one crossing are in their order, and a crossing that nobody is notified of is the only one
-    ensures several { shown_in_turn 0 (went ∷ came ∷ []) (told_in_turn 0 (told_at 2 ∷ told_at 2 ∷ []) []) ≡ Crossed went ∷ Crossed came ∷ Noticed (told_at 2) ∷ Noticed (told_at 2) ∷ [] }
-    ensures untold { shown_in_turn 0 (went ∷ came ∷ []) (told_in_turn 0 [] []) ≡ Crossed went ∷ Crossed came ∷ [] }
-
-    // places count the crossings of before
-    ensures later { shown_in_turn 5 (went ∷ came ∷ []) (told_in_turn 9 (told_at 6 ∷ []) []) ≡ Crossed went ∷ Noticed (told_at 6) ∷ Crossed came ∷ [] }
-
-    // the notices to a user where nothing crossed
-    ensures uncrossed { shown_in_turn 5 [] (told_in_turn 9 (told_at 5 ∷ []) []) ≡ Noticed (told_at 5) ∷ [] }
-
-    ensures reported { WorkedNewsReported }
-    ensures behind { shown_in_turn 0 (went ∷ []) (told_in_turn 3 (told_at 1 ∷ told_at 1 ∷ []) (said_at 5 ∷ [])) ≡ Crossed went ∷ Noticed (told_at 1) ∷ Noticed (told_at 1) ∷ Said (said_at 5) ∷ [] }
-
-    // a service that fails as it begins
-    ensures begun { shown_in_turn 5 [] (told_in_turn 3 [] (said_at 3 ∷ [])) ≡ Said (said_at 3) ∷ [] }
-
-    // the notices to users and what services reported, among the other lines
-    ensures notices { notices_of (Crossed went ∷ Noticed (told_at 1) ∷ Said (said_at 4) ∷ Refused (Carrier fault.NoSuch) ∷ Noticed (told_at 2) ∷ []) ≡ told_at 1 ∷ told_at 2 ∷ [] }
-    ensures reports { reports_of (Said (said_at 5) ∷ Crossed went ∷ Noticed (told_at 1) ∷ Said (said_at 4) ∷ []) ≡ said_at 5 ∷ said_at 4 ∷ [] }
+    ensures { WorkedNews }
 {}
 
 /// What a world may have done where a write failed, and what not, over a carrier that counts its calls.

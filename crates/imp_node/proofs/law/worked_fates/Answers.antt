@@ -16,30 +16,25 @@ use Rattle.imp_node.proofs.law.worked_fates.Goals as goal
 is_noted : (n : ℕ) (new : Fate) → finite.get (noted finite.empty (flow (host 0 2) (host 0 1) 2) n new) (flow (host 0 2) (host 0 1) 2) ≡ Some (record { number = n; fate = new })
 is_noted n new = get_put finite.empty (flow (host 0 2) (host 0 1) 2) (flow (host 0 2) (host 0 1) 2) (record { number = n; fate = new })
 
-pub returns-clause-unmarked : goal.returns-clause-unmarked
+pub returns : goal.returns
 unfolding next_of submitted distance_to vector_of begun flow_answered handed is_new modulus window
-returns-clause-unmarked c = rw (finite.get-empty flow_cmp (flow (host 0 2) (host 0 1) 2)) (is_noted 0 fate.Never)
-
-pub returns-clause-unmarked_asked : goal.returns-clause-unmarked_asked
-unfolding next_of submitted distance_to vector_of begun flow_answered handed is_new modulus window
-returns-clause-unmarked_asked c = rw (finite.get-empty flow_cmp (flow (host 0 2) (host 0 1) 2), is_noted 0 fate.Never) refl
-
-pub returns-clause-stopped : goal.returns-clause-stopped
-unfolding next_of submitted distance_to vector_of begun flow_answered handed is_new modulus window
-returns-clause-stopped c = get_ended (noted finite.empty (flow (host 0 2) (host 0 1) 2) 0 fate.Waits) (flow (host 0 2) (host 0 1) 2) (flow (host 0 2) (host 0 1) 2) 0 fate.Dead ∙ ap (option_map (ended_in 0 fate.Dead)) (is_noted 0 fate.Waits)
-
-pub returns-clause-older_stopped : goal.returns-clause-older_stopped
-unfolding next_of submitted distance_to vector_of begun flow_answered handed is_new modulus window
-returns-clause-older_stopped c = get_ended (noted finite.empty (flow (host 0 2) (host 0 1) 2) 5 fate.Waits) (flow (host 0 2) (host 0 1) 2) (flow (host 0 2) (host 0 1) 2) 0 fate.Dead ∙ ap (option_map (ended_in 0 fate.Dead)) (is_noted 5 fate.Waits)
-
-pub returns-clause-older_taken : goal.returns-clause-older_taken
-unfolding next_of submitted distance_to vector_of begun flow_answered handed is_new modulus window
-returns-clause-older_taken c = get_ended (noted finite.empty (flow (host 0 2) (host 0 1) 2) 5 fate.Waits) (flow (host 0 2) (host 0 1) 2) (flow (host 0 2) (host 0 1) 2) 0 fate.Taken ∙ ap (option_map (ended_in 0 fate.Taken)) (is_noted 5 fate.Waits)
-
-pub returns-clause-repeat_frees : goal.returns-clause-repeat_frees
-unfolding next_of submitted distance_to vector_of begun flow_answered handed is_new modulus window
-returns-clause-repeat_frees c = rw (finite.get-empty flow_cmp (flow (host 0 2) (host 0 1) 2)) refl
-
-pub returns-clause-repeat_keeps : goal.returns-clause-repeat_keeps
-unfolding next_of submitted distance_to vector_of begun flow_answered handed is_new modulus window
-returns-clause-repeat_keeps c = rw (finite.get-empty flow_cmp (flow (host 0 1) (host 0 2) 7), finite.get-empty flow_cmp (flow (host 0 2) (host 0 1) 2)) refl
+returns c = record {
+  unmarked = rw (finite.get-empty flow_cmp (flow (host 0 2) (host 0 1) 2)) (is_noted 0 fate.Never);
+  unmarked_asked = rw (finite.get-empty flow_cmp (flow (host 0 2) (host 0 1) 2), is_noted 0 fate.Never) refl;
+  stopped =
+      get_ended (noted finite.empty (flow (host 0 2) (host 0 1) 2) 0 fate.Waits) (flow (host 0 2) (host 0 1) 2)
+      (flow (host 0 2) (host 0 1) 2) 0 fate.Dead ∙ ap (option_map (ended_in 0 fate.Dead)) (is_noted 0 fate.Waits);
+  older_stopped =
+      get_ended (noted finite.empty (flow (host 0 2) (host 0 1) 2) 5 fate.Waits) (flow (host 0 2) (host 0 1) 2)
+      (flow (host 0 2) (host 0 1) 2) 0 fate.Dead ∙ ap (option_map (ended_in 0 fate.Dead)) (is_noted 5 fate.Waits);
+  older_taken =
+      get_ended (noted finite.empty (flow (host 0 2) (host 0 1) 2) 5 fate.Waits) (flow (host 0 2) (host 0 1) 2)
+      (flow (host 0 2) (host 0 1) 2) 0 fate.Taken ∙ ap (option_map (ended_in 0 fate.Taken)) (is_noted 5 fate.Waits);
+  repeat_frees = rw (finite.get-empty flow_cmp (flow (host 0 2) (host 0 1) 2)) refl;
+  repeat_keeps =
+      rw (
+        finite.get-empty flow_cmp (flow (host 0 1) (host 0 2) 7),
+        finite.get-empty flow_cmp
+            (flow (host 0 2) (host 0 1) 2),
+      ) refl;
+}

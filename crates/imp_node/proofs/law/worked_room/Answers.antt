@@ -6,10 +6,16 @@ use Rattle.imp_channel.specs.Line.{submitted}
 use Rattle.routing.specs.RouteTable.{next_of, distance_to, vector_of}
 use Rattle.imp_node.proofs.law.worked_room.Goals as goal
 
-pub returns-clause-offered : goal.returns-clause-offered
+pub returns : goal.returns
 unfolding next_of submitted distance_to vector_of
-returns-clause-offered c = rw (get-empty flow_cmp (flow (host 0 1) (host 0 2) 40)) refl
-
-pub returns-clause-no_room : goal.returns-clause-no_room
-unfolding next_of submitted distance_to vector_of
-returns-clause-no_room c = rw (get-empty flow_cmp (flow (host 0 1) (host 0 2) 40)) refl
+returns c = record {
+  counted = (refl, refl);
+  lost = refl;
+  asked_before = refl;
+  dropped = refl;
+  stored = refl;
+  waiting = refl;
+  repeated = refl;
+  offered = rw (get-empty flow_cmp (flow (host 0 1) (host 0 2) 40)) refl;
+  no_room = rw (get-empty flow_cmp (flow (host 0 1) (host 0 2) 40)) refl;
+}

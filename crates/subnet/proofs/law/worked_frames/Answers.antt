@@ -7,10 +7,13 @@ use Rattle.link_table.specs.Numbers.{is_new, oldest, modulus, window}
 use Rattle.routing.specs.RouteTable.{next_of, distance_to, vector_of}
 use Rattle.subnet.proofs.law.worked_frames.Goals as goal
 
-pub returns-clause-stays : goal.returns-clause-stays
+pub returns : goal.returns
 unfolding next_of submitted distance_to vector_of is_new oldest modulus window
-returns-clause-stays c = rw (get-empty flow_cmp ours) refl
-
-pub returns-clause-came : goal.returns-clause-came
-unfolding next_of submitted distance_to vector_of is_new oldest modulus window
-returns-clause-came c = rw (get-empty flow_cmp ours) refl
+returns c = record {
+  stays = rw (get-empty flow_cmp ours) refl;
+  came = rw (get-empty flow_cmp ours) refl;
+  dropped = refl;
+  killed = (refl, refl);
+  ignored = (refl, refl);
+  no_frame = (refl, refl, refl);
+}

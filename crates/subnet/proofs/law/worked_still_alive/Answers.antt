@@ -43,110 +43,44 @@ all_answered last imp = none_outstanding (insert empty ours (standing.Idle last)
 ours_outstanding : has_outstanding_to 2 (begun empty ours) ≡ true
 ours_outstanding = some_outstanding (begun empty ours) 2 ours 0 refl (ap outstanding_in is_begun)
 
-pub returns-clause-offer_window : goal.returns-clause-offer_window
-unfolding next_of submitted distance_to vector_of is_new oldest modulus window
-returns-clause-offer_window c = rw (is_known 32767) refl
-
-pub returns-clause-offer_within : goal.returns-clause-offer_within
-unfolding next_of submitted distance_to vector_of is_new oldest modulus window
-returns-clause-offer_within c = rw (is_known 32767) (rw (get-empty flow_cmp ours) refl)
-
-pub returns-clause-offer_asked : goal.returns-clause-offer_asked
-unfolding next_of submitted distance_to vector_of is_new oldest modulus window
-returns-clause-offer_asked c = (rw (is_known 32767) refl, rw (is_known 32767) refl)
-
-pub returns-clause-offer_round : goal.returns-clause-offer_round
-unfolding next_of submitted distance_to vector_of is_new oldest modulus window
-returns-clause-offer_round c = rw (is_known 0) refl
-
-pub returns-clause-offer_first : goal.returns-clause-offer_first
-unfolding next_of submitted distance_to vector_of is_new oldest modulus window
-returns-clause-offer_first c = rw (get-empty flow_cmp ours) (rw (get-empty flow_cmp ours) refl)
-
-pub returns-clause-offer_full : goal.returns-clause-offer_full
-unfolding next_of submitted distance_to vector_of is_new oldest modulus window
-returns-clause-offer_full c = (rw (is_known 32767) refl, rw (is_known 32767) (rw (get-empty flow_cmp ours) refl))
-
-pub returns-clause-offer_nowhere : goal.returns-clause-offer_nowhere
-unfolding next_of submitted distance_to vector_of is_new oldest modulus window
-returns-clause-offer_nowhere c = rw (is_known 32767) refl
-
-pub returns-clause-give_up_data : goal.returns-clause-give_up_data
-unfolding next_of submitted distance_to vector_of is_new oldest modulus window
-returns-clause-give_up_data c = rw is_begun refl
-
-pub returns-clause-give_up_rfnm : goal.returns-clause-give_up_rfnm
-unfolding next_of submitted distance_to vector_of is_new oldest modulus window
-returns-clause-give_up_rfnm c = rw is_begun refl
-
-pub returns-clause-give_up_asked : goal.returns-clause-give_up_asked
-unfolding next_of submitted distance_to vector_of is_new oldest modulus window
-returns-clause-give_up_asked c = (rw is_begun refl, rw is_begun refl)
-
-pub returns-clause-give_up_queued : goal.returns-clause-give_up_queued
-unfolding next_of submitted distance_to vector_of is_new oldest modulus window
-returns-clause-give_up_queued c = rw is_begun refl
-
-pub returns-clause-give_up_other : goal.returns-clause-give_up_other
-unfolding next_of submitted distance_to vector_of is_new oldest modulus window
-returns-clause-give_up_other c = rw is_begun refl
-
-pub returns-clause-give_up_none : goal.returns-clause-give_up_none
-unfolding next_of submitted distance_to vector_of is_new oldest modulus window
-returns-clause-give_up_none c = rw (get-empty flow_cmp ours) refl
-
-pub returns-clause-forget_back : goal.returns-clause-forget_back
-unfolding next_of submitted distance_to vector_of is_new oldest modulus window
-returns-clause-forget_back c = rw (nothing_begun 1) refl
-
-pub returns-clause-forget_answer : goal.returns-clause-forget_answer
-unfolding next_of submitted distance_to vector_of is_new oldest modulus window
-returns-clause-forget_answer c = rw (nothing_begun 2) refl
-
-pub returns-clause-forget_never : goal.returns-clause-forget_never
-unfolding next_of submitted distance_to vector_of is_new oldest modulus window
-returns-clause-forget_never c = rw (nothing_begun 2) refl
-
-pub returns-clause-start_passing : goal.returns-clause-start_passing
-unfolding next_of submitted distance_to vector_of is_new oldest modulus window
-returns-clause-start_passing c = rw (none_kept 1, nothing_begun 1) refl
-
-pub returns-clause-start_kept : goal.returns-clause-start_kept
-unfolding next_of submitted distance_to vector_of is_new oldest modulus window
-returns-clause-start_kept c = rw one_kept refl
-
-pub returns-clause-start_keeper : goal.returns-clause-start_keeper
-unfolding next_of submitted distance_to vector_of is_new oldest modulus window
-returns-clause-start_keeper c = rw (none_kept 2, nothing_begun 2) refl
-
-pub returns-clause-start_own : goal.returns-clause-start_own
-unfolding next_of submitted distance_to vector_of is_new oldest modulus window
-returns-clause-start_own c = rw (none_kept 1, nothing_begun 1) refl
-
-pub returns-clause-offer_kept : goal.returns-clause-offer_kept
+pub returns : goal.returns
 unfolding next_of submitted distance_to vector_of is_new oldest modulus window next
-returns-clause-offer_kept c = rw (is_known 65535, is_kept_there) refl
-
-pub returns-clause-offer_unkept : goal.returns-clause-offer_unkept
-unfolding next_of submitted distance_to vector_of is_new oldest modulus window next
-returns-clause-offer_unkept c = rw (is_known 65534, is_kept_there) refl
-
-pub returns-clause-forget_kept : goal.returns-clause-forget_kept
-unfolding next_of submitted distance_to vector_of is_new oldest modulus window next
-returns-clause-forget_kept c = rw (all_answered 65535 2) refl
-
-pub returns-clause-offer_forgotten : goal.returns-clause-offer_forgotten
-unfolding next_of submitted distance_to vector_of is_new oldest modulus window next
-returns-clause-offer_forgotten c = rw (is_known 65535, is_forgotten) refl
-
-pub returns-clause-forget_awaited : goal.returns-clause-forget_awaited
-unfolding next_of submitted distance_to vector_of is_new oldest modulus window next
-returns-clause-forget_awaited c = rw ours_outstanding refl
-
-pub returns-clause-forget_own : goal.returns-clause-forget_own
-unfolding next_of submitted distance_to vector_of is_new oldest modulus window next
-returns-clause-forget_own c = rw (nothing_begun 1) refl
-
-pub returns-clause-start_awaited : goal.returns-clause-start_awaited
-unfolding next_of submitted distance_to vector_of is_new oldest modulus window next
-returns-clause-start_awaited c = rw (none_kept 2, ours_outstanding) refl
+returns c = record {
+  alive = (refl, refl, refl, refl);
+  asked = (refl, refl);
+  other = (refl, refl);
+  offer_window = rw (is_known 32767) refl;
+  offer_within = rw (is_known 32767) (rw (get-empty flow_cmp ours) refl);
+  offer_asked = (rw (is_known 32767) refl, rw (is_known 32767) refl);
+  offer_round = rw (is_known 0) refl;
+  offer_first = rw (get-empty flow_cmp ours) (rw (get-empty flow_cmp ours) refl);
+  offer_kept = rw (is_known 65535, is_kept_there) refl;
+  offer_unkept = rw (is_known 65534, is_kept_there) refl;
+  forget_kept = rw (all_answered 65535 2) refl;
+  offer_forgotten = rw (is_known 65535, is_forgotten) refl;
+  offer_full = (rw (is_known 32767) refl, rw (is_known 32767) (rw (get-empty flow_cmp ours) refl));
+  offer_nowhere = rw (is_known 32767) refl;
+  offer_down = refl;
+  give_up_data = rw is_begun refl;
+  give_up_rfnm = rw is_begun refl;
+  give_up_asked = (rw is_begun refl, rw is_begun refl);
+  give_up_queued = rw is_begun refl;
+  give_up_other = rw is_begun refl;
+  give_up_none = rw (get-empty flow_cmp ours) refl;
+  forget_data = refl;
+  forget_asked = refl;
+  forget_queued = refl;
+  forget_back = rw (nothing_begun 1) refl;
+  forget_answer = rw (nothing_begun 2) refl;
+  forget_never = rw (nothing_begun 2) refl;
+  forget_awaited = rw ours_outstanding refl;
+  forget_own = rw (nothing_begun 1) refl;
+  start_answer = refl;
+  start_asked = (refl, refl);
+  start_destination = refl;
+  start_passing = rw (none_kept 1, nothing_begun 1) refl;
+  start_kept = rw one_kept refl;
+  start_own = rw (none_kept 1, nothing_begun 1) refl;
+  start_keeper = rw (none_kept 2, nothing_begun 2) refl;
+  start_awaited = rw (none_kept 2, ours_outstanding) refl;
+}
