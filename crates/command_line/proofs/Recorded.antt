@@ -21,9 +21,11 @@ use Rattle.topology.proofs.lemmas.{described_keeps, hosts_listed}
 use Rattle.topology.specs.Topology.{IsTopology, site_of, sites_of}
 use Rattle.topology.specs.declared.network.CarrierKind.TheVariants as kind
 use Rattle.trace.proofs.lemmas.{told}
+use Rattle.trace.specs.Changes.{members_of}
 use Rattle.trace.specs.Elements.{events_of}
 use Rattle.trace.specs.Traces.{SaysAll, TellsElement, change_text}
 use Rattle.trace.specs.declared.element.Element.{Element}
+use Rattle.trace.specs.declared.all_parts.AllParts.{AllParts}
 use Rattle.world_replay.proofs.lemmas.Accounts.{AreParts, ShowsAs, round_as}
 use Rattle.world_replay.proofs.lemmas.CalmRounds.{calm_rounds}
 use Rattle.world_replay.proofs.lemmas.{round_calm}
@@ -139,16 +141,16 @@ line_printed : (spot : Spot) (round : ℕ) (e : WorldEvent) (crossings : List Cr
 unfolding texts
 line_printed spot round e crossings prints state lines is = (OfWorld spot round e crossings prints state ∷ [], is, sym (append-nil (texts prints)))
 
-one_printed : {C : Type 0} (calls : Calls C) (members : C → List (List ℕ)) (spot : Spot) (round : ℕ) (e : WorldEvent) (old new : WorldState C) (lines : List (List ℕ)) (h : TellsOne calls members spot round old e new lines) → Prints lines h.0
+one_printed : {C : Type 0} (calls : Calls C) (members : C → AllParts) (spot : Spot) (round : ℕ) (e : WorldEvent) (old new : WorldState C) (lines : List (List ℕ)) (h : TellsOne calls members spot round old e new lines) → Prints lines h.0
 one_printed calls members spot round e old new lines (prints, h, is) = line_printed spot round e h.gains.crossings prints (change_of members old new) lines is
 
 -- an event of a calm
-step_printed : {C : Type 0} (calls : Calls C) (members : C → List (List ℕ)) (spot : Spot) (round : ℕ) → ShowsAs (TellsInCalm calls members spot round) (HappensInCalm calls) Prints
+step_printed : {C : Type 0} (calls : Calls C) (members : C → AllParts) (spot : Spot) (round : ℕ) → ShowsAs (TellsInCalm calls members spot round) (HappensInCalm calls) Prints
 step_printed calls members spot round old e new lines (inl (h, same, none)) = ([], h, nothing_printed lines none)
 step_printed calls members spot round old e new lines (inr ((prints, h, is), heard)) = (prints, h, line_printed spot round (worlds.Happen e) h.gains.crossings prints (change_of members old new) lines is)
 
 -- a round is a calm of one round
-round_printed : {C : Type 0} (calls : Calls C) (members : C → List (List ℕ)) (spot : Spot) (round : ℕ) (old new : WorldState C) (lines : List (List ℕ)) → TellsRound calls members spot old round new lines
+round_printed : {C : Type 0} (calls : Calls C) (members : C → AllParts) (spot : Spot) (round : ℕ) (old new : WorldState C) (lines : List (List ℕ)) → TellsRound calls members spot old round new lines
     → (prints : List Shown) × Happens calls old (worlds.Calm 1) new prints × Prints lines prints
 round_printed calls members spot round old new lines h =
     let parts : AreParts Prints = record { none = nothing_printed [] refl; more = both_printed } in
@@ -156,7 +158,7 @@ round_printed calls members spot round old new lines h =
     (prints, round_calm calls old new prints events, has)
 
 -- rounds are a replay of calms of one round each
-rounds_printed : {C : Type 0} (calls : Calls C) (members : C → List (List ℕ)) (spot : Spot) (numbers : List ℕ) (old new : WorldState C) (lines : List (List ℕ)) → InTurn (TellsRound calls members spot) old numbers new lines
+rounds_printed : {C : Type 0} (calls : Calls C) (members : C → AllParts) (spot : Spot) (numbers : List ℕ) (old new : WorldState C) (lines : List (List ℕ)) → InTurn (TellsRound calls members spot) old numbers new lines
     → (prints : List Shown) × Replays calls old (rounds_of (length numbers)) new prints × Prints lines prints
 rounds_printed calls members spot [] old new lines (left, none) = ([], (left, refl), nothing_printed lines none)
 rounds_printed calls members spot (n ∷ numbers) old new lines (mid, first, rest, one, more, all) =
@@ -171,7 +173,7 @@ all_rounds (suc rounds) =
     let fewer : length (first_rounds rounds) ≡ rounds = all_rounds rounds in
     omega (arith, count, fewer)
 
-at_printed : {C : Type 0} (calls : Calls C) (members : C → List (List ℕ)) → AreSettled calls → (spot : Spot) (e : WorldEvent) (old new other : WorldState C) (lines : List (List ℕ)) (prints : List Shown)
+at_printed : {C : Type 0} (calls : Calls C) (members : C → AllParts) → AreSettled calls → (spot : Spot) (e : WorldEvent) (old new other : WorldState C) (lines : List (List ℕ)) (prints : List Shown)
     → TellsIn calls members old (spot, e) new lines → Happens calls old e other prints → Passes new other lines prints
 at_printed calls members settled spot (worlds.Happen e) old new other lines prints h k =
     let one : (new ≡ other) × (h.0 ≡ prints) = happens_once calls settled old (worlds.Happen e) new other h.0 prints h.1 k in
@@ -182,7 +184,7 @@ at_printed {C} calls members settled spot (worlds.Calm rounds) old new other lin
     let one : (new ≡ other) × (own ≡ prints) = in_turn_once (Happens calls) (happens_once calls settled) old (rounds_of rounds) new other own prints passed (calm_rounds calls rounds old other prints k) in
     (one.0, subst (λ (ps : List Shown). Prints lines ps) one.1 has)
 
-world_printed : {C : Type 0} (calls : Calls C) (members : C → List (List ℕ)) → AreSettled calls → (number : ℕ) (events : List (ℕ × WorldEvent)) (old new other : WorldState C) (lines : List (List ℕ)) (prints : List Shown)
+world_printed : {C : Type 0} (calls : Calls C) (members : C → AllParts) → AreSettled calls → (number : ℕ) (events : List (ℕ × WorldEvent)) (old new other : WorldState C) (lines : List (List ℕ)) (prints : List Shown)
     → InTurn (TellsIn calls members) old (numbered_from number events) new lines → Replays calls old (alone events) other prints → Passes new other lines prints
 world_printed calls members settled number [] old new other lines prints (left, none) (same, nothing) = (left ∙ sym same, subst (λ (ps : List Shown). Prints lines ps) (sym nothing) (nothing_printed lines none))
 world_printed {C} calls members settled number (e ∷ events) old new other lines prints (mid, first, rest, one, more, all) (between, begin, later, happens, follow, end) =
@@ -223,17 +225,17 @@ raw_from {C} calls inside Holds settled each t opening lines events book out tra
     let replays : of_network.Replays calls opening (alone (zip lines events)) h.shows.last h.shown = subst (λ (es : List RawEvent). of_network.Replays calls opening es h.shows.last h.shown) (sym (alone_of lines events fit)) h.shows.replayed in
     let (same, (recorded, are, prints)) = events_printed calls inside Holds settled each 1 (zip lines events) opening k.last h.shows.last others h.shown (subst (All IsEvent) (sym (alone_of lines events fit)) valid) holds tells replays in
     record {
-      opening = opening_line t (object (inside.members opening));
+      opening = opening_line t (object (members_of (inside.members opening)));
       recorded = recorded;
       lives = [];
       written = k.traced.written;
-      traced = is ∙ ap (λ (ls : List (List ℕ)). opening_line t (object (inside.members opening)) ∷ ls) are;
+      traced = is ∙ ap (λ (ls : List (List ℕ)). opening_line t (object (members_of (inside.members opening))) ∷ ls) are;
       printed =
           h.written
           ∙ ap₂ (λ (xs ys : List ℕ). xs ++ (ys ++ codes "end\n")) (sym (flat_map-map ended_line (raw.shown_text Sizes) h.shown) ∙ ap in_lines prints) (sym (no_lives book));
     }
 
-world_from : {C : Type 0} (calls : Calls C) (members : C → List (List ℕ)) → AreSettled calls → (t : TopologyFields) (opening : C) (lines : List ℕ) (events : List WorldEvent) (book : Bool) (out trace : List ℕ)
+world_from : {C : Type 0} (calls : Calls C) (members : C → AllParts) → AreSettled calls → (t : TopologyFields) (opening : C) (lines : List ℕ) (events : List WorldEvent) (book : Bool) (out trace : List ℕ)
     → length lines ≡ length events → ReplaysFrom calls opening book Sizes (World events) (Some []) (Some out) →
     (k : WorldTracesFrom (shown calls) members t opening (zip lines events) (Some []) (Some trace)) →
     PrintsTrace book out trace k.traced.shown

@@ -4,6 +4,7 @@ use Rattle.std.proofs.Common.{suc, filter, length}
 use Rattle.script.specs.Script.{AskForAs, asks, lines_of}
 use Rattle.script.specs.Spelling.{IsEvent, spelling}
 use Rattle.trace.specs.Traces.{AfterOpening, Traces, WritesTrace, event_lines}
+use Rattle.trace.specs.declared.all_parts.AllParts.{AllParts}
 use Rattle.world_trace.specs.Traces as worlds
 use Rattle.world_trace.specs.Traces.{TracesWorld, WorldTraceEnds}
 use Rattle.world_script.specs.WorldSpelling.{IsWorldEvent, world_spelling}
@@ -31,14 +32,14 @@ ends_over carrier network lines asked a b is (inr h) = inr (subst (λ (k : Carri
 
 -- ---- of hosts with programs
 
-pub flushed_world : {C : Type 0} (calls : Calls C) (members : C → List (List ℕ)) (t : TopologyFields) (opening : C) (first last : WorldState C) (events : List (ℕ × WorldEvent)) (a b c : Option (List ℕ)) → first ≡ opening_world calls opening
+pub flushed_world : {C : Type 0} (calls : Calls C) (members : C → AllParts) (t : TopologyFields) (opening : C) (first last : WorldState C) (events : List (ℕ × WorldEvent)) (a b c : Option (List ℕ)) → first ≡ opening_world calls opening
     → WritesTrace (worlds.AfterOpening members t first (TracesWorld calls members first events last)) a b → Keeps b c → WorldTracesFrom calls members t opening events a c
 flushed_world {C} calls members t opening first last events a b c is w k =
     let own : WritesTrace (worlds.AfterOpening members t (opening_world calls opening) (TracesWorld calls members (opening_world calls opening) events last)) a b =
     subst (λ (x : WorldState C). WritesTrace (worlds.AfterOpening members t x (TracesWorld calls members x events last)) a b) is w in
     record { last = last; traced = record { shown = own.shown; is_shown = own.is_shown; written = stays a b c (text_of (λ line. line) own.shown) own.written k } }
 
-pub world_ends : {C : Type 0} (calls : Calls C) (members : C → List (List ℕ)) (t : TopologyFields) (opening : C) (first last : WorldState C) (events : List (ℕ × WorldEvent)) (a b : Option (List ℕ)) → first ≡ opening_world calls opening
+pub world_ends : {C : Type 0} (calls : Calls C) (members : C → AllParts) (t : TopologyFields) (opening : C) (first last : WorldState C) (events : List (ℕ × WorldEvent)) (a b : Option (List ℕ)) → first ≡ opening_world calls opening
     → WritesTrace (worlds.AfterOpening members t first (WorldTraceEnds calls members (StopsOne calls) first events last)) a b → WorldEndsFrom calls members t opening events a b
 world_ends {C} calls members t opening first last events a b is w = record {
   last = last;

@@ -9,6 +9,7 @@ use Rattle.topology.specs.Topology.{TopologyFields}
 use Rattle.topology.specs.declared.network.CarrierKind.{CarrierKind}
 use Rattle.topology.specs.declared.network.CarrierKind.TheVariants as kind
 use Rattle.trace.specs.Traces.{AfterOpening, Inside, StopsElement, TraceEnds, Traces, WritesTrace, event_lines, plain_inside}
+use Rattle.trace.specs.declared.all_parts.AllParts.{AllParts}
 use Rattle.net_sim.specs.Carriers.{shown}
 use Rattle.net_sim.specs.World.{WorldState, opening_world}
 use Rattle.world_script.specs.declared.event.WorldEvent.{WorldEvent}
@@ -32,12 +33,12 @@ pub record EndsFrom {C : Type 0} (calls : Calls C) (inside : Inside C) (t : Topo
 
 -- events of hosts with programs are replayed over a carrier that shows all its parts as these members of an object, and their trace is written, first
 -- the network and then a line for each event, of a calm for each of its own that prints or changes something, and nothing else
-pub record WorldTracesFrom {C : Type 0} (calls : Calls C) (members : C → List (List ℕ)) (t : TopologyFields) (opening : C) (events : List (ℕ × WorldEvent)) (before after : Option (List ℕ)) : Type 0 where
+pub record WorldTracesFrom {C : Type 0} (calls : Calls C) (members : C → AllParts) (t : TopologyFields) (opening : C) (events : List (ℕ × WorldEvent)) (before after : Option (List ℕ)) : Type 0 where
   pub last : WorldState C
   pub traced : WritesTrace (worlds.AfterOpening members t (opening_world calls opening) (TracesWorld calls members (opening_world calls opening) events last)) before after
 
 -- memory ran out in one of them
-pub record WorldEndsFrom {C : Type 0} (calls : Calls C) (members : C → List (List ℕ)) (t : TopologyFields) (opening : C) (events : List (ℕ × WorldEvent)) (before after : Option (List ℕ)) : Type 0 where
+pub record WorldEndsFrom {C : Type 0} (calls : Calls C) (members : C → AllParts) (t : TopologyFields) (opening : C) (events : List (ℕ × WorldEvent)) (before after : Option (List ℕ)) : Type 0 where
   pub last : WorldState C
   pub traced : WritesTrace (worlds.AfterOpening members t (opening_world calls opening) (WorldTraceEnds calls members (StopsOne calls) (opening_world calls opening) events last)) before after
 

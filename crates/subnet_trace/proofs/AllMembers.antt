@@ -1,9 +1,8 @@
 -- All parts of a subnet are listed, one after the other.
-use Rattle.subnet_trace.proofs.Common.{◌≡◌, ℕ, suc, ◌<◌, ◌≤◌, ◌+◌, ◌-◌, List, [], ◌∷◌, ◌++◌, filter, length, map, sym, ap, ◌∙◌, arith, range_with_len, is_imp, Net, Imp, Line, all_parts, parts_members, named}
+use Rattle.subnet_trace.proofs.Common.{◌≡◌, ℕ, suc, ◌<◌, ◌≤◌, ◌+◌, ◌-◌, Bool, true, false, List, [], ◌∷◌, ◌++◌, filter, length, map, refl, sym, ap, ◌∙◌, arith, range_with_len, is_imp, Net, Imp, Line, all_parts, parts_members, named}
 use Rattle.std.proofs.lemmas.List.{append_assoc, append-nil}
 use Rattle.subnet_trace.specs.Parts.{Part}
 use Rattle.subnet_trace.specs.Printing.{imp_members}
-use Rattle.subnet_trace.proofs.PrintedParts.{one_imp}
 
 -- those that are left from an IMP on, and from a line on
 abbrev pub imps_left : Net → ℕ → List (List ℕ)
@@ -11,6 +10,13 @@ imps_left n i = map (named n) (map (λ k. Imp k) (filter (is_imp n) (range_with_
 
 abbrev pub lines_left : Net → ℕ → List (List ℕ)
 lines_left n l = map (named n) (map (λ k. Line k) (range_with_len l (length n.lines - l)))
+
+one_imp : (n : Net) (i : ℕ) (is : List ℕ) (others : List Part)
+    → map (named n) (map (λ k. Imp k) (filter (is_imp n) (i ∷ is)) ++ others) ≡ imp_members n i ++ map (named n) (map (λ k. Imp k) (filter (is_imp n) is) ++ others)
+one_imp n i is others = by (is_imp n i) refl where
+  by : (t : Bool) → is_imp n i ≡ t → map (named n) (map (λ k. Imp k) (filter (is_imp n) (i ∷ is)) ++ others) ≡ imp_members n i ++ map (named n) (map (λ k. Imp k) (filter (is_imp n) is) ++ others)
+  by true e = rw e refl
+  by false e = rw e refl
 
 pub none_listed : (n : Net) → [] ++ imps_left n 0 ≡ parts_members n (all_parts n)
 none_listed n =

@@ -74,7 +74,7 @@ pub use Rattle.subnet_trace.specs.Parts.{Imp, Line, all_parts, is_part, part_nam
 pub use Rattle.subnet_trace.specs.Printing.{concluded_text, heard_list, named, next_behind, place_after}
 pub use Rattle.subnet_trace.specs.Scopes.{OnlyIn, has_imp, has_line, scope_of}
 pub use Rattle.subnet_trace.specs.Steps.{IsNext, call_of, turn_begun}
-pub use Rattle.subnet_trace.specs.Texts.{bit_text, bits_text, channel_text, content_members, distances_text, finite_from, flow_object, frame_text, heard_text, held_members, host_object, imp_text, kept_text, kind_word, line_text, next_from, next_members, next_text, packet_text, port_object, slot_text, source_text, told_text, whole_text}
+pub use Rattle.subnet_trace.specs.Texts.{bit_text, bits_text, channel_text, content_members, distances_text, finite_from, frame_text, heard_text, held_members, host_object, imp_text, kind_word, line_text, next_from, next_members, next_text, packet_text, port_object, slot_text, told_text, whole_text}
 pub use Rattle.subnet_trace.specs.Told.{IsAnswerTold, IsChannelTold, IsContentTold, IsFlowNamed, IsFrameTold, IsHeardTold, IsHostTold, IsKeptTold, IsLineTold, IsMessageTold, IsOneNetwork, IsPacketTold, IsPieceTold, IsPlaced, IsPortTold, IsSlotTold, IsSourceTold, IsTold, IsToldAt, SameTexts, ends_of}
 pub use Rattle.subnet_trace.specs.Traced.{subnet_inside}
 pub use Rattle.subnet_trace.specs.declared.parts.Scope.{Scope}

@@ -10,6 +10,7 @@ pub mod Knowing
 pub mod Known
 pub mod Reached
 pub mod Rest
+pub mod FlowLists
 pub mod Scopes
 pub mod Pump
 pub mod Settled

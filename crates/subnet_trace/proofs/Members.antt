@@ -60,15 +60,14 @@ port_printed up sending expected a b c d e f p1 p2 p3 p4 p5 =
 
 -- ---- an IMP
 
-pub imp_printed : (hosts ports routes store slots sources kept distances next : List ℕ) (a b c d e : Option (List ℕ)) → Appends a b (codes "{\"hosts\":" ++ (hosts ++ (codes ",\"ports\":" ++ (ports ++ (codes ",\"routes\":" ++ routes)))))
-    → Appends b c (codes ",\"store\":" ++ (store ++ (codes ",\"slots\":" ++ slots))) → Appends c d (codes ",\"sources\":" ++ (sources ++ (codes ",\"kept\":" ++ kept))) → Appends d e (codes ",\"distances\":" ++ (distances ++ (codes ",\"next\":" ++ (next ++ codes "}"))))
-    → Appends a e (object (member (codes "hosts") hosts ∷ member (codes "ports") ports ∷ member (codes "routes") routes ∷ member (codes "store") store ∷ member (codes "slots") slots ∷ member (codes "sources") sources ∷ member (codes "kept") kept
+pub imp_printed : (hosts ports routes store slots distances next : List ℕ) (a b c d : Option (List ℕ)) → Appends a b (codes "{\"hosts\":" ++ (hosts ++ (codes ",\"ports\":" ++ (ports ++ (codes ",\"routes\":" ++ routes)))))
+    → Appends b c (codes ",\"store\":" ++ (store ++ (codes ",\"slots\":" ++ slots))) → Appends c d (codes ",\"distances\":" ++ (distances ++ (codes ",\"next\":" ++ (next ++ codes "}"))))
+    → Appends a d (object (member (codes "hosts") hosts ∷ member (codes "ports") ports ∷ member (codes "routes") routes ∷ member (codes "store") store ∷ member (codes "slots") slots
     ∷ member (codes "distances") distances ∷ member (codes "next") next ∷ []))
-imp_printed hosts ports routes store slots sources kept distances next a b c d e ends held known concluded =
+imp_printed hosts ports routes store slots distances next a b c d ends held concluded =
     let x : List ℕ = codes "{\"hosts\":" ++ (hosts ++ (codes ",\"ports\":" ++ (ports ++ (codes ",\"routes\":" ++ routes)))) in
     let y : List ℕ = codes ",\"store\":" ++ (store ++ (codes ",\"slots\":" ++ slots)) in
-    let z : List ℕ = codes ",\"sources\":" ++ (sources ++ (codes ",\"kept\":" ++ kept)) in
     let w : List ℕ = codes ",\"distances\":" ++ (distances ++ (codes ",\"next\":" ++ (next ++ codes "}"))) in
-    let whole : x ++ (y ++ (z ++ w)) ≡ object (member (codes "hosts") hosts ∷ member (codes "ports") ports ∷ member (codes "routes") routes ∷ member (codes "store") store ∷ member (codes "slots") slots ∷ member (codes "sources") sources ∷ member (codes "kept") kept
+    let whole : x ++ (y ++ w) ≡ object (member (codes "hosts") hosts ∷ member (codes "ports") ports ∷ member (codes "routes") routes ∷ member (codes "store") store ∷ member (codes "slots") slots
     ∷ member (codes "distances") distances ∷ member (codes "next") next ∷ []) = simp append_assoc in
-    subst (Appends a e) whole (Appends-trans a b e x (y ++ (z ++ w)) ends (three y z w b c d e held known concluded))
+    subst (Appends a d) whole (three x y w a b c d ends held concluded)

@@ -1,12 +1,11 @@
 -- Parts of a subnet are printed item by item.
-use Rattle.subnet_trace.proofs.Common.{◌≡◌, ℕ, suc, Bool, true, false, ◌<◌, ◌≤◌, ◌+◌, ◌-◌, List, [], ◌∷◌, ◌++◌, codes, drop, length, map, nat_lt, take, Option, None, Some, sym, ap, ap₂, subst, ◌∙◌, arith, Appends, decimal, range_with_len, Appends-trans, most_imps, Flow, Carriage, Content, Table, next_of, infinite, next_behind, place_after, bit_text, bits_text, content_members, distances_text, finite_from, flow_object, next_from, next_members, next_text, packet_text, mark, place_behind, array, member, object, quoted, Remains, end_printed, left, maybe_printed, three}
-use Rattle.std.proofs.Common.{◌/◌, ◌%◌, length-append}
-use Rattle.std.proofs.Math.Seq.{take-append_seam}
+use Rattle.subnet_trace.proofs.Common.{◌≡◌, ℕ, suc, Bool, true, false, ◌<◌, ◌≤◌, ◌+◌, ◌-◌, List, [], ◌∷◌, ◌++◌, codes, drop, length, nat_lt, Option, None, Some, sym, ap, ap₂, subst, ◌∙◌, arith, Appends, decimal, range_with_len, Appends-trans, most_imps, Carriage, Content, Table, next_of, infinite, next_behind, place_after, bit_text, bits_text, content_members, distances_text, finite_from, next_from, next_members, next_text, packet_text, mark, place_behind, member, object, quoted, Remains, end_printed, left, maybe_printed, three}
+use Rattle.std.proofs.Common.{◌/◌, ◌%◌}
 use Rattle.std.proofs.lemmas.Fmt.{decimal_digit, decimal_step}
 use Rattle.std.proofs.lemmas.List.{append_assoc, at_drop_all, at_drop_more, drop_all, drop_more}
 use Rattle.std.specs.Prelude.{slice_index_or}
 use Rattle.imp_channel.specs.declared.frame.Content.TheVariants as contents
-use Rattle.subnet_trace.specs.Printing.{distance_behind, known_rest, known_text, number_behind}
+use Rattle.subnet_trace.specs.Printing.{distance_behind, number_behind}
 use Rattle.trace.specs.Texts.{further}
 
 -- ---- distances
@@ -88,40 +87,6 @@ carried_printed content carried a b c d is front packet end =
 pub routes_printed : (content : Content) (ds : List ℕ) (a b c d : Option (List ℕ)) → content ≡ contents.Routes ds → Appends a b (codes "\",\"routes\":") → Appends b c (distances_text ds) → Appends c d (codes "}") → Appends a d (behind_acks content)
 routes_printed content ds a b c d is front routes end =
     subst (Appends a d) (ap behind_acks (sym is)) (Appends-trans a b d (codes "\",\"routes\":") (distances_text ds ++ codes "}") front (Appends-trans b c d (distances_text ds) (codes "}") routes end))
-
--- ---- flows
-
--- what is left of an array of what is known of flows, after this many
-abbrev pub flows_left : {V : Type 0} → List ℕ → (Flow → V → List ℕ) → (V → ℕ) → ℕ → List (Flow × V) → List ℕ
-flows_left name word number place es = left (codes "[") (codes "]") place (map (known_text name word number) es)
-
--- what is printed of a flow, in two pieces
--- all but the last octet of a list
-without_last : (xs : List ℕ) (x : ℕ) → take (length (xs ++ x ∷ []) - 1) (xs ++ x ∷ []) ≡ xs
-without_last xs x = ap (λ (n : ℕ). take n (xs ++ x ∷ [])) shorter ∙ take-append_seam xs (x ∷ []) where
-  shorter : length (xs ++ x ∷ []) - 1 ≡ length xs
-  shorter = omega (arith, length-append xs (x ∷ []))
-
--- what follows the word was put together on a line, of which the end is left out
-pub known_printed : (name word line : List ℕ) (f : Flow) (number : ℕ) (a b c : Option (List ℕ)) → line ≡ known_rest f number ++ 10 ∷ []
-    → Appends a b (codes "{\"" ++ (name ++ (codes "\":\"" ++ word)))
-    → Appends b c (take (length line - 1) line)
-    → Appends a c (flow_object name word f number)
-known_printed name word line f number a b c is front back =
-    let x : List ℕ = codes "{\"" ++ (name ++ (codes "\":\"" ++ word)) in
-    let rest : take (length line - 1) line ≡ known_rest f number = ap (λ (l : List ℕ). take (length l - 1) l) is ∙ without_last (known_rest f number) 10 in
-    let whole : x ++ known_rest f number ≡ flow_object name word f number = simp append_assoc in
-    subst (Appends a c) whole (Appends-trans a b c x (known_rest f number) front (subst (Appends b c) rest back))
-
-pub flow_printed : {V : Type 0} (name : List ℕ) (word : Flow → V → List ℕ) (number : V → ℕ) (place : ℕ) (e : Flow × V) (es : List (Flow × V)) (whole : List ℕ) (a b c d : Option (List ℕ)) → Remains a b (flows_left name word number place (e ∷ es)) whole
-    → Appends b c (mark (codes "[") (codes ",") place) → Appends c d (known_text name word number e) → Remains a d (flows_left name word number 1 es) whole
-flow_printed name word number place e es whole a b c d remains first item =
-    maybe_printed (codes "[") (codes "]") true (known_text name word number e) (map (known_text name word number) es) place whole a b d remains
-    (Appends-trans b c d (mark (codes "[") (codes ",") place) (known_text name word number e) first item)
-
-pub flows_printed : {V : Type 0} (name : List ℕ) (word : Flow → V → List ℕ) (number : V → ℕ) (place : ℕ) (es : List (Flow × V)) (a b c : Option (List ℕ)) → Remains a b (flows_left name word number place []) (flows_left name word number 0 es)
-    → Appends b c (mark (codes "[]") (codes "]") place) → Appends a c (array (map (known_text name word number) es))
-flows_printed name word number place es a b c remains last = end_printed (codes "[") (codes "]") place (flows_left name word number 0 es) a b c remains last
 
 -- ---- bits
 

@@ -7,10 +7,12 @@ use Rattle.replay.specs.Output.{shown_refusal}
 use Rattle.replay.specs.Replay.{EventGives}
 use Rattle.script.specs.declared.event.RawEvent.TheVariants as event
 use Rattle.subnet.specs.Net.{dropping}
-use Rattle.subnet_trace.specs.Scopes.{scope_of_delivery}
+use Rattle.subnet_trace.specs.Parts.{parts_of_net}
+use Rattle.subnet_trace.specs.Scopes.{IsOnlyIn, scope_of_delivery}
 use Rattle.subnet_trace.specs.declared.parts.Scope.TheVariants as scope
 use Rattle.trace.specs.Traces.{change_text}
-use Rattle.trace.proofs.lemmas.{happens, is_within, none_changed, none_put, put_more}
+use Rattle.trace.specs.declared.all_parts.AllParts.{AllParts}
+use Rattle.trace.proofs.lemmas.{happens, is_within, no_part_changed, none_put, put_more}
 use Rattle.subnet_trace.proofs.AllMembers.{imps_left, imps_next, imps_over, lines_left, lines_next, none_listed}
 use Rattle.subnet_trace.proofs.Rest.{Left, all_other, apart_from, frame_there, keeps, left_of, went}
 
@@ -140,24 +142,26 @@ has_same scope.Nothing l w v e = refl
 
 -- ---- an event
 
-abbrev members_of : Kept → List (List ℕ)
-members_of k = parts_members k.net (all_parts k.net)
+abbrev parts_kept : Kept → AllParts
+parts_kept k = parts_of_net k.net
 
-pub only_in : (texts : List (List ℕ)) (e : RawEvent) (crossings : List Crossing) (r : Result (Unit {0}) CarrierFault) (new : Kept) → HasHappened subnet_calls members_of texts e crossings r new → OnlyIn texts (scope_of new.net e) new.net
+pub only_in : (texts : AllParts) (e : RawEvent) (crossings : List Crossing) (r : Result (Unit {0}) CarrierFault) (new : Kept) → HasHappened subnet_calls parts_kept texts e crossings r new → OnlyIn texts (scope_of new.net e) new.net
 only_in texts e crossings r new h =
     let old : Kept = h.old in
     let shown : List Shown = shown_crossings crossings ++ shown_refusal r in
-    let k : Happens subnet_calls old e new shown = happens subnet_calls members_of texts e crossings r new h in
+    let k : Happens subnet_calls old e new shown = happens subnet_calls parts_kept texts e crossings r new h in
     let kept = keeps old new e shown h.one_call k in
     let stays : Stays (scope_of old.net e) old.net new.net = left_stays old new e (left_of old new e shown h.one_call k) in
     let same : scope_of old.net e ≡ scope_of new.net e = scope_same old.net new.net e kept.network in record {
       old = old.net;
       known = h.known;
-      sites = sym kept.network.sites;
-      places = kept.places;
-      lines = lines_same old.net new.net kept.network;
-      imps = λ i none. stays.imps i (ap (λ (s : Scope). has_imp s i) same ∙ none);
-      wires = λ l none. stays.wires l (has_same (scope_of old.net e) l (wire_at old.net.lines l) (wire_at new.net.lines l) (ends_same old.net.lines new.net.lines l kept.network.lines) ∙ ap (λ (s : Scope). has_line s l (wire_at new.net.lines l)) same ∙ none);
+      same = record {
+        sites = sym kept.network.sites;
+        places = kept.places;
+        lines = lines_same old.net new.net kept.network;
+        imps = λ i none. stays.imps i (ap (λ (s : Scope). has_imp s i) same ∙ none);
+        wires = λ l none. stays.wires l (has_same (scope_of old.net e) l (wire_at old.net.lines l) (wire_at new.net.lines l) (ends_same old.net.lines new.net.lines l kept.network.lines) ∙ ap (λ (s : Scope). has_line s l (wire_at new.net.lines l)) same ∙ none);
+      };
     }
 
 -- a refused one
@@ -175,21 +179,21 @@ refused_same old new (event.Take h) f one gives goes = take_refused old new h f 
 refused_same old new (event.Net e) f one gives goes = went {T = Unit {0}} (λ done. new ≡ running (stepped old.net e)) (refusal_of old (λ n. step_refusal n e)) (step_grows old.net e) old new (Err f) gives goes
 refused_same old new (event.Calm rounds) f one gives goes = absurd one
 
-pub refused_texts : (texts : List (List ℕ)) (e : RawEvent) (crossings : List Crossing) (f : CarrierFault) (new : Kept) → HasHappened subnet_calls members_of texts e crossings (Err f) new → texts ≡ members_of new
-refused_texts texts e crossings f new h = h.known ∙ ap members_of (sym (refused_same h.old new e f h.one_call h.gives h.goes_on))
+pub refused_texts : (texts : AllParts) (e : RawEvent) (crossings : List Crossing) (f : CarrierFault) (new : Kept) → HasHappened subnet_calls parts_kept texts e crossings (Err f) new → texts ≡ parts_kept new
+refused_texts texts e crossings f new h = h.known ∙ ap parts_kept (sym (refused_same h.old new e f h.one_call h.gives h.goes_on))
 
 pub refused_parts : (old new : Kept) (e : RawEvent) (shown : List Shown) → IsOneCall e → (h : Happens subnet_calls old e new shown) → is_ok h.outcome ≡ false → change_text subnet_inside old new ≡ codes "{}"
 refused_parts old new e shown one h refused = by h.outcome h.gives h.goes_on refused where
   by : (r : Result (Unit {0}) CarrierFault) → EventGives subnet_calls old e r new → GoesOn r → is_ok r ≡ false → change_text subnet_inside old new ≡ codes "{}"
   by (Ok done) gives goes r_err = absurd (false≢true (sym r_err))
-  by (Err f) gives goes r_err = ap (λ (k : Kept). change_text subnet_inside old k) (refused_same old new e f one gives goes) ∙ ap object (none_changed (members_of old))
+  by (Err f) gives goes r_err = ap (λ (k : Kept). change_text subnet_inside old k) (refused_same old new e f one gives goes) ∙ ap object (no_part_changed (parts_kept old))
 
 -- ---- the parts one after the other
 
-pub none_are : (texts : List (List ℕ)) (s : Scope) (new : Net) (r : OnlyIn texts s new) (text : List ℕ) → text ≡ [] → PutSoFar texts (parts_members new (all_parts new)) 0 texts text (imps_left r.old 0) (imps_left new 0)
+pub none_are : (texts : List (List ℕ)) (s : Scope) (new : Net) (r : IsOnlyIn s texts new) (text : List ℕ) → text ≡ [] → PutSoFar texts (parts_members new (all_parts new)) 0 texts text (imps_left r.0 0) (imps_left new 0)
 none_are texts s new r text empty =
-    subst (λ (t : List ℕ). PutSoFar texts (parts_members new (all_parts new)) 0 texts t (imps_left r.old 0) (imps_left new 0)) (sym empty)
-    (subst (λ (os : List (List ℕ)). PutSoFar texts (parts_members new (all_parts new)) 0 texts [] os (imps_left new 0)) (r.known ∙ sym (whole_left r.old))
+    subst (λ (t : List ℕ). PutSoFar texts (parts_members new (all_parts new)) 0 texts t (imps_left r.0 0) (imps_left new 0)) (sym empty)
+    (subst (λ (os : List (List ℕ)). PutSoFar texts (parts_members new (all_parts new)) 0 texts [] os (imps_left new 0)) (r.1 ∙ sym (whole_left r.0))
     (subst (λ (ns : List (List ℕ)). PutSoFar texts (parts_members new (all_parts new)) 0 texts [] texts ns) (sym (whole_left new)) (none_put texts (parts_members new (all_parts new))))) where
       whole_left : (n : Net) → imps_left n 0 ≡ parts_members n (all_parts n)
       whole_left n = none_listed n
@@ -197,58 +201,58 @@ none_are texts s new r text empty =
 is_imp_of : (n : Net) (i : ℕ) (there : Bool) → is_imp n i ≡ there → i < length n.imps → imps_left n i ≡ (if there then named n (Imp i) ∷ [] else []) ++ imps_left n (i + 1)
 is_imp_of n i there is lt = imps_next n i lt ∙ ap (λ (b : Bool). (if b then named n (Imp i) ∷ [] else []) ++ imps_left n (i + 1)) is
 
-site_is : (texts : List (List ℕ)) (s : Scope) (new : Net) (r : OnlyIn texts s new) (i : ℕ) (there : Bool) → is_imp new i ≡ there → is_imp r.old i ≡ there
-site_is texts s new r i there is = ap (λ sites. is_imp (record r.old { sites = sites }) i) (sym r.sites) ∙ is
+site_is : (texts : List (List ℕ)) (s : Scope) (new : Net) (r : IsOnlyIn s texts new) (i : ℕ) (there : Bool) → is_imp new i ≡ there → is_imp r.0 i ≡ there
+site_is texts s new r i there is = ap (λ sites. is_imp (record r.0 { sites = sites }) i) (sym r.2.sites) ∙ is
 
 -- an IMP
-pub imp_put : (texts : List (List ℕ)) (s : Scope) (new : Net) (r : OnlyIn texts s new) (i place : ℕ) (may : Bool) (known later : List (List ℕ)) (text longer : List ℕ) → i < length new.imps → is_imp new i ≡ true → may ≡ has_imp s i
+pub imp_put : (texts : List (List ℕ)) (s : Scope) (new : Net) (r : IsOnlyIn s texts new) (i place : ℕ) (may : Bool) (known later : List (List ℕ)) (text longer : List ℕ) → i < length new.imps → is_imp new i ≡ true → may ≡ has_imp s i
     → later ≡ put_at may known place (named new (Imp i)) → longer ≡ put_text may known place (named new (Imp i)) text
-    → PutSoFar texts (parts_members new (all_parts new)) place known text (imps_left r.old i) (imps_left new i) → PutSoFar texts (parts_members new (all_parts new)) (place + 1) later longer (imps_left r.old (i + 1)) (imps_left new (i + 1))
+    → PutSoFar texts (parts_members new (all_parts new)) place known text (imps_left r.0 i) (imps_left new i) → PutSoFar texts (parts_members new (all_parts new)) (place + 1) later longer (imps_left r.0 (i + 1)) (imps_left new (i + 1))
 imp_put texts s new r i place may known later text longer lt there test put added so =
-    let was : i < length r.old.imps = omega (arith, lt, r.places) in
-    put_more may texts (parts_members new (all_parts new)) place known later text longer (imps_left r.old (i + 1)) (imps_left new (i + 1)) (named r.old (Imp i)) (named new (Imp i))
-    (λ none. ap (λ o. member (part_name (Imp i)) (imp_text o)) (r.imps i (sym test ∙ none))) put added
-    (subst (λ (ns : List (List ℕ)). PutSoFar texts (parts_members new (all_parts new)) place known text (named r.old (Imp i) ∷ imps_left r.old (i + 1)) ns) (is_imp_of new i true there lt)
-    (subst (λ (os : List (List ℕ)). PutSoFar texts (parts_members new (all_parts new)) place known text os (imps_left new i)) (is_imp_of r.old i true (site_is texts s new r i true there) was) so))
+    let was : i < length r.0.imps = omega (arith, lt, r.2.places) in
+    put_more may texts (parts_members new (all_parts new)) place known later text longer (imps_left r.0 (i + 1)) (imps_left new (i + 1)) (named r.0 (Imp i)) (named new (Imp i))
+    (λ none. ap (λ o. member (part_name (Imp i)) (imp_text o)) (r.2.imps i (sym test ∙ none))) put added
+    (subst (λ (ns : List (List ℕ)). PutSoFar texts (parts_members new (all_parts new)) place known text (named r.0 (Imp i) ∷ imps_left r.0 (i + 1)) ns) (is_imp_of new i true there lt)
+    (subst (λ (os : List (List ℕ)). PutSoFar texts (parts_members new (all_parts new)) place known text os (imps_left new i)) (is_imp_of r.0 i true (site_is texts s new r i true there) was) so))
 
 -- where the network has none there is no part
-pub none_there : (texts : List (List ℕ)) (s : Scope) (new : Net) (r : OnlyIn texts s new) (i place : ℕ) (known : List (List ℕ)) (text : List ℕ) → i < length new.imps → is_imp new i ≡ false
-    → PutSoFar texts (parts_members new (all_parts new)) place known text (imps_left r.old i) (imps_left new i) → PutSoFar texts (parts_members new (all_parts new)) place known text (imps_left r.old (i + 1)) (imps_left new (i + 1))
+pub none_there : (texts : List (List ℕ)) (s : Scope) (new : Net) (r : IsOnlyIn s texts new) (i place : ℕ) (known : List (List ℕ)) (text : List ℕ) → i < length new.imps → is_imp new i ≡ false
+    → PutSoFar texts (parts_members new (all_parts new)) place known text (imps_left r.0 i) (imps_left new i) → PutSoFar texts (parts_members new (all_parts new)) place known text (imps_left r.0 (i + 1)) (imps_left new (i + 1))
 none_there texts s new r i place known text lt there so =
-    let was : i < length r.old.imps = omega (arith, lt, r.places) in
-    subst (λ (ns : List (List ℕ)). PutSoFar texts (parts_members new (all_parts new)) place known text (imps_left r.old (i + 1)) ns) (is_imp_of new i false there lt)
-    (subst (λ (os : List (List ℕ)). PutSoFar texts (parts_members new (all_parts new)) place known text os (imps_left new i)) (is_imp_of r.old i false (site_is texts s new r i false there) was) so)
+    let was : i < length r.0.imps = omega (arith, lt, r.2.places) in
+    subst (λ (ns : List (List ℕ)). PutSoFar texts (parts_members new (all_parts new)) place known text (imps_left r.0 (i + 1)) ns) (is_imp_of new i false there lt)
+    (subst (λ (os : List (List ℕ)). PutSoFar texts (parts_members new (all_parts new)) place known text os (imps_left new i)) (is_imp_of r.0 i false (site_is texts s new r i false there) was) so)
 
 -- after the IMPs come the lines
-pub imps_put : (texts : List (List ℕ)) (s : Scope) (new : Net) (r : OnlyIn texts s new) (i place : ℕ) (known : List (List ℕ)) (text : List ℕ) → length new.imps ≤ i
-    → PutSoFar texts (parts_members new (all_parts new)) place known text (imps_left r.old i) (imps_left new i) → PutSoFar texts (parts_members new (all_parts new)) place known text (lines_left r.old 0) (lines_left new 0)
+pub imps_put : (texts : List (List ℕ)) (s : Scope) (new : Net) (r : IsOnlyIn s texts new) (i place : ℕ) (known : List (List ℕ)) (text : List ℕ) → length new.imps ≤ i
+    → PutSoFar texts (parts_members new (all_parts new)) place known text (imps_left r.0 i) (imps_left new i) → PutSoFar texts (parts_members new (all_parts new)) place known text (lines_left r.0 0) (lines_left new 0)
 imps_put texts s new r i place known text past so =
-    let was : length r.old.imps ≤ i = omega (arith, past, r.places) in
-    subst (λ (ns : List (List ℕ)). PutSoFar texts (parts_members new (all_parts new)) place known text (lines_left r.old 0) ns) (imps_over new i past)
-    (subst (λ (os : List (List ℕ)). PutSoFar texts (parts_members new (all_parts new)) place known text os (imps_left new i)) (imps_over r.old i was) so)
+    let was : length r.0.imps ≤ i = omega (arith, past, r.2.places) in
+    subst (λ (ns : List (List ℕ)). PutSoFar texts (parts_members new (all_parts new)) place known text (lines_left r.0 0) ns) (imps_over new i past)
+    (subst (λ (os : List (List ℕ)). PutSoFar texts (parts_members new (all_parts new)) place known text os (imps_left new i)) (imps_over r.0 i was) so)
 
 -- a line
-pub line_put : (texts : List (List ℕ)) (s : Scope) (new : Net) (r : OnlyIn texts s new) (l place : ℕ) (may : Bool) (known later : List (List ℕ)) (text longer : List ℕ) → l < length new.lines → may ≡ has_line s l (wire_at new.lines l)
+pub line_put : (texts : List (List ℕ)) (s : Scope) (new : Net) (r : IsOnlyIn s texts new) (l place : ℕ) (may : Bool) (known later : List (List ℕ)) (text longer : List ℕ) → l < length new.lines → may ≡ has_line s l (wire_at new.lines l)
     → later ≡ put_at may known place (named new (Line l)) → longer ≡ put_text may known place (named new (Line l)) text
-    → PutSoFar texts (parts_members new (all_parts new)) place known text (lines_left r.old l) (lines_left new l) → PutSoFar texts (parts_members new (all_parts new)) (place + 1) later longer (lines_left r.old (l + 1)) (lines_left new (l + 1))
+    → PutSoFar texts (parts_members new (all_parts new)) place known text (lines_left r.0 l) (lines_left new l) → PutSoFar texts (parts_members new (all_parts new)) (place + 1) later longer (lines_left r.0 (l + 1)) (lines_left new (l + 1))
 line_put texts s new r l place may known later text longer lt test put added so =
-    let was : l < length r.old.lines = omega (arith, lt, r.lines) in
-    put_more may texts (parts_members new (all_parts new)) place known later text longer (lines_left r.old (l + 1)) (lines_left new (l + 1)) (named r.old (Line l)) (named new (Line l))
-    (λ none. ap (λ (w : Wire). member (part_name (Line l)) (line_text w)) (r.wires l (sym test ∙ none))) put added
-    (subst (λ (ns : List (List ℕ)). PutSoFar texts (parts_members new (all_parts new)) place known text (named r.old (Line l) ∷ lines_left r.old (l + 1)) ns) (lines_next new l lt)
-    (subst (λ (os : List (List ℕ)). PutSoFar texts (parts_members new (all_parts new)) place known text os (lines_left new l)) (lines_next r.old l was) so))
+    let was : l < length r.0.lines = omega (arith, lt, r.2.lines) in
+    put_more may texts (parts_members new (all_parts new)) place known later text longer (lines_left r.0 (l + 1)) (lines_left new (l + 1)) (named r.0 (Line l)) (named new (Line l))
+    (λ none. ap (λ (w : Wire). member (part_name (Line l)) (line_text w)) (r.2.wires l (sym test ∙ none))) put added
+    (subst (λ (ns : List (List ℕ)). PutSoFar texts (parts_members new (all_parts new)) place known text (named r.0 (Line l) ∷ lines_left r.0 (l + 1)) ns) (lines_next new l lt)
+    (subst (λ (os : List (List ℕ)). PutSoFar texts (parts_members new (all_parts new)) place known text os (lines_left new l)) (lines_next r.0 l was) so))
 
 -- there is a member at the place
-pub imp_there : (texts : List (List ℕ)) (s : Scope) (new : Net) (r : OnlyIn texts s new) (i place : ℕ) (known : List (List ℕ)) (text : List ℕ) → i < length new.imps → is_imp new i ≡ true
-    → PutSoFar texts (parts_members new (all_parts new)) place known text (imps_left r.old i) (imps_left new i) → place < length known
+pub imp_there : (texts : List (List ℕ)) (s : Scope) (new : Net) (r : IsOnlyIn s texts new) (i place : ℕ) (known : List (List ℕ)) (text : List ℕ) → i < length new.imps → is_imp new i ≡ true
+    → PutSoFar texts (parts_members new (all_parts new)) place known text (imps_left r.0 i) (imps_left new i) → place < length known
 imp_there texts s new r i place known text lt there so =
-    let was : i < length r.old.imps = omega (arith, lt, r.places) in
-    is_within texts (parts_members new (all_parts new)) place known text (imps_left r.old (i + 1)) (imps_left new i) (named r.old (Imp i))
-    (subst (λ (os : List (List ℕ)). PutSoFar texts (parts_members new (all_parts new)) place known text os (imps_left new i)) (is_imp_of r.old i true (site_is texts s new r i true there) was) so)
+    let was : i < length r.0.imps = omega (arith, lt, r.2.places) in
+    is_within texts (parts_members new (all_parts new)) place known text (imps_left r.0 (i + 1)) (imps_left new i) (named r.0 (Imp i))
+    (subst (λ (os : List (List ℕ)). PutSoFar texts (parts_members new (all_parts new)) place known text os (imps_left new i)) (is_imp_of r.0 i true (site_is texts s new r i true there) was) so)
 
-pub line_there : (texts : List (List ℕ)) (s : Scope) (new : Net) (r : OnlyIn texts s new) (l place : ℕ) (known : List (List ℕ)) (text : List ℕ) → l < length new.lines
-    → PutSoFar texts (parts_members new (all_parts new)) place known text (lines_left r.old l) (lines_left new l) → place < length known
+pub line_there : (texts : List (List ℕ)) (s : Scope) (new : Net) (r : IsOnlyIn s texts new) (l place : ℕ) (known : List (List ℕ)) (text : List ℕ) → l < length new.lines
+    → PutSoFar texts (parts_members new (all_parts new)) place known text (lines_left r.0 l) (lines_left new l) → place < length known
 line_there texts s new r l place known text lt so =
-    let was : l < length r.old.lines = omega (arith, lt, r.lines) in
-    is_within texts (parts_members new (all_parts new)) place known text (lines_left r.old (l + 1)) (lines_left new l) (named r.old (Line l))
-    (subst (λ (os : List (List ℕ)). PutSoFar texts (parts_members new (all_parts new)) place known text os (lines_left new l)) (lines_next r.old l was) so)
+    let was : l < length r.0.lines = omega (arith, lt, r.2.lines) in
+    is_within texts (parts_members new (all_parts new)) place known text (lines_left r.0 (l + 1)) (lines_left new l) (named r.0 (Line l))
+    (subst (λ (os : List (List ℕ)). PutSoFar texts (parts_members new (all_parts new)) place known text os (lines_left new l)) (lines_next r.0 l was) so)

@@ -1,5 +1,6 @@
 -- Offers and takings that change no part.
-use Rattle.subnet_trace.proofs.Common.{◌≡◌, ◌∙◌, Bool, true, false, IfSome, length, Option, None, Ok, Err, ap, sym, subst, is_memory, Host, CarrierFault, HostMessage, State, Fails, Kept, refusal_of, take_grows, offer_refusal, take_refusal, Net, imp_at, subnet_calls, all_parts, parts_members, subnet_inside}
+use Rattle.subnet_trace.proofs.Common.{◌≡◌, ◌∙◌, Bool, true, false, IfSome, length, Option, None, Ok, Err, ap, sym, subst, is_memory, Host, CarrierFault, HostMessage, State, Fails, Kept, refusal_of, take_grows, offer_refusal, take_refusal, Net, imp_at, subnet_calls, subnet_inside}
+use Rattle.subnet_trace.specs.Parts.{parts_of_net}
 use Rattle.imp_node.proofs.lemmas.{pump_rests}
 use Rattle.subnet_trace.proofs.Nothing.{none_taken_at}
 use Rattle.subnet_trace.proofs.Settled.{IsSettledAt}
@@ -19,6 +20,6 @@ take_keeps old new h e lasts t = ap subnet_inside.members (refused_leaves (refus
 
 -- at an IMP that is down, or in which no packet waits
 pub still_taken : (k new : Kept) (h : Host) → IfSome (imp_at k.net.imps h.imp) (λ s. length s.store ≡ 0) → subnet_calls.takes k h (Ok None) new → subnet_inside.members new ≡ subnet_inside.members k
-still_taken k new h empty t = ap (λ (n : Net). parts_members n (all_parts n)) (ap (λ (j : Kept). j.net) t.1.1 ∙ none_taken_at k.net h settled (sym t.1.0)) where
+still_taken k new h empty t = ap (λ (n : Net). parts_of_net n) (ap (λ (j : Kept). j.net) t.1.1 ∙ none_taken_at k.net h settled (sym t.1.0)) where
   settled : IsSettledAt k.net h.imp
   settled = λ s up. pump_rests s (subst (λ (o : Option State). IfSome o (λ s. length s.store ≡ 0)) up empty)

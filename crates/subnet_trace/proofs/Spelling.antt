@@ -1,5 +1,5 @@
 -- Words, bits, packets, messages, channels and what is known of flows have texts of their own.
-use Rattle.subnet_trace.proofs.Common.{◌≡◌, ℕ, ◌==◌, Bool, true, false, List, [], ◌∷◌, ◌++◌, codes, if◌then◌else◌, Option, Some, None, IfSome, refl, sym, ap, ap₂, ◌∙◌, All-append, All-nil, decimal, Flow, PacketFields, flow_of, PacketKind, Channel, last_of, Fate, Noted, Standing, State, Message, Told, bool_text, member, quoted, AreClosed, IsClosed, Spelled, also_closed, decimal_closed, first_same, member_once, none_closed, object_closed, object_once, rest_same, short_once, bit_text, bits_text, channel_text, flow_object, held_members, kept_text, kind_word, packet_text, source_text, told_text, whole_text, IsAnswerTold, IsChannelTold, IsFlowNamed, IsKeptTold, IsMessageTold, IsPacketTold, IsSourceTold}
+use Rattle.subnet_trace.proofs.Common.{◌≡◌, ℕ, ◌==◌, Bool, true, false, List, [], ◌∷◌, ◌++◌, codes, if◌then◌else◌, Option, Some, None, IfSome, refl, sym, ap, ap₂, ◌∙◌, All-append, All-nil, decimal, Flow, PacketFields, flow_of, PacketKind, Channel, last_of, Fate, Noted, Standing, State, Message, Told, bool_text, member, quoted, AreClosed, IsClosed, Spelled, also_closed, decimal_closed, first_same, member_once, none_closed, object_closed, object_once, rest_same, short_once, bit_text, bits_text, channel_text, held_members, kind_word, packet_text, told_text, whole_text, IsAnswerTold, IsChannelTold, IsFlowNamed, IsKeptTold, IsMessageTold, IsPacketTold, IsSourceTold}
 use Rattle.std.specs.Str.{bytes_eq}
 use Rattle.packetiser.specs.declared.packet.PacketKind.TheVariants as kind
 use Rattle.link_table.specs.declared.destination.Fate.TheVariants as fate
@@ -8,9 +8,12 @@ use Rattle.script.specs.Steps.{Lacks}
 use Rattle.script.proofs.lemmas.{unmarked_where}
 use Rattle.trace.specs.Texts.{bits_members, flow_members}
 pub use Rattle.trace.proofs.lemmas.{Any, bool_spelled, word_closed}
-use Rattle.trace.proofs.lemmas.{Words, answer_spelled, bits_closed, bits_same, flow_closed, flow_same, other_first, quoted_once, string_closed, strings_spelled}
-use Rattle.subnet_trace.specs.Texts.{awaits_host, fate_word, piece_members, standing_word}
-use Rattle.subnet_trace.specs.Told.{IsShort}
+use Rattle.trace.proofs.lemmas.{Words, answer_spelled, bits_closed, bits_same, flow_closed, flow_same, other_first, part_once, strings_spelled}
+use Rattle.subnet_trace.specs.Texts.{awaits_host, fate_state, kept_part, piece_members, source_part, standing_state}
+use Rattle.trace.specs.Flows.{told}
+use Rattle.trace.specs.declared.flow_part.FlowPart.{FlowPart}
+use Rattle.trace.specs.declared.flow_part.FlowState.{FlowState}
+use Rattle.trace.specs.declared.flow_part.FlowState.TheVariants as state
 
 -- ---- bits
 
@@ -178,78 +181,40 @@ channel_spelled = record { closed = λ c is. object_closed (channel_members c) (
 
 -- ---- flows at their sources and destinations
 
-abbrev known_members : List ℕ → List ℕ → Flow → ℕ → List (List ℕ)
-known_members name word f number = member name (quoted word) ∷ (flow_members f ++ (member (codes "number") (decimal number) ∷ []))
+standing_in : FlowState → ℕ → Standing
+standing_in state.Outstanding l = standing.Outstanding l
+standing_in state.Answered l = standing.Answered l
+standing_in x l = standing.Idle l
 
-record SameKnown (v w : List ℕ) (f g : Flow) (m n : ℕ) : Type 0 where
-  word : v ≡ w
-  flow : f ≡ g
-  number : m ≡ n
-
-known_once : (name v w : List ℕ) (f g : Flow) (m n : ℕ) → AreClosed (known_members name v f m) → AreClosed (known_members name w g n) → IsFlowNamed f → IsFlowNamed g → IsShort m → IsShort n → flow_object name v f m ≡ flow_object name w g n → SameKnown v w f g m n
-known_once name v w f g m n cv cw p q sm sn e =
-    let all = object_once (known_members name v f m) (known_members name w g n) cv.all cw.all e in
-    let flows = flow_same f g (member (codes "number") (decimal m) ∷ []) (member (codes "number") (decimal n) ∷ []) p q (rest_same all) in
-    record { word = quoted_once v w (member_once name (quoted v) (quoted w) (first_same all)); flow = flows.first; number = short_once m n sm sn (member_once (codes "number") (decimal m) (decimal n) (first_same flows.behind)) }
-
-standing_in : List ℕ → ℕ → Standing
-standing_in word l =
-    if bytes_eq word (codes "outstanding") then standing.Outstanding l
-    else if bytes_eq word (codes "answered") then standing.Answered l
-    else standing.Idle l
-
-standing_again : (waits : Bool) (s : Standing) → standing_in (standing_word waits s) (last_of s) ≡ s
+standing_again : (waits : Bool) (s : Standing) → standing_in (standing_state waits s) (last_of s) ≡ s
 unfolding standing_in
 standing_again true (standing.Idle l) = refl
 standing_again false (standing.Idle l) = refl
 standing_again waits (standing.Outstanding l) = refl
 standing_again waits (standing.Answered l) = refl
 
-standing_plain : (waits : Bool) (s : Standing) → Lacks 34 (standing_word waits s)
-standing_plain true (standing.Idle l) = unmarked_where 34 (codes "dead") refl
-standing_plain false (standing.Idle l) = unmarked_where 34 (codes "idle") refl
-standing_plain waits (standing.Outstanding l) = unmarked_where 34 (codes "outstanding") refl
-standing_plain waits (standing.Answered l) = unmarked_where 34 (codes "answered") refl
-
-source_closed : (s : State) (e : Flow × Standing) → IsSourceTold e → AreClosed (known_members (codes "state") (standing_word (awaits_host s e.0) e.1) e.0 (last_of e.1))
-source_closed s e is =
-    also_closed (codes "state") refl (string_closed (standing_word (awaits_host s e.0) e.1) (standing_plain (awaits_host s e.0) e.1))
-    (flow_closed e.0 is.flow (also_closed (codes "number") refl (decimal_closed (last_of e.1)) none_closed))
-
 -- of two IMPs
-pub source_once : (s t : State) (e f : Flow × Standing) → IsSourceTold e → IsSourceTold f → source_text s e ≡ source_text t f → e ≡ f
+pub source_once : (s t : State) (e f : Flow × Standing) → IsSourceTold e → IsSourceTold f → told (source_part s e) ≡ told (source_part t f) → e ≡ f
 source_once s t e f p q h =
-    let same = known_once (codes "state") (standing_word (awaits_host s e.0) e.1) (standing_word (awaits_host t f.0) f.1) e.0 f.0 (last_of e.1) (last_of f.1) (source_closed s e p) (source_closed t f q) p.flow q.flow p.number q.number h in
-    let standings : e.1 ≡ f.1 = sym (standing_again (awaits_host s e.0) e.1) ∙ ap₂ standing_in same.word same.number ∙ standing_again (awaits_host t f.0) f.1 in
-    λ i. (same.flow i, standings i)
+    let same : source_part s e ≡ source_part t f = part_once (source_part s e) (source_part t f) (record { flow = p.flow; number = p.number }) (record { flow = q.flow; number = q.number }) h in
+    let standings : e.1 ≡ f.1 = sym (standing_again (awaits_host s e.0) e.1) ∙ ap (λ (x : FlowPart). standing_in x.state x.number) same ∙ standing_again (awaits_host t f.0) f.1 in
+    λ i. ((same i).flow, standings i)
 
-pub source_is_closed : (s : State) (e : Flow × Standing) → IsSourceTold e → IsClosed (source_text s e)
-source_is_closed s e is = object_closed (known_members (codes "state") (standing_word (awaits_host s e.0) e.1) e.0 (last_of e.1)) (source_closed s e is).all
+fate_in : FlowState → Fate
+fate_in state.Waits = fate.Waits
+fate_in state.Taken = fate.Taken
+fate_in state.Dead = fate.Dead
+fate_in x = fate.Never
 
-fate_in_word : List ℕ → Fate
-fate_in_word word = if bytes_eq word (codes "waits") then fate.Waits else if bytes_eq word (codes "taken") then fate.Taken else if bytes_eq word (codes "dead") then fate.Dead else fate.Never
-
-fate_again : (x : Fate) → fate_in_word (fate_word x) ≡ x
-unfolding fate_in_word
+fate_again : (x : Fate) → fate_in (fate_state x) ≡ x
+unfolding fate_in
 fate_again fate.Waits = refl
-fate_again x = refl
+fate_again fate.Taken = refl
+fate_again fate.Dead = refl
+fate_again fate.Never = refl
 
-fate_plain : (x : Fate) → Lacks 34 (fate_word x)
-fate_plain fate.Waits = unmarked_where 34 (codes "waits") refl
-fate_plain fate.Taken = unmarked_where 34 (codes "taken") refl
-fate_plain fate.Dead = unmarked_where 34 (codes "dead") refl
-fate_plain fate.Never = unmarked_where 34 (codes "never") refl
-
-kept_closed : (e : Flow × Noted) → IsKeptTold e → AreClosed (known_members (codes "fate") (fate_word e.1.fate) e.0 e.1.number)
-kept_closed e is =
-    also_closed (codes "fate") refl (string_closed (fate_word e.1.fate) (fate_plain e.1.fate))
-    (flow_closed e.0 is.flow (also_closed (codes "number") refl (decimal_closed e.1.number) none_closed))
-
-kept_once : (e f : Flow × Noted) → IsKeptTold e → IsKeptTold f → kept_text e ≡ kept_text f → e ≡ f
+pub kept_once : (e f : Flow × Noted) → IsKeptTold e → IsKeptTold f → told (kept_part e) ≡ told (kept_part f) → e ≡ f
 kept_once e f p q h =
-    let same = known_once (codes "fate") (fate_word e.1.fate) (fate_word f.1.fate) e.0 f.0 e.1.number f.1.number (kept_closed e p) (kept_closed f q) p.flow q.flow p.number q.number h in
-    let fates : e.1.fate ≡ f.1.fate = sym (fate_again e.1.fate) ∙ ap fate_in_word same.word ∙ fate_again f.1.fate in
-    λ i. (same.flow i, record { number = same.number i; fate = fates i })
-
-pub kept_is_spelled : Spelled kept_text IsKeptTold
-kept_is_spelled = record { closed = λ e is. object_closed (known_members (codes "fate") (fate_word e.1.fate) e.0 e.1.number) (kept_closed e is).all; once = kept_once }
+    let same : kept_part e ≡ kept_part f = part_once (kept_part e) (kept_part f) (record { flow = p.flow; number = p.number }) (record { flow = q.flow; number = q.number }) h in
+    let fates : e.1.fate ≡ f.1.fate = sym (fate_again e.1.fate) ∙ ap (λ (x : FlowPart). fate_in x.state) same ∙ fate_again f.1.fate in
+    λ i. ((same i).flow, record { number = (same i).number; fate = fates i })

@@ -27,6 +27,12 @@ use Rattle.trace.proofs.lemmas.{then_in}
 use Rattle.trace.specs.declared.element.Spot.{Spot}
 use Rattle.trace.specs.Traces.{IsStill, SaysAll, TellsEvent}
 use Rattle.subnet_trace.proofs.Known.{told}
+use Rattle.std.specs.List.{flat_map}
+use Rattle.subnet.specs.Net.{imp_at}
+use Rattle.subnet_trace.specs.Parts.{all_flows, flows_at, parts_of_net}
+use Rattle.subnet_trace.specs.Texts.{kept_of, sources_of}
+use Rattle.trace.specs.Flows as flow
+use Rattle.trace.specs.declared.all_parts.AllParts.{AllParts}
 
 -- ---- all elementary events of a round have its number
 
@@ -154,14 +160,49 @@ same_parts n m p q same =
     ∙ ap (λ (count : ℕ). map (λ i. Imp i) (filter (is_imp n) (range_with_len 0 (length n.imps))) ++ map
     (λ l. Line l) (range_with_len 0 count)) lines
 
-same_texts : (n m : Net) → IsTold n → IsTold m → IsOneNetwork n m
-    → parts_members m (all_parts m) ≡ parts_members n (all_parts n) → SameTexts n m
-same_texts n m p q same members = λ part is.
-    let here : parts_members n (all_parts n) ≡ parts_members m (all_parts n) = sym members
+-- the flows of each IMP, of which there are two lists
+same_lists_of : (n m : Net) (xs : List ℕ) → flat_map (flows_at n) xs ≡ flat_map (flows_at m) xs → (i : ℕ)
+    → IsAmong i xs → (sources_of (imp_at n.imps i) ≡ sources_of (imp_at m.imps i))
+    × (kept_of (imp_at n.imps i) ≡ kept_of (imp_at m.imps i))
+same_lists_of n m [] same i h = absurd h
+same_lists_of n m (x ∷ xs) same i (inl here) = (
+  ap (λ (k : ℕ). sources_of (imp_at n.imps k)) (sym here) ∙ first_same same
+      ∙ ap (λ (k : ℕ). sources_of (imp_at m.imps k)) here,
+  ap (λ (k : ℕ). kept_of (imp_at n.imps k)) (sym here) ∙ first_same (rest_same same)
+      ∙ ap (λ (k : ℕ). kept_of (imp_at m.imps k)) here,
+)
+same_lists_of n m (x ∷ xs) same i (inr h) = same_lists_of n m xs (rest_same (rest_same same)) i h
+
+same_flows : (n m : Net) → IsTold n → IsTold m → IsOneNetwork n m → all_flows m ≡ all_flows n → (i : ℕ)
+    → is_imp n i ≡ true → (sources_of (imp_at n.imps i) ≡ sources_of (imp_at m.imps i))
+    × (kept_of (imp_at n.imps i) ≡ kept_of (imp_at m.imps i))
+same_flows n m p q same flows i is =
+    let long : length m.imps ≡ length n.imps = q.places
+    ∙ ap (λ (sites : List (Option ℕ)). length sites) (sym same.sites) ∙ sym p.places in
+    let numbers : filter (is_imp m) (range_with_len 0 (length m.imps))
+    ≡ filter (is_imp n) (range_with_len 0 (length n.imps)) =
+    ap (λ (sites : List (Option ℕ)). filter (λ k. is_some (slice_index_or sites k None))
+    (range_with_len 0 (length m.imps))) (sym same.sites)
+    ∙ ap (λ (count : ℕ). filter (is_imp n) (range_with_len 0 count)) long in
+    let less : i < length n.sites = site_within n.sites i is in
+    same_lists_of n m (filter (is_imp n) (range_with_len 0 (length n.imps)))
+    (sym flows ∙ ap (flat_map (flows_at m)) numbers) i
+    (among_kept (is_imp n) i (range_with_len 0 (length n.imps)) is
+    (in_range 0 (length n.imps) i (omega arith) (omega (arith, less, p.places))))
+
+same_texts : (n m : Net) → IsTold n → IsTold m → IsOneNetwork n m → parts_of_net m ≡ parts_of_net n → SameTexts n m
+same_texts n m p q same all =
+    let here : parts_members n (all_parts n) ≡ parts_members m (all_parts n) =
+    sym (ap (λ (x : AllParts). x.fixed) all)
     ∙ ap (λ (ps : List Part). parts_members m ps) (same_parts n m p q same) in
-    member_once (part_name part) (part_text n part) (part_text m part)
-    (same_made (λ x. member (part_name x) (part_text n x)) (λ x. member (part_name x) (part_text m x))
-    (all_parts n) here part (listed n p.places part is))
+    let flows : all_flows m ≡ all_flows n = ap (λ (x : AllParts). x.flows) all in
+    record {
+      parts = λ part is. member_once (part_name part) (part_text n part) (part_text m part)
+          (same_made (λ x. member (part_name x) (part_text n x)) (λ x. member (part_name x) (part_text m x))
+          (all_parts n) here part (listed n p.places part is));
+      sources = λ i is. ap (map flow.told) (same_flows n m p q same flows i is).0;
+      kept = λ i is. ap (map flow.told) (same_flows n m p q same flows i is).1;
+    }
 
 -- ---- a still round leaves the subnet as it was
 

@@ -1,14 +1,16 @@
 -- The parts of a subnet, and which of them an event can change.
 use Rattle.std.specs.Prelude.{◌≡◌, ℕ, Bool, false, ◌==◌, ◌||◌, List, [], ◌∷◌, ◌++◌, codes, filter, if◌then◌else◌, length, map, nat_lt}
 use Rattle.std.specs.Fmt.{decimal}
-use Rattle.std.specs.List.{range_with_len}
+use Rattle.std.specs.List.{flat_map, range_with_len}
 use Rattle.interface.specs.declared.event.Direction.{Direction}
 use Rattle.interface.specs.declared.event.NetEvent.TheVariants as net
 use Rattle.script.specs.declared.event.RawEvent.{RawEvent}
 use Rattle.script.specs.declared.event.RawEvent.TheVariants as event
 use Rattle.subnet.specs.Events.{is_imp}
 use Rattle.subnet.specs.Net.{Net, ends_at, far_end, imp_at, wire_at}
-use Rattle.subnet_trace.specs.Texts.{imp_text, line_text}
+use Rattle.subnet_trace.specs.Texts.{imp_text, kept_of, line_text, sources_of}
+use Rattle.trace.specs.declared.all_parts.AllParts.{AllParts}
+use Rattle.trace.specs.declared.flow_part.FlowPart.{FlowPart}
 use Rattle.trace.specs.Texts.{member, object}
 
 -- an IMP and a line, by their numbers
@@ -39,6 +41,18 @@ parts_text n parts = object (parts_members n parts)
 -- all parts: the IMPs by rising number, and the lines in order
 abbrev pub all_parts : Net → List Part
 all_parts n = map (λ i. Imp i) (filter (is_imp n) (range_with_len 0 (length n.imps))) ++ map (λ l. Line l) (range_with_len 0 (length n.lines))
+
+-- what an IMP knows of flows: of those that begin there, and of those that end there
+abbrev pub flows_at : Net → ℕ → List (List FlowPart)
+flows_at n i = sources_of (imp_at n.imps i) ∷ kept_of (imp_at n.imps i) ∷ []
+
+-- the flows of all IMPs, by rising number
+abbrev pub all_flows : Net → List (List FlowPart)
+all_flows n = flat_map (flows_at n) (filter (is_imp n) (range_with_len 0 (length n.imps)))
+
+-- all parts: the IMPs and the lines, which are always there, and the flows
+abbrev pub parts_of_net : Net → AllParts
+parts_of_net n = record { fixed = parts_members n (all_parts n); flows = all_flows n }
 
 -- ---- the parts that an event can change
 

@@ -1,10 +1,9 @@
 -- What the contracts of private functions say. No public clause cites this file.
-use Rattle.std.specs.Prelude.{◌≡◌, ℕ, Bool, List, [], ◌∷◌, ◌++◌, Option, Some, None, codes, if◌then◌else◌, map, nat_lt}
-use Rattle.std.specs.FinMap as fin
+use Rattle.std.specs.Prelude.{◌≡◌, ℕ, Bool, List, [], ◌∷◌, ◌++◌, Option, Some, None, codes, if◌then◌else◌, map, nat_lt, slice_index_or, slice_set, ◌+◌}
 use Rattle.std.specs.Fmt.{decimal}
+use Rattle.std.specs.List.{flat_map}
 use Rattle.imp_node.specs.Arrival.{Arrival, arrival_has_room}
 use Rattle.imp_node.specs.State.{State}
-use Rattle.interface.specs.Printed.{host_text}
 use Rattle.interface.specs.declared.address.Flow.{Flow}
 use Rattle.packetiser.specs.PacketFields.{PacketFields}
 use Rattle.routing.specs.RouteTable.{Table, vector_of}
@@ -12,11 +11,16 @@ use Rattle.routing.specs.Vector.{infinite}
 use Rattle.subnet.specs.Events.{is_imp}
 use Rattle.subnet.specs.Net.{Net}
 use Rattle.subnet_trace.specs.Fates.{arrival_fate}
-use Rattle.subnet_trace.specs.Parts.{Part, Imp, part_name, part_text}
-use Rattle.subnet_trace.specs.Texts.{distances_text, flow_object, heard_text, host_object, kept_text, next_text, packet_text, port_object, slot_text, source_text}
+use Rattle.subnet_trace.specs.Parts.{Part, Imp, flows_at, part_name, part_text}
+use Rattle.subnet_trace.specs.Texts.{distances_text, heard_text, host_object, kept_of, next_text, packet_text, port_object, slot_text, sources_of}
+use Rattle.trace.specs.Changes.{changed_flows}
+use Rattle.trace.specs.Flows.{told}
 use Rattle.trace.specs.Joined.{mark}
 use Rattle.trace.specs.Texts.{array, member}
 use Rattle.trace.specs.declared.fate.Fate.{Fate}
+use Rattle.trace.specs.declared.flow_part.FlowPart.{FlowPart}
+use Rattle.trace.specs.declared.flow_part.FlowState.{FlowState}
+use Rattle.trace.specs.declared.flow_part.Side.{Side}
 use Rattle.trace.specs.declared.fate.Fate.TheVariants as fates
 
 -- ---- distances and ports
@@ -40,14 +44,37 @@ place_after place (Some port) = 1
 
 -- ---- flows
 
--- what follows the word in the object of a flow: the end of its string, the flow, a number, and the end
-abbrev pub known_rest : Flow → ℕ → List ℕ
-known_rest f number =
-    codes "\",\"from\":\"" ++ (host_text f.source ++ (codes "\",\"to\":\"" ++ (host_text f.destination ++ (codes "\",\"link\":" ++ (decimal f.link.0 ++ (codes ",\"number\":" ++ (decimal number ++ codes "}")))))))
+-- what is known of a flow, at this side
+abbrev pub known_part : {V : Type 0} → Side → (Flow → V → FlowState) → (V → ℕ) → Flow × V → FlowPart
+known_part side state number e = record { side = side; flow = e.0; state = state e.0 e.1; number = number e.1 }
 
--- what is known of a flow: a word with its name, the flow and a number
-abbrev pub known_text : {V : Type 0} → List ℕ → (Flow → V → List ℕ) → (V → ℕ) → Flow × V → List ℕ
-known_text name word number e = flow_object name (word e.0 e.1) e.0 (number e.1)
+-- the two lists of an IMP in the place of those from this place on, if they may have changed
+abbrev pub put_lists : Bool → List (List FlowPart) → ℕ → Option State → List (List FlowPart)
+put_lists may lists place o = if may then slice_set (slice_set lists place (sources_of o)) (place + 1) (kept_of o) else lists
+
+-- and what is other in them
+abbrev pub changed_at : Bool → List (List FlowPart) → ℕ → Option State → List (List ℕ)
+changed_at may lists place o =
+    if may
+    then changed_flows (slice_index_or lists place []) (sources_of o) ++ changed_flows (slice_index_or lists (place + 1) []) (kept_of o)
+    else []
+
+-- members after this many others, and the place after them
+abbrev pub members_behind : ℕ → List (List ℕ) → List ℕ
+members_behind place [] = []
+members_behind place (x ∷ xs) = mark (codes "{") (codes ",") place ++ (x ++ members_behind 1 xs)
+
+abbrev pub place_after_members : ℕ → List (List ℕ) → ℕ
+place_after_members place [] = place
+place_after_members place (x ∷ xs) = 1
+
+-- the flows of an IMP, if it is in the network
+abbrev pub flows_there : Net → ℕ → List (List FlowPart)
+flows_there n i = if is_imp n i then flows_at n i else []
+
+-- as members of an object
+abbrev pub flow_members : Net → ℕ → List (List ℕ)
+flow_members n i = flat_map (map told) (flows_there n i)
 
 -- ---- an IMP, piece by piece
 
@@ -62,10 +89,6 @@ begun_text s = codes "{\"hosts\":" ++ (array (map host_object s.hosts) ++ (codes
 -- the packets outside of channels
 abbrev pub held_text : State → List ℕ
 held_text s = codes ",\"store\":" ++ (array (map packet_text s.store) ++ (codes ",\"slots\":" ++ array (map slot_text s.slots)))
-
--- what is known of flows
-abbrev pub noted_text : State → List ℕ
-noted_text s = codes ",\"sources\":" ++ (array (map (source_text s) (fin.entries s.sources)) ++ (codes ",\"kept\":" ++ array (map kept_text (fin.entries s.kept))))
 
 -- what follows of routes, and the end
 abbrev pub concluded_text : Table → List ℕ

@@ -27,6 +27,10 @@ use Rattle.imp_node.specs.declared.port.Port.{Port}
 use Rattle.imp_node.specs.declared.waiting.Message.{Message}
 use Rattle.imp_node.specs.declared.waiting.Told.{Told}
 use Rattle.subnet.specs.Net.{Wire}
+use Rattle.trace.specs.declared.flow_part.FlowPart.{FlowPart}
+use Rattle.trace.specs.declared.flow_part.FlowState.{FlowState}
+use Rattle.trace.specs.declared.flow_part.FlowState.TheVariants as state
+use Rattle.trace.specs.declared.flow_part.Side.TheVariants as side
 use Rattle.trace.specs.Texts.{answer_object, array, bits_members, bool_text, flow_members, member, object, quoted}
 
 -- ---- bits
@@ -112,29 +116,36 @@ slot_text s = array (map packet_text s.pieces)
 abbrev pub awaits_host : State → Flow → Bool
 awaits_host s f = list_any (is_about f) (host_at s f.source.host).answers
 
--- a flow at its source. Where its last number is idle and an answer about it waits all the same, that is a Dead which was given at once
-abbrev pub standing_word : Bool → Standing → List ℕ
-standing_word waits (standing.Idle l) = if waits then codes "dead" else codes "idle"
-standing_word waits (standing.Outstanding l) = codes "outstanding"
-standing_word waits (standing.Answered l) = codes "answered"
-
--- a word with its name, a flow, and a number
-abbrev pub flow_object : List ℕ → List ℕ → Flow → ℕ → List ℕ
-flow_object name word f number = object (member name (quoted word) ∷ (flow_members f ++ (member (codes "number") (decimal number) ∷ [])))
+-- what is known of a flow at its source. Where its last number is idle and an answer about it waits all the same, that is a Dead which
+-- was given at once
+abbrev pub standing_state : Bool → Standing → FlowState
+standing_state waits (standing.Idle l) = if waits then state.Dead else state.Idle
+standing_state waits (standing.Outstanding l) = state.Outstanding
+standing_state waits (standing.Answered l) = state.Answered
 
 -- a flow at its source, an IMP of this state
-abbrev pub source_text : State → Flow × Standing → List ℕ
-source_text s e = flow_object (codes "state") (standing_word (awaits_host s e.0) e.1) e.0 (last_of e.1)
+abbrev pub source_part : State → Flow × Standing → FlowPart
+source_part s e = record { side = side.Source; flow = e.0; state = standing_state (awaits_host s e.0) e.1; number = last_of e.1 }
 
-abbrev pub fate_word : Fate → List ℕ
-fate_word fate.Waits = codes "waits"
-fate_word fate.Taken = codes "taken"
-fate_word fate.Dead = codes "dead"
-fate_word fate.Never = codes "never"
+abbrev pub fate_state : Fate → FlowState
+fate_state fate.Waits = state.Waits
+fate_state fate.Taken = state.Taken
+fate_state fate.Dead = state.Dead
+fate_state fate.Never = state.Never
 
 -- a flow at its destination
-abbrev pub kept_text : Flow × Noted → List ℕ
-kept_text e = flow_object (codes "fate") (fate_word e.1.fate) e.0 e.1.number
+abbrev pub kept_part : Flow × Noted → FlowPart
+kept_part e = record { side = side.Kept; flow = e.0; state = fate_state e.1.fate; number = e.1.number }
+
+-- what an IMP knows of the flows that begin there, in order. It knows nothing while it is down
+abbrev pub sources_of : Option State → List FlowPart
+sources_of None = []
+sources_of (Some s) = map (source_part s) (fin.entries s.sources)
+
+-- and of those that end there
+abbrev pub kept_of : Option State → List FlowPart
+kept_of None = []
+kept_of (Some s) = map kept_part (fin.entries s.kept)
 
 -- the port that packets to an IMP take, where a way leads there
 abbrev pub next_members : ℕ → Option ℕ → List (List ℕ)
@@ -150,7 +161,7 @@ next_from t (imp ∷ imps) = next_members imp (next_of t imp) ++ next_from t imp
 abbrev pub next_text : Table → List ℕ
 next_text t = object (next_from t (range_with_len 1 most_imps))
 
--- what an IMP keeps, and what it concludes of routes
+-- what an IMP keeps beside what it knows of flows, and what it concludes of routes
 abbrev pub imp_members : State → List (List ℕ)
 imp_members s =
     member (codes "hosts") (array (map host_object s.hosts))
@@ -158,8 +169,6 @@ imp_members s =
     ∷ member (codes "routes") (array (map heard_text s.routes.heard))
     ∷ member (codes "store") (array (map packet_text s.store))
     ∷ member (codes "slots") (array (map slot_text s.slots))
-    ∷ member (codes "sources") (array (map (source_text s) (fin.entries s.sources)))
-    ∷ member (codes "kept") (array (map kept_text (fin.entries s.kept)))
     ∷ member (codes "distances") (distances_text (vector_of s.routes))
     ∷ member (codes "next") (next_text s.routes)
     ∷ []

@@ -25,12 +25,14 @@ use Rattle.script.specs.Spelling.{IsEvent}
 pub use Rattle.trace.specs.Named.{IsFlowNamed, IsHostNamed, IsShort}
 use Rattle.script.specs.declared.event.RawEvent.{RawEvent}
 use Rattle.subnet.specs.Calls.{Kept, running}
-use Rattle.subnet.specs.Events.{site_at}
+use Rattle.subnet.specs.Events.{is_imp, site_at}
 use Rattle.subnet.specs.Net.{Net, Wire, imp_at}
 use Rattle.subnet.specs.Opening.{hosts_from, opening_subnet}
 use Rattle.subnet.specs.declared.Ends.{Ends}
 use Rattle.subnet.specs.Working.{subnet_calls}
 use Rattle.subnet_trace.specs.Parts.{Part, is_part, part_text}
+use Rattle.subnet_trace.specs.Texts.{kept_of, sources_of}
+use Rattle.trace.specs.Flows.{told}
 
 -- ---- values
 
@@ -140,9 +142,11 @@ pub record IsOneNetwork (n m : Net) : Type 0 where
   pub sites : n.sites ≡ m.sites
   pub lines : map ends_of n.lines ≡ map ends_of m.lines
 
--- all parts have the same texts
-abbrev pub SameTexts : Net → Net → Type 0
-SameTexts n m = (p : Part) → is_part n p ≡ true → part_text n p ≡ part_text m p
+-- all parts have the same texts: IMPs and lines, and the flows of each IMP
+pub record SameTexts (n m : Net) : Type 0 where
+  pub parts : (p : Part) → is_part n p ≡ true → part_text n p ≡ part_text m p
+  pub sources : (i : ℕ) → is_imp n i ≡ true → map told (sources_of (imp_at n.imps i)) ≡ map told (sources_of (imp_at m.imps i))
+  pub kept : (i : ℕ) → is_imp n i ≡ true → map told (kept_of (imp_at n.imps i)) ≡ map told (kept_of (imp_at m.imps i))
 
 -- ---- replays
 

@@ -1,33 +1,37 @@
-//! What is known of flows, printed.
+//! What is known of flows: a part for each of them.
 
-ghost use Rattle.std.specs.Prelude.{◌≡◌, ◌∷◌, ◌++◌, [], List, OnOk, false, map, ℕ};
+ghost use Rattle.std.specs.Prelude.{◌≡◌, ◌++◌, IfOk, OnOk, Some, false, map, option_copied, ℕ};
 ghost use Rattle.std.specs.Io.KnownBytes.{Appends};
 ghost use Rattle.imp_node.specs.State.{State};
 ghost use Rattle.interface.specs.declared.address.Flow.{Flow};
 ghost use Rattle.link_table.specs.Flows.{last_of};
 ghost use Rattle.replay.specs.Failing.{TellsFailure};
-ghost use Rattle.subnet_trace.specs.Printing.{known_rest, known_text};
-ghost use Rattle.subnet_trace.specs.Texts.{awaits_host, fate_word, flow_object, standing_word};
-ghost use Rattle.trace.specs.Texts.{array};
+ghost use Rattle.subnet_trace.specs.Printing.{known_part, members_behind, place_after_members};
+ghost use Rattle.subnet_trace.specs.Texts as texts;
+ghost use Rattle.subnet_trace.specs.Texts.{awaits_host, fate_state, standing_state};
+ghost use Rattle.trace.specs.Flows.{told};
+ghost use Rattle.trace.specs.declared.flow_part.FlowState.{FlowState};
 
 use imp_node::Imp;
 use interface::{Flow, Number};
 use link_table::{Fate, Noted, Standing};
-use replay::{Line, Output, WriteFailed};
+use replay::{Output, WriteFailed};
+use std::alloc::{AllocError, Global};
 use std::collections::btree_map;
-use trace::json::mark;
+use trace::json::{Item, mark};
+use trace::{FlowPart, FlowState, Side};
 
 /// What an IMP knows of a flow.
 pub(crate) trait Known {
-    /// Its word, at an IMP of this state.
-    ghost word: { State → Flow → Self → List ℕ };
+    /// What it is, at an IMP of this state.
+    ghost state: { State → Flow → Self → FlowState };
 
     /// The number that it is about.
     ghost number: { Self → ℕ };
 
-    /// Returns its word.
-    fn word(&self, imp: &Imp, flow: &Flow) -> &'static str
-        ensures { result.now ≡ word imp.now flow.now self.now };
+    /// Returns what it is.
+    fn state(&self, imp: &Imp, flow: &Flow) -> FlowState
+        ensures { result ≡ state imp.now flow.now self.now };
 
     /// Returns the number that it is about.
     fn number(&self) -> Number
@@ -35,16 +39,16 @@ pub(crate) trait Known {
 }
 
 impl Known for Standing {
-    ghost word = { λ imp flow standing. standing_word (awaits_host imp flow) standing };
+    ghost state = { λ imp flow standing. standing_state (awaits_host imp flow) standing };
 
     ghost number = { last_of };
 
-    fn word(&self, imp: &Imp, flow: &Flow) -> &'static str {
+    fn state(&self, imp: &Imp, flow: &Flow) -> FlowState {
         match self {
-            Standing::Idle(_) if imp.has_answer_about(flow) => "dead",
-            Standing::Idle(_) => "idle",
-            Standing::Outstanding(_) => "outstanding",
-            Standing::Answered(_) => "answered",
+            Standing::Idle(_) if imp.has_answer_about(flow) => FlowState::Dead,
+            Standing::Idle(_) => FlowState::Idle,
+            Standing::Outstanding(_) => FlowState::Outstanding,
+            Standing::Answered(_) => FlowState::Answered,
         }
     }
 
@@ -54,16 +58,16 @@ impl Known for Standing {
 }
 
 impl Known for Noted {
-    ghost word = { λ imp flow noted. fate_word noted.fate };
+    ghost state = { λ imp flow noted. fate_state noted.fate };
 
     ghost number = { λ noted. noted.number };
 
-    fn word(&self, _imp: &Imp, _flow: &Flow) -> &'static str {
+    fn state(&self, _imp: &Imp, _flow: &Flow) -> FlowState {
         match self.fate {
-            Fate::Waits => "waits",
-            Fate::Taken => "taken",
-            Fate::Dead => "dead",
-            Fate::Never => "never",
+            Fate::Waits => FlowState::Waits,
+            Fate::Taken => FlowState::Taken,
+            Fate::Dead => FlowState::Dead,
+            Fate::Never => FlowState::Never,
         }
     }
 
@@ -72,67 +76,87 @@ impl Known for Noted {
     }
 }
 
-/// Puts what follows the word in the object of a flow on an empty line, before its end: the flow and a number.
-fn put_rest(line: &mut Line, flow: &Flow, number: Number)
-    requires { line.old ≡ 10 ∷ [] }
-    ensures { line.new ≡ known_rest flow.now number ++ 10 ∷ [] }
+/// Returns what is known of a flow at an IMP, as a part.
+fn part_of<V: Known>(side: Side, imp: &Imp, flow: &Flow, known: &V) -> FlowPart
+    ensures { result ≡ known_part side (V.state imp.now) V.number (flow.now, known.now) }
 {
-    line.put_octet(b'}');
-    line.put_number(number as u64);
-    line.put_word(b",\"number\":");
-    line.put_number(flow.link.0 as u64);
-    line.put_word(b"\",\"link\":");
-    line.put_host(flow.destination);
-    line.put_word(b"\",\"to\":\"");
-    line.put_host(flow.source);
-    line.put_word(b"\",\"from\":\"");
+    FlowPart {
+        side,
+        flow: *flow,
+        state: known.state(imp, flow),
+        number: known.number(),
+    }
 }
 
-/// Prints a word with its name, a flow and a number, as an object. What follows the word is put together in this buffer, of which
-/// nothing is kept, and printed by one call.
-fn print_known<W: Output>(
-    line: &mut Line,
-    name: &str,
-    word: &str,
-    flow: &Flow,
-    number: Number,
-    writer: &mut W,
-) -> Result<(), WriteFailed>
-    requires { W.failed writer.old ≡ false }
-    ensures written { OnOk result (Appends (W.contents writer.old) (W.contents writer.new) (flow_object name.now word.now flow.now number)) }
-    ensures failed { TellsFailure result (W.failed writer.new) }
+/// Returns what an IMP knows of each of these flows.
+fn parts_of<V: Known>(
+    alloc: Global,
+    side: Side,
+    imp: &Imp,
+    flows: btree_map::Iter<'_, Flow, V>,
+) -> Result<Vec<FlowPart>, AllocError>
+    ensures { IfOk result (λ parts. parts.items ≡ map (known_part side (V.state imp.now) V.number) flows.entry) }
 {
-    write!(writer, "{{\"{name}\":\"{word}")?;
-    line.begin();
-    put_rest(line, flow, number);
-    let octets = line.as_octets();
-    writer.write_all(&octets[..octets.len() - 1])
+    let mut parts = Vec::new(alloc);
+    for (flow, known) in flows {
+        parts.push(part_of(side, imp, flow, known))?;
+    }
+    Ok(parts)
 }
 
-/// Prints what an IMP knows of each of these flows, as an array of objects, with the name of its word.
-pub(crate) fn print_flows<V: Known, W: Output>(
-    name: &str,
+/// Returns what an IMP, which may be down, knows of the flows that begin there.
+pub(crate) fn sources_of(alloc: Global, imp: Option<&Imp>) -> Result<Vec<FlowPart>, AllocError>
+    ensures { IfOk result (λ parts. parts.items ≡ texts.sources_of (option_copied imp.entry)) }
+{
+    match imp {
+        Some(imp) => parts_of(alloc, Side::Source, imp, imp.sources().iter()),
+        None => Ok(Vec::new(alloc)),
+    }
+}
+
+/// Returns what an IMP, which may be down, knows of the flows that end there.
+pub(crate) fn kept_of(alloc: Global, imp: Option<&Imp>) -> Result<Vec<FlowPart>, AllocError>
+    ensures { IfOk result (λ parts. parts.items ≡ texts.kept_of (option_copied imp.entry)) }
+{
+    match imp {
+        Some(imp) => parts_of(alloc, Side::Kept, imp, imp.kept_flows().iter()),
+        None => Ok(Vec::new(alloc)),
+    }
+}
+
+/// Prints what an IMP knows of each of these flows, after this many other parts. Returns the place after them.
+fn print_flows<V: Known, W: Output>(
+    place: usize,
+    side: Side,
     imp: &Imp,
     flows: btree_map::Iter<'_, Flow, V>,
     writer: &mut W,
-) -> Result<(), WriteFailed>
+) -> Result<usize, WriteFailed>
     requires { W.failed writer.old ≡ false }
-    ensures written { OnOk result (Appends (W.contents writer.old) (W.contents writer.new) (array (map (known_text name.now (V.word imp.now) V.number) flows.entry))) }
+    ensures written { OnOk result (Appends (W.contents writer.old) (W.contents writer.new) (members_behind place (map told (map (known_part side (V.state imp.now) V.number) flows.entry)))) }
+    ensures place { IfOk result (λ next. next ≡ place_after_members place (map told (map (known_part side (V.state imp.now) V.number) flows.entry))) }
     ensures failed { TellsFailure result (W.failed writer.new) }
 {
-    let mut line = Line::new();
-    let mut place: usize = 0;
+    let mut place = place;
     for (flow, known) in flows {
-        writer.write_all(mark("[", ",", place).as_bytes())?;
-        print_known(
-            &mut line,
-            name,
-            known.word(imp, flow),
-            flow,
-            known.number(),
-            writer,
-        )?;
+        writer.write_all(mark("{", ",", place).as_bytes())?;
+        part_of(side, imp, flow, known).print(writer)?;
         place = 1;
     }
-    writer.write_all(mark("[]", "]", place).as_bytes())
+    Ok(place)
+}
+
+/// Prints what an IMP knows of flows: of those that begin there, and of those that end there.
+pub(crate) fn print_known<W: Output>(
+    place: usize,
+    imp: &Imp,
+    writer: &mut W,
+) -> Result<usize, WriteFailed>
+    requires { W.failed writer.old ≡ false }
+    ensures written { OnOk result (Appends (W.contents writer.old) (W.contents writer.new) (members_behind place (map told (texts.sources_of (Some imp.now)) ++ map told (texts.kept_of (Some imp.now))))) }
+    ensures place { IfOk result (λ next. next ≡ place_after_members place (map told (texts.sources_of (Some imp.now)) ++ map told (texts.kept_of (Some imp.now)))) }
+    ensures failed { TellsFailure result (W.failed writer.new) }
+{
+    let place = print_flows(place, Side::Source, imp, imp.sources().iter(), writer)?;
+    print_flows(place, Side::Kept, imp, imp.kept_flows().iter(), writer)
 }

@@ -3,11 +3,11 @@
 ghost use Rattle.std.specs.Prelude.{◌≡◌, None, OnOk, Some, false, map};
 ghost use Rattle.std.specs.Io.KnownBytes.{Appends};
 ghost use Rattle.replay.specs.Failing.{TellsFailure};
-ghost use Rattle.subnet_trace.specs.Printing.{begun_text, held_text, noted_text};
-ghost use Rattle.subnet_trace.specs.Texts.{channel_text, heard_text, host_object, imp_text, packet_text, port_object, slot_text, told_text};
+ghost use Rattle.subnet_trace.specs.Printing.{begun_text, held_text};
+ghost use Rattle.subnet_trace.specs.Texts.{channel_text, heard_text, host_object, imp_text, packet_text, port_object};
+ghost use Rattle.subnet_trace.specs.Texts.{slot_text, told_text};
 ghost use Rattle.subnet_trace.specs.Texts.{whole_text};
 
-use crate::flows::print_flows;
 use crate::lists::{All, Held};
 use crate::packets::{digit, digits, print_vector};
 use crate::ways::{Ways, print_concluded, print_heard};
@@ -162,7 +162,8 @@ fn print_ends<W: Output>(imp: &Imp, noted: Option<&Ways>, writer: &mut W) -> Res
     print_heard(imp.routes(), noted, writer)
 }
 
-/// Prints the packets that an IMP holds outside of channels: those that wait for one, and those of messages in reassembly.
+/// Prints the packets that an IMP holds outside of channels: those that wait for one, and those of messages in
+/// reassembly.
 fn print_held<W: Output>(imp: &Imp, writer: &mut W) -> Result<(), WriteFailed>
     requires { W.failed writer.old ≡ false }
     ensures written { OnOk result (Appends (W.contents writer.old) (W.contents writer.new) (held_text imp.now)) }
@@ -172,18 +173,6 @@ fn print_held<W: Output>(imp: &Imp, writer: &mut W) -> Result<(), WriteFailed>
     print_array(&All(imp.store()), writer)?;
     writer.write_all(b",\"slots\":")?;
     print_array(&Slots(imp.slots()), writer)
-}
-
-/// Prints what an IMP knows of flows.
-fn print_known<W: Output>(imp: &Imp, writer: &mut W) -> Result<(), WriteFailed>
-    requires { W.failed writer.old ≡ false }
-    ensures written { OnOk result (Appends (W.contents writer.old) (W.contents writer.new) (noted_text imp.now)) }
-    ensures failed { TellsFailure result (W.failed writer.new) }
-{
-    writer.write_all(b",\"sources\":")?;
-    print_flows("state", imp, imp.sources().iter(), writer)?;
-    writer.write_all(b",\"kept\":")?;
-    print_flows("fate", imp, imp.kept_flows().iter(), writer)
 }
 
 /// Prints an IMP that is up. What is noted of its routes may be of another state.
@@ -198,6 +187,5 @@ pub(crate) fn print_imp<W: Output>(
 {
     print_ends(imp, noted, writer)?;
     print_held(imp, writer)?;
-    print_known(imp, writer)?;
     print_concluded(imp.routes(), noted, writer)
 }

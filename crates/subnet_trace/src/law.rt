@@ -1,4 +1,5 @@
-//! What traces of subnets promise, as laws over their definitions. The functions here do nothing: each clause is the law.
+//! What traces of subnets promise, as laws over their definitions. The functions here do nothing: each clause is the
+//! law.
 
 ghost use Rattle.std.specs.List.{All};
 ghost use Rattle.std.specs.Prelude.{◌≡◌, ℕ, List, Option, codes, false, is_ok};
@@ -21,8 +22,8 @@ ghost use Rattle.subnet_trace.specs.Laws.Rest.{RestParts};
 ghost use Rattle.subnet_trace.specs.Laws.SaysAll.{Saying};
 ghost use Rattle.subnet_trace.specs.Laws.Whole.{WholeReplays};
 
-/// An event of a script is its elementary events one after another: each of them only, as a line of a script, leaves what the
-/// event leaves and prints what it prints. So a calm is a list of calls of the subnet.
+/// An event of a script is its elementary events one after another: each of them only, as a line of a script, leaves
+/// what the event leaves and prints what it prints. So a calm is a list of calls of the subnet.
 pub fn elementary()
     ensures course { ElementaryCourse }
 

@@ -1,19 +1,23 @@
 //! The parts of a subnet, printed, and those that an event has changed.
 
-ghost use Rattle.std.specs.Prelude.{◌≡◌, ◌++◌, [], IfOk, OnOk, false};
+ghost use Rattle.std.specs.Prelude.{◌≡◌, ◌<◌, ◌≤◌, ◌+◌, ◌++◌, [], IfOk, OnOk, false, length};
 ghost use Rattle.std.specs.Io.KnownBytes.{Appends};
 ghost use Rattle.replay.specs.Failing.{TellsFailure};
 ghost use Rattle.script.specs.declared.event.RawEvent.TheVariants as raw;
-ghost use Rattle.subnet_trace.specs.Parts.{Imp, Line, part_name, part_text, parts_members, parts_text, all_parts};
+ghost use Rattle.subnet_trace.specs.Parts as parts;
+ghost use Rattle.subnet_trace.specs.Parts.{Imp, Line, part_name, part_text, parts_members, parts_of_net, all_parts};
 ghost use Rattle.subnet.specs.Events.{is_imp};
-ghost use Rattle.subnet_trace.specs.Printing.{imp_members, named};
+ghost use Rattle.subnet.specs.Net.{imp_at};
+ghost use Rattle.subnet_trace.specs.Printing.{changed_at, flow_members, flows_there, imp_members, members_behind};
+ghost use Rattle.subnet_trace.specs.Printing.{named, place_after_members, put_lists};
 ghost use Rattle.subnet_trace.specs.Scopes as scopes;
-ghost use Rattle.subnet_trace.specs.Scopes.{OnlyIn, scope_of};
-ghost use Rattle.trace.specs.Changes.{changed};
+ghost use Rattle.subnet_trace.specs.Scopes.{HasFlowsIn, IsOnlyIn, OnlyIn, scope_of};
 ghost use Rattle.subnet_trace.specs.Texts.{line_text};
-ghost use Rattle.trace.specs.Joined.{part_behind, place_behind};
+ghost use Rattle.trace.specs.Changes.{changed, changed_lists, changed_parts, members_of};
+ghost use Rattle.trace.specs.Joined.{extended, part_behind, place_behind};
 ghost use Rattle.trace.specs.Texts.{member, object};
 
+use crate::flows::{kept_of, print_known, sources_of};
 use crate::imp::print_imp;
 use crate::lists::InLine;
 use crate::ways::{Notes, Ways};
@@ -23,7 +27,7 @@ use script::RawEvent;
 use std::alloc::{AllocError, Global};
 use subnet::{Subnet, Wire};
 use trace::json::{Item, mark, print_array};
-use trace::{Members, ended};
+use trace::{AllParts, FlowLists, Members, ended};
 
 /// Which parts an event can change.
 #[derive(Clone, Copy)]
@@ -197,14 +201,11 @@ fn push_imp(
     members.push(alloc, &part)
 }
 
-/// Returns all parts, each with its name, as the members of an object: the IMPs by rising number, and the lines in order.
+/// Returns the IMPs and the lines, each with its name, as the members of an object: the IMPs by rising number, and the
+/// lines in order.
 ///
 /// Errors: `AllocError`.
-pub(crate) fn all_members(
-    alloc: Global,
-    subnet: &Subnet,
-    notes: &mut Notes,
-) -> Result<Members, AllocError>
+fn all_members(alloc: Global, subnet: &Subnet, notes: &mut Notes) -> Result<Members, AllocError>
     ensures { IfOk result (λ members. members ≡ parts_members subnet.now.net (all_parts subnet.now.net)) }
 {
     let mut members = Members::new(alloc);
@@ -219,23 +220,64 @@ pub(crate) fn all_members(
     Ok(members)
 }
 
-/// Puts the parts that an event can change in the place of those before it. Returns the object of those that have changed, which
-/// begins in this room.
+/// Adds the flows of an IMP to lists of them, if there is one of this number.
+fn push_flows(
+    alloc: Global,
+    subnet: &Subnet,
+    number: u8,
+    lists: &mut FlowLists,
+) -> Result<(), AllocError>
+    ensures { OnOk result (lists.new ≡ lists.old ++ flows_there subnet.now.net number) }
+{
+    if !subnet.is_imp(number) {
+        return Ok(());
+    }
+    let imp = subnet.imp(number);
+    lists.push(sources_of(alloc, imp)?)?;
+    lists.push(kept_of(alloc, imp)?)
+}
+
+/// Returns the flows of all IMPs, by rising number.
+fn all_flows(alloc: Global, subnet: &Subnet) -> Result<FlowLists, AllocError>
+    ensures { IfOk result (λ lists. lists ≡ parts.all_flows subnet.now.net) }
+{
+    let mut lists = FlowLists::new(alloc);
+    for number in 0..subnet.imp_places() {
+        push_flows(alloc, subnet, number, &mut lists)?;
+    }
+    Ok(lists)
+}
+
+/// Returns all parts: the IMPs and the lines, and the flows.
 ///
 /// Errors: `AllocError`.
-pub(crate) fn change(
+pub(crate) fn parts_of(
+    alloc: Global,
     subnet: &Subnet,
-    event: &RawEvent,
-    known: &mut Members,
-    room: Vec<u8>,
-) -> Result<Vec<u8>, AllocError>
-    requires inside { OnlyIn known.old (scope_of subnet.now.net event.now) subnet.now.net }
-    requires empty { room.items ≡ [] }
-    ensures known { OnOk result (known.new ≡ parts_members subnet.now.net (all_parts subnet.now.net)) }
-    ensures changed { IfOk result (λ text. text.items ≡ object (changed known.old (parts_members subnet.now.net (all_parts subnet.now.net)))) }
+    notes: &mut Notes,
+) -> Result<AllParts, AllocError>
+    ensures { IfOk result (λ parts. parts ≡ parts_of_net subnet.now.net) }
 {
-    let scope = scope_of(subnet, event);
-    let mut text = room;
+    Ok(AllParts {
+        fixed: all_members(alloc, subnet, notes)?,
+        flows: all_flows(alloc, subnet)?,
+    })
+}
+
+/// Puts the IMPs and lines that are among these parts in the place of those before them. Adds those that have changed
+/// to an object.
+fn change_fixed(
+    subnet: &Subnet,
+    scope: Scope,
+    known: &mut Members,
+    object: Vec<u8>,
+) -> Result<Vec<u8>, AllocError>
+    requires inside { IsOnlyIn scope known.old subnet.now.net }
+    requires empty { object.items ≡ [] }
+    ensures known { OnOk result (known.new ≡ parts_members subnet.now.net (all_parts subnet.now.net)) }
+    ensures changed { IfOk result (λ text. text.items ≡ extended [] (changed known.old (parts_members subnet.now.net (all_parts subnet.now.net)))) }
+{
+    let mut text = object;
     let mut place: usize = 0;
     for number in 0..subnet.imp_places() {
         if subnet.is_imp(number) {
@@ -255,10 +297,81 @@ pub(crate) fn change(
         text = known.put(has_line(scope, number, line), place, &part, text)?;
         place += 1;
     }
-    ended(text)
+    Ok(text)
 }
 
-/// Prints an IMP after this many other parts. It prints nothing where there is none of this number. Returns the place after it.
+/// Puts the flows of an IMP, if they may have changed, in the place of those before them, of which the first list is at
+/// a place. Adds what has changed to an object.
+fn put_flows(
+    alloc: Global,
+    may: bool,
+    subnet: &Subnet,
+    number: u8,
+    place: usize,
+    known: &mut FlowLists,
+    object: Vec<u8>,
+) -> Result<Vec<u8>, AllocError>
+    requires within { place + 1 < length known.old }
+    requires small { place ≤ 510 }
+    ensures known { OnOk result (known.new ≡ put_lists may known.old place (imp_at subnet.now.net.imps number)) }
+    ensures changed { IfOk result (λ text. text.items ≡ extended object.items (changed_at may known.old place (imp_at subnet.now.net.imps number))) }
+{
+    if !may {
+        return Ok(object);
+    }
+    let imp = subnet.imp(number);
+    let text = known.put(place, sources_of(alloc, imp)?, object)?;
+    known.put(place + 1, kept_of(alloc, imp)?, text)
+}
+
+/// Puts the flows of the IMPs that are among these parts in the place of those before them. Adds those that have
+/// changed to an object.
+fn change_flows(
+    alloc: Global,
+    subnet: &Subnet,
+    scope: Scope,
+    known: &mut FlowLists,
+    object: Vec<u8>,
+) -> Result<Vec<u8>, AllocError>
+    requires { HasFlowsIn scope known.old subnet.now.net }
+    ensures known { OnOk result (known.new ≡ parts.all_flows subnet.now.net) }
+    ensures changed { IfOk result (λ text. text.items ≡ extended object.items (changed_lists known.old (parts.all_flows subnet.now.net))) }
+{
+    let mut text = object;
+    let mut place: usize = 0;
+    for number in 0..subnet.imp_places() {
+        if subnet.is_imp(number) {
+            let may = has_imp(scope, number);
+            text = put_flows(alloc, may, subnet, number, place, known, text)?;
+            place += 2;
+        }
+    }
+    Ok(text)
+}
+
+/// Puts the parts that an event can change in the place of those before it. Returns the object of those that have
+/// changed, which begins in this room.
+///
+/// Errors: `AllocError`.
+pub(crate) fn change(
+    alloc: Global,
+    subnet: &Subnet,
+    event: &RawEvent,
+    known: &mut AllParts,
+    room: Vec<u8>,
+) -> Result<Vec<u8>, AllocError>
+    requires inside { OnlyIn known.old (scope_of subnet.now.net event.now) subnet.now.net }
+    requires empty { room.items ≡ [] }
+    ensures known { OnOk result (known.new ≡ parts_of_net subnet.now.net) }
+    ensures changed { IfOk result (λ text. text.items ≡ object (changed_parts known.old (parts_of_net subnet.now.net))) }
+{
+    let scope = scope_of(subnet, event);
+    let text = change_fixed(subnet, scope, &mut known.fixed, room)?;
+    ended(change_flows(alloc, subnet, scope, &mut known.flows, text)?)
+}
+
+/// Prints an IMP after this many other parts. It prints nothing where there is none of this number. Returns the place
+/// after it.
 fn print_imp_of<W: Output>(
     place: usize,
     subnet: &Subnet,
@@ -278,12 +391,12 @@ fn print_imp_of<W: Output>(
     Ok(1)
 }
 
-/// Prints all parts, as a JSON object: the IMPs by rising number, and the lines in order.
-///
-/// Errors: `WriteFailed`.
-pub fn print_whole<W: Output>(subnet: &Subnet, writer: &mut W) -> Result<(), WriteFailed>
+/// Prints the IMPs by rising number, and the lines in order, as an object without its end. Returns the place after
+/// them.
+fn print_fixed<W: Output>(subnet: &Subnet, writer: &mut W) -> Result<usize, WriteFailed>
     requires { W.failed writer.old ≡ false }
-    ensures written { OnOk result (Appends (W.contents writer.old) (W.contents writer.new) (parts_text subnet.now.net (all_parts subnet.now.net))) }
+    ensures written { OnOk result (Appends (W.contents writer.old) (W.contents writer.new) (members_behind 0 (parts_members subnet.now.net (all_parts subnet.now.net)))) }
+    ensures place { IfOk result (λ next. next ≡ place_after_members 0 (parts_members subnet.now.net (all_parts subnet.now.net))) }
     ensures failed { TellsFailure result (W.failed writer.new) }
 {
     let mut place: usize = 0;
@@ -295,6 +408,44 @@ pub fn print_whole<W: Output>(subnet: &Subnet, writer: &mut W) -> Result<(), Wri
         writer.write_all(mark("{", ",", place).as_bytes())?;
         print_named_line(number, &lines[number], writer)?;
         place = 1;
+    }
+    Ok(place)
+}
+
+/// Prints what an IMP knows of flows after this many other parts, if there is one of this number that is up. Returns
+/// the place after it.
+fn print_flows_of<W: Output>(
+    place: usize,
+    subnet: &Subnet,
+    number: u8,
+    writer: &mut W,
+) -> Result<usize, WriteFailed>
+    requires { W.failed writer.old ≡ false }
+    ensures written { OnOk result (Appends (W.contents writer.old) (W.contents writer.new) (members_behind place (flow_members subnet.now.net number))) }
+    ensures place { IfOk result (λ next. next ≡ place_after_members place (flow_members subnet.now.net number)) }
+    ensures failed { TellsFailure result (W.failed writer.new) }
+{
+    if !subnet.is_imp(number) {
+        return Ok(place);
+    }
+    match subnet.imp(number) {
+        Some(imp) => print_known(place, imp, writer),
+        None => Ok(place),
+    }
+}
+
+/// Prints all parts, as a JSON object: the IMPs by rising number, the lines in order, and the flows of each IMP by
+/// rising number.
+///
+/// Errors: `WriteFailed`.
+pub fn print_whole<W: Output>(subnet: &Subnet, writer: &mut W) -> Result<(), WriteFailed>
+    requires { W.failed writer.old ≡ false }
+    ensures written { OnOk result (Appends (W.contents writer.old) (W.contents writer.new) (object (members_of (parts_of_net subnet.now.net)))) }
+    ensures failed { TellsFailure result (W.failed writer.new) }
+{
+    let mut place = print_fixed(subnet, writer)?;
+    for imp in 0..subnet.imp_places() {
+        place = print_flows_of(place, subnet, imp, writer)?;
     }
     writer.write_all(mark("{}", "}", place).as_bytes())
 }

@@ -8,7 +8,7 @@ ghost use Rattle.subnet_trace.specs.Traced.{subnet_inside};
 
 use crate::calm::next_in_calm;
 use crate::fates::fate_of;
-use crate::parts::{all_members, change, print_whole};
+use crate::parts::{change, parts_of, print_whole};
 use crate::place::{Place, Stage};
 use crate::ways::Notes;
 use interface::{Carrier, CarrierFault, Crossing, HostAddr, HostMessage, Inbound, NetEvent};
@@ -17,7 +17,7 @@ use script::RawEvent;
 use std::alloc::{AllocError, Global};
 use std::marker::Model;
 use subnet::Subnet;
-use trace::{Element, Fate, Inspect, Members, ended};
+use trace::{AllParts, Element, Fate, Inspect, ended};
 
 /// A subnet whose inside can be traced: the subnet itself, and nothing else.
 ///
@@ -119,21 +119,22 @@ impl Inspect for TracedSubnet {
         Notes::new(alloc)
     }
 
-    fn members(&self, alloc: Global, notes: &mut Notes) -> Result<Members, AllocError> {
-        all_members(alloc, &self.subnet, notes)
+    fn members(&self, alloc: Global, notes: &mut Notes) -> Result<AllParts, AllocError> {
+        parts_of(alloc, &self.subnet, notes)
     }
 
     /// A refused event changes nothing. What crossed does not matter: an event says which parts it can change.
     fn change(
         &self,
+        alloc: Global,
         event: &RawEvent,
         _crossings: &[Crossing],
         outcome: Result<(), CarrierFault>,
-        known: &mut Members,
+        known: &mut AllParts,
         room: Vec<u8>,
     ) -> Result<Vec<u8>, AllocError> {
         match outcome {
-            Ok(()) => change(&self.subnet, event, known, room),
+            Ok(()) => change(alloc, &self.subnet, event, known, room),
             Err(_) => ended(room),
         }
     }

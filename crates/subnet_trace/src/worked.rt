@@ -1,5 +1,5 @@
-//! Worked examples of the texts of what is inside a subnet, and of calms. The functions here do nothing: each clause is a
-//! row, computed over the definitions.
+//! Worked examples of the texts of what is inside a subnet, and of calms. The functions here do nothing: each clause is
+//! a row, computed over the definitions.
 
 ghost use Rattle.std.specs.Prelude.{◌≡◌, ◌*◌, List, [], ◌∷◌, Option, None, Some, codes, true, false, replicate};
 ghost use Rattle.imp_channel.specs.declared.frame.Content.TheVariants as content;
@@ -9,19 +9,27 @@ ghost use Rattle.interface.specs.declared.event.Direction.TheVariants as way;
 ghost use Rattle.interface.specs.declared.event.NetEvent.TheVariants as net;
 ghost use Rattle.link_table.specs.declared.destination.Fate.TheVariants as fate;
 ghost use Rattle.link_table.specs.declared.source.Standing.TheVariants as standing;
-ghost use Rattle.subnet.specs.Examples.{ask_frame, data_frame, expecting, imp_1, imp_2, keeping_ours, opened_pair, pair, passing_frame, past_one, rfnm_frame, sending_ours, serving_ours};
+ghost use Rattle.subnet.specs.Examples.{ask_frame, data_frame, expecting, imp_1, imp_2, keeping_ours, opened_pair};
+ghost use Rattle.subnet.specs.Examples.{pair, passing_frame, past_one, rfnm_frame, sending_ours, serving_ours};
 ghost use Rattle.subnet_trace.specs.Elements.{calm_left, calm_of};
 ghost use Rattle.script.specs.declared.event.RawEvent.TheVariants as event;
 ghost use Rattle.subnet_trace.specs.Fates.{fate_of};
 ghost use Rattle.subnet_trace.specs.Parts.{Part, Imp, Line, SamePart, is_named, is_part};
 ghost use Rattle.subnet_trace.specs.Told.{IsOneNetwork, SameTexts};
 ghost use Rattle.subnet_trace.specs.declared.place.Stage.TheVariants as stage;
+ghost use Rattle.trace.specs.Flows.{told};
 ghost use Rattle.trace.specs.declared.fate.Fate.TheVariants as fates;
-ghost use Rattle.subnet_trace.specs.Texts.{channel_text, frame_text, heard_text, imp_text, kept_text, line_text, next_text, packet_text, slot_text, source_text, whole_text};
-ghost use Rattle.subnet_trace.specs.Worked.{arrives, distances_frame, end_down_at_2, fate_at_1, fate_at_2, flow, frame_on, full_at_1, full_at_2, gone, heard_on_two, hosts_down_at_2, long, looping};
-ghost use Rattle.subnet_trace.specs.Worked.{no_slot_at_2, nowhere, piece, piece_frame, rfnm, sends, slot, takes, tells, two_lines, unmarked_frame, waiting_at_2, with_dead};
+ghost use Rattle.subnet_trace.specs.Texts.{channel_text, frame_text, heard_text, imp_text, kept_of, kept_part};
+ghost use Rattle.subnet_trace.specs.Texts.{line_text, next_text, packet_text, slot_text, source_part, sources_of};
+ghost use Rattle.subnet_trace.specs.Texts.{whole_text};
+ghost use Rattle.subnet_trace.specs.Worked.{arrives, distances_frame, end_down_at_2, fate_at_1, fate_at_2, flow};
+ghost use Rattle.subnet_trace.specs.Worked.{frame_on, full_at_1, full_at_2, gone, heard_on_two, hosts_down_at_2};
+ghost use Rattle.subnet_trace.specs.Worked.{long, looping};
+ghost use Rattle.subnet_trace.specs.Worked.{no_slot_at_2, nowhere, piece, piece_frame, rfnm, sends, slot, takes, tells};
+ghost use Rattle.subnet_trace.specs.Worked.{two_lines, unmarked_frame, waiting_at_2, with_dead};
 ghost use Rattle.subnet_trace.specs.Laws.WorkedPackets.{WorkedPacketsBusy, WorkedPacketsPacket, WorkedPacketsSlot};
-ghost use Rattle.subnet_trace.specs.Laws.WorkedParts.{WorkedPartsHost, WorkedPartsImp, WorkedPartsOtherDead, WorkedPartsPort};
+ghost use Rattle.subnet_trace.specs.Laws.WorkedParts.{WorkedPartsHost, WorkedPartsImp, WorkedPartsOtherDead};
+ghost use Rattle.subnet_trace.specs.Laws.WorkedParts.{WorkedPartsPort};
 ghost use Rattle.subnet_trace.specs.Laws.WorkedUntold.{WorkedUntoldAnswer};
 ghost use Rattle.subnet_trace.specs.Laws.WorkedCalms.{WorkedCalmsAgain, WorkedCalmsLater, WorkedCalmsTaking};
 ghost use Rattle.subnet_trace.specs.Laws.WorkedPlaces.{WorkedPlacesTelling};
@@ -47,14 +55,18 @@ pub fn worked_packets()
 
 /// Hosts, ports, flows, IMPs and lines.
 pub fn worked_parts()
-    ensures source { source_text (opening_node 1 1 0) (flow, standing.Outstanding 7) ≡ codes "{\"state\":\"outstanding\",\"from\":\"0/1\",\"to\":\"1/2\",\"link\":5,\"number\":7}" }
-    ensures idle { source_text (opening_node 1 1 0) (flow, standing.Idle 7) ≡ codes "{\"state\":\"idle\",\"from\":\"0/1\",\"to\":\"1/2\",\"link\":5,\"number\":7}" }
+    ensures source { told (source_part (opening_node 1 1 0) (flow, standing.Outstanding 7)) ≡ codes "\"source 0/1 1/2 5\":{\"state\":\"outstanding\",\"number\":7}" }
+    ensures idle { told (source_part (opening_node 1 1 0) (flow, standing.Idle 7)) ≡ codes "\"source 0/1 1/2 5\":{\"state\":\"idle\",\"number\":7}" }
 
-    // a Dead that was given at once waits: the flow is not idle, though its last number is. A Dead of another flow doesn't matter
-    ensures dead { source_text (with_dead flow) (flow, standing.Idle 7) ≡ codes "{\"state\":\"dead\",\"from\":\"0/1\",\"to\":\"1/2\",\"link\":5,\"number\":7}" }
+    // a Dead that was given at once waits: the flow is not idle, though its last number is. A Dead of another flow
+    // doesn't matter
+    ensures dead { told (source_part (with_dead flow) (flow, standing.Idle 7)) ≡ codes "\"source 0/1 1/2 5\":{\"state\":\"dead\",\"number\":7}" }
     ensures other_dead { WorkedPartsOtherDead }
-    ensures answered { source_text (with_dead flow) (flow, standing.Answered 7) ≡ codes "{\"state\":\"answered\",\"from\":\"0/1\",\"to\":\"1/2\",\"link\":5,\"number\":7}" }
-    ensures kept { kept_text (flow, record { number = 7; fate = fate.Waits }) ≡ codes "{\"fate\":\"waits\",\"from\":\"0/1\",\"to\":\"1/2\",\"link\":5,\"number\":7}" }
+    ensures answered { told (source_part (with_dead flow) (flow, standing.Answered 7)) ≡ codes "\"source 0/1 1/2 5\":{\"state\":\"answered\",\"number\":7}" }
+    ensures kept { told (kept_part (flow, record { number = 7; fate = fate.Waits })) ≡ codes "\"kept 0/1 1/2 5\":{\"fate\":\"waits\",\"number\":7}" }
+
+    // an IMP that is down knows of no flow
+    ensures none_known { (sources_of None ≡ []) × (kept_of None ≡ []) }
     ensures host { WorkedPartsHost }
     ensures port { WorkedPartsPort }
     ensures heard { heard_text (Some (0 ∷ 62 ∷ [])) ≡ codes "{\"1\":0,\"2\":62}" }
@@ -67,7 +79,8 @@ pub fn worked_parts()
 
 /// Why `IsTold` asks what it asks: in each row two values have one text.
 pub fn worked_untold()
-    // a decimal has 64 digits, so it doesn't distinguish numbers that have more: of packets, of frames, of messages and of flows
+    // a decimal has 64 digits, so it doesn't distinguish numbers that have more: of packets, of frames, of messages and
+    // of flows
     ensures number { packet_text (record rfnm { number = long }) ≡ packet_text (record rfnm { number = 2 * long }) }
     ensures place { packet_text (record rfnm { place = long }) ≡ packet_text (record rfnm { place = 2 * long }) }
     ensures link { packet_text (record rfnm { link = long }) ≡ packet_text (record rfnm { link = 2 * long }) }
@@ -76,8 +89,8 @@ pub fn worked_untold()
     ensures channel { frame_text (frame_on long) ≡ frame_text (frame_on (2 * long)) }
     ensures message { whole_text (record { flow = flow; number = long; text = [] }) ≡ whole_text (record { flow = flow; number = 2 * long; text = [] }) }
     ensures answer { WorkedUntoldAnswer }
-    ensures begun { source_text (opening_node 1 1 0) (flow, standing.Idle long) ≡ source_text (opening_node 1 1 0) (flow, standing.Idle (2 * long)) }
-    ensures noted { kept_text (flow, record { number = long; fate = fate.Waits }) ≡ kept_text (flow, record { number = 2 * long; fate = fate.Waits }) }
+    ensures begun { told (source_part (opening_node 1 1 0) (flow, standing.Idle long)) ≡ told (source_part (opening_node 1 1 0) (flow, standing.Idle (2 * long))) }
+    ensures noted { told (kept_part (flow, record { number = long; fate = fate.Waits })) ≡ told (kept_part (flow, record { number = 2 * long; fate = fate.Waits })) }
 
     // a distance of 64 is not printed, as one of 63 isn't, nor that the last ones are missing
     ensures too_far { heard_text (Some (64 ∷ [])) ≡ heard_text (Some (63 ∷ [])) }
@@ -125,7 +138,8 @@ pub fn worked_fates()
     // a body without a mark
     ensures unmarked { fate_at_2 (Some imp_2) unmarked_frame ≡ Some fates.Unmarked }
 
-    // a packet with the number noted last, and a question about it: answered by its fate, but not while its message waits
+    // a packet with the number noted last, and a question about it: answered by its fate, but not while its message
+    // waits
     ensures old { fate_at_2 (Some keeping_ours) (data_frame 0) ≡ Some fates.Old }
     ensures replied { fate_at_2 (Some keeping_ours) (ask_frame 0) ≡ Some fates.Replied }
     ensures unanswered { fate_at_2 (Some waiting_at_2) (ask_frame 0) ≡ Some fates.Old }
@@ -160,16 +174,16 @@ pub fn worked_names()
 /// The elementary events of calms.
 #[tactic(auto, unfolding(routing::specs::RouteTable::distance_to, link_table::specs::Numbers::is_new, link_table::specs::Numbers::modulus, routing::specs::RouteTable::next_of, link_table::specs::Numbers::oldest, imp_channel::specs::Line::submitted, routing::specs::RouteTable::vector_of, link_table::specs::Numbers::window))]
 pub fn worked_calms()
-    // all IMPs send their distances, and then each frame is delivered and dropped: first those that go forward, and then those
-    // that go back
+    // all IMPs send their distances, and then each frame is delivered and dropped: first those that go forward, and
+    // then those that go back
     ensures opened { calm_of opened_pair 1 ≡ tells 1 1 ∷ tells 1 2 ∷ arrives 1 0 way.Forward ∷ gone 1 0 way.Forward ∷ arrives 1 0 way.Back ∷ gone 1 0 way.Back ∷ [] }
 
     ensures again { WorkedCalmsAgain }
 
     ensures later { WorkedCalmsLater }
 
-    // no frame that comes while a line has its turn goes in the same turn. Only a line that leads back to its IMP shows it: here
-    // the packet is passed on, and acknowledged
+    // no frame that comes while a line has its turn goes in the same turn. Only a line that leads back to its IMP shows
+    // it: here the packet is passed on, and acknowledged
     ensures looping { calm_of looping 1 ≡ tells 1 1 ∷ sends 1 1 ∷ arrives 1 0 way.Forward ∷ gone 1 0 way.Forward ∷ arrives 1 0 way.Forward ∷ gone 1 0 way.Forward ∷ [] }
 
     ensures taking { WorkedCalmsTaking }

@@ -14,6 +14,7 @@ use Rattle.replay.proofs.lemmas.{appends_none, gained, grew_offer, grew_take, re
 use Rattle.script.specs.Input.{ended_line}
 use Rattle.script.specs.declared.event.RawEvent.{RawEvent}
 use Rattle.script.specs.declared.event.RawEvent.TheVariants as event
+use Rattle.trace.specs.declared.all_parts.AllParts.{AllParts}
 use Rattle.trace.specs.declared.element.Element.{Element}
 use Rattle.trace.specs.declared.element.Spot.{Spot}
 use Rattle.trace.specs.Steps.{Called}
@@ -31,7 +32,7 @@ called_take calls old new h answer gives shown = record { gives = (answer, gives
 -- ---- what it changes
 
 -- as it happens in a replay
-pub happens : {C : Type 0} (calls : Calls C) (members : C → List (List ℕ)) (texts : List (List ℕ)) (e : RawEvent) (crossings : List Crossing) (r : Result (Unit {0}) CarrierFault) (new : C) → (h : HasHappened calls members texts e crossings r new)
+pub happens : {C : Type 0} (calls : Calls C) (members : C → AllParts) (texts : AllParts) (e : RawEvent) (crossings : List Crossing) (r : Result (Unit {0}) CarrierFault) (new : C) → (h : HasHappened calls members texts e crossings r new)
     → Happens calls h.old e new (shown_crossings crossings ++ shown_refusal r)
 happens calls members texts e crossings r new h = record { outcome = r; gives = h.gives; goes_on = h.goes_on; crossings = crossings; grown = h.grown; lines = refl }
 

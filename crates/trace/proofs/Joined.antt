@@ -158,15 +158,15 @@ opening_is t parts = whole (carrier_word t.carrier) (bool_text t.raw) (array (ma
   ended : (front : List ℕ) → front ++ (parts ++ codes "}\n") ≡ (front ++ (parts ++ codes "}")) ++ 10 ∷ []
   ended front = simp append_assoc
 
-  flat : (carrier raw imps lines : List ℕ) → (codes "{\"trace\":2,\"carrier\":\"" ++ (carrier ++ (codes "\",\"raw\":" ++ (raw ++ (codes ",\"imps\":" ++ (imps ++ (codes ",\"lines\":" ++ (lines ++ codes ",\"parts\":")))))))) ++ (parts ++ codes "}")
-      ≡ object (member (codes "trace") (codes "2") ∷ member (codes "carrier") (quoted carrier) ∷ member (codes "raw") raw ∷ member (codes "imps") imps ∷ member (codes "lines") lines ∷ member (codes "parts") parts ∷ [])
+  flat : (carrier raw imps lines : List ℕ) → (codes "{\"trace\":3,\"carrier\":\"" ++ (carrier ++ (codes "\",\"raw\":" ++ (raw ++ (codes ",\"imps\":" ++ (imps ++ (codes ",\"lines\":" ++ (lines ++ codes ",\"parts\":")))))))) ++ (parts ++ codes "}")
+      ≡ object (member (codes "trace") (codes "3") ∷ member (codes "carrier") (quoted carrier) ∷ member (codes "raw") raw ∷ member (codes "imps") imps ∷ member (codes "lines") lines ∷ member (codes "parts") parts ∷ [])
   flat carrier raw imps lines = simp append_assoc
 
-  whole : (carrier raw imps lines : List ℕ) → (codes "{\"trace\":2,\"carrier\":\"" ++ (carrier ++ (codes "\",\"raw\":" ++ (raw ++ (codes ",\"imps\":" ++ (imps ++ (codes ",\"lines\":" ++ (lines ++ codes ",\"parts\":")))))))) ++ (parts ++ codes "}\n")
-      ≡ ended_line (object (member (codes "trace") (codes "2") ∷ member (codes "carrier") (quoted carrier) ∷ member (codes "raw") raw ∷ member (codes "imps") imps ∷ member (codes "lines") lines ∷ member (codes "parts") parts ∷ []))
+  whole : (carrier raw imps lines : List ℕ) → (codes "{\"trace\":3,\"carrier\":\"" ++ (carrier ++ (codes "\",\"raw\":" ++ (raw ++ (codes ",\"imps\":" ++ (imps ++ (codes ",\"lines\":" ++ (lines ++ codes ",\"parts\":")))))))) ++ (parts ++ codes "}\n")
+      ≡ ended_line (object (member (codes "trace") (codes "3") ∷ member (codes "carrier") (quoted carrier) ∷ member (codes "raw") raw ∷ member (codes "imps") imps ∷ member (codes "lines") lines ∷ member (codes "parts") parts ∷ []))
   whole carrier raw imps lines =
-      ended (codes "{\"trace\":2,\"carrier\":\"" ++ (carrier ++ (codes "\",\"raw\":" ++ (raw ++ (codes ",\"imps\":" ++ (imps ++ (codes ",\"lines\":" ++ (lines ++ codes ",\"parts\":")))))))) ∙ ap ended_line (flat carrier raw imps lines)
+      ended (codes "{\"trace\":3,\"carrier\":\"" ++ (carrier ++ (codes "\",\"raw\":" ++ (raw ++ (codes ",\"imps\":" ++ (imps ++ (codes ",\"lines\":" ++ (lines ++ codes ",\"parts\":")))))))) ∙ ap ended_line (flat carrier raw imps lines)
 
-pub network_is : (carrier raw imps lines : List ℕ) → (codes "{\"trace\":2,\"carrier\":\"" ++ (carrier ++ (codes "\",\"raw\":" ++ (raw ++ codes ",\"imps\":")))) ++ (imps ++ (codes ",\"lines\":" ++ (lines ++ codes ",\"parts\":")))
-    ≡ codes "{\"trace\":2,\"carrier\":\"" ++ (carrier ++ (codes "\",\"raw\":" ++ (raw ++ (codes ",\"imps\":" ++ (imps ++ (codes ",\"lines\":" ++ (lines ++ codes ",\"parts\":")))))))
+pub network_is : (carrier raw imps lines : List ℕ) → (codes "{\"trace\":3,\"carrier\":\"" ++ (carrier ++ (codes "\",\"raw\":" ++ (raw ++ codes ",\"imps\":")))) ++ (imps ++ (codes ",\"lines\":" ++ (lines ++ codes ",\"parts\":")))
+    ≡ codes "{\"trace\":3,\"carrier\":\"" ++ (carrier ++ (codes "\",\"raw\":" ++ (raw ++ (codes ",\"imps\":" ++ (imps ++ (codes ",\"lines\":" ++ (lines ++ codes ",\"parts\":")))))))
 network_is carrier raw imps lines = simp append_assoc

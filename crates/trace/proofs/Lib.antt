@@ -1,4 +1,5 @@
 pub mod Queues
+pub mod Changes
 pub mod Closed
 pub mod Decimals
 pub mod Left
@@ -9,10 +10,6 @@ pub mod FirstLine
 pub mod Each
 pub mod Rest
 pub mod Calms
-pub mod Changed
-pub mod Changing
-pub mod Putting
-pub mod Reached
 pub mod Courses
 pub mod Going
 pub mod Keeping

@@ -10,6 +10,7 @@ use Rattle.topology.specs.Topology.{TopologyFields}
 use Rattle.trace.specs.Texts.{object, opening_line}
 use Rattle.script.specs.declared.event.RawEvent.TheVariants as event
 use Rattle.trace.specs.declared.element.Spot.{Spot}
+use Rattle.trace.specs.Changes.{members_of}
 use Rattle.trace.specs.Traces.{AfterOpening, Inside, WritesTrace, numbered_from}
 
 -- of these events the first ones happened, their lines are written, and those are left
@@ -66,9 +67,9 @@ numbered_none events i n past = ap (numbered_from n) (drop_all i events past)
 
 -- ---- the first line
 
-pub opened : {C : Type 0} (inside : Inside C) (t : TopologyFields) (opening : C) (AreLines : List (List ℕ) → Type 0) (a b c : Option (List ℕ)) → Appends a b (ended_line (opening_line t (object (inside.members opening)))) → WritesTrace AreLines b c → WritesTrace (AfterOpening inside t opening AreLines) a c
+pub opened : {C : Type 0} (inside : Inside C) (t : TopologyFields) (opening : C) (AreLines : List (List ℕ) → Type 0) (a b c : Option (List ℕ)) → Appends a b (ended_line (opening_line t (object (members_of (inside.members opening))))) → WritesTrace AreLines b c → WritesTrace (AfterOpening inside t opening AreLines) a c
 opened inside t opening AreLines a b c first others = record {
-  shown = opening_line t (object (inside.members opening)) ∷ others.shown;
+  shown = opening_line t (object (members_of (inside.members opening))) ∷ others.shown;
   is_shown = (others.shown, refl, others.is_shown);
-  written = appends_more a b c (ended_line (opening_line t (object (inside.members opening)))) (text_of (λ line. line) others.shown) first others.written;
+  written = appends_more a b c (ended_line (opening_line t (object (members_of (inside.members opening))))) (text_of (λ line. line) others.shown) first others.written;
 }

@@ -1,5 +1,5 @@
 -- What the contracts of private functions say. No public clause cites this file.
-use Rattle.std.specs.Prelude.{ℕ, zero, suc, Bool, if◌then◌else◌, List, [], ◌∷◌, ◌++◌, Option, Some, None, codes, map, Result, Ok, Err}
+use Rattle.std.specs.Prelude.{ℕ, zero, suc, Bool, if◌then◌else◌, List, [], ◌∷◌, ◌++◌, Option, Some, None, codes, length, map, Result, Ok, Err}
 use Rattle.std.specs.Fmt.{decimal}
 use Rattle.leader1822.specs.Boxes.{Boxes}
 use Rattle.interface.specs.declared.carrier.CarrierFault.{CarrierFault}
@@ -48,6 +48,11 @@ part_behind there place text = if there then mark (codes "{") (codes ",") place 
 abbrev pub place_behind : ℕ → Bool → ℕ
 place_behind place there = if there then 1 else place
 
+-- the text of an object without its end, with these members more
+abbrev pub extended : List ℕ → List (List ℕ) → List ℕ
+extended object [] = object
+extended object (x ∷ xs) = extended (object ++ (mark (codes "{") (codes ",") (length object) ++ x)) xs
+
 -- ---- lines
 
 -- the beginning of a line
@@ -66,5 +71,5 @@ outcome_text cs r = codes ",\"crossed\":" ++ (array (map crossing_object cs) ++ 
 -- the first line up to its parts
 abbrev pub network_front : TopologyFields → List ℕ
 network_front t =
-    codes "{\"trace\":2,\"carrier\":\"" ++ (carrier_word t.carrier ++ (codes "\",\"raw\":" ++ (bool_text t.raw ++ (codes ",\"imps\":" ++ (array (map site_text t.imps)
+    codes "{\"trace\":3,\"carrier\":\"" ++ (carrier_word t.carrier ++ (codes "\",\"raw\":" ++ (bool_text t.raw ++ (codes ",\"imps\":" ++ (array (map site_text t.imps)
     ++ (codes ",\"lines\":" ++ (array (map ends_text t.lines) ++ codes ",\"parts\":")))))))

@@ -1,5 +1,6 @@
 pub mod Changes
 pub mod Elements
+pub mod Flows
 pub mod Joined
 pub mod Kept
 pub mod Named

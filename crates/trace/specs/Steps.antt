@@ -18,6 +18,7 @@ use Rattle.trace.specs.Elements.{then_course}
 use Rattle.interface.specs.declared.crossing.Crossing.{Crossing}
 use Rattle.trace.specs.Parts.{Down, Waiting, SamePart, moves_host, reaches}
 use Rattle.trace.specs.Texts.{all_members}
+use Rattle.trace.specs.declared.all_parts.AllParts.{AllParts}
 use Rattle.trace.specs.declared.element.Element.{Element}
 use Rattle.trace.specs.declared.element.Spot.{Spot}
 use Rattle.trace.specs.declared.turn.Turn.{Turn}
@@ -64,7 +65,7 @@ RoundEnds calls inside left spot old place (Err fault.CannotWrite) new before af
     × (lines : List (List ℕ)) × EndsRound calls inside (MayTell calls) spot old round new lines
 
 -- all parts have these texts, and this many crossings are in the log
-abbrev pub IsAsBegun : {C : Type 0} → Calls C → Inside C → C → List (List ℕ) → ℕ → Type 0
+abbrev pub IsAsBegun : {C : Type 0} → Calls C → Inside C → C → AllParts → ℕ → Type 0
 IsAsBegun calls inside c parts booked = (inside.members c ≡ parts) × (length (calls.seen c).log ≡ booked)
 
 -- ---- plain mailboxes

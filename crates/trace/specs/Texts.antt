@@ -148,7 +148,7 @@ ends_text l = pair_text l.a l.b
 -- The first line, without its end: the number of this form of traces, the network, and the object of all parts at the opening
 abbrev pub opening_line : TopologyFields → List ℕ → List ℕ
 opening_line t parts =
-    object (member (codes "trace") (codes "2") ∷ member (codes "carrier") (quoted (carrier_word t.carrier)) ∷ member (codes "raw") (bool_text t.raw)
+    object (member (codes "trace") (codes "3") ∷ member (codes "carrier") (quoted (carrier_word t.carrier)) ∷ member (codes "raw") (bool_text t.raw)
     ∷ member (codes "imps") (array (map site_text t.imps)) ∷ member (codes "lines") (array (map ends_text t.lines)) ∷ member (codes "parts") parts ∷ [])
 
 -- ---- the other lines

@@ -11,24 +11,24 @@ use Rattle.interface.specs.Calls.{Calls}
 use Rattle.script.specs.declared.event.RawEvent.{RawEvent}
 use Rattle.script.specs.Script.{asks, lines_of}
 use Rattle.topology.specs.Topology.{TopologyFields}
+use Rattle.trace.specs.declared.all_parts.AllParts.{AllParts}
 use Rattle.trace.specs.declared.element.Element.{Element}
 use Rattle.trace.specs.declared.element.Spot.{Spot}
 use Rattle.trace.specs.declared.fate.Fate.{Fate}
 use Rattle.trace.specs.Elements.{by_round, calm_of, elements_in, events_of}
-use Rattle.trace.specs.Changes.{changed}
+use Rattle.trace.specs.Changes.{changed_parts, members_of}
 use Rattle.trace.specs.Texts.{all_members, object, opening_line, trace_line}
 
--- what a carrier shows of its inside: the elementary events of a calm of this many rounds; all parts, each with its
--- name, as members of
--- an object; and, before an event, what becomes of the frame that it delivers
+-- what a carrier shows of its inside: the elementary events of a calm of this many rounds; all parts, those that are
+-- always there and flows; and, before an event, what becomes of the frame that it delivers
 pub record Inside (C : Type 0) : Type 0 where
   pub calm : C → ℕ → List Element
-  pub members : C → List (List ℕ)
+  pub members : C → AllParts
   pub fate : C → RawEvent → Option Fate
 
--- what plain mailboxes show. They have no frames
+-- what plain mailboxes show. They have no frames, and nothing else is known of flows
 abbrev pub plain_inside : Inside Boxes
-plain_inside = record { calm = calm_of; members = all_members; fate = λ b e. None }
+plain_inside = record { calm = calm_of; members = λ b. record { fixed = all_members b; flows = [] }; fate = λ b e. None }
 
 -- ---- lines of a script
 
@@ -48,9 +48,9 @@ numbered_from number (e ∷ events) = (record { line = e.0; number = number }, e
 
 -- ---- a trace
 
--- the object of the parts that are other than before, whole, by all parts before and after
+-- the object of the parts that are other than before or there no more, by all parts before and after
 abbrev pub change_text : {C : Type 0} → Inside C → C → C → List ℕ
-change_text inside old new = object (changed (inside.members old) (inside.members new))
+change_text inside old new = object (changed_parts (inside.members old) (inside.members new))
 
 -- an elementary event happens, and has one line, with the parts that are other than before
 abbrev pub TellsElement : {C : Type 0} → Calls C → Inside C → Spot → Happening C Element (List ℕ)
@@ -111,7 +111,7 @@ Traces calls inside old events new lines = InTurn (TellsEvent calls inside) old 
 abbrev pub AfterOpening : {C : Type 0} → Inside C → TopologyFields → C → (List (List ℕ) → Type 0) → List (List ℕ)
     → Type 0
 AfterOpening inside t opening AreLines lines = (others : List (List ℕ))
-    × (lines ≡ opening_line t (object (inside.members opening)) ∷ others) × AreLines others
+    × (lines ≡ opening_line t (object (members_of (inside.members opening))) ∷ others) × AreLines others
 
 -- ---- a trace that ends early, in one of the elementary events
 
@@ -161,7 +161,7 @@ GoesOnWith {C} calls left old place (Some next) =
 
 -- an elementary event has just happened in a carrier, in which this crossed, refused or not. Before it all parts had
 -- these texts
-pub record HasHappened {C : Type 0} (calls : Calls C) (members : C → List (List ℕ)) (texts : List (List ℕ))
+pub record HasHappened {C : Type 0} (calls : Calls C) (members : C → AllParts) (texts : AllParts)
     (e : RawEvent) (crossings : List Crossing) (r : Result (Unit {0}) CarrierFault) (new : C) : Type 0 where
   pub old : C
   pub known : texts ≡ members old

@@ -1,5 +1,5 @@
 -- Words for worked examples: two hosts of IMP 1, one of IMP 2, and messages from the first to the third.
-use Rattle.std.specs.Prelude.{ℕ, true, false, List, [], ◌∷◌}
+use Rattle.std.specs.Prelude.{ℕ, true, false, List, [], ◌∷◌, codes}
 use Rattle.std.specs.FinMap as map
 use Rattle.interface.specs.declared.crossing.Answer.TheVariants as answer
 use Rattle.leader1822.specs.Boxes.{Boxes, offered, opening_boxes, with_queue}
@@ -10,6 +10,10 @@ use Rattle.interface.specs.declared.event.NetEvent.TheVariants as net
 use Rattle.interface.specs.declared.message.HostMessage.{HostMessage}
 use Rattle.script.specs.declared.event.RawEvent.TheVariants as event
 use Rattle.trace.specs.declared.element.Element.{Element}
+use Rattle.trace.specs.declared.all_parts.AllParts.{AllParts}
+use Rattle.trace.specs.declared.flow_part.FlowPart.{FlowPart}
+use Rattle.trace.specs.declared.flow_part.FlowState.TheVariants as state
+use Rattle.trace.specs.declared.flow_part.Side.TheVariants as side
 
 abbrev pub first : Host
 first = record { imp = 1; host = 0 }
@@ -48,6 +52,17 @@ taken = record (opening_boxes (first ∷ third ∷ [])) { answers = with_queue m
 -- mailboxes of which only the hosts that are down matter
 abbrev pub with_down : List Host → Boxes
 with_down down = record (opening_boxes hosts) { down = down }
+
+-- what is known of a flow at its source, and of two flows of other links
+abbrev pub known : FlowPart
+known = record { side = side.Source; flow = flow; state = state.Outstanding; number = 7 }
+
+abbrev pub on_link : ℕ → FlowPart
+on_link link = record known { flow = record flow { link = record { 0 = link } } }
+
+-- parts of a network with one that is always there, and these flows
+abbrev pub with_flows : List (List FlowPart) → AllParts
+with_flows flows = record { fixed = codes "a" ∷ []; flows = flows }
 
 -- the second host stops
 abbrev pub stop : Element

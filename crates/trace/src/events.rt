@@ -7,10 +7,11 @@ ghost use Rattle.replay.specs.Replay.{GoesOn, Halts, IsCopied, IsOneCall};
 ghost use Rattle.script.specs.declared.event.RawEvent.TheVariants as script_event;
 ghost use Rattle.trace.specs.Elements.{begins_in};
 ghost use Rattle.trace.specs.Steps.{Called, ElementEnds, EventEnds, IsAsBegun, RoundEnds};
-ghost use Rattle.trace.specs.Changes.{changed};
+ghost use Rattle.trace.specs.Changes.{changed_parts};
 ghost use Rattle.trace.specs.Texts.{object};
 ghost use Rattle.trace.specs.Traces.{AfterOpening, HasHappened, MayTell, StopsElement, TraceEnds, Traces, WritesTrace};
 
+use crate::all_parts::AllParts;
 use crate::element::Spot;
 use crate::inspect::Inspect;
 use crate::line::print_line;
@@ -30,9 +31,11 @@ use topology::Topology;
 /// A refused event changes nothing, and has a line too.
 ///
 /// Errors:
-/// - `OutOfMemory`: memory ran out at one elementary event, or for its line. The first line and those of the events before it were
+/// - `OutOfMemory`: memory ran out at one elementary event, or for its line. The first line and those of the events
+/// before it were
 ///   written, and none of its own.
-/// - `CannotWrite`: a write failed. The carrier had already processed the elementary event whose line it was. Nothing more was
+/// - `CannotWrite`: a write failed. The carrier had already processed the elementary event whose line it was. Nothing
+/// more was
 ///   asked of the writer, which is the only one to know how much of its last lines it wrote.
 pub fn trace_events<C: Inspect, W: Output>(
     alloc: Global,
@@ -43,7 +46,8 @@ pub fn trace_events<C: Inspect, W: Output>(
 ) -> Result<(), ReplayFault>
     requires whole { W.failed writer.old ≡ false }
 
-    // first the network, and then each elementary event in turn went as the carrier says that its calls may go, and its line was written
+    // first the network, and then each elementary event in turn went as the carrier says that its calls may go, and its
+    // line was written
     ensures traced { OnOk result (WritesTrace (AfterOpening C.inside network.now carrier.old (Traces C.calls C.inside carrier.old events.now carrier.new)) (W.contents writer.old) (W.contents writer.new)) }
 
     // memory ran out at one of them: the first line and those before it were written, and nothing else
@@ -63,7 +67,7 @@ pub fn trace_events<C: Inspect, W: Output>(
 #[derive(Drop)]
 struct Texts {
     /// Each part with its name.
-    parts: Members,
+    parts: AllParts,
     /// The object of those that the last event changed.
     changed: Vec<u8>,
 }
@@ -146,8 +150,8 @@ fn trace_calm<C: Inspect, W: Output>(
 /// How things were where a round of a calm began.
 #[derive(Drop)]
 struct Begun {
-    /// The texts of all parts.
-    parts: Members,
+    /// All parts.
+    parts: AllParts,
     /// How many crossings were in the log.
     booked: usize,
 }
@@ -164,7 +168,7 @@ fn begin_round<C: Inspect>(
     ensures some { OnOk result (is_some known.new ≡ true) }
 {
     let texts = known_texts(alloc, carrier, known.take())?;
-    let parts = copy_of(&texts.parts)?;
+    let parts = copy_of(alloc, &texts.parts)?;
     *known = Some(texts);
     Ok(Begun {
         parts,
@@ -172,8 +176,18 @@ fn begin_round<C: Inspect>(
     })
 }
 
+/// Returns the same parts again.
+fn copy_of(alloc: Global, parts: &AllParts) -> Result<AllParts, AllocError>
+    ensures { IfOk result (λ copy. copy ≡ parts.now) }
+{
+    Ok(AllParts {
+        fixed: copy_of_members(&parts.fixed)?,
+        flows: parts.flows.copy(alloc)?,
+    })
+}
+
 /// Returns the same members again.
-fn copy_of(members: &Members) -> Result<Members, AllocError>
+fn copy_of_members(members: &Members) -> Result<Members, AllocError>
     ensures { IfOk result (λ copy. copy ≡ members.now) }
 {
     let copy = members.clone()?;
@@ -189,7 +203,9 @@ fn is_still<C: Inspect>(carrier: &C, known: &Option<Texts>, begun: &Begun) -> bo
 {
     match known {
         Some(texts) => {
-            carrier.log().len() == begun.booked && are_same(&texts.parts, &begun.parts)
+            carrier.log().len() == begun.booked
+                && are_same(&texts.parts.fixed, &begun.parts.fixed)
+                && texts.parts.flows.is_same(&begun.parts.flows)
         }
         None => unreachable!(),
     }
@@ -268,7 +284,7 @@ fn trace_element<C: Inspect, W: Output>(
         return Err(ReplayFault::OutOfMemory);
     }
     let (_, crossings) = carrier.log().split_at(booked);
-    let texts = change(carrier, event, crossings, outcome, texts)?;
+    let texts = change(alloc, carrier, event, crossings, outcome, texts)?;
     print_line(
         spot,
         round,
@@ -303,6 +319,7 @@ fn known_texts<C: Inspect>(
 
 /// Returns the texts of all parts after an event that has just happened, with the object of those that it changed.
 fn change<C: Inspect>(
+    alloc: Global,
     carrier: &C,
     event: &RawEvent,
     crossings: &[Crossing],
@@ -311,12 +328,12 @@ fn change<C: Inspect>(
 ) -> Result<Texts, AllocError>
     requires { HasHappened C.calls C.inside.members texts.parts event.now crossings.now outcome carrier.now }
     ensures parts { IfOk result (λ t. t.parts ≡ C.inside.members carrier.now) }
-    ensures changed { IfOk result (λ t. t.changed.items ≡ object (changed texts.parts (C.inside.members carrier.now))) }
+    ensures changed { IfOk result (λ t. t.changed.items ≡ object (changed_parts texts.parts (C.inside.members carrier.now))) }
 {
     let Texts { mut parts, changed } = texts;
     let mut room = changed;
     room.clear();
-    let changed = carrier.change(event, crossings, outcome, &mut parts, room)?;
+    let changed = carrier.change(alloc, event, crossings, outcome, &mut parts, room)?;
     Ok(Texts { parts, changed })
 }
 

@@ -7,26 +7,27 @@ ghost use Rattle.interface.specs.Host.{Host};
 ghost use Rattle.interface.specs.declared.CarrierFault.{CarrierFault};
 ghost use Rattle.interface.specs.declared.HostMessage.{HostMessage};
 ghost use Rattle.replay.specs.Failing.{TellsFailure};
-ghost use Rattle.trace.specs.Changes.{changed};
+ghost use Rattle.trace.specs.Changes.{changed_parts, members_of};
 ghost use Rattle.trace.specs.Texts.{object};
 ghost use Rattle.trace.specs.Traces.{GoesOnWith, HasHappened, Inside};
 ghost use Rattle.trace.specs.declared.element.Element.{Element};
 
+use crate::all_parts::AllParts;
 use crate::element::Element;
 use crate::fate::Fate;
-use crate::members::Members;
 use interface::{Carrier, CarrierFault, Crossing, HostAddr};
 use replay::{Output, WriteFailed};
 use script::RawEvent;
 use std::alloc::{AllocError, Global};
 
-/// A carrier whose inside can be traced: it lists the elementary events of a calm one after another, and says which parts an event
-/// has changed.
+/// A carrier whose inside can be traced: it lists the elementary events of a calm one after another, and says which
+/// parts an event has changed.
 pub trait Inspect: Carrier {
     /// A place in a calm, between two of its elementary events.
     type Place: Copy;
 
-    /// What is kept of texts that were made, by which the same ones are made again with less work. No text depends on it.
+    /// What is kept of texts that were made, by which the same ones are made again with less work. No text depends on
+    /// it.
     type Notes: Drop;
 
     /// What it shows of its inside.
@@ -52,7 +53,7 @@ pub trait Inspect: Carrier {
     /// Errors: `WriteFailed`.
     fn print_whole<W: Output>(&self, writer: &mut W) -> Result<(), WriteFailed>
         requires { W.failed writer.old ≡ false }
-        ensures written { OnOk result (Appends (W.contents writer.old) (W.contents writer.new) (object (inside.members self.now))) }
+        ensures written { OnOk result (Appends (W.contents writer.old) (W.contents writer.new) (object (members_of (inside.members self.now)))) }
         ensures failed { TellsFailure result (W.failed writer.new) };
 
     /// Returns notes of no texts. This takes no memory.
@@ -61,25 +62,26 @@ pub trait Inspect: Carrier {
     /// Returns all parts, each with its name, as the members of an object.
     ///
     /// Errors: `AllocError`.
-    fn members(&self, alloc: Global, notes: &mut Self::Notes) -> Result<Members, AllocError>
+    fn members(&self, alloc: Global, notes: &mut Self::Notes) -> Result<AllParts, AllocError>
         ensures { IfOk result (λ members. members ≡ inside.members self.now) };
 
-    /// Puts the texts of the parts that an event has changed in the place of those before it. Returns these parts, each with its name,
-    /// as the text of an object, which begins in this room.
+    /// Puts the texts of the parts that an event has changed in the place of those before it. Returns these parts, each
+    /// with its name, as the text of an object, which begins in this room.
     ///
     /// Errors: `AllocError`.
     fn change(
         &self,
+        alloc: Global,
         event: &RawEvent,
         crossings: &[Crossing],
         outcome: Result<(), CarrierFault>,
-        known: &mut Members,
+        known: &mut AllParts,
         room: Vec<u8>,
     ) -> Result<Vec<u8>, AllocError>
         requires happened { HasHappened Self.calls inside.members known.old event.now crossings.now outcome self.now }
         requires empty { room.items ≡ [] }
         ensures known { OnOk result (known.new ≡ inside.members self.now) }
-        ensures changed { IfOk result (λ text. text.items ≡ object (changed known.old (inside.members self.now))) };
+        ensures changed { IfOk result (λ text. text.items ≡ object (changed_parts known.old (inside.members self.now))) };
 
     /// Proves that an offer and a taking which are refused, though memory lasts, change no part. It does nothing.
     fn keeps(&self)

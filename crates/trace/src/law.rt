@@ -1,16 +1,19 @@
 //! What traces promise, as laws over their definitions. The functions here do nothing: each clause is the law.
 
-ghost use Rattle.std.specs.Prelude.{◌≡◌, ◌⊎◌, [], ℕ, List, codes, false, is_ok, length};
-ghost use Rattle.std.specs.List.{All, Contains};
+ghost use Rattle.std.specs.Prelude.{◌≡◌, ◌⊎◌, [], ℕ, List, codes, false, is_ok, length, map};
+ghost use Rattle.std.specs.List.{All, Contains, flat_map};
 ghost use Rattle.leader1822.specs.Boxes.{Boxes, opening_boxes, plain_calls};
 ghost use Rattle.interface.specs.Host.{Host};
 ghost use Rattle.replay.specs.Output.{Shown};
 ghost use Rattle.replay.specs.Replay.{Happens, IsOneCall, Replays};
 ghost use Rattle.script.specs.Spelling.{IsEvent};
 ghost use Rattle.script.specs.declared.event.RawEvent.{RawEvent};
-ghost use Rattle.trace.specs.Changes.{changed};
+ghost use Rattle.trace.specs.Changes.{IsLostAt, changed, changed_parts, members_of};
 ghost use Rattle.trace.specs.Elements.{elements_of, events_of};
+ghost use Rattle.trace.specs.Flows.{gone};
 ghost use Rattle.trace.specs.Kept.{IsTold};
+ghost use Rattle.trace.specs.declared.all_parts.AllParts.{AllParts};
+ghost use Rattle.trace.specs.declared.flow_part.FlowPart.{FlowPart};
 ghost use Rattle.topology.specs.Topology.{IsTopology, TopologyFields};
 ghost use Rattle.trace.specs.Texts.{opening_line};
 ghost use Rattle.trace.specs.Traces.{change_text, plain_inside};
@@ -52,18 +55,26 @@ pub fn whole()
     ensures reached { (hosts : List Host) (events : List RawEvent) (new : Boxes) (shown : List Shown) → All IsEvent events → Replays plain_calls (opening_boxes hosts) events new shown → IsTold new }
 {}
 
-/// What a line says of a list of members, of which each has its place. A reader who puts those that have changed in the place of those before has all.
+/// What a line says of all parts. A reader who puts the parts of a line in the place of those before has all, where
+/// `null` stands for a flow that is there no more.
 pub fn changes()
-    // each member that is there now is among those that have changed, or was there before; and those that have changed are there now
-    ensures kept { (before now : List (List ℕ)) (member : List ℕ) → Contains now member → Contains (changed before now) member ⊎ Contains before member }
-    ensures only { (before now : List (List ℕ)) (member : List ℕ) → Contains (changed before now) member → Contains now member }
+    // each part that is there now is among those of the line, or was there before
+    ensures kept { (before now : AllParts) (t : List ℕ) → Contains (members_of now) t → Contains (changed_parts before now) t ⊎ Contains (members_of before) t }
 
-    // where none has changed all are as they were, and where all are as they were none has changed
+    // those of the line are there now, or are flows that were there before; and each flow that is there no more is
+    // among them
+    ensures only { (before now : AllParts) (t : List ℕ) → Contains (changed_parts before now) t → Contains (members_of now) t ⊎ Contains (flat_map (map gone) before.flows) t }
+    ensures lost { (before now : AllParts) (place : ℕ) (p : FlowPart) → IsLostAt before.flows now.flows place p → Contains (changed_parts before now) (gone p) }
+
+    // of those that are always there: where none has changed all are as they were
     ensures none { (before now : List (List ℕ)) → length before ≡ length now → changed before now ≡ [] → now ≡ before }
-    ensures same { (now : List (List ℕ)) → changed now now ≡ [] }
+
+    // where all are as they were none has changed
+    ensures same { (now : AllParts) → changed_parts now now ≡ [] }
 {}
 
-/// The first line of a trace describes the network: which carrier it has, its IMPs with their hosts, and its lines in their order.
+/// The first line of a trace describes the network: which carrier it has, its IMPs with their hosts, and its lines in
+/// their order.
 pub fn network()
     ensures one { (one other : TopologyFields) (parts rest : List ℕ) → IsTopology one → IsTopology other → opening_line one parts ≡ opening_line other rest → one ≡ other }
 {}

@@ -1,15 +1,11 @@
 //! The members of an object, and which of them have changed.
 
-ghost use Rattle.std.specs.Prelude.{◌≡◌, ◌<◌, ◌++◌, [], ◌∷◌, IfOk, OnOk, codes, false, length, nat_lt, not, slice_set};
-ghost use Rattle.std.specs.Io.KnownBytes.{Appends};
-ghost use Rattle.replay.specs.Failing.{TellsFailure};
+ghost use Rattle.std.specs.Prelude.{◌≡◌, ◌<◌, ◌++◌, [], ◌∷◌, IfOk, OnOk, length, nat_lt, not, slice_set};
 ghost use Rattle.trace.specs.Changes.{changed, is_at, put_at, put_text};
-ghost use Rattle.trace.specs.Joined.{mark, part_behind, place_behind};
-ghost use Rattle.trace.specs.Texts.{object};
+ghost use Rattle.trace.specs.Joined.{extended, mark};
 
 use crate::json::{Item, mark};
 use crate::page::Page;
-use replay::{Output, WriteFailed};
 use std::alloc::{AllocError, Global};
 use std::marker::Model;
 
@@ -50,8 +46,8 @@ impl Members {
         Ok(self.texts.push(text)?)
     }
 
-    /// Puts the text of an item, if it may have changed, in the place of the member at a place. Adds it to an object of members that
-    /// have changed, if it is other than that member. `object` is the text of this object without its end.
+    /// Puts the text of an item, if it may have changed, in the place of the member at a place. Adds it to an object of
+    /// members that have changed, if it is other than that member. `object` is the text of this object without its end.
     ///
     /// Errors: `AllocError`.
     pub fn put<T: Item>(
@@ -113,25 +109,21 @@ impl Members {
         false
     }
 
-    /// Prints the members that are other than the ones that were at their places, as a JSON object.
+    /// Adds the members that are other than the ones that were at their places to an object of members that have
+    /// changed. `object` is the text of this object without its end.
     ///
-    /// Errors: `WriteFailed`.
-    pub fn print_changed<W: Output>(
-        &self,
-        before: &Members,
-        writer: &mut W,
-    ) -> Result<(), WriteFailed>
-        requires { W.failed writer.old ≡ false }
-        ensures written { OnOk result (Appends (W.contents writer.old) (W.contents writer.new) (object (changed before.now self.now))) }
-        ensures failed { TellsFailure result (W.failed writer.new) }
+    /// Errors: `AllocError`.
+    pub fn add_changed(&self, before: &Members, object: Vec<u8>) -> Result<Vec<u8>, AllocError>
+        ensures { IfOk result (λ text. text.items ≡ extended object.items (changed before.now self.now)) }
     {
-        let mut printed: usize = 0;
+        let mut text = object;
         for place in 0..self.texts.len() {
-            let text = self.texts[place].as_slice();
-            let same = before.is_at(place, text);
-            printed = print_unless(same, printed, text, writer)?;
+            let member = self.texts[place].as_slice();
+            if !before.is_at(place, member) {
+                text = add_text(text, member)?;
+            }
         }
-        writer.write_all(mark("{}", "}", printed).as_bytes())
+        Ok(text)
     }
 }
 
@@ -155,34 +147,23 @@ fn text_after<T: Item>(text: Vec<u8>, item: &T) -> Result<Vec<u8>, AllocError>
     }
 }
 
-/// Ends the text of an object of members that have changed.
-///
-/// Errors: `AllocError`.
-pub fn ended(object: Vec<u8>) -> Result<Vec<u8>, AllocError>
-    ensures { IfOk result (λ text. text.items ≡ object.items ++ mark (codes "{}") (codes "}") (length object.items)) }
+/// Adds the text of a member to an object.
+fn add_text(object: Vec<u8>, member: &[u8]) -> Result<Vec<u8>, AllocError>
+    ensures { IfOk result (λ text. text.items ≡ extended object.items (member.now ∷ [])) }
 {
     let before = object.len();
-    let mut object = object;
-    object.extend_from_slice(mark("{}", "}", before).as_bytes())?;
-    Ok(object)
+    let mut text = object;
+    text.extend_from_slice(mark("{", ",", before).as_bytes())?;
+    text.extend_from_slice(member)?;
+    Ok(text)
 }
 
-/// Prints a member after this many others, unless it is the same as before. Returns the place after it.
-fn print_unless<W: Output>(
-    same: bool,
-    place: usize,
-    text: &[u8],
-    writer: &mut W,
-) -> Result<usize, WriteFailed>
-    requires { W.failed writer.old ≡ false }
-    ensures written { OnOk result (Appends (W.contents writer.old) (W.contents writer.new) (part_behind (not same) place text.now)) }
-    ensures place { IfOk result (λ next. next ≡ place_behind place (not same)) }
-    ensures failed { TellsFailure result (W.failed writer.new) }
+/// Adds an item to an object of members. `object` is the text of this object without its end.
+pub(crate) fn add<T: Item>(object: Vec<u8>, item: &T) -> Result<Vec<u8>, AllocError>
+    ensures { IfOk result (λ text. text.items ≡ extended object.items (T.text item.now ∷ [])) }
 {
-    if same {
-        return Ok(place);
-    }
-    writer.write_all(mark("{", ",", place).as_bytes())?;
-    writer.write_all(text)?;
-    Ok(1)
+    let before = object.len();
+    let mut begun = object;
+    begun.extend_from_slice(mark("{", ",", before).as_bytes())?;
+    text_after(begun, item)
 }

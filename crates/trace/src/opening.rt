@@ -4,6 +4,7 @@ ghost use Rattle.std.specs.Prelude.{◌≡◌, ◌++◌, OnOk, codes, false, map
 ghost use Rattle.std.specs.Io.KnownBytes.{Appends};
 ghost use Rattle.replay.specs.Failing.{TellsFailure};
 ghost use Rattle.script.specs.Input.{ended_line};
+ghost use Rattle.trace.specs.Changes.{members_of};
 ghost use Rattle.trace.specs.Joined.{network_front};
 ghost use Rattle.trace.specs.Texts.{carrier_word, ends_text, object, opening_line, pair_text, site_text};
 
@@ -47,8 +48,8 @@ impl Item for LineEnds {
     }
 }
 
-/// Prints the first line of a trace up to its parts: the number of this form of traces, and the network. What it prints is
-/// followed by the object of all parts, `}` and the end of the line.
+/// Prints the first line of a trace up to its parts: the number of this form of traces, and the network. What it prints
+/// is followed by the object of all parts, `}` and the end of the line.
 ///
 /// Errors: `WriteFailed`.
 pub fn print_network<W: Output>(network: &Topology, writer: &mut W) -> Result<(), WriteFailed>
@@ -59,7 +60,7 @@ pub fn print_network<W: Output>(network: &Topology, writer: &mut W) -> Result<()
     let (carrier, raw) = (word_of(network.carrier()), bool_word(network.is_raw()));
     write!(
         writer,
-        "{{\"trace\":2,\"carrier\":\"{carrier}\",\"raw\":{raw},\"imps\":"
+        "{{\"trace\":3,\"carrier\":\"{carrier}\",\"raw\":{raw},\"imps\":"
     )?;
     print_array(&network.imps(), writer)?;
     writer.write_all(b",\"lines\":")?;
@@ -76,7 +77,7 @@ pub(crate) fn print_opening<C: Inspect, W: Output>(
     writer: &mut W,
 ) -> Result<(), WriteFailed>
     requires { W.failed writer.old ≡ false }
-    ensures written { OnOk result (Appends (W.contents writer.old) (W.contents writer.new) (ended_line (opening_line network.now (object (C.inside.members carrier.now))))) }
+    ensures written { OnOk result (Appends (W.contents writer.old) (W.contents writer.new) (ended_line (opening_line network.now (object (members_of (C.inside.members carrier.now)))))) }
     ensures failed { TellsFailure result (W.failed writer.new) }
 {
     print_network(network, writer)?;

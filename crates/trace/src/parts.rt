@@ -9,8 +9,9 @@ ghost use Rattle.trace.specs.Changes.{changed};
 ghost use Rattle.trace.specs.Steps.{OnlyReached};
 ghost use Rattle.trace.specs.Texts.{all_members, member, object, part_name, part_text, whole_text};
 
+use crate::all_parts::ended;
 use crate::json::{Item, print_array};
-use crate::members::{Members, ended};
+use crate::members::Members;
 use crate::print::print_waiting;
 use interface::{Carrier, Crossing, HostAddr, NetEvent};
 use leader1822::PlainBoxes;
@@ -123,8 +124,8 @@ fn open_parts<W: Output>(boxes: &PlainBoxes, writer: &mut W) -> Result<(), Write
     print_array(&boxes.down(), writer)
 }
 
-/// Puts the parts that an event can change, which let these cross, in the place of those before it. Returns the object of those that
-/// have changed, which begins in this room.
+/// Puts the parts that an event can change, which let these cross, in the place of those before it. Returns the object
+/// of those that have changed, which begins in this room.
 ///
 /// Errors: `AllocError`.
 pub(crate) fn change(

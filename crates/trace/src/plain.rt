@@ -6,10 +6,11 @@ ghost use Rattle.trace.specs.Elements.{calm_left, is_given};
 ghost use Rattle.trace.specs.Steps.{IsNext};
 ghost use Rattle.trace.specs.Traces.{plain_inside};
 
+use crate::all_parts::{AllParts, ended};
 use crate::element::Element;
 use crate::fate::Fate;
+use crate::flow_lists::FlowLists;
 use crate::inspect::Inspect;
-use crate::members::{Members, ended};
 use crate::parts::{all_members, change, print_whole};
 use crate::turn::Turn;
 use interface::{Carrier, CarrierFault, Crossing, HostAddr, TAKINGS};
@@ -99,21 +100,25 @@ impl Inspect for PlainBoxes {
 
     fn no_notes(&self, _alloc: Global) {}
 
-    fn members(&self, alloc: Global, _notes: &mut ()) -> Result<Members, AllocError> {
-        all_members(alloc, self)
+    fn members(&self, alloc: Global, _notes: &mut ()) -> Result<AllParts, AllocError> {
+        Ok(AllParts {
+            fixed: all_members(alloc, self)?,
+            flows: FlowLists::new(alloc),
+        })
     }
 
     /// A refused event changes nothing.
     fn change(
         &self,
+        _alloc: Global,
         event: &RawEvent,
         crossings: &[Crossing],
         outcome: Result<(), CarrierFault>,
-        known: &mut Members,
+        known: &mut AllParts,
         room: Vec<u8>,
     ) -> Result<Vec<u8>, AllocError> {
         match outcome {
-            Ok(()) => change(self, event, crossings, known, room),
+            Ok(()) => change(self, event, crossings, &mut known.fixed, room),
             Err(_) => ended(room),
         }
     }

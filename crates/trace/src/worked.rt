@@ -7,14 +7,19 @@ ghost use Rattle.interface.specs.declared.crossing.Crossing.TheVariants as cross
 ghost use Rattle.interface.specs.declared.event.NetEvent.TheVariants as net;
 ghost use Rattle.leader1822.specs.Boxes.{host_stopped, opening_boxes, plain_calls, with_queue};
 ghost use Rattle.script.specs.declared.event.RawEvent.TheVariants as event;
-ghost use Rattle.trace.specs.Changes.{changed};
+ghost use Rattle.trace.specs.Changes.{changed, changed_flows, changed_lists, changed_parts, members_of};
 ghost use Rattle.trace.specs.Elements.{by_round, elements_of};
+ghost use Rattle.trace.specs.Flows.{gone, told};
 ghost use Rattle.trace.specs.Parts.{Down, Waiting, SamePart, is_named, parts_of};
 ghost use Rattle.trace.specs.Texts.{answer_object, crossing_object, part_name, part_text, queues_text, whole_text};
 ghost use Rattle.trace.specs.Traces.{IsStill, MayTell, asking_from, numbered_from, plain_inside};
-ghost use Rattle.trace.specs.Worked.{first, flow, hosts, one_waits, second, short, started, stop, takes, third, three_takings, with_down};
+ghost use Rattle.trace.specs.Worked.{first, flow, hosts, known, on_link, one_waits, second, short, started, stop, takes};
+ghost use Rattle.trace.specs.Worked.{third, three_takings, with_down, with_flows};
+ghost use Rattle.trace.specs.declared.flow_part.FlowState.TheVariants as state;
+ghost use Rattle.trace.specs.declared.flow_part.Side.TheVariants as side;
 ghost use Rattle.trace.specs.Laws.WorkedTexts.{WorkedTextsQueues};
-ghost use Rattle.trace.specs.Laws.WorkedLines.{WorkedLinesDelivered, WorkedLinesOpening, WorkedLinesRefused, WorkedLinesStart, WorkedLinesTaken};
+ghost use Rattle.trace.specs.Laws.WorkedLines.{WorkedLinesDelivered, WorkedLinesOpening, WorkedLinesRefused};
+ghost use Rattle.trace.specs.Laws.WorkedLines.{WorkedLinesStart, WorkedLinesTaken};
 
 /// The text of each part.
 pub fn worked_texts()
@@ -40,7 +45,8 @@ pub fn worked_texts()
 
 /// Which parts an event can change.
 pub fn worked_parts()
-    // a message that goes out, or is given up: what waits for its two hosts, in the order of the hosts, whether it is refused or not
+    // a message that goes out, or is given up: what waits for its two hosts, in the order of the hosts, whether it is
+    // refused or not
     ensures out { parts_of hosts (event.Out short) (crossing.Out short ∷ []) ≡ Waiting first ∷ Waiting third ∷ [] }
     ensures refused { parts_of hosts (event.Out short) [] ≡ Waiting first ∷ Waiting third ∷ [] }
     ensures given_up { parts_of hosts (event.Net (net.GiveUp flow)) [] ≡ Waiting first ∷ Waiting third ∷ [] }
@@ -81,6 +87,33 @@ pub fn worked_changes()
     // a text that only begins alike is another
     ensures longer { changed (codes "a" ∷ codes "b" ∷ []) (codes "ab" ∷ codes "b" ∷ []) ≡ codes "ab" ∷ [] }
     ensures more { changed (codes "a" ∷ []) (codes "a" ∷ codes "b" ∷ []) ≡ codes "b" ∷ [] }
+{}
+
+/// Which flows have changed.
+pub fn worked_flows()
+    // what is known of one, with its name
+    ensures told { told known ≡ codes "\"source 0/1 0/2 5\":{\"state\":\"outstanding\",\"number\":7}" }
+    ensures kept { told (record known { side = side.Kept; state = state.Never }) ≡ codes "\"kept 0/1 0/2 5\":{\"fate\":\"never\",\"number\":7}" }
+
+    // one that is new, one that is told otherwise, and one that is there no more. Of two the other one is not told
+    ensures new { changed_flows (on_link 4 ∷ []) (on_link 4 ∷ known ∷ []) ≡ told known ∷ [] }
+    ensures other { changed_flows (on_link 4 ∷ known ∷ []) (on_link 4 ∷ record known { number = 8 } ∷ []) ≡ told (record known { number = 8 }) ∷ [] }
+    ensures state { changed_flows (known ∷ on_link 6 ∷ []) (record known { state = state.Answered } ∷ on_link 6 ∷ []) ≡ told (record known { state = state.Answered }) ∷ [] }
+    ensures gone { changed_flows (on_link 4 ∷ known ∷ []) (on_link 4 ∷ []) ≡ codes "\"source 0/1 0/2 5\":null" ∷ [] }
+    ensures same { changed_flows (known ∷ on_link 6 ∷ []) (known ∷ on_link 6 ∷ []) ≡ [] }
+
+    // those that are new or other come first, and then those that are there no more
+    ensures order { changed_flows (on_link 4 ∷ []) (known ∷ on_link 6 ∷ []) ≡ told known ∷ told (on_link 6) ∷ gone (on_link 4) ∷ [] }
+
+    // it is the flow and the side that make a name, so the same flow at the other side is another part
+    ensures sides { changed_flows (known ∷ []) (record known { side = side.Kept; state = state.Waits } ∷ []) ≡ told (record known { side = side.Kept; state = state.Waits }) ∷ gone known ∷ [] }
+
+    // list by list, each compared with the one at its place
+    ensures lists { changed_lists ((known ∷ []) ∷ [] ∷ []) ([] ∷ (known ∷ []) ∷ []) ≡ gone known ∷ told known ∷ [] }
+
+    // flows come after the parts that are always there, and only those that are there
+    ensures all { members_of (with_flows ((known ∷ []) ∷ [] ∷ (on_link 6 ∷ []) ∷ [])) ≡ codes "a" ∷ told known ∷ told (on_link 6) ∷ [] }
+    ensures after { changed_parts (with_flows ((known ∷ []) ∷ [])) (record (with_flows ([] ∷ [])) { fixed = codes "b" ∷ [] }) ≡ codes "b" ∷ gone known ∷ [] }
 {}
 
 /// Lines of a trace.

@@ -59,7 +59,7 @@ pub use Rattle.subnet.specs.Working.{subnet_calls}
 pub use Rattle.subnet_trace.proofs.lemmas.{refused}
 pub use Rattle.subnet_trace.specs.Elements.{IsOfRound}
 pub use Rattle.terminal.specs.Machines.{EchoState, TerminalState}
-pub use Rattle.trace.proofs.lemmas.{AllPut, Any, AreClosed, IsClosed, Spelled, also_closed, bool_spelled, decimal_closed, first_same, host_spelled, host_words, lists_spelled, member_closed, member_once, none_changed, none_closed, object_closed, object_once, quoted_once, rest_same, short_once, string_closed}
+pub use Rattle.trace.proofs.lemmas.{AllPut, Any, AreClosed, IsClosed, Spelled, also_closed, bool_spelled, decimal_closed, first_same, host_spelled, host_words, lists_spelled, member_closed, member_once, none_changed, no_part_changed, none_closed, object_closed, object_once, quoted_once, rest_same, short_once, string_closed}
 pub use Rattle.trace.specs.Changes.{put_at, put_text}
 pub use Rattle.trace.specs.Named.{IsHostNamed, IsShort}
 pub use Rattle.trace.specs.Texts.{array, bits_members, bool_text, member, object, quoted}

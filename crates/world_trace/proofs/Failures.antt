@@ -2,8 +2,9 @@
 use Rattle.world_trace.proofs.Common.{◌≡◌, ℕ, List, [], ◌∷◌, ◌++◌, ap, arith, length, length-append, Calls, WorldState, Event, Spot, MayTell}
 use Rattle.world_script.specs.declared.event.WorldEvent.TheVariants as world
 use Rattle.world_trace.specs.Traces.{EndsAt}
+use Rattle.trace.specs.declared.all_parts.AllParts.{AllParts}
 
-pub row_nothing : {C : Type 0} (calls : Calls C) (members : C → List (List ℕ)) (spot : Spot) (old new : WorldState C) (lines : List (List ℕ)) → EndsAt calls members (MayTell calls) spot old (world.Calm 0) new lines → ⊥
+pub row_nothing : {C : Type 0} (calls : Calls C) (members : C → AllParts) (spot : Spot) (old new : WorldState C) (lines : List (List ℕ)) → EndsAt calls members (MayTell calls) spot old (world.Calm 0) new lines → ⊥
 row_nothing calls members spot old new lines h =
     let none : 0 ≡ length (h.done ++ h.last ∷ h.left) = ap length h.parts in
     absurd (omega (arith, none, length-append h.done (h.last ∷ h.left)))

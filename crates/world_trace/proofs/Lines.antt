@@ -61,21 +61,21 @@ line_printed line number round event crossed printed parts programs services a b
 -- ---- the first line
 
 abbrev front : List ℕ → List ℕ → List ℕ → List ℕ → List ℕ
-front carrier raw imps lines = codes "{\"trace\":2,\"carrier\":\"" ++ (carrier ++ (codes "\",\"raw\":" ++ (raw ++ (codes ",\"imps\":" ++ (imps ++ (codes ",\"lines\":" ++ (lines ++ codes ",\"parts\":")))))))
+front carrier raw imps lines = codes "{\"trace\":3,\"carrier\":\"" ++ (carrier ++ (codes "\",\"raw\":" ++ (raw ++ (codes ",\"imps\":" ++ (imps ++ (codes ",\"lines\":" ++ (lines ++ codes ",\"parts\":")))))))
 
 abbrev long_first : List ℕ → List ℕ → List ℕ → List ℕ → List ℕ → List ℕ → List ℕ → List ℕ
 long_first carrier raw imps lines parts programs services =
-    codes "{\"trace\":2,\"carrier\":\"" ++ (carrier ++ (codes "\",\"raw\":" ++ (raw ++ (codes ",\"imps\":" ++ (imps ++ (codes ",\"lines\":" ++ (lines ++ (codes ",\"parts\":" ++ (parts ++ (codes ",\"programs\":" ++ (programs ++ (codes ",\"services\":" ++ (services ++ (codes "}\n"))))))))))))))
+    codes "{\"trace\":3,\"carrier\":\"" ++ (carrier ++ (codes "\",\"raw\":" ++ (raw ++ (codes ",\"imps\":" ++ (imps ++ (codes ",\"lines\":" ++ (lines ++ (codes ",\"parts\":" ++ (parts ++ (codes ",\"programs\":" ++ (programs ++ (codes ",\"services\":" ++ (services ++ (codes "}\n"))))))))))))))
 
 abbrev bare_first : List ℕ → List ℕ → List ℕ → List ℕ → List ℕ → List ℕ → List ℕ → List ℕ
-bare_first carrier raw imps lines parts programs services = codes "{\"trace\":2,\"carrier\":\"" ++ (carrier ++ (codes "\"" ++ (codes ",\"raw\":" ++ (raw ++ (codes ",\"imps\":" ++ (imps ++ (codes ",\"lines\":" ++ (lines ++ (codes ",\"parts\":" ++ (parts ++ (codes ",\"programs\":" ++ (programs ++ (codes ",\"services\":" ++ (services ++ codes "}"))))))))))))))
+bare_first carrier raw imps lines parts programs services = codes "{\"trace\":3,\"carrier\":\"" ++ (carrier ++ (codes "\"" ++ (codes ",\"raw\":" ++ (raw ++ (codes ",\"imps\":" ++ (imps ++ (codes ",\"lines\":" ++ (lines ++ (codes ",\"parts\":" ++ (parts ++ (codes ",\"programs\":" ++ (programs ++ (codes ",\"services\":" ++ (services ++ codes "}"))))))))))))))
 
 abbrev closed_first : List ℕ → List ℕ → List ℕ → List ℕ → List ℕ → List ℕ → List ℕ → List ℕ
-closed_first carrier raw imps lines parts programs services = codes "{\"trace\":2,\"carrier\":\"" ++ (carrier ++ (codes "\"" ++ (codes ",\"raw\":" ++ (raw ++ (codes ",\"imps\":" ++ (imps ++ (codes ",\"lines\":" ++ (lines ++ (codes ",\"parts\":" ++ (parts ++ (codes ",\"programs\":" ++ (programs ++ (codes ",\"services\":" ++ (services ++ (codes "}" ++ 10 ∷ [])))))))))))))))
+closed_first carrier raw imps lines parts programs services = codes "{\"trace\":3,\"carrier\":\"" ++ (carrier ++ (codes "\"" ++ (codes ",\"raw\":" ++ (raw ++ (codes ",\"imps\":" ++ (imps ++ (codes ",\"lines\":" ++ (lines ++ (codes ",\"parts\":" ++ (parts ++ (codes ",\"programs\":" ++ (programs ++ (codes ",\"services\":" ++ (services ++ (codes "}" ++ 10 ∷ [])))))))))))))))
 
 abbrev object_first : List ℕ → List ℕ → List ℕ → List ℕ → List ℕ → List ℕ → List ℕ → List ℕ
 object_first carrier raw imps lines parts programs services =
-    ended_line (object (member (codes "trace") (codes "2")
+    ended_line (object (member (codes "trace") (codes "3")
     ∷ member (codes "carrier") (quoted carrier)
     ∷ member (codes "raw") raw
     ∷ member (codes "imps") imps
@@ -95,7 +95,7 @@ first_end carrier raw imps lines parts programs services = simp append_assoc
 
 -- a string has its end with it
 first_object : (carrier raw imps lines parts programs services : List ℕ) → bare_first carrier raw imps lines parts programs services ++ 10 ∷ [] ≡ object_first carrier raw imps lines parts programs services
-first_object carrier raw imps lines parts programs services = ap (λ xs. (codes "{\"trace\":2,\"carrier\":\"" ++ (xs)) ++ 10 ∷ []) (sym (append_assoc carrier (codes "\"") (codes ",\"raw\":" ++ (raw ++ (codes ",\"imps\":" ++ (imps ++ (codes ",\"lines\":" ++ (lines ++ (codes ",\"parts\":" ++ (parts ++ (codes ",\"programs\":" ++ (programs ++ (codes ",\"services\":" ++ (services ++ codes "}"))))))))))))))
+first_object carrier raw imps lines parts programs services = ap (λ xs. (codes "{\"trace\":3,\"carrier\":\"" ++ (xs)) ++ 10 ∷ []) (sym (append_assoc carrier (codes "\"") (codes ",\"raw\":" ++ (raw ++ (codes ",\"imps\":" ++ (imps ++ (codes ",\"lines\":" ++ (lines ++ (codes ",\"parts\":" ++ (parts ++ (codes ",\"programs\":" ++ (programs ++ (codes ",\"services\":" ++ (services ++ codes "}"))))))))))))))
 
 pub first_printed : (carrier raw imps lines parts programs services : List ℕ) (a b c : Option (List ℕ)) → Appends a b (front carrier raw imps lines) → Appends b c (parts ++ hosts programs services) → Appends a c (object_first carrier raw imps lines parts programs services)
 first_printed carrier raw imps lines parts programs services a b c first last =

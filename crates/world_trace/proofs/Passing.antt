@@ -5,12 +5,13 @@ use Rattle.world_replay.proofs.lemmas.{round_calm}
 use Rattle.world_replay.specs.Output.{Shown}
 use Rattle.world_replay.specs.Replay.{Happens}
 use Rattle.world_script.specs.declared.event.WorldEvent.TheVariants as world
+use Rattle.trace.specs.declared.all_parts.AllParts.{AllParts}
 
 -- whatever is shown
 abbrev Any : List (List ℕ) → List Shown → Type 0
 Any lines shown = Unit {0}
 
-module _ {C : Type 0} (calls : Calls C) (members : C → List (List ℕ)) (spot : Spot) (round : ℕ) where
+module _ {C : Type 0} (calls : Calls C) (members : C → AllParts) (spot : Spot) (round : ℕ) where
   step_passes : ShowsAs (TellsInCalm calls members spot round) (HappensInCalm calls) Any
   step_passes old e new lines (inl (happens, same, none)) = ([], happens, tt)
   step_passes old e new lines (inr ((shown, happens, is), heard)) = (shown, happens, tt)

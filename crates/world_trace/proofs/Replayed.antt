@@ -7,6 +7,7 @@ use Rattle.world_script.specs.declared.event.WorldEvent.TheVariants as world
 use Rattle.world_trace.specs.Traces.{TellsAt}
 use Rattle.world_trace.proofs.Passing.{round_passes}
 use Rattle.world_trace.proofs.Unspent.Worlds.{Runs, happens_runs, opening_lasts}
+use Rattle.trace.specs.declared.all_parts.AllParts.{AllParts}
 
 rounds_counted : (rounds : ℕ) → length (first_rounds rounds) ≡ rounds
 rounds_counted zero = refl
@@ -15,7 +16,7 @@ rounds_counted (suc rounds) =
     let one : length (first_rounds rounds ++ suc rounds ∷ []) ≡ length (first_rounds rounds) + 1 = length-append (first_rounds rounds) (suc rounds ∷ []) in
     omega (arith, before, one)
 
-module _ {C : Type 0} (calls : Calls C) (members : C → List (List ℕ)) where
+module _ {C : Type 0} (calls : Calls C) (members : C → AllParts) where
   -- what events of a script show, one after another
   abbrev Replayed : WorldState C → List WorldEvent → WorldState C → Type 0
   Replayed old events new = (printed : List Shown) × Replays calls old events new printed

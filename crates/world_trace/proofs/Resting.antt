@@ -1,9 +1,10 @@
 -- A world that rests: the events of a round change nothing, so that they have no lines.
-use Rattle.world_trace.proofs.Common.{◌≡◌, inl, ℕ, suc, false, List, [], ◌∷◌, length, map, le-ltb, arith, refl, sym, append-nil, flat_map, Calls, Host, IsAtRest, WorldState, up_in, Event, Offer, Quiet, Take, InTurn, none_changed, Spot, when_false, Again, Repeated, crosses, seat_member, services_member, TellsInCalm, TellsRound}
+use Rattle.world_trace.proofs.Common.{◌≡◌, inl, ℕ, suc, false, List, [], ◌∷◌, length, map, le-ltb, arith, refl, sym, append-nil, flat_map, Calls, Host, IsAtRest, WorldState, up_in, Event, Offer, Quiet, Take, InTurn, none_changed, no_part_changed, Spot, when_false, Again, Repeated, crosses, seat_member, services_member, TellsInCalm, TellsRound}
 use Rattle.net_sim.specs.Rest.{Leaves}
 use Rattle.world_replay.specs.Rounds.{turn_of}
+use Rattle.trace.specs.declared.all_parts.AllParts.{AllParts}
 
-module _ {C : Type 0} (calls : Calls C) (members : C → List (List ℕ)) (spot : Spot) (round : ℕ) where
+module _ {C : Type 0} (calls : Calls C) (members : C → AllParts) (spot : Spot) (round : ℕ) where
   abbrev Tells : WorldState C → Event → WorldState C → List (List ℕ) → Type 0
   Tells = TellsInCalm calls members spot round
 
@@ -18,7 +19,7 @@ module _ {C : Type 0} (calls : Calls C) (members : C → List (List ℕ)) (spot 
           gains = record { crossings = []; notices = []; reports = []; crossed = refl; told = sym (append-nil book.notices); said = sym (append-nil book.reports) };
           lines = refl;
         },
-        record { parts = none_changed (members w.carrier); programs = none_changed (map seat_member w.seats); services = none_changed (map services_member w.services) },
+        record { parts = no_part_changed (members w.carrier); programs = none_changed (map seat_member w.seats); services = none_changed (map services_member w.services) },
         refl,
       )
 

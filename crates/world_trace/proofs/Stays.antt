@@ -13,6 +13,7 @@ use Rattle.world_replay.proofs.lemmas.{at_seat, if_stopped, one_crossed}
 use Rattle.world_replay.specs.Output.{Shown}
 use Rattle.world_trace.specs.Steps.{at_one, host_of}
 use Rattle.world_trace.specs.declared.calm.CalmEvent.TheVariants as calm
+use Rattle.trace.specs.declared.all_parts.AllParts.{AllParts}
 
 abbrev Answer : Type 0
 Answer = Result (Unit {0}) WorldFault
@@ -215,7 +216,7 @@ module _ {C : Type 0} (own : Calls C) where
 
   -- ---- and where no part changes either
 
-  module _ (members : C → List (List ℕ)) where
+  module _ (members : C → AllParts) where
     -- what a taking and an offer that are refused leave
     abbrev pub KeepsTakes : Type 0
     KeepsTakes = (old new : C) (h : Host) (f : CarrierFault) → is_memory f ≡ false → own.takes old h (Err f) new → members new ≡ members old

@@ -1,5 +1,5 @@
 -- Events are traced one after the other, and one of them may be the last.
-use Rattle.world_trace.proofs.Common.{Bool, true, false, nat_lt, lt-ltb, ◌≡◌, ◌⊎◌, inl, inr, ℕ, suc, ◌<◌, ◌+◌, List, [], ◌∷◌, ◌++◌, drop, get_or, length, reverse, Option, Some, Result, Ok, Err, arith, refl, sym, ap, ap₂, map, subst, ◌∙◌, false≢true, append_assoc, append-nil, length-append, reverse-append, reverse-reverse, Appends, Crossing, WorldState, Calls, Event, appends_more, appends_none, last_shown, last_written, one_written, Happening, InTurn, text_of, ReplayFault, ended_line, WritesTrace, numbered_from, Spot, HappensInCalm, MayDo, StopsIn, WorldEvent, AreTextsOf, EventEnds, IsAsBefore, StepEnds, state_objects, event_text, line_of, seat_member, services_member, Texts, none_changed, object, shown, MayTell, StopsOne, TellsInCalm}
+use Rattle.world_trace.proofs.Common.{Bool, true, false, nat_lt, lt-ltb, ◌≡◌, ◌⊎◌, inl, inr, ℕ, suc, ◌<◌, ◌+◌, List, [], ◌∷◌, ◌++◌, drop, get_or, length, reverse, Option, Some, Result, Ok, Err, arith, refl, sym, ap, ap₂, map, subst, ◌∙◌, false≢true, append_assoc, append-nil, length-append, reverse-append, reverse-reverse, Appends, Crossing, WorldState, Calls, Event, appends_more, appends_none, last_shown, last_written, one_written, Happening, InTurn, text_of, ReplayFault, ended_line, WritesTrace, numbered_from, Spot, HappensInCalm, MayDo, StopsIn, WorldEvent, AreTextsOf, EventEnds, IsAsBefore, StepEnds, state_objects, event_text, line_of, seat_member, services_member, Texts, none_changed, no_part_changed, object, shown, MayTell, StopsOne, TellsInCalm}
 use Rattle.std.proofs.lemmas.List.{length-reverse}
 use Rattle.std.proofs.Math.Seq.{drop-append_seam}
 use Rattle.replay.specs.InTurn.{EndsInTurn}
@@ -15,7 +15,8 @@ use Rattle.world_trace.specs.Steps.{AreChanged, AreChanges, HasPassed, OneEnds, 
 use Rattle.world_trace.specs.Texts.{opening_text, world_line}
 use Rattle.world_trace.specs.declared.line.Passed.{Passed}
 use Rattle.world_trace.specs.declared.texts.Changes.{Changes}
-use Rattle.trace.specs.Changes.{changed}
+use Rattle.trace.specs.Changes.{changed, changed_parts}
+use Rattle.trace.specs.declared.all_parts.AllParts.{AllParts}
 use Rattle.world_trace.proofs.Stays.{IsQuiet}
 use Rattle.world_trace.specs.Traces.{AfterOpening, IsUnchanged, TellsOne, change_of, state_of}
 
@@ -89,22 +90,22 @@ pub no_line : (AreLines : List (List ℕ) → Type 0) (a : Option (List ℕ)) �
 no_line AreLines a is = record { shown = []; is_shown = is; written = appends_none a }
 
 -- what the texts of two states have that is other than before
-pub changes_are : {C : Type 0} (members : C → List (List ℕ)) (old new : WorldState C) (before texts : Texts) (c : Changes) → AreTextsOf members old before → AreTextsOf members new texts → AreChanged before texts c → AreChanges members old new c.parts.items c.programs.items c.services.items
+pub changes_are : {C : Type 0} (members : C → AllParts) (old new : WorldState C) (before texts : Texts) (c : Changes) → AreTextsOf members old before → AreTextsOf members new texts → AreChanged before texts c → AreChanges members old new c.parts.items c.programs.items c.services.items
 changes_are members old new before texts c h k are = record {
-  parts_are = are.parts ∙ ap object (ap₂ changed h.parts k.parts);
+  parts_are = are.parts ∙ ap object (ap₂ changed_parts h.parts k.parts);
   programs_are = are.programs ∙ ap object (ap₂ changed h.programs k.programs);
   services_are = are.services ∙ ap object (ap₂ changed h.services k.services);
 }
 
 -- the line of an event
-line_is : {C : Type 0} (members : C → List (List ℕ)) (spot : Spot) (round : ℕ) (old new : WorldState C) (e : WorldEvent) (event printed parts programs services : List ℕ) (crossed : ℕ) (shown : List Shown) (gains : Gains old.kept new.kept)
+line_is : {C : Type 0} (members : C → AllParts) (spot : Spot) (round : ℕ) (old new : WorldState C) (e : WorldEvent) (event printed parts programs services : List ℕ) (crossed : ℕ) (shown : List Shown) (gains : Gains old.kept new.kept)
     → event ≡ event_text e → printed ≡ output Sizes shown → crossed ≡ length old.kept.book.crossings → AreChanges members old new parts programs services
     → line_of spot round event (drop crossed (reverse new.kept.book.crossings)) printed (state_objects parts programs services) ≡ world_line spot round e gains.crossings shown (change_of members old new)
 line_is members spot round old new e event printed parts programs services crossed shown gains named says count are =
     let change : List (List ℕ) = state_objects parts programs services in
     let crossings : drop crossed (reverse new.kept.book.crossings) ≡ gains.crossings =
     ap (λ n. drop n (reverse new.kept.book.crossings)) count ∙ crossings_gained old.kept.book.crossings new.kept.book.crossings gains.crossings gains.crossed in
-    let new_parts : List ℕ = object (changed (members old.carrier) (members new.carrier)) in
+    let new_parts : List ℕ = object (changed_parts (members old.carrier) (members new.carrier)) in
     let new_programs : List ℕ = object (changed (map seat_member old.seats) (map seat_member new.seats)) in
     let state : change ≡ change_of members old new =
     ap (λ (t : List ℕ). state_objects t programs services) are.parts_are ∙ ap (λ (t : List ℕ). state_objects new_parts t services) are.programs_are ∙ ap (λ (t : List ℕ). state_objects new_parts new_programs t) are.services_are in
@@ -113,7 +114,7 @@ line_is members spot round old new e event printed parts programs services cross
     ∙ ap (λ (p : List ℕ). line_of spot round (event_text e) gains.crossings p change) says
     ∙ ap (λ (s : List (List ℕ)). world_line spot round e gains.crossings shown s) state
 
-pub tells : {C : Type 0} (calls : Calls C) (members : C → List (List ℕ)) (spot : Spot) (old new : WorldState C) (e : Event) (p : Passed) (a b : Option (List ℕ)) → HasPassed calls members old e new p
+pub tells : {C : Type 0} (calls : Calls C) (members : C → AllParts) (spot : Spot) (old new : WorldState C) (e : Event) (p : Passed) (a b : Option (List ℕ)) → HasPassed calls members old e new p
     → Appends a b (ended_line (passed_line spot 0 new p)) → OneEnds calls members spot old e (Ok tt) new a b
 tells {C} calls members spot old new e p a b h written =
     let (shown, happens, says) = h.shows in
@@ -140,16 +141,16 @@ pub is_changed : (r : Bool) (xs : List (List ℕ)) → r ≡ nat_lt 0 (length xs
 is_changed r xs said is none = absurd (false≢true (sym (said ∙ ap (λ (ys : List (List ℕ)). nat_lt 0 (length ys)) none) ∙ is))
 
 -- an event by which something crosses, or a part changes
-pub step_heard : {C : Type 0} (calls : Calls C) (members : C → List (List ℕ)) (spot : Spot) (round : ℕ) (old new : WorldState C) (e : Event) (event printed parts programs services : List ℕ) (crossed : ℕ) (a b : Option (List ℕ))
+pub step_heard : {C : Type 0} (calls : Calls C) (members : C → AllParts) (spot : Spot) (round : ℕ) (old new : WorldState C) (e : Event) (event printed parts programs services : List ℕ) (crossed : ℕ) (a b : Option (List ℕ))
     → ShowsInCalm calls old e new printed → event ≡ event_text (world.Happen e) → crossed ≡ length old.kept.book.crossings → AreChanges members old new parts programs services
-    → (length old.kept.book.crossings < length new.kept.book.crossings) ⊎ (changed (members old.carrier) (members new.carrier) ≡ [] → ⊥)
+    → (length old.kept.book.crossings < length new.kept.book.crossings) ⊎ (changed_parts (members old.carrier) (members new.carrier) ≡ [] → ⊥)
     → Appends a b (ended_line (line_of spot round event (drop crossed (reverse new.kept.book.crossings)) printed (state_objects parts programs services))) → StepEnds calls members spot round old e (Ok tt) new a b
 step_heard {C} calls members spot round old new e event printed parts programs services crossed a b (shown, happens, says) named count are some written =
     let line : List ℕ = world_line spot round (world.Happen e) happens.gains.crossings shown (change_of members old new) in
     one_line line (TellsInCalm calls members spot round old e new) a b (inr ((shown, happens, refl), λ none same. heard none same some))
     (subst (λ (line : List ℕ). Appends a b (ended_line line)) (line_is members spot round old new (world.Happen e) event printed parts programs services crossed shown happens.gains named says count are) written)
   where
-    heard : shown ≡ [] → IsUnchanged members old new → (length old.kept.book.crossings < length new.kept.book.crossings) ⊎ (changed (members old.carrier) (members new.carrier) ≡ [] → ⊥) → ⊥
+    heard : shown ≡ [] → IsUnchanged members old new → (length old.kept.book.crossings < length new.kept.book.crossings) ⊎ (changed_parts (members old.carrier) (members new.carrier) ≡ [] → ⊥) → ⊥
     heard none same (inl more) = shown_crossed calls old new e shown happens more none
     heard none same (inr other) = other same.parts
 
@@ -164,15 +165,15 @@ none_gained calls old new e shown h same =
     h.lines ∙ same_news old.kept new.kept old.kept h.gains none (gains_once old.kept new.kept old.kept h.gains none same)
 
 -- only parts may have changed, and none is other than before
-quiet_unchanged : {C : Type 0} (members : C → List (List ℕ)) (old new : WorldState C) → changed (members old.carrier) (members new.carrier) ≡ [] → new.seats ≡ old.seats → new.services ≡ old.services → IsUnchanged members old new
+quiet_unchanged : {C : Type 0} (members : C → AllParts) (old new : WorldState C) → changed_parts (members old.carrier) (members new.carrier) ≡ [] → new.seats ≡ old.seats → new.services ≡ old.services → IsUnchanged members old new
 quiet_unchanged members old new parts seats services = record {
   parts = parts;
   programs = ap (λ seats. changed (map seat_member old.seats) (map seat_member seats)) seats ∙ none_changed (map seat_member old.seats);
   services = ap (λ served. changed (map services_member old.services) (map services_member served)) services ∙ none_changed (map services_member old.services);
 }
 
-pub step_quiet : {C : Type 0} (own : Calls C) (members : C → List (List ℕ)) (spot : Spot) (round : ℕ) (old new : WorldState C) (e : Event) (printed : List ℕ) (a : Option (List ℕ))
-    → ShowsInCalm (shown own) old e new printed → ((lines : List Shown) → HappensInCalm (shown own) old e new lines → IsQuiet own old new) → changed (members old.carrier) (members new.carrier) ≡ [] → StepEnds (shown own) members spot round old e (Ok tt) new a a
+pub step_quiet : {C : Type 0} (own : Calls C) (members : C → AllParts) (spot : Spot) (round : ℕ) (old new : WorldState C) (e : Event) (printed : List ℕ) (a : Option (List ℕ))
+    → ShowsInCalm (shown own) old e new printed → ((lines : List Shown) → HappensInCalm (shown own) old e new lines → IsQuiet own old new) → changed_parts (members old.carrier) (members new.carrier) ≡ [] → StepEnds (shown own) members spot round old e (Ok tt) new a a
 step_quiet {C} own members spot round old new e printed a (lines, happens, says) quiet none =
     let q = quiet lines happens in
     no_line (TellsInCalm (shown own) members spot round old e new) a (inl (
@@ -182,24 +183,24 @@ step_quiet {C} own members spot round old new e printed a (lines, happens, says)
     ))
 
 -- all that is printed is as before, and has no line
-pub step_still : {C : Type 0} (calls : Calls C) (members : C → List (List ℕ)) (spot : Spot) (round : ℕ) (old new : WorldState C) (e : Event) (printed : List ℕ) (a : Option (List ℕ))
+pub step_still : {C : Type 0} (calls : Calls C) (members : C → AllParts) (spot : Spot) (round : ℕ) (old new : WorldState C) (e : Event) (printed : List ℕ) (a : Option (List ℕ))
     → ShowsInCalm calls old e new printed → ((shown : List Shown) → HappensInCalm calls old e new shown → IsAsBefore members old new) → StepEnds calls members spot round old e (Ok tt) new a a
 step_still {C} calls members spot round old new e printed a (shown, happens, says) still =
     let all = still shown happens in
     no_line (TellsInCalm calls members spot round old e new) a (inl (
       subst (λ (ls : List Shown). HappensInCalm calls old e new ls) (none_gained calls old new e shown happens all.kept) happens,
-      quiet_unchanged members old new (ap (changed (members old.carrier)) all.parts ∙ none_changed (members old.carrier)) all.seats all.services,
+      quiet_unchanged members old new (ap (changed_parts (members old.carrier)) all.parts ∙ no_part_changed (members old.carrier)) all.seats all.services,
       refl,
     ))
 
 -- the texts of what is as before
-pub texts_quiet : {C : Type 0} (own : Calls C) (members : C → List (List ℕ)) (old new : WorldState C) (e : Event) (printed : List ℕ) (texts : Texts) → ShowsInCalm (shown own) old e new printed → ((lines : List Shown) → HappensInCalm (shown own) old e new lines → IsQuiet own old new)
+pub texts_quiet : {C : Type 0} (own : Calls C) (members : C → AllParts) (old new : WorldState C) (e : Event) (printed : List ℕ) (texts : Texts) → ShowsInCalm (shown own) old e new printed → ((lines : List Shown) → HappensInCalm (shown own) old e new lines → IsQuiet own old new)
     → AreTextsOf members old texts → (texts.programs ≡ map seat_member new.seats) × (texts.services ≡ map services_member new.services)
 texts_quiet own members old new e printed texts (lines, happens, says) quiet was =
     let q = quiet lines happens in
     (was.programs ∙ ap (map seat_member) (sym q.seats), was.services ∙ ap (map services_member) (sym q.services))
 
-pub texts_still : {C : Type 0} (calls : Calls C) (members : C → List (List ℕ)) (old new : WorldState C) (e : Event) (printed : List ℕ) (texts : Texts)
+pub texts_still : {C : Type 0} (calls : Calls C) (members : C → AllParts) (old new : WorldState C) (e : Event) (printed : List ℕ) (texts : Texts)
     → ShowsInCalm calls old e new printed → ((shown : List Shown) → HappensInCalm calls old e new shown → IsAsBefore members old new) → AreTextsOf members old texts → AreTextsOf members new texts
 texts_still calls members old new e printed texts (shown, happens, says) still was =
     let all = still shown happens in
@@ -207,7 +208,7 @@ texts_still calls members old new e printed texts (shown, happens, says) still w
 
 -- ---- an event that is no calm
 
-pub happen_ends : {C : Type 0} (calls : Calls C) (members : C → List (List ℕ)) (spot : Spot) (old new : WorldState C) (e : Event) (r : Result (Unit {0}) ReplayFault) (a b : Option (List ℕ)) → OneEnds calls members spot old e r new a b
+pub happen_ends : {C : Type 0} (calls : Calls C) (members : C → AllParts) (spot : Spot) (old new : WorldState C) (e : Event) (r : Result (Unit {0}) ReplayFault) (a b : Option (List ℕ)) → OneEnds calls members spot old e r new a b
     → EventEnds calls members spot old (world.Happen e) r new a b
 happen_ends calls members spot old new e (Ok done) a b h = h
 happen_ends calls members spot old new e (Err fault.OutOfMemory) a b h = h
@@ -263,7 +264,7 @@ next_at passed left later e is =
 
 -- ---- after the first line
 
-pub after_opening : {C : Type 0} (members : C → List (List ℕ)) (t : TopologyFields) (opening : WorldState C) (AreLines : List (List ℕ) → Type 0) (a b c : Option (List ℕ)) → Appends a b (ended_line (opening_text t (state_of members opening))) → WritesTrace AreLines b c
+pub after_opening : {C : Type 0} (members : C → AllParts) (t : TopologyFields) (opening : WorldState C) (AreLines : List (List ℕ) → Type 0) (a b c : Option (List ℕ)) → Appends a b (ended_line (opening_text t (state_of members opening))) → WritesTrace AreLines b c
     → WritesTrace (AfterOpening members t opening AreLines) a c
 after_opening members t opening AreLines a b c first h = record {
   shown = opening_text t (state_of members opening) ∷ h.shown;

@@ -30,9 +30,10 @@ use Rattle.world_trace.specs.declared.calm.CalmEvent.TheVariants as calm
 use Rattle.world_trace.specs.declared.line.Passed.{Passed}
 use Rattle.world_trace.specs.declared.texts.Texts.{Texts}
 use Rattle.world_trace.specs.declared.texts.Changes.{Changes}
-use Rattle.trace.specs.Changes.{changed}
+use Rattle.trace.specs.Changes.{changed, changed_parts, members_of}
 use Rattle.world_trace.specs.Traces.{EndsAt, MayTell, StopsOne, TellsAt, TellsInCalm, TellsOne, TellsRound}
 use Rattle.trace.specs.declared.element.Spot.{Spot}
+use Rattle.trace.specs.declared.all_parts.AllParts.{AllParts}
 
 -- ---- lists
 
@@ -82,18 +83,18 @@ abbrev pub ended_state : List (List ℕ) → List (List ℕ) → List (List ℕ)
 ended_state parts programs services = object parts ++ hosts_text programs services
 
 -- all of a state so
-abbrev pub whole_end : {C : Type 0} → (C → List (List ℕ)) → WorldState C → List ℕ
-whole_end members w = ended_state (members w.carrier) (map seat_member w.seats) (map services_member w.services)
+abbrev pub whole_end : {C : Type 0} → (C → AllParts) → WorldState C → List ℕ
+whole_end members w = ended_state (members_of (members w.carrier)) (map seat_member w.seats) (map services_member w.services)
 
 -- these are the texts of a state
-pub record AreTextsOf {C : Type 0} (members : C → List (List ℕ)) (w : WorldState C) (t : Texts) : Type 0 where
+pub record AreTextsOf {C : Type 0} (members : C → AllParts) (w : WorldState C) (t : Texts) : Type 0 where
   pub parts : t.parts ≡ members w.carrier
   pub programs : t.programs ≡ map seat_member w.seats
   pub services : t.services ≡ map services_member w.services
 
 -- these objects are what of these is other than before
 pub record AreChanged (old new : Texts) (c : Changes) : Type 0 where
-  pub parts : c.parts.items ≡ object (changed old.parts new.parts)
+  pub parts : c.parts.items ≡ object (changed_parts old.parts new.parts)
   pub programs : c.programs.items ≡ object (changed old.programs new.programs)
   pub services : c.services.items ≡ object (changed old.services new.services)
 
@@ -132,8 +133,8 @@ abbrev pub ShowsInCalm : {C : Type 0} → Calls C → WorldState C → Event →
 ShowsInCalm calls old e new text = (lines : List Shown) × HappensInCalm calls old e new lines × (text ≡ output Sizes lines)
 
 -- what of a state is other than before, by these objects
-pub record AreChanges {C : Type 0} (members : C → List (List ℕ)) (old new : WorldState C) (parts programs services : List ℕ) : Type 0 where
-  pub parts_are : parts ≡ object (changed (members old.carrier) (members new.carrier))
+pub record AreChanges {C : Type 0} (members : C → AllParts) (old new : WorldState C) (parts programs services : List ℕ) : Type 0 where
+  pub parts_are : parts ≡ object (changed_parts (members old.carrier) (members new.carrier))
   pub programs_are : programs ≡ object (changed (map seat_member old.seats) (map seat_member new.seats))
   pub services_are : services ≡ object (changed (map services_member old.services) (map services_member new.services))
 
@@ -142,7 +143,7 @@ abbrev pub state_objects : List ℕ → List ℕ → List ℕ → List (List ℕ
 state_objects parts programs services = member (codes "parts") parts ∷ member (codes "programs") programs ∷ member (codes "services") services ∷ []
 
 -- an event that is no calm happened, and these are the texts of its line, with this many crossings in the book before it
-pub record HasPassed {C : Type 0} (calls : Calls C) (members : C → List (List ℕ)) (old : WorldState C) (e : Event) (new : WorldState C) (p : Passed) : Type 0 where
+pub record HasPassed {C : Type 0} (calls : Calls C) (members : C → AllParts) (old : WorldState C) (e : Event) (new : WorldState C) (p : Passed) : Type 0 where
   pub event : p.event.items ≡ event_text (world.Happen e)
   pub shows : Shows calls old (world.Happen e) new p.printed.items
   pub crossed : p.crossed ≡ length old.kept.book.crossings
@@ -193,14 +194,14 @@ abbrev pub turns_at : Seat → List (Event × ℕ)
 turns_at seat = if is_some seat.program then turn_of seat.host else []
 
 -- all that is printed of a state is as before
-pub record IsAsBefore {C : Type 0} (members : C → List (List ℕ)) (old new : WorldState C) : Type 0 where
+pub record IsAsBefore {C : Type 0} (members : C → AllParts) (old new : WorldState C) : Type 0 where
   pub parts : members new.carrier ≡ members old.carrier
   pub seats : new.seats ≡ old.seats
   pub services : new.services ≡ old.services
   pub kept : new.kept ≡ old.kept
 
 -- after an event of a calm it is, if nothing crossed by it
-abbrev pub IsStill : {C : Type 0} → Calls C → (C → List (List ℕ)) → WorldState C → Event → Type 0
+abbrev pub IsStill : {C : Type 0} → Calls C → (C → AllParts) → WorldState C → Event → Type 0
 IsStill {C} calls members old e =
     (new : WorldState C) (shown : List Shown) → HappensInCalm calls old e new shown → length new.kept.book.crossings ≤ length old.kept.book.crossings → IsAsBefore members old new
 
@@ -213,24 +214,24 @@ EndsAs Happens Stops Fails old e (Err fault.OutOfMemory) new before after = Writ
 EndsAs Happens Stops Fails old e (Err fault.CannotWrite) new before after = (lines : List (List ℕ)) × Fails old e new lines
 
 -- an event that is no calm
-abbrev pub OneEnds : {C : Type 0} → Calls C → (C → List (List ℕ)) → Spot → WorldState C → Event → Result (Unit {0}) ReplayFault → WorldState C → Option (List ℕ) → Option (List ℕ) → Type 0
+abbrev pub OneEnds : {C : Type 0} → Calls C → (C → AllParts) → Spot → WorldState C → Event → Result (Unit {0}) ReplayFault → WorldState C → Option (List ℕ) → Option (List ℕ) → Type 0
 OneEnds calls members spot old e r new before after = EndsAs (λ old e new lines. TellsOne calls members spot 0 old (world.Happen e) new lines) (StopsOne calls) (MayTell calls) old e r new before after
 
 -- an event of a calm, once, and again and again
-abbrev pub StepEnds : {C : Type 0} → Calls C → (C → List (List ℕ)) → Spot → ℕ → WorldState C → Event → Result (Unit {0}) ReplayFault → WorldState C → Option (List ℕ) → Option (List ℕ) → Type 0
+abbrev pub StepEnds : {C : Type 0} → Calls C → (C → AllParts) → Spot → ℕ → WorldState C → Event → Result (Unit {0}) ReplayFault → WorldState C → Option (List ℕ) → Option (List ℕ) → Type 0
 StepEnds calls members spot round old e r new before after = EndsAs (TellsInCalm calls members spot round) (StopsOne calls) (MayTell calls) old e r new before after
 
-abbrev pub AgainEnds : {C : Type 0} → Calls C → (C → List (List ℕ)) → Spot → ℕ → WorldState C → Event × ℕ → Result (Unit {0}) ReplayFault → WorldState C → Option (List ℕ) → Option (List ℕ) → Type 0
+abbrev pub AgainEnds : {C : Type 0} → Calls C → (C → AllParts) → Spot → ℕ → WorldState C → Event × ℕ → Result (Unit {0}) ReplayFault → WorldState C → Option (List ℕ) → Option (List ℕ) → Type 0
 AgainEnds calls members spot round old e r new before after =
     EndsAs (Again (TellsInCalm calls members spot round)) (EndsAgain (TellsInCalm calls members spot round) (StopsOne calls)) (EndsAgain (TellsInCalm calls members spot round) (MayTell calls)) old e r new before after
 
 -- a round, by its number
-abbrev pub EndsRoundAt : {C : Type 0} → Calls C → (C → List (List ℕ)) → Spot → Happening (WorldState C) Event (List ℕ) → Happening (WorldState C) ℕ (List ℕ)
+abbrev pub EndsRoundAt : {C : Type 0} → Calls C → (C → AllParts) → Spot → Happening (WorldState C) Event (List ℕ) → Happening (WorldState C) ℕ (List ℕ)
 EndsRoundAt calls members spot Goes old round new lines = EndsRound (TellsInCalm calls members spot round) Goes old new lines
 
-abbrev pub RoundEnds : {C : Type 0} → Calls C → (C → List (List ℕ)) → Spot → WorldState C → ℕ → Result (Unit {0}) ReplayFault → WorldState C → Option (List ℕ) → Option (List ℕ) → Type 0
+abbrev pub RoundEnds : {C : Type 0} → Calls C → (C → AllParts) → Spot → WorldState C → ℕ → Result (Unit {0}) ReplayFault → WorldState C → Option (List ℕ) → Option (List ℕ) → Type 0
 RoundEnds calls members spot old round r new before after = EndsAs (TellsRound calls members spot) (EndsRoundAt calls members spot (StopsOne calls)) (EndsRoundAt calls members spot (MayTell calls)) old round r new before after
 
 -- any event
-abbrev pub EventEnds : {C : Type 0} → Calls C → (C → List (List ℕ)) → Spot → WorldState C → WorldEvent → Result (Unit {0}) ReplayFault → WorldState C → Option (List ℕ) → Option (List ℕ) → Type 0
+abbrev pub EventEnds : {C : Type 0} → Calls C → (C → AllParts) → Spot → WorldState C → WorldEvent → Result (Unit {0}) ReplayFault → WorldState C → Option (List ℕ) → Option (List ℕ) → Type 0
 EventEnds calls members spot old e r new before after = EndsAs (TellsAt calls members spot) (EndsAt calls members (StopsOne calls) spot) (EndsAt calls members (MayTell calls) spot) old e r new before after

@@ -214,5 +214,5 @@ world_line spot round e crossings shown state = line_of spot round (event_text e
 -- the first line: the number of this form of traces, the network, and the state at the opening
 abbrev pub opening_text : TopologyFields → List (List ℕ) → List ℕ
 opening_text t state =
-    object (member (codes "trace") (codes "2") ∷ member (codes "carrier") (quoted (carrier_word t.carrier)) ∷ member (codes "raw") (bool_text t.raw)
+    object (member (codes "trace") (codes "3") ∷ member (codes "carrier") (quoted (carrier_word t.carrier)) ∷ member (codes "raw") (bool_text t.raw)
     ∷ member (codes "imps") (array (map site_text t.imps)) ∷ member (codes "lines") (array (map ends_text t.lines)) ∷ state)

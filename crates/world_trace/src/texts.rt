@@ -3,7 +3,7 @@
 ghost use Rattle.std.specs.Prelude.{◌≡◌, IfOk, IfSome, OnOk, false, map};
 ghost use Rattle.std.specs.Io.KnownBytes.{Appends};
 ghost use Rattle.replay.specs.Failing.{TellsFailure};
-ghost use Rattle.trace.specs.Changes.{changed};
+ghost use Rattle.trace.specs.Changes.{changed, changed_parts};
 ghost use Rattle.trace.specs.Texts.{object};
 ghost use Rattle.world_trace.specs.Steps.{AreChanged, AreOthers, AreTextsOf, at_host, changed_end, seat_place, service_place};
 ghost use Rattle.world_trace.specs.Texts.{seat_member, services_member};
@@ -11,16 +11,16 @@ ghost use Rattle.world_trace.specs.Texts.{seat_member, services_member};
 use crate::values::{Json, Placed, Printed};
 use interface::HostAddr;
 use net_sim::World;
-use replay::{Output, Printer, WriteFailed};
+use replay::{Output, WriteFailed};
 use std::alloc::{AllocError, Global};
 use trace::json::Item;
-use trace::{Inspect, Members, ended};
+use trace::{AllParts, Inspect, Members, ended};
 
 /// The texts of a world's state, each with its name.
 #[derive(Drop)]
 pub(crate) struct Texts {
     /// All parts of the carrier.
-    pub parts: Members,
+    pub parts: AllParts,
     /// The program of each host.
     pub programs: Members,
     /// The services of each host.
@@ -84,11 +84,7 @@ pub(crate) struct Changes {
 fn changed_object(alloc: Global, before: &Members, now: &Members) -> Result<Vec<u8>, AllocError>
     ensures { IfOk result (λ text. text.items ≡ object (changed before.now now.now)) }
 {
-    let mut printer = Printer::new(Vec::new(alloc));
-    match now.print_changed(before, &mut printer) {
-        Ok(()) => Ok(printer.into_inner()),
-        Err(_) => Err(AllocError),
-    }
+    ended(now.add_changed(before, Vec::new(alloc))?)
 }
 
 /// Returns what is other than before.
@@ -96,7 +92,7 @@ pub(crate) fn changes_of(alloc: Global, before: &Texts, now: &Texts) -> Result<C
     ensures { IfOk result (λ c. AreChanged before.now now.now c) }
 {
     Ok(Changes {
-        parts: changed_object(alloc, &before.parts, &now.parts)?,
+        parts: now.parts.changed(alloc, &before.parts)?,
         programs: changed_object(alloc, &before.programs, &now.programs)?,
         services: changed_object(alloc, &before.services, &now.services)?,
     })
@@ -137,7 +133,7 @@ pub(crate) fn change<C: Inspect>(
     alloc: Global,
     world: &World<C>,
     host: &Option<HostAddr>,
-    parts: &Members,
+    parts: &AllParts,
     texts: &mut Texts,
 ) -> Result<Changes, AllocError>
     requires programs { AreOthers (at_host seat_place host.now) seat_member texts.old.programs world.now.seats }
@@ -147,7 +143,7 @@ pub(crate) fn change<C: Inspect>(
     ensures changes { IfOk result (λ c. AreChanged texts.old (record texts.new { parts = parts.now }) c) }
 {
     Ok(Changes {
-        parts: changed_object(alloc, &texts.parts, parts)?,
+        parts: parts.changed(alloc, &texts.parts)?,
         programs: change_at(alloc, host, world.seats(), &mut texts.programs)?,
         services: change_at(alloc, host, world.services(), &mut texts.services)?,
     })

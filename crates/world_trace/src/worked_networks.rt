@@ -31,10 +31,10 @@ pub fn worked_networks()
 /// What of a world is other than before.
 pub fn worked_unchanged()
     // what is kept isn't looked at
-    ensures kept { IsUnchanged (λ carrier. []) fresh (booked fresh) }
+    ensures kept { IsUnchanged (λ carrier. record { fixed = []; flows = [] }) fresh (booked fresh) }
 
     // a part of the carrier, a program, and a service are
-    ensures parts { ¬ (IsUnchanged (λ calls. (calls ∷ []) ∷ []) (after 3) (after 4)) }
-    ensures programs { ¬ (IsUnchanged (λ carrier. []) fresh down) }
-    ensures services { ¬ (IsUnchanged (λ carrier. []) fresh typing) }
+    ensures parts { ¬ (IsUnchanged (λ calls. record { fixed = (calls ∷ []) ∷ []; flows = [] }) (after 3) (after 4)) }
+    ensures programs { ¬ (IsUnchanged (λ carrier. record { fixed = []; flows = [] }) fresh down) }
+    ensures services { ¬ (IsUnchanged (λ carrier. record { fixed = []; flows = [] }) fresh typing) }
 {}

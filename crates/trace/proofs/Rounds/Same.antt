@@ -7,8 +7,8 @@ use Rattle.std.specs.Bool.{OnFalse, OnTrue}
 use Rattle.std.specs.Cmp.Lexicographic.{bytes_decides, pointwise}
 use Rattle.std.specs.List.{AllZip}
 use Rattle.trace.specs.Changes.{changed}
-use Rattle.trace.proofs.Changed.{none_changed}
-use Rattle.trace.proofs.Changing.{first, unless}
+use Rattle.trace.proofs.Changes.Changed.{none_changed}
+use Rattle.trace.proofs.Changes.Changing.{first, unless}
 
 none_here : (same : Bool) (n : List ℕ) (more : List (List ℕ)) → unless same n ++ more ≡ [] → (same ≡ true) × (more ≡ [])
 none_here true n more none = (refl, none)

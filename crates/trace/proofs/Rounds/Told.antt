@@ -19,8 +19,10 @@ use Rattle.trace.specs.Steps.{ElementEnds, EndsAs, EventEnds, IsAsBegun, RoundEn
 use Rattle.trace.specs.Traces.{EndsRound, GoesOnWith, Inside, IsStill, MayTell, StopsElement, TellsElement, TellsMoving}
 use Rattle.trace.specs.Traces.{TellsRound, TellsRounds, TellsStill, WritesTrace}
 use Rattle.trace.proofs.Rounds.Listed.{AllIn, Begins, one_more_in, round_begun, round_over}
-use Rattle.trace.proofs.Rounds.Same.{as_long, grew_or_not, same_or_not}
+use Rattle.trace.proofs.Changes.Deciding.{parts_or_not}
+use Rattle.trace.proofs.Rounds.Same.{as_long, grew_or_not}
 use Rattle.trace.proofs.Telling.{SoFar, all_told, ends_told, fails_told, one_more}
+use Rattle.trace.specs.declared.all_parts.AllParts.{AllParts}
 
 -- ---- a round that is still, or is not
 
@@ -41,7 +43,7 @@ pub still_or_moving : {C : Type 0} (calls : Calls C) (inside : Inside C) (spot :
     → IsStill calls inside old new ⊎ (IsStill calls inside old new → ⊥)
 still_or_moving calls inside spot old new round lines h =
     let (more, grown) = round_grown calls inside spot old new round lines h in
-    by (same_or_not (inside.members new) (inside.members old))
+    by (parts_or_not (inside.members new) (inside.members old))
     (grew_or_not more (calls.seen old).log (calls.seen new).log grown)
   where
     by : (inside.members new ≡ inside.members old) ⊎ (inside.members new ≡ inside.members old → ⊥)
@@ -53,7 +55,7 @@ still_or_moving calls inside spot old new round lines h =
 
 -- as it is found where it is over
 pub is_still : {C : Type 0} (calls : Calls C) (inside : Inside C) (spot : Spot) (old new : C) (round : List Element)
-    (lines parts : List (List ℕ)) (booked : ℕ) → TellsRound calls inside spot old round new lines
+    (lines : List (List ℕ)) (parts : AllParts) (booked : ℕ) → TellsRound calls inside spot old round new lines
     → IsAsBegun calls inside old parts booked → IsAsBegun calls inside new parts booked → IsStill calls inside old new
 is_still calls inside spot old new round lines parts booked h begun now =
     let (more, grown) = round_grown calls inside spot old new round lines h in
@@ -63,7 +65,7 @@ is_still calls inside spot old new round lines parts booked h begun now =
           as_long more (calls.seen old).log (calls.seen new).log grown (now.1 ∙ sym begun.1);
     }
 
-pub has_moved : {C : Type 0} (calls : Calls C) (inside : Inside C) (old new : C) (parts : List (List ℕ)) (booked : ℕ)
+pub has_moved : {C : Type 0} (calls : Calls C) (inside : Inside C) (old new : C) (parts : AllParts) (booked : ℕ)
     → IsAsBegun calls inside old parts booked → (IsAsBegun calls inside new parts booked → ⊥)
     → IsStill calls inside old new → ⊥
 has_moved calls inside old new parts booked begun moved still =
@@ -232,7 +234,7 @@ rounds_end calls inside left spot old mid new place next all a b c h (round, is,
 
 -- as it is found where a round is over
 pub still_told : {C P : Type 0} (calls : Calls C) (inside : Inside C) (left : C → P → List Element) (spot : Spot)
-    (old mid new : C) (place next : P) (all : List (List Element)) (parts : List (List ℕ)) (booked : ℕ)
+    (old mid new : C) (place next : P) (all : List (List Element)) (parts : AllParts) (booked : ℕ)
     (a b c : Option (List ℕ))
     → SoFar (TellsMoving calls inside spot) old all (by_round (left mid place)) mid a b
     → RoundEnds calls inside left spot mid place (Ok next) new b c → IsAsBegun calls inside mid parts booked
@@ -243,7 +245,7 @@ still_told calls inside left spot old mid new place next all parts booked a b c 
     (is_still calls inside spot mid new k.0 k.2.shown parts booked k.2.is_shown begun now)
 
 pub moving_told : {C P : Type 0} (calls : Calls C) (inside : Inside C) (left : C → P → List Element) (spot : Spot)
-    (old mid new : C) (place next : P) (all : List (List Element)) (parts : List (List ℕ)) (booked : ℕ)
+    (old mid new : C) (place next : P) (all : List (List Element)) (parts : AllParts) (booked : ℕ)
     (a b c : Option (List ℕ))
     → SoFar (TellsMoving calls inside spot) old all (by_round (left mid place)) mid a b
     → RoundEnds calls inside left spot mid place (Ok next) new b c → IsAsBegun calls inside mid parts booked

@@ -23,7 +23,7 @@ WorkedLinesOpening =
       } ∷ [];
       lines = record { a = 3; b = 1 } ∷ [];
     }) (codes "{}")
-    ≡ codes "{\"trace\":2,\"carrier\":\"subnet\",\"raw\":true,\"imps\":[[1,2],[3,0]],\"lines\":[[3,1]],\"parts\":{}}"
+    ≡ codes "{\"trace\":3,\"carrier\":\"subnet\",\"raw\":true,\"imps\":[[1,2],[3,0]],\"lines\":[[3,1]],\"parts\":{}}"
 
 abbrev pub WorkedLinesStart : Type 0
 WorkedLinesStart =

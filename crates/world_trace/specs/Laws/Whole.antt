@@ -10,6 +10,7 @@ use Rattle.world_script.specs.declared.event.WorldEvent.{WorldEvent}
 use Rattle.world_trace.specs.Lasting.{Lasts}
 use Rattle.world_trace.specs.Told.{AreNumbersTold, IsWorldTold}
 use Rattle.world_trace.specs.Traces.{TracesWorld}
+use Rattle.trace.specs.declared.all_parts.AllParts.{AllParts}
 
 -- so each event of a script leaves it, whatever comes of it
 abbrev pub WholeLasting : {C : Type 0} → Calls C → Type 0
@@ -24,5 +25,5 @@ WholeReached {C} calls =
 -- the world after a trace is one to which the replay of its script comes
 abbrev pub WholeTraced : {C : Type 0} → Calls C → Type 0
 WholeTraced {C} calls =
-    (members : C → List (List ℕ)) (c : C) (events : List (ℕ × WorldEvent)) (w : WorldState C) (lines : List (List ℕ)) → TracesWorld (shown calls) members (opening_world calls c) events w lines →
+    (members : C → AllParts) (c : C) (events : List (ℕ × WorldEvent)) (w : WorldState C) (lines : List (List ℕ)) → TracesWorld (shown calls) members (opening_world calls c) events w lines →
     (printed : List Shown) × Replays (shown calls) (opening_world calls c) (map (λ e. e.1) events) w printed

@@ -1,31 +1,41 @@
-use Rattle.subnet_trace.proofs.Common.{ℕ, List, subst, ◌∙◌, Appends, Flow, on_ok, flow_object, Remains}
-use Rattle.subnet_trace.proofs.Printing.{flow_printed, flows_left, flows_printed}
+use Rattle.subnet_trace.proofs.Common.{◌≡◌, ◌∙◌, ◌++◌, [], ℕ, List, ap, codes, map, rules, subst, sym, Appends, Appends-trans, Flow, mark}
+use Rattle.subnet_trace.specs.Printing.{known_part}
+use Rattle.trace.specs.Flows.{told}
+use Rattle.trace.specs.declared.flow_part.FlowPart.{FlowPart}
+use Rattle.subnet_trace.proofs.PrintedParts.{AreLeft, all_are_left, all_written, last_place, one_printed}
 use Rattle.subnet_trace.proofs.flows.print_flows.Goals as goal
+
+pub loop-flow-init : goal.loop-flow-init
+loop-flow-init g c =
+    let part = known_part c.args.side (g.V.Known.state c.args.imp.now) g.V.Known.number in
+    let all : List (List ℕ) = map told (map part c.args.flows) in
+    let same : c.into_iter-flow-iterator.result ≡ c.args.flows = search rules in (
+      c.requires,
+      subst (λ es. AreLeft (g.W.Output.contents c.args.writer.now) (g.W.Output.contents c.args.writer.now) c.args.place c.args.place (map told (map part es)) all) (sym same)
+          (all_are_left (g.W.Output.contents c.args.writer.now) c.args.place all),
+    )
 
 pub loop-flow-preserved : goal.loop-flow-preserved
 loop-flow-preserved g c =
-    let name : List ℕ = c.args.name.now in
-    let word = g.V.Known.word c.args.imp.now in
-    let number = g.V.Known.number in
-    let flow : Flow = c.in-Some.flow.now in
-    let known = c.in-Some.known.now in
-    let whole : List ℕ = flows_left name word number 0 c.args.flows in
-    let here = subst (λ es. Remains (g.W.Output.contents c.args.writer.now) (g.W.Output.contents c.loop-flow.writer) (flows_left name word number c.loop-flow.place es) whole) c.in-Some.ensures.steps c.loop-flow.invariant.1 in (
-      c.in_ok-print_known.ensures.failed,
-      flow_printed name word number c.loop-flow.place (flow, known) c.next.new.self whole (g.W.Output.contents c.args.writer.now) (g.W.Output.contents c.loop-flow.writer) (g.W.Output.contents c.write_all.new.self) (g.W.Output.contents c.print_known.new.writer) here
+    let part = known_part c.args.side (g.V.Known.state c.args.imp.now) g.V.Known.number in
+    let all : List (List ℕ) = map told (map part c.args.flows) in
+    let here : List ℕ = told (part (c.in-Some.flow.now, c.in-Some.known.now)) in
+    let left = subst (λ es. AreLeft (g.W.Output.contents c.args.writer.now) (g.W.Output.contents c.loop-flow.writer) c.loop-flow.place c.args.place (map told (map part es)) all) c.in-Some.ensures.steps c.loop-flow.invariant.1 in (
+      c.in_ok-print.ensures.failed,
+      one_printed (g.W.Output.contents c.args.writer.now) (g.W.Output.contents c.loop-flow.writer) (g.W.Output.contents c.print.new.writer) c.loop-flow.place c.args.place here (map told (map part c.next.new.self)) all left
+          (Appends-trans (g.W.Output.contents c.loop-flow.writer) (g.W.Output.contents c.write_all.new.self) (g.W.Output.contents c.print.new.writer) (mark (codes "{") (codes ",") c.loop-flow.place) here
           (subst (Appends (g.W.Output.contents c.loop-flow.writer) (g.W.Output.contents c.write_all.new.self)) (c.as_bytes.ensures.value ∙ c.mark.ensures) c.in_ok-write_all.ensures.written)
-          (subst (λ (n : ℕ). Appends (g.W.Output.contents c.write_all.new.self) (g.W.Output.contents c.print_known.new.writer) (flow_object name (word flow known) flow n)) c.number.ensures
-          (subst (λ (t : List ℕ). Appends (g.W.Output.contents c.write_all.new.self) (g.W.Output.contents c.print_known.new.writer) (flow_object name t flow c.number.result)) c.word.ensures c.in_ok-print_known.ensures.written)),
+          (subst (λ (p : FlowPart). Appends (g.W.Output.contents c.write_all.new.self) (g.W.Output.contents c.print.new.writer) (told p)) c.part_of.ensures c.in_ok-print.ensures.written)),
     )
 
 pub returns-clause-written : goal.returns-clause-written
 returns-clause-written g c =
-    let name : List ℕ = c.args.name.now in
-    let word = g.V.Known.word c.args.imp.now in
-    let number = g.V.Known.number in
-    let whole : List ℕ = flows_left name word number 0 c.args.flows in
-    let here = subst (λ es. Remains (g.W.Output.contents c.args.writer.now) (g.W.Output.contents c.loop-flow.writer) (flows_left name word number c.loop-flow.place es) whole) c.in-None.ensures.steps.0 c.loop-flow.invariant.1 in
-    on_ok c.write_all-2.result
-    (λ end. flows_printed name word number c.loop-flow.place c.args.flows (g.W.Output.contents c.args.writer.now) (g.W.Output.contents c.loop-flow.writer) (g.W.Output.contents c.write_all-2.new.self) here
-    (subst (Appends (g.W.Output.contents c.loop-flow.writer) (g.W.Output.contents c.write_all-2.new.self)) (c.as_bytes-2.ensures.value ∙ c.mark-2.ensures) end))
-    c.write_all-2.ensures.written
+    let part = known_part c.args.side (g.V.Known.state c.args.imp.now) g.V.Known.number in
+    all_written (g.W.Output.contents c.args.writer.now) (g.W.Output.contents c.loop-flow.writer) c.loop-flow.place c.args.place (map told (map part c.loop-flow.flow-iterator)) (map told (map part c.args.flows))
+    (ap (λ es. map told (map part es)) c.in-None.ensures.steps.0) c.loop-flow.invariant.1
+
+pub returns-clause-place : goal.returns-clause-place
+returns-clause-place g c =
+    let part = known_part c.args.side (g.V.Known.state c.args.imp.now) g.V.Known.number in
+    last_place (g.W.Output.contents c.args.writer.now) (g.W.Output.contents c.loop-flow.writer) c.loop-flow.place c.args.place (map told (map part c.loop-flow.flow-iterator)) (map told (map part c.args.flows))
+    (ap (λ es. map told (map part es)) c.in-None.ensures.steps.0) c.loop-flow.invariant.1

@@ -1,8 +1,12 @@
-use Rattle.subnet_trace.proofs.Common.{◌≡◌, false, Remains}
-use Rattle.subnet_trace.proofs.Printing.{flows_left}
+use Rattle.subnet_trace.proofs.Common.{◌≡◌, false, map}
+use Rattle.subnet_trace.specs.Printing.{known_part}
+use Rattle.trace.specs.Flows.{told}
+use Rattle.subnet_trace.proofs.PrintedParts.{AreLeft}
 use Rattle.subnet_trace.proofs.flows.print_flows.Given as goal
 
+-- the flows so far are printed
 abbrev pub invariant-loop-flow : goal.invariant-loop-flow
 invariant-loop-flow g l =
     (g.W.Output.failed l.writer ≡ false)
-    × Remains (g.W.Output.contents l.fn.writer) (g.W.Output.contents l.writer) (flows_left l.name (g.V.Known.word l.imp) g.V.Known.number l.place l.flow-iterator) (flows_left l.name (g.V.Known.word l.imp) g.V.Known.number 0 l.fn.flows)
+    × AreLeft (g.W.Output.contents l.fn.writer) (g.W.Output.contents l.writer) l.place l.fn.place (map told (map (known_part l.side (g.V.Known.state l.imp) g.V.Known.number) l.flow-iterator))
+    (map told (map (known_part l.side (g.V.Known.state l.imp) g.V.Known.number) l.fn.flows))

@@ -1,46 +1,27 @@
-use Rattle.subnet_trace.proofs.Common.{◌≡◌, ◌<◌, ◌+◌, ℕ, ap, arith, codes, length, subst, sym, ◌∙◌, get_or_read, Appends, Appends-trans, on_ok, Net, no_wire, wire_at, Line, all_parts, part_name, parts_text, named, line_text, Remains, mark, member}
-use Rattle.subnet_trace.proofs.PrintedParts.{imp_printed, imps_done, rest_printed, whole_begins, whole_left, whole_printed}
+use Rattle.subnet_trace.proofs.Common.{◌≤◌, arith, length, subst, ◌∙◌, Appends, on_ok, Net}
+use Rattle.subnet_trace.proofs.PrintedParts.{flows_begin, flows_printed, whole_printed}
 use Rattle.subnet_trace.proofs.parts.print_whole.Goals as goal
 
 pub loop-imp-init : goal.loop-imp-init
-loop-imp-init g c = (c.imp_places-imp-end.ensures, c.requires, whole_begins c.args.subnet.now.net (g.W.Output.contents c.args.writer.now))
+loop-imp-init g c = (
+  c.imp_places-imp-end.ensures,
+  c.in_ok-place.ensures.failed,
+  flows_begin c.args.subnet.now.net c.in_ok-place.place (g.W.Output.contents c.args.writer.now) (g.W.Output.contents c.print_fixed.new.writer) c.in_ok-place.ensures.written c.in_ok-place.ensures.place,
+)
 
 pub loop-imp-preserved : goal.loop-imp-preserved
-loop-imp-preserved g c =
-    let n : Net = c.args.subnet.now.net in
-    let i : ℕ = c.loop-imp.imp in (
-      c.loop-imp.invariant.0,
-      c.in_ok-place.ensures.failed,
-      subst (λ (place : ℕ). Remains (g.W.Output.contents c.args.writer.now) (g.W.Output.contents c.print_imp_of.new.writer) (whole_left n place (i + 1)) (parts_text n (all_parts n))) (sym c.in_ok-place.ensures.place)
-          (imp_printed n i c.loop-imp.place (parts_text n (all_parts n)) (g.W.Output.contents c.args.writer.now) (g.W.Output.contents c.loop-imp.writer) (g.W.Output.contents c.print_imp_of.new.writer) (omega (arith, c.loop-imp-test.true, c.loop-imp.invariant.0)) c.loop-imp.invariant.2 c.in_ok-place.ensures.written),
-    )
-
-pub loop-number-init : goal.loop-number-init
-loop-number-init g c =
-    let n : Net = c.args.subnet.now.net in (
-      ap length c.lines-lines.ensures,
-      c.loop-imp.invariant.1,
-      imps_done n c.loop-imp.imp c.loop-imp.place (parts_text n (all_parts n)) (g.W.Output.contents c.args.writer.now) (g.W.Output.contents c.loop-imp.writer) (omega (arith, c.loop-imp-test.false, c.loop-imp.invariant.0)) c.loop-imp.invariant.2,
-    )
-
-pub loop-number-preserved : goal.loop-number-preserved
-loop-number-preserved g c =
-    let n : Net = c.args.subnet.now.net in
-    let l : ℕ = c.loop-number.number in
-    let wire : c.index-lines-number.result ≡ wire_at n.lines l = get_or_read c.lines-lines.result.now l c.index-lines-number.result c.loop-number-test.true c.index-lines-number.is no_wire ∙ ap (λ ws. wire_at ws l) c.lines-lines.ensures in
-    let within : l < length n.lines = omega (arith, c.loop-number-test.true, c.loop-number.invariant.0) in (
-      c.loop-number.invariant.0,
-      c.in_ok-print_named_line.ensures.failed,
-      rest_printed n l c.loop-number.place (parts_text n (all_parts n)) (g.W.Output.contents c.args.writer.now) (g.W.Output.contents c.loop-number.writer) (g.W.Output.contents c.print_named_line.new.writer) within c.loop-number.invariant.2
-          (Appends-trans (g.W.Output.contents c.loop-number.writer) (g.W.Output.contents c.write_all.new.self) (g.W.Output.contents c.print_named_line.new.writer) (mark (codes "{") (codes ",") c.loop-number.place) (named n (Line l))
-          (subst (Appends (g.W.Output.contents c.loop-number.writer) (g.W.Output.contents c.write_all.new.self)) (c.as_bytes.ensures.value ∙ c.mark.ensures) c.in_ok-write_all.ensures.written)
-          (subst (λ w. Appends (g.W.Output.contents c.write_all.new.self) (g.W.Output.contents c.print_named_line.new.writer) (member (part_name (Line l)) (line_text w))) wire c.in_ok-print_named_line.ensures.written)),
-    )
+loop-imp-preserved g c = (
+  c.loop-imp.invariant.0,
+  c.in_ok-place-2.ensures.failed,
+  flows_printed c.args.subnet.now.net c.loop-imp.imp c.loop-imp.place c.in_ok-place-2.place (g.W.Output.contents c.args.writer.now) (g.W.Output.contents c.loop-imp.writer) (g.W.Output.contents c.print_flows_of.new.writer)
+      (omega (arith, c.loop-imp-test.true, c.loop-imp.invariant.0)) c.loop-imp.invariant.2 c.in_ok-place-2.ensures.written c.in_ok-place-2.ensures.place,
+)
 
 pub returns-clause-written : goal.returns-clause-written
 returns-clause-written g c =
     let n : Net = c.args.subnet.now.net in
-    on_ok c.write_all-2.result
-    (λ end. whole_printed n c.loop-number.number c.loop-number.place (parts_text n (all_parts n)) (g.W.Output.contents c.args.writer.now) (g.W.Output.contents c.loop-number.writer) (g.W.Output.contents c.write_all-2.new.self) (omega (arith, c.loop-number-test.false, c.loop-number.invariant.0)) c.loop-number.invariant.2
-    (subst (Appends (g.W.Output.contents c.loop-number.writer) (g.W.Output.contents c.write_all-2.new.self)) (c.as_bytes-2.ensures.value ∙ c.mark-2.ensures) end))
-    c.write_all-2.ensures.written
+    let past : length n.imps ≤ c.loop-imp.imp = omega (arith, c.loop-imp-test.false, c.loop-imp.invariant.0) in
+    on_ok c.write_all.result
+    (λ end. whole_printed n c.loop-imp.imp c.loop-imp.place (g.W.Output.contents c.args.writer.now) (g.W.Output.contents c.loop-imp.writer) (g.W.Output.contents c.write_all.new.self) past c.loop-imp.invariant.2
+    (subst (Appends (g.W.Output.contents c.loop-imp.writer) (g.W.Output.contents c.write_all.new.self)) (c.as_bytes.ensures.value ∙ c.mark.ensures) end))
+    c.write_all.ensures.written

@@ -14,7 +14,7 @@ pub returns-clause-other_line : goal.returns-clause-other_line
 returns-clause-other_line c same = let frames : (ack_frame ∷ []) ≡ [] = ap (λ (w : Wire). w.forward) same in absurd (cc)
 
 pub returns-clause-other_text : goal.returns-clause-other_text
-returns-clause-other_text c same = let long = ap length (same (Line 0) refl) in absurd (omega (arith, long))
+returns-clause-other_text c same = let long = ap length (same.parts (Line 0) refl) in absurd (omega (arith, long))
 
 pub returns-clause-other_hosts : goal.returns-clause-other_hosts
 returns-clause-other_hosts c same = let long = ap length same.hosts in absurd (omega (arith, long))

@@ -1,21 +1,16 @@
-use Rattle.subnet_trace.proofs.Common.{◌≡◌, List, [], ◌∷◌, length, refl, sym, ◌∙◌, arith, flow_cmp, Noted, Standing}
-use Rattle.std.specs.FinMap as fin
+use Rattle.subnet_trace.proofs.Common.{refl}
 use Rattle.routing.specs.RouteTable.{distance_to, next_of, vector_of}
 use Rattle.std.specs.Fmt.{digits}
 use Rattle.hex.specs.Hex.{encode_with}
 use Rattle.bit_messages.specs.Octets.{octets_of}
 use Rattle.subnet_trace.proofs.worked.worked_parts.Goals as goal
 
-none_long : {X : Type 0} (xs : List X) → length xs ≡ 0 → xs ≡ []
-none_long [] e = refl
-none_long (x ∷ xs) e = absurd (omega (arith, e))
-
-no_entries : (X : Type 0) → fin.entries (fin.empty {X = X} {R = flow_cmp}) ≡ []
-no_entries X = none_long (fin.entries (fin.empty {X = X} {R = flow_cmp})) (sym (fin.len-entries (fin.empty {X = X} {R = flow_cmp})) ∙ fin.len-empty flow_cmp X)
-
 pub returns-clause-source : goal.returns-clause-source
 unfolding digits encode_with octets_of
 returns-clause-source c = refl
+
+pub returns-clause-none_known : goal.returns-clause-none_known
+returns-clause-none_known c = (refl, refl)
 
 pub returns-clause-kept : goal.returns-clause-kept
 unfolding digits encode_with octets_of
@@ -39,7 +34,7 @@ returns-clause-nothing_heard c = refl
 
 pub returns-clause-imp : goal.returns-clause-imp
 unfolding digits encode_with octets_of vector_of distance_to next_of
-returns-clause-imp c = rw (no_entries Standing, no_entries Noted) refl
+returns-clause-imp c = refl
 
 pub returns-clause-next : goal.returns-clause-next
 unfolding digits next_of distance_to

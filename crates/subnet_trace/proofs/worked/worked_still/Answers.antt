@@ -8,7 +8,7 @@ use Rattle.subnet_trace.specs.Elements.{calm_of}
 use Rattle.subnet_trace.specs.Worked.{lonely, tells}
 use Rattle.subnet_trace.proofs.Rest.{Left, left_of}
 use Rattle.std.proofs.lemmas.List.{append-nil}
-use Rattle.trace.proofs.lemmas.{Opened, none_changed, opened_rounds}
+use Rattle.trace.proofs.lemmas.{Opened, no_part_changed, opened_rounds}
 use Rattle.trace.specs.Elements.{by_round}
 use Rattle.trace.specs.Texts.{trace_line}
 use Rattle.trace.specs.Traces.{IsStill, TellsElement, TellsEvent, TellsRounds, change_text}
@@ -41,7 +41,7 @@ happens = record {
 }
 
 unchanged : change_text subnet_inside (running lonely) (running lonely) ≡ codes "{}"
-unchanged = ap object (none_changed (subnet_inside.members (running lonely)))
+unchanged = ap object (no_part_changed (subnet_inside.members (running lonely)))
 
 once : (spot : Spot)
     → TellsEvent subnet_calls subnet_inside (running lonely) (spot, event.Calm 2) (running lonely)

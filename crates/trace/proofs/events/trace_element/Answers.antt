@@ -6,10 +6,11 @@ use Rattle.replay.proofs.lemmas.{gained}
 use Rattle.replay.specs.Output.{shown_crossings, shown_refusal}
 use Rattle.replay.specs.declared.events.ReplayFault.TheVariants as fault
 use Rattle.script.specs.Input.{ended_line}
-use Rattle.trace.specs.Changes.{changed}
+use Rattle.trace.specs.Changes.{changed_parts}
 use Rattle.trace.specs.Steps.{ElementEnds}
 use Rattle.trace.specs.Texts.{object, trace_line}
 use Rattle.trace.specs.Traces.{Inside, change_text}
+use Rattle.trace.specs.declared.all_parts.AllParts.{AllParts}
 use Rattle.trace.specs.declared.element.Element.{Element}
 use Rattle.trace.specs.declared.fate.Fate.{Fate}
 use Rattle.trace.proofs.Calling.{may_do, stops, tells}
@@ -22,7 +23,7 @@ returns-clause-ends g c =
     let x : Element = record { round = c.args.round; event = c.args.event.now } in
     let crossings : List Crossing = drop (length c.log-booked.result.now) c.log.result.now in
     let changes : c.deref.result.now ≡ change_text inside c.args.carrier.now c.call.new.carrier =
-    c.deref.ensures.value ∙ c.in_ok-texts-2.ensures.changed ∙ ap (λ (ps : List (List ℕ)). object (changed ps (inside.members c.call.new.carrier))) c.in_ok-texts.ensures in
+    c.deref.ensures.value ∙ c.in_ok-texts-2.ensures.changed ∙ ap (λ (ps : AllParts). object (changed_parts ps (inside.members c.call.new.carrier))) c.in_ok-texts.ensures in
     tells calls inside c.args.spot c.args.carrier.now c.call.new.carrier x c.in_ok-outcome.outcome c.log-booked.result.now c.log.result.now c.deref.result.now (g.W.Output.contents c.args.writer.now) (g.W.Output.contents c.print_line.new.writer)
     c.in_ok-outcome.ensures.called c.if-has_halted.ensures.goes_on c.log-booked.ensures.value c.log.ensures.value changes
     (subst (λ (f : Option Fate). Appends (g.W.Output.contents c.args.writer.now) (g.W.Output.contents c.print_line.new.writer) (ended_line (trace_line c.args.spot x f (shown_crossings crossings ++ shown_refusal c.in_ok-outcome.outcome) c.deref.result.now))) c.fate-fate.ensures

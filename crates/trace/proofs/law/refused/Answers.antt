@@ -1,4 +1,4 @@
-use Rattle.trace.proofs.Reached.{refused_parts}
+use Rattle.trace.proofs.Changes.Reached.{refused_parts}
 use Rattle.trace.proofs.law.refused.Goals as goal
 
 pub returns : goal.returns

@@ -6,8 +6,9 @@ use Rattle.trace.specs.Joined.{mark}
 use Rattle.trace.specs.Parts.{Down}
 use Rattle.trace.specs.Steps.{OnlyReached}
 use Rattle.trace.specs.Texts.{all_members, member, object, part_name, part_text}
-use Rattle.trace.proofs.Putting.{AllPut, all_put}
-use Rattle.trace.proofs.Reached.{begin_put, host_put, waiting_left, waiting_none}
+use Rattle.trace.proofs.Changes.Extending.{ended_object}
+use Rattle.trace.proofs.Changes.Putting.{AllPut, all_put}
+use Rattle.trace.proofs.Changes.Reached.{begin_put, host_put, waiting_left, waiting_none}
 use Rattle.trace.proofs.parts.change.Goals as goal
 
 pub loop-index-init : goal.loop-index-init
@@ -48,4 +49,4 @@ returns-clause-changed c =
     all_put c.args.known.now (all_members c.args.boxes.now) (i + 1) c.loop-index.known c.loop-index.text.items (waiting_left r.old c.hosts-hosts.result.now i) (waiting_left c.args.boxes.now c.hosts-hosts.result.now i)
     (waiting_none r.old c.hosts-hosts.result.now i past) (waiting_none c.args.boxes.now c.hosts-hosts.result.now i past) c.loop-index.invariant.1 in
     IfOk-weaker c.ended.result (λ text. text.items ≡ c.loop-index.text.items ++ mark (codes "{}") (codes "}") (length c.loop-index.text.items)) (λ text. text.items ≡ object (changed c.args.known.now (all_members c.args.boxes.now)))
-    (λ text ends. ends ∙ all.written) c.ended.ensures
+    (λ text ends. ends ∙ ended_object c.loop-index.text.items (changed c.args.known.now (all_members c.args.boxes.now)) all.written) c.ended.ensures

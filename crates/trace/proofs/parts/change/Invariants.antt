@@ -1,8 +1,8 @@
 use Rattle.std.proofs.Common.{◌+◌}
 use Rattle.trace.specs.Steps.{OnlyReached}
 use Rattle.trace.specs.Texts.{all_members}
-use Rattle.trace.proofs.Putting.{PutSoFar}
-use Rattle.trace.proofs.Reached.{waiting_left}
+use Rattle.trace.proofs.Changes.Putting.{PutSoFar}
+use Rattle.trace.proofs.Changes.Reached.{waiting_left}
 use Rattle.trace.proofs.parts.change.Given as goal
 
 -- the hosts that are down and what waits for the hosts so far is put in its place

@@ -11,7 +11,7 @@ first_length (x ∷ xs) = length x
 
 pub returns-clause-changes : goal.returns-clause-changes
 unfolding digits
-returns-clause-changes c = λ still. let long : 14 ≡ 9 = ap first_length still.parts in omega (arith, long)
+returns-clause-changes c = λ still. let long : 14 ≡ 9 = ap (λ p. first_length p.fixed) still.parts in omega (arith, long)
 
 pub returns-clause-crosses : goal.returns-clause-crosses
 returns-clause-crosses c = λ still. let long : 1 ≡ 0 = ap length still.log in omega (arith, long)

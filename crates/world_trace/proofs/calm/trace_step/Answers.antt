@@ -1,10 +1,11 @@
 use Rattle.world_trace.proofs.Common.{◌≡◌, ◌<◌, ◌≤◌, ◌⊎◌, ◌∙◌, [], inl, inr, Err, List, Option, length, ℕ, ap, ap₂, arith, map, rules, subst, sym, Host, shown, WorldState, Event, Calls, AreOthers, AreTextsOf, StepEnds, at_host, event_of, seat_place, service_place, event_text, seat_member, services_member, StopsOne, Texts}
 use Rattle.replay.specs.declared.events.ReplayFault.TheVariants as fault
-use Rattle.trace.specs.Changes.{changed}
+use Rattle.trace.specs.Changes.{changed_parts}
 use Rattle.world_script.specs.declared.event.WorldEvent.TheVariants as world
 use Rattle.world_trace.proofs.Stays.{others_by, quiet_by}
 use Rattle.world_trace.proofs.Telling.{changes_are, is_changed, none_changed_by, no_line, step_heard, step_may, step_quiet, step_still, texts_quiet, texts_still}
 use Rattle.world_trace.proofs.calm.trace_step.Goals as goal
+use Rattle.trace.specs.declared.all_parts.AllParts.{AllParts}
 use Rattle.world_trace.proofs.calm.trace_step.Goals.{else-not-moved-2-via-then-not-moved-2+else-not-other, else-not-moved-2-via-else-not-moved-2}
 
 -- nothing crossed, and it is known that nothing changes then
@@ -27,19 +28,19 @@ returns-then-not-moved-clause-known g c =
 pub returns-then-not-other-clause-ends : goal.returns-then-not-other-clause-ends
 returns-then-not-other-clause-ends g c =
     let own : Calls g.row.C.Denot = g.C.Carrier.calls in
-    let members : g.row.C.Denot → List (List ℕ) = g.C.Inspect.inside.members in
+    let members : g.row.C.Denot → AllParts = g.C.Inspect.inside.members in
     let w : WorldState g.row.C.Denot = c.happen_in_calm.new.world in
     let few : length w.kept.book.crossings ≤ length c.args.world.now.kept.book.crossings = omega (arith, c.count_crossings-crossed.ensures, c.count_crossings.ensures, c.if-not-moved-2.true) in
     let parts : c.in_ok-parts.parts ≡ members w.carrier = c.in_ok-parts.ensures ∙ ap members c.carrier.ensures in
-    let none : changed (members c.args.world.now.carrier) (members w.carrier) ≡ [] =
-    sym (ap₂ changed c.requires.known.parts parts) ∙ none_changed_by c.have_changed-other.result (changed c.args.texts.now.parts c.in_ok-parts.parts) c.have_changed-other.ensures c.if-not-other.true in
+    let none : changed_parts (members c.args.world.now.carrier) (members w.carrier) ≡ [] =
+    sym (ap₂ changed_parts c.requires.known.parts parts) ∙ none_changed_by c.have_changed-other.result (changed_parts c.args.texts.now.parts c.in_ok-parts.parts) c.have_changed-other.ensures c.if-not-other.true in
     step_quiet own members c.args.spot c.args.round c.args.world.now w (event_of c.args.event) c.in_ok-printed.printed.items (g.W.Output.contents c.args.writer.now) c.in_ok-printed.ensures.shown
     (λ lines happens. quiet_by own c.args.event c.args.world.now w lines happens few) none
 
 pub returns-then-not-other-clause-known : goal.returns-then-not-other-clause-known
 returns-then-not-other-clause-known g c =
     let own : Calls g.row.C.Denot = g.C.Carrier.calls in
-    let members : g.row.C.Denot → List (List ℕ) = g.C.Inspect.inside.members in
+    let members : g.row.C.Denot → AllParts = g.C.Inspect.inside.members in
     let w : WorldState g.row.C.Denot = c.happen_in_calm.new.world in
     let few : length w.kept.book.crossings ≤ length c.args.world.now.kept.book.crossings = omega (arith, c.count_crossings-crossed.ensures, c.count_crossings.ensures, c.if-not-moved-2.true) in
     let rest = texts_quiet own members c.args.world.now w (event_of c.args.event) c.in_ok-printed.printed.items c.args.texts.now c.in_ok-printed.ensures.shown (λ lines happens. quiet_by own c.args.event c.args.world.now w lines happens few) c.requires.known in
@@ -77,6 +78,18 @@ returns-in_err-spelled-clause-ends g c =
     (no_line (StopsOne calls c.args.world.now (event_of c.args.event) c.happen_in_calm.new.world) (g.W.Output.contents c.args.writer.now)
     (inr (step_may calls c.args.world.now c.happen_in_calm.new.world (event_of c.args.event) c.in_ok-printed.printed.items c.in_ok-printed.ensures.shown)))
 
+pub returns-in_err-changes-clause-ends : goal.returns-in_err-changes-clause-ends
+returns-in_err-changes-clause-ends g c =
+    let calls : Calls g.row.C.Denot = shown g.C.Carrier.calls in
+    let same : c.from_residual-in_err-changes.result ≡ Err fault.OutOfMemory = search rules in
+    let new : WorldState g.row.C.Denot = c.happen_in_calm.new.world in
+    subst
+    (λ r. StepEnds calls g.C.Inspect.inside.members c.args.spot c.args.round c.args.world.now (event_of c.args.event) r
+    new (g.W.Output.contents c.args.writer.now) (g.W.Output.contents c.args.writer.now)) (sym same)
+    (no_line (StopsOne calls c.args.world.now (event_of c.args.event) new) (g.W.Output.contents c.args.writer.now)
+    (inr (step_may calls c.args.world.now new (event_of c.args.event) c.in_ok-printed.printed.items
+    c.in_ok-printed.ensures.shown)))
+
 pub returns-in_err-print_line-clause-ends : goal.returns-in_err-print_line-clause-ends
 returns-in_err-print_line-clause-ends g c =
     let calls : Calls g.row.C.Denot = shown g.C.Carrier.calls in
@@ -87,15 +100,15 @@ returns-in_err-print_line-clause-ends g c =
 pub returns-clause-ends : goal.returns-clause-ends
 returns-clause-ends g c =
     let calls : Calls g.row.C.Denot = shown g.C.Carrier.calls in
-    let members : g.row.C.Denot → List (List ℕ) = g.C.Inspect.inside.members in
+    let members : g.row.C.Denot → AllParts = g.C.Inspect.inside.members in
     let old : WorldState g.row.C.Denot = c.args.world.now in
     let w : WorldState g.row.C.Denot = c.happen_in_calm.new.world in
     let parts : c.in_ok-parts.parts ≡ members w.carrier = c.in_ok-parts.ensures ∙ ap members c.carrier.ensures in
     let texts : Texts = record c.change.new.texts { parts = c.in_ok-parts.parts } in
     let state : AreTextsOf members w texts = record { parts = parts; programs = c.in_ok-changes.ensures.programs; services = c.in_ok-changes.ensures.services } in
-    let some : (length old.kept.book.crossings < length w.kept.book.crossings) ⊎ (changed (members old.carrier) (members w.carrier) ≡ [] → ⊥) =
+    let some : (length old.kept.book.crossings < length w.kept.book.crossings) ⊎ (changed_parts (members old.carrier) (members w.carrier) ≡ [] → ⊥) =
     elim c.else-not-moved-2.branch [
-      | else-not-moved-2-via-then-not-moved-2+else-not-other b ↦ inr (λ none. is_changed c.have_changed-other.result (changed c.args.texts.now.parts c.in_ok-parts.parts) c.have_changed-other.ensures b.if-not-other.false (ap₂ changed c.requires.known.parts parts ∙ none))
+      | else-not-moved-2-via-then-not-moved-2+else-not-other b ↦ inr (λ none. is_changed c.have_changed-other.result (changed_parts c.args.texts.now.parts c.in_ok-parts.parts) c.have_changed-other.ensures b.if-not-other.false (ap₂ changed_parts c.requires.known.parts parts ∙ none))
       | else-not-moved-2-via-else-not-moved-2 b ↦ inl (omega (arith, c.count_crossings-crossed.ensures, c.count_crossings.ensures, b.if-not-moved-2.false))
     ] in
     let changes = c.in_ok-changes.changes in

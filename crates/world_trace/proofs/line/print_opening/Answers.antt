@@ -1,6 +1,7 @@
 use Rattle.world_trace.proofs.Common.{map, on_ok, array, bool_text, object, seat_member, services_member}
 use Rattle.trace.specs.Texts.{carrier_word, ends_text, site_text}
 use Rattle.world_trace.proofs.Lines.{first_printed}
+use Rattle.trace.specs.Changes.{members_of}
 use Rattle.world_trace.proofs.line.print_opening.Goals as goal
 
 pub returns-clause-written : goal.returns-clause-written
@@ -8,6 +9,6 @@ returns-clause-written g c =
     let w = c.args.world.now in
     let t = c.args.network.now in
     on_ok c.print_state.result
-    (λ end. first_printed (carrier_word t.carrier) (bool_text t.raw) (array (map site_text t.imps)) (array (map ends_text t.lines)) (object (g.C.Inspect.inside.members w.carrier)) (object (map seat_member w.seats)) (object (map services_member w.services))
+    (λ end. first_printed (carrier_word t.carrier) (bool_text t.raw) (array (map site_text t.imps)) (array (map ends_text t.lines)) (object (members_of (g.C.Inspect.inside.members w.carrier))) (object (map seat_member w.seats)) (object (map services_member w.services))
     (g.W.Output.contents c.args.writer.now) (g.W.Output.contents c.print_network.new.writer) (g.W.Output.contents c.print_state.new.writer) c.in_ok-print_network.ensures.written end)
     c.print_state.ensures.written

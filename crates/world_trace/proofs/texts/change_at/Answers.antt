@@ -2,6 +2,7 @@ use Rattle.world_trace.proofs.Common.{◌≡◌, ◌++◌, ◌≤◌, ◌∙◌,
 use Rattle.std.proofs.lemmas.Result.{IfOk-weaker}
 use Rattle.trace.specs.Changes.{changed}
 use Rattle.trace.specs.Joined.{mark}
+use Rattle.trace.proofs.lemmas.{ended_object}
 use Rattle.world_trace.proofs.Changing.{all_changed, next_changed, none_changed_yet, within}
 use Rattle.world_trace.proofs.texts.change_at.Goals as goal
 
@@ -33,4 +34,4 @@ returns-clause-changed g c =
     let past : length c.args.items.now ≤ l.place = omega (arith, c.loop-place-test.false) in
     let now = map g.T.Json.text c.args.items.now in
     let all : AllPut c.args.known.now now l.known l.text.items = all_changed (at_host g.T.Placed.place c.args.host.now) g.T.Json.text c.args.known.now c.args.items.now l.place l.known l.text.items past l.invariant in
-    IfOk-weaker c.ended.result (λ text. text.items ≡ l.text.items ++ mark (codes "{}") (codes "}") (length l.text.items)) (λ text. text.items ≡ object (changed c.args.known.now now)) (λ text ends. ends ∙ all.written) c.ended.ensures
+    IfOk-weaker c.ended.result (λ text. text.items ≡ l.text.items ++ mark (codes "{}") (codes "}") (length l.text.items)) (λ text. text.items ≡ object (changed c.args.known.now now)) (λ text ends. ends ∙ ended_object l.text.items (changed c.args.known.now now) all.written) c.ended.ensures

@@ -1,10 +1,13 @@
-use Rattle.subnet_trace.proofs.Common.{◌≡◌, ◌∙◌, ◌++◌, List, ℕ, codes, length, rules, subst, sym, IfOk-weaker, Kept, subnet_calls, all_parts, parts_members, OnlyIn, scope_of, changed, mark, object, HasHappened}
+use Rattle.subnet_trace.proofs.Common.{◌≡◌, ◌∙◌, ◌++◌, List, ℕ, codes, length, rules, subst, sym, IfOk-weaker, Kept, subnet_calls, OnlyIn, scope_of, mark, object, HasHappened}
+use Rattle.subnet_trace.specs.Parts.{parts_of_net}
+use Rattle.trace.specs.Changes.{changed_parts}
+use Rattle.trace.specs.declared.all_parts.AllParts.{AllParts}
 use Rattle.subnet_trace.proofs.Scopes.{only_in, refused_texts}
 use Rattle.subnet_trace.proofs.traced.TracedSubnetInspect.change.Goals as goal
-use Rattle.trace.proofs.lemmas.{none_more}
+use Rattle.trace.proofs.lemmas.{none_changed_now}
 
-abbrev members_of : Kept → List (List ℕ)
-members_of k = parts_members k.net (all_parts k.net)
+abbrev parts_kept : Kept → AllParts
+parts_kept k = parts_of_net k.net
 
 pub change-requires-clause-inside : goal.change-requires-clause-inside
 change-requires-clause-inside c =
@@ -13,16 +16,16 @@ change-requires-clause-inside c =
 
 pub returns-in-Err-clause-known : goal.returns-in-Err-clause-known
 returns-in-Err-clause-known c =
-    let same : c.args.known.now ≡ members_of c.args.self.now =
+    let same : c.args.known.now ≡ parts_kept c.args.self.now =
     refused_texts c.args.known.now c.args.event.now c.args._crossings.now c.in-Err.field-0 c.args.self.now
-    (subst (λ r. HasHappened subnet_calls members_of c.args.known.now c.args.event.now c.args._crossings.now r c.args.self.now) c.in-Err.is c.requires.happened) in
+    (subst (λ r. HasHappened subnet_calls parts_kept c.args.known.now c.args.event.now c.args._crossings.now r c.args.self.now) c.in-Err.is c.requires.happened) in
     search (rules, same)
 
 pub returns-in-Err-clause-changed : goal.returns-in-Err-clause-changed
 returns-in-Err-clause-changed c =
-    let same : c.args.known.now ≡ members_of c.args.self.now =
+    let same : c.args.known.now ≡ parts_kept c.args.self.now =
     refused_texts c.args.known.now c.args.event.now c.args._crossings.now c.in-Err.field-0 c.args.self.now
-    (subst (λ r. HasHappened subnet_calls members_of c.args.known.now c.args.event.now c.args._crossings.now r c.args.self.now) c.in-Err.is c.requires.happened) in
+    (subst (λ r. HasHappened subnet_calls parts_kept c.args.known.now c.args.event.now c.args._crossings.now r c.args.self.now) c.in-Err.is c.requires.happened) in
     let room : List ℕ = c.args.room.items in
-    IfOk-weaker c.ended.result (λ text. text.items ≡ room ++ mark (codes "{}") (codes "}") (length room)) (λ text. text.items ≡ object (changed c.args.known.now (members_of c.args.self.now)))
-    (λ text ends. ends ∙ none_more c.args.known.now (members_of c.args.self.now) room c.requires.empty same) c.ended.ensures
+    IfOk-weaker c.ended.result (λ text. text.items ≡ room ++ mark (codes "{}") (codes "}") (length room)) (λ text. text.items ≡ object (changed_parts c.args.known.now (parts_kept c.args.self.now)))
+    (λ text ends. ends ∙ none_changed_now c.args.known.now (parts_kept c.args.self.now) room c.requires.empty same) c.ended.ensures

@@ -1,6 +1,6 @@
 use Rattle.std.proofs.Common.{◌≡◌, ◌∙◌, ◌<◌, [], arith, length, sym}
 use Rattle.std.specs.Prelude.{slice_index_or}
-use Rattle.trace.proofs.Changing.{next_same, some_changed, text_there}
+use Rattle.trace.proofs.Changes.Changing.{next_same, some_changed, text_there}
 use Rattle.trace.proofs.members.Members.have_changed.Goals as goal
 
 pub returns-then-not-is_at : goal.returns-then-not-is_at

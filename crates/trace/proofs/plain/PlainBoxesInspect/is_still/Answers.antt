@@ -1,4 +1,4 @@
-use Rattle.trace.proofs.Reached.{none_keeps}
+use Rattle.trace.proofs.Changes.Reached.{none_keeps}
 use Rattle.trace.proofs.plain.PlainBoxesInspect.is_still.Goals as goal
 
 pub returns : goal.returns

@@ -1,4 +1,4 @@
-use Rattle.trace.proofs.Reached.{offer_keeps, take_keeps}
+use Rattle.trace.proofs.Changes.Reached.{offer_keeps, take_keeps}
 use Rattle.trace.proofs.plain.PlainBoxesInspect.keeps.Goals as goal
 
 pub returns-clause-offered : goal.returns-clause-offered

@@ -1,0 +1,11 @@
+-- Which parts have changed, and how they are put in the place of those before.
+pub mod Changed
+pub mod Changing
+pub mod Extending
+pub mod Putting
+pub mod FlowTexts
+pub mod Flowing
+pub mod FlowLaws
+pub mod Deciding
+pub mod SameLists
+pub mod Reached

@@ -1,0 +1,245 @@
+-- Lists of flows are compared with those before, flow by flow.
+use Rattle.std.proofs.Common.{◌≡◌, ℕ, zero, suc, ◌<◌, ◌≤◌, ◌+◌, ◌==◌, ◌&&◌, ◌||◌, Bool, true, false, not, nat_lt, List}
+use Rattle.std.proofs.Common.{[], ◌∷◌, ◌++◌, codes, drop, filter, get_or, if◌then◌else◌, length, map, arith, refl, sym}
+use Rattle.std.proofs.Common.{ap, ap₂, ◌∙◌}
+use Rattle.std.proofs.lemmas.Bool.{eq-eqb}
+use Rattle.std.proofs.lemmas.Bool.Decides.{nat_tests}
+use Rattle.std.proofs.lemmas.List.{append_assoc, append-nil, drop_all, drop_more, length-append}
+use Rattle.std.specs.Prelude.{slice_index_or}
+use Rattle.std.specs.List.{list_any}
+use Rattle.interface.proofs.lemmas.{same_flow-refl}
+use Rattle.trace.specs.Changes.{changed, changed_flows, changed_lists, changed_parts}
+use Rattle.trace.specs.Flows.{gone, same_flow_part, same_name, same_side, same_state, told}
+use Rattle.trace.specs.Joined.{extended, mark}
+use Rattle.trace.specs.Texts.{object}
+use Rattle.trace.specs.declared.all_parts.AllParts.{AllParts}
+use Rattle.trace.specs.declared.flow_part.FlowPart.{FlowPart}
+use Rattle.trace.specs.declared.flow_part.FlowState.{FlowState}
+use Rattle.trace.specs.declared.flow_part.FlowState.TheVariants as state
+use Rattle.trace.specs.declared.flow_part.Side.{Side}
+use Rattle.trace.specs.declared.flow_part.Side.TheVariants as side
+use Rattle.trace.proofs.Changes.Changed.{none_changed}
+use Rattle.trace.proofs.Changes.Extending.{extended_twice}
+
+-- ---- those of which something holds, one after the other
+
+pub keeps : (test : FlowPart → Bool) (x : FlowPart) (xs : List FlowPart) (b : Bool) → test x ≡ b
+    → filter test (x ∷ xs) ≡ (if b then x ∷ filter test xs else filter test xs)
+keeps test x xs true e = rw e refl
+keeps test x xs false e = rw e refl
+
+next_kept : (test : FlowPart → Bool) (xs : List FlowPart) (i : ℕ) (x : FlowPart) (b : Bool) → i < length xs
+    → x ≡ get_or xs i x → test x ≡ b
+    → filter test (drop i xs) ≡ (if b then x ∷ filter test (drop (i + 1) xs) else filter test (drop (i + 1) xs))
+next_kept test xs i x b lt is e =
+    ap (filter test) (drop_more xs i x lt ∙ ap (λ (y : FlowPart). y ∷ drop (i + 1) xs) (sym is))
+    ∙ keeps test x (drop (i + 1) xs) b e
+
+-- it holds of one
+pub some_kept : (test : FlowPart → Bool) (xs : List FlowPart) (i : ℕ) (x : FlowPart) → i < length xs → x ≡ get_or xs i x
+    → test x ≡ true → filter test xs ≡ filter test (drop i xs) → true ≡ nat_lt 0 (length (filter test xs))
+some_kept test xs i x lt is e all =
+    let long : length (filter test xs) ≡ suc (length (filter test (drop (i + 1) xs))) = ap length
+    (all ∙ next_kept test xs i x true lt is e) in
+    grind (arith, nat_tests, long)
+
+-- or not yet
+pub none_kept : (test : FlowPart → Bool) (xs : List FlowPart) (i : ℕ) (x : FlowPart) → i < length xs → x ≡ get_or xs i x
+    → test x ≡ false → filter test xs ≡ filter test (drop i xs) → filter test xs ≡ filter test (drop (i + 1) xs)
+none_kept test xs i x lt is e all = all ∙ next_kept test xs i x false lt is e
+
+-- or of none
+pub never_kept : (test : FlowPart → Bool) (xs : List FlowPart) (i : ℕ) → length xs ≤ i
+    → filter test xs ≡ filter test (drop i xs) → false ≡ nat_lt 0 (length (filter test xs))
+never_kept test xs i past all = let short : length (filter test xs) ≡ 0 = ap length
+    (all ∙ ap (filter test) (drop_all i xs past)) in grind (arith, nat_tests, short)
+
+-- each has its text
+pub text_added : (text : FlowPart → List ℕ) (test : FlowPart → Bool) (xs : List FlowPart) (i : ℕ) (x : FlowPart)
+    (now later whole : List ℕ) → i < length xs → x ≡ get_or xs i x → test x ≡ true
+    → later ≡ extended now (text x ∷ []) → extended now (map text (filter test (drop i xs))) ≡ whole
+    → extended later (map text (filter test (drop (i + 1) xs))) ≡ whole
+text_added text test xs i x now later whole lt is e added all =
+    ap (λ (t : List ℕ). extended t (map text (filter test (drop (i + 1) xs)))) added
+    ∙ ap (λ (ps : List FlowPart). extended now (map text ps)) (sym (next_kept test xs i x true lt is e)) ∙ all
+
+pub text_left_out : (text : FlowPart → List ℕ) (test : FlowPart → Bool) (xs : List FlowPart) (i : ℕ) (x : FlowPart)
+    (now whole : List ℕ) → i < length xs → x ≡ get_or xs i x → test x ≡ false
+    → extended now (map text (filter test (drop i xs))) ≡ whole
+    → extended now (map text (filter test (drop (i + 1) xs))) ≡ whole
+text_left_out text test xs i x now whole lt is e all = ap (λ (ps : List FlowPart). extended now (map text ps))
+    (sym (next_kept test xs i x false lt is e)) ∙ all
+
+pub texts_added : (text : FlowPart → List ℕ) (test : FlowPart → Bool) (xs : List FlowPart) (i : ℕ) (now whole : List ℕ)
+    → length xs ≤ i → extended now (map text (filter test (drop i xs))) ≡ whole → now ≡ whole
+texts_added text test xs i now whole past all = ap (λ (ps : List FlowPart). extended now (map text (filter test ps)))
+    (sym (drop_all i xs past)) ∙ all
+
+-- ---- list by list
+
+lists_first : (before now : List (List FlowPart)) (x : List FlowPart)
+    → changed_lists before (x ∷ now) ≡ changed_flows (slice_index_or before 0 []) x ++ changed_lists (drop 1 before) now
+lists_first [] now x = refl
+lists_first (b ∷ before) now x = refl
+
+none_step : (now : List (List FlowPart)) (i : ℕ) → i < length now
+    → changed_lists [] (drop i now) ≡ changed_flows [] (slice_index_or now i []) ++ changed_lists [] (drop (suc i) now)
+none_step [] i lt = absurd (omega (arith, lt))
+none_step (x ∷ now) zero lt = refl
+none_step (x ∷ now) (suc i) lt = none_step now i (omega (arith, lt))
+
+lists_step : (before now : List (List FlowPart)) (i : ℕ) → i < length now
+    → changed_lists (drop i before) (drop i now) ≡ changed_flows (slice_index_or before i [])
+    (slice_index_or now i []) ++ changed_lists (drop (suc i) before) (drop (suc i) now)
+lists_step before [] i lt = absurd (omega (arith, lt))
+lists_step before (x ∷ now) zero lt = lists_first before now x
+lists_step [] (x ∷ now) (suc i) lt = none_step now i (omega (arith, lt))
+lists_step (b ∷ before) (x ∷ now) (suc i) lt = lists_step before now i (omega (arith, lt))
+
+next_list : (before now : List (List FlowPart)) (i : ℕ) (was is : List FlowPart) → i < length now
+    → was ≡ slice_index_or before i [] → is ≡ slice_index_or now i []
+    → changed_lists (drop i before) (drop i now) ≡ changed_flows was is ++ changed_lists (drop (i + 1) before)
+    (drop (i + 1) now)
+next_list before now i was is lt old new =
+    let sums : suc i ≡ i + 1 = omega arith in
+    lists_step before now i lt
+    ∙ ap₂ (λ (b n : List FlowPart). changed_flows b n ++ changed_lists (drop (suc i) before) (drop (suc i) now))
+    (sym old) (sym new)
+    ∙ ap (λ (k : ℕ). changed_flows was is ++ changed_lists (drop k before) (drop k now)) sums
+
+some_of : (xs ys : List (List ℕ)) → true ≡ nat_lt 0 (length xs) → true ≡ nat_lt 0 (length (xs ++ ys))
+some_of xs ys some = let long : length (xs ++ ys) ≡ length xs + length ys = length-append xs ys in grind
+    (arith, nat_tests, long, some)
+
+none_of : (xs : List (List ℕ)) → false ≡ nat_lt 0 (length xs) → xs ≡ []
+none_of [] none = refl
+none_of (x ∷ xs) none = absurd (grind (arith, nat_tests, none))
+
+pub list_changed : (before now : List (List FlowPart)) (i : ℕ) (was is : List FlowPart) → i < length now
+    → was ≡ slice_index_or before i [] → is ≡ slice_index_or now i [] → true ≡ nat_lt 0 (length (changed_flows was is))
+    → changed_lists before now ≡ changed_lists (drop i before) (drop i now)
+    → true ≡ nat_lt 0 (length (changed_lists before now))
+list_changed before now i was is lt old new some all =
+    some_of (changed_flows was is) (changed_lists (drop (i + 1) before) (drop (i + 1) now)) some
+    ∙ ap (λ (xs : List (List ℕ)). nat_lt 0 (length xs)) (sym (all ∙ next_list before now i was is lt old new))
+
+pub list_same : (before now : List (List FlowPart)) (i : ℕ) (was is : List FlowPart) → i < length now
+    → was ≡ slice_index_or before i [] → is ≡ slice_index_or now i [] → false ≡ nat_lt 0 (length (changed_flows was is))
+    → changed_lists before now ≡ changed_lists (drop i before) (drop i now)
+    → changed_lists before now ≡ changed_lists (drop (i + 1) before) (drop (i + 1) now)
+list_same before now i was is lt old new none all =
+    all ∙ next_list before now i was is lt old new
+    ∙ ap (λ (xs : List (List ℕ)). xs ++ changed_lists (drop (i + 1) before) (drop (i + 1) now))
+    (none_of (changed_flows was is) none)
+
+no_lists : (before : List (List FlowPart)) → changed_lists before [] ≡ []
+no_lists [] = refl
+no_lists (b ∷ before) = refl
+
+lists_over : (before now : List (List FlowPart)) (i : ℕ) → length now ≤ i
+    → changed_lists (drop i before) (drop i now) ≡ []
+lists_over before now i past = ap (changed_lists (drop i before)) (drop_all i now past) ∙ no_lists (drop i before)
+
+pub lists_same : (before now : List (List FlowPart)) (i : ℕ) → length now ≤ i
+    → changed_lists before now ≡ changed_lists (drop i before) (drop i now)
+    → false ≡ nat_lt 0 (length (changed_lists before now))
+lists_same before now i past all = ap (λ (xs : List (List ℕ)). nat_lt 0 (length xs))
+    (sym (all ∙ lists_over before now i past))
+
+-- what has changed in a list is added
+pub list_added : (before now : List (List FlowPart)) (i : ℕ) (was is : List FlowPart) (text later whole : List ℕ)
+    → i < length now → was ≡ slice_index_or before i [] → is ≡ slice_index_or now i []
+    → later ≡ extended text (changed_flows was is) → extended text (changed_lists (drop i before) (drop i now)) ≡ whole
+    → extended later (changed_lists (drop (i + 1) before) (drop (i + 1) now)) ≡ whole
+list_added before now i was is text later whole lt old new added all =
+    ap (λ (t : List ℕ). extended t (changed_lists (drop (i + 1) before) (drop (i + 1) now))) added
+    ∙ extended_twice text (changed_flows was is) (changed_lists (drop (i + 1) before) (drop (i + 1) now))
+    ∙ ap (extended text) (sym (next_list before now i was is lt old new)) ∙ all
+
+pub lists_added : (before now : List (List FlowPart)) (i : ℕ) (text whole : List ℕ) → length now ≤ i
+    → extended text (changed_lists (drop i before) (drop i now)) ≡ whole → text ≡ whole
+lists_added before now i text whole past all = ap (extended text) (sym (lists_over before now i past)) ∙ all
+
+-- ---- two tests
+
+more : (n : ℕ) → true ≡ nat_lt 0 (suc n)
+more n = grind (arith, nat_tests)
+
+pub differs : (xs ys : List FlowPart)
+    → (nat_lt 0 (length xs) || nat_lt 0 (length ys)) ≡ nat_lt 0 (length (map told xs ++ map gone ys))
+differs [] [] = refl
+differs [] (y ∷ ys) = sym (more (length ys)) ∙ more (length (map gone ys))
+differs (x ∷ xs) ys = ap (λ (b : Bool). b || nat_lt 0 (length ys)) (sym (more (length xs)))
+    ∙ more (length (map told xs ++ map gone ys))
+
+pub either_changed : (xs ys : List (List ℕ))
+    → (nat_lt 0 (length xs) || nat_lt 0 (length ys)) ≡ nat_lt 0 (length (xs ++ ys))
+either_changed [] ys = refl
+either_changed (x ∷ xs) ys = ap (λ (b : Bool). b || nat_lt 0 (length ys)) (sym (more (length xs)))
+    ∙ more (length (xs ++ ys))
+
+-- ---- where all are as they were
+
+side_same : (x : Side) → same_side x x ≡ true
+side_same side.Source = refl
+side_same side.Kept = refl
+
+state_same : (x : FlowState) → same_state x x ≡ true
+state_same state.Outstanding = refl
+state_same state.Answered = refl
+state_same state.Idle = refl
+state_same state.Waits = refl
+state_same state.Taken = refl
+state_same state.Dead = refl
+state_same state.Never = refl
+
+name_same : (p : FlowPart) → same_name p p ≡ true
+name_same p = ap₂ (λ (a b : Bool). a && b) (side_same p.side) (same_flow-refl p.flow)
+
+pub part_same : (p : FlowPart) → same_flow_part p p ≡ true
+part_same p =
+    let number : (p.number == p.number) ≡ true = eq-eqb p.number p.number refl in
+    ap₂ (λ (a b : Bool). a && b) (ap₂ (λ (a b : Bool). a && b) (name_same p) (state_same p.state)) number
+
+found : (test : FlowPart → Bool) (front back : List FlowPart) (x : FlowPart) → test x ≡ true
+    → list_any test (front ++ x ∷ back) ≡ true
+found test [] back x e = ap (λ (b : Bool). b || list_any test back) e
+found test (y ∷ front) back x e = by (test y) (found test front back x e) where
+  by : (b : Bool) → list_any test (front ++ x ∷ back) ≡ true → (b || list_any test (front ++ x ∷ back)) ≡ true
+  by true h = refl
+  by false h = h
+
+-- each of a list is found in it, and so none has another text or is lost
+all_found : (same : FlowPart → FlowPart → Bool) → ((p : FlowPart) → same p p ≡ true) → (front xs : List FlowPart)
+    → filter (λ p. not (list_any (λ q. same q p) (front ++ xs))) xs ≡ []
+all_found same itself front [] = refl
+all_found same itself front (x ∷ xs) =
+    let there : list_any (λ q. same q x) (front ++ x ∷ xs) ≡ true = found (λ q. same q x) front xs x (itself x) in
+    let whole : (front ++ x ∷ []) ++ xs ≡ front ++ x ∷ xs = append_assoc front (x ∷ []) xs in
+    keeps (λ p. not (list_any (λ q. same q p) (front ++ x ∷ xs))) x xs false (ap not there)
+    ∙ ap (λ (all : List FlowPart). filter (λ p. not (list_any (λ q. same q p) all)) xs) (sym whole)
+    ∙ all_found same itself (front ++ x ∷ []) xs
+
+pub no_flow_changed : (xs : List FlowPart) → changed_flows xs xs ≡ []
+no_flow_changed xs = ap₂ (λ (a b : List FlowPart). map told a ++ map gone b) (all_found same_flow_part part_same [] xs)
+    (all_found same_name name_same [] xs)
+
+no_list_changed : (ls : List (List FlowPart)) → changed_lists ls ls ≡ []
+no_list_changed [] = refl
+no_list_changed (l ∷ ls) = ap₂ (λ (a b : List (List ℕ)). a ++ b) (no_flow_changed l) (no_list_changed ls)
+
+pub no_part_changed : (p : AllParts) → changed_parts p p ≡ []
+no_part_changed p = ap₂ (λ (a b : List (List ℕ)). a ++ b) (none_changed p.fixed) (no_list_changed p.flows)
+
+-- and nothing is put into an object
+pub none_changed_now : (before now : AllParts) (text : List ℕ) → text ≡ [] → before ≡ now
+    → text ++ mark (codes "{}") (codes "}") (length text) ≡ object (changed_parts before now)
+none_changed_now before now text empty same =
+    ap (λ (t : List ℕ). t ++ mark (codes "{}") (codes "}") (length t)) empty
+    ∙ sym (ap object (ap (λ (p : AllParts). changed_parts p now) same ∙ no_part_changed now))
+
+-- a carrier of which nothing is known of flows
+pub without_flows : (before : AllParts) (now : List (List ℕ))
+    → changed_parts before (record { fixed = now; flows = [] }) ≡ changed before.fixed now
+without_flows before now = ap (λ (xs : List (List ℕ)). changed before.fixed now ++ xs) (no_lists before.flows)
+    ∙ append-nil (changed before.fixed now)
