@@ -42,8 +42,8 @@ class Joined(unittest.TestCase):
 
     def test_a_module_is_joined_once_and_before_those_that_import_it(self) -> None:
         script = self.joined({"main.js": 'import { a } from "./a.js";\nimport { b } from "./b.js";\n', "a.js": 'import { b } from "./b.js";\nexport const a = b;\n', "b.js": "export const b = 1;\n"})
-        self.assertEqual(script.count("const b = 1;"), 1)
-        self.assertLess(script.index("const b = 1;"), script.index("const a = b;"))
+        self.assertEqual(script.count("const b=1;"), 1)
+        self.assertLess(script.index("const b=1;"), script.index("const a=b;"))
 
     def test_other_forms_are_refused(self) -> None:
         for form in ("export default 1;", "export let a = 1;", 'export * from "./b.js";', 'import "./b.js";', 'import a from "./b.js";', 'const a = import("./b.js");', 'import { a } from "b";'):
@@ -52,8 +52,15 @@ class Joined(unittest.TestCase):
 
     def test_documentation_and_indents_are_left_out(self) -> None:
         script = self.joined({"main.js": '/** The page. */\n\n/**\n * Answers one.\n *\n * @returns {number}\n */\nfunction f() {\n    return 1; /** @type {number} */\n}\nf("/** kept */");\n'})
-        self.assertIn('function f() {\nreturn 1; \n}\nf("/** kept */");\n', script)
+        self.assertIn('function f(){\nreturn 1;\n}\nf("/** kept */");\n', script)
         self.assertNotIn("Answers one", script)
+
+    @unittest.skipUnless(NODE, "Node is absent")
+    def test_spaces_in_texts_and_expressions_are_kept(self) -> None:
+        rows = ['"a , b"', '"\\" = " + " ; "', "'a , b'", "`a , ${[1, 2]} ( b`", '"a , b,c".split(/ , | = /).join(" ; ")', "1 > 0 ? .5 : [1, 2]", "3 - -1 + +1", 'typeof { a: "b : c" }.a', "8 / 2 * 2"]
+        lines = "".join(f"console.log({row});\n" for row in rows)
+        whole, packed = (subprocess.run([NODE or "", "-"], input=it, capture_output=True, text=True) for it in (lines, self.joined({"main.js": lines})))
+        self.assertEqual((packed.stdout, packed.stderr), (whole.stdout, ""))
 
     def test_a_text_over_several_lines_is_refused(self) -> None:
         with self.assertRaises(Refused):

@@ -113,7 +113,7 @@ function largeNetwork() {
  *
  * @typedef {object} Planted
  * @property {string} what
- * @property {string} from what it changes in the page
+ * @property {string} from what it changes in the page, as the sources spell it
  * @property {string} to
  * @property {keyof typeof trials | "spoken"} by the trial that has to find it, or what is spoken
  * @property {[number, number]} [size]
@@ -473,6 +473,15 @@ async function whole(browser, address) {
 }
 
 /**
+ * Where something of the sources is in the page, which has no spaces at signs.
+ *
+ * @param {string} text
+ */
+function spelled(text) {
+    return new RegExp(text.replace(/[.*+?^${}()|[\]\\]/g, "\\$&").replace(/ /g, " ?"));
+}
+
+/**
  * Plants each fault in the page, and answers those that are not found.
  *
  * @param {Browser} browser
@@ -484,10 +493,10 @@ async function planted(browser, page, file) {
     const missed = [];
     for (const { what, from, to, by, size, only, words } of PLANTED) {
         if (only && only !== browser.name) continue;
-        if (!page.includes(from)) missed.push(`${what}: there is no place to plant it`);
+        if (!spelled(from).test(page)) missed.push(`${what}: there is no place to plant it`);
         if (by === "paper" && !(await browser.look({ paper: true }))) continue;
         if (by === "spoken" && !(await browser.tree()).length) continue;
-        writeFileSync(file, opened(page.replace(from, to)));
+        writeFileSync(file, opened(page.replace(spelled(from), () => to)));
         await browser.resize(...(size ?? WIDE));
         await browser.open(`file://${file}`);
         const given = by === "large" ? largeNetwork() : undefined;
