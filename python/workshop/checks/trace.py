@@ -27,7 +27,7 @@ import random
 import subprocess
 import sys
 from collections import Counter
-from collections.abc import Callable, Iterable, Iterator, Sequence
+from collections.abc import Callable, Container, Iterable, Iterator, Sequence
 from contextlib import AbstractContextManager, contextmanager
 from glob import glob
 from itertools import count
@@ -44,7 +44,8 @@ from dorydate.model.script import BadLine, Event, read_line
 from dorydate.model.subnet import Subnet
 from dorydate.model.topology import Topology, network_of
 from dorydate.model.topology import spelled as spelled_network
-from dorydate.model.trace import OF_BOXES, OF_SUBNET, Traced, all_parts, ends_trace, made_of, network_in, opening, spelled, text, traced
+from dorydate.model.trace import OF_BOXES, OF_SUBNET, Traced, all_parts, ends_trace, made_of, network_in, opening, parts_of, fold_in, spelled, text, traced
+from dorydate.model.trace_subnet import OF_FLOWS, flow_named, home
 from dorydate.model.trace_values import Object
 from dorydate.model.trace_world import ends_world
 from workshop.checks import trace_worlds
@@ -125,7 +126,7 @@ def fates_are_shown(network: Topology, records: Records) -> None:
         if ("fate" in record) != (record["event"].startswith("deliver ") and not record["printed"]):
             raise Wrong("a frame that arrives has no fate, or another event has one")
         before = dict(parts)
-        parts.update(record["parts"])
+        fold_in(parts, record["parts"])
         if "fate" in record and not is_shown(record["fate"], reached(network, record["event"]), before, parts):
             raise Wrong(f"the parts do not show that a frame is `{record['fate']}`")
 
@@ -140,8 +141,8 @@ def is_shown(fate: str, name: str, before: Object, after: Object) -> bool:
     """Whether all parts before and after a frame's arrival at an IMP show what became of it."""
     if fate in UNCHANGED:
         return before == after
-    was, now = before[name], after[name]
-    if was is None or now is None:
+    was, now = of_imp(before, name), of_imp(after, name)
+    if not was or not now:
         return False
     is_accepted = [it["expected"] for it in was["ports"]] != [it["expected"] for it in now["ports"]]
     if is_accepted != (fate not in ("acks", "distances", "repeat")):
@@ -152,11 +153,22 @@ def is_shown(fate: str, name: str, before: Object, after: Object) -> bool:
         case "whole":
             return sum(len(it["messages"]) for it in now["hosts"]) == 1 + sum(len(it["messages"]) for it in was["hosts"])
         case "dead" | "never" | "unmarked":
-            return any(it not in was["kept"] and it["fate"] == NOTED[fate] for it in now["kept"])
+            return any(was["kept"].get(flow) != it and it["fate"] == NOTED[fate] for flow, it in now["kept"].items())
         case "answer":
-            return bool(sum(it["state"] == "outstanding" for it in was["sources"]) == 1 + sum(it["state"] == "outstanding" for it in now["sources"]))
-    same = "hosts", "slots", "sources", "kept"
+            return outstanding(was["source"]) == 1 + outstanding(now["source"])
+    same = "hosts", "slots", *OF_FLOWS
     return all(now[key] == was[key] for key in [*same, *([] if fate == "distances" else ["routes"])])
+
+
+def of_imp(parts: Object, name: str) -> Object:
+    """What the parts have of an IMP: of one that is up its own, and those of its flows from it and to it; else nothing."""
+    flows = {kind: {it: part for it, part in parts.items() if it.startswith(f"{kind} ") and home(it) == name} for kind in OF_FLOWS}
+    return {**parts[name], **flows} if parts[name] else {}
+
+
+def outstanding(sources: Object) -> int:
+    """How many flows have a message without an answer."""
+    return sum(it["state"] == "outstanding" for it in sources.values())
 
 
 def followed(network: Topology, opening_parts: Object, records: Records) -> tuple[Carrier, list[tuple[int, Object]]]:
@@ -169,9 +181,9 @@ def followed(network: Topology, opening_parts: Object, records: Records) -> tupl
         raise Wrong("the first line has other parts")
     for place, record in enumerate(records):
         after(replayed, [record["event"]])
-        if any(parts[name] == part for name, part in record["parts"].items()):
+        if any(parts.get(name, None if flow_named(name) else "") == part for name, part in record["parts"].items()):
             raise Wrong("a part is named that is as it was")
-        parts.update(record["parts"])
+        fold_in(parts, record["parts"])
         if place in places:
             if parts != all_parts(replayed):
                 raise Wrong("a part changed that isn't named, or another one is named")
@@ -394,17 +406,18 @@ def named_less(kind: str, leave: Callable[[int, str], bool]) -> Broken:
 class AllNamed(Traced):
     """Parts are named that are as they were."""
 
-    def changed(self, names: Iterable[str]) -> Object:
-        return {name: self.of.part(self.place, name) for name in names}
+    def changed(self, names: Sequence[str]) -> Object:
+        super().changed(names)
+        return parts_of(self.place, names)
 
 
 class Opening(Traced):
     """Parts are compared with those at the opening."""
 
-    def changed(self, names: Iterable[str]) -> Object:
-        first, changed = {**self.parts}, super().changed(names)
+    def changed(self, names: Sequence[str]) -> Object:
+        first, found = {**self.parts}, super().changed(names)
         self.parts = first
-        return changed
+        return found
 
 
 class TwoAgo(Traced):
@@ -414,12 +427,17 @@ class TwoAgo(Traced):
         super().__init__(place)
         self.before = {**self.parts}
 
-    def changed(self, names: Iterable[str]) -> Object:
-        now = {name: self.of.part(self.place, name) for name in names}
-        changed = {name: part for name, part in now.items() if part != self.before[name]}
-        self.before = {**self.parts}
-        self.parts.update(now)
-        return changed
+    def changed(self, names: Sequence[str]) -> Object:
+        before, self.before = self.before, {**self.parts}
+        super().changed(names)
+        return trace_model.changed(before, parts_of(self.place, names))
+
+
+class GoneUntold(Traced):
+    """A flow that is gone is not told."""
+
+    def changed(self, names: Sequence[str]) -> Object:
+        return {name: part for name, part in super().changed(names).items() if part is not None or not flow_named(name)}
 
 
 COMPARED = {
@@ -475,6 +493,17 @@ def subnet_with(kind: str, change: Callable[[Object], Object]) -> Broken:
     return lambda: put(OF_SUBNET, "part", part)
 
 
+def flows_with(kind: str, change: Callable[[str, Object], Object]) -> Broken:
+    """Other parts in the place of each of a flow, wherever these are given."""
+    kept = OF_SUBNET.flows
+
+    def flows(subnet: Subnet, names: Container[str]) -> Object:
+        many = kept(subnet, names)
+        return {it: part for name, told in many.items() for it, part in (change(name, told) if name.startswith(kind) else {name: told}).items()}
+
+    return lambda: put(OF_SUBNET, "flows", flows)
+
+
 def imps_with(key: str, change: Change) -> Broken:
     return subnet_with("imp", lambda imp: {key: [change(it) for it in imp[key]]})
 
@@ -511,10 +540,12 @@ SUBNET_BROKEN = {
     "numbers of messages that wait are left out": imps_with("hosts", lambda host: {**host, "messages": each_with(number=0)(host["messages"])}),
     "packets in the store are left out": subnet_with("imp", lambda imp: {"store": []}),
     "pieces in slots are left out": subnet_with("imp", lambda imp: {"slots": []}),
-    "which message is outstanding is left out": imps_with("sources", lambda it: {**it, "state": "idle"}),
-    "numbers begun last are left out": imps_with("sources", lambda it: {**it, "number": 0}),
-    "numbers noted last are left out": subnet_with("imp", lambda imp: {"kept": []}),
-    "the fate of a message is left out": imps_with("kept", lambda it: {**it, "fate": "waits"}),
+    "which message is outstanding is left out": flows_with("source", lambda name, it: {name: {**it, "state": "idle"}}),
+    "numbers begun last are left out": flows_with("source", lambda name, it: {name: {**it, "number": 0}}),
+    "numbers noted last are left out": flows_with("kept", lambda name, it: {}),
+    "the fate of a message is left out": flows_with("kept", lambda name, it: {name: {**it, "fate": "waits"}}),
+    "flows that are gone are not told": with_class(GoneUntold),
+    "links of flows are told as one": flows_with("source", lambda name, it: {f"{name.rpartition(' ')[0]} 0": it}),
     "the oldest frame of a line is left out": lines_with(lambda frames: frames[1:]),
     "frames are told in reverse": lines_with(lambda frames: frames[::-1]),
     "acknowledgements in frames are left out": lines_with(lambda frames: [{**it, "acks": "0" * 8} for it in frames]),
