@@ -63,8 +63,9 @@ class Joined(unittest.TestCase):
         self.assertEqual((packed.stdout, packed.stderr), (whole.stdout, ""))
 
     def test_a_text_over_several_lines_is_refused(self) -> None:
-        with self.assertRaises(Refused):
-            self.joined({"main.js": "const a = `one\n  two`;\n"})
+        for text in ("`one\n  two`", '"one\\\n  two"'):
+            with self.assertRaises(Refused, msg=text):
+                self.joined({"main.js": f"const a = {text};\n"})
 
     def test_a_module_that_imports_itself_is_refused(self) -> None:
         with self.assertRaises(Refused):

@@ -12,6 +12,7 @@ The traces of all examples over raw networks, and of random scripts, as the mode
 - What has crossed is what is printed, and what becomes of frames is what their parts show.
 - The worked examples of docs/trace.md are what the model has.
 - Each line is an object of JSON, in which no member is twice.
+- Of 256 flows each event tells only of those that it changes: the trace of a message on each link has at most 6 million octets.
 - Of networks with host programs, examples and as many random scripts, if the program traces them: see trace_worlds.
 
 Then rules are broken in turn, and some script has to show it: events left out of a calm or given as one, parts that changed and are not
@@ -56,6 +57,7 @@ MOST_TRIED = 600  # this many scripts are run to find that a rule is broken
 ANEW = 2  # so often a network is made anew in a script
 EVENTS = 80  # of a script about the frames of a subnet
 MOST_ROUNDS = 20_000  # of the calms of a stored script that is traced
+MOST_OCTETS = 6_000_000  # of the trace of a message on each link
 UNTRACED = {"plain": "first-message", "subnet": "three-imps-in-a-row"}  # an example of each carrier
 
 
@@ -572,6 +574,30 @@ def is_found(broken: Broken, scripts: Made) -> bool:
     return False
 
 
+# ---- many flows
+
+
+def on_each_link() -> Script:
+    """A message and its RFNM on each link between two hosts, one after the other, in 2,304 events."""
+    ways = "deliver 0 + 0", "drop 0 + 0", "take 0/2", "deliver 0 - 1", "drop 0 - 0", "drop 0 - 0", "take 0/1", "drop 0 + 0"
+    return Topology("subnet", True, [(1, 1), (2, 1)], [(1, 2)]), ["calm 2", *(line for link in range(256) for line in (f"out 0/1 0/2 {link} 8 41", *ways))]
+
+
+def with_many_flows(program: str | None) -> Iterator[str]:
+    """What is wrong with the trace of many flows."""
+    network, lines = on_each_link()
+    whole = ends_trace(network, lines)[1]
+    if whole.count('"printed":["answer rfnm') != 256 or "refused" in whole:
+        yield "there is no RFNM on each of 256 links"
+    if program and program_prints(program, spelled_network(network), lines, "--trace") != whole.splitlines():
+        yield "the program prints another trace of 256 flows"
+    if len(whole) > MOST_OCTETS:
+        yield f"the trace of a message on each of 256 links has {len(whole)} octets"
+    with with_class(AllNamed)():
+        if len(ends_trace(network, lines)[1]) <= MOST_OCTETS:
+            yield "a trace that tells of all flows each time is no larger"
+
+
 # ---- the document
 
 
@@ -640,7 +666,7 @@ def main() -> int:
         failed += 1
         print("check trace: docs/trace.md has another trace than the model")
     looked_at, in_worlds = of_worlds(program, runs)
-    for words in [*in_worlds, *(refusals(program, traces) if program and traces else ())]:
+    for words in [*in_worlds, *with_many_flows(program if "subnet" in traces else None), *(refusals(program, traces) if program and traces else ())]:
         failed += 1
         print(f"check trace: {words}")
     scripts = f"{counted['plain scripts']} scripts over mailboxes and {counted['subnet scripts']} over subnets"

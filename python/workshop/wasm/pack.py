@@ -71,8 +71,8 @@ def names(text: str) -> list[tuple[str, str]]:
 def bare(text: str, path: str) -> str:
     """A module without its comments of documentation and of types, indents and empty lines."""
     text = TEXT_OR_COMMENT.sub(lambda it: it[1] or "", DOCUMENTATION.sub("", text))
-    if any(line.count("`") % 2 for line in text.splitlines()):
-        raise Refused(f"{os.path.relpath(path, ROOT)} has a text in backticks over several lines, which isn't packed")
+    if any(line.count("`") % 2 or line.endswith("\\") for line in text.splitlines()):
+        raise Refused(f"{os.path.relpath(path, ROOT)} has a text over several lines, which isn't packed")
     return BLANK.sub("", text)
 
 
