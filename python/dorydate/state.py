@@ -149,6 +149,12 @@ class ImpState:
         )
 
 
+def in_order(note: tuple[Flow, int, Value]) -> tuple[tuple[int, int], tuple[int, int], int]:
+    """The place of a flow in the order of source, destination and link."""
+    flow = note[0]
+    return flow.source.order(), flow.destination.order(), flow.link
+
+
 def flow_of(name: str) -> tuple[Flow, int]:
     """The flow that a part is of, and the IMP that has this part."""
     kind, *words = name.split(" ")
@@ -175,14 +181,15 @@ class State:
         ((True,), ())
         """
         part = self.parts.get(f"imp {number}")
-        return ImpState.read(part, self._flows.get(("state", number), {}), self._flows.get(("fate", number), {})) if part else None
+        flows = (self._flows.get((word, number), {}) for word in ("state", "fate"))
+        return ImpState.read(part, *flows) if part else None
 
     @cached_property
     def _flows(self) -> Mapping[tuple[str, int], Mapping[Flow, tuple[str, int]]]:
-        """By the word that is noted, and by IMP, what is noted of flows: that word and a number each, in order of flows."""
+        """By `state` or `fate`, and by IMP, what is noted of flows, in their order: that word and a number."""
         found: dict[tuple[str, int], dict[Flow, tuple[str, int]]] = {}
-        told = [(*flow_of(name), part) for name, part in self.parts.items() if is_of_flow(name)]
-        for flow, imp, part in sorted(told, key=lambda it: (it[0].source.order(), it[0].destination.order(), it[0].link)):
+        parts = [(*flow_of(name), part) for name, part in self.parts.items() if is_of_flow(name)]
+        for flow, imp, part in sorted(parts, key=in_order):
             word = "state" if "state" in part else "fate"
             found.setdefault((word, imp), {})[flow] = part[word], part["number"]
         return found
@@ -268,8 +275,8 @@ def held_by(number: int, state: ImpState, network: Network) -> Iterator[Held]:
 
 
 def folded(network: Network, trace: str) -> State:
-    """The state after a trace: of each part its last value. The trace is read from its end: until all parts are there that the first line
-    has, and then only those lines that tell of flows."""
+    """The state after a trace: of each part its last value. The trace is read from its end: until all parts are there
+    that the first line has, and then only those lines that have parts of flows."""
     first = opening(trace)["parts"]
     parts: dict[str, Any] = {}
     end = len(trace)

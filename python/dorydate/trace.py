@@ -31,14 +31,14 @@ def records(trace: str) -> list[str]:
 
 
 def is_of_flow(name: str) -> bool:
-    """Whether a part is of a flow: one of these is no part any more once it is told as `null`."""
+    """Whether a part is of a flow. Such a part that is `null` is there no more."""
     return name.partition(" ")[0] in OF_FLOWS
 
 
 def fold(parts: MutableMapping[str, Part], told: Mapping[str, Part], gone: Part) -> None:
-    """Puts what a line tells in the place of what was there. Flows that it tells as `gone` are taken away."""
+    """Puts the parts of a line in the place of what was there. Flows whose part is `gone` are taken away."""
     for name, part in told.items():
-        if part == gone and is_of_flow(name):
-            parts.pop(name, None)
-        else:
+        if part != gone or not is_of_flow(name):
             parts[name] = part
+        elif name in parts:
+            del parts[name]

@@ -21,6 +21,9 @@ class Joined(unittest.TestCase):
         self.room = tempfile.TemporaryDirectory()
         self.addCleanup(self.room.cleanup)
 
+    def ran(self, script: str) -> "subprocess.CompletedProcess[str]":
+        return subprocess.run([NODE or "", "-"], input=script, capture_output=True, text=True)
+
     def joined(self, files: Dict[str, str]) -> str:
         for name, text in files.items():
             os.makedirs(os.path.dirname(f"{self.room.name}/{name}"), exist_ok=True)
@@ -57,10 +60,12 @@ class Joined(unittest.TestCase):
 
     @unittest.skipUnless(NODE, "Node is absent")
     def test_spaces_in_texts_and_expressions_are_kept(self) -> None:
-        rows = ['"a , b"', '"\\" = " + " ; "', "'a , b'", "`a , ${[1, 2]} ( b`", '"a , b,c".split(/ , | = /).join(" ; ")', "1 > 0 ? .5 : [1, 2]", "3 - -1 + +1", 'typeof { a: "b : c" }.a', "8 / 2 * 2"]
-        lines = "".join(f"console.log({row});\n" for row in rows)
-        whole, packed = (subprocess.run([NODE or "", "-"], input=it, capture_output=True, text=True) for it in (lines, self.joined({"main.js": lines})))
+        texts = ['"a , b"', '"\\" = " + " ; "', "'a , b'", "`a , ${[1, 2]} ( b`", '"a , b,c".split(/ , | = /)', '"/ , "']
+        others = ["1 > 0 ? .5 : [1, 2]", "3 - -1 + +1", '{ a: "b : c" }.a', "8 / 2 * 2", "((a, b = 2) => a * b)(3)"]
+        lines = "".join(f"console.log({row});\n" for row in [*texts, *others])
+        whole, packed = (self.ran(it) for it in (lines, self.joined({"main.js": lines})))
         self.assertEqual((packed.stdout, packed.stderr), (whole.stdout, ""))
+        self.assertEqual(len(whole.stdout.splitlines()), len(texts) + len(others))
 
     def test_a_text_over_several_lines_is_refused(self) -> None:
         for text in ("`one\n  two`", '"one\\\n  two"'):

@@ -101,7 +101,7 @@ class Inspect(Generic[Kind]):
 
     part: Callable[[Kind, str], Part]  # a part, by its name, but for those of flows
     every_name: Callable[[Kind], list[str]]  # of those parts
-    names: Callable[[Kind, Event, Sequence[Crossing]], list[str]]  # those of them that an event can change, which crossed these
+    names: Callable[[Kind, Event, Sequence[Crossing]], list[str]]  # those that an event can change, which crossed these
     flows: Callable[[Kind, Container[str]], dict[str, Part]]  # the parts of flows that change with these
     fate: Callable[[Kind, Event], str | None]  # what becomes of a frame
     in_quiet_round: Callable[[Kind], Iterable[Event]]  # the elementary events of a quiet round
@@ -109,9 +109,13 @@ class Inspect(Generic[Kind]):
     is_settled: Callable[[Kind, Sequence[Crossing]], bool]  # whether a round in which so much crossed leaves nothing for later ones
 
 
-OF_BOXES = Inspect[Boxes](part_of_boxes, names_of_boxes, touched, lambda _, names: {}, lambda _, event: None, lambda _: (), gets, lambda _, crossed: not crossed)
+OF_BOXES = Inspect[Boxes](
+    part_of_boxes, names_of_boxes, touched, lambda _, names: {},
+    lambda _, event: None, lambda _: (), gets, lambda _, crossed: not crossed,
+)  # fmt: skip
 OF_SUBNET = Inspect[Subnet](
-    trace_subnet.part, trace_subnet.every_name, trace_subnet.names, trace_subnet.flows, trace_subnet.fate, trace_subnet.in_quiet_round, trace_subnet.is_given, trace_subnet.is_settled
+    trace_subnet.part, trace_subnet.every_name, trace_subnet.names, trace_subnet.flows,
+    trace_subnet.fate, trace_subnet.in_quiet_round, trace_subnet.is_given, trace_subnet.is_settled,
 )  # fmt: skip
 
 
@@ -134,13 +138,14 @@ def all_parts(place: Carrier) -> dict[str, Part]:
 
 def changed(was: Mapping[str, Part], now: Mapping[str, Part]) -> dict[str, Part]:
     """What is other than it was, in the order of a line; of flows that are gone None."""
+    other = {name: part for name, part in now.items() if name not in was or part != was[name]}
     gone = [name for name in was if name not in now and home(name) in now]
-    found = {**{name: part for name, part in now.items() if name not in was or part != was[name]}, **dict.fromkeys(gone)}
+    found = {**other, **dict.fromkeys(gone)}
     return {name: found[name] for name in sorted(found, key=lambda name: place_of(name, name in now))}
 
 
 def place_of(name: str, is_there: bool) -> tuple[Any, ...]:
-    """Where a part is in a line: those of flows come last, by IMP, of each those from it and then those to it, and those that are gone at the end."""
+    """Where a part is in a line: flows come last, by IMP, from it and then to it, of each the gone ones last."""
     flow = flow_named(name)
     return (int(home(name)[4:]), OF_FLOWS.index(name.split(" ")[0]), not is_there, *key_of(flow)) if flow else ()
 

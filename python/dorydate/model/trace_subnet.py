@@ -114,8 +114,9 @@ def part(subnet: Subnet, name: str) -> Object | None:
 
 def flows_at(imp: ImpState) -> dict[str, Object]:
     """The parts of an IMP's flows: of those from here, and then of those to here."""
-    sources = {f"source {spell_flow(flow)}": {"state": standing(imp, flow), "number": imp.last[flow]} for flow in in_order(imp.last)}
-    kept = {f"kept {spell_flow(flow)}": {"fate": imp.fates[flow], "number": imp.kept[flow]} for flow in in_order(imp.kept)}
+    begun, noted = in_order(imp.last), in_order(imp.kept)
+    sources = {f"source {spell_flow(it)}": {"state": standing(imp, it), "number": imp.last[it]} for it in begun}
+    kept = {f"kept {spell_flow(it)}": {"fate": imp.fates[it], "number": imp.kept[it]} for it in noted}
     return {**sources, **kept}
 
 

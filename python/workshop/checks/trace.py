@@ -12,7 +12,7 @@ The traces of all examples over raw networks, and of random scripts, as the mode
 - What has crossed is what is printed, and what becomes of frames is what their parts show.
 - The worked examples of docs/trace.md are what the model has.
 - Each line is an object of JSON, in which no member is twice.
-- Of 256 flows each event tells only of those that it changes: the trace of a message on each link has at most 6 million octets.
+- Of 256 flows a line has only those that change: the trace of a message on each link has at most 6 million octets.
 - Of networks with host programs, examples and as many random scripts, if the program traces them: see trace_worlds.
 
 Then rules are broken in turn, and some script has to show it: events left out of a calm or given as one, parts that changed and are not
@@ -45,7 +45,8 @@ from dorydate.model.script import BadLine, Event, read_line
 from dorydate.model.subnet import Subnet
 from dorydate.model.topology import Topology, network_of
 from dorydate.model.topology import spelled as spelled_network
-from dorydate.model.trace import OF_BOXES, OF_SUBNET, Traced, all_parts, ends_trace, made_of, network_in, opening, parts_of, fold_in, spelled, text, traced
+from dorydate.model.trace import OF_BOXES, OF_SUBNET, Traced, all_parts, ends_trace, fold_in, made_of
+from dorydate.model.trace import network_in, opening, parts_of, spelled, text, traced
 from dorydate.model.trace_subnet import OF_FLOWS, flow_named, home
 from dorydate.model.trace_values import Object
 from dorydate.model.trace_world import ends_world
@@ -163,8 +164,9 @@ def is_shown(fate: str, name: str, before: Object, after: Object) -> bool:
 
 
 def of_imp(parts: Object, name: str) -> Object:
-    """What the parts have of an IMP: of one that is up its own, and those of its flows from it and to it; else nothing."""
-    flows = {kind: {it: part for it, part in parts.items() if it.startswith(f"{kind} ") and home(it) == name} for kind in OF_FLOWS}
+    """What the parts have of an IMP that is up: its own keys, and under `source` and `kept` its flows. Else nothing."""
+    own = {it: part for it, part in parts.items() if flow_named(it) and home(it) == name}
+    flows = {kind: {it: part for it, part in own.items() if it.startswith(kind)} for kind in OF_FLOWS}
     return {**parts[name], **flows} if parts[name] else {}
 
 
@@ -435,8 +437,8 @@ class TwoAgo(Traced):
         return trace_model.changed(before, parts_of(self.place, names))
 
 
-class GoneUntold(Traced):
-    """A flow that is gone is not told."""
+class GoneLeftOut(Traced):
+    """A flow that is gone is left out."""
 
     def changed(self, names: Sequence[str]) -> Object:
         return {name: part for name, part in super().changed(names).items() if part is not None or not flow_named(name)}
@@ -500,8 +502,10 @@ def flows_with(kind: str, change: Callable[[str, Object], Object]) -> Broken:
     kept = OF_SUBNET.flows
 
     def flows(subnet: Subnet, names: Container[str]) -> Object:
-        many = kept(subnet, names)
-        return {it: part for name, told in many.items() for it, part in (change(name, told) if name.startswith(kind) else {name: told}).items()}
+        found: Object = {}
+        for name, part in kept(subnet, names).items():
+            found |= change(name, part) if name.startswith(kind) else {name: part}
+        return found
 
     return lambda: put(OF_SUBNET, "flows", flows)
 
@@ -546,8 +550,8 @@ SUBNET_BROKEN = {
     "numbers begun last are left out": flows_with("source", lambda name, it: {name: {**it, "number": 0}}),
     "numbers noted last are left out": flows_with("kept", lambda name, it: {}),
     "the fate of a message is left out": flows_with("kept", lambda name, it: {name: {**it, "fate": "waits"}}),
-    "flows that are gone are not told": with_class(GoneUntold),
-    "links of flows are told as one": flows_with("source", lambda name, it: {f"{name.rpartition(' ')[0]} 0": it}),
+    "flows that are gone are left out": with_class(GoneLeftOut),
+    "links of flows are the same": flows_with("source", lambda name, it: {f"{name.rpartition(' ')[0]} 0": it}),
     "the oldest frame of a line is left out": lines_with(lambda frames: frames[1:]),
     "frames are told in reverse": lines_with(lambda frames: frames[::-1]),
     "acknowledgements in frames are left out": lines_with(lambda frames: [{**it, "acks": "0" * 8} for it in frames]),
@@ -579,8 +583,9 @@ def is_found(broken: Broken, scripts: Made) -> bool:
 
 def on_each_link() -> Script:
     """A message and its RFNM on each link between two hosts, one after the other, in 2,304 events."""
-    ways = "deliver 0 + 0", "drop 0 + 0", "take 0/2", "deliver 0 - 1", "drop 0 - 0", "drop 0 - 0", "take 0/1", "drop 0 + 0"
-    return Topology("subnet", True, [(1, 1), (2, 1)], [(1, 2)]), ["calm 2", *(line for link in range(256) for line in (f"out 0/1 0/2 {link} 8 41", *ways))]
+    there, back = ["deliver 0 + 0", "drop 0 + 0", "take 0/2"], ["deliver 0 - 1", "drop 0 - 0", "drop 0 - 0"]
+    lines = [it for link in range(256) for it in (f"out 0/1 0/2 {link} 8 41", *there, *back, "take 0/1", "drop 0 + 0")]
+    return Topology("subnet", True, [(1, 1), (2, 1)], [(1, 2)]), ["calm 2", *lines]
 
 
 def with_many_flows(program: str | None) -> Iterator[str]:
@@ -595,7 +600,7 @@ def with_many_flows(program: str | None) -> Iterator[str]:
         yield f"the trace of a message on each of 256 links has {len(whole)} octets"
     with with_class(AllNamed)():
         if len(ends_trace(network, lines)[1]) <= MOST_OCTETS:
-            yield "a trace that tells of all flows each time is no larger"
+            yield "a trace with all flows in each line is no larger"
 
 
 # ---- the document
@@ -666,7 +671,8 @@ def main() -> int:
         failed += 1
         print("check trace: docs/trace.md has another trace than the model")
     looked_at, in_worlds = of_worlds(program, runs)
-    for words in [*in_worlds, *with_many_flows(program if "subnet" in traces else None), *(refusals(program, traces) if program and traces else ())]:
+    of_flows = with_many_flows(program if "subnet" in traces else None)
+    for words in [*in_worlds, *of_flows, *(refusals(program, traces) if program and traces else ())]:
         failed += 1
         print(f"check trace: {words}")
     scripts = f"{counted['plain scripts']} scripts over mailboxes and {counted['subnet scripts']} over subnets"

@@ -7,9 +7,9 @@ base85: a name, a title and the text of each input in examples/), `chronology` (
 list that is empty, into which ./explain --page puts inputs like these, with which the page opens.
 
 Modules are joined to one script, each in a function of its own, so names of two never meet. They may import names, or all names as one
-(`import * as it`), from other files, and export declarations and lists of names; anything else is refused. Documentation, indents and
-spaces at signs are left out. The policy of the page forbids every request, and runs only this style and this script, by their hashes.
-The same files give the same octets.
+(`import * as it`), from other files, and export declarations and lists of names; anything else is refused. The policy of the page forbids
+every request, and runs only this style and this script, by their hashes. Documentation, indents and spaces at signs are left out. The
+same files give the same octets.
 """
 
 from __future__ import annotations
@@ -78,7 +78,8 @@ def bare(text: str, path: str) -> str:
 
 def tight(text: str) -> str:
     """A script without the spaces at signs, line by line. A line in which they may count stays as it is."""
-    return "".join(line if MAY_COUNT.search(line) else SPACED.sub(r"\1\2", line) for line in text.splitlines(keepends=True))
+    lines = text.splitlines(keepends=True)
+    return "".join(line if MAY_COUNT.search(line) else SPACED.sub(r"\1\2", line) for line in lines)
 
 
 def bare_style(text: str) -> str:
