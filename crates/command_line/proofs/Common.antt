@@ -33,7 +33,7 @@ pub use Rattle.interface.specs.Host.{Host}
 pub use Rattle.interface.specs.Mailboxes.{IsRun}
 pub use Rattle.interface.specs.Messages.{SafeMessages}
 pub use Rattle.interface.specs.declared.crossing.Crossing.{Crossing}
-pub use Rattle.leader1822.specs.Boxes.{Boxes, plain_calls}
+pub use Rattle.leader1822.specs.Boxes.{plain_calls}
 pub use Rattle.net_sim.specs.Audit.{Says}
 pub use Rattle.net_sim.specs.Carriers.{shown}
 pub use Rattle.net_sim.specs.World.{WorldState, opening_world}
@@ -64,9 +64,8 @@ pub use Rattle.subnet.specs.Working.{subnet_calls}
 pub use Rattle.subnet_trace.specs.Traced.{subnet_inside}
 pub use Rattle.topology.specs.Topology.{TopologyFields}
 pub use Rattle.topology.specs.declared.network.CarrierKind.{CarrierKind}
-pub use Rattle.trace.specs.Elements.{elements_in}
 pub use Rattle.trace.specs.Texts.{object, opening_line}
-pub use Rattle.trace.specs.Traces.{Inside, TellsElement, TellsEvent, asking_from, change_text, numbered_from, plain_inside}
+pub use Rattle.trace.specs.Traces.{Inside, TellsEvent, asking_from, numbered_from, plain_inside}
 pub use Rattle.trace.specs.declared.element.Spot.{Spot}
 pub use Rattle.world_replay.proofs.lemmas.Replays.{SameGains, gains_once, happens_once, shown_settled}
 pub use Rattle.world_replay.specs.Replay.{Happens, HappensInCalm}

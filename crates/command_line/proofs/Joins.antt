@@ -10,7 +10,8 @@ use Rattle.command_line.specs.Joins.{PrintTheSame, TellTheSame}
 use Rattle.command_line.proofs.Once.{raw_once, world_once}
 use Rattle.command_line.proofs.OneInput.{OneInput, input_once}
 use Rattle.command_line.proofs.Printed.{as_world, no_lives, same_crossings, same_output}
-use Rattle.command_line.proofs.Settled.{plain_settled, subnet_settled}
+use Rattle.subnet_trace.proofs.lemmas.{subnet_settled}
+use Rattle.trace.proofs.lemmas.{plain_settled}
 
 -- ---- one log
 

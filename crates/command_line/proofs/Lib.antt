@@ -16,7 +16,6 @@ mod OneTrace
 mod Printed
 mod Reading
 mod Recorded
-mod Settled
 mod Sites
 mod Traced
 mod Words

@@ -8,7 +8,8 @@ use Rattle.world_replay.proofs.lemmas.Replays as worlds
 use Rattle.command_line.specs.Events.{Asked}
 use Rattle.command_line.specs.Replayed.{EndsFrom, EndsOn, EndsOver}
 use Rattle.command_line.proofs.OneInput.{OneInput, input_once}
-use Rattle.command_line.proofs.Settled.{plain_settled, subnet_settled}
+use Rattle.subnet_trace.proofs.lemmas.{subnet_settled}
+use Rattle.trace.proofs.lemmas.{plain_settled}
 use Rattle.replay.proofs.lemmas.{StartsWith, output-append}
 use Rattle.replay.proofs.lemmas.Settled as replay
 

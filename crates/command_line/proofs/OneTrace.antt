@@ -1,32 +1,20 @@
 -- An input leaves its trace no choice.
-use Rattle.command_line.proofs.Common.{◌≡◌, inl, inr, ℕ, List, [], ◌∷◌, ◌++◌, Some, refl, sym, ap, ap₂, subst, zip, ◌∙◌, append_assoc, HappensOnce, ShowsFront, text_of, Calls, AreSettled, OneReplay, ends_front, in_turn_once, replays_once, parted_once, RawEvent, TopologyFields, CarrierKind, shown, WorldState, opening_world, Event, SameGains, gains_once, happens_once, shown_settled, EndsRound, WorldEvent, opening_text, world_line, StopsOne, TellsIn, TellsInCalm, TellsOne, TellsRound, change_of, first_rounds, state_of, elements_in, object, opening_line, Spot, Inside, TellsElement, TellsEvent, asking_from, change_text, numbered_from, plain_inside, plain_calls, subnet_calls, subnet_inside, plain_of, subnet_of, Raw, World, EndsAll, IsScripted, TraceStops, TracesAll, TracesFrom, TracesInput, TracesOn, TracesOver, WorldEndsFrom, WorldTracesFrom}
-use Rattle.std.proofs.lemmas.List.{append-nil}
-use Rattle.replay.specs.Output.{Shown}
+use Rattle.command_line.proofs.Common.{◌≡◌, inl, inr, ℕ, List, [], ◌∷◌, ◌++◌, Some, sym, ap, ap₂, subst, zip, ◌∙◌, append_assoc, HappensOnce, ShowsFront, text_of, Calls, AreSettled, ends_front, in_turn_once, parted_once, RawEvent, TopologyFields, CarrierKind, shown, WorldState, opening_world, Event, SameGains, gains_once, happens_once, shown_settled, EndsRound, WorldEvent, opening_text, world_line, StopsOne, TellsIn, TellsInCalm, TellsOne, TellsRound, change_of, first_rounds, state_of, object, opening_line, Spot, Inside, TellsEvent, asking_from, numbered_from, plain_inside, plain_calls, subnet_calls, subnet_inside, plain_of, subnet_of, Raw, World, EndsAll, IsScripted, TraceStops, TracesAll, TracesFrom, TracesInput, TracesOn, TracesOver, WorldEndsFrom, WorldTracesFrom}
 use Rattle.replay.proofs.lemmas.{text_of-append}
 use Rattle.topology.specs.declared.network.CarrierKind.TheVariants as kind
 use Rattle.world_replay.specs.Gains.{Gains}
 use Rattle.world_replay.specs.Output.{Shown as Printed}
 use Rattle.world_script.specs.declared.event.WorldEvent.TheVariants as worlds
 use Rattle.world_trace.specs.Traces.{EndsIn, IsHeard, IsSilent, IsUnchanged, TellsStep}
-use Rattle.trace.specs.Texts.{trace_line}
 use Rattle.trace.specs.Traces.{EndsEvent, StopsElement}
 use Rattle.command_line.specs.Events.{Asked}
 use Rattle.command_line.specs.Traced.{EndsFrom, EndsOn, EndsOver}
 use Rattle.command_line.proofs.InCalm.{in_calm_once, round_front, round_once}
 use Rattle.command_line.proofs.OneInput.{OneInput, input_once}
-use Rattle.command_line.proofs.Settled.{plain_settled, subnet_settled}
+use Rattle.subnet_trace.proofs.lemmas.{subnet_settled}
+use Rattle.trace.proofs.lemmas.{event_front, event_once, plain_settled}
 
 -- ---- events have one trace
-
-element_once : {C : Type 0} (calls : Calls C) (inside : Inside C) → AreSettled calls → (spot : Spot) → HappensOnce (TellsElement calls inside spot)
-element_once {C} calls inside settled spot old x new other lines more (shown, h, is) (others, k, are) =
-    let one : OneReplay new other shown others = replays_once calls settled old (x.event ∷ []) new other shown others
-    (new, shown, [], h, (refl, refl), sym (append-nil shown)) (other, others, [], k, (refl, refl), sym (append-nil others)) in
-    (one.carriers, is ∙ ap₂ (λ (c : C) (s : List Shown). trace_line spot x (inside.fate old x.event) s (change_text inside old c) ∷ []) one.carriers one.lines ∙ sym are)
-
-event_once : {C : Type 0} (calls : Calls C) (inside : Inside C) → AreSettled calls → HappensOnce (TellsEvent calls inside)
-event_once calls inside settled old e new other lines more h k =
-    in_turn_once (TellsElement calls inside e.0) (element_once calls inside settled e.0) old (elements_in (inside.calm old) e.1) new other lines more h k
 
 from_once : {C : Type 0} (calls : Calls C) (inside : Inside C) → AreSettled calls → (t : TopologyFields) (opening : C) (events : List (ℕ × RawEvent)) (before after other : List ℕ) → TracesFrom calls inside t opening events (Some before) (Some after)
     → TracesFrom calls inside t opening events (Some before) (Some other) → after ≡ other
@@ -37,15 +25,6 @@ from_once calls inside settled t opening events before after other h k =
     h.traced.written ∙ ap (λ ls. before ++ text_of (λ line. line) ls) same ∙ sym k.traced.written
 
 -- ---- the first part of a trace
-
--- the elementary event in which memory ran out has no line
-stops_front : {C : Type 0} (calls : Calls C) (inside : Inside C) (spot : Spot) → ShowsFront (StopsElement calls) (TellsElement calls inside spot)
-stops_front calls inside spot old x new other part whole (inl h) k = (whole, sym (ap (λ xs. xs ++ whole) h.1))
-stops_front calls inside spot old x new other part whole (inr h) k = (whole, sym (ap (λ xs. xs ++ whole) h.1))
-
-event_front : {C : Type 0} (calls : Calls C) (inside : Inside C) → AreSettled calls → ShowsFront (EndsEvent calls inside (StopsElement calls)) (TellsEvent calls inside)
-event_front calls inside settled old e new other part whole h k =
-    ends_front (TellsElement calls inside e.0) (StopsElement calls) (element_once calls inside settled e.0) (stops_front calls inside e.0) old (elements_in (inside.calm old) e.1) new other part whole h k
 
 -- lines of which some are the first
 text_front : (before part whole : List ℕ) (lines all more : List (List ℕ)) → part ≡ before ++ text_of (λ line. line) lines → whole ≡ before ++ text_of (λ line. line) all → all ≡ lines ++ more → (rest : List ℕ) × (whole ≡ part ++ rest)

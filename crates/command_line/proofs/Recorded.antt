@@ -1,20 +1,28 @@
 -- What a replay prints is what its trace has as printed.
-use Rattle.command_line.proofs.Common.{◌≡◌, inl, inr, ℕ, ◌+◌, Bool, true, false, List, [], ◌∷◌, ◌++◌, Some, codes, map, zip, arith, refl, sym, ap, ap₂, subst, ◌∙◌, length-append, map-append, Calls, Crossing, plain_calls, shown, WorldState, opening_world, Life, OneReplay, in_turn_once, replays_once, text_of, AreSettled, Sizes, ended_line, RawEvent, subnet_calls, subnet_inside, TopologyFields, CarrierKind, object, opening_line, elements_in, Inside, TellsElement, TellsEvent, change_text, numbered_from, plain_inside, Spot, happens_once, shown_settled, Happens, HappensInCalm, WorldEvent, opening_text, world_line, TellsIn, TellsInCalm, TellsOne, TellsRound, change_of, first_rounds, state_of, ends_of, plain_of, subnet_of, Raw, World, ReplaysFrom, ReplaysInput, ReplaysOn, ReplaysOver, book_text, TracesAll, TracesFrom, TracesInput, TracesOver, WorldTracesFrom, asked_count}
-use Rattle.std.proofs.Common.{suc, zero, length}
+use Rattle.command_line.proofs.Common.{◌≡◌, inl, inr, ℕ, ◌+◌, Bool, true, false, List, [], ◌∷◌, ◌++◌, Some, codes, map, zip, arith, refl, sym, ap, ap₂, subst, ◌∙◌, length-append, map-append, Calls, Crossing, plain_calls, shown, WorldState, opening_world, Life, OneReplay, in_turn_once, replays_once, text_of, AreSettled, Sizes, ended_line, RawEvent, subnet_calls, subnet_inside, TopologyFields, CarrierKind, object, opening_line, Inside, TellsEvent, numbered_from, plain_inside, Spot, happens_once, shown_settled, Happens, HappensInCalm, WorldEvent, opening_text, world_line, TellsIn, TellsInCalm, TellsOne, TellsRound, change_of, first_rounds, state_of, ends_of, plain_of, subnet_of, Raw, World, ReplaysFrom, ReplaysInput, ReplaysOn, ReplaysOver, book_text, TracesAll, TracesFrom, TracesInput, TracesOver, WorldTracesFrom, asked_count}
+use Rattle.std.proofs.Common.{◌≤◌, suc, zero, length}
 use Rattle.std.proofs.lemmas.Grind.{flat_map-append}
-use Rattle.std.proofs.lemmas.List.{append-nil}
+use Rattle.std.proofs.lemmas.List.{append-nil, length-map}
 use Rattle.std.proofs.lemmas.List.Folds.{flat_map-map}
 use Rattle.std.specs.List.{flat_map}
 use Rattle.replay.specs.InTurn.{InTurn}
 use Rattle.replay.specs.Output as raw
 use Rattle.replay.specs.Replay as of_network
-use Rattle.subnet.specs.Calls.{Kept}
-use Rattle.subnet_trace.proofs.lemmas as subnet
-use Rattle.subnet_trace.specs.Told.{IsPlaced}
-use Rattle.topology.specs.Topology.{hosts_of, sites_of}
+use Rattle.interface.specs.Host.{Host, most_imps}
+use Rattle.script.specs.Spelling.{IsEvent}
+use Rattle.std.proofs.lemmas.List.Elements.{All-head, All-tail}
+use Rattle.std.proofs.lemmas.List.FromFn.{length-range_with_len}
+use Rattle.std.specs.List.{All, range_with_len}
+use Rattle.subnet.specs.Calls.{running}
+use Rattle.subnet.specs.Net.{Net}
+use Rattle.subnet.specs.Opening.{opening_subnet}
+use Rattle.subnet_trace.proofs.lemmas.{Holds, event_holds, opening_holds, says}
+use Rattle.topology.proofs.lemmas.{described_keeps, hosts_listed}
+use Rattle.topology.specs.Topology.{IsTopology, site_of, sites_of}
 use Rattle.topology.specs.declared.network.CarrierKind.TheVariants as kind
-use Rattle.trace.proofs.lemmas as plain
+use Rattle.trace.proofs.lemmas.{told}
 use Rattle.trace.specs.Elements.{events_of}
+use Rattle.trace.specs.Traces.{SaysAll, TellsElement, change_text}
 use Rattle.trace.specs.declared.element.Element.{Element}
 use Rattle.world_replay.proofs.lemmas.Accounts.{AreParts, ShowsAs, round_as}
 use Rattle.world_replay.proofs.lemmas.CalmRounds.{calm_rounds}
@@ -22,12 +30,13 @@ use Rattle.world_replay.proofs.lemmas.{round_calm}
 use Rattle.world_replay.specs.Output.{Shown, shown_text}
 use Rattle.world_replay.specs.Replay.{Replays, rounds_of}
 use Rattle.world_script.specs.declared.event.WorldEvent.TheVariants as worlds
-use Rattle.command_line.specs.Events.{Asked}
+use Rattle.command_line.specs.Events.{Asked, AsksFor}
 use Rattle.command_line.specs.Recorded.{OfElement, OfWorld, PrintsTrace, Recorded, printed_lines, recorded_text, told_from, told_lines, told_over}
 use Rattle.command_line.specs.WorkedSides.{starts}
 use Rattle.command_line.proofs.Printed.{no_lives}
 use Rattle.command_line.proofs.OneInput.{OneInput, input_once}
-use Rattle.command_line.proofs.Settled.{plain_settled, subnet_settled}
+use Rattle.subnet_trace.proofs.lemmas.{subnet_settled}
+use Rattle.trace.proofs.lemmas.{plain_settled}
 
 -- ---- lines of a trace that have these lines as printed
 
@@ -79,25 +88,26 @@ elements_printed {C} calls inside settled spot (x ∷ xs) old new other lines pr
           (subst (λ (ts : List (List ℕ)). HavePrinted (first ++ rest) ts) (sym (ap raw_texts whole ∙ map-append (raw.shown_text Sizes) begin later)) (more_printed first rest (raw_texts begin) (raw_texts later) here.1 there.1)),
     )
 
--- an event is its elementary events, in states of which something holds that all events keep
-record IsElementary {C : Type 0} (calls : Calls C) (inside : Inside C) (Holds : C → Type 0) : Type 0 where
-  course : (old new : C) (e : RawEvent) (prints : List raw.Shown) → Holds old → of_network.Happens calls old e new prints → of_network.Replays calls old (events_of (elements_in (inside.calm old) e)) new prints
-  kept : (old new : C) (e : RawEvent) (prints : List raw.Shown) → Holds old → of_network.Happens calls old e new prints → Holds new
+-- what is traced of an event says all of it, in states of which something holds that all events keep
+record AreSaid {C : Type 0} (calls : Calls C) (inside : Inside C) (Holds : C → Type 0) : Type 0 where
+  says : (spot : Spot) (old new other : C) (e : RawEvent) (lines : List (List ℕ)) (prints : List raw.Shown) → Holds old → TellsEvent calls inside old (spot, e) new lines → of_network.Happens calls old e other prints → SaysAll calls inside spot old new lines other prints
+  kept : (old new : C) (e : RawEvent) (prints : List raw.Shown) → IsEvent e → Holds old → of_network.Happens calls old e new prints → Holds new
 
 -- without their lines
 abbrev alone : {E : Type 0} → List (ℕ × E) → List E
 alone events = map (λ e. e.1) events
 
-events_printed : {C : Type 0} (calls : Calls C) (inside : Inside C) (Holds : C → Type 0) → AreSettled calls → IsElementary calls inside Holds → (number : ℕ) (events : List (ℕ × RawEvent)) (old new other : C) (lines : List (List ℕ)) (prints : List raw.Shown)
-    → Holds old → InTurn (TellsEvent calls inside) old (numbered_from number events) new lines → of_network.Replays calls old (alone events) other prints → Ends new other lines prints
+events_printed : {C : Type 0} (calls : Calls C) (inside : Inside C) (Holds : C → Type 0) → AreSettled calls → AreSaid calls inside Holds → (number : ℕ) (events : List (ℕ × RawEvent)) (old new other : C) (lines : List (List ℕ)) (prints : List raw.Shown)
+    → All IsEvent (alone events) → Holds old → InTurn (TellsEvent calls inside) old (numbered_from number events) new lines → of_network.Replays calls old (alone events) other prints → Ends new other lines prints
 unfolding raw_texts
-events_printed calls inside Holds settled each number [] old new other lines prints holds (left, none) (same, nothing) =
+events_printed calls inside Holds settled each number [] old new other lines prints valid holds (left, none) (same, nothing) =
     (left ∙ sym same, subst (λ (ls : List (List ℕ)). HavePrinted ls (raw_texts prints)) (sym none) (subst (λ (ps : List raw.Shown). HavePrinted [] (raw_texts ps)) (sym nothing) none_printed))
-events_printed {C} calls inside Holds settled each number (e ∷ events) old new other lines prints holds (mid, first, rest, one, more, all) (between, begin, later, happens, follow, whole) =
+events_printed {C} calls inside Holds settled each number (e ∷ events) old new other lines prints valid holds (mid, first, rest, one, more, all) (between, begin, later, happens, follow, whole) =
     let spot : Spot = record { line = e.0; number = number } in
-    let here : Ends mid between first begin = elements_printed calls inside settled spot (elements_in (inside.calm old) e.1) old mid between first begin one (each.course old between e.1 begin holds happens) in
-    let after : Holds mid = subst Holds (sym here.0) (each.kept old between e.1 begin holds happens) in
-    let there : Ends new other rest later = events_printed calls inside Holds settled each (suc number) events mid new other rest later after more (subst (λ (c : C). of_network.Replays calls c (alone events) other later) (sym here.0) follow) in (
+    let says : SaysAll calls inside spot old mid first between begin = each.says spot old mid between e.1 first begin holds one happens in
+    let here : Ends mid between first begin = elements_printed calls inside settled spot says.told old mid between first begin says.tells says.replays in
+    let after : Holds mid = subst Holds (sym here.0) (each.kept old between e.1 begin (All-head IsEvent e.1 (alone events) valid) holds happens) in
+    let there : Ends new other rest later = events_printed calls inside Holds settled each (suc number) events mid new other rest later (All-tail IsEvent e.1 (alone events) valid) after more (subst (λ (c : C). of_network.Replays calls c (alone events) other later) (sym here.0) follow) in (
       there.0,
       subst (λ (ls : List (List ℕ)). HavePrinted ls (raw_texts prints)) (sym all)
           (subst (λ (ts : List (List ℕ)). HavePrinted (first ++ rest) ts) (sym (ap raw_texts whole ∙ map-append (raw.shown_text Sizes) begin later)) (more_printed first rest (raw_texts begin) (raw_texts later) here.1 there.1)),
@@ -190,16 +200,27 @@ alone_of (n ∷ lines) (e ∷ events) fit = ap (λ es. e ∷ es) (alone_of lines
 abbrev in_lines : List (List ℕ) → List ℕ
 in_lines lines = text_of (λ line. line) lines
 
-raw_from : {C : Type 0} (calls : Calls C) (inside : Inside C) (Holds : C → Type 0) → AreSettled calls → IsElementary calls inside Holds → (t : TopologyFields) (opening : C) (lines : List ℕ) (events : List RawEvent) (book : Bool) (out trace : List ℕ)
-    → Holds opening → length lines ≡ length events →
+-- the events of a network without host programs are such as a script may ask for
+abbrev AreValid : Asked → Type 0
+AreValid (Raw events) = All IsEvent events
+AreValid (World events) = Unit {0}
+
+asked_valid : (raw : Bool) (events : Asked) (lines : List (List ℕ)) → AsksFor raw events lines → AreValid events
+asked_valid true (Raw events) lines asked = asked.meant
+asked_valid true (World events) lines asked = tt
+asked_valid false (Raw events) lines asked = absurd asked
+asked_valid false (World events) lines asked = tt
+
+raw_from : {C : Type 0} (calls : Calls C) (inside : Inside C) (Holds : C → Type 0) → AreSettled calls → AreSaid calls inside Holds → (t : TopologyFields) (opening : C) (lines : List ℕ) (events : List RawEvent) (book : Bool) (out trace : List ℕ)
+    → All IsEvent events → Holds opening → length lines ≡ length events →
     ReplaysFrom calls opening book Sizes (Raw events) (Some []) (Some out) →
     (k : TracesFrom calls inside t opening (zip lines events) (Some []) (Some trace)) →
     PrintsTrace book out trace k.traced.shown
 unfolding raw_texts
-raw_from {C} calls inside Holds settled each t opening lines events book out trace holds fit h k =
+raw_from {C} calls inside Holds settled each t opening lines events book out trace valid holds fit h k =
     let (others, is, tells) = k.traced.is_shown in
     let replays : of_network.Replays calls opening (alone (zip lines events)) h.shows.last h.shown = subst (λ (es : List RawEvent). of_network.Replays calls opening es h.shows.last h.shown) (sym (alone_of lines events fit)) h.shows.replayed in
-    let (same, (recorded, are, prints)) = events_printed calls inside Holds settled each 1 (zip lines events) opening k.last h.shows.last others h.shown holds tells replays in
+    let (same, (recorded, are, prints)) = events_printed calls inside Holds settled each 1 (zip lines events) opening k.last h.shows.last others h.shown (subst (All IsEvent) (sym (alone_of lines events fit)) valid) holds tells replays in
     record {
       opening = opening_line t (object (inside.members opening));
       recorded = recorded;
@@ -230,27 +251,36 @@ world_from {C} calls members settled t opening lines events book out trace fit h
       printed = h.written ∙ ap (λ (xs : List ℕ). xs ++ (book_text book h.lives ++ codes "end\n")) (sym (flat_map-map ended_line (shown_text Sizes) h.shown) ∙ ap in_lines prints);
     }
 
-all_from : {C : Type 0} (calls : Calls C) (inside : Inside C) (Holds : C → Type 0) → AreSettled calls → IsElementary calls inside Holds → (t : TopologyFields) (opening : C) (lines : List ℕ) (events : Asked) (book : Bool) (out trace : List ℕ)
-    → Holds opening → length lines ≡ asked_count events →
+all_from : {C : Type 0} (calls : Calls C) (inside : Inside C) (Holds : C → Type 0) → AreSettled calls → AreSaid calls inside Holds → (t : TopologyFields) (opening : C) (lines : List ℕ) (events : Asked) (book : Bool) (out trace : List ℕ)
+    → AreValid events → Holds opening → length lines ≡ asked_count events →
     ReplaysFrom calls opening book Sizes events (Some []) (Some out) →
     (k : TracesAll calls inside t opening lines events (Some []) (Some trace)) →
     PrintsTrace book out trace (told_from calls inside t opening lines events (Some []) (Some trace) k)
-all_from calls inside Holds settled each t opening lines (Raw events) book out trace holds fit h k = raw_from calls inside Holds settled each t opening lines events book out trace holds fit h k
-all_from calls inside Holds settled each t opening lines (World events) book out trace holds fit h k = world_from calls inside.members settled t opening lines events book out trace fit h k
+all_from calls inside Holds settled each t opening lines (Raw events) book out trace valid holds fit h k = raw_from calls inside Holds settled each t opening lines events book out trace valid holds fit h k
+all_from calls inside Holds settled each t opening lines (World events) book out trace valid holds fit h k = world_from calls inside.members settled t opening lines events book out trace fit h k
 
-plain_elementary : IsElementary plain_calls plain_inside (λ b. Unit {0})
-plain_elementary = record { course = λ old new e prints holds h. plain.elementary old new e prints h; kept = λ old new e prints holds h. tt }
+plain_said : AreSaid plain_calls plain_inside (λ b. Unit {0})
+plain_said = record { says = λ spot old new other e lines prints holds t h. told old new other spot e lines prints t h; kept = λ old new e prints valid holds h. tt }
 
-subnet_elementary : IsElementary subnet_calls subnet_inside (λ (k : Kept). IsPlaced k.net)
-subnet_elementary = record { course = subnet.elementary; kept = subnet.placed_after }
+subnet_said : (o : Net) → AreSaid subnet_calls subnet_inside (Holds o)
+subnet_said o = record {
+  says = λ spot old new other e lines prints holds t h. says o old new other spot e lines prints holds t h;
+  kept = λ old new e prints valid holds h. event_holds old new e prints valid h holds;
+}
 
-over_from : (carrier : CarrierKind) (t : TopologyFields) (lines : List ℕ) (events : Asked) (book : Bool) (out trace : List ℕ) → length lines ≡ asked_count events
+-- a subnet of a topology, at its opening
+opening_of : (t : TopologyFields) → IsTopology t → Holds (subnet_of t).net (subnet_of t)
+opening_of t keeps =
+    let few : length (sites_of t) ≤ most_imps + 1 = omega (arith, length-map (range_with_len 0 (most_imps + 1)) (site_of t.imps), length-range_with_len 0 (most_imps + 1)) in
+    subst (λ (hosts : List Host). Holds (opening_subnet hosts (sites_of t) (ends_of t.lines)) (running (opening_subnet hosts (sites_of t) (ends_of t.lines)))) (sym (hosts_listed t keeps)) (opening_holds (sites_of t) (ends_of t.lines) few)
+
+over_from : (carrier : CarrierKind) (t : TopologyFields) (lines : List ℕ) (events : Asked) (book : Bool) (out trace : List ℕ) → IsTopology t → AreValid events → length lines ≡ asked_count events
     → ReplaysOver carrier t book Sizes events (Some []) (Some out) →
     (k : TracesOver carrier t lines events (Some []) (Some trace)) →
     PrintsTrace book out trace (told_over carrier t lines events (Some []) (Some trace) k)
-over_from kind.Plain t lines events book out trace fit h k = all_from plain_calls plain_inside (λ b. Unit {0}) plain_settled plain_elementary t (plain_of t) lines events book out trace tt fit h k
-over_from kind.Subnet t lines events book out trace fit h k =
-    all_from subnet_calls subnet_inside (λ (k : Kept). IsPlaced k.net) subnet_settled subnet_elementary t (subnet_of t) lines events book out trace (subnet.opening (hosts_of t) (sites_of t) (ends_of t.lines)) fit h k
+over_from kind.Plain t lines events book out trace keeps valid fit h k = all_from plain_calls plain_inside (λ b. Unit {0}) plain_settled plain_said t (plain_of t) lines events book out trace valid tt fit h k
+over_from kind.Subnet t lines events book out trace keeps valid fit h k =
+    all_from subnet_calls subnet_inside (Holds (subnet_of t).net) subnet_settled (subnet_said (subnet_of t).net) t (subnet_of t) lines events book out trace valid (opening_of t keeps) fit h k
 
 pub prints_trace : (book : Bool) (input out trace : List ℕ) → ReplaysInput book Sizes input (Some []) (Some out) →
     (k : TracesInput input (Some []) (Some trace)) →
@@ -260,7 +290,7 @@ prints_trace book input out trace h k =
     let moved : ReplaysOn k.network book Sizes k.events (Some []) (Some out) =
     subst (λ (network : TopologyFields). ReplaysOn network book Sizes k.events (Some []) (Some out)) same.same_network
     (subst (λ (events : Asked). ReplaysOn h.network book Sizes events (Some []) (Some out)) same.same_events h.replayed) in
-    over_from k.network.carrier k.network k.lines k.events book out trace k.input.fits moved k.traced
+    over_from k.network.carrier k.network k.lines k.events book out trace (described_keeps k.input.input.document k.network k.input.input.described) (asked_valid k.network.raw k.events _ k.input.input.asked) k.input.fits moved k.traced
 
 -- ---- outputs that a trace does not have
 

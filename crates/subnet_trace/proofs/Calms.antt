@@ -21,13 +21,13 @@ use Rattle.trace.proofs.lemmas.{AllEvents, AllRoundsGo, AllTakeSo, Goes, TakesSo
 -- ---- what holds all the while
 
 -- no IMP is where the network has none, and hosts and lines stay as many as they were
-record Held (hosts : List Host) (lines : ℕ) (n : Net) : Type 0 where
-  placed : IsPlaced n
-  same_hosts : n.hosts ≡ hosts
-  as_many : length n.lines ≡ lines
+pub record Held (hosts : List Host) (lines : ℕ) (n : Net) : Type 0 where
+  pub placed : IsPlaced n
+  pub same_hosts : n.hosts ≡ hosts
+  pub as_many : length n.lines ≡ lines
 
 -- a subnet in a calm, and in one whose quiet round is over
-abbrev traced : List Host → ℕ → Traced Kept Net
+abbrev pub traced : List Host → ℕ → Traced Kept Net
 traced hosts lines = record { calls = subnet_calls; view = λ k. k.net; Holds = λ k. Held hosts lines k.net; giving = from_subnet }
 
 abbrev quieted : List Host → ℕ → Traced Kept Net
@@ -323,7 +323,7 @@ goes_quiet hosts lines round old q mid held (Err f, rounds, is) goes =
     let bad : None ≡ Some f = refusal_is old.stopped None f w.0 (or_first (is_halt f) (is_memory f) calm) in
     absurd (not_some bad)
 
-goes_round : (hosts : List Host) (lines : ℕ) → AllRoundsGo (traced hosts lines) round_of
+pub goes_round : (hosts : List Host) (lines : ℕ) → AllRoundsGo (traced hosts lines) round_of
 unfolding lines_part
 goes_round hosts lines round old r new held (q, mid, first, more) goes =
     let imps : Course Net = all_refreshing round (numbers_from 0 (length old.net.imps)) old.net in
@@ -341,7 +341,7 @@ goes_round hosts lines round old r new held (q, mid, first, more) goes =
 
 -- ---- the law
 
-held_by : (n : Net) → IsPlaced n → Held n.hosts (length n.lines) n
+pub held_by : (n : Net) → IsPlaced n → Held n.hosts (length n.lines) n
 held_by n placed = record { placed = placed; same_hosts = refl; as_many = refl }
 
 pub elementary : (old new : Kept) (e : RawEvent) (shown : List Shown) → IsPlaced old.net → Happens subnet_calls old e new shown → Replays subnet_calls old (events_of (elements_of old.net e)) new shown

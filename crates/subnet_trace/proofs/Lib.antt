@@ -17,6 +17,8 @@ pub mod Nothing
 pub mod Silent
 pub mod AllMembers
 pub mod Calms
+pub mod NoChoice
+pub mod Told
 pub mod Stages
 pub mod Onward
 pub mod Delivered

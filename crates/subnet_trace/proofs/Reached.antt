@@ -24,10 +24,10 @@ host_message m is = record { source = address m.flow.source is.0.0; destination 
 -- ---- calls that continued
 
 -- a subnet in which memory never ran out, and of which all can be printed
-record Holds (o : Net) (k : Kept) : Type 0 where
-  working : IsWorking k
-  runs : k.stopped ≡ false
-  known : IsKnown o k.net
+pub record Holds (o : Net) (k : Kept) : Type 0 where
+  pub working : IsWorking k
+  pub runs : k.stopped ≡ false
+  pub known : IsKnown o k.net
 
 sound_of : {o : Net} (k : Kept) → Holds o k → IsSound k.net
 sound_of k holds = (holds.working.whole holds.runs).sound
@@ -64,9 +64,9 @@ step_holds old new e (Ok done) valid h goes holds =
     (step_known old.net e valid (runs old.stopped (step_refusal old.net e) h.0) (sound_of old holds) holds.known)
 step_holds old new e (Err f) valid h goes holds = same_holds old new (unchanged _ _ old new f h goes) holds
 
-round_holds : {o : Net} (old new : Kept) (r : Result (Unit {0}) CarrierFault) → SubnetRound old r new → GoesOn r → Holds o old → Holds o new
-round_holds old new (Ok done) h goes holds = after_call old new (quiet_round old.net) h.1 (round_working old (Ok done) new h holds.working) (round_known old.net (sound_of old holds) holds.known)
-round_holds old new (Err f) h goes holds = same_holds old new (unchanged _ _ old new f h goes) holds
+quiet_round_holds : {o : Net} (old new : Kept) (r : Result (Unit {0}) CarrierFault) → SubnetRound old r new → GoesOn r → Holds o old → Holds o new
+quiet_round_holds old new (Ok done) h goes holds = after_call old new (quiet_round old.net) h.1 (round_working old (Ok done) new h holds.working) (round_known old.net (sound_of old holds) holds.known)
+quiet_round_holds old new (Err f) h goes holds = same_holds old new (unchanged _ _ old new f h goes) holds
 
 -- ---- a calm
 
@@ -97,18 +97,19 @@ all_take_hold [] old new r k goes holds = same_holds old new k.1 holds
 all_take_hold (h ∷ hosts) old new r k goes holds = chain_holds (Takings subnet_calls h 16) (AllTake subnet_calls hosts) (takings_hold h 16) (all_take_hold hosts) old new r k goes holds
 
 quiet_holds : {o : Net} → PartHolds o (Quiet subnet_calls)
-quiet_holds old new r (answer, k, is) goes holds = round_holds old new answer k (calmly_goes answer (subst GoesOn is goes)) holds
+quiet_holds old new r (answer, k, is) goes holds = quiet_round_holds old new answer k (calmly_goes answer (subst GoesOn is goes)) holds
+
+pub round_holds : {o : Net} → PartHolds o (Round subnet_calls)
+round_holds old new r k goes holds = chain_holds (Quiet subnet_calls) (AllTake subnet_calls old.net.hosts) quiet_holds (all_take_hold old.net.hosts) old new r k goes holds
 
 rounds_hold : {o : Net} (times : ℕ) → PartHolds o (Rounds subnet_calls times)
 rounds_hold zero old new r k goes holds = same_holds old new k.1 holds
 rounds_hold (suc times) old new r k goes holds =
-    chain_holds (Round subnet_calls) (Rounds subnet_calls times)
-    (λ from to q h went before. chain_holds (Quiet subnet_calls) (AllTake subnet_calls from.net.hosts) quiet_holds (all_take_hold from.net.hosts) from to q h went before)
-    (rounds_hold times) old new r k goes holds
+    chain_holds (Round subnet_calls) (Rounds subnet_calls times) round_holds (rounds_hold times) old new r k goes holds
 
 -- ---- a replay
 
-event_holds : {o : Net} (old new : Kept) (e : RawEvent) (shown : List Shown) → IsEvent e → Happens subnet_calls old e new shown → Holds o old → Holds o new
+pub event_holds : {o : Net} (old new : Kept) (e : RawEvent) (shown : List Shown) → IsEvent e → Happens subnet_calls old e new shown → Holds o old → Holds o new
 event_holds old new (event.Out m) shown valid k holds = offer_holds old new m k.outcome valid k.gives k.goes_on holds
 event_holds old new (event.Take h) shown valid k holds = take_holds old new h k.gives.0 k.gives.1 (subst GoesOn k.gives.2 k.goes_on) holds
 event_holds old new (event.Net e) shown valid k holds = step_holds old new e k.outcome valid k.gives k.goes_on holds
@@ -121,10 +122,10 @@ replay_holds (e ∷ events) old new shown valid (mid, first, rest, h, hs, whole)
 
 -- ---- from the opening
 
-opening_holds : (sites : List (Option ℕ)) (ends : List Ends) → length sites ≤ most_imps + 1 → Holds (opening_subnet (hosts_from 0 sites) sites ends) (running (opening_subnet (hosts_from 0 sites) sites ends))
+pub opening_holds : (sites : List (Option ℕ)) (ends : List Ends) → length sites ≤ most_imps + 1 → Holds (opening_subnet (hosts_from 0 sites) sites ends) (running (opening_subnet (hosts_from 0 sites) sites ends))
 opening_holds sites ends few = record { working = opening_working sites ends few; runs = refl; known = opening_known (hosts_from 0 sites) sites ends }
 
-reached_holds : (sites : List (Option ℕ)) (ends : List Ends) (k : Kept) → IsReached sites ends k → Holds (opening_subnet (hosts_from 0 sites) sites ends) k
+pub reached_holds : (sites : List (Option ℕ)) (ends : List Ends) (k : Kept) → IsReached sites ends k → Holds (opening_subnet (hosts_from 0 sites) sites ends) k
 reached_holds sites ends k is = replay_holds is.events (running (opening_subnet (hosts_from 0 sites) sites ends)) k is.shown is.valid is.replayed (opening_holds sites ends is.few)
 
 pub reached : (sites : List (Option ℕ)) (ends : List Ends) (k : Kept) → IsReached sites ends k → IsTold k.net
@@ -133,7 +134,7 @@ reached sites ends k is = let holds = reached_holds sites ends k is in told k.ne
 pub network : (sites : List (Option ℕ)) (ends : List Ends) (k : Kept) → IsReached sites ends k → IsOneNetwork (opening_subnet (hosts_from 0 sites) sites ends) k.net
 network sites ends k is = (reached_holds sites ends k is).known.network
 
-one_opening : (o n m : Net) → IsOneNetwork o n → IsOneNetwork o m → IsOneNetwork n m
+pub one_opening : (o n m : Net) → IsOneNetwork o n → IsOneNetwork o m → IsOneNetwork n m
 one_opening o n m p q = record { hosts = sym p.hosts ∙ q.hosts; sites = sym p.sites ∙ q.sites; lines = sym p.lines ∙ q.lines }
 
 pub replays : (sites : List (Option ℕ)) (ends : List Ends) (one other : Kept) → IsReached sites ends one → IsReached sites ends other → SameTexts one.net other.net → other.net ≡ record one.net { log = other.net.log }

@@ -16,6 +16,7 @@ use Rattle.link_table.specs.Flows.{noted}
 use Rattle.link_table.specs.declared.destination.Fate.TheVariants as kept
 use Rattle.routing.specs.RouteTable.{Table}
 use Rattle.subnet.specs.Examples.{imp_1, imp_2, ours, pair, past_one, sending_ours, serving_ours}
+use Rattle.subnet.specs.Opening.{opening_subnet}
 use Rattle.subnet.specs.Net.{Net}
 use Rattle.subnet_trace.specs.Fates.{fate_of}
 use Rattle.trace.specs.declared.element.Element.{Element}
@@ -103,6 +104,10 @@ looping = record (pair (Some sending_ours) None [] []) { lines = record { a = 1;
 -- both IMPs down, and frames on two lines
 abbrev pub two_lines : Net
 two_lines = record (pair None None [] []) { lines = record { a = 1; b = 2; forward = ack_frame ∷ ack_frame ∷ []; back = ack_frame ∷ [] } ∷ record { a = 1; b = 2; forward = []; back = ack_frame ∷ [] } ∷ [] }
+
+-- one IMP, without hosts and lines: each round of a calm, it sends its distances to no one
+abbrev pub lonely : Net
+lonely = opening_subnet [] (None ∷ Some 0 ∷ []) []
 
 -- ---- fates of frames that go from IMP 1 to IMP 2, of this state, and back
 

@@ -18,6 +18,7 @@ ghost use Rattle.trace.specs.Traces.{change_text};
 ghost use Rattle.subnet_trace.specs.Traced.{subnet_inside};
 ghost use Rattle.subnet_trace.specs.Laws.Elementary.{ElementaryCourse, ElementaryReached};
 ghost use Rattle.subnet_trace.specs.Laws.Rest.{RestParts};
+ghost use Rattle.subnet_trace.specs.Laws.SaysAll.{Saying};
 ghost use Rattle.subnet_trace.specs.Laws.Whole.{WholeReplays};
 
 /// An event of a script is its elementary events one after another: each of them only, as a line of a script, leaves what the
@@ -34,6 +35,13 @@ pub fn elementary()
 
     // what is left of a calm where it begins is all of it
     ensures beginning { (n : Net) (rounds : ℕ) → calm_left n (beginning rounds) ≡ calm_of n rounds }
+{}
+
+/// What is traced of an event says all of it, though a calm is traced up to its first still round only: the
+/// elementary events that have a line leave what the whole event leaves, and print what it prints. So all rounds
+/// after a still one change nothing, and print nothing.
+pub fn says_all()
+    ensures { Saying }
 {}
 
 /// What an elementary event's parts do not name is as before.

@@ -8,9 +8,11 @@
 //! A calm has the calls of its quiet rounds that do something, and the takings of the hosts, as elementary events; a [`Place`]
 //! is between two of them.
 //!
-//! A reader of traces may rely on three laws ([`law`]). A calm is its elementary events one after another. An event changes
-//! no part but those that it can change, and none where it is refused. Of the subnets that replays come to, those with equal texts of all parts are equal, but
-//! for their logs; and the first line of a trace describes the network. So a trace leaves nothing out.
+//! A reader of traces may rely on these laws ([`law`]). A calm is its elementary events one after another; it is
+//! traced up to its first still round, after which every round would be the same. An event changes no part but those
+//! that it can change, and none where it is refused. Of the subnets that replays come to, those with equal texts of
+//! all parts are equal, but for their logs; and the first line of a trace describes the network. So a trace leaves
+//! nothing out.
 #![tactic(auto)]
 
 mod calm;

@@ -25,6 +25,7 @@ ghost use Rattle.subnet_trace.specs.Laws.WorkedParts.{WorkedPartsHost, WorkedPar
 ghost use Rattle.subnet_trace.specs.Laws.WorkedUntold.{WorkedUntoldAnswer};
 ghost use Rattle.subnet_trace.specs.Laws.WorkedCalms.{WorkedCalmsAgain, WorkedCalmsLater, WorkedCalmsTaking};
 ghost use Rattle.subnet_trace.specs.Laws.WorkedPlaces.{WorkedPlacesTelling};
+ghost use Rattle.subnet_trace.specs.Laws.WorkedStill.{Endings};
 
 /// Packets, channels, slots and frames.
 pub fn worked_packets()
@@ -180,6 +181,11 @@ pub fn worked_calms()
     ensures down { calm_of (pair (Some imp_1) None (data_frame 0 ∷ []) []) 1 ≡ tells 1 1 ∷ gone 1 0 way.Forward ∷ gone 1 0 way.Forward ∷ [] }
     ensures all_down { calm_of two_lines 2 ≡ gone 1 0 way.Forward ∷ gone 1 0 way.Forward ∷ gone 1 0 way.Back ∷ gone 1 1 way.Back ∷ [] }
     ensures quiet { calm_of (pair None None [] []) 2 ≡ [] }
+{}
+
+/// Where the trace of a calm ends: with its first still round.
+pub fn worked_still()
+    ensures { Endings }
 {}
 
 /// What is left of a calm at a place.

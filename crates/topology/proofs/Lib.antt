@@ -1,5 +1,7 @@
+pub mod Described
 mod Documents
 mod Hosts
-mod Order
-mod Sites
+pub mod Order
+pub mod Sites
 mod Ports
+pub mod lemmas

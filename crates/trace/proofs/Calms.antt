@@ -20,7 +20,7 @@ use Rattle.trace.proofs.Each.{Went, goes_after_take, went}
 use Rattle.trace.proofs.Going.{AllRoundsGo, AllTakeSo, Goes, TakesSo, Traced, elementary_of, goes_all, goes_calmly, goes_chain, goes_none, or_first, run_one}
 
 -- nothing has to hold of mailboxes for this
-abbrev traced : Traced Boxes Boxes
+abbrev pub traced : Traced Boxes Boxes
 traced = record { calls = plain_calls; view = λ b. b; Holds = λ b. Unit {0}; giving = from_boxes }
 
 -- ---- one taking
@@ -43,7 +43,7 @@ refused_is b h f some apart = by b.stopped (is_host b.hosts h) (is_host b.down h
   by false true true e = refl
   by false true false e = absurd (cc)
 
-taken_log : (b : Boxes) (h : Host) (i : Inbound) → (inbound_taken b h (Some i)).log ≡ crossing_of i ∷ b.log
+pub taken_log : (b : Boxes) (h : Host) (i : Inbound) → (inbound_taken b h (Some i)).log ≡ crossing_of i ∷ b.log
 taken_log b h (inbound.Message m) = refl
 taken_log b h (inbound.Answer kind f) = refl
 
@@ -89,7 +89,7 @@ goes_quiet old q mid (Err f, rounds, is) goes =
     let calm : (is_halt f || is_memory f) ≡ false = goes_calmly f (subst GoesOn is goes) in
     absurd (false≢true (sym (or_first (is_halt f) (is_memory f) calm) ∙ ap is_halt rounds.1))
 
-goes_round : AllRoundsGo traced round_of
+pub goes_round : AllRoundsGo traced round_of
 goes_round round old r new holds (q, mid, first, more) goes =
     goes_chain traced (Quiet plain_calls) (AllTake plain_calls old.hosts) (no_course old) (all_takings from_boxes round old.hosts) old new r
     (λ q mid k g. goes_quiet old q mid k g) (λ q mid m k g. goes_all traced takes_so round old.hosts mid r new tt k g) q mid first more goes

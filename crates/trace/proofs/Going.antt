@@ -28,7 +28,7 @@ pub record Run {C : Type 0} (calls : Calls C) (old : C) (events : List RawEvent)
   pub replays : Replays calls old events new (shown_crossings crossings)
   pub grown : (calls.seen new).log ≡ reverse crossings ++ (calls.seen old).log
 
-run_none : {C : Type 0} (calls : Calls C) (old : C) → Run calls old [] old
+pub run_none : {C : Type 0} (calls : Calls C) (old : C) → Run calls old [] old
 run_none calls old = record { crossings = []; replays = (refl, refl); grown = refl }
 
 shown_more : (xs ys : List Crossing) → shown_crossings (xs ++ ys) ≡ shown_crossings xs ++ shown_crossings ys
@@ -41,7 +41,7 @@ replays_more {C} calls old mid new [] ys shown more h k =
 replays_more calls old mid new (x ∷ xs) ys shown more (next, first, rest, h, hs, whole) k =
     (next, first, rest ++ more, h, replays_more calls next mid new xs ys rest more hs k, ap (λ s. s ++ more) whole ∙ append_assoc first rest more)
 
-run_then : {C : Type 0} (calls : Calls C) (old mid new : C) (xs ys : List RawEvent) → Run calls old xs mid → Run calls mid ys new → Run calls old (xs ++ ys) new
+pub run_then : {C : Type 0} (calls : Calls C) (old mid new : C) (xs ys : List RawEvent) → Run calls old xs mid → Run calls mid ys new → Run calls old (xs ++ ys) new
 run_then calls old mid new xs ys h k = record {
   crossings = h.crossings ++ k.crossings;
   replays = subst (λ (s : List Shown). Replays calls old (xs ++ ys) new s) (sym (shown_more h.crossings k.crossings)) (replays_more calls old mid new xs ys (shown_crossings h.crossings) (shown_crossings k.crossings) h.replays k.replays);

@@ -16,11 +16,10 @@ pub mod Reached
 pub mod Courses
 pub mod Going
 pub mod Keeping
-pub mod TwoRounds
+pub mod Rounds
 pub mod Joined
 pub mod PartByPart
 pub mod lemmas
 pub mod Calling
 pub mod Telling
-pub mod Turns
 pub mod Failures

@@ -1,24 +1,16 @@
 -- Events are traced one after the other, and one of them may be the last.
-use Rattle.std.proofs.Common.{◌≡◌, ℕ, suc, ◌<◌, ◌≤◌, ◌+◌, List, [], ◌∷◌, ◌++◌, drop, get_or, length, Option, Some, Result, Ok, Err, is_ok, false, arith, refl, sym, ap, subst, ◌∙◌}
-use Rattle.std.proofs.lemmas.Bool.{false≢true}
+use Rattle.std.proofs.Common.{◌≡◌, ℕ, suc, ◌<◌, ◌≤◌, ◌+◌, List, [], ◌∷◌, ◌++◌, drop, get_or, length, Option, arith, refl, sym, ap, subst, ◌∙◌}
 use Rattle.std.proofs.lemmas.List.{append_assoc, append-nil, drop_all, drop_more}
 use Rattle.std.specs.Io.KnownBytes.{Appends}
 use Rattle.replay.specs.InTurn.{EndsInTurn, Happening, InTurn, text_of}
-use Rattle.replay.specs.declared.events.ReplayFault.{ReplayFault}
 use Rattle.replay.specs.declared.events.ReplayFault.TheVariants as fault
 use Rattle.replay.proofs.lemmas.{appends_more, appends_none, last_shown, last_written, one_written}
-use Rattle.replay.specs.Replay.{IsOneCall}
-use Rattle.interface.specs.Calls.{Calls}
 use Rattle.script.specs.Input.{ended_line}
 use Rattle.topology.specs.Topology.{TopologyFields}
 use Rattle.trace.specs.Texts.{object, opening_line}
-use Rattle.script.specs.declared.event.RawEvent.{RawEvent}
 use Rattle.script.specs.declared.event.RawEvent.TheVariants as event
-use Rattle.trace.specs.declared.element.Element.{Element}
 use Rattle.trace.specs.declared.element.Spot.{Spot}
-use Rattle.trace.specs.Elements.{elements_in}
-use Rattle.trace.specs.Steps.{ElementEnds, EndsAs, EventEnds}
-use Rattle.trace.specs.Traces.{AfterOpening, GoesOnWith, Inside, MayTell, StopsElement, TellsElement, WritesTrace, numbered_from}
+use Rattle.trace.specs.Traces.{AfterOpening, Inside, WritesTrace, numbered_from}
 
 -- of these events the first ones happened, their lines are written, and those are left
 pub record SoFar {S E : Type 0} (Happens : Happening S E (List ℕ)) (old : S) (all left : List E) (now : S) (before after : Option (List ℕ)) : Type 0 where
@@ -57,76 +49,6 @@ fails_told Happens Goes old mid new all left later e a b is h (lines, k) = (
   h.written.shown ++ lines,
   last_shown Happens Goes old mid new all h.done e later h.written.shown lines (h.parts ∙ ap (λ es. h.done ++ es) is) h.written.is_shown k,
 )
-
--- they happen one after the other, and up to one that went as is said
-abbrev Whole : {S E : Type 0} → Happening S E (List ℕ) → Happening S (List E) (List ℕ)
-Whole Happens old all new lines = InTurn Happens old all new lines
-
-abbrev Early : {S E : Type 0} → Happening S E (List ℕ) → Happening S E (List ℕ) → Happening S (List E) (List ℕ)
-Early Happens Goes old all new lines = EndsInTurn Happens Goes old all new lines
-
--- where one ends early, all of them do
-pub ends_early : {S E : Type 0} (Happens Stops Fails : Happening S E (List ℕ)) (old mid new : S) (all left later : List E) (e : E) (r : Result (Unit {0}) ReplayFault) (a b c : Option (List ℕ))
-    → left ≡ e ∷ later → SoFar Happens old all left mid a b → is_ok r ≡ false → EndsAs Happens Stops Fails mid e r new b c
-    → EndsAs (Whole Happens) (Early Happens Stops) (Early Happens Fails) old all r new a c
-ends_early Happens Stops Fails old mid new all left later e (Ok done) a b c is h early k = absurd (false≢true (sym early))
-ends_early Happens Stops Fails old mid new all left later e (Err fault.OutOfMemory) a b c is h early k = ends_told Happens Stops old mid new all left later e a b c is h k
-ends_early Happens Stops Fails old mid new all left later e (Err fault.CannotWrite) a b c is h early k = fails_told Happens Fails old mid new all left later e a b is h k
-
--- the elementary events of an event end as the event does
-pub event_ends : {C : Type 0} (calls : Calls C) (inside : Inside C) (old new : C) (e : Spot × RawEvent) (r : Result (Unit {0}) ReplayFault) (a c : Option (List ℕ))
-    → EndsAs (Whole (TellsElement calls inside e.0)) (Early (TellsElement calls inside e.0) (StopsElement calls)) (Early (TellsElement calls inside e.0) (MayTell calls)) old (elements_in (inside.calm old) e.1) r new a c
-    → EventEnds calls inside old e r new a c
-event_ends calls inside old new e (Ok done) a c h = h
-event_ends calls inside old new e (Err fault.OutOfMemory) a c h = h
-event_ends calls inside old new e (Err fault.CannotWrite) a c h = h
-
--- an event of one call is one elementary event
-pub one_element : (calm : ℕ → List Element) (e : RawEvent) → IsOneCall e → elements_in calm e ≡ record { round = 0; event = e } ∷ []
-one_element calm (event.Out m) one = refl
-one_element calm (event.Take h) one = refl
-one_element calm (event.Net e) one = refl
-one_element calm (event.Calm rounds) one = absurd one
-
--- and ends as that does
-whole_ends : {C : Type 0} (calls : Calls C) (inside : Inside C) (spot : Spot) (old new : C) (all : List Element) (x : Element) (r : Result (Unit {0}) ReplayFault) (a c : Option (List ℕ)) → all ≡ x ∷ [] → ElementEnds calls inside spot old x r new a c
-    → EndsAs (Whole (TellsElement calls inside spot)) (Early (TellsElement calls inside spot) (StopsElement calls)) (Early (TellsElement calls inside spot) (MayTell calls)) old all r new a c
-whole_ends calls inside spot old new all x (Ok done) a c is h =
-    all_told (TellsElement calls inside spot) old new all [] a c refl (one_more (TellsElement calls inside spot) old old new all all [] x a a c is (none_yet (TellsElement calls inside spot) old all a) h)
-whole_ends calls inside spot old new all x (Err fault.OutOfMemory) a c is h =
-    ends_told (TellsElement calls inside spot) (StopsElement calls) old old new all all [] x a a c is (none_yet (TellsElement calls inside spot) old all a) h
-whole_ends calls inside spot old new all x (Err fault.CannotWrite) a c is h =
-    fails_told (TellsElement calls inside spot) (MayTell calls) old old new all all [] x a a is (none_yet (TellsElement calls inside spot) old all a) h
-
-pub one_ends : {C : Type 0} (calls : Calls C) (inside : Inside C) (old new : C) (spot : Spot) (e : RawEvent) (x : Element) (r : Result (Unit {0}) ReplayFault) (a c : Option (List ℕ))
-    → elements_in (inside.calm old) e ≡ x ∷ [] → ElementEnds calls inside spot old x r new a c → EventEnds calls inside old (spot, e) r new a c
-one_ends calls inside old new spot e x r a c is h =
-    event_ends calls inside old new (spot, e) r a c (whole_ends calls inside spot old new (elements_in (inside.calm old) e) x r a c is h)
-
--- ---- a calm
-
--- one more of its elementary events
-pub calm_more : {C P : Type 0} (calls : Calls C) (inside : Inside C) (left : C → P → List Element) (spot : Spot) (old mid new : C) (place next : P) (x : Element) (all : List Element) (a b c : Option (List ℕ))
-    → GoesOnWith calls left mid place (Some (x, next)) → SoFar (TellsElement calls inside spot) old all (left mid place) mid a b → WritesTrace (TellsElement calls inside spot mid x new) b c
-    → SoFar (TellsElement calls inside spot) old all (left new next) new a c
-calm_more calls inside left spot old mid new place next x all a b c (later, one, is, after) h k =
-    subst (λ (xs : List Element). SoFar (TellsElement calls inside spot) old all xs new a c) (sym (after new k.is_shown.0 k.is_shown.1))
-    (one_more (TellsElement calls inside spot) old mid new all (left mid place) later x a b c is h k)
-
-pub calm_shorter : {C P : Type 0} (calls : Calls C) (inside : Inside C) (left : C → P → List Element) (spot : Spot) (mid new : C) (place next : P) (x : Element) (b c : Option (List ℕ))
-    → GoesOnWith calls left mid place (Some (x, next)) → WritesTrace (TellsElement calls inside spot mid x new) b c → length (left new next) < length (left mid place)
-calm_shorter calls inside left spot mid new place next x b c (later, one, is, after) k =
-    let here : length (left mid place) ≡ suc (length later) = ap length is in
-    let there : length (left new next) ≡ length later = ap length (after new k.is_shown.0 k.is_shown.1) in
-    omega (arith, here, there)
-
--- and it ends early where one of them does
-pub calm_early : {C P : Type 0} (calls : Calls C) (inside : Inside C) (left : C → P → List Element) (spot : Spot) (rounds : ℕ) (old mid new : C) (place next : P) (x : Element) (r : Result (Unit {0}) ReplayFault) (a b c : Option (List ℕ))
-    → GoesOnWith calls left mid place (Some (x, next)) → SoFar (TellsElement calls inside spot) old (inside.calm old rounds) (left mid place) mid a b → is_ok r ≡ false → ElementEnds calls inside spot mid x r new b c
-    → EventEnds calls inside old (spot, event.Calm rounds) r new a c
-calm_early calls inside left spot rounds old mid new place next x r a b c (later, one, is, after) h early k =
-    event_ends calls inside old new (spot, event.Calm rounds) r a c
-    (ends_early (TellsElement calls inside spot) (StopsElement calls) (MayTell calls) old mid new (inside.calm old rounds) (left mid place) later x r a b c is h early k)
 
 -- ---- the events of a script
 

@@ -14,3 +14,9 @@ pub use Rattle.trace.proofs.Printed.{five, three}
 pub use Rattle.trace.proofs.Putting.{AllPut, PutSoFar, all_put, is_within, none_more, none_put, put_more}
 pub use Rattle.trace.proofs.Named.{SameThen, answer_spelled, bits_closed, bits_same, flow_closed, flow_named, flow_same, host_named, host_spelled, host_words}
 pub use Rattle.trace.proofs.PlainWords.{Any, bool_spelled, word_closed}
+pub use Rattle.trace.proofs.Rounds.Listed.{AllIn}
+pub use Rattle.trace.proofs.Rounds.Numbered.{IsIn, all_takings_in, then_in}
+pub use Rattle.trace.proofs.Rounds.Once.{event_front, event_once}
+pub use Rattle.trace.proofs.Rounds.Plain.{told}
+pub use Rattle.trace.proofs.Rounds.Settled.{Continues, IsDecided, goes_as, goes_back, plain_settled, same_answer, same_step}
+pub use Rattle.trace.proofs.Rounds.Whole.{AreRounds, Opened, none_told, opened_rounds, says_all}

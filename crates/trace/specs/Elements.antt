@@ -1,5 +1,7 @@
--- Elementary events: an event of a script, or within a calm each of its parts. First what all networks share, and then plain mailboxes.
-use Rattle.std.specs.Prelude.{ℕ, zero, suc, ◌-◌, Bool, ◌&&◌, drop, if◌then◌else◌, is_some, List, [], ◌∷◌, ◌++◌, map}
+-- Elementary events: an event of a script, or within a calm each of its parts. First what all networks share, and then
+-- plain mailboxes.
+use Rattle.std.specs.Prelude.{ℕ, zero, suc, ◌-◌, ◌==◌, Bool, false, ◌&&◌, drop, if◌then◌else◌, is_some, List, [], ◌∷◌}
+use Rattle.std.specs.Prelude.{◌++◌, map}
 use Rattle.leader1822.specs.Boxes.{Boxes, inbound_taken, is_running, next_for}
 use Rattle.interface.specs.Host.{Host}
 use Rattle.script.specs.declared.event.RawEvent.{RawEvent}
@@ -19,7 +21,11 @@ no_course s = record { elements = []; left = s }
 
 -- one course, and then the next
 abbrev pub then_course : {S : Type 0} → Course S → (S → Course S) → Course S
-then_course first next = record { elements = first.elements ++ (next first.left).elements; left = (next first.left).left }
+then_course first next = record {
+  elements = first.elements ++ (next first.left).elements;
+  left =
+      (next first.left).left;
+}
 
 -- one event in this round, and the network after it
 abbrev pub one_event : {S : Type 0} → ℕ → RawEvent → S → Course S
@@ -39,17 +45,20 @@ taking giving round h s = one_event round (event.Take h) (giving.after s h)
 -- in a round of a calm a host takes while it is given something, this many times at most
 abbrev pub takings : {S : Type 0} → Giving S → ℕ → Host → ℕ → S → Course S
 takings giving round h zero s = no_course s
-takings giving round h (suc times) s = if giving.is_given s h then then_course (taking giving round h s) (takings giving round h times) else no_course s
+takings giving round h (suc times) s =
+    if giving.is_given s h then then_course (taking giving round h s) (takings giving round h times) else no_course s
 
 -- these hosts take one after the other, each 16 times at most
 abbrev pub all_takings : {S : Type 0} → Giving S → ℕ → List Host → S → Course S
 all_takings giving round [] s = no_course s
 all_takings giving round (h ∷ hosts) s = then_course (takings giving round h 16 s) (all_takings giving round hosts)
 
--- what is left of the takings of a round, where the first of these hosts takes this many times at most, and the others 16 times
+-- what is left of the takings of a round, where the first of these hosts takes this many times at most, and the others
+-- 16 times
 abbrev pub takings_from : {S : Type 0} → Giving S → ℕ → List Host → ℕ → S → Course S
 takings_from giving round [] times s = no_course s
-takings_from giving round (h ∷ hosts) times s = then_course (takings giving round h times s) (all_takings giving round hosts)
+takings_from giving round (h ∷ hosts) times s =
+    then_course (takings giving round h times s) (all_takings giving round hosts)
 
 -- ---- rounds
 
@@ -70,6 +79,23 @@ elements_in calm (event.Calm rounds) = calm rounds
 elements_in calm (event.Out m) = record { round = 0; event = event.Out m } ∷ []
 elements_in calm (event.Take h) = record { round = 0; event = event.Take h } ∷ []
 elements_in calm (event.Net e) = record { round = 0; event = event.Net e } ∷ []
+
+-- ---- rounds of a calm, of its elementary events
+
+-- the first of these elementary events is of this round
+abbrev pub begins_in : ℕ → List Element → Bool
+begins_in round [] = false
+begins_in round (x ∷ xs) = x.round == round
+
+-- one more before these rounds: in the first of them, or in a round of its own
+abbrev pub with_first : Bool → Element → List (List Element) → List (List Element)
+with_first same x [] = (x ∷ []) ∷ []
+with_first same x (round ∷ rounds) = if same then (x ∷ round) ∷ rounds else (x ∷ []) ∷ round ∷ rounds
+
+-- elementary events, round by round. A round without any is not among them
+abbrev pub by_round : List Element → List (List Element)
+by_round [] = []
+by_round (x ∷ xs) = with_first (begins_in x.round xs) x (by_round xs)
 
 -- what elementary events ask for
 abbrev pub events_of : List Element → List RawEvent

@@ -1,8 +1,9 @@
 -- Words for worked examples: two hosts of IMP 1, one of IMP 2, and messages from the first to the third.
-use Rattle.std.specs.Prelude.{true, false, List, [], ◌∷◌}
+use Rattle.std.specs.Prelude.{ℕ, true, false, List, [], ◌∷◌}
 use Rattle.std.specs.FinMap as map
 use Rattle.interface.specs.declared.crossing.Answer.TheVariants as answer
 use Rattle.leader1822.specs.Boxes.{Boxes, offered, opening_boxes, with_queue}
+use Rattle.interface.specs.declared.crossing.Crossing.TheVariants as crossing
 use Rattle.interface.specs.Host.{Host}
 use Rattle.interface.specs.declared.address.Flow.{Flow}
 use Rattle.interface.specs.declared.event.NetEvent.TheVariants as net
@@ -51,3 +52,15 @@ with_down down = record (opening_boxes hosts) { down = down }
 -- the second host stops
 abbrev pub stop : Element
 stop = record { round = 0; event = event.Net (net.HostDown second) }
+
+-- a host takes in this round of a calm
+abbrev pub takes : ℕ → Host → Element
+takes round h = record { round = round; event = event.Take h }
+
+-- takings of two rounds
+abbrev pub three_takings : List Element
+three_takings = takes 1 first ∷ takes 1 third ∷ takes 3 first ∷ []
+
+-- mailboxes in whose log the first host has started
+abbrev pub started : Boxes
+started = record (opening_boxes hosts) { log = crossing.Up first ∷ [] }

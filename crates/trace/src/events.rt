@@ -1,11 +1,12 @@
 //! Tracing a script's events over a carrier.
 
 ghost use Rattle.std.specs.Bool.{OnFalse, OnTrue};
-ghost use Rattle.std.specs.Prelude.{◌≡◌, ◌⊎◌, Err, IfErr, IfOk, IfSome, OnOk, List, ℕ, false};
+ghost use Rattle.std.specs.Prelude.{◌≡◌, ◌⊎◌, Err, IfErr, IfOk, IfSome, OnOk, List, ℕ, false, is_some, true};
 ghost use Rattle.replay.specs.Failing.{TellsCannotWrite};
 ghost use Rattle.replay.specs.Replay.{GoesOn, Halts, IsCopied, IsOneCall};
 ghost use Rattle.script.specs.declared.event.RawEvent.TheVariants as script_event;
-ghost use Rattle.trace.specs.Steps.{Called, ElementEnds, EventEnds};
+ghost use Rattle.trace.specs.Elements.{begins_in};
+ghost use Rattle.trace.specs.Steps.{Called, ElementEnds, EventEnds, IsAsBegun, RoundEnds};
 ghost use Rattle.trace.specs.Changes.{changed};
 ghost use Rattle.trace.specs.Texts.{object};
 ghost use Rattle.trace.specs.Traces.{AfterOpening, HasHappened, MayTell, StopsElement, TraceEnds, Traces, WritesTrace};
@@ -21,9 +22,10 @@ use script::RawEvent;
 use std::alloc::{AllocError, Global};
 use topology::Topology;
 
-/// Prints the network and all parts of its carrier, hands each elementary event of each event to the carrier in order, and prints
-/// one line for each: a JSON object with the place of the event in the script, the elementary event, what it printed, and the
-/// parts that it changed, as they are after it. Each event comes after the number of its line in the script.
+/// Prints the network and all parts of its carrier, hands each elementary event of each event to the carrier in
+/// order, and prints one line for each: a JSON object with the place of the event in the script, the elementary
+/// event, what it printed, and the parts that it changed, as they are after it. Each event comes after the number of
+/// its line in the script.
 ///
 /// A refused event changes nothing, and has a line too.
 ///
@@ -114,7 +116,8 @@ fn trace_event<C: Inspect, W: Output>(
     }
 }
 
-/// Traces a calm: one of its elementary events after another.
+/// Traces a calm, round by round. A round after which all parts and the log are as they were before it is the last
+/// one: every round after it would be the same.
 fn trace_calm<C: Inspect, W: Output>(
     alloc: Global,
     carrier: &mut C,
@@ -130,7 +133,101 @@ fn trace_calm<C: Inspect, W: Output>(
     ensures failed { TellsCannotWrite result (W.failed writer.new) }
 {
     let mut place = carrier.begin_calm(rounds);
+    'rounds: while let Some((element, _)) = carrier.next_in_calm(place) {
+        let begun = begin_round(alloc, carrier, known)?;
+        place = trace_round(alloc, carrier, spot, element.round, place, known, writer)?;
+        if is_still(carrier, known, &begun) {
+            return Ok(());
+        }
+    }
+    Ok(())
+}
+
+/// How things were where a round of a calm began.
+#[derive(Drop)]
+struct Begun {
+    /// The texts of all parts.
+    parts: Members,
+    /// How many crossings were in the log.
+    booked: usize,
+}
+
+/// Returns how things are where a round begins, and sees that the texts of all parts are known.
+fn begin_round<C: Inspect>(
+    alloc: Global,
+    carrier: &C,
+    known: &mut Option<Texts>,
+) -> Result<Begun, AllocError>
+    requires known { IfSome known.old (λ t. t.parts ≡ C.inside.members carrier.now) }
+    ensures begun { IfOk result (λ b. IsAsBegun C.calls C.inside carrier.now b.parts b.booked) }
+    ensures known { OnOk result (IfSome known.new (λ t. t.parts ≡ C.inside.members carrier.now)) }
+    ensures some { OnOk result (is_some known.new ≡ true) }
+{
+    let texts = known_texts(alloc, carrier, known.take())?;
+    let parts = copy_of(&texts.parts)?;
+    *known = Some(texts);
+    Ok(Begun {
+        parts,
+        booked: carrier.log().len(),
+    })
+}
+
+/// Returns the same members again.
+fn copy_of(members: &Members) -> Result<Members, AllocError>
+    ensures { IfOk result (λ copy. copy ≡ members.now) }
+{
+    let copy = members.clone()?;
+    Ok(copy)
+}
+
+/// Returns whether all parts and the log are as they were where a round began.
+fn is_still<C: Inspect>(carrier: &C, known: &Option<Texts>, begun: &Begun) -> bool
+    requires known { IfSome known.now (λ t. t.parts ≡ C.inside.members carrier.now) }
+    requires some { is_some known.now ≡ true }
+    ensures still { OnTrue result (IsAsBegun C.calls C.inside carrier.now begun.now.parts begun.now.booked) }
+    ensures moved { OnFalse result (IsAsBegun C.calls C.inside carrier.now begun.now.parts begun.now.booked → ⊥) }
+{
+    match known {
+        Some(texts) => {
+            carrier.log().len() == begun.booked && are_same(&texts.parts, &begun.parts)
+        }
+        None => unreachable!(),
+    }
+}
+
+/// Returns whether two lists of members are the same.
+fn are_same(one: &Members, other: &Members) -> bool
+    ensures same { OnTrue result (one.now ≡ other.now) }
+    ensures apart { OnFalse result (one.now ≡ other.now → ⊥) }
+{
+    !one.have_changed(other) && !other.have_changed(one)
+}
+
+/// Traces a round of a calm, which begins at a place: one of its elementary events after another. Returns the place
+/// after it.
+fn trace_round<C: Inspect, W: Output>(
+    alloc: Global,
+    carrier: &mut C,
+    spot: Spot,
+    round: u32,
+    begin: C::Place,
+    known: &mut Option<Texts>,
+    writer: &mut W,
+) -> Result<C::Place, ReplayFault>
+    requires begins { begins_in round (C.left carrier.old begin) ≡ true }
+    requires whole { W.failed writer.old ≡ false }
+    requires known { IfSome known.old (λ t. t.parts ≡ C.inside.members carrier.old) }
+    requires some { is_some known.old ≡ true }
+    ensures ends { RoundEnds C.calls C.inside C.left spot carrier.old begin result carrier.new (W.contents writer.old) (W.contents writer.new) }
+    ensures known { OnOk result (IfSome known.new (λ t. t.parts ≡ C.inside.members carrier.new)) }
+    ensures some { OnOk result (is_some known.new ≡ true) }
+    ensures failed { TellsCannotWrite result (W.failed writer.new) }
+{
+    let mut place = begin;
     'elements: while let Some((element, next)) = carrier.next_in_calm(place) {
+        if element.round != round {
+            return Ok(place);
+        }
         trace_element(
             alloc,
             carrier,
@@ -142,7 +239,7 @@ fn trace_calm<C: Inspect, W: Output>(
         )?;
         place = next;
     }
-    Ok(())
+    Ok(place)
 }
 
 /// Hands an elementary event to the carrier, and prints its line.
@@ -160,6 +257,7 @@ fn trace_element<C: Inspect, W: Output>(
     requires known { IfSome known.old (λ t. t.parts ≡ C.inside.members carrier.old) }
     ensures ends { ElementEnds C.calls C.inside spot carrier.old (record { round = round; event = event.now }) result carrier.new (W.contents writer.old) (W.contents writer.new) }
     ensures known { OnOk result (IfSome known.new (λ t. t.parts ≡ C.inside.members carrier.new)) }
+    ensures some { OnOk result (is_some known.new ≡ true) }
     ensures failed { TellsCannotWrite result (W.failed writer.new) }
 {
     let texts = known_texts(alloc, carrier, known.take())?;

@@ -15,6 +15,7 @@ ghost use Rattle.topology.specs.Topology.{IsTopology, TopologyFields};
 ghost use Rattle.trace.specs.Texts.{opening_line};
 ghost use Rattle.trace.specs.Traces.{change_text, plain_inside};
 ghost use Rattle.trace.specs.Laws.Rest.{RestParts};
+ghost use Rattle.trace.specs.Laws.SaysAll.{Saying};
 ghost use Rattle.trace.specs.Laws.Whole.{WholeTexts};
 
 /// An event of a script is its elementary events one after another: each of them only, as a line of a script,
@@ -24,6 +25,12 @@ pub fn elementary()
 
     // each is one call of the mailboxes, and none a calm
     ensures one_call { (old : Boxes) (e : RawEvent) → All IsOneCall (events_of (elements_of old e)) }
+{}
+
+/// What is traced of an event says all of it, though a calm is traced up to its first still round only: the
+/// elementary events that have a line leave what the whole event leaves, and print what it prints.
+pub fn says_all()
+    ensures { Saying }
 {}
 
 /// What an elementary event's parts do not name is as before.

@@ -5,9 +5,10 @@
 //! network that it has changed. [`trace_events`] prints a trace, one JSON object a line, over any carrier whose inside can be
 //! traced ([`Inspect`]). Plain mailboxes are one: here are their elementary events, their parts, and the JSON text of each part.
 //!
-//! A reader of traces may rely on these laws ([`law`]). A calm is its elementary events one after another. An event changes
-//! no part but those that it can change, and none where it is refused. The first line describes the network, and states with equal texts of all parts are equal,
-//! but for their logs: so a trace leaves nothing out.
+//! A reader of traces may rely on these laws ([`law`]). A calm is its elementary events one after another; it is
+//! traced up to its first still round, after which every round would be the same. An event changes no part but those
+//! that it can change, and none where it is refused. The first line describes the network, and states with equal
+//! texts of all parts are equal, but for their logs: so a trace leaves nothing out.
 #![tactic(auto)]
 
 mod element;

@@ -17,7 +17,7 @@ use std::marker::Model;
 const ROOM: usize = 1_024;
 
 /// The members of a JSON object, each as its text.
-#[derive(Drop)]
+#[derive(Clone, Drop)]
 pub struct Members {
     texts: Vec<Vec<u8>>,
 }

@@ -19,7 +19,7 @@ use script::RawEvent;
 use std::alloc::{AllocError, Global};
 
 /// Returns whether a host of the network is up, and something waits for it.
-#[tactic(auto, using(crate::proofs::Turns::given_is))]
+#[tactic(auto, using(crate::proofs::Rounds::Turns::given_is))]
 fn is_given(boxes: &PlainBoxes, host: &HostAddr) -> bool
     requires { is_host boxes.now.hosts host.now ≡ true }
     ensures { result ≡ is_given boxes.now host.now }

@@ -8,11 +8,11 @@ ghost use Rattle.interface.specs.declared.event.NetEvent.TheVariants as net;
 ghost use Rattle.leader1822.specs.Boxes.{host_stopped, opening_boxes, plain_calls, with_queue};
 ghost use Rattle.script.specs.declared.event.RawEvent.TheVariants as event;
 ghost use Rattle.trace.specs.Changes.{changed};
-ghost use Rattle.trace.specs.Elements.{elements_of};
+ghost use Rattle.trace.specs.Elements.{by_round, elements_of};
 ghost use Rattle.trace.specs.Parts.{Down, Waiting, SamePart, is_named, parts_of};
 ghost use Rattle.trace.specs.Texts.{answer_object, crossing_object, part_name, part_text, queues_text, whole_text};
-ghost use Rattle.trace.specs.Traces.{MayTell, asking_from, numbered_from};
-ghost use Rattle.trace.specs.Worked.{first, flow, hosts, one_waits, second, short, stop, third, with_down};
+ghost use Rattle.trace.specs.Traces.{IsStill, MayTell, asking_from, numbered_from, plain_inside};
+ghost use Rattle.trace.specs.Worked.{first, flow, hosts, one_waits, second, short, started, stop, takes, third, three_takings, with_down};
 ghost use Rattle.trace.specs.Laws.WorkedTexts.{WorkedTextsQueues};
 ghost use Rattle.trace.specs.Laws.WorkedLines.{WorkedLinesDelivered, WorkedLinesOpening, WorkedLinesRefused, WorkedLinesStart, WorkedLinesTaken};
 
@@ -106,6 +106,22 @@ pub fn worked_calms()
 
     // the message is taken in the first round, when its source has had its turn, and its answer in the second
     ensures message { elements_of one_waits (event.Calm 2) ≡ record { round = 1; event = event.Take third } ∷ record { round = 2; event = event.Take first } ∷ [] }
+{}
+
+/// The rounds of a calm, and still ones.
+pub fn worked_rounds()
+    ensures no_rounds { by_round [] ≡ [] }
+    ensures one_round { by_round (stop ∷ []) ≡ (stop ∷ []) ∷ [] }
+
+    // elementary events of one round are together, and those of two rounds apart; a round without any is not there
+    ensures rounds { by_round three_takings ≡ (takes 1 first ∷ takes 1 third ∷ []) ∷ (takes 3 first ∷ []) ∷ [] }
+
+    // nothing is other than it was, be it that something changed and changed back
+    ensures still { IsStill plain_calls plain_inside (with_down (first ∷ [])) (with_down (first ∷ [])) }
+
+    // a round that changes a part is not still, nor is one in which something crosses
+    ensures changes { IsStill plain_calls plain_inside (with_down []) (with_down (first ∷ [])) → ⊥ }
+    ensures crosses { IsStill plain_calls plain_inside (opening_boxes hosts) started → ⊥ }
 {}
 
 /// What is known where a write failed: the carrier had processed the elementary event.

@@ -106,16 +106,14 @@ class Inspect(Generic[Kind]):
     fate: Callable[[Kind, Event], str | None]  # what becomes of a frame
     in_quiet_round: Callable[[Kind], Iterable[Event]]  # the elementary events of a quiet round
     is_given: Callable[[Kind, HostName], bool]  # whether a host that takes gets something
-    is_settled: Callable[[Kind, Sequence[Crossing]], bool]  # whether a round in which so much crossed leaves nothing for later ones
 
 
 OF_BOXES = Inspect[Boxes](
-    part_of_boxes, names_of_boxes, touched, lambda _, names: {},
-    lambda _, event: None, lambda _: (), gets, lambda _, crossed: not crossed,
-)  # fmt: skip
+    part_of_boxes, names_of_boxes, touched, lambda _, names: {}, lambda _, event: None, lambda _: (), gets
+)
 OF_SUBNET = Inspect[Subnet](
     trace_subnet.part, trace_subnet.every_name, trace_subnet.names, trace_subnet.flows,
-    trace_subnet.fate, trace_subnet.in_quiet_round, trace_subnet.is_given, trace_subnet.is_settled,
+    trace_subnet.fate, trace_subnet.in_quiet_round, trace_subnet.is_given,
 )  # fmt: skip
 
 
@@ -200,16 +198,16 @@ class Traced:
         return found
 
     def calm(self, numbers: tuple[int, int], rounds: int) -> Iterator[Object]:
-        """A calm: what its quiet rounds do, and the takings that give something."""
+        """A calm: what its quiet rounds do, and the takings that give something, up to the first round that leaves all as it was."""
         for number_of_round in range(1, rounds + 1):
-            before = len(self.place.log)
+            parts, crossed = {**self.parts}, len(self.place.log)
             for event in self.quiet_round():
                 yield self.tell(numbers, number_of_round, event)
             for host in in_order(self.place):
                 for _ in range(TAKES):
                     if self.of.is_given(self.place, host):
                         yield self.tell(numbers, number_of_round, ("take", host))
-            if self.of.is_settled(self.place, self.place.log[before:]):
+            if self.parts == parts and len(self.place.log) == crossed:
                 return
 
     def quiet_round(self) -> Iterator[Event]:

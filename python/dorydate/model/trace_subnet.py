@@ -200,11 +200,6 @@ def is_given(subnet: Subnet, host: HostName) -> bool:
     return source == imp.number or imp.route(source) is None or imp.room(1)
 
 
-def is_settled(subnet: Subnet, crossed: Sequence[Crossing]) -> bool:
-    """Whether a round leaves nothing for later ones: never known of a subnet."""
-    return False
-
-
 # ---- what becomes of frames
 
 

@@ -95,6 +95,8 @@ TRACES: dict[str, Limit] = {
         Topology("plain", True, [(1, 1), (2, 1)], []),
         [f"out 0/1 0/2 {link} {FULL}" for link in range(100)],
     ),
+    # after its first round, which changes nothing, a calm has no more lines
+    "rounds of a trace": Limit(["--trace"], Topology("subnet", True, [(1, 0)], []), ["calm 4294967295", "route 1"]),
     "events of a trace of hosts": Limit(["--trace"], PAIR, ["take 0/1"] * 110_000),
     "rounds of a trace of hosts": Limit(["--trace"], PAIR, [*JOINED, "send 0/1 101 8 5A", "calm 4000"]),
 }

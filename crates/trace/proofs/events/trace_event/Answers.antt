@@ -2,7 +2,7 @@ use Rattle.std.proofs.Common.{rules}
 use Rattle.replay.specs.Replay.{IsOneCall}
 use Rattle.interface.specs.Calls.{Calls}
 use Rattle.trace.specs.Traces.{Inside}
-use Rattle.trace.proofs.Telling.{one_element, one_ends}
+use Rattle.trace.proofs.Rounds.Told.{one_element, one_ends}
 use Rattle.trace.proofs.events.trace_event.Goals as goal
 
 pub returns-in-Out-clause-ends : goal.returns-in-Out-clause-ends

@@ -1,4 +1,4 @@
-use Rattle.trace.proofs.TwoRounds.{message, quiet}
+use Rattle.trace.proofs.Rounds.Two.{message, quiet}
 use Rattle.trace.proofs.worked.worked_calms.Goals as goal
 
 pub returns-clause-quiet : goal.returns-clause-quiet

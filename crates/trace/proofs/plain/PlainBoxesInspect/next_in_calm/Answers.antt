@@ -1,5 +1,5 @@
 use Rattle.std.proofs.Common.{arith}
-use Rattle.trace.proofs.Turns.{goes_on_with, in_next_round}
+use Rattle.trace.proofs.Rounds.Turns.{goes_on_with, in_next_round}
 use Rattle.trace.proofs.plain.PlainBoxesInspect.next_in_calm.Goals as goal
 
 pub returns-in-Some : goal.returns-in-Some
