@@ -3,13 +3,14 @@
 from __future__ import annotations
 
 import json
-from collections.abc import Iterable, Iterator, Mapping
+from collections.abc import Iterator, Mapping
 from dataclasses import dataclass
+from functools import cached_property
 from typing import Any
 
 from dorydate.network import Host, Network
 from dorydate.script import Flow, Text
-from dorydate.trace import opening
+from dorydate.trace import OF_FLOWS, is_of_flow, opening
 
 Value = Mapping[str, Any]  # an object of a trace
 
@@ -132,7 +133,7 @@ class ImpState:
     next: Mapping[int, int]  # to each such IMP but itself the place among its lines of the one that packets take
 
     @staticmethod
-    def read(part: Value) -> ImpState:
+    def read(part: Value, sources: Mapping[Flow, tuple[str, int]], kept: Mapping[Flow, tuple[str, int]]) -> ImpState:
         sending = tuple(tuple(Packet.read(it["packet"]) for it in port["sending"] if "packet" in it) for port in part["ports"])
         return ImpState(
             tuple(map(HostState.read, part["hosts"])),
@@ -141,16 +142,24 @@ class ImpState:
             tuple(part["routes"]),
             tuple(map(Packet.read, part["store"])),
             tuple(tuple(map(Packet.read, slot)) for slot in part["slots"]),
-            flows_of(part["sources"], "state"),
-            flows_of(part["kept"], "fate"),
+            sources,
+            kept,
             {int(imp): it for imp, it in part["distances"].items()},
             {int(imp): it for imp, it in part["next"].items()},
         )
 
 
-def flows_of(notes: Iterable[Value], key: str) -> dict[Flow, tuple[str, int]]:
-    """What is noted of flows: a word and a number each."""
-    return {flow_in(it): (it[key], it["number"]) for it in notes}
+def in_order(note: tuple[Flow, int, Value]) -> tuple[tuple[int, int], tuple[int, int], int]:
+    """The place of a flow in the order of source, destination and link."""
+    flow = note[0]
+    return flow.source.order(), flow.destination.order(), flow.link
+
+
+def flow_of(name: str) -> tuple[Flow, int]:
+    """The flow that a part is of, and the IMP that has this part."""
+    kind, *words = name.split(" ")
+    flow = Flow.read(*words)
+    return flow, (flow.source if kind == "source" else flow.destination).imp
 
 
 @dataclass(frozen=True)
@@ -172,7 +181,18 @@ class State:
         ((True,), ())
         """
         part = self.parts.get(f"imp {number}")
-        return ImpState.read(part) if part else None
+        flows = (self._flows.get((word, number), {}) for word in ("state", "fate"))
+        return ImpState.read(part, *flows) if part else None
+
+    @cached_property
+    def _flows(self) -> Mapping[tuple[str, int], Mapping[Flow, tuple[str, int]]]:
+        """By `state` or `fate`, and by IMP, what is noted of flows, in their order: that word and a number."""
+        found: dict[tuple[str, int], dict[Flow, tuple[str, int]]] = {}
+        parts = [(*flow_of(name), part) for name, part in self.parts.items() if is_of_flow(name)]
+        for flow, imp, part in sorted(parts, key=in_order):
+            word = "state" if "state" in part else "fate"
+            found.setdefault((word, imp), {})[flow] = part[word], part["number"]
+        return found
 
     def is_down(self, number: int) -> bool:
         """Whether an IMP is down.
@@ -255,13 +275,16 @@ def held_by(number: int, state: ImpState, network: Network) -> Iterator[Held]:
 
 
 def folded(network: Network, trace: str) -> State:
-    """The state after a trace: of each part its last value. The trace is read from its end, until all parts are there."""
+    """The state after a trace: of each part its last value. The trace is read from its end: until all parts are there
+    that the first line has, and then only those lines that have parts of flows."""
     first = opening(trace)["parts"]
     parts: dict[str, Any] = {}
     end = len(trace)
-    while end > 0 and parts.keys() != first.keys():
+    while end > 0:
         begin = trace.rfind("\n", 0, end - 1) + 1
-        for name, part in json.loads(trace[begin:end])["parts"].items():
-            parts.setdefault(name, part)
+        if not first.keys() <= parts.keys() or any(trace.find(f'"{kind} ', begin, end) >= 0 for kind in OF_FLOWS):
+            for name, part in json.loads(trace[begin:end])["parts"].items():
+                parts.setdefault(name, part)
         end = begin
-    return State(network, {name: parts[name] for name in first})
+    flows = {name: part for name, part in parts.items() if name not in first and part is not None}
+    return State(network, {**{name: parts[name] for name in first}, **flows})

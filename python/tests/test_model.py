@@ -188,9 +188,9 @@ class TracesOfWorlds(unittest.TestCase):
             "1.1 quiet: imp 1, imp 2",
             "1.2 quiet: imp 1, imp 2",
             "2.0 contact 0/1 0/2: 0/1",
-            "3.1 offer 0/1: out 0/1 0/2 0 48, imp 1, line 0, 0/1",
-            "3.2 quiet: imp 1, imp 2, line 0",
-            "3.2 take 0/2: in 0/1 0/2 0 48, ready 0/2 0/1, imp 2, line 0, 0/2",
+            "3.1 offer 0/1: out 0/1 0/2 0 48, imp 1, line 0, source 0/1 0/2 0, 0/1",
+            "3.2 quiet: imp 1, imp 2, line 0, kept 0/1 0/2 0",
+            "3.2 take 0/2: in 0/1 0/2 0 48, ready 0/2 0/1, imp 2, line 0, kept 0/1 0/2 0, 0/2",
         ]
         network = Topology("subnet", False, [(1, 1), (2, 1)], [(1, 2)])
         self.assertEqual(self.told(network, "calm 9", "contact 0/1 0/2", "calm 2")[:6], wanted)

@@ -21,6 +21,9 @@ class Joined(unittest.TestCase):
         self.room = tempfile.TemporaryDirectory()
         self.addCleanup(self.room.cleanup)
 
+    def ran(self, script: str) -> "subprocess.CompletedProcess[str]":
+        return subprocess.run([NODE or "", "-"], input=script, capture_output=True, text=True)
+
     def joined(self, files: Dict[str, str]) -> str:
         for name, text in files.items():
             os.makedirs(os.path.dirname(f"{self.room.name}/{name}"), exist_ok=True)
@@ -42,8 +45,8 @@ class Joined(unittest.TestCase):
 
     def test_a_module_is_joined_once_and_before_those_that_import_it(self) -> None:
         script = self.joined({"main.js": 'import { a } from "./a.js";\nimport { b } from "./b.js";\n', "a.js": 'import { b } from "./b.js";\nexport const a = b;\n', "b.js": "export const b = 1;\n"})
-        self.assertEqual(script.count("const b = 1;"), 1)
-        self.assertLess(script.index("const b = 1;"), script.index("const a = b;"))
+        self.assertEqual(script.count("const b=1;"), 1)
+        self.assertLess(script.index("const b=1;"), script.index("const a=b;"))
 
     def test_other_forms_are_refused(self) -> None:
         for form in ("export default 1;", "export let a = 1;", 'export * from "./b.js";', 'import "./b.js";', 'import a from "./b.js";', 'const a = import("./b.js");', 'import { a } from "b";'):
@@ -52,12 +55,22 @@ class Joined(unittest.TestCase):
 
     def test_documentation_and_indents_are_left_out(self) -> None:
         script = self.joined({"main.js": '/** The page. */\n\n/**\n * Answers one.\n *\n * @returns {number}\n */\nfunction f() {\n    return 1; /** @type {number} */\n}\nf("/** kept */");\n'})
-        self.assertIn('function f() {\nreturn 1; \n}\nf("/** kept */");\n', script)
+        self.assertIn('function f(){\nreturn 1;\n}\nf("/** kept */");\n', script)
         self.assertNotIn("Answers one", script)
 
+    @unittest.skipUnless(NODE, "Node is absent")
+    def test_spaces_in_texts_and_expressions_are_kept(self) -> None:
+        texts = ['"a , b"', '"\\" = " + " ; "', "'a , b'", "`a , ${[1, 2]} ( b`", '"a , b,c".split(/ , | = /)', '"/ , "']
+        others = ["1 > 0 ? .5 : [1, 2]", "3 - -1 + +1", '{ a: "b : c" }.a', "8 / 2 * 2", "((a, b = 2) => a * b)(3)"]
+        lines = "".join(f"console.log({row});\n" for row in [*texts, *others])
+        whole, packed = (self.ran(it) for it in (lines, self.joined({"main.js": lines})))
+        self.assertEqual((packed.stdout, packed.stderr), (whole.stdout, ""))
+        self.assertEqual(len(whole.stdout.splitlines()), len(texts) + len(others))
+
     def test_a_text_over_several_lines_is_refused(self) -> None:
-        with self.assertRaises(Refused):
-            self.joined({"main.js": "const a = `one\n  two`;\n"})
+        for text in ("`one\n  two`", '"one\\\n  two"'):
+            with self.assertRaises(Refused, msg=text):
+                self.joined({"main.js": f"const a = {text};\n"})
 
     def test_a_module_that_imports_itself_is_refused(self) -> None:
         with self.assertRaises(Refused):

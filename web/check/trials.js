@@ -281,6 +281,30 @@ export async function large({ $, one, all, until, changed, pause, press, key, wa
 }
 
 /**
+ * A script with a message on each of 256 links is shown to its end, and forth and back.
+ *
+ * @param {Page} page
+ * @param {string} text
+ */
+export async function linked({ $, changed, pause, press, slide, want }, text) {
+    const given = new DataTransfer();
+    given.items.add(new File([text], "links.txt"));
+    $("file").files = given.files;
+    await changed(() => $("file").dispatchEvent(new Event("change")));
+    const last = Number($("slider").max);
+    slide(last);
+    const told = $("sentence").textContent;
+    want(!/stopped after/.test(told), `the replay does not come to its end: ${told}`);
+    want($("count").textContent === `step ${last} of ${last}` && last >= 512, `${last} steps of 256 messages`);
+    press("tab-waits");
+    await pause(100);
+    want(/Nothing waits/.test($("pane").textContent), `at the end there waits ${$("pane").textContent}`);
+    slide(0);
+    slide(last);
+    want($("sentence").textContent === told, "the last step has another sentence on the way back");
+}
+
+/**
  * At a distance lines that run side by side are one, with their number, and each is back from near.
  *
  * @param {Page} page

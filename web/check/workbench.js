@@ -108,12 +108,25 @@ function largeNetwork() {
     ].join("\n");
 }
 
+/** A message and its RFNM on each of 256 links between two hosts. */
+function messageOnEachLink() {
+    const imps = [1, 2].flatMap((imp) => ["[[imp]]", `id = ${imp}`, "hosts = 1"]);
+    const answered = ["deliver 0 - 1", "drop 0 - 0", "drop 0 - 0", "take 0/1", "drop 0 + 0"];
+    const events = Array.from({ length: 256 }, (_, link) => (
+        [`out 0/1 0/2 ${link} 8 41`, "deliver 0 + 0", "drop 0 + 0", "take 0/2", ...answered]
+    ));
+    return ["raw = true", ...imps, "[[line]]", "a = 1", "b = 2", "%", "calm 2", ...events.flat(), ""].join("\n");
+}
+
+/** What trials are given, by their names. */
+const GIVEN = /** @type {{[name: string]: () => string}} */ ({ large: largeNetwork, linked: messageOnEachLink });
+
 /**
  * A fault for the page.
  *
  * @typedef {object} Planted
  * @property {string} what
- * @property {string} from what it changes in the page
+ * @property {string} from what it changes in the page, as the sources spell it
  * @property {string} to
  * @property {keyof typeof trials | "spoken"} by the trial that has to find it, or what is spoken
  * @property {[number, number]} [size]
@@ -197,6 +210,13 @@ const PLANTED = /** @type {Planted[]} */ ([
         size: [360, 740],
         only: "Chromium",
         words: "the present row is not seen",
+    },
+    {
+        what: "a replay that is cut off early",
+        from: "octets: 36_000_000",
+        to: "octets: 400_000",
+        by: "linked",
+        words: "does not come to its end",
     },
     {
         what: "lines side by side that are not folded",
@@ -427,7 +447,7 @@ async function whole(browser, address) {
         steps += await browser.evaluate('return Number(document.getElementById("slider").max);');
     }
     const { keys, tapped, holding, distances, compared, printed, hidden, typed, measured, contrast } = trials;
-    const { booked, bundles, followed, happening, judged, large, named, reached, touched, unopened } = trials;
+    const { booked, bundles, followed, happening, judged, large, linked, named, reached, touched, unopened } = trials;
     for (const size of LARGE) {
         await browser.resize(...size);
         wrong.push(...(await trial(browser, [large, largeNetwork()], [followed], [bundles])));
@@ -435,6 +455,7 @@ async function whole(browser, address) {
         console.log(`${browser.name}: 63 IMPs at ${size.join(" by ")}: ${measured}, at load ${load().toFixed(1)}`);
     }
     await browser.resize(...WIDE);
+    wrong.push(...(await trial(browser, [linked, messageOnEachLink()])));
     for (const body of [named, unopened, happening, judged, keys, tapped, holding, distances, compared, booked, printed, hidden, typed]) {
         wrong.push(...(await trial(browser, [body])));
     }
@@ -473,6 +494,15 @@ async function whole(browser, address) {
 }
 
 /**
+ * Where something of the sources is in the page, which has no spaces at signs.
+ *
+ * @param {string} text
+ */
+function spelled(text) {
+    return new RegExp(text.replace(/[.*+?^${}()|[\]\\]/g, "\\$&").replace(/ /g, " ?"));
+}
+
+/**
  * Plants each fault in the page, and answers those that are not found.
  *
  * @param {Browser} browser
@@ -484,13 +514,13 @@ async function planted(browser, page, file) {
     const missed = [];
     for (const { what, from, to, by, size, only, words } of PLANTED) {
         if (only && only !== browser.name) continue;
-        if (!page.includes(from)) missed.push(`${what}: there is no place to plant it`);
+        if (!spelled(from).test(page)) missed.push(`${what}: there is no place to plant it`);
         if (by === "paper" && !(await browser.look({ paper: true }))) continue;
         if (by === "spoken" && !(await browser.tree()).length) continue;
-        writeFileSync(file, opened(page.replace(from, to)));
+        writeFileSync(file, opened(page.replace(spelled(from), () => to)));
         await browser.resize(...(size ?? WIDE));
         await browser.open(`file://${file}`);
-        const given = by === "large" ? largeNetwork() : undefined;
+        const given = GIVEN[by]?.();
         const found = by === "spoken"
             ? await spoken(browser)
             : await trial(browser, [/** @type {Trial} */ (trials[by]), given]);

@@ -149,9 +149,9 @@ function impChoices(state, imp) {
             ({ line, far }) => `enddown ${far} ${line}`,
         );
         const ups = neighbours.filter(({ far }) => state.imp(far)).map(({ line, far }) => `endup ${far} ${line}`);
-        const isOfImp = (/** @type {{flow: string}} */ it) => impOf(it.flow.split(" ")[0]) === imp;
+        const kept = state.keptFlows().filter(({ flow }) => impOf(flow.split(" ")[0]) === imp);
         const keeping = network.sites
-            .filter(({ number }) => state.imp(number)?.kept.some(isOfImp))
+            .filter(({ number }) => kept.some((it) => it.imp === number))
             .map(({ number }) => `forget ${number} ${imp}`);
         const hosts = network.hosts.filter((host) => impOf(host) === imp).map((host) => `hostup ${host}`);
         return [

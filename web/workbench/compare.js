@@ -2,7 +2,8 @@
 
 import { inPairs } from "./alike.js";
 import { addedLines, announced } from "./edits.js";
-import { hostName, siteName } from "./topology.js";
+import { hostName, impOf, siteName } from "./topology.js";
+import { isOfFlow } from "./trace.js";
 
 /** @typedef {import("./runs.js").Replay} Replay */
 /** @typedef {import("./state.js").State} State */
@@ -128,15 +129,28 @@ export function placeBeside(other, now, position) {
 }
 
 /**
- * The parts that are not alike in two states.
+ * The parts that are not alike in two states. A flow is told as a part of the IMP that knows it.
  *
  * @param {State} a
  * @param {State} b
  * @returns {string[]} their names
  */
 export function differingParts(a, b) {
-    const names = new Set([...Object.keys(a.parts), ...Object.keys(b.parts)]);
-    return [...names].filter((name) => JSON.stringify(a.parts[name]) !== JSON.stringify(b.parts[name]));
+    const names = [...new Set([...Object.keys(a.parts), ...Object.keys(b.parts)])];
+    const isOther = (/** @type {string} */ name) => JSON.stringify(a.parts[name]) !== JSON.stringify(b.parts[name]);
+    const found = new Set(names.filter(isOther).map(holderOf));
+    return names.filter((name) => found.has(name));
+}
+
+/**
+ * The name of the part that the map shows for a part: of a flow the IMP that knows it.
+ *
+ * @param {string} name
+ */
+function holderOf(name) {
+    if (!isOfFlow(name)) return name;
+    const [kind, source, destination] = name.split(" ");
+    return `imp ${impOf(kind === "source" ? source : destination)}`;
 }
 
 /**

@@ -10,7 +10,7 @@
  */
 
 import { octetsOf, textOf } from "./octets.js";
-import { isOfHost, isQuiet, REST, TraceReader } from "./trace.js";
+import { isOfHost, isQuiet, put, REST, TraceReader } from "./trace.js";
 
 /** @typedef {import("../run/runner.js").Runner} Runner */
 /** @typedef {import("./topology.js").Network} Network */
@@ -348,7 +348,7 @@ export function condensed(moments, before) {
             join();
             found.push(moment);
         } else between.push(moment);
-        for (const [name, part] of moment.parts) now[name] = part;
+        put(now, moment.parts);
     }
     join();
     return found;
@@ -412,8 +412,8 @@ function momentsOfStep(step, records) {
  * @param {[string, Part][]} right
  */
 function areAlike(one, left, other, right) {
-    for (const [name, part] of left) one[name] = part;
-    for (const [name, part] of right) other[name] = part;
+    put(one, left);
+    put(other, right);
     const names = new Set([...left, ...right].map(([name]) => name));
     return [...names].every((name) => JSON.stringify(one[name]) === JSON.stringify(other[name]));
 }

@@ -8,7 +8,7 @@
 import { noteOf } from "./fates.js";
 import { State } from "./state.js";
 import { impOf } from "./topology.js";
-import { isOfHost } from "./trace.js";
+import { isOfHost, put } from "./trace.js";
 
 /** @typedef {import("./runs.js").Replay} Replay */
 /** @typedef {import("./runs.js").Moment} Moment */
@@ -46,11 +46,11 @@ export class History {
         this.kept.push(opening);
         for (const moment of moments) {
             if (isIdle(moment, before)) continue;
-            put(after.parts, moment);
+            put(after.parts, moment.parts);
             this.notes.push(noteOf(moment, before, after, accepted));
             this.number(this.notes[this.notes.length - 1], before);
             left.push(moment);
-            put(before.parts, moment);
+            put(before.parts, moment.parts);
             if (left.length % KEPT_EVERY === 0) this.kept.push({ ...after.parts });
         }
         this.replay.moments = left;
@@ -65,7 +65,7 @@ export class History {
     number({ frame }, before) {
         const packet = frame?.packet;
         if (!packet) return;
-        const last = before.imp(impOf(packet.source))?.sources.find((it) => it.flow === packet.flow);
+        const last = before.source(packet.flow);
         if (last && last.number !== packet.number) this.network.numbered.add(packet.flow);
     }
 
@@ -78,19 +78,9 @@ export class History {
     at(position) {
         const place = Math.floor(position / KEPT_EVERY);
         const parts = { ...this.kept[place] };
-        for (let at = place * KEPT_EVERY; at < position; at += 1) put(parts, this.replay.moments[at]);
+        for (let at = place * KEPT_EVERY; at < position; at += 1) put(parts, this.replay.moments[at].parts);
         return new State(this.network, parts);
     }
-}
-
-/**
- * Puts the parts that a moment left in their places.
- *
- * @param {{[name: string]: Part}} parts
- * @param {Moment} moment
- */
-function put(parts, moment) {
-    for (const [name, part] of moment.parts) parts[name] = part;
 }
 
 /**

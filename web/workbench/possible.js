@@ -122,7 +122,8 @@ function ofImp(state, imp) {
     );
     const it = state.imp(imp);
     if (!it) return [one("starts", `impup ${imp}`)];
-    const others = new Set(it.kept.map(({ flow }) => impOf(flow.split(" ")[0])).filter((other) => other !== imp));
+    const kept = state.keptFlows().filter((noted) => noted.imp === imp);
+    const others = new Set(kept.map(({ flow }) => impOf(flow.split(" ")[0])).filter((other) => other !== imp));
     return [
         ...(linesOf(network, imp).length ? [one("tells its distances", `route ${imp}`)] : []),
         ...(linesOf(network, imp).length ? [one("sends again", `resend ${imp}`)] : []),

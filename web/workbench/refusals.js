@@ -173,8 +173,8 @@ function settling(state, flow) {
  * @param {string} flow
  */
 function outstandingNumber(state, flow) {
-    const sources = state.imp(impOf(flow.split(" ")[0]))?.sources ?? [];
-    return sources.find((it) => it.flow === flow && it.state === "outstanding")?.number ?? -1;
+    const source = state.source(flow);
+    return source?.state === "outstanding" ? source.number : -1;
 }
 
 /**
@@ -215,11 +215,9 @@ export function placeName(state, held) {
  * @param {string} host
  */
 function unsettled(state, host) {
-    const flows = state.network.plain
-        ? []
-        : (state.imp(impOf(host))?.sources ?? []).filter(
-            (it) => it.state === "outstanding" && it.flow.startsWith(`${host} `),
-        );
+    const flows = state.sourceFlows().filter(
+        (it) => it.state === "outstanding" && it.flow.startsWith(`${host} `),
+    );
     const message = flows.length ? messageName(state.network, flows[0].flow) : "a message that it sent";
     const stopped = filled(REFUSED.stopped, { host: hostName(state.network, host), message });
     return `${stopped} ${flows.length ? settling(state, flows[0].flow) : REFUSED.settle}`;
@@ -255,9 +253,9 @@ function stillAlive(state, words) {
     if (kind === "impup") {
         const imp = Number(what);
         const alive = everything.filter((it) => it.flow.split(" ").slice(0, 2).some((host) => impOf(host) === imp));
+        const kept = state.keptFlows().filter(({ flow }) => impOf(flow.split(" ")[0]) === imp);
         const keeping = network.sites.filter(
-            ({ number }) => number !== imp
-                && state.imp(number)?.kept.some((it) => impOf(it.flow.split(" ")[0]) === imp),
+            ({ number }) => number !== imp && kept.some((it) => it.imp === number),
         );
         const found = keeping.map(
             ({ number }) => filled(

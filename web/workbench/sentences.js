@@ -244,9 +244,7 @@ function inner(it) {
     const waiting = after.imp(imp)?.store.filter((packet) => packet.flow === flow).length ?? 0;
     if (impOf(words[1]) === imp) return filled(INSIDE["one imp"], { imp: it.imp(imp), host: it.host(words[1]) });
     const parts = pieces.length > 1 ? `It is cut into ${pieces.length} packets.` : "";
-    const number = network.numbered.has(flow)
-        ? after.imp(imp)?.sources.find((source) => source.flow === flow)?.number
-        : undefined;
+    const number = network.numbered.has(flow) ? after.source(flow)?.number : undefined;
     return joinedWords([
         number === undefined ? "" : filled(INSIDE.numbered, { number }),
         parts,
@@ -570,7 +568,7 @@ function taken(it) {
  * @param {Packet} packet
  */
 function answerTaken(it, packet) {
-    const was = it.before.imp(it.note.to)?.sources.find((source) => source.flow === packet.flow);
+    const was = it.before.source(packet.flow);
     if (was?.state !== "outstanding" || was.number !== packet.number) return INSIDE["not outstanding"];
     const kind = packet.kind === "never" ? "nottaken" : /** @type {"rfnm" | "dead"} */ (packet.kind);
     return answerWaits(it, kind, packet.source);
@@ -591,8 +589,8 @@ function dataTaken(it, packet, before, after) {
     if (waiting(after) > waiting(before)) {
         return filled(INSIDE.whole, { host });
     }
-    const kept = after.imp(it.note.to)?.kept.find((note) => note.flow === packet.flow);
-    const was = before.imp(it.note.to)?.kept.find((note) => note.flow === packet.flow);
+    const kept = after.kept(packet.flow);
+    const was = before.kept(packet.flow);
     if (kept && kept.number === packet.number && was?.number !== packet.number && kept.fate === "dead") {
         return `${filled(INSIDE["host down"], { host })} ${sendings(it, it.imp(it.note.to)) || INSIDE["no answer"]}`;
     }

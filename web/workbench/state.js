@@ -14,6 +14,8 @@ import { impOf, linesOf, wayOf } from "./topology.js";
 /** @typedef {import("./trace.js").Program} Program */
 /** @typedef {import("./trace.js").Services} Services */
 /** @typedef {import("./trace.js").Packet} Packet */
+/** @typedef {import("./trace.js").Source} Source */
+/** @typedef {import("./trace.js").Kept} Kept */
 
 /** The distance that stands for no way. */
 export const FAR = 63;
@@ -76,6 +78,54 @@ export class State {
      */
     services(host) {
         return /** @type {Services | null} */ (this.parts[`services ${host}`] ?? null);
+    }
+
+    /**
+     * What became of the last message of a flow at its source, null where none was begun.
+     *
+     * @param {string} flow
+     */
+    source(flow) {
+        return /** @type {Source | null} */ (this.parts[`source ${flow}`] ?? null);
+    }
+
+    /**
+     * What became of the last message of a flow at its destination, null where no number is noted there.
+     *
+     * @param {string} flow
+     */
+    kept(flow) {
+        return /** @type {Kept | null} */ (this.parts[`kept ${flow}`] ?? null);
+    }
+
+    /**
+     * The flows of which messages were begun, each with the IMP that knows it, in order.
+     *
+     * @returns {(Source & {flow: string, imp: number})[]}
+     */
+    sourceFlows() {
+        return this.flows("source ", 0).map((it) => ({ ...it, .../** @type {Source} */ (this.source(it.flow)) }));
+    }
+
+    /**
+     * The flows of which numbers are noted, each with the IMP that knows it, in order.
+     *
+     * @returns {(Kept & {flow: string, imp: number})[]}
+     */
+    keptFlows() {
+        return this.flows("kept ", 1).map((it) => ({ ...it, .../** @type {Kept} */ (this.kept(it.flow)) }));
+    }
+
+    /**
+     * The flows of which there are parts with this beginning.
+     *
+     * @param {string} beginning
+     * @param {0 | 1} end whose IMP knows them: the source's, or the destination's
+     */
+    flows(beginning, end) {
+        const found = Object.keys(this.parts).filter((name) => name.startsWith(beginning));
+        const flows = found.map((name) => name.slice(beginning.length)).sort((a, b) => placeOf(a) - placeOf(b));
+        return flows.map((flow) => ({ flow, imp: impOf(flow.split(" ")[end]) }));
     }
 
     /** @param {string} host */
@@ -187,6 +237,17 @@ export class State {
  * @property {Packet | null} packet null for a whole message
  * @property {Place} place
  */
+
+/**
+ * Where a flow is in the order of source, destination and link.
+ *
+ * @param {string} flow
+ */
+function placeOf(flow) {
+    const [source, destination, link] = flow.split(" ");
+    const [from, to] = [source, destination].map((host) => 4 * impOf(host) + Number(host.split("/")[0]));
+    return (256 * from + to) * 256 + Number(link);
+}
 
 /** @type {Place} */
 const NOWHERE = { at: "store", imp: 0, line: -1, way: "", place: 0, channel: -1 };

@@ -7,7 +7,7 @@
  */
 
 /** The format that is read. */
-const FORMAT = 2;
+const FORMAT = 3;
 
 /**
  * @typedef {object} Packet
@@ -66,11 +66,13 @@ const FORMAT = 2;
  * @property {(Distances | null)[]} routes what each neighbour told last
  * @property {Packet[]} store
  * @property {Packet[][]} slots
- * @property {{state: string, flow: string, number: number}[]} sources
- * @property {{fate: string, flow: string, number: number}[]} kept
  * @property {Distances} distances its own
  * @property {{[imp: string]: number}} next for each IMP to which a way leads the place of its port
  */
+
+/** @typedef {{state: string, number: number}} Source of a flow of which a message was begun: what became of the last one */
+
+/** @typedef {{fate: string, number: number}} Kept of a flow of which a number is noted: what became of its last message */
 
 /** @typedef {{"+": Frame[], "-": Frame[]}} Line */
 
@@ -107,9 +109,10 @@ const FORMAT = 2;
 /** @typedef {{typing: number | null, running: {kind: string, [field: string]: any}[]}} Services */
 
 /**
- * An IMP, a line, a plain host's box, the plain hosts that are down, or the program or the services of a host.
+ * An IMP, a line, what an IMP knows of a flow, a plain host's box, the plain hosts that are down, or the program or the
+ * services of a host.
  *
- * @typedef {Imp | null | Line | Box | string[] | Program | Services} Part
+ * @typedef {Imp | null | Line | Source | Kept | Box | string[] | Program | Services} Part
  */
 
 /**
@@ -192,15 +195,6 @@ function channelIn(told) {
 }
 
 /**
- * What an IMP notes of a flow.
- *
- * @param {any} told
- */
-function noted(told) {
-    return { flow: flowIn(told), number: told.number };
-}
-
-/**
  * @param {any} told
  * @returns {Imp | null}
  */
@@ -214,8 +208,6 @@ function impIn(told) {
         routes: told.routes,
         store: told.store.map(packetIn),
         slots: told.slots.map((/** @type {any[]} */ it) => it.map(packetIn)),
-        sources: told.sources.map((/** @type {any} */ it) => ({ ...noted(it), state: it.state })),
-        kept: told.kept.map((/** @type {any} */ it) => ({ ...noted(it), fate: it.fate })),
         distances: told.distances,
         next: told.next,
     };
@@ -227,7 +219,7 @@ function impIn(told) {
  * @returns {Part}
  */
 export function partIn(name, told) {
-    if (name === "down" || isOfHost(name)) return told;
+    if (name === "down" || isOfHost(name) || isOfFlow(name)) return told;
     if (name.startsWith("host ")) return boxIn(told);
     if (name.startsWith("line ")) return { "+": told["+"].map(frameIn), "-": told["-"].map(frameIn) };
     return impIn(told);
@@ -240,6 +232,28 @@ export function partIn(name, told) {
  */
 export function isOfHost(name) {
     return name.startsWith("program ") || name.startsWith("services ");
+}
+
+/**
+ * Whether a part is what an IMP knows of a flow. It is null where the IMP knows the flow no more.
+ *
+ * @param {string} name
+ */
+export function isOfFlow(name) {
+    return name.startsWith("source ") || name.startsWith("kept ");
+}
+
+/**
+ * Puts parts that were left in the place of those before.
+ *
+ * @param {{[name: string]: Part}} parts
+ * @param {[string, Part][]} left
+ */
+export function put(parts, left) {
+    for (const [name, part] of left) {
+        if (part === null && isOfFlow(name)) delete parts[name];
+        else parts[name] = part;
+    }
 }
 
 /**

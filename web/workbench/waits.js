@@ -88,11 +88,12 @@ export function waitsOf(state, talk) {
 function messageWaits(state) {
     const { network } = state;
     const everything = state.everything();
+    const begun = state.sourceFlows().filter((source) => source.state === "outstanding");
     return network.sites.flatMap(({ number }) => {
         const it = state.imp(number);
         const imp = impName(network, number);
         return [
-            ...(it?.sources ?? []).filter((source) => source.state === "outstanding").map(
+            ...begun.filter((source) => source.imp === number).map(
                 (source) => outstanding(state, source.flow, source.number, everything),
             ),
             ...(it?.hosts.flatMap((box) => box.answers) ?? []).map(

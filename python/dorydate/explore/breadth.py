@@ -22,6 +22,7 @@ from dorydate.explore.sides import Record, Sides, batches, calms_of
 from dorydate.network import Network
 from dorydate.program import Program
 from dorydate.script import Calm, Event, Script
+from dorydate.trace import fold
 from dorydate.where import here
 
 Texts = tuple[tuple[str, str], ...]  # what a state is, by the names of its parts
@@ -156,7 +157,7 @@ class Walk:
             for line in self.lines_of(record, seen) if self.pattern.needs_trace() else record.printed:
                 words = line.split(" ")
                 reached = [step(sequel, state, words) for sequel, state in zip(self.pattern.sequels, reached)]
-            texts.update(record.texts)
+            fold(texts, record.texts, "null")
         arrived = frozenset(seen.arrived) if self.needs_arrivals else frozenset()
         return Node((*node.script, *events), tuple(sorted(texts.items())), tuple(reached), arrived)
 

@@ -10,10 +10,11 @@
 from __future__ import annotations
 
 import json
-from collections.abc import Iterable, Iterator, Sequence
+from collections.abc import Iterable, Iterator, Mapping, Sequence
 from typing import Any
 
 from dorydate.network import Network
+from dorydate.trace import fold
 
 LINES = ("noted", "arrives", "slots")
 
@@ -33,10 +34,8 @@ class Seen:
             found = list(read["printed"])
             if read.get("fate", "impdown") not in ("impdown", "enddown"):
                 found += self.arrivals(read["event"])
-            for part, value in read["parts"].items():
-                if part.startswith("imp "):
-                    found += self.changes(part, value)
-                self.parts[part] = value
+            found += [*self.notes(read["parts"]), *self.slots(read["parts"])]
+            fold(self.parts, read["parts"], None)
             yield self.named(read["event"]), found
 
     def named(self, event: str) -> str:
@@ -60,11 +59,17 @@ class Seen:
             self.arrived.add(key)
             yield f"arrives {packet['kind']} {packet['from']} {packet['to']} {packet['link']} {packet['number']}"
 
-    def changes(self, part: str, value: Any) -> Iterator[str]:
-        """What is new in an IMP."""
-        before, now = self.parts.get(part) or {"kept": [], "slots": []}, value or {"kept": [], "slots": []}
-        for it in now["kept"]:
-            if it not in before["kept"]:
-                yield f"noted {it['fate']} {it['from']} {it['to']} {it['link']} {it['number']}"
-        if len(now["slots"]) != len(before["slots"]):
-            yield f"slots {part[4:]} {len(now['slots'])}"
+    def notes(self, told: Mapping[str, Any]) -> Iterator[str]:
+        """The numbers that are noted, or noted with another fate."""
+        for name, value in told.items():
+            kind, _, flow = name.partition(" ")
+            if kind == "kept" and value and value != self.parts.get(name):
+                yield f"noted {value['fate']} {flow} {value['number']}"
+
+    def slots(self, told: Mapping[str, Any]) -> Iterator[str]:
+        """How many messages an IMP holds pieces of, where these are more or fewer than before."""
+        for name, value in told.items():
+            if name.startswith("imp "):
+                was, now = (len((part or {"slots": []})["slots"]) for part in (self.parts.get(name), value))
+                if was != now:
+                    yield f"slots {name[4:]} {now}"

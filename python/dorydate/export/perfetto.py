@@ -98,13 +98,14 @@ class Counters:
 
     def __init__(self) -> None:
         self.told: dict[str, Mapping[str, int]] = {}
-        self.outstanding: dict[str, int] = {}
+        self.outstanding: set[str] = set()  # the flows with a message without an answer
 
     def see(self, parts: Mapping[str, Any], time: int) -> Iterator[Event]:
         """The counters that parts change."""
         for name, part in parts.items():
-            if name.startswith("imp "):
-                self.outstanding[name] = sum(it["state"] == "outstanding" for it in part["sources"]) if part else 0
+            if name.startswith("source "):
+                (self.outstanding.add if part and part["state"] == "outstanding" else self.outstanding.discard)(name)
+            elif name.startswith("imp "):
                 for what, values in of_imp(part).items():
                     gone = {key: FAR for key in self.told.get(f"{name}: {what}", {})}
                     yield from self.tell(IMPS, f"{name}: {what}", {**gone, **values}, time)
@@ -112,8 +113,8 @@ class Counters:
                 yield from self.tell(LINES, f"{name}: live frames", {way: len(part[way]) for way in "+-"}, time)
             elif name.startswith("host ") and "messages" in part:
                 yield from self.tell(IMPS, f"{name}: waits", {key: len(part[key]) for key in ("messages", "answers")}, time)
-        if self.outstanding:
-            yield from self.tell(FLOWS, "messages without answer", {"messages": sum(self.outstanding.values())}, time)
+        if any(name.startswith(("imp ", "source ")) for name in parts):
+            yield from self.tell(FLOWS, "messages without answer", {"messages": len(self.outstanding)}, time)
 
     def see_programs(self, programs: Mapping[str, Any], time: int) -> Iterator[Event]:
         """The counters of the ends of connections."""

@@ -45,6 +45,10 @@ def address(host: tuple[int, int]) -> int:
     return host[0] << 6 | host[1]
 
 
+def key_of(flow: Flow) -> tuple[tuple[int, ...], tuple[int, ...], int]:
+    """A flow's place in order of source, destination and link, and hosts of IMP and host."""
+    return flow.source[::-1], flow.destination[::-1], flow.link
+
+
 def in_order(flows: Iterable[Flow]) -> list[Flow]:
-    """Flows in order of source, destination and link, and hosts of IMP and host."""
-    return sorted(flows, key=lambda flow: (flow.source[::-1], flow.destination[::-1], flow.link))
+    return sorted(flows, key=key_of)

@@ -8,7 +8,7 @@ subnet are in dorydate.model.trace_subnet, and values in dorydate.model.trace_va
 from __future__ import annotations
 
 import json
-from collections.abc import Callable, Iterable, Iterator, Mapping, Sequence
+from collections.abc import Callable, Container, Iterable, Iterator, Mapping, Sequence
 from dataclasses import dataclass
 from typing import Any, Generic, TypeVar
 
@@ -16,15 +16,15 @@ from dorydate.model import trace_subnet
 from dorydate.model.bits import spelled_text
 from dorydate.model.boxes import TAKES, Boxes
 from dorydate.model.crossings import Carrier, Crossing, Passed, Turned
-from dorydate.model.names import HostName, read_host, spell_flow, spell_host
+from dorydate.model.names import HostName, key_of, read_host, spell_flow, spell_host
 from dorydate.model.runs import End, opened_carrier
 from dorydate.model.script import Event, read_line
 from dorydate.model.subnet import Subnet
 from dorydate.model.topology import Topology
-from dorydate.model.trace_subnet import subnet_of
+from dorydate.model.trace_subnet import OF_FLOWS, flow_named, home, subnet_of
 from dorydate.model.trace_values import Object, answer_in, answer_of, crossing_of, flow_in, message_of, text_in
 
-FORMAT = 2
+FORMAT = 3
 Part = Any  # the value of a part: an object, a list, or None
 
 
@@ -99,18 +99,22 @@ Kind = TypeVar("Kind", bound=Carrier)
 class Inspect(Generic[Kind]):
     """What a kind of carrier has of a trace."""
 
-    part: Callable[[Kind, str], Part]  # a part, by its name
-    every_name: Callable[[Kind], list[str]]
-    names: Callable[[Kind, Event, Sequence[Crossing]], list[str]]  # the parts that an event can change, which crossed these
+    part: Callable[[Kind, str], Part]  # a part, by its name, but for those of flows
+    every_name: Callable[[Kind], list[str]]  # of those parts
+    names: Callable[[Kind, Event, Sequence[Crossing]], list[str]]  # those that an event can change, which crossed these
+    flows: Callable[[Kind, Container[str]], dict[str, Part]]  # the parts of flows that change with these
     fate: Callable[[Kind, Event], str | None]  # what becomes of a frame
     in_quiet_round: Callable[[Kind], Iterable[Event]]  # the elementary events of a quiet round
     is_given: Callable[[Kind, HostName], bool]  # whether a host that takes gets something
 
 
-OF_BOXES = Inspect[Boxes](part_of_boxes, names_of_boxes, touched, lambda _, event: None, lambda _: (), gets)
-OF_SUBNET = Inspect[Subnet](
-    trace_subnet.part, trace_subnet.every_name, trace_subnet.names, trace_subnet.fate, trace_subnet.in_quiet_round, trace_subnet.is_given
+OF_BOXES = Inspect[Boxes](
+    part_of_boxes, names_of_boxes, touched, lambda _, names: {}, lambda _, event: None, lambda _: (), gets
 )
+OF_SUBNET = Inspect[Subnet](
+    trace_subnet.part, trace_subnet.every_name, trace_subnet.names, trace_subnet.flows,
+    trace_subnet.fate, trace_subnet.in_quiet_round, trace_subnet.is_given,
+)  # fmt: skip
 
 
 def of(place: Carrier) -> Inspect[Any]:
@@ -120,9 +124,37 @@ def of(place: Carrier) -> Inspect[Any]:
     return OF_SUBNET
 
 
+def parts_of(place: Carrier, names: Sequence[str]) -> dict[str, Part]:
+    """These parts of a network, and those of flows that change with them."""
+    return {**{name: of(place).part(place, name) for name in names}, **of(place).flows(place, names)}
+
+
 def all_parts(place: Carrier) -> dict[str, Part]:
     """Every part of a network, by name."""
-    return {name: of(place).part(place, name) for name in of(place).every_name(place)}
+    return parts_of(place, of(place).every_name(place))
+
+
+def changed(was: Mapping[str, Part], now: Mapping[str, Part]) -> dict[str, Part]:
+    """What is other than it was, in the order of a line; of flows that are gone None."""
+    other = {name: part for name, part in now.items() if name not in was or part != was[name]}
+    gone = [name for name in was if name not in now and home(name) in now]
+    found = {**other, **dict.fromkeys(gone)}
+    return {name: found[name] for name in sorted(found, key=lambda name: place_of(name, name in now))}
+
+
+def place_of(name: str, is_there: bool) -> tuple[Any, ...]:
+    """Where a part is in a line: flows come last, by IMP, from it and then to it, of each the gone ones last."""
+    flow = flow_named(name)
+    return (int(home(name)[4:]), OF_FLOWS.index(name.split(" ")[0]), not is_there, *key_of(flow)) if flow else ()
+
+
+def fold_in(parts: dict[str, Part], told: Mapping[str, Part]) -> None:
+    """Puts what a line has in the place of what was there."""
+    for name, part in told.items():
+        if part is None and flow_named(name):
+            parts.pop(name, None)
+        else:
+            parts[name] = part
 
 
 # ---- lines
@@ -159,12 +191,11 @@ class Traced:
             "parts": self.changed(self.of.names(self.place, event, crossed)),
         }
 
-    def changed(self, names: Iterable[str]) -> dict[str, Part]:
-        """Those of these parts that are other than they were."""
-        now = {name: self.of.part(self.place, name) for name in names}
-        changed = {name: part for name, part in now.items() if part != self.parts[name]}
-        self.parts.update(changed)
-        return changed
+    def changed(self, names: Sequence[str]) -> dict[str, Part]:
+        """Those of these parts, and of the flows that change with them, that are other than they were."""
+        found = changed(self.parts, parts_of(self.place, names))
+        fold_in(self.parts, found)
+        return found
 
     def calm(self, numbers: tuple[int, int], rounds: int) -> Iterator[Object]:
         """A calm: what its quiet rounds do, and the takings that give something, up to the first round that leaves all as it was."""

@@ -5,14 +5,14 @@ It was written from docs/trace.md over the independent model of the subnet. `tra
 
 from __future__ import annotations
 
-from collections.abc import Iterator, Mapping, Sequence
+from collections.abc import Container, Iterator, Mapping, Sequence
 from functools import cache
 
 from dorydate.model.channels import Channels
 from dorydate.model.crossings import Crossing
 from dorydate.model.imp import Imp
 from dorydate.model.imp_state import QUEUE, SLOTS, Arrived, HostPort, ImpState, Pieces, Port
-from dorydate.model.names import Flow, HostName, in_order
+from dorydate.model.names import Flow, HostName, in_order, read_host, spell_flow
 from dorydate.model.packets import ASK, CHANNELS, DATA, DEAD, INFINITE, MOST_IMPS, NEVER, RFNM, Carried, Content, Frame, Packet, Routes, target
 from dorydate.model.script import Event
 from dorydate.model.subnet import FAR, Subnet
@@ -21,6 +21,7 @@ from dorydate.model.trace_values import Object, answer_in, answer_of, flow_in, f
 KINDS = {DATA: "data", RFNM: "rfnm", DEAD: "dead", ASK: "ask", NEVER: "never"}
 OF_WORDS = {word: kind for kind, word in KINDS.items()}
 NOTHING: Pieces = {}
+OF_FLOWS = "source", "kept"
 FATES = "impdown enddown acks distances repeat noroom passing piece whole unmarked old dead never replied answer stale".split()
 
 
@@ -94,8 +95,6 @@ def imp_of(imp: ImpState) -> Object:
         "routes": [port.heard and distances_of(port.heard) for port in imp.ports],
         "store": [packet_of(packet) for packet in imp.store],
         "slots": [slot_of(flow, *imp.slots[flow]) for flow in in_order(imp.slots)],
-        "sources": [{"state": standing(imp, flow), **flow_of(flow), "number": imp.last[flow]} for flow in in_order(imp.last)],
-        "kept": [{"fate": imp.fates[flow], **flow_of(flow), "number": imp.kept[flow]} for flow in in_order(imp.kept)],
         "distances": distances_of(imp.vector()),
         "next": ports_to(imp),
     }
@@ -111,6 +110,35 @@ def part(subnet: Subnet, name: str) -> Object | None:
         imp = subnet.imps[int(number)]
         return None if imp is None else imp_of(imp)
     return {way: [frame_of(*frame) for frame in frames] for way, frames in subnet.live[int(number)].items()}
+
+
+def flows_at(imp: ImpState) -> dict[str, Object]:
+    """The parts of an IMP's flows: of those from here, and then of those to here."""
+    begun, noted = in_order(imp.last), in_order(imp.kept)
+    sources = {f"source {spell_flow(it)}": {"state": standing(imp, it), "number": imp.last[it]} for it in begun}
+    kept = {f"kept {spell_flow(it)}": {"fate": imp.fates[it], "number": imp.kept[it]} for it in noted}
+    return {**sources, **kept}
+
+
+def flows(subnet: Subnet, names: Container[str]) -> dict[str, Object]:
+    """The parts of the flows of those IMPs that are among these parts."""
+    imps = [subnet.imps[number] for number in subnet.sites if f"imp {number}" in names]
+    return {name: told for imp in imps if imp is not None for name, told in flows_at(imp).items()}
+
+
+@cache
+def flow_named(name: str) -> Flow | None:
+    """The flow that a part is of, if it is of one."""
+    kind, *words = name.split(" ")
+    return Flow(read_host(words[0]), read_host(words[1]), int(words[2])) if kind in OF_FLOWS else None
+
+
+def home(name: str) -> str:
+    """The part with which a part changes: with a flow's its IMP."""
+    flow = flow_named(name)
+    if flow is None:
+        return name
+    return f"imp {(flow.source if name.startswith('source') else flow.destination).imp}"
 
 
 def every_name(subnet: Subnet) -> list[str]:
@@ -135,7 +163,7 @@ def imp_named(subnet: Subnet, event: Event) -> int | None:
 
 
 def names(subnet: Subnet, event: Event, _: Sequence[Crossing]) -> list[str]:
-    """The parts that an event can change."""
+    """The parts that an event can change, but for those of flows: these change with their IMP."""
     if event[0] == "drop":
         return [f"line {event[1]}"] if event[1] < len(subnet.ends) else []
     number = imp_named(subnet, event)
@@ -271,17 +299,17 @@ def fill_line(line: Channels, value: Object) -> None:
     line.expected = bits_in(value["expected"])
 
 
-def fill_flows(imp: Imp, value: Object) -> None:
-    """What an IMP knows of the flows from here and to here."""
-    for it in value["sources"]:
-        flow, number = flow_in(it), it["number"]
-        imp.last[flow] = number
-        if it["state"] == "outstanding":
-            imp.outstanding[flow] = number
-        elif it["state"] == "answered":
-            imp.answered.add(flow)
-    for it in value["kept"]:
-        imp.note(flow_in(it), it["number"], it["fate"])
+def fill_flow(imp: Imp, flow: Flow, value: Object) -> None:
+    """What an IMP knows of a flow from here, which has a state, or to here, which has a fate."""
+    number = value["number"]
+    if "fate" in value:
+        imp.note(flow, number, value["fate"])
+        return
+    imp.last[flow] = number
+    if value["state"] == "outstanding":
+        imp.outstanding[flow] = number
+    elif value["state"] == "answered":
+        imp.answered.add(flow)
 
 
 def fill_imp(imp: Imp, value: Object) -> None:
@@ -293,11 +321,16 @@ def fill_imp(imp: Imp, value: Object) -> None:
     imp.store = [packet_in(it) for it in value["store"]]
     for pieces in ([packet_in(it) for it in slot] for slot in value["slots"]):
         imp.slots[pieces[0].flow] = pieces[0].number, {it.place: (it.last, it.bits) for it in pieces}
-    fill_flows(imp, value)
 
 
 def put(subnet: Subnet, name: str, value: Object | None) -> None:
-    """Puts a part in the place of the one that a subnet has."""
+    """Puts a part in the place of the one that a subnet has; that of a flow once its IMP is in its place."""
+    flow = flow_named(name)
+    if flow is not None and value is not None:
+        at = subnet.imps[int(home(name).split(" ")[1])]
+        assert at is not None
+        fill_flow(at, flow, value)
+        return
     kind, number = name.split(" ")[0], int(name.split(" ")[1])
     if kind == "line" and value is not None:
         subnet.live[number] = {way: [frame_in(frame) for frame in value[way]] for way in "+-"}
@@ -310,6 +343,6 @@ def put(subnet: Subnet, name: str, value: Object | None) -> None:
 def subnet_of(imps: Sequence[tuple[int, int]], lines: Sequence[tuple[int, ...]], parts: Mapping[str, Object | None]) -> Subnet:
     """A subnet that has these parts, with an empty log."""
     subnet = Subnet(imps, lines)
-    for name, value in parts.items():
-        put(subnet, name, value)
+    for name in sorted(parts, key=lambda name: name.split(" ")[0] in OF_FLOWS):
+        put(subnet, name, parts[name])
     return subnet

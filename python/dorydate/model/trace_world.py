@@ -18,7 +18,7 @@ from dorydate.model.runs import opened
 from dorydate.model.script import Event, read_line
 from dorydate.model.services import Echo, Running, Server, Terminal, User
 from dorydate.model.topology import Topology
-from dorydate.model.trace import all_parts, of, opening, text
+from dorydate.model.trace import all_parts, changed, of, opening, parts_of, fold_in, text
 from dorydate.model.trace_values import Object, crossing_of, text_of
 from dorydate.model.world import World
 
@@ -200,7 +200,7 @@ class TracedWorld:
         name, first = spell_host(event[1]), crossed[0]
         inside = ("out", *first[1:]) if event[0] == "offer" and isinstance(first, Passed) else event
         return {
-            "parts": {it: of(carrier).part(carrier, it) for it in of(carrier).names(carrier, inside, crossed)},
+            "parts": parts_of(carrier, of(carrier).names(carrier, inside, crossed)),
             "programs": {name: program_of(self.world.hosts[event[1]])},
             "services": {name: services_of(self.world, event[1])},
         }
@@ -209,11 +209,11 @@ class TracedWorld:
         """The record of an event that has happened, with what of these texts is other than it was."""
         shown, crossed = self.world.printed[self.shown :], self.world.carrier.log[self.crossed :]
         self.shown, self.crossed = len(self.world.printed), len(self.world.carrier.log)
-        changed = {kind: {name: it for name, it in now[kind].items() if it != self.state[kind][name]} for kind in KINDS}
+        found = {kind: changed(self.state[kind], now[kind]) for kind in KINDS}
         for kind in KINDS:
-            self.state[kind].update(changed[kind])
+            fold_in(self.state[kind], found[kind])
         told = dict(zip(("line", "number", "round"), numbers))
-        return {**told, "event": spelled, "crossed": [crossing_of(it) for it in crossed], "printed": shown, **changed}
+        return {**told, "event": spelled, "crossed": [crossing_of(it) for it in crossed], "printed": shown, **found}
 
 
 def traced_world(world: World, lines: Iterable[str]) -> Iterator[Object]:

@@ -12,6 +12,7 @@ The traces of all examples over raw networks, and of random scripts, as the mode
 - What has crossed is what is printed, and what becomes of frames is what their parts show.
 - The worked examples of docs/trace.md are what the model has.
 - Each line is an object of JSON, in which no member is twice.
+- Of 256 flows a line has only those that change: the trace of a message on each link has at most 6 million octets.
 - Of networks with host programs, examples and as many random scripts, if the program traces them: see trace_worlds.
 
 Then rules are broken in turn, and some script has to show it: events left out of a calm or given as one, parts that changed and are not
@@ -27,7 +28,7 @@ import random
 import subprocess
 import sys
 from collections import Counter
-from collections.abc import Callable, Iterable, Iterator, Sequence
+from collections.abc import Callable, Container, Iterable, Iterator, Sequence
 from contextlib import AbstractContextManager, contextmanager
 from glob import glob
 from itertools import count
@@ -44,7 +45,9 @@ from dorydate.model.script import BadLine, Event, read_line
 from dorydate.model.subnet import Subnet
 from dorydate.model.topology import Topology, network_of
 from dorydate.model.topology import spelled as spelled_network
-from dorydate.model.trace import OF_BOXES, OF_SUBNET, Traced, all_parts, ends_trace, made_of, network_in, opening, spelled, text, traced
+from dorydate.model.trace import OF_BOXES, OF_SUBNET, Traced, all_parts, ends_trace, fold_in, made_of
+from dorydate.model.trace import network_in, opening, parts_of, spelled, text, traced
+from dorydate.model.trace_subnet import OF_FLOWS, flow_named, home
 from dorydate.model.trace_values import Object
 from dorydate.model.trace_world import ends_world
 from workshop.checks import trace_worlds
@@ -55,6 +58,7 @@ MOST_TRIED = 600  # this many scripts are run to find that a rule is broken
 ANEW = 2  # so often a network is made anew in a script
 EVENTS = 80  # of a script about the frames of a subnet
 MOST_ROUNDS = 20_000  # of the calms of a stored script that is traced
+MOST_OCTETS = 6_000_000  # of the trace of a message on each link
 UNTRACED = {"plain": "first-message", "subnet": "three-imps-in-a-row"}  # an example of each carrier
 
 
@@ -125,7 +129,7 @@ def fates_are_shown(network: Topology, records: Records) -> None:
         if ("fate" in record) != (record["event"].startswith("deliver ") and not record["printed"]):
             raise Wrong("a frame that arrives has no fate, or another event has one")
         before = dict(parts)
-        parts.update(record["parts"])
+        fold_in(parts, record["parts"])
         if "fate" in record and not is_shown(record["fate"], reached(network, record["event"]), before, parts):
             raise Wrong(f"the parts do not show that a frame is `{record['fate']}`")
 
@@ -140,8 +144,8 @@ def is_shown(fate: str, name: str, before: Object, after: Object) -> bool:
     """Whether all parts before and after a frame's arrival at an IMP show what became of it."""
     if fate in UNCHANGED:
         return before == after
-    was, now = before[name], after[name]
-    if was is None or now is None:
+    was, now = of_imp(before, name), of_imp(after, name)
+    if not was or not now:
         return False
     is_accepted = [it["expected"] for it in was["ports"]] != [it["expected"] for it in now["ports"]]
     if is_accepted != (fate not in ("acks", "distances", "repeat")):
@@ -152,11 +156,23 @@ def is_shown(fate: str, name: str, before: Object, after: Object) -> bool:
         case "whole":
             return sum(len(it["messages"]) for it in now["hosts"]) == 1 + sum(len(it["messages"]) for it in was["hosts"])
         case "dead" | "never" | "unmarked":
-            return any(it not in was["kept"] and it["fate"] == NOTED[fate] for it in now["kept"])
+            return any(was["kept"].get(flow) != it and it["fate"] == NOTED[fate] for flow, it in now["kept"].items())
         case "answer":
-            return bool(sum(it["state"] == "outstanding" for it in was["sources"]) == 1 + sum(it["state"] == "outstanding" for it in now["sources"]))
-    same = "hosts", "slots", "sources", "kept"
+            return outstanding(was["source"]) == 1 + outstanding(now["source"])
+    same = "hosts", "slots", *OF_FLOWS
     return all(now[key] == was[key] for key in [*same, *([] if fate == "distances" else ["routes"])])
+
+
+def of_imp(parts: Object, name: str) -> Object:
+    """What the parts have of an IMP that is up: its own keys, and under `source` and `kept` its flows. Else nothing."""
+    own = {it: part for it, part in parts.items() if flow_named(it) and home(it) == name}
+    flows = {kind: {it: part for it, part in own.items() if it.startswith(kind)} for kind in OF_FLOWS}
+    return {**parts[name], **flows} if parts[name] else {}
+
+
+def outstanding(sources: Object) -> int:
+    """How many flows have a message without an answer."""
+    return sum(it["state"] == "outstanding" for it in sources.values())
 
 
 def followed(network: Topology, opening_parts: Object, records: Records) -> tuple[Carrier, list[tuple[int, Object]]]:
@@ -169,9 +185,9 @@ def followed(network: Topology, opening_parts: Object, records: Records) -> tupl
         raise Wrong("the first line has other parts")
     for place, record in enumerate(records):
         after(replayed, [record["event"]])
-        if any(parts[name] == part for name, part in record["parts"].items()):
+        if any(parts.get(name, None if flow_named(name) else "") == part for name, part in record["parts"].items()):
             raise Wrong("a part is named that is as it was")
-        parts.update(record["parts"])
+        fold_in(parts, record["parts"])
         if place in places:
             if parts != all_parts(replayed):
                 raise Wrong("a part changed that isn't named, or another one is named")
@@ -394,17 +410,18 @@ def named_less(kind: str, leave: Callable[[int, str], bool]) -> Broken:
 class AllNamed(Traced):
     """Parts are named that are as they were."""
 
-    def changed(self, names: Iterable[str]) -> Object:
-        return {name: self.of.part(self.place, name) for name in names}
+    def changed(self, names: Sequence[str]) -> Object:
+        super().changed(names)
+        return parts_of(self.place, names)
 
 
 class Opening(Traced):
     """Parts are compared with those at the opening."""
 
-    def changed(self, names: Iterable[str]) -> Object:
-        first, changed = {**self.parts}, super().changed(names)
+    def changed(self, names: Sequence[str]) -> Object:
+        first, found = {**self.parts}, super().changed(names)
         self.parts = first
-        return changed
+        return found
 
 
 class TwoAgo(Traced):
@@ -414,12 +431,17 @@ class TwoAgo(Traced):
         super().__init__(place)
         self.before = {**self.parts}
 
-    def changed(self, names: Iterable[str]) -> Object:
-        now = {name: self.of.part(self.place, name) for name in names}
-        changed = {name: part for name, part in now.items() if part != self.before[name]}
-        self.before = {**self.parts}
-        self.parts.update(now)
-        return changed
+    def changed(self, names: Sequence[str]) -> Object:
+        before, self.before = self.before, {**self.parts}
+        super().changed(names)
+        return trace_model.changed(before, parts_of(self.place, names))
+
+
+class GoneLeftOut(Traced):
+    """A flow that is gone is left out."""
+
+    def changed(self, names: Sequence[str]) -> Object:
+        return {name: part for name, part in super().changed(names).items() if part is not None or not flow_named(name)}
 
 
 COMPARED = {
@@ -475,6 +497,19 @@ def subnet_with(kind: str, change: Callable[[Object], Object]) -> Broken:
     return lambda: put(OF_SUBNET, "part", part)
 
 
+def flows_with(kind: str, change: Callable[[str, Object], Object]) -> Broken:
+    """Other parts in the place of each of a flow, wherever these are given."""
+    kept = OF_SUBNET.flows
+
+    def flows(subnet: Subnet, names: Container[str]) -> Object:
+        found: Object = {}
+        for name, part in kept(subnet, names).items():
+            found |= change(name, part) if name.startswith(kind) else {name: part}
+        return found
+
+    return lambda: put(OF_SUBNET, "flows", flows)
+
+
 def imps_with(key: str, change: Change) -> Broken:
     return subnet_with("imp", lambda imp: {key: [change(it) for it in imp[key]]})
 
@@ -511,10 +546,12 @@ SUBNET_BROKEN = {
     "numbers of messages that wait are left out": imps_with("hosts", lambda host: {**host, "messages": each_with(number=0)(host["messages"])}),
     "packets in the store are left out": subnet_with("imp", lambda imp: {"store": []}),
     "pieces in slots are left out": subnet_with("imp", lambda imp: {"slots": []}),
-    "which message is outstanding is left out": imps_with("sources", lambda it: {**it, "state": "idle"}),
-    "numbers begun last are left out": imps_with("sources", lambda it: {**it, "number": 0}),
-    "numbers noted last are left out": subnet_with("imp", lambda imp: {"kept": []}),
-    "the fate of a message is left out": imps_with("kept", lambda it: {**it, "fate": "waits"}),
+    "which message is outstanding is left out": flows_with("source", lambda name, it: {name: {**it, "state": "idle"}}),
+    "numbers begun last are left out": flows_with("source", lambda name, it: {name: {**it, "number": 0}}),
+    "numbers noted last are left out": flows_with("kept", lambda name, it: {}),
+    "the fate of a message is left out": flows_with("kept", lambda name, it: {name: {**it, "fate": "waits"}}),
+    "flows that are gone are left out": with_class(GoneLeftOut),
+    "links of flows are the same": flows_with("source", lambda name, it: {f"{name.rpartition(' ')[0]} 0": it}),
     "the oldest frame of a line is left out": lines_with(lambda frames: frames[1:]),
     "frames are told in reverse": lines_with(lambda frames: frames[::-1]),
     "acknowledgements in frames are left out": lines_with(lambda frames: [{**it, "acks": "0" * 8} for it in frames]),
@@ -539,6 +576,31 @@ def is_found(broken: Broken, scripts: Made) -> bool:
             except Wrong:
                 return True
     return False
+
+
+# ---- many flows
+
+
+def on_each_link() -> Script:
+    """A message and its RFNM on each link between two hosts, one after the other, in 2,304 events."""
+    there, back = ["deliver 0 + 0", "drop 0 + 0", "take 0/2"], ["deliver 0 - 1", "drop 0 - 0", "drop 0 - 0"]
+    lines = [it for link in range(256) for it in (f"out 0/1 0/2 {link} 8 41", *there, *back, "take 0/1", "drop 0 + 0")]
+    return Topology("subnet", True, [(1, 1), (2, 1)], [(1, 2)]), ["calm 2", *lines]
+
+
+def with_many_flows(program: str | None) -> Iterator[str]:
+    """What is wrong with the trace of many flows."""
+    network, lines = on_each_link()
+    whole = ends_trace(network, lines)[1]
+    if whole.count('"printed":["answer rfnm') != 256 or "refused" in whole:
+        yield "there is no RFNM on each of 256 links"
+    if program and program_prints(program, spelled_network(network), lines, "--trace") != whole.splitlines():
+        yield "the program prints another trace of 256 flows"
+    if len(whole) > MOST_OCTETS:
+        yield f"the trace of a message on each of 256 links has {len(whole)} octets"
+    with with_class(AllNamed)():
+        if len(ends_trace(network, lines)[1]) <= MOST_OCTETS:
+            yield "a trace with all flows in each line is no larger"
 
 
 # ---- the document
@@ -609,7 +671,8 @@ def main() -> int:
         failed += 1
         print("check trace: docs/trace.md has another trace than the model")
     looked_at, in_worlds = of_worlds(program, runs)
-    for words in [*in_worlds, *(refusals(program, traces) if program and traces else ())]:
+    of_flows = with_many_flows(program if "subnet" in traces else None)
+    for words in [*in_worlds, *of_flows, *(refusals(program, traces) if program and traces else ())]:
         failed += 1
         print(f"check trace: {words}")
     scripts = f"{counted['plain scripts']} scripts over mailboxes and {counted['subnet scripts']} over subnets"

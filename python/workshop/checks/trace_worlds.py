@@ -27,7 +27,8 @@ from dorydate.model.runs import opened
 from dorydate.model.script import read_event, read_line
 from dorydate.model.topology import Topology, network_of
 from dorydate.model.topology import spelled as spelled_network
-from dorydate.model.trace import text
+from dorydate.model.trace import fold_in, text
+from dorydate.model.trace_subnet import flow_named
 from dorydate.model.trace_values import Object
 from dorydate.model.trace_world import KINDS, opening_of, state_of, traced_world
 from dorydate.model.world import OFFERS, TAKES, World
@@ -108,7 +109,7 @@ def held_up(program: str, octets: bytes) -> int:
     document, script = octets.decode("latin-1").split("\n%\n", 1)
     network = network_of(document)
     first, *records = map(read_json, printed(program, octets, "--trace"))
-    if (first["trace"], first["carrier"], first["raw"]) != (2, network.carrier, False):
+    if (first["trace"], first["carrier"], first["raw"]) != (3, network.carrier, False):
         raise WrongWorld("the first line has another network")
     lines = [" ".join(it.split(" ")[:5]) if it.startswith(("out ", "in ")) else it for it in printed(program, octets)[:-1]]
     if [line for record in records for line in record["printed"]] != lines:
@@ -192,9 +193,10 @@ def put_in(held: Object, record: Object, where: str) -> None:
     """Puts what a record has in the place of what was there, which has to be something else."""
     for key in KINDS:
         for name, value in record[key].items():
-            if name not in held[key] or held[key][name] == value:
+            is_other = held[key][name] != value if name in held[key] else value is not None and flow_named(name)
+            if not is_other:
                 raise WrongWorld(f"in {where} there is {name} among the {key}, which is new or as it was")
-            held[key][name] = value
+        fold_in(held[key], record[key])
 
 
 # ---- beside the model

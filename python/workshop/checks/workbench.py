@@ -40,7 +40,7 @@ from dorydate.explain.book import NoSuchLine, said_of
 from dorydate.given import Input
 from dorydate.network import Network
 from dorydate.model.subnet import Subnet
-from dorydate.model.trace_subnet import every_name, part
+from dorydate.model.trace import all_parts
 from dorydate.model.trace_world import program_of
 from dorydate.model.names import spell_host
 from dorydate.model.world import World
@@ -88,7 +88,7 @@ def states_of(text: bytes) -> list[dict[str, dict[str, Any] | None]] | None:
     states = []
     for line in lines:
         place.happen(*read_event(line, network.raw))
-        states.append({name: part(subnet, name) for name in every_name(subnet)} | programs_of(place))
+        states.append(all_parts(subnet) | programs_of(place))
     return states
 
 

@@ -8,7 +8,8 @@ list that is empty, into which ./explain --page puts inputs like these, with whi
 
 Modules are joined to one script, each in a function of its own, so names of two never meet. They may import names, or all names as one
 (`import * as it`), from other files, and export declarations and lists of names; anything else is refused. The policy of the page forbids
-every request, and runs only this style and this script, by their hashes. The same files give the same octets.
+every request, and runs only this style and this script, by their hashes. Documentation, indents and spaces at signs are left out. The
+same files give the same octets.
 """
 
 from __future__ import annotations
@@ -33,6 +34,8 @@ DOCUMENTATION = re.compile(r"^[ ]*/\*\*(?:[^*]|\*(?!/))*\*/[ ]*\n", re.MULTILINE
 OF_STYLE = re.compile(r"/\*(?:[^*]|\*(?!/))*\*/")
 BLANK = re.compile(r"^\s+", re.MULTILINE)  # indents, and lines with nothing
 SPACES = re.compile(r"\s*([{};])\s*|(?<=:)\s+")  # of a style, but for those that part words
+MAY_COUNT = re.compile(r"['`/]")  # in a line with one of these a space may be in a text or in a regular expression
+SPACED = re.compile(r'("(?:[^"\\]|\\.)*")|[ ]*([{}()\[\];,=<>?:&|!*])[ ]*')
 LEFT_OVER = re.compile(r"^(?:import|export)\b.*$|\bimport\(", re.MULTILINE)
 ALIAS = re.compile(r"(\w+)(?:\s+as\s+(\w+))?")
 ENDINGS = re.compile(r"\.(?:args|stdout|stderr|status|rows|md)$")
@@ -66,11 +69,17 @@ def names(text: str) -> list[tuple[str, str]]:
 
 
 def bare(text: str, path: str) -> str:
-    """A module without its comments of documentation and of types, indents and empty lines, a third of its octets."""
+    """A module without its comments of documentation and of types, indents and empty lines."""
     text = TEXT_OR_COMMENT.sub(lambda it: it[1] or "", DOCUMENTATION.sub("", text))
-    if any(line.count("`") % 2 for line in text.splitlines()):
-        raise Refused(f"{os.path.relpath(path, ROOT)} has a text in backticks over several lines, which isn't packed")
+    if any(line.count("`") % 2 or line.endswith("\\") for line in text.splitlines()):
+        raise Refused(f"{os.path.relpath(path, ROOT)} has a text over several lines, which isn't packed")
     return BLANK.sub("", text)
+
+
+def tight(text: str) -> str:
+    """A script without the spaces at signs, line by line. A line in which they may count stays as it is."""
+    lines = text.splitlines(keepends=True)
+    return "".join(line if MAY_COUNT.search(line) else SPACED.sub(r"\1\2", line) for line in lines)
 
 
 def bare_style(text: str) -> str:
@@ -108,7 +117,7 @@ def add(packed: Packed, path: str) -> int:
     packed.open.remove(path)
     place = packed.places[path] = len(packed.places)
     answer = ", ".join(name if name == there else f"{there}: {name}" for name, there in given)
-    packed.texts.append(f"const module{place} = (() => {{\n{text}return {{ {answer} }};\n}})();\n")
+    packed.texts.append(tight(f"const module{place} = (() => {{\n{text}return {{ {answer} }};\n}})();\n"))
     return place
 
 

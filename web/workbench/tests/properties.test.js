@@ -31,10 +31,8 @@ function leftOut(history, position, talk, waits) {
     const found = [];
     const flows = new Set(waits.map((it) => it.flow));
     if (!history.network.plain) {
-        for (const { number } of history.network.sites) {
-            for (const it of state.imp(number)?.sources ?? []) {
-                if (it.state !== "idle" && !flows.has(it.flow)) found.push(it.flow);
-            }
+        for (const it of state.sourceFlows()) {
+            if (it.state !== "idle" && !flows.has(it.flow)) found.push(it.flow);
         }
     }
     const isSaid = (/** @type {number} */ socket) => waits.some((it) => it.what.includes(`socket ${socket} `));
