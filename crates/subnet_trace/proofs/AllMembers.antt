@@ -1,6 +1,6 @@
 -- All parts of a subnet are listed, one after the other.
-use Rattle.subnet_trace.proofs.Common.{◌≡◌, ℕ, suc, ◌<◌, ◌≤◌, ◌+◌, ◌-◌, Bool, true, false, List, [], ◌∷◌, ◌++◌, filter, length, map, refl, sym, ap, ◌∙◌, arith, range_with_len, is_imp, Net, Imp, Line, all_parts, parts_members, named}
-use Rattle.std.proofs.lemmas.List.{append_assoc, append-nil}
+use Rattle.subnet_trace.proofs.Common.{◌≡◌, ℕ, suc, ◌<◌, ◌≤◌, ◌+◌, ◌-◌, Bool, true, false, List, [], ◌∷◌, ◌++◌, filter, length, map, refl, sym, ap, ◌∙◌, arith, range_with_len, is_imp, Net, Imp, Line, all_parts, parts_members, named, append-nil}
+use Rattle.std.proofs.lemmas.List.{append_assoc}
 use Rattle.subnet_trace.specs.Parts.{Part}
 use Rattle.subnet_trace.specs.Printing.{imp_members}
 

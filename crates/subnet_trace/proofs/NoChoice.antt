@@ -1,14 +1,9 @@
 -- The calls of a subnet leave a replay no choice.
-use Rattle.std.proofs.Common.{true}
-use Rattle.subnet_trace.proofs.Common.{◌≡◌, ◌||◌, Bool, false, [], Option, None, Result, Ok, Err, sym, ap, subst, ◌∙◌}
-use Rattle.subnet_trace.proofs.Common.{false≢true, Host, GoesOn, outcome_of, Fails, Kept, refusal_of, running}
-use Rattle.subnet_trace.proofs.Common.{subnet_calls, is_halt, is_memory, CarrierFault, Inbound}
+use Rattle.subnet_trace.proofs.Common.{true, ◌≡◌, ◌||◌, Bool, false, [], Option, None, Result, Ok, Err, sym, ap, subst, ◌∙◌, false≢true, Host, GoesOn, outcome_of, Fails, Kept, refusal_of, running, subnet_calls, is_halt, is_memory, CarrierFault, Inbound, Decided, SubnetRound, SubnetTake, round_log}
 use Rattle.replay.specs.Settled.{AreSettled, Grows, SameEnd}
-use Rattle.subnet.specs.Calls.{Decided}
 use Rattle.subnet.specs.Calls as subnet
 use Rattle.subnet.specs.Events as events
-use Rattle.subnet.specs.Working.{SubnetRound, SubnetTake}
-use Rattle.subnet.proofs.lemmas.{round_log, take_log}
+use Rattle.subnet.proofs.lemmas.{take_log}
 use Rattle.trace.proofs.lemmas.{Continues, IsDecided, goes_as, goes_back, same_answer, same_step}
 
 no_memory : (a b : Bool) → (a || b) ≡ false → b ≡ false

@@ -1,5 +1,5 @@
 -- A calm of a subnet continues.
-use Rattle.subnet_trace.proofs.Common.{◌≡◌, ℕ, suc, ◌+◌, ◌-◌, ◌<◌, ◌&&◌, nat_lt, not, is_none, is_some, Bool, List, [], if◌then◌else◌, length, Option, Some, None, Result, Ok, Err, slice_get, slice_set, refl, sym, ap, ◌∙◌, subst, arith, ltb-false, get_or_past, nil_from_length, set-get_or, is_halt, is_memory, Host, CarrierFault, Inbound, NetEvent, Direction, Frame, State, Shown, GoesOn, Happens, IsOneCall, outcome_of, RawEvent, Kept, refusal_of, step_grows, take_grows, SubnetStep, SubnetTake, subnet_calls, accepted, at_up, deliver, delivered, drop_frame, frame_refusal, gives, imp_refusal, is_imp, step_refusal, stepped, take_in, take_refusal, taken_by_host, imp_is_up, Net, Wire, frames_on, imp_at, no_wire, wire_at, Course, no_course, rounds_from, then_course, GoesOnWith, or_first, calm_left, is_working, round_left, round_of, IsNext, Stage}
+use Rattle.subnet_trace.proofs.Common.{◌≡◌, ℕ, suc, ◌+◌, ◌-◌, ◌<◌, ◌&&◌, nat_lt, not, is_none, is_some, Bool, List, [], if◌then◌else◌, length, Option, Some, None, Result, Ok, Err, slice_get, slice_set, refl, sym, ap, ◌∙◌, subst, arith, ltb-false, get_or_past, nil_from_length, set-get_or, is_halt, is_memory, Host, CarrierFault, Inbound, NetEvent, Direction, Frame, State, Shown, GoesOn, Happens, IsOneCall, outcome_of, RawEvent, Kept, refusal_of, step_grows, take_grows, SubnetStep, SubnetTake, subnet_calls, accepted, at_up, deliver, delivered, drop_frame, frame_refusal, gives, imp_refusal, is_imp, step_refusal, stepped, take_in, take_refusal, taken_by_host, imp_is_up, Net, Wire, frames_on, imp_at, no_wire, wire_at, Course, no_course, rounds_from, then_course, GoesOnWith, or_first, calm_left, is_working, round_left, round_of, IsNext, Stage, Element}
 use Rattle.std.proofs.Common.{true, false}
 use Rattle.interface.specs.declared.CarrierFault.TheVariants as fault
 use Rattle.interface.specs.declared.NetEvent.TheVariants as net
@@ -8,7 +8,6 @@ use Rattle.script.specs.declared.event.RawEvent.TheVariants as event
 use Rattle.subnet.specs.Events.{first_of}
 use Rattle.subnet.specs.Net.{dropping, without_at}
 use Rattle.trace.specs.Elements.{rest_of_calm}
-use Rattle.trace.specs.declared.element.Element.{Element}
 use Rattle.trace.proofs.lemmas.{idle_rounds}
 use Rattle.subnet_trace.specs.Steps.{MayCall, MayCome, after}
 use Rattle.subnet_trace.specs.declared.place.Place.{Place}

@@ -1,15 +1,10 @@
 -- All parts of a subnet are printed: the IMPs, the lines, and after them the flows of each IMP.
-use Rattle.subnet_trace.proofs.Common.{◌≡◌, ℕ, suc, Bool, true, false, ◌<◌, ◌≤◌, ◌+◌, List, [], ◌∷◌, ◌++◌, codes, if◌then◌else◌, length, map, Option, Some, None, refl, sym, ap, subst, ◌∙◌, arith, Appends, Appends-trans, is_imp, Net, Imp, Line, all_parts, parts_members, named, mark, place_behind, object, Remains}
-use Rattle.std.proofs.lemmas.List.{append_assoc, append-nil}
-use Rattle.std.specs.List.{flat_map}
+use Rattle.subnet_trace.proofs.Common.{◌≡◌, ℕ, suc, Bool, true, false, ◌<◌, ◌≤◌, ◌+◌, List, [], ◌∷◌, ◌++◌, codes, if◌then◌else◌, length, map, Option, Some, None, refl, sym, ap, subst, ◌∙◌, arith, Appends, Appends-trans, is_imp, Net, Imp, Line, all_parts, parts_members, named, mark, place_behind, object, Remains, append-nil, flat_map, all_flows, parts_of_net, flows_there, members_behind, place_after_members, told, further, FlowPart}
+use Rattle.std.proofs.lemmas.List.{append_assoc}
 use Rattle.replay.proofs.lemmas.{appends_none}
-use Rattle.subnet_trace.specs.Parts.{all_flows, parts_of_net}
-use Rattle.subnet_trace.specs.Printing.{flow_members, flows_there, imp_members, members_behind, place_after_members}
+use Rattle.subnet_trace.specs.Printing.{flow_members, imp_members}
 use Rattle.trace.specs.Changes.{members_of}
-use Rattle.trace.specs.Flows.{told}
 use Rattle.trace.specs.Joined.{part_behind}
-use Rattle.trace.specs.Texts.{further}
-use Rattle.trace.specs.declared.flow_part.FlowPart.{FlowPart}
 use Rattle.trace.proofs.lemmas.{begun, more_printed}
 use Rattle.subnet_trace.proofs.AllMembers.{imps_left, imps_next, imps_over, lines_left, lines_next, lines_over, none_listed}
 use Rattle.subnet_trace.proofs.FlowLists.{all_left, flows_left, flows_next, flows_over}

@@ -1,5 +1,5 @@
 -- What is outside of an event's scope stays, and the parts that are in it are put in their places.
-use Rattle.subnet_trace.proofs.Common.{◌≡◌, ◌≢◌, inl, inr, ℕ, zero, suc, ◌<◌, ◌≤◌, ◌+◌, ◌==◌, ◌||◌, Bool, true, false, List, [], ◌∷◌, ◌++◌, codes, if◌then◌else◌, length, map, nat_lt, Option, Some, None, Result, Ok, Err, slice_get, refl, sym, ap, ap₂, subst, ◌∙◌, arith, false≢true, nat_tests, get_or-set_other, length-map, Host, CarrierFault, Inbound, NetEvent, Crossing, Direction, Frame, ImpTurn, State, from_host, host_down, host_up, to_host, Shown, shown_crossings, GoesOn, Happens, IsOneCall, outcome_of, RawEvent, Kept, refusal_of, running, step_grows, take_grows, at_imp, deliver, delivered, drop_frame, frame_refusal, imp_started, imp_stopped, is_imp, offer_out, offer_refusal, step_refusal, stepped, take_in, take_refusal, taken_by_host, Net, Wire, far_end, frames_on, imp_at, no_wire, wire_at, with_turn, subnet_calls, Imp, Line, all_parts, part_name, parts_members, named, OnlyIn, has_imp, has_line, scope_of, imp_text, line_text, IsOneNetwork, ends_of, Scope, put_at, put_text, member, object, HasHappened, subnet_inside, PutSoFar}
+use Rattle.subnet_trace.proofs.Common.{◌≡◌, ◌≢◌, inl, inr, ℕ, zero, suc, ◌<◌, ◌≤◌, ◌+◌, ◌==◌, ◌||◌, Bool, true, false, List, [], ◌∷◌, ◌++◌, codes, if◌then◌else◌, length, map, nat_lt, Option, Some, None, Result, Ok, Err, slice_get, refl, sym, ap, ap₂, subst, ◌∙◌, arith, false≢true, nat_tests, get_or-set_other, length-map, Host, CarrierFault, Inbound, NetEvent, Crossing, Direction, Frame, ImpTurn, State, from_host, host_down, host_up, to_host, Shown, shown_crossings, GoesOn, Happens, IsOneCall, outcome_of, RawEvent, Kept, refusal_of, running, step_grows, take_grows, at_imp, deliver, delivered, drop_frame, frame_refusal, imp_started, imp_stopped, is_imp, offer_out, offer_refusal, step_refusal, stepped, take_in, take_refusal, taken_by_host, Net, Wire, far_end, frames_on, imp_at, no_wire, wire_at, with_turn, subnet_calls, Imp, Line, all_parts, part_name, parts_members, named, OnlyIn, has_imp, has_line, scope_of, imp_text, line_text, IsOneNetwork, ends_of, Scope, put_at, put_text, member, object, HasHappened, subnet_inside, PutSoFar, parts_of_net, IsOnlyIn, change_text, AllParts, no_part_changed}
 use Rattle.std.proofs.Common.{is_ok}
 use Rattle.interface.specs.declared.NetEvent.TheVariants as net
 use Rattle.interface.specs.declared.event.Direction.TheVariants as way
@@ -7,12 +7,9 @@ use Rattle.replay.specs.Output.{shown_refusal}
 use Rattle.replay.specs.Replay.{EventGives}
 use Rattle.script.specs.declared.event.RawEvent.TheVariants as event
 use Rattle.subnet.specs.Net.{dropping}
-use Rattle.subnet_trace.specs.Parts.{parts_of_net}
-use Rattle.subnet_trace.specs.Scopes.{IsOnlyIn, scope_of_delivery}
+use Rattle.subnet_trace.specs.Scopes.{scope_of_delivery}
 use Rattle.subnet_trace.specs.declared.parts.Scope.TheVariants as scope
-use Rattle.trace.specs.Traces.{change_text}
-use Rattle.trace.specs.declared.all_parts.AllParts.{AllParts}
-use Rattle.trace.proofs.lemmas.{happens, is_within, no_part_changed, none_put, put_more}
+use Rattle.trace.proofs.lemmas.{happens, is_within, none_put, put_more}
 use Rattle.subnet_trace.proofs.AllMembers.{imps_left, imps_next, imps_over, lines_left, lines_next, none_listed}
 use Rattle.subnet_trace.proofs.Rest.{Left, all_other, apart_from, frame_there, keeps, left_of, went}
 

@@ -1,5 +1,6 @@
 -- What holds of each flow in a table, after each change of the table.
-use Rattle.subnet_trace.proofs.Common.{◌≡◌, ℕ, ◌<◌, ◌==◌, ◌&&◌, Bool, true, false, List, [], ◌∷◌, if◌then◌else◌, Option, Some, None, IfSome, refl, sym, ap, ◌∙◌, subst, arith, All-cons, All-nil, empty, get, get-empty, All, Flow, Sources, begun, handed, last_of, number_in, flow_cmp, Fate, Noted, Standing, get_begun, get_put, IsFlowNamed, IsKeptTold, IsSourceTold}
+use Rattle.subnet_trace.proofs.Common.{◌≡◌, ℕ, ◌<◌, ◌==◌, ◌&&◌, Bool, true, false, List, [], ◌∷◌, if◌then◌else◌, Option, Some, None, IfSome, refl, sym, ap, ◌∙◌, subst, arith, All-cons, All-nil, empty, get, get-empty, All, Flow, Sources, handed, last_of, number_in, flow_cmp, Fate, Noted, Standing, get_begun, get_put, IsFlowNamed, IsKeptTold, IsSourceTold}
+use Rattle.link_table.specs.Flows.{begun}
 use Rattle.std.proofs.Common.{cond, T}
 use Rattle.std.specs.Cmp.{eq_by_cmp_equiv}
 use Rattle.std.specs.FinMap.{FinMap, entries, entries_sorted, get-entries}

@@ -1,38 +1,20 @@
 -- What is traced of a calm of a subnet says all of it: a still round leaves the subnet as it was, and so do all rounds
 -- after it.
-use Rattle.subnet_trace.proofs.Common.{◌≡◌, ◌⊎◌, inl, inr, ◌==◌, ◌<◌, ◌≤◌, ◌+◌, ℕ, zero, suc, nat_lt, Bool, false, List}
-use Rattle.subnet_trace.proofs.Common.{[], ◌∷◌, ◌++◌, if◌then◌else◌, filter, length, length-map, map, Option, None}
-use Rattle.subnet_trace.proofs.Common.{is_some, refl, sym, ap, ◌∙◌, arith, false≢true, nat_tests, range_with_len, Host}
-use Rattle.subnet_trace.proofs.Common.{Crossing, Direction, NetEvent, Shown, Happens, RawEvent, Kept, is_imp, Net}
-use Rattle.subnet_trace.proofs.Common.{opening_subnet, ends_of, subnet_calls, Ends, Imp, Line, all_parts, is_part}
-use Rattle.subnet_trace.proofs.Common.{part_name, parts_members, all_refreshing, all_turning, calling, can_resend}
-use Rattle.subnet_trace.proofs.Common.{carrying, delivering, from_subnet, is_heard, is_working, live_frames}
-use Rattle.subnet_trace.proofs.Common.{numbers_from, refreshing, round_from_line, round_of, round_of_hosts, sending}
-use Rattle.subnet_trace.proofs.Common.{telling, turning, Course, no_course, then_course, IsOneNetwork, IsTold}
-use Rattle.subnet_trace.proofs.Common.{SameTexts, subnet_inside, member}
-use Rattle.std.proofs.Common.{true, slice_index_or}
-use Rattle.std.proofs.lemmas.Bool.{eqb-true}
+use Rattle.subnet_trace.proofs.Common.{◌≡◌, ◌⊎◌, inl, inr, ◌==◌, ◌<◌, ◌≤◌, ◌+◌, ℕ, zero, suc, nat_lt, Bool, false, List, [], ◌∷◌, ◌++◌, if◌then◌else◌, filter, length, map, Option, None, length-map, is_some, refl, sym, ap, ◌∙◌, arith, false≢true, nat_tests, range_with_len, Host, Crossing, Direction, NetEvent, Shown, Happens, RawEvent, Kept, is_imp, Net, opening_subnet, ends_of, subnet_calls, Ends, Imp, Line, all_parts, is_part, part_name, parts_members, all_refreshing, all_turning, calling, can_resend, carrying, delivering, from_subnet, is_heard, is_working, live_frames, numbers_from, refreshing, round_from_line, round_of, round_of_hosts, sending, telling, turning, Course, no_course, then_course, IsOneNetwork, IsTold, SameTexts, subnet_inside, member, true, eqb-true, hosts_from, IsReached, AllRoundsGo, Goes, Traced, first_same, member_once, rest_same, Spot, IsStill, TellsEvent, flat_map, imp_at, all_flows, flows_at, parts_of_net, kept_of, sources_of, AllParts}
+use Rattle.std.proofs.Common.{slice_index_or}
 use Rattle.interface.specs.declared.NetEvent.TheVariants as net
 use Rattle.interface.specs.declared.event.Direction.TheVariants as way
-use Rattle.subnet.specs.Opening.{hosts_from}
 use Rattle.subnet_trace.specs.Elements.{dropping}
 use Rattle.subnet_trace.specs.Parts.{Part, part_text}
-use Rattle.subnet_trace.specs.Told.{IsReached}
 use Rattle.subnet_trace.proofs.Calms.{Held, goes_round, held_by, traced}
 use Rattle.subnet_trace.proofs.NoChoice.{subnet_settled}
 use Rattle.subnet_trace.proofs.Reached.{Holds, one_opening, reached_holds, round_holds}
 use Rattle.subnet_trace.proofs.Whole.{whole}
-use Rattle.trace.proofs.lemmas.{AllRoundsGo, AreRounds, Goes, IsIn, Traced, all_takings_in, first_same, member_once, rest_same, says_all}
+use Rattle.trace.proofs.lemmas.{AreRounds, IsIn, all_takings_in, says_all}
 use Rattle.trace.proofs.lemmas.{then_in}
-use Rattle.trace.specs.declared.element.Spot.{Spot}
-use Rattle.trace.specs.Traces.{IsStill, SaysAll, TellsEvent}
+use Rattle.trace.specs.Traces.{SaysAll}
 use Rattle.subnet_trace.proofs.Known.{told}
-use Rattle.std.specs.List.{flat_map}
-use Rattle.subnet.specs.Net.{imp_at}
-use Rattle.subnet_trace.specs.Parts.{all_flows, flows_at, parts_of_net}
-use Rattle.subnet_trace.specs.Texts.{kept_of, sources_of}
 use Rattle.trace.specs.Flows as flow
-use Rattle.trace.specs.declared.all_parts.AllParts.{AllParts}
 
 -- ---- all elementary events of a round have its number
 

@@ -25,10 +25,6 @@ Remains start now rest whole = (last : Option (List ℕ)) → Appends now last r
 pub more_printed : (x rest whole : List ℕ) (a b c : Option (List ℕ)) → Remains a b (x ++ rest) whole → Appends b c x → Remains a c rest whole
 more_printed x rest whole a b c remains printed = λ last more. remains last (appends_more b c last x rest printed more)
 
--- the beginning is printed
-pub begun : (x rest : List ℕ) (a b : Option (List ℕ)) → Appends a b x → Remains a b rest (x ++ rest)
-begun x rest a b printed = λ last more. appends_more a b last x rest printed more
-
 -- the next item is printed, after what comes before it
 pub next_printed : (begin end x : List ℕ) (xs : List (List ℕ)) (place : ℕ) (whole : List ℕ) (a b c d : Option (List ℕ))
     → Remains a b (left begin end place (x ∷ xs)) whole → Appends b c (mark begin (codes ",") place) → Appends c d x → Remains a d (left begin end (suc place) xs) whole

@@ -27,14 +27,14 @@ changed (was ∷ before)
 
 -- ---- flows: each is compared with the one of its name
 
--- a flow is told so in a list, and in whatever way
+-- a flow is in a list with this state, or with any
 abbrev pub is_told : List FlowPart → FlowPart → Bool
 is_told list p = list_any (λ q. same_flow_part q p) list
 
 abbrev pub is_there : List FlowPart → FlowPart → Bool
 is_there list p = list_any (λ q. same_name q p) list
 
--- the flows that are new, or told otherwise than before
+-- the flows that are new, or other than before
 abbrev pub altered : List FlowPart → List FlowPart → List FlowPart
 altered before now = filter (λ p. not (is_told before p)) now
 

@@ -158,7 +158,7 @@ fn are_same(one: &[FlowPart], other: &[FlowPart]) -> bool
     true
 }
 
-/// Returns whether a flow is told so in a list. It is looked for first at a place, where it mostly is.
+/// Returns whether a flow is in a list with this state. It is looked for first at a place, where it mostly is.
 fn is_told(list: &[FlowPart], place: usize, part: &FlowPart) -> bool
     ensures { result ≡ is_told list.now part.now }
 {
@@ -185,7 +185,7 @@ fn differ(before: &[FlowPart], now: &[FlowPart]) -> bool
     has_altered(before, now) || has_lost(before, now)
 }
 
-/// Returns whether a flow is new in a list, or told otherwise than before.
+/// Returns whether a flow is new in a list, or other than before.
 fn has_altered(before: &[FlowPart], now: &[FlowPart]) -> bool
     ensures { result ≡ nat_lt 0 (length (altered before.now now.now)) }
 {
@@ -220,7 +220,7 @@ fn add_changed(
     add_lost(before, now, add_altered(before, now, object)?)
 }
 
-/// Adds the flows that are new in a list, or told otherwise than before.
+/// Adds the flows that are new in a list, or other than before.
 fn add_altered(
     before: &[FlowPart],
     now: &[FlowPart],

@@ -56,7 +56,7 @@ pub fn whole()
 {}
 
 /// What a line says of all parts. A reader who puts the parts of a line in the place of those before has all, where
-/// `null` stands for a flow that is there no more.
+/// `null` is the text of a flow that is there no more.
 pub fn changes()
     // each part that is there now is among those of the line, or was there before
     ensures kept { (before now : AllParts) (t : List ℕ) → Contains (members_of now) t → Contains (changed_parts before now) t ⊎ Contains (members_of before) t }

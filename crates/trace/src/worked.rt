@@ -95,7 +95,7 @@ pub fn worked_flows()
     ensures told { told known ≡ codes "\"source 0/1 0/2 5\":{\"state\":\"outstanding\",\"number\":7}" }
     ensures kept { told (record known { side = side.Kept; state = state.Never }) ≡ codes "\"kept 0/1 0/2 5\":{\"fate\":\"never\",\"number\":7}" }
 
-    // one that is new, one that is told otherwise, and one that is there no more. Of two the other one is not told
+    // one that is new, one that is other than before, and one that is there no more. Of two the other one is left out
     ensures new { changed_flows (on_link 4 ∷ []) (on_link 4 ∷ known ∷ []) ≡ told known ∷ [] }
     ensures other { changed_flows (on_link 4 ∷ known ∷ []) (on_link 4 ∷ record known { number = 8 } ∷ []) ≡ told (record known { number = 8 }) ∷ [] }
     ensures state { changed_flows (known ∷ on_link 6 ∷ []) (record known { state = state.Answered } ∷ on_link 6 ∷ []) ≡ told (record known { state = state.Answered }) ∷ [] }

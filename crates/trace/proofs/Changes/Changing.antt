@@ -83,12 +83,3 @@ pub member_left_out : (before now : List (List ℕ)) (i : ℕ) (x text whole : L
 member_left_out before now i x text whole lt is same all =
     ap (λ (t : Bool). extended text (unless t x ++ changed (drop (i + 1) before) (drop (i + 1) now))) (sym same)
     ∙ ap (extended text) (sym (changed_step before now i x lt is)) ∙ all
-
-none_changed : (before : List (List ℕ)) → changed before [] ≡ []
-none_changed [] = refl
-none_changed (w ∷ before) = refl
-
-pub members_added : (before now : List (List ℕ)) (i : ℕ) (text whole : List ℕ) → length now ≤ i
-    → extended text (changed (drop i before) (drop i now)) ≡ whole → text ≡ whole
-members_added before now i text whole past all = ap (extended text)
-    (sym (ap (changed (drop i before)) (drop_all i now past) ∙ none_changed (drop i before))) ∙ all

@@ -81,18 +81,6 @@ pub record InRound {C P : Type 0} (calls : Calls C) (inside : Inside C) (left : 
   pub parts : left old begin ≡ done ++ left now place
   pub written : WritesTrace (TellsRound calls inside spot old done now) before after
 
-pub round_begins : {C P : Type 0} (calls : Calls C) (inside : Inside C) (left : C → P → List Element) (spot : Spot)
-    (round : ℕ) (old : C) (begin : P) (a : Option (List ℕ))
-    → InRound calls inside left spot round old begin old begin a a
-round_begins calls inside left spot round old begin a =
-    record {
-      done = [];
-      all = tt;
-      parts = refl;
-      written =
-          record { shown = []; is_shown = (refl, refl); written = appends_none a };
-    }
-
 -- one more
 pub round_more : {C P : Type 0} (calls : Calls C) (inside : Inside C) (left : C → P → List Element) (spot : Spot)
     (round : ℕ) (old mid new : C) (begin place next : P) (x : Element) (a b c : Option (List ℕ))
@@ -211,15 +199,6 @@ rounds_more calls inside left spot old mid new place next all a b c h (round, is
     (by_round (left new next)) round a b c is h
     (record { shown = written.shown; is_shown = (written.is_shown, moved); written = written.written })
 
--- each has one more after it
-pub rounds_shorter : {C P : Type 0} (calls : Calls C) (inside : Inside C) (left : C → P → List Element) (spot : Spot)
-    (mid new : C) (place next : P) (b c : Option (List ℕ))
-    → RoundEnds calls inside left spot mid place (Ok next) new b c
-    → length (by_round (left new next)) < length (by_round (left mid place))
-rounds_shorter calls inside left spot mid new place next b c (round, is, written) =
-    let here : length (by_round (left mid place)) ≡ suc (length (by_round (left new next))) = ap length is in
-    omega (arith, here)
-
 -- the still one is the last
 pub rounds_end : {C P : Type 0} (calls : Calls C) (inside : Inside C) (left : C → P → List Element) (spot : Spot)
     (old mid new : C) (place next : P) (all : List (List Element)) (a b c : Option (List ℕ))
@@ -255,15 +234,6 @@ moving_told calls inside left spot old mid new place next all parts booked a b c
     rounds_more calls inside left spot old mid new place next all a b c h k
     (has_moved calls inside mid new parts booked begun moved)
 
--- or all happened
-pub rounds_over : {C : Type 0} (calls : Calls C) (inside : Inside C) (spot : Spot) (old new : C)
-    (all left : List (List Element)) (a b : Option (List ℕ)) → left ≡ []
-    → SoFar (TellsMoving calls inside spot) old all left new a b
-    → WritesTrace (TellsRounds calls inside spot old all new) a b
-rounds_over calls inside spot old new all left a b none h =
-    let k = all_told (TellsMoving calls inside spot) old new all left a b none h in
-    record { shown = k.shown; is_shown = inl k.is_shown; written = k.written }
-
 -- ---- where rounds end early
 
 -- a round in which memory ran out before its first elementary event
@@ -280,12 +250,6 @@ round_stops calls inside left spot mid place next x a (later, one, is, after) =
           (record { shown = []; is_shown = (refl, refl); written = appends_none a })
           (record { shown = []; is_shown = inl (refl, refl); written = appends_none a }),
     )
-
--- the round of an elementary event begins with it
-pub begins_here : {C P : Type 0} (calls : Calls C) (left : C → P → List Element) (mid : C) (place next : P)
-    (x : Element) → GoesOnWith calls left mid place (Some (x, next)) → begins_in x.round (left mid place) ≡ true
-begins_here calls left mid place next x (later, one, is, after) = ap (begins_in x.round) is
-    ∙ eq-eqb x.round x.round refl
 
 -- the rounds before one happened, and that one went as is said
 abbrev Early : {C : Type 0} → Calls C → Inside C → Happening C Element (List ℕ) → Spot

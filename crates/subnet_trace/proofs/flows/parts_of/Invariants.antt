@@ -1,5 +1,4 @@
-use Rattle.subnet_trace.proofs.Common.{◌≡◌, ◌++◌, map}
-use Rattle.subnet_trace.specs.Printing.{known_part}
+use Rattle.subnet_trace.proofs.Common.{◌≡◌, ◌++◌, map, known_part}
 use Rattle.subnet_trace.proofs.flows.parts_of.Given as goal
 
 -- with those that are left they are all

@@ -1,7 +1,4 @@
-use Rattle.subnet_trace.proofs.Common.{◌≡◌, ◌∙◌, ◌++◌, [], ℕ, List, ap, codes, map, rules, subst, sym, Appends, Appends-trans, Flow, mark}
-use Rattle.subnet_trace.specs.Printing.{known_part}
-use Rattle.trace.specs.Flows.{told}
-use Rattle.trace.specs.declared.flow_part.FlowPart.{FlowPart}
+use Rattle.subnet_trace.proofs.Common.{◌≡◌, ◌∙◌, ◌++◌, [], ℕ, List, ap, codes, map, rules, subst, sym, Appends, Appends-trans, Flow, mark, known_part, told, FlowPart}
 use Rattle.subnet_trace.proofs.PrintedParts.{AreLeft, all_are_left, all_written, last_place, one_printed}
 use Rattle.subnet_trace.proofs.flows.print_flows.Goals as goal
 

@@ -1,6 +1,4 @@
-use Rattle.subnet_trace.proofs.Common.{◌≡◌, false, map}
-use Rattle.subnet_trace.specs.Printing.{known_part}
-use Rattle.trace.specs.Flows.{told}
+use Rattle.subnet_trace.proofs.Common.{◌≡◌, false, map, known_part, told}
 use Rattle.subnet_trace.proofs.PrintedParts.{AreLeft}
 use Rattle.subnet_trace.proofs.flows.print_flows.Given as goal
 

@@ -1,6 +1,4 @@
-use Rattle.subnet_trace.proofs.Common.{◌<◌, ◌≤◌, ◌∙◌, ◌++◌, List, ap, arith, length, Net}
-use Rattle.subnet_trace.specs.Parts.{all_flows}
-use Rattle.trace.specs.declared.flow_part.FlowPart.{FlowPart}
+use Rattle.subnet_trace.proofs.Common.{◌<◌, ◌≤◌, ◌∙◌, ◌++◌, List, ap, arith, length, Net, all_flows, FlowPart}
 use Rattle.subnet_trace.proofs.FlowLists.{all_flows_listed, all_left, flows_left, flows_listed}
 use Rattle.subnet_trace.proofs.parts.all_flows.Goals as goal
 

@@ -1,5 +1,4 @@
-use Rattle.subnet_trace.proofs.Common.{◌≡◌, ◌++◌, length}
-use Rattle.subnet_trace.specs.Parts.{all_flows}
+use Rattle.subnet_trace.proofs.Common.{◌≡◌, ◌++◌, length, all_flows}
 use Rattle.subnet_trace.proofs.FlowLists.{flows_left}
 use Rattle.subnet_trace.proofs.parts.all_flows.Given as goal
 

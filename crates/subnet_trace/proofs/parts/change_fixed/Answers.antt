@@ -1,5 +1,4 @@
-use Rattle.subnet_trace.proofs.Common.{◌≡◌, ◌∙◌, ◌++◌, ◌+◌, ◌<◌, ◌≤◌, ℕ, List, ap, arith, length, rules, subst, sym, get_or_read, Net, Wire, no_wire, wire_at, Line, all_parts, part_name, parts_members, has_line, line_text, Scope, put_at, put_text, member, PutSoFar}
-use Rattle.subnet_trace.specs.Scopes.{IsOnlyIn}
+use Rattle.subnet_trace.proofs.Common.{◌≡◌, ◌∙◌, ◌++◌, ◌+◌, ◌<◌, ◌≤◌, ℕ, List, ap, arith, length, rules, subst, sym, get_or_read, Net, Wire, no_wire, wire_at, Line, all_parts, part_name, parts_members, has_line, line_text, Scope, put_at, put_text, member, PutSoFar, IsOnlyIn}
 use Rattle.subnet_trace.proofs.AllMembers.{imps_left, lines_left, lines_over}
 use Rattle.subnet_trace.proofs.Scopes.{imp_put, imp_there, imps_put, line_put, line_there, none_are, none_there}
 use Rattle.subnet_trace.proofs.parts.change_fixed.Goals.{then-is_imp+in_ok-text, else-is_imp}

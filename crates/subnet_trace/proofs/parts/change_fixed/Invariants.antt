@@ -1,5 +1,4 @@
-use Rattle.subnet_trace.proofs.Common.{◌≡◌, ◌≤◌, ◌+◌, length, all_parts, parts_members, PutSoFar}
-use Rattle.subnet_trace.specs.Scopes.{IsOnlyIn}
+use Rattle.subnet_trace.proofs.Common.{◌≡◌, ◌≤◌, ◌+◌, length, all_parts, parts_members, PutSoFar, IsOnlyIn}
 use Rattle.subnet_trace.proofs.AllMembers.{imps_left, lines_left}
 use Rattle.subnet_trace.proofs.parts.change_fixed.Given as goal
 

@@ -1,8 +1,4 @@
-use Rattle.subnet_trace.proofs.Common.{◌≡◌, ◌∙◌, ◌+◌, ◌<◌, ◌≤◌, ℕ, List, ap, arith, length, rules, subst, sym, Net, Scope}
-use Rattle.subnet_trace.specs.Parts.{all_flows}
-use Rattle.subnet_trace.specs.Scopes.{HasFlowsIn}
-use Rattle.trace.specs.Changes.{changed_lists}
-use Rattle.trace.specs.Joined.{extended}
+use Rattle.subnet_trace.proofs.Common.{◌≡◌, ◌∙◌, ◌+◌, ◌<◌, ◌≤◌, ℕ, List, ap, arith, length, rules, subst, sym, Net, Scope, all_flows, HasFlowsIn, changed_lists, extended}
 use Rattle.subnet_trace.proofs.FlowLists.{AllFlowsPut, FlowsAt, flows_done, flows_start, none_at, put_at_imp, within_at}
 use Rattle.subnet_trace.proofs.parts.change_flows.Goals.{then-is_imp+in_ok-text, else-is_imp}
 use Rattle.subnet_trace.proofs.parts.change_flows.Goals as goal

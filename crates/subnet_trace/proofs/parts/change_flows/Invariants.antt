@@ -1,8 +1,4 @@
-use Rattle.subnet_trace.proofs.Common.{◌≡◌, ◌≤◌, ◌+◌, length}
-use Rattle.subnet_trace.specs.Parts.{all_flows}
-use Rattle.subnet_trace.specs.Scopes.{HasFlowsIn}
-use Rattle.trace.specs.Changes.{changed_lists}
-use Rattle.trace.specs.Joined.{extended}
+use Rattle.subnet_trace.proofs.Common.{◌≡◌, ◌≤◌, ◌+◌, length, all_flows, HasFlowsIn, changed_lists, extended}
 use Rattle.subnet_trace.proofs.FlowLists.{FlowsAt}
 use Rattle.subnet_trace.proofs.parts.change_flows.Given as goal
 

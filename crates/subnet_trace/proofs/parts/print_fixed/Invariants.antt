@@ -1,4 +1,4 @@
-use Rattle.subnet_trace.proofs.Common.{◌≡◌, false, length}
+use Rattle.std.proofs.Common.{◌≡◌, false, length}
 use Rattle.subnet_trace.proofs.AllMembers.{imps_left, lines_left}
 use Rattle.subnet_trace.proofs.PrintedParts.{AreLeft, fixed_members}
 use Rattle.subnet_trace.proofs.parts.print_fixed.Given as goal

@@ -1,4 +1,4 @@
-use Rattle.subnet_trace.proofs.Common.{◌≡◌, false, length}
+use Rattle.std.proofs.Common.{◌≡◌, false, length}
 use Rattle.subnet_trace.proofs.PrintedParts.{AreLeft, all_members_of, flow_texts}
 use Rattle.subnet_trace.proofs.parts.print_whole.Given as goal
 

@@ -1,10 +1,5 @@
-use Rattle.subnet_trace.proofs.Common.{◌≡◌, ◌∙◌, ◌+◌, List, Option, ap, [], rules, sym, true, IfOk-weaker, imp_at, State, ℕ}
+use Rattle.subnet_trace.proofs.Common.{◌≡◌, ◌∙◌, ◌+◌, List, Option, ap, [], rules, sym, true, ℕ, IfOk-weaker, imp_at, State, changed_at, kept_of, sources_of, changed_flows, extended, FlowPart}
 use Rattle.std.specs.Prelude.{slice_index_or}
-use Rattle.subnet_trace.specs.Printing.{changed_at}
-use Rattle.subnet_trace.specs.Texts.{kept_of, sources_of}
-use Rattle.trace.specs.Changes.{changed_flows}
-use Rattle.trace.specs.Joined.{extended}
-use Rattle.trace.specs.declared.flow_part.FlowPart.{FlowPart}
 use Rattle.subnet_trace.proofs.FlowLists.{both_put}
 use Rattle.subnet_trace.proofs.parts.put_flows.Goals as goal
 

@@ -1,4 +1,5 @@
-use Rattle.subnet_trace.proofs.Common.{◌≡◌, Option, Some, ap, refl, ◌∙◌, empty, get, get-empty, flow_cmp, begun, number_in, Fate, Noted, Standing, get_begun, get_put}
+use Rattle.subnet_trace.proofs.Common.{◌≡◌, Option, Some, ap, refl, ◌∙◌, empty, get, get-empty, flow_cmp, number_in, Fate, Noted, Standing, get_begun, get_put}
+use Rattle.link_table.specs.Flows.{begun}
 use Rattle.std.specs.FinMap.{insert}
 use Rattle.subnet.specs.Examples.{ours}
 use Rattle.link_table.specs.declared.destination.Fate.TheVariants as fate

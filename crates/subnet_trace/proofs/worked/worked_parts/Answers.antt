@@ -1,4 +1,4 @@
-use Rattle.subnet_trace.proofs.Common.{refl}
+use Rattle.std.proofs.Common.{refl}
 use Rattle.routing.specs.RouteTable.{distance_to, next_of, vector_of}
 use Rattle.std.specs.Fmt.{digits}
 use Rattle.hex.specs.Hex.{encode_with}
