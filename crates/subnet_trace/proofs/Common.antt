@@ -70,7 +70,7 @@ pub use Rattle.subnet.specs.Working.{SubnetStep, SubnetTake, subnet_calls}
 pub use Rattle.subnet.specs.declared.Ends.{Ends}
 pub use Rattle.subnet_trace.specs.Elements.{all_refreshing, all_turning, calling, calm_left, can_resend, carrying, delivering, from_subnet, imp_left, is_heard, is_working, live_frames, numbers_from, refreshing, round_from_line, round_left, round_of, round_of_hosts, sending, telling, turning}
 pub use Rattle.subnet_trace.specs.Fates.{end_fate}
-pub use Rattle.subnet_trace.specs.Parts.{Imp, Line, all_parts, is_part, part_name, parts_members, parts_text}
+pub use Rattle.subnet_trace.specs.Parts.{Imp, Line, all_parts, is_part, part_name, parts_members}
 pub use Rattle.subnet_trace.specs.Printing.{concluded_text, heard_list, named, next_behind, place_after}
 pub use Rattle.subnet_trace.specs.Scopes.{OnlyIn, has_imp, has_line, scope_of}
 pub use Rattle.subnet_trace.specs.Steps.{IsNext, call_of, turn_begun}
