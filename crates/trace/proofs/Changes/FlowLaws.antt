@@ -66,7 +66,7 @@ only_one x y h = elim (Contains-push_cases [] x y h) [
   | inr is ↦ is
 ]
 
--- a flow that was told so was there
+-- a flow that was in a list with a state was there
 told_before : (before : List FlowPart) (p : FlowPart) → is_told before p ≡ true → Contains (map told before) (told p)
 told_before [] p e = absurd (cc)
 told_before (q ∷ before) p e = by (same_flow_part q p) refl (λ h. told_before before p h) e where
