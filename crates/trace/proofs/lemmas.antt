@@ -12,7 +12,7 @@ pub use Rattle.trace.proofs.Keeping.{reached}
 pub use Rattle.trace.proofs.Rest.{frame}
 pub use Rattle.trace.proofs.Decimals.{decimal_closed, decimal_lacks, digits_lack, octets_lack, short_once}
 pub use Rattle.trace.proofs.Closed.{AreClosed, IsClosed, Spelled, Words, also_closed, array_closed, array_once, first_same, is_plain, lists_spelled, member_closed, member_once, none_closed, object_closed, object_once, other_first, plain_closed, quoted_once, rest_same, string_closed, strings_spelled}
-pub use Rattle.trace.proofs.Left.{Remains, begun, end_printed, left, maybe_printed, more_printed, next_printed, text_at}
+pub use Rattle.trace.proofs.Left.{Remains, end_printed, left, maybe_printed, more_printed, next_printed, text_at}
 pub use Rattle.trace.proofs.Printed.{five, three}
 pub use Rattle.trace.proofs.Changes.Putting.{AllPut, PutSoFar, all_put, is_within, none_put, put_more}
 pub use Rattle.trace.proofs.Named.{SameThen, answer_spelled, bits_closed, bits_same, flow_closed, flow_named, flow_same, host_named, host_spelled, host_words}
