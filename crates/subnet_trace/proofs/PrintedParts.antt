@@ -5,7 +5,7 @@ use Rattle.replay.proofs.lemmas.{appends_none}
 use Rattle.subnet_trace.specs.Printing.{flow_members, imp_members}
 use Rattle.trace.specs.Changes.{members_of}
 use Rattle.trace.specs.Joined.{part_behind}
-use Rattle.trace.proofs.lemmas.{begun, more_printed}
+use Rattle.trace.proofs.lemmas.{more_printed}
 use Rattle.subnet_trace.proofs.AllMembers.{imps_left, imps_next, imps_over, lines_left, lines_next, lines_over, none_listed}
 use Rattle.subnet_trace.proofs.FlowLists.{all_left, flows_left, flows_next, flows_over}
 
