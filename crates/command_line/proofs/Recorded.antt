@@ -34,6 +34,7 @@ use Rattle.command_line.specs.Events.{Asked, AsksFor}
 use Rattle.command_line.specs.Recorded.{OfElement, OfWorld, PrintsTrace, Recorded, printed_lines, recorded_text, told_from, told_lines, told_over}
 use Rattle.command_line.specs.WorkedSides.{starts}
 use Rattle.command_line.proofs.Printed.{no_lives}
+use Rattle.command_line.proofs.Sites.{same_hosts}
 use Rattle.command_line.proofs.OneInput.{OneInput, input_once}
 use Rattle.subnet_trace.proofs.lemmas.{subnet_settled}
 use Rattle.trace.proofs.lemmas.{plain_settled}
@@ -272,7 +273,7 @@ subnet_said o = record {
 opening_of : (t : TopologyFields) → IsTopology t → Holds (subnet_of t).net (subnet_of t)
 opening_of t keeps =
     let few : length (sites_of t) ≤ most_imps + 1 = omega (arith, length-map (range_with_len 0 (most_imps + 1)) (site_of t.imps), length-range_with_len 0 (most_imps + 1)) in
-    subst (λ (hosts : List Host). Holds (opening_subnet hosts (sites_of t) (ends_of t.lines)) (running (opening_subnet hosts (sites_of t) (ends_of t.lines)))) (sym (hosts_listed t keeps)) (opening_holds (sites_of t) (ends_of t.lines) few)
+    subst (λ (hosts : List Host). Holds (opening_subnet hosts (sites_of t) (ends_of t.lines)) (running (opening_subnet hosts (sites_of t) (ends_of t.lines)))) (sym (hosts_listed t keeps ∙ same_hosts 0 (sites_of t))) (opening_holds (sites_of t) (ends_of t.lines) few)
 
 over_from : (carrier : CarrierKind) (t : TopologyFields) (lines : List ℕ) (events : Asked) (book : Bool) (out trace : List ℕ) → IsTopology t → AreValid events → length lines ≡ asked_count events
     → ReplaysOver carrier t book Sizes events (Some []) (Some out) →

@@ -1,6 +1,6 @@
 -- Both requests of a life of a host that runs the program crossed at its stamps, and what is reported of data has just
 -- crossed, whatever its peer sends.
-use Rattle.mixed_worlds.proofs.Common.{◌≡◌, inl, inr, ℕ, ◌*◌, ◌<◌, Bool, true, false, if◌then◌else◌, zero, suc, List, [], ◌∷◌, ◌++◌, take, drop, length, Some, None, refl, ap, sym, subst, ◌∙◌, arith, Contains, drop-append_seam, Host, same_host, Flow, Answer, Crossing, HostMessage, same_host-true, header_bits, is_receive_socket, is_send_socket, Command, Legal, Order, orders_of, has_cls, is_ending, PairState, Parcel, Entry, Notice, CrossedAt, data_by, control_flow, accepted, NcpState, opening_state, pair_with, AreInOrder, served, message_for, next_in, offered, answer_leaves, message_leaves, next_pair, offer_leaves, pair_range, Asked, Crossed, Moment, places, program, crossings_of, host_in, notices_by, places_same, Begins, Each, Ends, Goes, Hears, IsOther, MayTell, Quiet, Rules, each_weaker, message_keeps, offer_keeps, request_told, IsMixed, Orders, Says, older, ordered, says, ReportsData, map, HasCrossed, coming, going}
+use Rattle.mixed_worlds.proofs.Common.{◌≡◌, inl, inr, ℕ, ◌*◌, ◌<◌, Bool, true, false, if◌then◌else◌, zero, suc, List, [], ◌∷◌, ◌++◌, take, drop, length, Option, Some, None, refl, ap, sym, subst, ◌∙◌, arith, Contains, drop-append_seam, Host, same_host, Flow, Answer, Crossing, HostMessage, same_host-true, header_bits, is_receive_socket, is_send_socket, Command, Legal, Order, orders_of, has_cls, is_ending, PairState, Parcel, Entry, Notice, CrossedAt, data_by, control_flow, accepted, NcpState, opening_state, pair_with, AreInOrder, served, message_for, next_in, offered, answer_leaves, message_leaves, next_pair, offer_leaves, pair_range, Asked, Crossed, Moment, places, program, crossings_of, host_in, notices_by, places_same, Begins, Each, Ends, Goes, Hears, IsOther, MayTell, Quiet, Rules, each_weaker, message_keeps, offer_keeps, request_told, IsMixed, Orders, Says, older, ordered, says, ReportsData, map, HasCrossed, coming, going}
 use Rattle.std.proofs.Common.{slice_index_or}
 use Rattle.std.proofs.lemmas.Bool.{eqb-true}
 use Rattle.interface.specs.declared.crossing.Crossing.TheVariants as crossing
@@ -12,7 +12,7 @@ use Rattle.host_pairs.specs.declared.notice.Notice.TheVariants as notice
 use Rattle.promise.specs.Formed.{request}
 use Rattle.host_keeps_ranges.specs.Ranges.{IsReadBack}
 use Rattle.host_keeps_ranges.proofs.lemmas.{offer_read}
-use Rattle.world_keeps_pairing.proofs.lemmas.{send_odd}
+use Rattle.world_keeps_pairing.proofs.lemmas.{even_odd, send_odd}
 use Rattle.world_keeps_lives.proofs.lemmas.{Done}
 use Rattle.world_keeps_lives.proofs.lemmas.{answer_keeps}
 use Rattle.world_keeps_lives.proofs.lemmas.{request_keeps}
@@ -59,11 +59,20 @@ module _ (h p : Host) (log : List Crossing) where
     pub named : ℕ
     pub crossed : HasCrossed coming p h b (request foreign own named) log
 
-  -- an end of this host's own has asked in a message that went out, and was answered in one that came in
+  -- an RTS for two sockets came in, and names this link
+  pub record Linked (own foreign b : ℕ) (link : Option ℕ) : Type 0 where
+    pub number : ℕ
+    pub is : link ≡ Some number
+    pub crossed : HasCrossed coming p h b (command.Rts foreign own number) log
+
+  -- an end of this host's own has asked in a message that went out, and was answered in one that came in. If it sends
+  -- it has the link that was named there
   pub record Placed (e : Entry) : Type 0 where
     pub refusing : e.mine ≡ false → has_cls e.closing ≡ true
     pub asked : e.mine ≡ true → (a : ℕ) → e.asked ≡ Some a → Went e.own e.foreign a
     pub partner : e.mine ≡ true → (b : ℕ) → e.partner ≡ Some b → Came e.own e.foreign b
+    pub linked : e.mine ≡ true → is_send_socket e.own ≡ true → (b : ℕ) → e.partner ≡ Some b
+        → Linked e.own e.foreign b e.link
 
   went_as : (e f : Entry) (a : ℕ) → f.own ≡ e.own → f.foreign ≡ e.foreign → Went e.own e.foreign a
       → Went f.own f.foreign a
@@ -75,11 +84,22 @@ module _ (h p : Host) (log : List Crossing) where
   came_as e f b own foreign w = subst (λ (n : ℕ). Came n f.foreign b) (sym own)
       (subst (λ (n : ℕ). Came e.own n b) (sym foreign) w)
 
+  linked_as : (e f : Entry) (b : ℕ) → f.own ≡ e.own → f.foreign ≡ e.foreign → f.link ≡ e.link
+      → Linked e.own e.foreign b e.link → Linked f.own f.foreign b f.link
+  linked_as e f b own foreign link w = record {
+    number = w.number;
+    is = link ∙ w.is;
+    crossed = subst (λ (n : ℕ). HasCrossed coming p h b (command.Rts n f.own w.number) log) (sym foreign)
+        (subst (λ (n : ℕ). HasCrossed coming p h b (command.Rts e.foreign n w.number) log) (sym own) w.crossed);
+  }
+
   placed_quiet : (e f : Entry) → Quiet e f → Placed e → Placed f
   placed_quiet e f q i = record {
     refusing = λ m. q.closing (i.refusing (sym q.mine ∙ m));
     asked = λ m a is. went_as e f a q.own q.foreign (i.asked (sym q.mine ∙ m) a (sym q.asked ∙ is));
     partner = λ m b is. came_as e f b q.own q.foreign (i.partner (sym q.mine ∙ m) b (sym q.partner ∙ is));
+    linked = λ m s b is. linked_as e f b q.own q.foreign q.link
+        (i.linked (sym q.mine ∙ m) (ap is_send_socket (sym q.own) ∙ s) b (sym q.partner ∙ is));
   }
 
   placed_fresh : (e : Entry) → e.mine ≡ true → e.asked ≡ None → e.partner ≡ None → Placed e
@@ -87,6 +107,7 @@ module _ (h p : Host) (log : List Crossing) where
     refusing = λ f. absurd (let clash : false ≡ true = sym f ∙ mine in cc);
     asked = λ m a is. absurd (let clash : None ≡ Some a = sym asked ∙ is in cc);
     partner = λ m b is. absurd (let clash : None ≡ Some b = sym partner ∙ is in cc);
+    linked = λ m s b is. absurd (let clash : None ≡ Some b = sym partner ∙ is in cc);
   }
 
   begins : Begins Placed
@@ -96,6 +117,7 @@ module _ (h p : Host) (log : List Crossing) where
       refusing = λ f. refl;
       asked = λ m a is. absurd (let clash : false ≡ true = m in cc);
       partner = λ m b is. absurd (let clash : false ≡ true = m in cc);
+      linked = λ m s b is. absurd (let clash : false ≡ true = m in cc);
     };
   }
 
@@ -109,6 +131,7 @@ module _ (h p : Host) (log : List Crossing) where
   -- what is reported at a moment: openings whose requests crossed, and data that crossed just then
   abbrev pub Tells : Moment → Notice → Type 0
   Tells x (notice.Opened s q f a b) = (q ≡ p) × Went s f a × Came s f b
+      × (is_send_socket s ≡ true → (link : Option ℕ) × Linked s f b link)
   Tells x n = ReportsData x n
 
   other_told : (x : Moment) (n : Notice) → IsOther n → Tells x n
@@ -123,7 +146,7 @@ module _ (h p : Host) (log : List Crossing) where
     others = other_told x;
     opens = λ e a b i asked partner goes.
         (let mine : e.mine ≡ true = own_end e i.refusing goes in
-        (refl, i.asked mine a asked, i.partner mine b partner));
+        (refl, i.asked mine a asked, i.partner mine b partner, λ s. (e.link, i.linked mine s b partner)));
     returns = λ e messages bits i o. tt;
   }
 
@@ -136,12 +159,26 @@ module _ (h p : Host) (log : List Crossing) where
       asked = λ mine a is. i.asked mine a is;
       partner = λ mine b is. came link e.own e.foreign b (one_place stamp b is)
           (sym (request_as e.foreign e.own foreign own link f o ∙ rts_is foreign own link even)) there;
+      linked = λ mine s b is. record {
+        number = link;
+        is = refl;
+        crossed = subst (λ (place : ℕ). HasCrossed coming p h place (command.Rts e.foreign e.own link) log)
+            (one_place stamp b is) (record {
+              message = m;
+              flow = flow;
+              crossed = crossed;
+              holds = subst (λ (c : Command). Contains (orders_of m.text) (Legal c))
+                  (ap (λ (n : ℕ). command.Rts n own link) (sym f) ∙ ap (λ (n : ℕ). command.Rts e.foreign n link) (sym o))
+                  there;
+            });
+      };
     };
     str = λ own foreign size e there odd even o f i. record {
       refusing = i.refusing;
       asked = λ mine a is. i.asked mine a is;
       partner = λ mine b is. came size e.own e.foreign b (one_place stamp b is)
           (sym (request_as e.foreign e.own foreign own size f o ∙ str_is foreign own size odd)) there;
+      linked = λ mine s b is. absurd (even_odd own even (ap is_send_socket (sym o) ∙ s));
     };
   } where
     came : (n own foreign b : ℕ) → stamp ≡ b → {c : Command} → c ≡ request foreign own n
@@ -165,12 +202,14 @@ module _ (h p : Host) (log : List Crossing) where
       asked = λ mine a is. went link e.own e.foreign a (one_place stamp a is)
           (sym (request_as e.own e.foreign own foreign link o f ∙ rts_is own foreign link even)) there;
       partner = λ mine b is. i.partner mine b is;
+      linked = λ mine s b is. i.linked mine s b is;
     };
     str = λ own foreign size e there odd o f i. record {
       refusing = i.refusing;
       asked = λ mine a is. went size e.own e.foreign a (one_place stamp a is)
           (sym (request_as e.own e.foreign own foreign size o f ∙ str_is own foreign size odd)) there;
       partner = λ mine b is. i.partner mine b is;
+      linked = λ mine s b is. i.linked mine s b is;
     };
   } where
     went : (k own foreign a : ℕ) → stamp ≡ a → {c : Command} → c ≡ request own foreign k
@@ -204,11 +243,21 @@ came_still h p d log own foreign b w = record {
       { message = w.crossed.message; flow = w.crossed.flow; crossed = inr w.crossed.crossed; holds = w.crossed.holds };
 }
 
+pub linked_still : (h p : Host) (d : Crossing) (log : List Crossing) (own foreign b : ℕ) (link : Option ℕ)
+    → Linked h p log own foreign b link → Linked h p (d ∷ log) own foreign b link
+linked_still h p d log own foreign b link w = record {
+  number = w.number;
+  is = w.is;
+  crossed = record
+      { message = w.crossed.message; flow = w.crossed.flow; crossed = inr w.crossed.crossed; holds = w.crossed.holds };
+}
+
 placed_still : (h p : Host) (d : Crossing) (log : List Crossing) (e : Entry) → Placed h p log e → Placed h p (d ∷ log) e
 placed_still h p d log e i = record {
   refusing = i.refusing;
   asked = λ m a is. went_still h p d log e.own e.foreign a (i.asked m a is);
   partner = λ m b is. came_still h p d log e.own e.foreign b (i.partner m b is);
+  linked = λ m s b is. linked_still h p d log e.own e.foreign b e.link (i.linked m s b is);
 }
 
 -- ---- one moment

@@ -1,10 +1,10 @@
 -- Each life of a network with strangers is of a host that runs the program, and both its requests crossed.
-use Rattle.mixed_worlds.proofs.Common.{◌≡◌, Bool, true, false, if◌then◌else◌, List, [], ◌∷◌, ◌++◌, is_some, refl, ap, sym, subst, ◌∙◌, IsSome, Contains, Host, Crossing, orders_of, Notice, own_named, partner_named, Life, Request, Kept, all_told, book_told, carried, changed_when, life_ended, lives_asked, lives_at, lives_between, lives_crossed, lives_on, lives_told, lives_with, new_life, returned, where_it, granted, Asked, Crossed, Moment, crossings_of, host_in, kept_by, notices_by, Each, each_in, IsMixed, Orders, older, crossed_only, mixed_kept, ReportsData, HasAsked}
+use Rattle.mixed_worlds.proofs.Common.{◌≡◌, ℕ, Option, Bool, true, false, if◌then◌else◌, List, [], ◌∷◌, ◌++◌, is_some, refl, ap, sym, subst, ◌∙◌, is_send_socket, IsSome, Contains, Host, Crossing, orders_of, Notice, own_named, partner_named, Life, Request, Kept, all_told, book_told, carried, changed_when, life_ended, lives_asked, lives_at, lives_between, lives_crossed, lives_on, lives_told, lives_with, new_life, returned, where_it, granted, Asked, Crossed, Moment, crossings_of, host_in, kept_by, notices_by, Each, each_in, IsMixed, Orders, older, crossed_only, mixed_kept, ReportsData, HasAsked}
 use Rattle.interface.specs.declared.crossing.Crossing.TheVariants as crossing
 use Rattle.host_pairs.specs.declared.notice.Notice.TheVariants as notice
 use Rattle.sockets.specs.declared.request.Request.TheVariants as request
 use Rattle.world_keeps_lives.proofs.lemmas.{Names, named_there, names_of}
-use Rattle.mixed_worlds.proofs.Asked.{Came, Tells, TellsOfOne, Went, came_still, told, went_still}
+use Rattle.mixed_worlds.proofs.Asked.{Came, Linked, Tells, TellsOfOne, Went, came_still, linked_still, told, went_still}
 
 module _ (strange : Host → Bool) where
   -- of a host with a program, and both requests crossed
@@ -12,6 +12,8 @@ module _ (strange : Host → Bool) where
     pub plain : strange x.host ≡ false
     pub own : Went x.host x.peer log x.socket x.foreign x.own_stamp
     pub partner : Came x.host x.peer log x.socket x.foreign x.partner_stamp
+    pub linked : is_send_socket x.socket ≡ true
+        → (link : Option ℕ) × Linked x.host x.peer log x.socket x.foreign x.partner_stamp link
 
   own_still : (c : Crossing) (log : List Crossing) (lives : List Life) → Each (IsOwn log) lives
       → Each (IsOwn (c ∷ log)) lives
@@ -21,6 +23,9 @@ module _ (strange : Host → Bool) where
       plain = all.0.plain;
       own = went_still x.host x.peer c log x.socket x.foreign x.own_stamp all.0.own;
       partner = came_still x.host x.peer c log x.socket x.foreign x.partner_stamp all.0.partner;
+      linked = λ s. (let w : (link : Option ℕ) × Linked x.host x.peer log x.socket x.foreign x.partner_stamp link =
+          all.0.linked s in
+          (w.0, linked_still x.host x.peer c log x.socket x.foreign x.partner_stamp w.0 w.1));
     },
     own_still c log lives all.1,
   )
@@ -49,18 +54,20 @@ module _ (strange : Host → Bool) where
           plain = off;
           own = subst (λ (q : Host). Went h q log socket foreign own) (sym tells.0) tells.1;
           partner = subst (λ (q : Host). Came h q log socket foreign partner) (sym tells.0) tells.2;
+          linked = λ s. subst (λ (q : Host). (link : Option ℕ) × Linked h q log socket foreign partner link)
+              (sym tells.0) (tells.3 s);
         })
     own_told h p x (notice.Ended socket peer foreign) lives off tells all = own_where
         (lives_between h socket peer foreign) life_ended lives
-        (λ y i. record { plain = i.plain; own = i.own; partner = i.partner }) all
+        (λ y i. record { plain = i.plain; own = i.own; partner = i.partner; linked = i.linked }) all
     own_told h p x (notice.PairReset peer) lives off tells all = own_where (lives_with h peer) life_ended lives
-        (λ y i. record { plain = i.plain; own = i.own; partner = i.partner }) all
+        (λ y i. record { plain = i.plain; own = i.own; partner = i.partner; linked = i.linked }) all
     own_told h p x (notice.Sent socket bits) lives off tells all = own_where (lives_at h socket) (carried bits) lives
-        (λ y i. record { plain = i.plain; own = i.own; partner = i.partner }) all
+        (λ y i. record { plain = i.plain; own = i.own; partner = i.partner; linked = i.linked }) all
     own_told h p x (notice.Arrived socket bits) lives off tells all = own_where (lives_at h socket) (carried bits)
-        lives (λ y i. record { plain = i.plain; own = i.own; partner = i.partner }) all
+        lives (λ y i. record { plain = i.plain; own = i.own; partner = i.partner; linked = i.linked }) all
     own_told h p x (notice.Returned socket messages bits) lives off tells all = own_where (lives_at h socket)
-        (returned messages bits) lives (λ y i. record { plain = i.plain; own = i.own; partner = i.partner }) all
+        (returned messages bits) lives (λ y i. record { plain = i.plain; own = i.own; partner = i.partner; linked = i.linked }) all
     own_told h p x n lives off tells all = all
 
     own_all : (h p : Host) (x : Moment) (ns : List Notice) (κ : Kept) → strange h ≡ false → Each (Tells h p log x) ns
@@ -71,13 +78,13 @@ module _ (strange : Host → Bool) where
 
     own_crossed : (c : Crossing) (lives : List Life) → Each (IsOwn log) lives → Each (IsOwn log) (lives_crossed c lives)
     own_crossed (crossing.Down h) lives all = own_where (lives_on h) life_ended lives
-        (λ y i. record { plain = i.plain; own = i.own; partner = i.partner }) all
+        (λ y i. record { plain = i.plain; own = i.own; partner = i.partner; linked = i.linked }) all
     own_crossed c lives all = all
 
     own_asked : (h : Host) (r : Request) (lives : List Life) → Each (IsOwn log) lives
         → Each (IsOwn log) (lives_asked h r lives)
     own_asked h (request.Grant socket messages bits) lives all = own_where (lives_at h socket) (granted messages bits)
-        lives (λ y i. record { plain = i.plain; own = i.own; partner = i.partner }) all
+        lives (λ y i. record { plain = i.plain; own = i.own; partner = i.partner; linked = i.linked }) all
     own_asked h r lives all = all
 
 -- what a life's requests name

@@ -5,6 +5,8 @@ use Rattle.interface.specs.declared.crossing.Crossing.TheVariants as crossing
 use Rattle.host_pairs.specs.Parcels.{link_of}
 use Rattle.host_pairs.specs.declared.notice.Notice.TheVariants as notice
 use Rattle.sockets.specs.declared.request.Request.TheVariants as request
+use Rattle.promise.specs.Safe.{sends}
+use Rattle.mixed_worlds.proofs.Asked.{Linked}
 use Rattle.mixed_worlds.proofs.Bound.{Bound}
 
 -- ---- places
@@ -55,6 +57,16 @@ nobody_passes test (e ∷ es) none = by (test e) refl none (nobody_passes test e
   by true t k rest = absurd (cc)
   by false t k rest = ((λ u. absurd (let clash : true ≡ false = sym u ∙ t in cc)), rest k)
 
+-- what is so of all ends is so of those that pass a test
+pub kept_each : (P : Entry → Type 0) (test : Entry → Bool) (es : List Entry) → Each P es
+    → Each (λ (e : Entry). (test e ≡ true) × P e) (filter test es)
+kept_each P test [] all = tt
+kept_each P test (e ∷ es) all = by (test e) refl (kept_each P test es all.1) where
+  by : (b : Bool) → test e ≡ b → Each (λ (y : Entry). (test y ≡ true) × P y) (filter test es)
+      → Each (λ (y : Entry). (test y ≡ true) × P y) (if b then e ∷ filter test es else filter test es)
+  by true t rest = ((t, all.0), rest)
+  by false t rest = rest
+
 -- an open end on the socket of a life that isn't over is its end: it is with its peer, and has its link
 pub record ItsEnd (y : Life) (link : Option ℕ) (p : Host) (e : Entry) : Type 0 where
   pub peer : p ≡ y.peer
@@ -89,6 +101,7 @@ pub record Counted (log : List Crossing) (s : NcpState) (x : Life) : Type 0 wher
   pub link : Option ℕ
   pub messages : AreOf (receives x) (flow_of x (link_of link)) x.own_stamp x.partner_stamp log x.messages x.bits
   pub bound : x.ended ≡ false → Each (Bound x link) (pair_with x.peer s.peers).entries
+  pub named : sends x ≡ true → Linked x.host x.peer log x.socket x.foreign x.partner_stamp link
 
 abbrev pub IsNew : Life → Type 0
 IsNew x = (x.messages ≡ 0) × (x.bits ≡ [])
@@ -125,15 +138,18 @@ module _ (programs : Host → NcpState) (log : List Crossing) where
     link = c.link;
     messages = c.messages;
     bound = λ e. absurd (let clash : true ≡ false = e in cc);
+    named = c.named;
   })
 
   gave_back : (messages bits : ℕ) (x : Life) → Known programs log x → Known programs log (returned messages bits x)
   gave_back messages bits x (inl i) = inl i
-  gave_back messages bits x (inr c) = inr (record { link = c.link; messages = c.messages; bound = c.bound })
+  gave_back messages bits x (inr c) = inr (record
+      { link = c.link; messages = c.messages; bound = c.bound; named = c.named })
 
   gave : (messages bits : ℕ) (x : Life) → Known programs log x → Known programs log (granted messages bits x)
   gave messages bits x (inl i) = inl i
-  gave messages bits x (inr c) = inr (record { link = c.link; messages = c.messages; bound = c.bound })
+  gave messages bits x (inr c) = inr (record
+      { link = c.link; messages = c.messages; bound = c.bound; named = c.named })
 
   known_told : (h : Host) (n : Notice) (lives : List Life) → IsCalm n → Each (Known programs log) lives
       → Each (Known programs log) (lives_told h n lives)

@@ -1,5 +1,5 @@
 -- The bits of each life of a network with strangers are those of messages on one link, in their order.
-use Rattle.mixed_worlds.proofs.Common.{◌≡◌, inl, inr, ℕ, ◌*◌, ◌<◌, ◌==◌, ◌&&◌, not, Bool, true, false, if◌then◌else◌, List, [], ◌∷◌, ◌++◌, drop, length, take, Option, Some, None, refl, ap, sym, subst, ◌∙◌, eq-eqb, Contains, drop-append_seam, Host, same_host, Flow, Crossing, HostMessage, same_host-true, data_bits, header_bits, is_receive_socket, data_of, is_mine_on, is_open, receives_on, PairState, Parcel, next_of, Entry, Notice, both, what_goes, pair_range, data_by, flow_of, receives, Life, pair_with, message_for, next_in, next_is, next_pair, all_told, carried, changed_when, lives_at, where_it, Asked, Crossed, Moment, places, program, crossings_of, host_in, kept_by, notices_by, places_same, HasOpenEnd, Each, IsOther, MayTell, Rules, each_weaker, found_in, message_keeps, offer_keeps, open_mine, request_told, each_in, IsMixed, Orders, Says, older, ordered, crossed_only, mixed_kept, AreOf, IsCarried}
+use Rattle.mixed_worlds.proofs.Common.{◌≡◌, inl, inr, ℕ, ◌*◌, ◌<◌, ◌==◌, ◌&&◌, not, Bool, true, false, if◌then◌else◌, List, [], ◌∷◌, ◌++◌, drop, length, take, Option, Some, None, refl, ap, sym, subst, ◌∙◌, eq-eqb, Contains, drop-append_seam, Host, same_host, Flow, Crossing, HostMessage, same_host-true, data_bits, header_bits, is_receive_socket, is_send_socket, data_of, is_mine_on, is_open, receives_on, PairState, Parcel, next_of, Entry, Notice, both, what_goes, pair_range, data_by, flow_of, receives, Life, pair_with, message_for, next_in, next_is, next_pair, all_told, carried, changed_when, lives_at, where_it, Asked, Crossed, Moment, places, program, crossings_of, host_in, kept_by, notices_by, places_same, HasOpenEnd, Each, IsOther, MayTell, Rules, each_weaker, found_in, message_keeps, offer_keeps, open_mine, request_told, each_in, IsMixed, Orders, Says, older, ordered, crossed_only, mixed_kept, AreOf, IsCarried}
 use Rattle.std.proofs.lemmas.Bool.{eqb-true}
 use Rattle.interface.specs.declared.crossing.Crossing.TheVariants as crossing
 use Rattle.host_pairs.specs.Allowed.{MayGo}
@@ -10,13 +10,14 @@ use Rattle.host_pairs.specs.declared.notice.Notice.TheVariants as notice
 use Rattle.host_keeps_streams.proofs.lemmas.Senders as senders
 use Rattle.host_keeps_streams.proofs.lemmas.{find_passes}
 use Rattle.promise.specs.Formed.{AreData}
+use Rattle.promise.specs.Safe.{sends}
 use Rattle.world_keeps_lives.proofs.lemmas.{answer_keeps, each_of}
 use Rattle.world_keeps_lives.proofs.lemmas.{live_end}
-use Rattle.mixed_worlds.specs.Toward.{HasData}
-use Rattle.mixed_worlds.proofs.Asked.{Placed, own_out, placed}
+use Rattle.mixed_worlds.specs.Toward.{HasData, IsNamed}
+use Rattle.mixed_worlds.proofs.Asked.{Linked, Placed, linked_still, own_out, placed}
 use Rattle.mixed_worlds.proofs.AskedLives.{IsOwn, all_own}
 use Rattle.mixed_worlds.proofs.Bound.{Bound, stays_bound}
-use Rattle.mixed_worlds.proofs.Carried.{Counted, IsCalm, IsNew, ItsEnd, Known, below_all, its_end, known_all}
+use Rattle.mixed_worlds.proofs.Carried.{Counted, IsCalm, IsNew, ItsEnd, Known, below_all, its_end, kept_each, known_all}
 use Rattle.mixed_worlds.proofs.Carried.{known_asked, known_crossed, none_of, one_passes}
 use Rattle.mixed_worlds.proofs.DataNotices.{TakesIf, bytes_told, message_takes}
 use Rattle.mixed_worlds.proofs.Sockets.{fit, held}
@@ -93,6 +94,16 @@ module _ (orders : Orders) (strange : Host → Bool) (hosts : List Host) where
   carry_on (Crossed c) moments comes f a b n bits h = inl h
   carry_on (Asked g r) moments comes f a b n bits h = h
 
+  -- the link of a life was named in what has crossed
+  abbrev IsLinked : List Moment → Life → Option ℕ → Type 0
+  IsLinked moments x link = Linked x.host x.peer (crossings_of moments) x.socket x.foreign x.partner_stamp link
+
+  link_on : (y : Moment) (moments : List Moment) (x : Life) (link : Option ℕ) → IsLinked moments x link
+      → IsLinked (y ∷ moments) x link
+  link_on (Crossed c) moments x link w = linked_still x.host x.peer c (crossings_of moments) x.socket x.foreign
+      x.partner_stamp link w
+  link_on (Asked g r) moments x link w = w
+
   module _ (moments : List Moment) (x : Life) (own : IsOwn strange (crossings_of moments) x) where
     own_before : x.own_stamp < length (crossings_of moments)
     own_before = below_all x.own_stamp _ (crossings_of moments) own.own.crossed.crossed
@@ -116,6 +127,7 @@ module _ (orders : Orders) (strange : Host → Bool) (hosts : List Host) where
       messages = carry_on y moments (receives x) (flow_of x (link_of c.link)) x.own_stamp x.partner_stamp x.messages
           x.bits c.messages;
       bound = λ goes. still_bound c.link y mixed (c.bound goes);
+      named = λ s. link_on y moments x c.link (c.named s);
     }
 
     -- a message more
@@ -127,6 +139,7 @@ module _ (orders : Orders) (strange : Host → Bool) (hosts : List Host) where
       link = known.link;
       messages = inr (x.messages, x.bits, bits, refl, refl, has, own_before, partner_before, known.messages);
       bound = λ over. still_bound known.link (Crossed c) mixed (known.bound goes);
+      named = λ s. link_on (Crossed c) moments x known.link (known.named s);
     }
 
     live : IsMixed strange hosts moments → Contains (mixed_kept strange moments).book.lives x → x.ended ≡ false
@@ -437,6 +450,26 @@ module _ (orders : Orders) (strange : Host → Bool) (hosts : List Host) where
 
   -- ---- a life that has just begun
 
+  -- the link of its end was named
+  end_linked : (moments : List Moment) → IsMixed strange hosts moments → (x : Life)
+      → IsOwn strange (crossings_of moments) x → (o : HasOpenEnd (program x.host moments) x) → sends x ≡ true
+      → IsLinked moments x o.end.link
+  end_linked moments mixed x own o s =
+      let Here : Entry → Type 0 = Placed x.host x.peer (crossings_of moments) in
+      let both_so : Each (λ (e : Entry). (is_mine_on x.socket e ≡ true) × Here e) (o.end ∷ []) =
+      subst (λ (es : List Entry). Each (λ (e : Entry). (is_mine_on x.socket e ≡ true) × Here e) es) o.one
+      (kept_each Here (is_mine_on x.socket) (pair_with x.peer (program x.host moments).peers).entries
+      (placed orders strange hosts x.host own.plain moments mixed x.peer)) in
+      let parts : (o.end.mine ≡ true) × ((o.end.own == x.socket) ≡ true) = both o.end.mine (o.end.own == x.socket)
+      both_so.0.0 in
+      let socket : o.end.own ≡ x.socket = eqb-true o.end.own x.socket parts.1 in
+      let there : Linked x.host x.peer (crossings_of moments) o.end.own o.end.foreign x.partner_stamp o.end.link =
+      both_so.0.1.linked parts.0 (ap is_send_socket socket ∙ s) x.partner_stamp o.partner in
+      subst
+      (λ (n : ℕ). Linked x.host x.peer (crossings_of moments) n x.foreign x.partner_stamp o.end.link) socket
+      (subst
+      (λ (n : ℕ). Linked x.host x.peer (crossings_of moments) o.end.own n x.partner_stamp o.end.link) o.foreign there)
+
   settle : (moments : List Moment) → IsMixed strange hosts moments
       → Each (Known (λ h. program h moments) (crossings_of moments)) (mixed_kept strange moments).book.lives
       → Each (λ (x : Life). Counted (crossings_of moments) (program x.host moments) x)
@@ -461,11 +494,22 @@ module _ (orders : Orders) (strange : Host → Bool) (hosts : List Host) where
         begun : (x : Life) → IsOwn strange (crossings_of moments) x
             → Contains (mixed_kept strange moments).book.lives x → IsNew x → (b : Bool) → x.ended ≡ b
             → Counted (crossings_of moments) (program x.host moments) x
-        begun x own there new true over = record {
-          link = None;
-          messages = none x (link_of None) new;
-          bound = λ goes. absurd (let clash : true ≡ false = sym over ∙ goes in cc);
-        }
+        begun x own there new true over = by (sends x) refl where
+          by : (b : Bool) → sends x ≡ b → Counted (crossings_of moments) (program x.host moments) x
+          by true s =
+              let w : (link : Option ℕ) × IsLinked moments x link = own.linked s in
+              record {
+                link = w.0;
+                messages = none x (link_of w.0) new;
+                bound = λ goes. absurd (let clash : true ≡ false = sym over ∙ goes in cc);
+                named = λ k. w.1;
+              }
+          by false s = record {
+            link = None;
+            messages = none x (link_of None) new;
+            bound = λ goes. absurd (let clash : true ≡ false = sym over ∙ goes in cc);
+            named = λ k. absurd (let clash : true ≡ false = sym k ∙ s in cc);
+          }
         begun x own there new false goes =
             let o : HasOpenEnd (program x.host moments) x = live moments x own mixed there goes in
             record {
@@ -477,6 +521,7 @@ module _ (orders : Orders) (strange : Host → Bool) (hosts : List Host) where
                   (k (rw (mine, eq-eqb z.own x.socket socket) refl)))
                   (one_passes (is_mine_on x.socket) o.end (pair_with x.peer (program x.host moments).peers).entries
                   o.one);
+              named = λ s. end_linked moments mixed x own o s;
             }
 
         one : (x : Life) → IsOwn strange (crossings_of moments) x
@@ -509,4 +554,9 @@ module _ (orders : Orders) (strange : Host → Bool) (hosts : List Host) where
       (λ (z : Life). Counted (crossings_of moments) (program z.host moments) z)
       (mixed_kept strange moments).book.lives x
       there (all_counted moments mixed) in
-      record { link = link_of c.link; messages = c.messages }
+      record {
+        link = link_of c.link;
+        messages = c.messages;
+        named = λ s. (let w : IsLinked moments x c.link = c.named s in
+            subst (IsNamed (crossings_of moments) x) (sym (ap link_of w.is)) w.crossed);
+      }

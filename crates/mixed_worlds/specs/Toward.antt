@@ -5,8 +5,9 @@ use Rattle.interface.specs.declared.crossing.Crossing.{Crossing}
 use Rattle.interface.specs.declared.crossing.Crossing.TheVariants as crossing
 use Rattle.host_pairs.specs.declared.notice.Notice.{Notice}
 use Rattle.host_pairs.specs.declared.notice.Notice.TheVariants as notice
-use Rattle.promise.specs.Formed.{AreData, flow_of, own_named, partner_named}
-use Rattle.promise.specs.Safe.{receives}
+use Rattle.ncp_control.specs.declared.command.Command.TheVariants as command
+use Rattle.promise.specs.Formed.{AreData, HasCrossed, coming, flow_of, own_named, partner_named}
+use Rattle.promise.specs.Safe.{receives, sends}
 use Rattle.promise.specs.declared.life.Life.{Life}
 use Rattle.net_sim.specs.Story.{Crossed, Moment}
 
@@ -31,11 +32,17 @@ AreOf comes f a b (c ∷ log) count bits =
     ((fewer : ℕ) × (front : List Bool) × (last : List Bool) × (count ≡ fewer + 1) × (bits ≡ front ++ last)
     × HasData comes f c last × (a < length log) × (b < length log) × AreOf comes f a b log fewer front)
 
+-- this link is named by an RTS of its peer for the two sockets of a life, in the message that its host took at its
+-- partner stamp
+abbrev pub IsNamed : List Crossing → Life → ℕ → Type 0
+IsNamed log x link = HasCrossed coming x.peer x.host x.partner_stamp (command.Rts x.foreign x.socket link) log
+
 -- the bits of a life are those of as many messages as it counts, on one link, after both its requests: they came in
--- from its peer, or went out to it
+-- from its peer, or went out to it. A life that sends has the link that its peer named
 pub record IsCarried (log : List Crossing) (x : Life) : Type 0 where
   pub link : ℕ
   pub messages : AreOf (receives x) (flow_of x link) x.own_stamp x.partner_stamp log x.messages x.bits
+  pub named : sends x ≡ true → IsNamed log x link
 
 -- what is reported of data at a moment is about the message that crosses there, and has its data: all that is after the
 -- header where it goes out, and what the header announces where it comes in, on another link than 0. Other notices are

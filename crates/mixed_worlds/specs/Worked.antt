@@ -61,6 +61,10 @@ granting_life = granted 2 16 (new_life second 16 third 33 8 7)
 abbrev pub odd_life : Life
 odd_life = carried eight granting_life
 
+-- the life of the second host's end that sends to the stranger. The stranger's RTS for it names link 2
+abbrev pub sending_life : Life
+sending_life = new_life second 33 third 16 8 7
+
 -- a life between the other two hosts
 abbrev pub plain_life : Life
 plain_life = new_life first 16 second 33 6 10

@@ -16,10 +16,10 @@ ghost use Rattle.masked_worlds.specs.Mixed.{AreMixed};
 ghost use Rattle.masked_worlds.specs.Worked.{is_third, listener_taken, three};
 ghost use Rattle.promise.specs.Formed.{IsFormed};
 ghost use Rattle.mixed_worlds.specs.Book.{beside_among, lives_among, mixed_kept};
-ghost use Rattle.mixed_worlds.specs.Toward.{AreOf, HasAsked, IsCarried, ReportsData};
+ghost use Rattle.mixed_worlds.specs.Toward.{AreOf, HasAsked, IsCarried, IsNamed, ReportsData};
 ghost use Rattle.mixed_worlds.specs.Told.{ToldAmong, told_among};
 ghost use Rattle.mixed_worlds.specs.Worked.{both_in, contacts, eight_bits, eight_taken, eight_told, granting_life};
-ghost use Rattle.mixed_worlds.specs.Worked.{odd_life, odd_size};
+ghost use Rattle.mixed_worlds.specs.Worked.{odd_life, odd_size, sending_life};
 ghost use Rattle.mixed_worlds.specs.Worked.{plain_bits, plain_life};
 ghost use Rattle.mixed_worlds.specs.Worked.{stranger_contacted, stranger_granted, stranger_opened};
 ghost use Rattle.mixed_worlds.specs.Laws.{Among, HaveSettled, Toward, Worlds};
@@ -101,6 +101,17 @@ pub fn worked_toward()
     ensures arrived { ReportsData eight_taken (notice.Arrived 16 eight) }
     ensures others { ReportsData eight_taken (notice.Arrived 16 (replicate 7 true)) → ⊥ }
     ensures unsent { ReportsData eight_taken (notice.Sent 16 eight) → ⊥ }
+{}
+
+/// The link of a life that sends to a stranger is one that the stranger's RTS names, in the message at its partner
+/// stamp.
+pub fn worked_links()
+    ensures carried { IsCarried (crossings_of stranger_opened) sending_life }
+    ensures named { IsNamed (crossings_of stranger_opened) sending_life 2 }
+
+    // no other link, and nothing that goes out names one
+    ensures other { IsNamed (crossings_of stranger_opened) sending_life 3 → ⊥ }
+    ensures turned { IsNamed (crossings_of stranger_opened) (new_life second 33 third 16 7 8) 2 → ⊥ }
 {}
 
 /// Where hosts with programs have nothing left to do: a stranger has taken a listening socket of the second host, which

@@ -20,6 +20,7 @@ pub mod Refusals
 pub mod Reported
 pub mod RunLoop
 pub mod SafeRow
+pub mod SomeWorld
 pub mod Strangers
 pub mod Undoing
 pub mod Turned

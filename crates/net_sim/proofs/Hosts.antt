@@ -5,6 +5,7 @@ pub mod Asks
 pub mod Calming
 pub mod Doing
 pub mod Ends
+pub mod Mute
 pub mod Resting
 pub mod SeatLemmas
 pub mod Seats

@@ -10,5 +10,6 @@ pub mod Growing
 pub mod Held
 pub mod Mixed
 pub mod Calm
+pub mod Core
 pub mod Undo
 pub mod Audit

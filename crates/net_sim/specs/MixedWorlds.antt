@@ -1,6 +1,6 @@
 -- Worlds some of whose hosts are strangers: hosts of the carrier without a seat. What a stranger sends is offered to the carrier as it
 -- is, and what it takes is written down as a crossing.
-use Rattle.std.specs.Prelude.{◌≡◌, ◌⊎◌, Bool, true, false, not, if◌then◌else◌, List, [], ◌∷◌, filter, find, map, Option, Some, None, Result, Ok, Err}
+use Rattle.std.specs.Prelude.{◌≡◌, ◌⊎◌, ℕ, Bool, true, false, not, if◌then◌else◌, List, [], ◌∷◌, filter, find, map, Option, Some, None, Result, Ok, Err}
 use Rattle.std.specs.Bool.{MatchBool}
 use Rattle.std.specs.List.{list_any}
 use Rattle.interface.specs.Calls.{Calls, Seen, crossing_of}
@@ -21,7 +21,7 @@ use Rattle.net_sim.specs.Timeline.{contacts_of, crossings_of}
 use Rattle.net_sim.specs.Told.{without_reports}
 use Rattle.net_sim.specs.Whole.{AreServed, seat_in}
 use Rattle.net_sim.specs.World.{Event, Net, Quiet, Offer, Take, Ask, Server, User, Typed}
-use Rattle.net_sim.specs.World.{WorldState, WorldFault, Carrier, changed, with_carrier, Does, Halts, Passes, StepGives, opening_seats, opening_services, stops, Seat}
+use Rattle.net_sim.specs.World.{WorldState, WorldFault, Carrier, changed, with_carrier, CalmGives, Does, Halts, Passes, StepGives, opening_seats, opening_services, stops, Seat}
 pub use Rattle.net_sim.specs.declared.mixed.MixedEvent.{MixedEvent}
 pub use Rattle.net_sim.specs.declared.mixed.MixedEvent.TheVariants.{Any, Out}
 pub use Rattle.net_sim.specs.declared.mixed.MixedFault.{MixedFault}
@@ -162,6 +162,10 @@ MixedRuns {C} calls old (e ∷ events) r new =
 
 abbrev pub MixedRunGives : {C : Type 0} → Calls C → MixedState C → List MixedEvent → Result (Unit {0}) MixedFault → MixedState C → Type 0
 MixedRunGives calls old events r new = MatchBool old.world.stopped (RefusesMixed (World (Carrier fault.Stopped)) old r new) (MixedRuns calls old events r new)
+
+-- this many times: a quiet round, and then each host with a program that is up takes and offers. A stranger has no turn
+abbrev pub MixedCalmGives : {C : Type 0} → Calls C → ℕ → MixedState C → Result (Unit {0}) MixedFault → MixedState C → Type 0
+MixedCalmGives calls times old r new = OfWorld (CalmGives calls times old.world) old r new
 
 -- ---- all that was done
 

@@ -1,9 +1,11 @@
 -- A small world with a stranger: words for worked examples. Hosts `first` and `second` run the program, and `third` runs anything.
-use Rattle.std.specs.Prelude.{◌≡◌, ◌⊎◌, true, false, List, [], ◌∷◌, Ok, Err, Result}
-use Rattle.interface.specs.Calls.{Seen}
-use Rattle.interface.specs.Host.{Host}
+use Rattle.std.specs.Prelude.{◌≡◌, ◌⊎◌, ℕ, true, false, List, [], ◌∷◌, None, Some, Ok, Err, Result}
+use Rattle.std.specs.Bool.{MatchBool}
+use Rattle.interface.specs.Calls.{Calls, Seen, ShowsTake}
+use Rattle.interface.specs.Host.{Host, same_host}
 use Rattle.interface.specs.declared.crossing.Crossing.TheVariants as crossing
-use Rattle.net_sim.specs.MixedWorlds.{MixedEvent, MixedFault, MixedState, MixedStepGives, OpensMixed, StrangersFault, opening_mixed}
+use Rattle.interface.specs.declared.crossing.Inbound.{Inbound}
+use Rattle.net_sim.specs.MixedWorlds.{MixedCalmGives, MixedEvent, MixedFault, MixedState, MixedStepGives, OpensMixed, StrangersFault, opening_mixed}
 use Rattle.net_sim.specs.declared.mixed.StrangersFault.TheVariants as absent
 use Rattle.net_sim.specs.Worked.{accepting_carrier, any_carrier, message}
 use Rattle.net_sim.specs.MixedWorlds.{Out}
@@ -22,6 +24,17 @@ three_seen = record { hosts = first ∷ second ∷ third ∷ []; log = []; stopp
 
 abbrev pub beside_third : MixedState Seen
 beside_third = opening_mixed any_carrier three_seen (third ∷ [])
+
+-- and with no stranger
+abbrev pub beside_nobody : MixedState Seen
+beside_nobody = opening_mixed any_carrier three_seen []
+
+-- a carrier that has something for the third host whenever it takes, and nothing for any other
+abbrev pub waiting_carrier : Calls Seen
+waiting_carrier = record any_carrier {
+  takes = λ old h r new. MatchBool (same_host h third) ((i : Inbound) × (r ≡ Ok (Some i))) (r ≡ Ok None)
+      × ShowsTake old h r new;
+}
 
 -- where these are named as strangers there is no world, for want of this host
 abbrev pub IsRefusedNaming : List Host → Host → Type 0
@@ -44,3 +57,9 @@ abbrev pub IsWritten : Type 0
 IsWritten =
     (r : Result (Unit {0}) MixedFault) (new : MixedState Seen) → MixedStepGives accepting_carrier beside_third (Out (message third first 2)) r new → new.world.stopped ≡ false
     → (new.world.kept.book.crossings ≡ crossing.Out (message third first 2) ∷ []) × (new.world.kept.book.notices ≡ [])
+
+-- a calm of this many rounds is refused for this, and changes nothing
+abbrev pub IsCalmRefused : MixedState Seen → ℕ → MixedFault → Type 0
+IsCalmRefused s rounds f =
+    (r : Result (Unit {0}) MixedFault) (new : MixedState Seen) → MixedCalmGives any_carrier rounds s r new
+    → (r ≡ Err f) × (new ≡ s)

@@ -1,4 +1,5 @@
-//! A calm: quiet rounds, and after each of them every host that is up takes what came for it and says what it has to say.
+//! A calm: quiet rounds, and after each of them every host with a program that is up takes what came for it and says
+//! what it has to say.
 
 ghost use Rattle.std.specs.Prelude.{◌≡◌, ◌<◌, ℕ, true, false, length, if◌then◌else◌, is_some, slice_get, None, Ok, Some};
 ghost use Rattle.net_sim.specs.Carriers.{shown};
@@ -9,7 +10,7 @@ ghost use Rattle.net_sim.specs.World as world;
 ghost use Rattle.net_sim.specs.World.{CalmGives, Repeats, Offer, Take};
 
 use crate::seat::Seat;
-use crate::world::{World, stops};
+use crate::world_core::{WorldCore, stops};
 use crate::{Event, WorldFault};
 use interface::{Carrier, CarrierFault, HostAddr, TAKINGS};
 
@@ -73,14 +74,12 @@ fn is_silent(seat: &Seat) -> bool
     matches!(program.next_out(), Ok(None))
 }
 
-impl<C: Carrier> World<C> {
+impl<C: Carrier> WorldCore<C> {
     /// Passes `rounds` times: a quiet round of the network, and then each host that is up has its turn, in order of IMP
     /// and host. It takes until nothing waits for it, or 16 times; then it offers until it has nothing to say or is
-    /// refused, or 32 times. It continues after refusals. It needs memory where [`World::step`] does. Rounds that would
-    /// change nothing are not made once that is known.
-    ///
-    /// Errors: memory runs out, which ends the calm, and `Stopped` after that.
-    pub fn calm(&mut self, rounds: u32) -> Result<(), WorldFault>
+    /// refused, or 32 times. It continues after refusals, and ends when memory runs out. Rounds that would change
+    /// nothing are not made once that is known.
+    pub(crate) fn calm(&mut self, rounds: u32) -> Result<(), WorldFault>
         ensures { CalmGives (shown C.calls) rounds self.old result self.new }
     {
         if self.is_stopped() {
@@ -101,16 +100,16 @@ impl<C: Carrier> World<C> {
 
     /// Returns whether more rounds of a calm are known to change nothing: the network is known to rest, and each host
     /// that is up has nothing to say, or is known to be refused what it has to say.
-    pub fn rests(&self) -> bool
+    pub(crate) fn rests(&self) -> bool
         ensures rest { result ≡ true → IsAtRest (shown C.calls) self.now }
-        ensures unchanged { result ≡ true → (times : ℕ) → CalmGives (shown C.calls) times self.now (Ok tt) self.now }
+        ensures unchanged { result ≡ true → (n : ℕ) → CalmGives (shown C.calls) n self.now (Ok tt) self.now }
         ensures running { result ≡ true → self.now.stopped ≡ false }
     {
         self.has_calmed(self.book().crossings().len())
     }
 
     /// Returns whether it is known that no host that is up has anything to say.
-    pub fn is_silent(&self) -> bool
+    pub(crate) fn is_silent(&self) -> bool
         ensures { result ≡ true → AllSilent self.now.seats }
     {
         all_silent(self.seats())
@@ -158,7 +157,7 @@ impl<C: Carrier> World<C> {
     fn pass_round(&mut self) -> Result<(), WorldFault>
         ensures { Round (shown C.calls) self.old result self.new }
     {
-        let passed = self.step(Event::Quiet);
+        let passed = self.step(&Event::Quiet);
         if stops(&passed) {
             return passed;
         }

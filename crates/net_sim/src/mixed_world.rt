@@ -1,9 +1,12 @@
 //! Hosts over a carrier, some of which are strangers.
 
-ghost use Rattle.std.specs.Prelude.{◌≡◌, false, [], IfOk};
+ghost use Rattle.std.specs.Prelude.{◌≡◌, ℕ, true, false, [], Ok, IfOk};
 ghost use Rattle.net_sim.specs.Carriers.{shown};
 ghost use Rattle.net_sim.specs.Handed.{AreUnhanded};
-ghost use Rattle.net_sim.specs.MixedWorlds.{IsLawfulAmong, MixedRunGives, MixedStepGives, OpensMixed, opening_mixed, strange_in};
+ghost use Rattle.net_sim.specs.MixedWorlds.{IsLawfulAmong, MixedCalmGives, MixedRunGives, MixedStepGives};
+ghost use Rattle.net_sim.specs.MixedWorlds.{OpensMixed, opening_mixed, strange_in};
+ghost use Rattle.net_sim.specs.Rest.{IsAtRest};
+ghost use Rattle.net_sim.specs.Silent.{AllSilent};
 ghost use Rattle.promise.specs.Fates.{AreFated};
 
 use crate::WorldFault;
@@ -11,10 +14,9 @@ use crate::book::Book;
 use crate::mixed::{MixedEvent, MixedFault, StrangersFault};
 use crate::parts::Hosts;
 use crate::seat::{Seat, ServiceSeat, opening_seats, opening_services};
-use crate::strangers::{
-    absent_in, follow_mixed, is_named_mixed, programs_of, runs_out_mixed, stops_mixed, strangers_of,
-};
+use crate::strangers::{absent_in, answer_of, programs_of, stops_mixed, strangers_of};
 use crate::world::are_addresses;
+use crate::world_core::WorldCore;
 use interface::{Carrier, CarrierFault, HostAddr};
 use promise::{BitLog, Fate};
 use std::alloc::{AllocError, Global};
@@ -28,21 +30,19 @@ use std::marker::Model;
 /// every event is refused as `Stopped`, as in a [`World`](crate::World).
 #[derive(Drop)]
 pub struct MixedWorld<C: Carrier> {
-    carrier: C,
-    hosts: Hosts,
+    core: WorldCore<C>,
     strangers: Vec<HostAddr>,
-    stopped: bool,
 }
 
 impl<C: Carrier> Model for MixedWorld<C> {
-    ghost use Rattle.net_sim.specs.Inside.Mixed.{IsHeldAmong, mixed_of_hosts};
+    ghost use Rattle.net_sim.specs.Inside.Mixed.{IsHeldAmong, mixed_with};
     ghost use Rattle.net_sim.specs.MixedWorlds.{MixedState};
 
     ghost Value = { MixedState C };
 
-    ghost view = { λ w. mixed_of_hosts w.carrier w.hosts w.strangers.items w.stopped };
+    ghost view = { λ w. mixed_with w.core w.strangers.items };
 
-    ghost invariant = { λ w. IsHeldAmong C.calls.seen (mixed_of_hosts w.carrier w.hosts w.strangers.items w.stopped) };
+    ghost invariant = { λ w. IsHeldAmong C.calls.seen (mixed_with w.core w.strangers.items) };
 }
 
 impl<C: Carrier> MixedWorld<C> {
@@ -79,16 +79,15 @@ impl<C: Carrier> MixedWorld<C> {
         let seats = opening_seats(alloc, &programs)?;
         let services = opening_services(alloc, &programs)?;
         are_addresses(carrier.hosts());
+        let hosts = Hosts {
+            seats,
+            services,
+            book: Book::new(alloc),
+            alloc,
+        };
         Ok(MixedWorld {
-            carrier,
-            hosts: Hosts {
-                seats,
-                services,
-                book: Book::new(alloc),
-                alloc,
-            },
+            core: WorldCore::of_parts(carrier, hosts),
             strangers,
-            stopped: false,
         })
     }
 
@@ -98,7 +97,7 @@ impl<C: Carrier> MixedWorld<C> {
         ensures value { result.now ≡ self.now.world.kept }
         ensures lawful { IsLawfulAmong (strange_in self.now) C.calls.seen (C.calls.seen self.now.world.carrier).hosts self.now.world }
     {
-        &self.hosts.book
+        self.core.book()
     }
 
     /// Returns what was handed over to be sent, a list of bits for each life, in the order in which the book has the lives. For a
@@ -122,21 +121,21 @@ impl<C: Carrier> MixedWorld<C> {
     pub fn carrier(&self) -> &C
         ensures { result.now ≡ self.now.world.carrier }
     {
-        &self.carrier
+        self.core.carrier()
     }
 
     /// Returns the hosts with their programs, in the carrier's order.
     pub fn seats(&self) -> &[Seat]
         ensures { result.now ≡ self.now.world.seats }
     {
-        &self.hosts.seats
+        self.core.seats()
     }
 
     /// Returns what runs on these hosts beside their programs, in the carrier's order.
     pub fn services(&self) -> &[ServiceSeat]
         ensures { result.now ≡ self.now.world.services }
     {
-        &self.hosts.services
+        self.core.services()
     }
 
     /// Returns the strangers, in the carrier's order.
@@ -153,22 +152,14 @@ impl<C: Carrier> MixedWorld<C> {
     pub fn step(&mut self, event: MixedEvent) -> Result<(), MixedFault>
         ensures { MixedStepGives (shown C.calls) self.old event result self.new }
     {
-        if self.stopped {
-            return Err(MixedFault::World(WorldFault::Carrier(CarrierFault::Stopped)));
-        }
-        is_named_mixed(&event);
-        let done = follow_mixed(&mut self.carrier, &mut self.hosts, &self.strangers, event);
-        // for the proof only: the log is a run of the mailboxes, which is a part of what such a world keeps
-        let _ = self.carrier.log();
-        self.stopped = runs_out_mixed(&done);
-        done
+        self.core.step_among(&self.strangers, event)
     }
 
     /// Lets one event happen after the other. It continues after a refusal, and ends when memory runs out.
     pub fn run(&mut self, events: Vec<MixedEvent>) -> Result<(), MixedFault>
         ensures { MixedRunGives (shown C.calls) self.old events.items result self.new }
     {
-        if self.stopped {
+        if self.core.is_stopped() {
             return Err(MixedFault::World(WorldFault::Carrier(CarrierFault::Stopped)));
         }
         for event in events {
@@ -178,5 +169,36 @@ impl<C: Carrier> MixedWorld<C> {
             }
         }
         Ok(())
+    }
+
+    /// Passes `rounds` times: a quiet round of the network, and then each host that has a program and is up has its
+    /// turn, as in [`World::calm`](crate::World::calm). A stranger has none: what waits for it stays, and it says
+    /// nothing.
+    ///
+    /// Errors: memory runs out, which ends the calm, and `Stopped` after that.
+    pub fn calm(&mut self, rounds: u32) -> Result<(), MixedFault>
+        ensures { MixedCalmGives (shown C.calls) rounds self.old result self.new }
+    {
+        let done = self.core.calm(rounds);
+        self.core.is_run();
+        answer_of(done)
+    }
+
+    /// Returns whether more rounds of a calm are known to change nothing: the network is known to rest, so nothing
+    /// waits in it, for a stranger neither; and each host that has a program and is up has nothing to say, or is known
+    /// to be refused what it has to say.
+    pub fn rests(&self) -> bool
+        ensures rest { result ≡ true → IsAtRest (shown C.calls) self.now.world }
+        ensures unchanged { result ≡ true → (n : ℕ) → MixedCalmGives (shown C.calls) n self.now (Ok tt) self.now }
+        ensures running { result ≡ true → self.now.world.stopped ≡ false }
+    {
+        self.core.rests()
+    }
+
+    /// Returns whether it is known that no host that has a program and is up has anything to say.
+    pub fn is_silent(&self) -> bool
+        ensures { result ≡ true → AllSilent self.now.world.seats }
+    {
+        self.core.is_silent()
     }
 }

@@ -108,7 +108,7 @@ fn asks_stranger(strangers: &[HostAddr], event: &Event) -> bool
 }
 
 /// Returns the answer of a world with strangers, by that of its world.
-fn answer_of(done: Result<(), WorldFault>) -> Result<(), MixedFault>
+pub(crate) fn answer_of(done: Result<(), WorldFault>) -> Result<(), MixedFault>
     ensures { result ≡ mixed_answer done }
 {
     match done {

@@ -1,11 +1,15 @@
 //! A small world with a stranger.
 
-ghost use Rattle.std.specs.Prelude.{◌≡◌, [], ◌∷◌, None, Some, map};
+ghost use Rattle.std.specs.Prelude.{◌≡◌, ℕ, [], ◌∷◌, None, Some, Ok, map};
 ghost use Rattle.interface.specs.declared.carrier.CarrierFault.TheVariants as fault;
-ghost use Rattle.net_sim.specs.MixedWorlds.{Any, Out, World, NoProgram, HasProgram, absent_in, opening_mixed};
+ghost use Rattle.net_sim.specs.MixedWorlds.{Any, MixedCalmGives, Out, World, NoProgram, HasProgram};
+ghost use Rattle.net_sim.specs.MixedWorlds.{absent_in, opening_mixed};
+ghost use Rattle.net_sim.specs.Rest.{IsAtRest};
 ghost use Rattle.net_sim.specs.Worked.{any_carrier, message};
-ghost use Rattle.net_sim.specs.WorkedMixed.{IsMadeNaming, IsRefusedNaming, IsRefusedThere, IsWritten, beside_third, fifth, fourth, spent, three_seen};
-ghost use Rattle.net_sim.specs.World.{Carrier, Ask, Offer};
+ghost use Rattle.net_sim.specs.WorkedMixed.{IsCalmRefused, IsMadeNaming, IsRefusedNaming, IsRefusedThere, IsWritten};
+ghost use Rattle.net_sim.specs.WorkedMixed.{beside_nobody, beside_third, fifth, fourth, spent, three_seen};
+ghost use Rattle.net_sim.specs.WorkedMixed.{waiting_carrier};
+ghost use Rattle.net_sim.specs.World.{Carrier, Ask, Offer, up_in};
 ghost use Rattle.sockets.specs.Worked.{first, second, third};
 ghost use Rattle.sockets.specs.declared.request.Request.TheVariants as request;
 
@@ -37,4 +41,18 @@ pub fn worked_strangers()
     ensures stopped_asking { IsRefusedThere spent (Any (Offer third)) (World (Carrier fault.Stopped)) }
 
     ensures written { IsWritten }
+{}
+
+/// Who has a turn in a calm: hosts with programs, and no stranger.
+pub fn worked_calm()
+    ensures turns { up_in beside_third.world.seats ≡ first ∷ second ∷ [] }
+    ensures everybody { up_in beside_nobody.world.seats ≡ first ∷ second ∷ third ∷ [] }
+
+    // what waits for a stranger stays there, and changes nothing for the others; a host with a program takes it
+    ensures rests { IsAtRest waiting_carrier beside_third.world }
+    ensures stays { (rounds : ℕ) → MixedCalmGives waiting_carrier rounds beside_third (Ok tt) beside_third }
+    ensures comes { IsAtRest waiting_carrier beside_nobody.world → ⊥ }
+
+    // after memory has run out
+    ensures stopped { IsCalmRefused spent 1 (World (Carrier fault.Stopped)) }
 {}

@@ -1,24 +1,23 @@
 //! Hosts with their programs over a carrier.
 
-ghost use Rattle.std.specs.Prelude.{◌≡◌, false, List, [], IfOk, OnOk, All};
+ghost use Rattle.std.specs.Prelude.{◌≡◌, ℕ, true, false, [], Ok, IfOk, All};
 ghost use Rattle.interface.specs.Host.{IsAddress};
 ghost use Rattle.net_sim.specs.Carriers.{shown};
 ghost use Rattle.net_sim.specs.Clean.{IsLawful};
 ghost use Rattle.net_sim.specs.Handed.{AreUnhanded};
-ghost use Rattle.net_sim.specs.Inside.Parts as parts;
 ghost use Rattle.net_sim.specs.Inside.Parts.{IsOnce, hosts_of};
-ghost use Rattle.net_sim.specs.World as world;
-ghost use Rattle.net_sim.specs.World.{opening_world, StepGives, RunGives, Offer, Take};
+ghost use Rattle.net_sim.specs.Rest.{IsAtRest};
+ghost use Rattle.net_sim.specs.Silent.{AllSilent};
+ghost use Rattle.net_sim.specs.World.{CalmGives, opening_world, StepGives, RunGives};
 ghost use Rattle.promise.specs.Fates.{AreFated};
 
 use crate::book::Book;
-use crate::events::{follow, is_named, offer, take};
 use crate::parts::Hosts;
 use crate::seat::{Seat, ServiceSeat, opening_seats, opening_services};
+use crate::world_core::{WorldCore, stops};
 use crate::{Event, WorldFault};
 use interface::{Carrier, CarrierFault, HostAddr};
 use promise::{BitLog, Fate};
-use sockets::NcpFault;
 use std::alloc::{AllocError, Global};
 use std::marker::Model;
 
@@ -29,21 +28,18 @@ use std::marker::Model;
 /// the book as it was, and after it every event is refused as `Stopped`.
 #[derive(Drop)]
 pub struct World<C: Carrier> {
-    carrier: C,
-    hosts: Hosts,
-    stopped: bool,
+    core: WorldCore<C>,
 }
 
 impl<C: Carrier> Model for World<C> {
     ghost use Rattle.net_sim.specs.Inside.Held.{IsHeld};
-    ghost use Rattle.net_sim.specs.Inside.Parts.{world_of_hosts};
     ghost use Rattle.net_sim.specs.World.{WorldState};
 
     ghost Value = { WorldState C };
 
-    ghost view = { λ w. world_of_hosts w.carrier w.hosts w.stopped };
+    ghost view = { λ w. w.core };
 
-    ghost invariant = { λ w. IsHeld C.calls.seen (world_of_hosts w.carrier w.hosts w.stopped) };
+    ghost invariant = { λ w. IsHeld C.calls.seen w.core };
 }
 
 impl<C: Carrier> World<C> {
@@ -59,15 +55,14 @@ impl<C: Carrier> World<C> {
         let seats = opening_seats(alloc, carrier.hosts())?;
         let services = opening_services(alloc, carrier.hosts())?;
         are_addresses(carrier.hosts());
+        let hosts = Hosts {
+            seats,
+            services,
+            book: Book::new(alloc),
+            alloc,
+        };
         Ok(World {
-            carrier,
-            hosts: Hosts {
-                seats,
-                services,
-                book: Book::new(alloc),
-                alloc,
-            },
-            stopped: false,
+            core: WorldCore::of_parts(carrier, hosts),
         })
     }
 
@@ -78,7 +73,7 @@ impl<C: Carrier> World<C> {
         ensures value { result.now ≡ self.now.kept }
         ensures lawful { IsLawful C.calls.seen (C.calls.seen self.now.carrier).hosts self.now }
     {
-        &self.hosts.book
+        self.core.book()
     }
 
     /// Returns what was handed over to be sent, a list of bits for each life, in the order in which the book has the
@@ -102,14 +97,14 @@ impl<C: Carrier> World<C> {
     pub fn carrier(&self) -> &C
         ensures { result.now ≡ self.now.carrier }
     {
-        &self.carrier
+        self.core.carrier()
     }
 
     /// Returns what runs on the hosts beside their programs, in the carrier's order.
     pub fn services(&self) -> &[ServiceSeat]
         ensures { result.now ≡ self.now.services }
     {
-        &self.hosts.services
+        self.core.services()
     }
 
     /// Returns the hosts with their programs, in the carrier's order.
@@ -117,14 +112,7 @@ impl<C: Carrier> World<C> {
         ensures value { result.now ≡ self.now.seats }
         ensures once { self.now.stopped ≡ false → IsOnce (hosts_of self.now.seats) }
     {
-        &self.hosts.seats
-    }
-
-    /// Returns whether running out of memory has stopped it.
-    pub(crate) fn is_stopped(&self) -> bool
-        ensures { result ≡ self.now.stopped }
-    {
-        self.stopped
+        self.core.seats()
     }
 
     /// Lets one event happen, or refuses it.
@@ -145,7 +133,7 @@ impl<C: Carrier> World<C> {
     pub fn run(&mut self, events: &[Event]) -> Result<(), WorldFault>
         ensures { RunGives (shown C.calls) self.old events.now result self.new }
     {
-        if self.stopped {
+        if self.core.is_stopped() {
             return Err(WorldFault::Carrier(CarrierFault::Stopped));
         }
         for event in events {
@@ -157,48 +145,44 @@ impl<C: Carrier> World<C> {
         Ok(())
     }
 
+    /// Passes `rounds` times: a quiet round of the network, and then each host that is up has its turn, in order of IMP
+    /// and host. It takes until nothing waits for it, or 16 times; then it offers until it has nothing to say or is
+    /// refused, or 32 times. It continues after refusals. It needs memory where [`World::step`] does. Rounds that would
+    /// change nothing are not made once that is known.
+    ///
+    /// Errors: memory runs out, which ends the calm, and `Stopped` after that.
+    pub fn calm(&mut self, rounds: u32) -> Result<(), WorldFault>
+        ensures { CalmGives (shown C.calls) rounds self.old result self.new }
+    {
+        let done = self.core.calm(rounds);
+        self.core.is_run();
+        done
+    }
+
+    /// Returns whether more rounds of a calm are known to change nothing: the network is known to rest, and each host
+    /// that is up has nothing to say, or is known to be refused what it has to say.
+    pub fn rests(&self) -> bool
+        ensures rest { result ≡ true → IsAtRest (shown C.calls) self.now }
+        ensures unchanged { result ≡ true → (n : ℕ) → CalmGives (shown C.calls) n self.now (Ok tt) self.now }
+        ensures running { result ≡ true → self.now.stopped ≡ false }
+    {
+        self.core.rests()
+    }
+
+    /// Returns whether it is known that no host that is up has anything to say.
+    pub fn is_silent(&self) -> bool
+        ensures { result ≡ true → AllSilent self.now.seats }
+    {
+        self.core.is_silent()
+    }
+
     /// Lets one event happen, or refuses it.
     fn follow(&mut self, event: &Event) -> Result<(), WorldFault>
         ensures { StepGives (shown C.calls) self.old event.now result self.new }
     {
-        if self.stopped {
-            return Err(WorldFault::Carrier(CarrierFault::Stopped));
-        }
-        is_named(event);
-        let done = follow(&mut self.carrier, &mut self.hosts, event);
-        // for the proof only: the log is a run of the mailboxes, which is a part of what a world keeps
-        let _ = self.carrier.log();
-        self.stopped = runs_out(&done);
+        let done = self.core.step(event);
+        self.core.is_run();
         done
-    }
-
-    /// Lets a host take what came for it, as [`World::step`] does. Its seat is looked for at a likely place first.
-    pub(crate) fn take_near(&mut self, likely: usize, host: HostAddr) -> Result<(), WorldFault>
-        ensures { StepGives (shown C.calls) self.old (Take host) result self.new }
-    {
-        if self.stopped {
-            return Err(WorldFault::Carrier(CarrierFault::Stopped));
-        }
-        let taken = take(&mut self.carrier, &mut self.hosts, likely, host);
-        // for the proof only, as in `follow`
-        let _ = self.carrier.log();
-        self.stopped = runs_out(&taken);
-        taken
-    }
-
-    /// Offers a host's next message to the network, as [`World::step`] does. Its seat is looked for at a likely place
-    /// first.
-    pub(crate) fn offer_near(&mut self, likely: usize, host: HostAddr) -> Result<(), WorldFault>
-        ensures { StepGives (shown C.calls) self.old (Offer host) result self.new }
-    {
-        if self.stopped {
-            return Err(WorldFault::Carrier(CarrierFault::Stopped));
-        }
-        let sent = offer(&mut self.carrier, &mut self.hosts, likely, host);
-        // for the proof only, as in `follow`
-        let _ = self.carrier.log();
-        self.stopped = runs_out(&sent);
-        sent
     }
 }
 
@@ -211,30 +195,4 @@ pub(crate) fn are_addresses(hosts: &[HostAddr])
     for host in hosts {
         let _ = (host.imp(), host.host());
     }
-}
-
-/// Returns whether memory ran out.
-fn runs_out(done: &Result<(), WorldFault>) -> bool
-    ensures { result ≡ parts.runs_out done.now }
-{
-    matches!(
-        done,
-        Err(
-            WorldFault::Carrier(CarrierFault::OutOfMemory)
-                | WorldFault::Program(NcpFault::OutOfMemory)
-        )
-    )
-}
-
-/// Returns whether a list of events ends after this answer.
-pub(crate) fn stops(done: &Result<(), WorldFault>) -> bool
-    ensures { result ≡ world.stops done.now }
-{
-    matches!(
-        done,
-        Err(
-            WorldFault::Carrier(CarrierFault::OutOfMemory | CarrierFault::Stopped)
-                | WorldFault::Program(NcpFault::OutOfMemory)
-        )
-    )
 }

@@ -6,7 +6,7 @@ use crate::calls::{events, first, second};
 use bit_messages::Bits;
 use interface::{CarrierFault, Flow, HostAddr, HostMessage, Link, Text};
 use leader1822::PlainBoxes;
-use net_sim::{Event, MixedEvent, MixedFault, MixedWorld, StrangersFault, WorldFault};
+use net_sim::{Book, Event, MixedEvent, MixedFault, MixedWorld, StrangersFault, World, WorldFault};
 use sockets::Request;
 use std::alloc::Global;
 use std::process::Abort;
@@ -63,8 +63,15 @@ enum Act {
     Lines(&'static str),
     /// 0/3 says this to 0/2, on link 0.
     Says(&'static [u8]),
+    /// It sends this to 0/2 on link 2.
+    Sends(&'static [u8]),
     /// It says this on link 0 so often, each time 0/2 takes it, and it takes the answer.
     Floods(u32, &'static [u8]),
+    /// This many rounds of a calm pass.
+    Calms(u32),
+    /// It says this on link 0 so often, each time a calm of one round passes, and it takes the answer and what 0/2
+    /// says.
+    Harries(u32, &'static [u8]),
 }
 
 /// An RST, with the header of a message between host programs: eight zeros, one byte of 8 bits, and eight zeros.
@@ -75,6 +82,12 @@ const RRP: [u8; 6] = [0, 8, 0, 1, 0, 13];
 
 /// An RTS from socket 16 to socket 33, on link 2.
 const RTS: [u8; 15] = [0, 8, 0, 10, 0, 1, 0, 0, 0, 16, 0, 0, 0, 33, 2];
+
+/// An STR from socket 33 to socket 16, of bytes of 8 bits.
+const STR: [u8; 15] = [0, 8, 0, 10, 0, 2, 0, 0, 0, 33, 0, 0, 0, 16, 8];
+
+/// A message of data: one byte of 8 bits.
+const DATA: [u8; 6] = [0, 8, 0, 1, 0, 65];
 
 /// A CLS for the sockets of 0/1 and 0/2 in `BESIDE`, as if 0/1 said it.
 const STOLEN: [u8; 14] = [0, 8, 0, 9, 0, 3, 0, 0, 0, 16, 0, 0, 0, 33];
@@ -113,14 +126,15 @@ fn counted(refused: Refused, answer: Result<(), MixedFault>) -> Option<Refused> 
     }
 }
 
-/// Lets 0/3 say something to 0/2.
+/// Lets 0/3 say something to 0/2 on a link.
 fn say(
     alloc: Global,
     world: &mut MixedWorld<PlainBoxes>,
+    link: u8,
     octets: &[u8],
     refused: Refused,
 ) -> Option<Refused> {
-    let said = message(alloc, third(), second(), 0, octets)?;
+    let said = message(alloc, third(), second(), link, octets)?;
     counted(refused, world.step(MixedEvent::Out(said)))
 }
 
@@ -153,8 +167,27 @@ fn flood(
 ) -> Option<Refused> {
     let mut refused = refused;
     for _ in 0..times {
-        refused = say(alloc, world, octets, refused)?;
+        refused = say(alloc, world, 0, octets, refused)?;
         refused = take(world, second(), refused)?;
+        refused = take(world, third(), refused)?;
+    }
+    Some(refused)
+}
+
+/// Lets 0/3 say something to 0/2 again and again, and each time a calm of one round passes, after which 0/3 takes
+/// twice.
+fn harry(
+    alloc: Global,
+    world: &mut MixedWorld<PlainBoxes>,
+    times: u32,
+    octets: &[u8],
+    refused: Refused,
+) -> Option<Refused> {
+    let mut refused = refused;
+    for _ in 0..times {
+        refused = say(alloc, world, 0, octets, refused)?;
+        refused = counted(refused, world.calm(1))?;
+        refused = take(world, third(), refused)?;
         refused = take(world, third(), refused)?;
     }
     Some(refused)
@@ -163,6 +196,17 @@ fn flood(
 /// What a world comes to: how many crossings, notices, contacts, lives, and bits handed over in the first life.
 type Counts = [usize; 5];
 
+/// What a book comes to.
+fn counts(book: &Book) -> Counts {
+    [
+        book.crossings().len(),
+        book.notices().len(),
+        book.contacts().len(),
+        book.lives().len(),
+        book.handed().first().map_or(0, |bits| bits.len()),
+    ]
+}
+
 /// What comes of all this: what was refused, and what is in the book. `None` where memory runs out.
 fn outcome(alloc: Global, acts: &[Act]) -> Option<(Refused, Counts)> {
     let mut world = world(alloc, &[third()])?.ok()?;
@@ -170,19 +214,14 @@ fn outcome(alloc: Global, acts: &[Act]) -> Option<(Refused, Counts)> {
     for act in acts {
         refused = match act {
             Act::Lines(script) => follow(alloc, &mut world, script, refused)?,
-            Act::Says(octets) => say(alloc, &mut world, octets, refused)?,
+            Act::Says(octets) => say(alloc, &mut world, 0, octets, refused)?,
+            Act::Sends(octets) => say(alloc, &mut world, 2, octets, refused)?,
             Act::Floods(times, octets) => flood(alloc, &mut world, *times, octets, refused)?,
+            Act::Calms(rounds) => counted(refused, world.calm(*rounds))?,
+            Act::Harries(times, octets) => harry(alloc, &mut world, *times, octets, refused)?,
         };
     }
-    let book = world.book();
-    let counts = [
-        book.crossings().len(),
-        book.notices().len(),
-        book.contacts().len(),
-        book.lives().len(),
-        world.handed().first().map_or(0, |bits| bits.len()),
-    ];
-    Some((refused, counts))
+    Some((refused, counts(world.book())))
 }
 
 /// 0/1 is through a reset with 0/2: it contacts it, its RST crosses and is answered, and so is the RRP.
@@ -195,7 +234,7 @@ const BESIDE: &str =
      grant 0/1 16 1 16\noffer 0/1\ntake 0/2\nsend 0/2 33 16 4142\noffer 0/2\ntake 0/1\ntake 0/1\ntake 0/2\n";
 
 /// What a stranger does, and what comes of it.
-const ROWS: [(&[Act], Refused, Counts); 6] = [
+const ROWS: [(&[Act], Refused, Counts); 9] = [
     // without strangers' messages: six crossings of a reset, and both are notified that they are ready; a connection of
     // two requests, an ALL and a message of data, each with its RFNM
     (
@@ -264,6 +303,42 @@ const ROWS: [(&[Act], Refused, Counts); 6] = [
         [0, 0, 0],
         [210_021, 7, 1, 2, 16],
     ),
+    // a stranger sends to a socket that listens: in each calm 0/2 takes what came and says what it has to say, RRP, RTS
+    // and ALL, and at last it takes a byte and is notified of it. What 0/3 takes it takes by itself
+    (
+        &[
+            Act::Says(&RST),
+            Act::Calms(1),
+            Act::Lines("take 0/3\ntake 0/3\nlisten 0/2 16 8\n"),
+            Act::Says(&STR),
+            Act::Calms(1),
+            Act::Lines("take 0/3\ntake 0/3\ngrant 0/2 16 1 8\n"),
+            Act::Calms(1),
+            Act::Lines("take 0/3\n"),
+            Act::Sends(&DATA),
+            Act::Calms(1),
+        ],
+        [0, 0, 0],
+        [17, 3, 0, 1, 0],
+    ),
+    // a stranger that never takes: each of 70,000 rounds finds the RST of 0/1 waiting there, and 0/1 without an answer
+    (
+        &[Act::Lines("contact 0/1 0/3\n"), Act::Calms(70_000)],
+        [0, 0, 0],
+        [1, 0, 1, 0, 0],
+    ),
+    // 7,000 messages, of each of which 0/2 says in a calm that it is illegal. Then 0/1 and 0/2 make each other ready,
+    // in a calm of as many rounds as there can be
+    (
+        &[
+            Act::Harries(1, &RST),
+            Act::Harries(7_000, &ILLEGAL),
+            Act::Lines("contact 0/1 0/2\n"),
+            Act::Calms(4_294_967_295),
+        ],
+        [0, 0, 0],
+        [42_012, 3, 1, 0, 0],
+    ),
 ];
 
 #[test]
@@ -273,6 +348,59 @@ fn strangers_come_to_what_was_written_down(rt: HostRuntime) {
             outcome(rt.alloc(), acts),
             Some((*refused, *counts)),
             "row {row}"
+        );
+    }
+}
+
+/// What three hosts come to without strangers, after a contact and this many rounds of a calm; and whether the world is
+/// known to rest, and nobody to have anything to say.
+fn calmed_among(alloc: Global, rounds: u32) -> Option<(Counts, bool, bool)> {
+    let mut world = world(alloc, &[])?.ok()?;
+    for event in events(alloc, CONTACT)? {
+        world.step(MixedEvent::Any(event)).ok()?;
+    }
+    world.calm(rounds).ok()?;
+    Some((counts(world.book()), world.rests(), world.is_silent()))
+}
+
+/// The same in a world of hosts with programs.
+fn calmed(alloc: Global, rounds: u32) -> Option<(Counts, bool, bool)> {
+    let mut hosts = Vec::new(alloc);
+    hosts.push(first()).ok()?;
+    hosts.push(second()).ok()?;
+    hosts.push(third()).ok()?;
+    let mut world = World::new(alloc, PlainBoxes::new(alloc, hosts)).ok()?;
+    for event in events(alloc, CONTACT)? {
+        world.step(event).ok()?;
+    }
+    world.calm(rounds).ok()?;
+    Some((counts(world.book()), world.rests(), world.is_silent()))
+}
+
+/// 0/1 contacts 0/2.
+const CONTACT: &str = "contact 0/1 0/2\n";
+
+/// Numbers of rounds, and what comes of them: an RST in the first round, which is taken and answered by an RRP, and
+/// both RFNMs in the second.
+const CALMS: [(u32, (Counts, bool, bool)); 4] = [
+    (0, ([0, 0, 1, 0, 0], false, false)),
+    (1, ([3, 1, 1, 0, 0], false, true)),
+    (2, ([6, 2, 1, 0, 0], true, true)),
+    (4_294_967_295, ([6, 2, 1, 0, 0], true, true)),
+];
+
+#[test]
+fn without_strangers_a_calm_is_that_of_any_world(rt: HostRuntime) {
+    for (rounds, expected) in CALMS {
+        assert_eq!(rt;
+            calmed_among(rt.alloc(), rounds),
+            Some(expected),
+            "{rounds} rounds"
+        );
+        assert_eq!(rt;
+            calmed(rt.alloc(), rounds),
+            Some(expected),
+            "{rounds} rounds"
         );
     }
 }

@@ -1,5 +1,5 @@
 -- What a world keeps is enough for its next event.
-use Rattle.net_sim.proofs.Common.{◌≡◌, ℕ, Bool, true, false, ◌||◌, if◌then◌else◌, List, [], ◌∷◌, map, Option, Some, None, IfSome, refl, ap, sym, subst, ◌∙◌, MatchBool, All-nil, All-cons, All-head, All-tail, Calls, Seen, InOrder, Host, IsAddress, is_host, same_host, Inbound, after_turn, message_taken, answered_turn, is_busy, PairState, NcpState, opening_state, owner_of, pair_with, listens_on, at_owner, closed_end, Parcel, next_in, offered_by, Entry, Notice, Peer, Request, Kept, shown, HaveAddresses, IsLawful, IsHeld, AreLive, IsOnce, world_ended, hosts_of, hosts_served, running, Moment, Crossed, Asked, program_after, places, program, crossings_of, IsNamed, IsWhole, seat_in, WorldState, WorldFault, Carrier, Seat, ServiceSeat, EventGives, Refuses, StepGives, opening_world}
+use Rattle.net_sim.proofs.Common.{◌≡◌, ℕ, Bool, true, false, ◌||◌, if◌then◌else◌, List, [], ◌∷◌, map, Option, Some, None, IfSome, refl, ap, sym, subst, MatchBool, All-nil, All-cons, All-head, All-tail, Calls, InOrder, Host, IsAddress, is_host, same_host, Inbound, after_turn, message_taken, answered_turn, is_busy, PairState, NcpState, opening_state, owner_of, pair_with, listens_on, at_owner, closed_end, Parcel, next_in, offered_by, Entry, Notice, Peer, Request, shown, HaveAddresses, IsLawful, IsHeld, AreLive, IsOnce, hosts_of, running, Moment, Crossed, Asked, program_after, places, program, crossings_of, IsNamed, IsWhole, seat_in, WorldState, WorldFault, Carrier, Seat, EventGives, CalmGives, Refuses, StepGives, opening_world}
 use Rattle.std.proofs.Common.{All, Result}
 use Rattle.interface.proofs.lemmas.{host_before_never, host_before_trans}
 use Rattle.interface.specs.Host.{host_before}
@@ -14,8 +14,8 @@ use Rattle.sockets.specs.Sending.{offered}
 use Rattle.sockets.specs.declared.request.Request.TheVariants as request
 use Rattle.interface.specs.declared.carrier.CarrierFault.TheVariants as fault
 use Rattle.net_sim.specs.World.{Event}
-use Rattle.net_sim.proofs.Resets.Clean.{opening_lawful, step_lawful}
-use Rattle.net_sim.proofs.Books.Nobody.{step_whole}
+use Rattle.net_sim.proofs.Resets.Clean.{calm_lawful, opening_lawful, step_lawful}
+use Rattle.net_sim.proofs.Books.Nobody.{calm_whole, step_whole}
 
 -- ---- hosts in order are there once each
 
@@ -117,25 +117,6 @@ seats_live hosts [] moments = All-nil RunsLive
 seats_live hosts (h ∷ hs) moments =
     All-cons RunsLive (seat_in hosts moments h) (map (seat_in hosts moments) hs) (seat_by (is_up hosts h (crossings_of moments)) (program h moments) (program_live h moments)) (seats_live hosts hs moments)
 
-pub held_once : {C : Type 0} (seen : C → Seen) (w : WorldState C) → IsHeld seen w → w.stopped ≡ false → IsOnce (hosts_of w.seats)
-held_once seen w held running =
-    let whole : IsWhole seen (seen w.carrier).hosts w = held.lawful.whole in
-    let hosts : List Host = (seen w.carrier).hosts in
-    let same : hosts_of w.seats ≡ hosts = ap (λ (s : List Seat). hosts_of s) (whole.seats running) ∙ hosts_seated hosts hosts whole.moments in
-    subst IsOnce (sym same) (once_in_order hosts held.ordered)
-
-pub held_live : {C : Type 0} (seen : C → Seen) (w : WorldState C) → IsHeld seen w → w.stopped ≡ false → AreLive w.seats
-held_live seen w held running =
-    let whole : IsWhole seen (seen w.carrier).hosts w = held.lawful.whole in
-    subst AreLive (sym (whole.seats running)) (seats_live (seen w.carrier).hosts (seen w.carrier).hosts whole.moments)
-
--- the services are in the order of the seats
-pub held_order : {C : Type 0} (seen : C → Seen) (w : WorldState C) → IsHeld seen w → w.stopped ≡ false → hosts_served w.services ≡ hosts_of w.seats
-held_order seen w held running =
-    let whole : IsWhole seen (seen w.carrier).hosts w = held.lawful.whole in
-    let hosts : List Host = (seen w.carrier).hosts in
-    (whole.services running).order ∙ sym (ap (λ (s : List Seat). hosts_of s) (whole.seats running) ∙ hosts_seated hosts hosts whole.moments)
-
 -- ---- addresses
 
 have_first : (g : Host) (hosts : List Host) → IsAddress g → HaveAddresses hosts → (h : Host) (b : Bool) → same_host h g ≡ b → (b || is_host hosts h) ≡ true → IsAddress h
@@ -152,28 +133,38 @@ have_addresses (g ∷ hosts) all h is =
 pub opening_held : {C : Type 0} (own : Calls C) (c : C) → (own.seen c).log ≡ [] → InOrder (own.seen c).hosts → All (λ (h : Host). IsAddress h) (own.seen c).hosts → IsHeld own.seen (opening_world (shown own) c)
 opening_held own c none order addresses = record { ordered = order; lawful = opening_lawful own c none (have_addresses (own.seen c).hosts addresses) }
 
-step_held : {C : Type 0} (own : Calls C) (e : Event) (old : WorldState C) (r : Result (Unit {0}) WorldFault) (new : WorldState C) → IsHeld own.seen old → IsNamed e → StepGives (shown own) old e r new
-    → IsRun (own.seen new.carrier).hosts (own.seen new.carrier).log → IsHeld own.seen new
-step_held own e old r new held named gives run =
-    let hosts : List Host = (own.seen old.carrier).hosts in
-    let whole : IsWhole own.seen hosts new = step_whole own hosts e old r new named held.lawful.whole gives in
-    let same : (own.seen new.carrier).hosts ≡ hosts = whole.network in
-    let mine : IsRun hosts (own.seen new.carrier).log = subst (λ (hs : List Host). IsRun hs (own.seen new.carrier).log) same run in
-    record {
-      ordered = subst InOrder (sym same) held.ordered;
-      lawful = subst (λ (hs : List Host). IsLawful own.seen hs new) (sym same) (step_lawful own hosts old new r held.lawful mine e named gives);
-    }
+-- what keeps the law keeps the order of the hosts, which are the same
+module _ {C : Type 0} (own : Calls C) (old new : WorldState C) (r : Result (Unit {0}) WorldFault)
+    (held : IsHeld own.seen old) (run : IsRun (own.seen new.carrier).hosts (own.seen new.carrier).log) where
+  abbrev hosts : List Host
+  hosts = (own.seen old.carrier).hosts
+
+  held_by : IsWhole own.seen hosts new → (IsRun hosts (own.seen new.carrier).log → IsLawful own.seen hosts new)
+      → IsHeld own.seen new
+  held_by whole lawful =
+      let same : (own.seen new.carrier).hosts ≡ hosts = whole.network in
+      let mine : IsRun hosts (own.seen new.carrier).log =
+      subst (λ (hs : List Host). IsRun hs (own.seen new.carrier).log) same run in
+      record {
+        ordered = subst InOrder (sym same) held.ordered;
+        lawful = subst (λ (hs : List Host). IsLawful own.seen hs new) (sym same) (lawful mine);
+      }
+
+  pub step_held : (e : Event) → IsNamed e → StepGives (shown own) old e r new → IsHeld own.seen new
+  step_held e named gives =
+      held_by (step_whole own hosts e old r new named held.lawful.whole gives)
+      (λ mine. step_lawful own hosts old new r held.lawful mine e named gives)
+
+  pub calm_held : (times : ℕ) → CalmGives (shown own) times old r new → IsHeld own.seen new
+  calm_held times gives =
+      held_by (calm_whole own hosts times old r new held.lawful.whole gives)
+      (λ mine. calm_lawful own hosts old new r held.lawful mine times gives)
 
 pub still_running : {C : Type 0} (w : WorldState C) → w.stopped ≡ false → running w.carrier w.seats w.services w.kept ≡ w
 still_running {C} w e = let with : Bool → WorldState C = λ b. record { carrier = w.carrier; seats = w.seats; services = w.services; kept = w.kept; stopped = b } in ap with (sym e)
 
-event_steps : {C : Type 0} (calls : Calls C) (e : Event) (old : WorldState C) (r : Result (Unit {0}) WorldFault) (new : WorldState C) → old.stopped ≡ false
+pub event_steps : {C : Type 0} (calls : Calls C) (e : Event) (old : WorldState C) (r : Result (Unit {0}) WorldFault) (new : WorldState C) → old.stopped ≡ false
     → EventGives calls (running old.carrier old.seats old.services old.kept) e r new → StepGives calls old e r new
 event_steps {C} calls e old r new run gives =
     let mine : EventGives calls old e r new = subst (λ (w : WorldState C). EventGives calls w e r new) (still_running old run) gives in
     subst (λ (b : Bool). MatchBool b (Refuses (Carrier fault.Stopped) old r new) (EventGives calls old e r new)) (sym run) mine
-
-pub followed_held : {C : Type 0} (own : Calls C) (e : Event) (old : WorldState C) (c : C) (seats : List Seat) (services : List ServiceSeat) (k : Kept) (r : Result (Unit {0}) WorldFault) → IsHeld own.seen old → IsNamed e
-    → old.stopped ≡ false → EventGives (shown own) (running old.carrier old.seats old.services old.kept) e r (world_ended c seats services k r) → IsRun (own.seen c).hosts (own.seen c).log → IsHeld own.seen (world_ended c seats services k r)
-followed_held own e old c seats services k r held named run gives is =
-    step_held own e old r (world_ended c seats services k r) held named (event_steps (shown own) e old r (world_ended c seats services k r) run gives) is

@@ -5,7 +5,7 @@ use Rattle.interface.specs.Mailboxes.{IsRun}
 use Rattle.interface.specs.declared.carrier.CarrierFault.TheVariants as fault
 use Rattle.net_sim.specs.Carriers.{IsBooked}
 use Rattle.net_sim.specs.Laws.MixedWorlds.{AreNamedMixed, IsNamedMixed}
-use Rattle.net_sim.specs.MixedWorlds.{AnyGives, FetchGives, HasProgram, IsLawfulAmong, IsWholeAmong, MixedEvent, MixedEventGives, MixedFault, MixedRunGives, MixedRuns, MixedState, MixedStepGives, NoProgram, OfWorld, OutGives, RefusesMixed, SaysGives, World, Any, Out, asked_at, has_seat, is_strange, mixed_stops, opening_among, strange_in}
+use Rattle.net_sim.specs.MixedWorlds.{AnyGives, FetchGives, HasProgram, IsLawfulAmong, IsWholeAmong, MixedEvent, MixedEventGives, MixedCalmGives, MixedFault, MixedRunGives, MixedRuns, MixedState, MixedStepGives, NoProgram, OfWorld, OutGives, RefusesMixed, SaysGives, World, Any, Out, asked_at, has_seat, is_strange, mixed_stops, opening_among, strange_in}
 use Rattle.net_sim.specs.Reports.{AreReported}
 use Rattle.net_sim.specs.World.{Event, Take}
 use Rattle.net_sim.proofs.Books.Booked.{among_booked, calm_books, fetch_books, out_books, step_books}
@@ -43,7 +43,7 @@ module _ {C : Type 0} (own : Calls C) (hosts : List Host) where
       → OfWorld Gives old r new → Kept new
   of_world Gives old r new k h = subst (λ (xs : List Host). Keeps (λ g. is_host xs g) new.world) (sym h.3) (k h.0 h.1)
 
-  step_keeps : (strange : Host → Bool) (e : Event) (old : WorldState C) (r : Answer) (new : WorldState C) → IsNamed e → Keeps strange old → StepGives (shown own) old e r new → Keeps strange new
+  pub step_keeps : (strange : Host → Bool) (e : Event) (old : WorldState C) (r : Answer) (new : WorldState C) → IsNamed e → Keeps strange old → StepGives (shown own) old e r new → Keeps strange new
   step_keeps strange e old r new named k h = record {
     whole = step_among own strange hosts e old r new named k.whole h;
     booked = step_books own e old r new k.booked h;
@@ -121,7 +121,8 @@ module _ {C : Type 0} (own : Calls C) (hosts : List Host) where
       either (RefusesMixed (World (Carrier fault.Stopped)) old r new) (MixedRuns (shown own) old events r new) (Kept new) old.world.stopped
       (λ on no. refused (World (Carrier fault.Stopped)) old r new k no) (λ off runs. runs_keep events old r new named k runs) h
 
-  calm_keeps : (times : ℕ) (old : MixedState C) (r : Mixed) (new : MixedState C) → Kept old → OfWorld (CalmGives (shown own) times old.world) old r new → Kept new
+  pub calm_keeps : (times : ℕ) (old : MixedState C) (r : Mixed) (new : MixedState C) → Kept old
+      → MixedCalmGives (shown own) times old r new → Kept new
   calm_keeps times old r new k h =
       of_world (CalmGives (shown own) times old.world) old r new
       (λ answer g. record {
@@ -133,15 +134,29 @@ module _ {C : Type 0} (own : Calls C) (hosts : List Host) where
 
   -- ---- lawful worlds
 
+  pub keeps_of : (strange : Host → Bool) (w : WorldState C) → IsLawfulAmong strange own.seen hosts w → Keeps strange w
+  keeps_of strange w l = record { whole = l.whole; booked = l.booked; reported = l.reported; strangers = l.strangers }
+
+  pub lawful_by : (strange : Host → Bool) (w : WorldState C) → HaveAddresses hosts
+      → IsRun hosts (own.seen w.carrier).log → Keeps strange w → IsLawfulAmong strange own.seen hosts w
+  lawful_by strange w addresses run k = record {
+    whole = k.whole;
+    booked = k.booked;
+    run = run;
+    addresses = addresses;
+    strangers = k.strangers;
+    reported = k.reported;
+  }
+
   abbrev Lawful : MixedState C → Type 0
   Lawful s = IsLawfulAmong (strange_in s) own.seen hosts s.world
 
   pub kept_of : (s : MixedState C) → Lawful s → Kept s
-  kept_of s l = record { whole = l.whole; booked = l.booked; reported = l.reported; strangers = l.strangers }
+  kept_of s l = keeps_of (strange_in s) s.world l
 
   module _ (old new : MixedState C) (r : Mixed) (l : Lawful old) (run : IsRun hosts (own.seen new.world.carrier).log) where
     lawful_of : Kept new → Lawful new
-    lawful_of k = record { whole = k.whole; booked = k.booked; run = run; addresses = l.addresses; strangers = k.strangers; reported = k.reported }
+    lawful_of k = lawful_by (strange_in new) new.world l.addresses run k
 
     pub step_mixed : (e : MixedEvent) → IsNamedMixed e → MixedStepGives (shown own) old e r new → Lawful new
     step_mixed e named h = lawful_of (mixed_keeps e old r new named (kept_of old l) h)
@@ -149,7 +164,7 @@ module _ {C : Type 0} (own : Calls C) (hosts : List Host) where
     pub run_mixed : (events : List MixedEvent) → AreNamedMixed events → MixedRunGives (shown own) old events r new → Lawful new
     run_mixed events named h = lawful_of (run_keeps events old r new named (kept_of old l) h)
 
-    pub calm_mixed : (times : ℕ) → OfWorld (CalmGives (shown own) times old.world) old r new → Lawful new
+    pub calm_mixed : (times : ℕ) → MixedCalmGives (shown own) times old r new → Lawful new
     calm_mixed times h = lawful_of (calm_keeps times old r new (kept_of old l) h)
 
 pub opening_mixed : {C : Type 0} (own : Calls C) (strange : Host → Bool) (c : C) → (own.seen c).log ≡ [] → HaveAddresses (own.seen c).hosts → ((h : Host) → strange h ≡ true → is_host (own.seen c).hosts h ≡ true)

@@ -62,7 +62,7 @@ module _ {C : Type 0} (calls : Calls C) where
   running_by P w r h true is = absurd (cc)
   running_by P w r h false is = h
 
-  round_leaves : (w : WorldState C) → w.stopped ≡ false → Rests calls.rounds calls.takes w.carrier → Leaves calls w Quiet
+  pub round_leaves : (w : WorldState C) → w.stopped ≡ false → Rests calls.rounds calls.takes w.carrier → Leaves calls w Quiet
   round_leaves w running rest = record { answer = Ok tt; step = running_by (EventGives calls w Quiet (Ok tt) w) w (Ok tt) (Ok tt, w.carrier, rest.round, (refl, refl)) w.stopped running; continues = refl }
 
   -- an event at a host that is away is refused
@@ -98,7 +98,7 @@ module _ {C : Type 0} (calls : Calls C) where
           on = neither (is_memory f) (is_halt f) nothing.1 nothing.0;
         }
 
-  take_leaves : (h : Host) (w : WorldState C) → w.stopped ≡ false → TakesNothing calls.takes w.carrier h → Leaves calls w (Take h)
+  pub take_leaves : (h : Host) (w : WorldState C) → w.stopped ≡ false → TakesNothing calls.takes w.carrier h → Leaves calls w (Take h)
   take_leaves h w running t =
       let g = seat_gives (λ x r. TakeGives calls h x w r w) (seat_of h w.seats) w (λ seat s found is. take_goes h w s running t) in
       record { answer = g.answer; step = running_by (EventGives calls w (Take h) g.answer w) w g.answer g.gives w.stopped running; continues = g.on }
@@ -118,7 +118,7 @@ module _ {C : Type 0} (calls : Calls C) where
   next_goes : (h : Host) (w : WorldState C) (s : NcpState) → Goes (λ x r. OfferGives calls h x (next_out s) w r w) s → Goes (λ x r. OfferGives calls h x (next_out x) w r w) s
   next_goes h w s g = record { answer = g.answer; happens = g.happens; on = g.on }
 
-  offer_leaves : (h : Host) (w : WorldState C) → w.stopped ≡ false → AllOfferNothing calls w.carrier w.seats → Leaves calls w (Offer h)
+  pub offer_leaves : (h : Host) (w : WorldState C) → w.stopped ≡ false → AllOfferNothing calls w.carrier w.seats → Leaves calls w (Offer h)
   offer_leaves h w running all =
       let g = seat_gives (λ x r. OfferGives calls h x (next_out x) w r w) (seat_of h w.seats) w
       (λ seat s found is. next_goes h w s (offer_goes h w s (next_out s) running (found_of (OffersNothing calls w.carrier) h seat w.seats all found s is))) in

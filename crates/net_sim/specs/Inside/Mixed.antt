@@ -4,13 +4,17 @@ use Rattle.interface.specs.Calls.{Seen, InOrder}
 use Rattle.interface.specs.Host.{Host}
 use Rattle.net_sim.specs.Inside.Parts.{Hosts, world_of, world_of_hosts}
 use Rattle.net_sim.specs.MixedWorlds.{IsLawfulAmong, MixedFault, MixedState, World, NoProgram, HasProgram, strange_in}
-use Rattle.net_sim.specs.World.{wants_memory}
+use Rattle.net_sim.specs.World.{WorldState, wants_memory}
 
 abbrev pub mixed_runs_out : Result (Unit {0}) MixedFault → Bool
 mixed_runs_out (Ok done) = false
 mixed_runs_out (Err (World f)) = wants_memory f
 mixed_runs_out (Err NoProgram) = false
 mixed_runs_out (Err HasProgram) = false
+
+-- of a world, and strangers
+abbrev pub mixed_with : {C : Type 0} → WorldState C → List Host → MixedState C
+mixed_with w strangers = record { world = w; strangers = strangers }
 
 -- of a carrier, hosts and strangers: as it is, while it runs, and after an event with this answer
 abbrev pub mixed_of_hosts : {C : Type 0} → C → Hosts → List Host → Bool → MixedState C

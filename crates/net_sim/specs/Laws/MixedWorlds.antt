@@ -6,9 +6,9 @@ use Rattle.interface.specs.Host.{Host, is_host}
 use Rattle.interface.specs.Mailboxes.{IsRun}
 use Rattle.net_sim.specs.Carriers.{shown}
 use Rattle.net_sim.specs.Clean.{HaveAddresses, IsLawful}
-use Rattle.net_sim.specs.MixedWorlds.{IsLawfulAmong, MixedEvent, MixedFault, MixedRunGives, MixedState, MixedStepGives, OfWorld, Any, Out, opening_among, strange_in}
+use Rattle.net_sim.specs.MixedWorlds.{IsLawfulAmong, MixedEvent, MixedFault, MixedCalmGives, MixedRunGives, MixedState, MixedStepGives, Any, Out, opening_among, strange_in}
 use Rattle.net_sim.specs.Whole.{IsNamed}
-use Rattle.net_sim.specs.World.{CalmGives, WorldState}
+use Rattle.net_sim.specs.World.{WorldState}
 
 abbrev pub MixedWorldsOpening : {C : Type 0} → Calls C → Type 0
 MixedWorldsOpening {C} calls =
@@ -42,7 +42,7 @@ MixedWorldsRun {C} calls =
 abbrev pub MixedWorldsCalm : {C : Type 0} → Calls C → Type 0
 MixedWorldsCalm {C} calls =
     (hosts : List Host) (old new : MixedState C) (times : ℕ) (r : Result (Unit {0}) MixedFault) →
-    IsLawfulAmong (strange_in old) calls.seen hosts old.world → OfWorld (CalmGives (shown calls) times old.world) old r new →
+    IsLawfulAmong (strange_in old) calls.seen hosts old.world → MixedCalmGives (shown calls) times old r new →
     IsRun hosts (calls.seen new.world.carrier).log → IsLawfulAmong (strange_in new) calls.seen hosts new.world
 
 -- without strangers it is lawful as any world is, and the other way round

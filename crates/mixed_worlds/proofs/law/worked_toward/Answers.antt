@@ -96,6 +96,7 @@ returns-clause-carried c = record {
     omega arith,
     none_of true (on_link third second 2) 8 7 (crossings_of eight_waits),
   );
+  named = λ s. absurd (let clash : false ≡ true = s in cc);
 }
 
 pub returns-clause-early : goal.returns-clause-early

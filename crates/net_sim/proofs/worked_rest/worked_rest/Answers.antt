@@ -1,11 +1,12 @@
-use Rattle.net_sim.proofs.Common.{◌≡◌, ℕ, zero, suc, ◌<◌, true, false, Option, Some, None, Ok, Err, IfSome, arith, ap, refl, sym, subst, ◌∙◌, Seen, Host, RefusesOffer, Rests, CarrierFault, HostMessage, NcpState, opening_state, first, second, QuietEnds, Seat, WorldFault, stops}
-use Rattle.std.proofs.Common.{Result, slice_get}
+use Rattle.net_sim.proofs.Common.{◌≡◌, true, false, [], ◌∷◌, Option, Some, None, Ok, Err, IfSome, ap, refl, sym, subst, ◌∙◌, Seen, RefusesOffer, Rests, CarrierFault, HostMessage, NcpState, opening_state, first, second, QuietEnds, WorldFault, stops}
+use Rattle.std.proofs.Common.{Result}
 use Rattle.interface.specs.declared.carrier.CarrierFault.TheVariants as fault
 use Rattle.host_services.specs.Turns as turns
 use Rattle.sockets.specs.Requests.{served, served_notices}
 use Rattle.sockets.specs.Sending.{next_out}
 use Rattle.sockets.specs.declared.request.Request.TheVariants as request
 use Rattle.net_sim.specs.Worked.{accepting_carrier, any_carrier, busy, fresh, giving_carrier}
+use Rattle.net_sim.proofs.Hosts.Mute.{all_mute}
 use Rattle.net_sim.proofs.Hosts.Resting.{rests_by}
 use Rattle.net_sim.proofs.Hosts.Unresting.{given_moves, taken_moves}
 use Rattle.net_sim.proofs.worked_rest.worked_rest.Goals as goal
@@ -18,27 +19,10 @@ may_refuse : (o : Option HostMessage) → IfSome o (λ m. RefusesOffer any_carri
 may_refuse None = tt
 may_refuse (Some m) = record { fault = fault.NoRoom; lasts = (refl, refl); unchanged = record { when_stopped = refl; shown = refl } }
 
-program_in : Option Seat → Option NcpState
-program_in None = None
-program_in (Some seat) = seat.program
-
-program_is : (s t : NcpState) → Some s ≡ Some t → s ≡ t
-program_is s t e = cc
-
-opening_mute : (h : Host) → next_out (opening_state h) ≡ None
-unfolding next_out
-opening_mute h = refl
-
-both_mute : (at : ℕ) (seat : Seat) (s : NcpState) → at < 2 → slice_get fresh.seats at ≡ Some seat → seat.program ≡ Some s → next_out s ≡ None
-unfolding program_in
-both_mute zero seat s below is has = subst (λ (t : NcpState). next_out t ≡ None) (program_is (opening_state first) s (ap (λ (o : Option Seat). program_in o) is ∙ has)) (opening_mute first)
-both_mute (suc zero) seat s below is has = subst (λ (t : NcpState). next_out t ≡ None) (program_is (opening_state second) s (ap (λ (o : Option Seat). program_in o) is ∙ has)) (opening_mute second)
-both_mute (suc (suc at)) seat s below is has = absurd (omega (arith, below))
-
 pub returns-clause-silent : goal.returns-clause-silent
 returns-clause-silent c =
     rests_by accepting_carrier fresh refl (may_rest fresh.carrier refl)
-    (λ at below seat found s is. subst (λ (o : Option HostMessage). IfSome o (λ m. RefusesOffer accepting_carrier.offers fresh.carrier m)) (sym (both_mute at seat s below found is)) tt)
+    (λ at below seat found s is. subst (λ (o : Option HostMessage). IfSome o (λ m. RefusesOffer accepting_carrier.offers fresh.carrier m)) (sym (all_mute (first ∷ second ∷ []) at seat s found is)) tt)
 
 pub returns-clause-refused : goal.returns-clause-refused
 unfolding served_notices turns.services_told

@@ -1,9 +1,22 @@
-use Rattle.net_sim.proofs.Common.{rules, ◌≡◌, ◌∙◌, ap, refl, List, filter, subst, Calls, InOrder, Host, IsAddress, is_host, opening_seats, opening_services}
+use Rattle.net_sim.proofs.Common.{rules, ◌≡◌, ◌∙◌, ap, refl, List, filter, subst, shown, Calls, InOrder, Host, IsAddress, is_host, opening_seats, opening_services}
 use Rattle.std.specs.List.{All}
 use Rattle.net_sim.specs.Book.{opening_kept}
-use Rattle.net_sim.specs.MixedWorlds.{with_programs}
+use Rattle.net_sim.specs.MixedWorlds.{opening_mixed, with_programs}
 use Rattle.net_sim.proofs.Books.HeldMixed.{mixed_opening_held}
+use Rattle.net_sim.proofs.Books.SomeWorld.{among_some}
 use Rattle.net_sim.proofs.mixed_world.MixedWorld.beside.Goals as goal
+
+pub of_parts-requires : goal.of_parts-requires
+of_parts-requires g c =
+    let calls : Calls g.row.C.Denot = g.C.Carrier.calls in
+    let order : InOrder (g.C.Carrier.calls.seen c.args.carrier).hosts = c.hosts.ensures.ordered in
+    let addresses : All (λ (h : Host). IsAddress h) (g.C.Carrier.calls.seen c.args.carrier).hosts = subst (All (λ (h : Host). IsAddress h)) c.hosts-3.ensures.value c.are_addresses.ensures in
+    let strangers : c.in_ok-strangers.strangers.items ≡ filter (λ h. is_host c.args.named.now h) (g.C.Carrier.calls.seen c.args.carrier).hosts = c.in_ok-strangers.ensures ∙ ap (λ (hs : List Host). filter (λ h. is_host c.args.named.now h) hs) c.hosts.ensures.value in
+    let programs : c.in_ok-programs.programs.items ≡ with_programs (λ h. is_host c.in_ok-strangers.strangers.items h) (g.C.Carrier.calls.seen c.args.carrier).hosts = c.in_ok-programs.ensures ∙ ap (λ (xs : List Host). with_programs (λ h. is_host xs h) c.hosts-2.result.now) c.deref.ensures.value ∙ ap (λ (hs : List Host). with_programs (λ h. is_host c.in_ok-strangers.strangers.items h) hs) c.hosts-2.ensures.value in
+    let seats : c.in_ok-seats.seats.items ≡ opening_seats c.in_ok-programs.programs.items = search rules in
+    let services : c.in_ok-services.services.items ≡ opening_services c.in_ok-programs.programs.items = search rules in
+    let kept : c.new.result ≡ opening_kept = search rules in
+    rw (seats, services, programs, strangers, kept) (among_some calls.seen (opening_mixed (shown calls) c.args.carrier c.args.named.now) (mixed_opening_held calls c.args.carrier c.args.named.now c.requires.unused order addresses))
 
 pub invariant_of-result : goal.invariant_of-result
 invariant_of-result g c =
@@ -15,7 +28,7 @@ invariant_of-result g c =
     let seats : c.in_ok-seats.seats.items ≡ opening_seats c.in_ok-programs.programs.items = search rules in
     let services : c.in_ok-services.services.items ≡ opening_services c.in_ok-programs.programs.items = search rules in
     let kept : c.new.result ≡ opening_kept = search rules in
-    rw (seats, services, programs, strangers, kept) (mixed_opening_held calls c.args.carrier c.args.named.now c.requires.unused order addresses)
+    rw (c.of_parts.ensures, seats, services, programs, strangers, kept) (mixed_opening_held calls c.args.carrier c.args.named.now c.requires.unused order addresses)
 
 pub returns : goal.returns
 returns g c =
@@ -24,4 +37,4 @@ returns g c =
     let seats : c.in_ok-seats.seats.items ≡ opening_seats c.in_ok-programs.programs.items = search rules in
     let services : c.in_ok-services.services.items ≡ opening_services c.in_ok-programs.programs.items = search rules in
     let kept : c.new.result ≡ opening_kept = search rules in
-    rw (seats, services, programs, strangers, kept) refl
+    rw (c.of_parts.ensures, seats, services, programs, strangers, kept) refl

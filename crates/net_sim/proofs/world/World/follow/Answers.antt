@@ -1,30 +1,11 @@
-use Rattle.net_sim.proofs.Common.{rules, ◌≡◌, List, sym, subst, ap, ◌∙◌, shown, IsHeld, AreLive, IsOnce, world_ended, hosts_of, hosts_served, running, runs_out, EventGives, ServiceSeat, Seat, Calls}
-use Rattle.net_sim.proofs.Books.Held.{followed_held, held_live, held_once, held_order}
+use Rattle.net_sim.proofs.Common.{rules, Calls, IsHeld, StepGives, shown}
+use Rattle.net_sim.proofs.Books.Held.{step_held}
 use Rattle.net_sim.proofs.world.World.follow.Goals as goal
-
-pub follow-done-requires-clause-once : goal.follow-done-requires-clause-once
-follow-done-requires-clause-once g c =
-    let held : IsHeld g.C.Carrier.calls.seen c.args.self.now = search rules in
-    let seats : c.self.inside.hosts.seats.items ≡ c.args.self.now.seats = search rules in
-    subst (λ (s : List Seat). IsOnce (hosts_of s)) (sym seats) (held_once g.C.Carrier.calls.seen c.args.self.now held (search rules))
-
-pub follow-done-requires-clause-live : goal.follow-done-requires-clause-live
-follow-done-requires-clause-live g c =
-    let held : IsHeld g.C.Carrier.calls.seen c.args.self.now = search rules in
-    let seats : c.self.inside.hosts.seats.items ≡ c.args.self.now.seats = search rules in
-    subst AreLive (sym seats) (held_live g.C.Carrier.calls.seen c.args.self.now held (search rules))
-
-pub follow-done-requires-clause-order : goal.follow-done-requires-clause-order
-follow-done-requires-clause-order g c =
-    let held : IsHeld g.C.Carrier.calls.seen c.args.self.now = search rules in
-    let seats : c.self.inside.hosts.seats.items ≡ c.args.self.now.seats = search rules in
-    let services : c.self.inside.hosts.services.items ≡ c.args.self.now.services = search rules in
-    ap (λ (s : List ServiceSeat). hosts_served s) services ∙ held_order g.C.Carrier.calls.seen c.args.self.now held (search rules) ∙ ap (λ (s : List Seat). hosts_of s) (sym seats)
 
 pub invariant_of-self : goal.invariant_of-self
 invariant_of-self g c =
     let calls : Calls g.row.C.Denot = g.C.Carrier.calls in
     let held : IsHeld g.C.Carrier.calls.seen c.args.self.now = search rules in
-    let stop : c.runs_out-self-inside.result ≡ runs_out c.follow-done.result = search rules in
-    let gives : EventGives (shown calls) (running c.args.self.now.carrier c.args.self.now.seats c.args.self.now.services c.args.self.now.kept) c.args.event.now c.follow-done.result (world_ended c.follow-done.new.carrier c.follow-done.new.hosts.seats.items c.follow-done.new.hosts.services.items c.follow-done.new.hosts.book c.follow-done.result) = search rules in
-    rw stop (followed_held calls c.args.event.now c.args.self.now c.follow-done.new.carrier c.follow-done.new.hosts.seats.items c.follow-done.new.hosts.services.items c.follow-done.new.hosts.book c.follow-done.result held c.is_named.ensures (search rules) gives c.log.ensures.run)
+    let gives : StepGives (shown calls) c.args.self.now c.args.event.now c.step-done.result c.step-done.new.self = search rules in
+    step_held calls c.args.self.now c.step-done.new.self c.step-done.result held c.is_run.ensures c.args.event.now
+    c.step-done.ensures.named gives

@@ -1,0 +1,15 @@
+use Rattle.net_sim.proofs.Common.{◌≡◌, true, false, sym, ◌∙◌, shown, stops, Calls}
+use Rattle.net_sim.proofs.Hosts.Calming.{stop_turn, whole_turn}
+use Rattle.net_sim.proofs.world_core.WorldCore.take_turn.Goals as goal
+
+pub returns-then-stops : goal.returns-then-stops
+returns-then-stops g c =
+    let calls : Calls g.row.C.Denot = shown g.C.Carrier.calls in
+    let is : stops c.take_all-answer.result ≡ true = sym c.stops.ensures ∙ c.if-stops.true in
+    stop_turn calls c.args.host c.args.self.now c.take_all-answer.new.self c.take_all-answer.result c.take_all-answer.ensures is
+
+pub returns : goal.returns
+returns g c =
+    let calls : Calls g.row.C.Denot = shown g.C.Carrier.calls in
+    let on : stops c.take_all-answer.result ≡ false = sym c.stops.ensures ∙ c.if-stops.false in
+    whole_turn calls c.args.host c.args.self.now c.take_all-answer.new.self c.offer_all.new.self c.take_all-answer.result c.offer_all.result c.take_all-answer.ensures on c.offer_all.ensures

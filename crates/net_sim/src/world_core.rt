@@ -1,0 +1,199 @@
+//! What a world and one with strangers have in common: a carrier, hosts with programs over it, and whether memory has
+//! run out.
+
+ghost use Rattle.std.specs.Prelude.{◌≡◌, false};
+ghost use Rattle.interface.specs.Mailboxes.{IsRun};
+ghost use Rattle.net_sim.specs.Carriers.{shown};
+ghost use Rattle.net_sim.specs.Inside.Core.{IsSomeWorld};
+ghost use Rattle.net_sim.specs.Inside.Mixed.{IsHeldAmong, mixed_with};
+ghost use Rattle.net_sim.specs.Inside.Parts as parts;
+ghost use Rattle.net_sim.specs.Inside.Parts.{IsOnce, hosts_of, world_of};
+ghost use Rattle.net_sim.specs.MixedWorlds.{MixedStepGives};
+ghost use Rattle.net_sim.specs.Whole.{IsNamed};
+ghost use Rattle.net_sim.specs.World as world;
+ghost use Rattle.net_sim.specs.World.{StepGives, Offer, Take};
+
+use crate::book::Book;
+use crate::events::{follow, is_named, offer, take};
+use crate::mixed::{MixedEvent, MixedFault};
+use crate::parts::Hosts;
+use crate::seat::{Seat, ServiceSeat};
+use crate::strangers::{follow_mixed, is_named_mixed, runs_out_mixed};
+use crate::{Event, WorldFault};
+use interface::{Carrier, CarrierFault, HostAddr};
+use sockets::NcpFault;
+use std::marker::Model;
+
+/// A carrier, the programs of its hosts, what else runs on them, the book, and whether running out of memory has
+/// stopped all.
+///
+/// Some of the carrier's hosts may be strangers, that have no seat. Which ones is known to the world around it.
+#[derive(Drop)]
+pub(crate) struct WorldCore<C: Carrier> {
+    carrier: C,
+    hosts: Hosts,
+    stopped: bool,
+}
+
+impl<C: Carrier> Model for WorldCore<C> {
+    ghost use Rattle.net_sim.specs.Inside.Core.{IsSomeWorld};
+    ghost use Rattle.net_sim.specs.Inside.Parts.{world_of_hosts};
+    ghost use Rattle.net_sim.specs.World.{WorldState};
+
+    ghost Value = { WorldState C };
+
+    ghost view = { λ w. world_of_hosts w.carrier w.hosts w.stopped };
+
+    ghost invariant = { λ w. IsSomeWorld C.calls.seen (world_of_hosts w.carrier w.hosts w.stopped) };
+}
+
+impl<C: Carrier> WorldCore<C> {
+    /// Returns a world of these parts, in which memory has lasted.
+    pub(crate) fn of_parts(carrier: C, hosts: Hosts) -> WorldCore<C>
+        requires { IsSomeWorld C.calls.seen (world_of carrier hosts) }
+        ensures { result ≡ world_of carrier hosts }
+    {
+        WorldCore {
+            carrier,
+            hosts,
+            stopped: false,
+        }
+    }
+
+    /// Returns what happened so far.
+    pub(crate) fn book(&self) -> &Book
+        ensures { result.now ≡ self.now.kept }
+    {
+        &self.hosts.book
+    }
+
+    /// Returns the carrier.
+    pub(crate) fn carrier(&self) -> &C
+        ensures { result.now ≡ self.now.carrier }
+    {
+        &self.carrier
+    }
+
+    /// Returns what runs on the hosts beside their programs, in the carrier's order.
+    pub(crate) fn services(&self) -> &[ServiceSeat]
+        ensures { result.now ≡ self.now.services }
+    {
+        &self.hosts.services
+    }
+
+    /// Returns the hosts with their programs, in the carrier's order.
+    pub(crate) fn seats(&self) -> &[Seat]
+        ensures value { result.now ≡ self.now.seats }
+        ensures once { self.now.stopped ≡ false → IsOnce (hosts_of self.now.seats) }
+    {
+        &self.hosts.seats
+    }
+
+    /// Returns whether running out of memory has stopped it.
+    pub(crate) fn is_stopped(&self) -> bool
+        ensures { result ≡ self.now.stopped }
+    {
+        self.stopped
+    }
+
+    /// Proves that the carrier's log is a run of the mailboxes, as every carrier promises of its log.
+    ///
+    /// It is there for the proof only, and does nothing.
+    pub(crate) fn is_run(&self)
+        ensures { IsRun (C.calls.seen self.now.carrier).hosts (C.calls.seen self.now.carrier).log }
+    {
+        let _ = self.carrier.log();
+    }
+
+    /// Lets one event happen, or refuses it.
+    pub(crate) fn step(&mut self, event: &Event) -> Result<(), WorldFault>
+        ensures gives { StepGives (shown C.calls) self.old event.now result self.new }
+        ensures named { IsNamed event.now }
+    {
+        is_named(event);
+        if self.stopped {
+            return Err(WorldFault::Carrier(CarrierFault::Stopped));
+        }
+        let done = follow(&mut self.carrier, &mut self.hosts, event);
+        // for the proof only: the log is a run of the mailboxes, which is a part of what a world keeps
+        let _ = self.carrier.log();
+        self.stopped = runs_out(&done);
+        done
+    }
+
+    /// Lets a host take what came for it, as [`WorldCore::step`] does. Its seat is looked for at a likely place first.
+    pub(crate) fn take_near(&mut self, likely: usize, host: HostAddr) -> Result<(), WorldFault>
+        ensures { StepGives (shown C.calls) self.old (Take host) result self.new }
+    {
+        if self.stopped {
+            return Err(WorldFault::Carrier(CarrierFault::Stopped));
+        }
+        let taken = take(&mut self.carrier, &mut self.hosts, likely, host);
+        // for the proof only, as in `step`
+        let _ = self.carrier.log();
+        self.stopped = runs_out(&taken);
+        taken
+    }
+
+    /// Offers a host's next message to the network, as [`WorldCore::step`] does. Its seat is looked for at a likely
+    /// place first.
+    pub(crate) fn offer_near(&mut self, likely: usize, host: HostAddr) -> Result<(), WorldFault>
+        ensures { StepGives (shown C.calls) self.old (Offer host) result self.new }
+    {
+        if self.stopped {
+            return Err(WorldFault::Carrier(CarrierFault::Stopped));
+        }
+        let sent = offer(&mut self.carrier, &mut self.hosts, likely, host);
+        // for the proof only, as in `step`
+        let _ = self.carrier.log();
+        self.stopped = runs_out(&sent);
+        sent
+    }
+
+    /// Lets one event happen where these hosts are strangers, or refuses it.
+    pub(crate) fn step_among(
+        &mut self,
+        strangers: &[HostAddr],
+        event: MixedEvent,
+    ) -> Result<(), MixedFault>
+        requires { IsHeldAmong C.calls.seen (mixed_with self.old strangers.now) }
+        ensures gives { MixedStepGives (shown C.calls) (mixed_with self.old strangers.now) event result (mixed_with self.new strangers.now) }
+        ensures held { IsHeldAmong C.calls.seen (mixed_with self.new strangers.now) }
+    {
+        if self.stopped {
+            return Err(MixedFault::World(WorldFault::Carrier(CarrierFault::Stopped)));
+        }
+        is_named_mixed(&event);
+        let done = follow_mixed(&mut self.carrier, &mut self.hosts, strangers, event);
+        // for the proof only, as in `step`
+        let _ = self.carrier.log();
+        self.stopped = runs_out_mixed(&done);
+        done
+    }
+}
+
+/// Returns whether memory ran out.
+fn runs_out(done: &Result<(), WorldFault>) -> bool
+    ensures { result ≡ parts.runs_out done.now }
+{
+    matches!(
+        done,
+        Err(
+            WorldFault::Carrier(CarrierFault::OutOfMemory)
+                | WorldFault::Program(NcpFault::OutOfMemory)
+        )
+    )
+}
+
+/// Returns whether a list of events ends after this answer.
+pub(crate) fn stops(done: &Result<(), WorldFault>) -> bool
+    ensures { result ≡ world.stops done.now }
+{
+    matches!(
+        done,
+        Err(
+            WorldFault::Carrier(CarrierFault::OutOfMemory | CarrierFault::Stopped)
+                | WorldFault::Program(NcpFault::OutOfMemory)
+        )
+    )
+}
