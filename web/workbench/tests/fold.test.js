@@ -107,7 +107,7 @@ test("no first arrival is lost in the lesson of the RFNM that is asked for", asy
 test("the numbers of stops of December 1969", async () => {
     const history = await historyOf("arpanet-of-december-1969");
     assert(history);
-    assert.equal(history.length, 2244);
+    assert.equal(history.length, 2208);
     assert.equal(exampleText("arpanet-of-december-1969").includes("calm 63"), true);
 });
 
