@@ -11,13 +11,12 @@ ghost use Rattle.link_table.specs.Flows.{Sources, Destinations, noted, ended, en
 ghost use Rattle.link_table.specs.Flows.{given_up_in, handed_in, release_in, has_outstanding, has_outstanding_to};
 ghost use Rattle.link_table.specs.Keys.{is_from, drop_from, has_from};
 ghost use Rattle.link_table.specs.declared.destination.Fate.{Fate};
-ghost use Rattle.link_table.specs.declared.destination.Fate.TheVariants as fate;
 ghost use Rattle.link_table.specs.declared.source.Standing.{Standing};
 ghost use Rattle.link_table.specs.declared.source.Standing.TheVariants as standing;
 ghost use Rattle.link_table.specs.declared.source.Release.TheVariants as release;
 ghost use Rattle.link_table.specs.Window.{next_of, oldest_of, is_new_of, NearOf};
 ghost use Rattle.link_table.specs.Numbers.{modulus, window, next, oldest, is_new, Near};
-ghost use Rattle.link_table.specs.Laws.WorkedFates.{WorkedFatesOther};
+ghost use Rattle.link_table.specs.Laws.{WorkedFates};
 
 /// Any window over numbers that wrap around, where there are more than twice as many numbers as the window
 /// is wide: what lies before the last number and what lies ahead of it never meet.
@@ -139,9 +138,7 @@ pub fn numbers_of_sources()
 
 /// The fate that is kept with a number.
 pub fn worked_fates()
-    // it changes for the number that is kept only: what becomes of an older message is passed over
-    ensures ended { ended_in 5 fate.Dead (record { number = 5; fate = fate.Waits }) ≡ record { number = 5; fate = fate.Dead } }
-    ensures other { WorkedFatesOther }
+    ensures { WorkedFates }
 {}
 
 /// What the calls of a destination do to each flow.
