@@ -1,20 +1,16 @@
 //! What a line promises, as laws over the definitions that the calls of [`crate::Line`] cite. The functions
 //! here do nothing: each clause is a law.
 
-ghost use Rattle.std.specs.Prelude.{◌≡◌, ℕ, ◌+◌, ◌<◌, true, false, List, [], ◌∷◌, ◌++◌, All, replicate, Some, Ok, Err, IsPermutation};
+ghost use Rattle.std.specs.Prelude.{◌≡◌, ℕ, ◌+◌, ◌<◌, List, [], ◌∷◌, ◌++◌, All, Some, Ok, IsPermutation};
 ghost use Rattle.packetiser.specs.PacketFields.{PacketFields};
 ghost use Rattle.packetiser.specs.Rejoining.{AreAmong};
-ghost use Rattle.imp_channel.specs.Examples.{packet_octets, packet_frame};
 ghost use Rattle.imp_channel.specs.Format.{IsFrame, read_of, spelling};
 ghost use Rattle.imp_channel.specs.Holding.{packets_in, carried_by, carried_by_all};
 ghost use Rattle.imp_channel.specs.Line.{End, opening_end, submitted, resent, acknowledgement, routes_frame, answer_to, state_after};
-ghost use Rattle.imp_channel.specs.Schedule.{Event, InOrder, run, opening_side, opening_sides, one_packet};
-ghost use Rattle.imp_channel.specs.declared.fault.ChannelFault.TheVariants as fault;
-ghost use Rattle.imp_channel.specs.declared.frame.Content.TheVariants as content;
+ghost use Rattle.imp_channel.specs.Schedule.{Event, InOrder, run, opening_sides, one_packet};
 ghost use Rattle.imp_channel.specs.declared.frame.Frame.{Frame};
 ghost use Rattle.imp_channel.specs.declared.line.Received.TheVariants as received;
-ghost use Rattle.imp_channel.specs.Laws.WorkedFrames.{WorkedFramesWritten};
-ghost use Rattle.imp_channel.specs.Laws.NotInOrder.{NotInOrderAnother};
+ghost use Rattle.imp_channel.specs.Laws.{WorkedFrames, NotInOrder};
 
 /// Each frame has one spelling, and only spellings are read.
 pub fn spellings()
@@ -31,32 +27,7 @@ pub fn spellings()
 /// Frames octet by octet, and octets that are none.
 #[tactic(auto, unfolding(crate::specs::Format::bits_of, packetiser::specs::Format::is_bad_length, packetiser::specs::Format::is_not_canonical, packetiser::specs::Format::is_short, crate::specs::Format::octet_of))]
 pub fn worked_frames()
-    // acknowledgements only: the bit of channel 0 is the lowest
-    ensures acks { read_of (242 ∷ 1 ∷ 1 ∷ []) ≡ Ok (record { acks = true ∷ replicate 7 false; content = content.Nothing }) }
-    ensures last_ack { spelling (record { acks = replicate 7 false ++ true ∷ []; content = content.Nothing }) ≡ 242 ∷ 1 ∷ 128 ∷ [] }
-
-    // an RFNM on channel 7 under bit 0, and on channel 0 under bit 1
-    ensures channel { read_of (packet_octets 7) ≡ Ok (packet_frame 7 false) }
-    ensures bit { read_of (packet_octets 8) ≡ Ok (packet_frame 0 true) }
-    ensures written { WorkedFramesWritten }
-
-    // distances: an octet each, that to IMP 1 first
-    ensures routes { read_of (242 ∷ 2 ∷ 0 ∷ 0 ∷ 1 ∷ replicate 61 63) ≡ Ok (record { acks = replicate 8 false; content = content.Routes (0 ∷ 1 ∷ replicate 61 63) }) }
-    ensures too_far { read_of (242 ∷ 2 ∷ 0 ∷ 64 ∷ replicate 62 63) ≡ Err fault.NotCanonical }
-    ensures too_few { read_of (242 ∷ 2 ∷ 0 ∷ 64 ∷ replicate 61 63) ≡ Err fault.Short }
-    ensures too_many { read_of (242 ∷ 2 ∷ 0 ∷ replicate 64 63) ≡ Err fault.NotCanonical }
-
-    // another version, whatever follows it; and too few octets before a kind that is none
-    ensures version { (read_of (243 ∷ []) ≡ Err fault.BadVersion) × (read_of (240 ∷ 3 ∷ 0 ∷ []) ≡ Err fault.BadVersion) × (read_of (1 ∷ 1 ∷ []) ≡ Err fault.BadVersion) }
-    ensures short { (read_of [] ≡ Err fault.Short) × (read_of (242 ∷ []) ≡ Err fault.Short) × (read_of (242 ∷ 3 ∷ []) ≡ Err fault.Short) × (read_of (242 ∷ 0 ∷ 0 ∷ []) ≡ Err fault.Short) }
-
-    // no such kind; a value above the packet's bit, before what is wrong in the packet; an octet after the end
-    ensures no_kind { read_of (242 ∷ 3 ∷ 0 ∷ []) ≡ Err fault.NotCanonical }
-    ensures above { (read_of (packet_octets 16) ≡ Err fault.NotCanonical) × (read_of (242 ∷ 0 ∷ 0 ∷ 16 ∷ []) ≡ Err fault.NotCanonical) }
-    ensures after_end { read_of (242 ∷ 1 ∷ 0 ∷ 0 ∷ []) ≡ Err fault.NotCanonical }
-
-    // what is wrong in the packet
-    ensures packet { (read_of (242 ∷ 0 ∷ 0 ∷ 0 ∷ []) ≡ Err fault.Short) × (read_of (242 ∷ 0 ∷ 0 ∷ 0 ∷ 1 ∷ 1 ∷ 2 ∷ 5 ∷ 0 ∷ 0 ∷ 128 ∷ 0 ∷ 16 ∷ 0 ∷ 0 ∷ []) ≡ Err fault.BadLength) }
+    ensures { WorkedFrames }
 {}
 
 /// Packets come out in order and once.
@@ -83,13 +54,7 @@ pub fn one_packet()
 
 /// What the law of the line forbids: each pair of sides has one thing wrong.
 pub fn not_in_order()
-    // a packet is given that was not put in, another one than was put in, or the same twice
-    ensures not_put { (packet : PacketFields) → InOrder 0 opening_side (record opening_side { given = λ c. packet ∷ [] }) → ⊥ }
-    ensures another { NotInOrderAnother }
-    ensures twice { (packet : PacketFields) → InOrder 0 (record opening_side { put = λ c. packet ∷ [] }) (record opening_side { given = λ c. packet ∷ packet ∷ [] }) → ⊥ }
-
-    // a channel became free, and its packet was not given
-    ensures not_given { (packet : PacketFields) → InOrder 0 (record opening_side { put = λ c. packet ∷ []; freed = λ c. packet ∷ [] }) opening_side → ⊥ }
+    ensures { NotInOrder }
 {}
 
 /// What an end holds, sends and gives are packets that were put in.
