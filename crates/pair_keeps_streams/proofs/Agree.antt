@@ -81,7 +81,7 @@ module _ (number other : ℕ → ℕ → ℕ → ℕ) (tells : IsTelling number)
   -- the taker's end has the giver's link
   linked_by : IsSender (named (name_of other b.gone) giver) giver x.sender → is_link link taker.link ≡ true
   linked_by gives =
-      sym (asked_at_link (name_of number a.gone) link a.entries x.receiver (is_at o.own o.foreign) taker mine.linked o.taker_found o.receiving) ∙ j.inv_x.heard (named (name_of number a.gone) taker) (sender_end gives)
+      sym (asked_at_link (name_of number a.gone) link a.entries x.receiver (is_at o.own o.foreign) taker mine.linked o.taker_found o.receiving) ∙ j.inv_x.ends.heard (named (name_of number a.gone) taker) (sender_end gives)
 
   -- while data wait, which no end that leaves has sent
   pub linked_waiting : (k z : ℕ) (bits : List Bool) → x.box ≡ Waiting k z bits → is_link link taker.link ≡ true

@@ -324,7 +324,7 @@ module _ (number other : ℕ → ℕ → ℕ → ℕ) (tells : IsTelling number)
           sy = quiet_sent (is_busy q.busy link) (sent_at name link (Hears stamp 0 (command.Cls foreign own)) q listening y.sender) y
               (subst (λ (ms : List senders.Move). AreQuietSent ms)
               (sym (sends_by (closes name q.busy (changed_at own foreign closed_by_partner q.entries))
-              (sent_away name q.busy own foreign q.entries y.sender z unheard sending (λ end. unlike (y.receiver.asked (name own foreign)) (j.inv_y.heard (name own foreign) (end ∙ ap (λ (n : ℕ). Some n) z_name)) off))))
+              (sent_away name q.busy own foreign q.entries y.sender z unheard sending (λ end. unlike (y.receiver.asked (name own foreign)) (j.inv_y.ends.heard (name own foreign) (end ∙ ap (λ (n : ℕ). Some n) z_name)) off))))
               closing_quiet) keep empty;
           received = words_by false off;
           sent = sent_none;

@@ -15,11 +15,11 @@ none_waits x h c over (Waiting k z bits) e = by (c == k) refl where
   by false is = rw is refl
   by true is =
       let same : c ≡ k = eqb-true c k is in
-      absurd (unlike (x.sender.closed k) (ap x.sender.closed (sym same) ∙ h.passed c over) (waits_for x h k z bits e).2)
+      absurd (unlike (x.sender.closed k) (ap x.sender.closed (sym same) ∙ h.ends.passed c over) (waits_for x h k z bits e).2)
 
 pub came_inv : (x : Stream) → Inv x → (c : ℕ) → x.receiver.over c ≡ true → length (x.sender.sent c) ≡ x.receiver.came c
 came_inv x h c over =
-    let all : length (x.sender.sent c) ≡ x.receiver.came c + waiting_of c x.box = h.came c in
+    let all : length (x.sender.sent c) ≡ x.receiver.came c + waiting_of c x.box = h.arrivals.came c in
     let none : waiting_of c x.box ≡ 0 = none_waits x h c over x.box refl in
     omega (arith, all, none)
 

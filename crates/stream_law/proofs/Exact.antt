@@ -86,11 +86,11 @@ module _ (lost : Bool) (r : Receiver) (s : Sender) (d u : List Word) (b : Box) (
   exact_ask c fresh = record {
     holds = λ u' k e. (
         let a : Account u' k r s d u = h.account u' k in
-        let t : total u' (r.taken k) ≤ total u' (s.sent k) = total_front u' (r.taken k) (s.sent k) (h.fronts k) in
+        let t : total u' (r.taken k) ≤ total u' (s.sent k) = total_front u' (r.taken k) (s.sent k) (h.arrivals.fronts k) in
         let n : number u' counters.nothing ≡ 0 = number_nothing u' in
         omega (arith, a, t, n));
     fits = (omega arith, omega arith);
-    all = λ u' k o. (let g : number u' (r.granted k) ≡ 0 = subst (λ (j : ℕ). number u' (r.granted j) ≡ 0) (some_is c k o.end) (h.ungranted u' c fresh) in omega (arith, g));
+    all = λ u' k o. (let g : number u' (r.granted k) ≡ 0 = subst (λ (j : ℕ). number u' (r.granted j) ≡ 0) (some_is c k o.end) (h.grants.ungranted u' c fresh) in omega (arith, g));
   }
 
   exact_grant : (c m n : ℕ) → r.end ≡ Some c → r.allocation.messages + m ≤ 65535 → r.allocation.bits + n ≤ 4294967295 → Exact lost (made (receivers.grants c m n r) s (d ++ All c m n ∷ []) u b)
@@ -143,15 +143,15 @@ module _ (lost : Bool) (r : Receiver) (s : Sender) (d rest : List Word) (b : Box
   room_for : (c m n : ℕ) → r.end ≡ Some c → Inv (made r s d (Ret c m n ∷ rest) b) → (u : Counter) → amount u m n ≤ number u r.allocation
   room_for c m n end h u =
       let a : Account u c r s d (Ret c m n ∷ rest) = h.account u c in
-      let l : number u (r.granted c) ≤ number u r.allocation + total u (r.taken c) + number u (r.returned c) = h.left u c end in
-      let t : total u (r.taken c) ≤ total u (s.sent c) = total_front u (r.taken c) (s.sent c) (h.fronts c) in
+      let l : number u (r.granted c) ≤ number u r.allocation + total u (r.taken c) + number u (r.returned c) = h.grants.left u c end in
+      let t : total u (r.taken c) ≤ total u (s.sent c) = total_front u (r.taken c) (s.sent c) (h.arrivals.fronts c) in
       let own : mine c c (amount u m n) ≡ amount u m n = mine_same c c (amount u m n) refl in
       omega (arith, a, l, t, own)
 
   opened_for : (c m n : ℕ) → r.end ≡ Some c → Inv (made r s d (Ret c m n ∷ rest) b) → (u : Counter) → r.opened ≡ false → amount u m n ≡ 0
   opened_for c m n end h u unopened =
       let a : Account u c r s d (Ret c m n ∷ rest) = h.account u c in
-      let none : number u (r.granted c) ≡ 0 = h.unopened u c end unopened in
+      let none : number u (r.granted c) ≡ 0 = h.grants.unopened u c end unopened in
       let own : mine c c (amount u m n) ≡ amount u m n = mine_same c c (amount u m n) refl in
       omega (arith, a, none, own)
 
@@ -166,7 +166,7 @@ module _ (lost : Bool) (r : Receiver) (s : Sender) (d rest : List Word) (b : Box
       → (u : Counter) → amount u m n ≡ 0
   ret_nothing c m n end h dropped closed unsaid u = by r.opened refl where
     over : r.over c ≡ false
-    over = never (r.over c) (λ o. unlike (s.closed c) (h.passed c o) unsaid)
+    over = never (r.over c) (λ o. unlike (s.closed c) (h.ends.passed c o) unsaid)
 
     by : (v : Bool) → r.opened ≡ v → amount u m n ≡ 0
     by true e = absurd (unlike (receivers.is_open c r && holds r.allocation m n) (ret_opened c m n end h closed over e) dropped)
@@ -337,8 +337,8 @@ module _ (lost : Bool) (r : Receiver) (s : Sender) (rest u : List Word) (b : Box
       → (u' : Counter) → number u' (counters.granted s.allocation m n) ≡ number u' s.allocation + amount u' m n
   counts c m n end there h x u' =
       let a : Account u' c r s (All c m n ∷ rest) u = h.account u' c in
-      let l : number u' (r.granted c) ≤ number u' r.allocation + total u' (r.taken c) + number u' (r.returned c) = h.left u' c there in
-      let t : total u' (r.taken c) ≤ total u' (s.sent c) = total_front u' (r.taken c) (s.sent c) (h.fronts c) in
+      let l : number u' (r.granted c) ≤ number u' r.allocation + total u' (r.taken c) + number u' (r.returned c) = h.grants.left u' c there in
+      let t : total u' (r.taken c) ≤ total u' (s.sent c) = total_front u' (r.taken c) (s.sent c) (h.arrivals.fronts c) in
       let own : mine c c (amount u' m n) ≡ amount u' m n = mine_same c c (amount u' m n) refl in
       let all : held u' c s.end s.allocation ≡ mine c c (number u' s.allocation) = held_is u' c c s.end s.allocation end in
       let same : mine c c (number u' s.allocation) ≡ number u' s.allocation = mine_same c c (number u' s.allocation) refl in
@@ -503,7 +503,7 @@ exact_run (e ∷ events) run prompt =
 -- nothing is granted before the receiver's end has opened
 pub claims_ungranted : (x : Stream) (c : ℕ) → Inv x → (x.receiver.end ≡ Some c → x.receiver.opened ≡ false) → Claims c x
 claims_ungranted x c h unopened u o =
-    let none : number u (x.receiver.granted c) ≡ 0 = h.unopened u c o.end (unopened o.end) in
+    let none : number u (x.receiver.granted c) ≡ 0 = h.grants.unopened u c o.end (unopened o.end) in
     omega (arith, none)
 
 -- nor is anything lost as its request is heard
@@ -531,14 +531,14 @@ module _ (lost : Bool) (x : Stream) (c : ℕ) (h : Inv x) (e : Exact lost x) (q 
   sender_open = sends.opens c x.sender q.sends
 
   rest_taken : x.receiver.taken c ≡ x.sender.sent c
-  rest_taken = sym (h.whole c q.receiver receiver_open.1 receiver_open.2 ∙ ap (λ (l : List (List Bool)). x.receiver.taken c ++ l) q.box ∙ append-nil (x.receiver.taken c))
+  rest_taken = sym (h.arrivals.whole c q.receiver receiver_open.1 receiver_open.2 ∙ ap (λ (l : List (List Bool)). x.receiver.taken c ++ l) q.box ∙ append-nil (x.receiver.taken c))
 
   -- the amounts of a counter: all of them, and those of the receiver
   amounts : (u : Counter) → (total u (x.receiver.taken c) + number u (x.receiver.returned c) + number u x.sender.allocation ≡ number u (x.receiver.granted c)) × (number u x.sender.allocation ≡ number u x.receiver.allocation)
   amounts u =
       let all : AtMostAll u c x.receiver x.sender x.to_sender x.to_receiver = e.all u c (record { end = q.receiver; receiver = receiver_open.1; sender = sender_open.2; unshut = λ end. sender_open.1; opened = λ g end. sender_open.0 }) in
       let less : Account u c x.receiver x.sender x.to_sender x.to_receiver = h.account u c in
-      let left : number u (x.receiver.granted c) ≤ number u x.receiver.allocation + total u (x.receiver.taken c) + number u (x.receiver.returned c) = h.left u c q.receiver in
+      let left : number u (x.receiver.granted c) ≤ number u x.receiver.allocation + total u (x.receiver.taken c) + number u (x.receiver.returned c) = h.grants.left u c q.receiver in
       let holds : number u x.receiver.allocation + total u (x.receiver.taken c) + number u (x.receiver.returned c) ≤ number u (x.receiver.granted c) = e.holds u c q.receiver in
       let down : granted_in u c x.to_sender ≡ 0 = ap (granted_in u c) q.to_sender in
       let up : returned_in u c x.to_receiver ≡ 0 = ap (returned_in u c) q.to_receiver in

@@ -1,6 +1,7 @@
 -- What the two hosts of a link keep, through all that happens.
 use Rattle.std.proofs.Common.{◌≡◌, ◌⊎◌, ℕ, ◌+◌, ◌≤◌, ◌==◌, if◌then◌else◌, Bool, true, false, ◌&&◌, List, [], ◌∷◌, ◌++◌, length, Option, Some, None, is_some, refl, ap, sym, subst, ◌∙◌, inl, inr, eq-eqb, nat_lt, nat_le, arith}
 use Rattle.std.proofs.lemmas.Bool.{le-leb, lt-ltb}
+use Rattle.ncp_control.specs.declared.allocation.Allocation.{Allocation}
 use Rattle.stream_law.specs.Words.{Word, Rts, covers, is_size}
 use Rattle.stream_law.specs.Receivers as receivers
 use Rattle.stream_law.specs.Receivers.{Receiver}
@@ -13,46 +14,10 @@ use Rattle.stream_law.proofs.Words.{unless, NoRts, DownFits, UpFits}
 abbrev pub made : Receiver → Sender → List Word → List Word → Box → Stream
 made r s down up box = record { receiver = r; sender = s; to_sender = down; to_receiver = up; box = box }
 
--- ---- connections
-
--- what was asked for has the link, or is over
-abbrev pub Known : Receiver → Type 0
-Known r = (c : ℕ) → r.asked c ≡ true → (r.end ≡ Some c) ⊎ (r.over c ≡ true)
-
-abbrev pub Own : Receiver → Type 0
-Own r = (c : ℕ) → r.end ≡ Some c → r.asked c ≡ true
-
-abbrev pub Passed : Receiver → Sender → Type 0
-Passed r s = (c : ℕ) → r.over c ≡ true → s.closed c ≡ true
-
-abbrev pub Heard : Receiver → Sender → Type 0
-Heard r s = (c : ℕ) → s.end ≡ Some c → r.asked c ≡ true
-
--- an end of which both CLS have passed is gone
-abbrev pub Half : Sender → Type 0
-Half s = (c : ℕ) → s.end ≡ Some c → s.shut ≡ true → s.closed c ≡ false
-
 -- ---- what is under way
 
 abbrev pub Down : Receiver → Sender → List Word → Type 0
 Down r s w = DownFits r.over r.asked (unless s.shut s.end) w (unless r.closed r.end)
-
--- no other connection is asked for while the sender's end isn't closed
-abbrev pub Still : Sender → List Word → Type 0
-Still s w = (c : ℕ) → s.end ≡ Some c → s.closed c ≡ false → NoRts w
-
-abbrev pub Up : Receiver → Sender → List Word → Type 0
-Up r s w = UpFits r.over r.asked s.closed s.size w
-
--- ---- byte sizes
-
-abbrev pub ToldSize : Receiver → Sender → Type 0
-ToldSize r s = (c z : ℕ) → r.size c ≡ Some z → s.size c ≡ Some z
-
-abbrev pub Sized : Receiver → Type 0
-Sized r = (c : ℕ) → r.end ≡ Some c → r.opened ≡ true → is_some (r.size c) ≡ true
-
--- ---- data
 
 -- what waits is of an end that isn't closed
 abbrev pub Waits : Sender → Box → Type 0
@@ -60,87 +25,86 @@ Waits s Empty = Unit {0}
 Waits s (Waiting c z bits) = (s.end ≡ Some c) × (s.opened ≡ true) × (s.closed c ≡ false) × (s.size c ≡ Some z)
 Waits s Taken = Unit {0}
 
--- an end that isn't closing took all but what waits
-abbrev pub Whole : Receiver → Sender → Box → Type 0
-Whole r s box = (c : ℕ) → r.end ≡ Some c → r.closed ≡ false → r.over c ≡ false → s.sent c ≡ r.taken c ++ waiting_in box
-
--- an end that closes, and that hasn't heard the sender's CLS, said its own first
-abbrev pub Firsts : Receiver → Type 0
-Firsts r = (c : ℕ) → r.end ≡ Some c → r.closed ≡ true → r.over c ≡ false → r.first c ≡ true
-
--- where it heard the sender's first, it has taken all that was sent
-abbrev pub Settled : Receiver → Sender → Type 0
-Settled r s = (c : ℕ) → r.over c ≡ true → r.first c ≡ false → r.taken c ≡ s.sent c
-
-abbrev pub Fronts : Receiver → Sender → Type 0
-Fronts r s = (c : ℕ) → IsPrefix (r.taken c) (s.sent c)
-
--- each message that was sent waits, or it came
 abbrev pub waiting_of : ℕ → Box → ℕ
 waiting_of c Empty = 0
 waiting_of c (Waiting k size bits) = if c == k then 1 else 0
 waiting_of c Taken = 0
 
-abbrev pub Came : Receiver → Sender → Box → Type 0
-Came r s box = (c : ℕ) → length (s.sent c) ≡ r.came c + waiting_of c box
-
-abbrev pub Unsent : Receiver → Sender → Type 0
-Unsent r s = (c : ℕ) → r.asked c ≡ false → s.sent c ≡ []
-
--- ---- amounts
-
 -- what was granted is at least what was sent, what may still be sent, the grants and returns under way, and what was returned
 abbrev pub Account : Counter → ℕ → Receiver → Sender → List Word → List Word → Type 0
 Account u c r s down up = total u (s.sent c) + held u c s.end s.allocation + granted_in u c down + returned_in u c up + number u (r.returned c) ≤ number u (r.granted c)
 
-abbrev pub Left : Counter → ℕ → Receiver → Type 0
-Left u c r = r.end ≡ Some c → number u (r.granted c) ≤ number u r.allocation + total u (r.taken c) + number u (r.returned c)
+-- ---- groups by what they speak of: a step passes on as it is each group of which it changes nothing
 
-abbrev pub Unopened : Counter → ℕ → Receiver → Type 0
-Unopened u c r = r.end ≡ Some c → r.opened ≡ false → number u (r.granted c) ≡ 0
+-- the two ends, and the connections that were asked for, are over, and are closed by the sender
+pub record Ends (receives : Option ℕ) (asked over : ℕ → Bool) (sends : Option ℕ) (shut : Bool) (closed : ℕ → Bool) : Type 0 where
+  -- what was asked for has the link, or is over
+  pub known : (c : ℕ) → asked c ≡ true → (receives ≡ Some c) ⊎ (over c ≡ true)
+  pub own : (c : ℕ) → receives ≡ Some c → asked c ≡ true
+  pub passed : (c : ℕ) → over c ≡ true → closed c ≡ true
+  pub heard : (c : ℕ) → sends ≡ Some c → asked c ≡ true
+  -- an end of which both CLS have passed is gone
+  pub half : (c : ℕ) → sends ≡ Some c → shut ≡ true → closed c ≡ false
 
-abbrev pub Ungranted : Counter → ℕ → Receiver → Type 0
-Ungranted u c r = r.asked c ≡ false → number u (r.granted c) ≡ 0
+-- byte sizes
+pub record Sizes (end : Option ℕ) (opened : Bool) (heard said : ℕ → Option ℕ) : Type 0 where
+  pub told : (c z : ℕ) → heard c ≡ Some z → said c ≡ Some z
+  pub sized : (c : ℕ) → end ≡ Some c → opened ≡ true → is_some (heard c) ≡ true
+
+-- the messages that were sent, that wait, that came and that were taken
+pub record Arrivals (end : Option ℕ) (closed : Bool) (asked over first : ℕ → Bool) (taken : ℕ → List (List Bool)) (count : ℕ → ℕ)
+    (sent : ℕ → List (List Bool)) (waiting : List (List Bool)) (waits : ℕ → ℕ) : Type 0 where
+  -- an end that isn't closing took all but what waits
+  pub whole : (c : ℕ) → end ≡ Some c → closed ≡ false → over c ≡ false → sent c ≡ taken c ++ waiting
+  -- an end that closes, and that hasn't heard the sender's CLS, said its own first
+  pub firsts : (c : ℕ) → end ≡ Some c → closed ≡ true → over c ≡ false → first c ≡ true
+  -- where it heard the sender's first, it has taken all that was sent
+  pub settled : (c : ℕ) → over c ≡ true → first c ≡ false → taken c ≡ sent c
+  pub fronts : (c : ℕ) → IsPrefix (taken c) (sent c)
+  pub unsent : (c : ℕ) → asked c ≡ false → sent c ≡ []
+  -- each message that was sent waits, or it came
+  pub came : (c : ℕ) → length (sent c) ≡ count c + waits c
+
+-- the amounts that the receiver granted
+pub record Grants (end : Option ℕ) (opened : Bool) (allocation : Allocation) (asked : ℕ → Bool) (granted returned : ℕ → Allocation) (taken : ℕ → List (List Bool)) : Type 0 where
+  pub left : (u : Counter) (c : ℕ) → end ≡ Some c → number u (granted c) ≤ number u allocation + total u (taken c) + number u (returned c)
+  pub unopened : (u : Counter) (c : ℕ) → end ≡ Some c → opened ≡ false → number u (granted c) ≡ 0
+  pub ungranted : (u : Counter) (c : ℕ) → asked c ≡ false → number u (granted c) ≡ 0
+
+abbrev pub GrantsOf : Receiver → Type 0
+GrantsOf r = Grants r.end r.opened r.allocation r.asked r.granted r.returned r.taken
+
+abbrev pub ArrivalsOf : Receiver → Sender → Box → Type 0
+ArrivalsOf r s box = Arrivals r.end r.closed r.asked r.over r.first r.taken r.came s.sent (waiting_in box) (λ c. waiting_of c box)
 
 -- ---- all of it
 
 pub record Inv (x : Stream) : Type 0 where
-  pub known : Known x.receiver
-  pub own : Own x.receiver
-  pub passed : Passed x.receiver x.sender
-  pub heard : Heard x.receiver x.sender
-  pub half : Half x.sender
+  pub ends : Ends x.receiver.end x.receiver.asked x.receiver.over x.sender.end x.sender.shut x.sender.closed
   pub down : Down x.receiver x.sender x.to_sender
-  pub still : Still x.sender x.to_sender
-  pub up : Up x.receiver x.sender x.to_receiver
-  pub told : ToldSize x.receiver x.sender
-  pub sized : Sized x.receiver
+  -- no other connection is asked for while the sender's end isn't closed
+  pub still : (c : ℕ) → x.sender.end ≡ Some c → x.sender.closed c ≡ false → NoRts x.to_sender
+  pub up : UpFits x.receiver.over x.receiver.asked x.sender.closed x.sender.size x.to_receiver
+  pub sizes : Sizes x.receiver.end x.receiver.opened x.receiver.size x.sender.size
   pub waiting : Waits x.sender x.box
-  pub whole : Whole x.receiver x.sender x.box
-  pub firsts : Firsts x.receiver
-  pub settled : Settled x.receiver x.sender
-  pub fronts : Fronts x.receiver x.sender
-  pub unsent : Unsent x.receiver x.sender
-  pub came : Came x.receiver x.sender x.box
+  pub arrivals : ArrivalsOf x.receiver x.sender x.box
   pub account : (u : Counter) (c : ℕ) → Account u c x.receiver x.sender x.to_sender x.to_receiver
-  pub left : (u : Counter) (c : ℕ) → Left u c x.receiver
-  pub unopened : (u : Counter) (c : ℕ) → Unopened u c x.receiver
-  pub ungranted : (u : Counter) (c : ℕ) → Ungranted u c x.receiver
+  pub grants : GrantsOf x.receiver
 
 -- ---- what follows
 
 -- where the link is free all that were asked for are over
 pub all_over : (x : Stream) → Inv x → x.receiver.end ≡ None → (k : ℕ) → x.receiver.asked k ≡ true → x.receiver.over k ≡ true
-all_over x h none k asked = elim (h.known k asked) [
+all_over x h none k asked = elim (h.ends.known k asked) [
   | inl e ↦ (let both : None ≡ Some k = sym none ∙ e in absurd (cc))
   | inr o ↦ o
 ]
 
 -- what was asked for and isn't closed has the link
 pub sole : (x : Stream) → Inv x → (c : ℕ) → x.receiver.asked c ≡ true → x.sender.closed c ≡ false → x.receiver.end ≡ Some c
-sole x h c asked none = elim (h.known c asked) [
+sole x h c asked none = elim (h.ends.known c asked) [
   | inl e ↦ e
-  | inr o ↦ absurd (unlike (x.sender.closed c) (h.passed c o) none)
+  | inr o ↦ absurd (unlike (x.sender.closed c) (h.ends.passed c o) none)
 ]
 
 pub waits_for : (x : Stream) → Inv x → (c z : ℕ) (bits : List Bool) → x.box ≡ Waiting c z bits → Waits x.sender (Waiting c z bits)
@@ -149,11 +113,11 @@ waits_for x h c z bits e = subst (λ (b : Box). Waits x.sender b) e h.waiting
 pub waits_of : (x : Stream) → Inv x → (c z : ℕ) (bits : List Bool) → x.box ≡ Waiting c z bits → x.receiver.end ≡ Some c
 waits_of x h c z bits e =
     let w : Waits x.sender (Waiting c z bits) = waits_for x h c z bits e in
-    sole x h c (h.heard c w.0) w.2
+    sole x h c (h.ends.heard c w.0) w.2
 
 -- the sender's end is closed where the receiver has none
 pub closed_of : (x : Stream) → Inv x → x.receiver.end ≡ None → (c : ℕ) → x.sender.end ≡ Some c → x.sender.closed c ≡ true
-closed_of x h none c e = h.passed c (all_over x h none c (h.heard c e))
+closed_of x h none c e = h.ends.passed c (all_over x h none c (h.ends.heard c e))
 
 -- a request finds the link free
 pub link_free : (x : Stream) (c : ℕ) (rest : List Word) → Inv x → x.to_sender ≡ Rts c ∷ rest → x.sender.end ≡ None
@@ -163,7 +127,7 @@ link_free x c rest h same = by x.sender.end refl where
 
   closed : (k : ℕ) → x.sender.end ≡ Some k → (v : Bool) → x.sender.closed k ≡ v → (w : Bool) → x.sender.shut ≡ w → ⊥
   closed k e false none w shut = subst NoRts same (h.still k e none)
-  closed k e true gone true shut = unlike (x.sender.closed k) gone (h.half k e shut)
+  closed k e true gone true shut = unlike (x.sender.closed k) gone (h.ends.half k e shut)
   closed k e true gone false shut =
       let seen : Some k ≡ None = sym e ∙ (sym (ap (λ (v : Bool). unless v x.sender.end) shut) ∙ view) in absurd (cc)
 
@@ -181,7 +145,7 @@ only_some (Some y) e z f = ap (λ (n : ℕ). Some n) (f y refl)
 affordable : (x : Stream) → Inv x → (u : Counter) (c : ℕ) (bits : List Bool) → x.receiver.end ≡ Some c → x.sender.sent c ≡ x.receiver.taken c ++ bits ∷ [] → cost u bits ≤ number u x.receiver.allocation
 affordable x h u c bits end sent =
     let a : Account u c x.receiver x.sender x.to_sender x.to_receiver = h.account u c in
-    let l : number u (x.receiver.granted c) ≤ number u x.receiver.allocation + total u (x.receiver.taken c) + number u (x.receiver.returned c) = h.left u c end in
+    let l : number u (x.receiver.granted c) ≤ number u x.receiver.allocation + total u (x.receiver.taken c) + number u (x.receiver.returned c) = h.grants.left u c end in
     let t : total u (x.sender.sent c) ≡ total u (x.receiver.taken c) + cost u bits = ap (λ (ms : List (List Bool)). total u ms) sent ∙ total_of u (x.receiver.taken c) bits in
     omega (arith, a, l, t)
 
@@ -190,9 +154,9 @@ pub acceptable : (x : Stream) → Inv x → (c z : ℕ) (bits : List Bool) → x
 acceptable x h c z bits e closed over =
     let w : Waits x.sender (Waiting c z bits) = waits_for x h c z bits e in
     let end : x.receiver.end ≡ Some c = waits_of x h c z bits e in
-    let sent : x.sender.sent c ≡ x.receiver.taken c ++ bits ∷ [] = subst (λ (b : Box). x.sender.sent c ≡ x.receiver.taken c ++ waiting_in b) e (h.whole c end closed over) in
+    let sent : x.sender.sent c ≡ x.receiver.taken c ++ bits ∷ [] = subst (λ (b : Box). x.sender.sent c ≡ x.receiver.taken c ++ waiting_in b) e (h.arrivals.whole c end closed over) in
     let opened : x.receiver.opened ≡ true = opens end sent x.receiver.opened refl in
-    let sized : x.receiver.size c ≡ Some z = only_some (x.receiver.size c) (h.sized c end opened) z (λ y there. some_is y z (sym (h.told c y there) ∙ w.3)) in
+    let sized : x.receiver.size c ≡ Some z = only_some (x.receiver.size c) (h.sizes.sized c end opened) z (λ y there. some_is y z (sym (h.sizes.told c y there) ∙ w.3)) in
     let right : is_size z (x.receiver.size c) ≡ true = ap (is_size z) sized ∙ eq-eqb z z refl in
     let one : 1 ≤ x.receiver.allocation.messages = affordable x h Messages c bits end sent in
     let room : length bits ≤ x.receiver.allocation.bits = affordable x h Bits c bits end sent in
@@ -202,7 +166,7 @@ acceptable x h c z bits e closed over =
       opens : x.receiver.end ≡ Some c → x.sender.sent c ≡ x.receiver.taken c ++ bits ∷ [] → (v : Bool) → x.receiver.opened ≡ v → x.receiver.opened ≡ true
       opens end sent true v = v
       opens end sent false v =
-          let none : number Messages (x.receiver.granted c) ≡ 0 = h.unopened Messages c end v in
+          let none : number Messages (x.receiver.granted c) ≡ 0 = h.grants.unopened Messages c end v in
           let a : Account Messages c x.receiver x.sender x.to_sender x.to_receiver = h.account Messages c in
           let t : total Messages (x.sender.sent c) ≡ total Messages (x.receiver.taken c) + 1 = ap (λ (ms : List (List Bool)). total Messages ms) sent ∙ total_of Messages (x.receiver.taken c) bits in
           absurd (omega (arith, none, a, t))

@@ -16,27 +16,32 @@ use Rattle.stream_law.proofs.Sends as sends
 
 pub inv_opening : Inv opening_stream
 inv_opening = record {
-  known = λ c e. absurd (cc);
-  own = λ c e. absurd (cc);
-  passed = λ c e. absurd (cc);
-  heard = λ c e. absurd (cc);
-  half = λ c e f. absurd (cc);
+  ends = record {
+    known = λ c e. absurd (cc);
+    own = λ c e. absurd (cc);
+    passed = λ c e. absurd (cc);
+    heard = λ c e. absurd (cc);
+    half = λ c e f. absurd (cc);
+  };
   down = refl;
   still = λ c e f. absurd (cc);
   up = tt;
-  told = λ c z e. absurd (cc);
-  sized = λ c e f. absurd (cc);
+  sizes = record { told = λ c z e. absurd (cc); sized = λ c e f. absurd (cc) };
   waiting = tt;
-  whole = λ c e f g. absurd (cc);
-  firsts = λ c e f g. absurd (cc);
-  settled = λ c e f. absurd (cc);
-  fronts = λ c. ([], refl);
-  unsent = λ c e. refl;
-  came = λ c. refl;
+  arrivals = record {
+    whole = λ c e f g. absurd (cc);
+    firsts = λ c e f g. absurd (cc);
+    settled = λ c e f. absurd (cc);
+    fronts = λ c. ([], refl);
+    unsent = λ c e. refl;
+    came = λ c. refl;
+  };
   account = λ u c. (let none : number u counters.nothing ≡ 0 = number_nothing u in omega (arith, none));
-  left = λ u c e. absurd (cc);
-  unopened = λ u c e f. absurd (cc);
-  ungranted = λ u c e. number_nothing u;
+  grants = record {
+    left = λ u c e. absurd (cc);
+    unopened = λ u c e f. absurd (cc);
+    ungranted = λ u c e. number_nothing u;
+  };
 }
 
 -- what the receiver hears of what was said
@@ -100,9 +105,9 @@ granted_as x h c ms less =
 
 pub safe_inv : (x : Stream) → Inv x → (c : ℕ) → IsSafe x c
 safe_inv x h c = record {
-  front = h.fronts c;
-  whole = h.settled c;
-  taken = granted_as x h c (x.receiver.taken c) (λ u. total_front u (x.receiver.taken c) (x.sender.sent c) (h.fronts c));
+  front = h.arrivals.fronts c;
+  whole = h.arrivals.settled c;
+  taken = granted_as x h c (x.receiver.taken c) (λ u. total_front u (x.receiver.taken c) (x.sender.sent c) (h.arrivals.fronts c));
   sent = granted_as x h c (x.sender.sent c) (λ u. omega arith);
 }
 

@@ -117,128 +117,95 @@ waits_over s t c Taken end closed w = tt
 module _ (r : Receiver) (s : Sender) (d u : List Word) (b : Box) (h : Inv (made r s d u b)) where
   pub kept_ask : (c z : ℕ) → s.size c ≡ None → Inv (made r (record s { size = for c (Some z) s.size }) d (u ++ Str c z ∷ []) b)
   kept_ask c z none = record {
-    known = h.known;
-    own = h.own;
-    passed = h.passed;
-    heard = h.heard;
-    half = h.half;
+    ends = h.ends;
     down = h.down;
     still = h.still;
-    up = up_said r.asked s.closed (for c (Some z) s.size) (Str c z) (λ over f. (for_here c (Some z) s.size, tt)) r.over u h.passed
+    up = up_said r.asked s.closed (for c (Some z) s.size) (Str c z) (λ over f. (for_here c (Some z) s.size, tt)) r.over u h.ends.passed
         (up_more r.asked s.closed r.asked s.closed s.size (for c (Some z) s.size) (λ k e. e) (λ k e. e) (size_more c z s.size none) r.over u h.up);
-    told = λ k y e. size_more c z s.size none k y (h.told k y e);
-    sized = h.sized;
+    sizes = record { told = λ k y e. size_more c z s.size none k y (h.sizes.told k y e); sized = h.sizes.sized };
     waiting = waits_sized s c z none b h.waiting;
-    whole = h.whole;
-    firsts = h.firsts;
-    settled = h.settled;
-    fronts = h.fronts;
-    came = h.came;
-    unsent = h.unsent;
+    arrivals = h.arrivals;
     account = λ u' k. (let a : Account u' k r s d u = h.account u' k in let g : returned_in u' k (u ++ Str c z ∷ []) ≡ returned_in u' k u + 0 = returned_more u' k u (Str c z) in omega (arith, a, g));
-    left = h.left;
-    unopened = h.unopened;
-    ungranted = h.ungranted;
+    grants = h.grants;
   }
 
   pub kept_open : Inv (made r (record s { opened = true }) d u b)
   kept_open = record {
-    known = h.known;
-    own = h.own;
-    passed = h.passed;
-    heard = h.heard;
-    half = h.half;
+    ends = h.ends;
     down = h.down;
     still = h.still;
     up = h.up;
-    told = h.told;
-    sized = h.sized;
+    sizes = h.sizes;
     waiting = waits_opened s b h.waiting;
-    whole = h.whole;
-    firsts = h.firsts;
-    settled = h.settled;
-    fronts = h.fronts;
-    came = h.came;
-    unsent = h.unsent;
+    arrivals = h.arrivals;
     account = h.account;
-    left = h.left;
-    unopened = h.unopened;
-    ungranted = h.ungranted;
+    grants = h.grants;
   }
 
   pub kept_close : (c : ℕ) → s.closed c ≡ false → (s.end ≡ Some c → s.opened ≡ true → b ≡ Empty)
       → Inv (made r (record s { end = senders.goes c s.shut s.end; closed = for c true s.closed }) d (u ++ Cls c ∷ []) b)
   kept_close c none drained = record {
-    known = h.known;
-    own = h.own;
-    passed = passed;
-    heard = λ k e. h.heard k (goes_some c s.shut s.end k e).0;
-    half = λ k e f. elim (at c true s.closed k) [
-      | inl t ↦ (
-          let gone : (k == c && s.shut) ≡ false = (goes_some c s.shut s.end k e).1 in
-          let there : (k == c && s.shut) ≡ true = (let same : (k == c) ≡ true = eq-eqb k c t.0 in rw (same, f) refl) in
-          absurd (unlike (k == c && s.shut) there gone))
-      | inr t ↦ (t.1 ∙ h.half k (goes_some c s.shut s.end k e).0 f)
-    ];
+    ends = record {
+      known = h.ends.known;
+      own = h.ends.own;
+      passed = passed;
+      heard = λ k e. h.ends.heard k (goes_some c s.shut s.end k e).0;
+      half = λ k e f. elim (at c true s.closed k) [
+        | inl t ↦ (
+            let gone : (k == c && s.shut) ≡ false = (goes_some c s.shut s.end k e).1 in
+            let there : (k == c && s.shut) ≡ true = (let same : (k == c) ≡ true = eq-eqb k c t.0 in rw (same, f) refl) in
+            absurd (unlike (k == c && s.shut) there gone))
+        | inr t ↦ (t.1 ∙ h.ends.half k (goes_some c s.shut s.end k e).0 f)
+      ];
+    };
     down = subst (λ (o : Option ℕ). DownFits r.over r.asked o d (unless r.closed r.end)) (sym (view_same c s.shut s.end)) h.down;
     still = λ k e f. h.still k (goes_some c s.shut s.end k e).0 (for_less c s.closed k f);
     up = up_said r.asked (for c true s.closed) s.size (Cls c) (λ over f. (for_here c true s.closed, tt)) r.over u passed
         (up_more r.asked s.closed r.asked (for c true s.closed) s.size s.size (λ k e. e) (for_more c s.closed) (λ k y e. e) r.over u h.up);
-    told = h.told;
-    sized = h.sized;
+    sizes = h.sizes;
     waiting = waits_closed s c b drained h.waiting;
-    whole = h.whole;
-    firsts = h.firsts;
-    settled = h.settled;
-    fronts = h.fronts;
-    came = h.came;
-    unsent = h.unsent;
+    arrivals = h.arrivals;
     account = λ u' k. (
         let a : Account u' k r s d u = h.account u' k in
         let g : returned_in u' k (u ++ Cls c ∷ []) ≡ returned_in u' k u + 0 = returned_more u' k u (Cls c) in
         let l : held u' k (senders.goes c s.shut s.end) s.allocation ≤ held u' k s.end s.allocation = held_goes u' k c s.shut s.end s.allocation in
         omega (arith, a, g, l));
-    left = h.left;
-    unopened = h.unopened;
-    ungranted = h.ungranted;
+    grants = h.grants;
   } where
     passed : (k : ℕ) → r.over k ≡ true → for c true s.closed k ≡ true
-    passed k e = for_more c s.closed k (h.passed k e)
+    passed k e = for_more c s.closed k (h.ends.passed k e)
 
 -- data go out
 module _ (r : Receiver) (s : Sender) (d u : List Word) (h : Inv (made r s d u Empty)) where
   pub kept_send : (c z : ℕ) (bits : List Bool) → s.end ≡ Some c → senders.is_open c s ≡ true → s.size c ≡ Some z → covers s.allocation (length bits) ≡ true
       → Inv (made r (record s { allocation = counters.spent s.allocation (length bits); sent = for c (s.sent c ++ bits ∷ []) s.sent }) d u (Waiting c z bits))
   kept_send c z bits end is_open size covered = record {
-    known = h.known;
-    own = h.own;
-    passed = h.passed;
-    heard = h.heard;
-    half = h.half;
+    ends = h.ends;
     down = h.down;
     still = h.still;
     up = h.up;
-    told = h.told;
-    sized = h.sized;
+    sizes = h.sizes;
     waiting = (end, (opens c s is_open).0, not_closed, size);
-    whole = λ k e f g. elim (at c (s.sent c ++ bits ∷ []) s.sent k) [
-      | inl t ↦ (t.1 ∙ ap (λ (l : List (List Bool)). l ++ bits ∷ []) (h.whole c there f (ap r.over (sym t.0) ∙ g) ∙ append-nil (r.taken c)) ∙ ap (λ (j : ℕ). r.taken j ++ bits ∷ []) (sym t.0))
-      | inr t ↦ absurd (t.0 (both_are r.end c k there e))
-    ];
-    firsts = h.firsts;
-    settled = λ k e f. elim (at c (s.sent c ++ bits ∷ []) s.sent k) [
-      | inl t ↦ absurd (unlike (s.closed c) (ap s.closed (sym t.0) ∙ h.passed k e) not_closed)
-      | inr t ↦ (h.settled k e f ∙ sym t.1)
-    ];
-    fronts = λ k. elim (at c (s.sent c ++ bits ∷ []) s.sent k) [
-      | inl t ↦ subst (λ (l : List (List Bool)). IsPrefix (r.taken k) l) (ap (λ (j : ℕ). s.sent j ++ bits ∷ []) t.0 ∙ sym t.1) (front_more (r.taken k) (s.sent k) bits (h.fronts k))
-      | inr t ↦ subst (λ (l : List (List Bool)). IsPrefix (r.taken k) l) (sym t.1) (h.fronts k)
-    ];
-    came = came_one;
-    unsent = λ k e. elim (at c (s.sent c ++ bits ∷ []) s.sent k) [
-      | inl t ↦ absurd (unlike (r.asked k) (ap r.asked t.0 ∙ h.heard c end) e)
-      | inr t ↦ (t.1 ∙ h.unsent k e)
-    ];
+    arrivals = record {
+      whole = λ k e f g. elim (at c (s.sent c ++ bits ∷ []) s.sent k) [
+        | inl t ↦ (t.1 ∙ ap (λ (l : List (List Bool)). l ++ bits ∷ []) (h.arrivals.whole c there f (ap r.over (sym t.0) ∙ g) ∙ append-nil (r.taken c)) ∙ ap (λ (j : ℕ). r.taken j ++ bits ∷ []) (sym t.0))
+        | inr t ↦ absurd (t.0 (both_are r.end c k there e))
+      ];
+      firsts = h.arrivals.firsts;
+      settled = λ k e f. elim (at c (s.sent c ++ bits ∷ []) s.sent k) [
+        | inl t ↦ absurd (unlike (s.closed c) (ap s.closed (sym t.0) ∙ h.ends.passed k e) not_closed)
+        | inr t ↦ (h.arrivals.settled k e f ∙ sym t.1)
+      ];
+      fronts = λ k. elim (at c (s.sent c ++ bits ∷ []) s.sent k) [
+        | inl t ↦ subst (λ (l : List (List Bool)). IsPrefix (r.taken k) l) (ap (λ (j : ℕ). s.sent j ++ bits ∷ []) t.0 ∙ sym t.1) (front_more (r.taken k) (s.sent k) bits (h.arrivals.fronts k))
+        | inr t ↦ subst (λ (l : List (List Bool)). IsPrefix (r.taken k) l) (sym t.1) (h.arrivals.fronts k)
+      ];
+      unsent = λ k e. elim (at c (s.sent c ++ bits ∷ []) s.sent k) [
+        | inl t ↦ absurd (unlike (r.asked k) (ap r.asked t.0 ∙ h.ends.heard c end) e)
+        | inr t ↦ (t.1 ∙ h.arrivals.unsent k e)
+      ];
+      came = came_one;
+    };
     account = λ u' k. (
         let a : Account u' k r s d u = h.account u' k in
         let f : total u' (for c (s.sent c ++ bits ∷ []) s.sent k) ≡ total u' (s.sent k) + mine k c (cost u' bits) = total_for u' k c bits s.sent in
@@ -247,84 +214,64 @@ module _ (r : Receiver) (s : Sender) (d u : List Word) (h : Inv (made r s d u Em
         let less : mine k c (number u' (counters.spent s.allocation (length bits))) + mine k c (cost u' bits) ≡ mine k c (number u' s.allocation)
         = mine_add k c (number u' (counters.spent s.allocation (length bits))) (cost u' bits) (number u' s.allocation) (number_spent u' s.allocation bits covered) in
         omega (arith, a, f, before, after, less));
-    left = h.left;
-    unopened = h.unopened;
-    ungranted = h.ungranted;
+    grants = h.grants;
   } where
     came_one : (k : ℕ) → length (for c (s.sent c ++ bits ∷ []) s.sent k) ≡ r.came k + (if k == c then 1 else 0)
     came_one k = by (k == c) refl where
       by : (v : Bool) → (k == c) ≡ v → length (if v then s.sent c ++ bits ∷ [] else s.sent k) ≡ r.came k + (if v then 1 else 0)
       by true same =
-          let old : length (s.sent k) ≡ r.came k + 0 = h.came k in
+          let old : length (s.sent k) ≡ r.came k + 0 = h.arrivals.came k in
           let one : length (s.sent k) ≡ length (s.sent c) = ap (λ (j : ℕ). length (s.sent j)) (eqb-true k c same) in
           let more : length (s.sent c ++ bits ∷ []) ≡ length (s.sent c) + 1 = length-append (s.sent c) (bits ∷ []) in
           omega (arith, old, one, more)
-      by false same = h.came k
+      by false same = h.arrivals.came k
 
     not_closed : s.closed c ≡ false
     not_closed = (opens c s is_open).2
 
     there : r.end ≡ Some c
-    there = sole (made r s d u Empty) h c (h.heard c end) not_closed
+    there = sole (made r s d u Empty) h c (h.ends.heard c end) not_closed
 
 -- it is notified that its message was taken
 pub kept_told : (r : Receiver) (s : Sender) (d u : List Word) → Inv (made r s d u Taken) → Inv (made r s d u Empty)
 kept_told r s d u h = record {
-  known = h.known;
-  own = h.own;
-  passed = h.passed;
-  heard = h.heard;
-  half = h.half;
+  ends = h.ends;
   down = h.down;
   still = h.still;
   up = h.up;
-  told = h.told;
-  sized = h.sized;
+  sizes = h.sizes;
   waiting = tt;
-  whole = h.whole;
-  firsts = h.firsts;
-  settled = h.settled;
-  fronts = h.fronts;
-  came = h.came;
-  unsent = h.unsent;
+  arrivals = h.arrivals;
   account = h.account;
-  left = h.left;
-  unopened = h.unopened;
-  ungranted = h.ungranted;
+  grants = h.grants;
 }
 
 -- it hears what the receiver said
 module _ (r : Receiver) (s : Sender) (rest u : List Word) (b : Box) where
   begun : (c : ℕ) → s.end ≡ None → Inv (made r s (Rts c ∷ rest) u b) → Inv (made r (senders.begins c None s) rest u b)
   begun c none h = record {
-    known = h.known;
-    own = h.own;
-    passed = h.passed;
-    heard = λ k e. subst (λ (j : ℕ). r.asked j ≡ true) (some_is c k e) h.down.1;
-    half = λ k e f. absurd (cc);
+    ends = record {
+      known = h.ends.known;
+      own = h.ends.own;
+      passed = h.ends.passed;
+      heard = λ k e. subst (λ (j : ℕ). r.asked j ≡ true) (some_is c k e) h.down.1;
+      half = λ k e f. absurd (cc);
+    };
     down = h.down.3;
     still = λ k e f. elim h.down.2 [
       | inl n ↦ n
-      | inr o ↦ absurd (unlike (s.closed c) (h.passed c o) (ap s.closed (some_is c k e) ∙ f))
+      | inr o ↦ absurd (unlike (s.closed c) (h.ends.passed c o) (ap s.closed (some_is c k e) ∙ f))
     ];
     up = h.up;
-    told = h.told;
-    sized = h.sized;
+    sizes = h.sizes;
     waiting = waits_begun s (senders.begins c None s) b none h.waiting;
-    whole = h.whole;
-    firsts = h.firsts;
-    settled = h.settled;
-    fronts = h.fronts;
-    came = h.came;
-    unsent = h.unsent;
+    arrivals = h.arrivals;
     account = λ u' k. (
         let a : Account u' k r s (Rts c ∷ rest) u = h.account u' k in
         let same : mine k c (number u' counters.nothing) ≡ mine k c 0 = ap (mine k c) (number_nothing u') in
         let less : mine k c 0 ≤ 0 = none_mine k c in
         omega (arith, a, same, less));
-    left = h.left;
-    unopened = h.unopened;
-    ungranted = h.ungranted;
+    grants = h.grants;
   }
 
   pub kept_rts : (c : ℕ) → Inv (made r s (Rts c ∷ rest) u b) → Inv (made r (senders.begins c s.end s) rest u b)
@@ -337,23 +284,13 @@ module _ (r : Receiver) (s : Sender) (rest u : List Word) (b : Box) where
 
   granted_if : (c m n : ℕ) → s.end ≡ Some c → Inv (made r s (All c m n ∷ rest) u b) → (v : Bool) → Inv (made r (if v then record s { allocation = counters.granted s.allocation m n } else s) rest u b)
   granted_if c m n end h true = record {
-    known = h.known;
-    own = h.own;
-    passed = h.passed;
-    heard = h.heard;
-    half = h.half;
+    ends = h.ends;
     down = h.down.1;
     still = h.still;
     up = h.up;
-    told = h.told;
-    sized = h.sized;
+    sizes = h.sizes;
     waiting = h.waiting;
-    whole = h.whole;
-    firsts = h.firsts;
-    settled = h.settled;
-    fronts = h.fronts;
-    came = h.came;
-    unsent = h.unsent;
+    arrivals = h.arrivals;
     account = λ u' k. (
         let a : Account u' k r s (All c m n ∷ rest) u = h.account u' k in
         let before : held u' k s.end s.allocation ≡ mine k c (number u' s.allocation) = held_is u' k c s.end s.allocation end in
@@ -361,32 +298,18 @@ module _ (r : Receiver) (s : Sender) (rest u : List Word) (b : Box) where
         let more : mine k c (number u' (counters.granted s.allocation m n)) ≤ mine k c (number u' s.allocation) + mine k c (amount u' m n)
         = mine_within k c (number u' (counters.granted s.allocation m n)) (number u' s.allocation) (amount u' m n) (number_granted u' s.allocation m n) in
         omega (arith, a, before, after, more));
-    left = h.left;
-    unopened = h.unopened;
-    ungranted = h.ungranted;
+    grants = h.grants;
   }
   granted_if c m n end h false = record {
-    known = h.known;
-    own = h.own;
-    passed = h.passed;
-    heard = h.heard;
-    half = h.half;
+    ends = h.ends;
     down = h.down.1;
     still = h.still;
     up = h.up;
-    told = h.told;
-    sized = h.sized;
+    sizes = h.sizes;
     waiting = h.waiting;
-    whole = h.whole;
-    firsts = h.firsts;
-    settled = h.settled;
-    fronts = h.fronts;
-    came = h.came;
-    unsent = h.unsent;
+    arrivals = h.arrivals;
     account = λ u' k. (let a : Account u' k r s (All c m n ∷ rest) u = h.account u' k in omega (arith, a));
-    left = h.left;
-    unopened = h.unopened;
-    ungranted = h.ungranted;
+    grants = h.grants;
   }
 
   pub kept_all : (c m n : ℕ) → Inv (made r s (All c m n ∷ rest) u b) → Inv (made r (senders.with_allocation s.end (λ a. counters.granted a m n) s) rest u b)
@@ -400,24 +323,14 @@ module _ (r : Receiver) (s : Sender) (rest u : List Word) (b : Box) where
   returned_if : (c m n : ℕ) → s.end ≡ Some c → Inv (made r s (Gvb c m n ∷ rest) u b) → (v : Bool) → senders.is_open c s ≡ v
       → Inv (made r (if v then record s { allocation = counters.given_back s.allocation m n } else s) rest (word_queued (if v then Some (Ret c (counters.share s.allocation.messages m) (counters.share s.allocation.bits n)) else None) u) b)
   returned_if c m n end h true e = record {
-    known = h.known;
-    own = h.own;
-    passed = h.passed;
-    heard = h.heard;
-    half = h.half;
+    ends = h.ends;
     down = h.down.1;
     still = h.still;
     up = up_said r.asked s.closed s.size (Ret c (counters.share s.allocation.messages m) (counters.share s.allocation.bits n))
-        (λ over f. (never_over over f, h.heard c end, tt)) r.over u h.passed h.up;
-    told = h.told;
-    sized = h.sized;
+        (λ over f. (never_over over f, h.ends.heard c end, tt)) r.over u h.ends.passed h.up;
+    sizes = h.sizes;
     waiting = h.waiting;
-    whole = h.whole;
-    firsts = h.firsts;
-    settled = h.settled;
-    fronts = h.fronts;
-    came = h.came;
-    unsent = h.unsent;
+    arrivals = h.arrivals;
     account = λ u' k. (
         let a : Account u' k r s (Gvb c m n ∷ rest) u = h.account u' k in
         let before : held u' k s.end s.allocation ≡ mine k c (number u' s.allocation) = held_is u' k c s.end s.allocation end in
@@ -428,34 +341,20 @@ module _ (r : Receiver) (s : Sender) (rest u : List Word) (b : Box) where
         ≡ returned_in u' k u + (mine k c (amount u' (counters.share s.allocation.messages m) (counters.share s.allocation.bits n)) + 0)
         = returned_more u' k u (Ret c (counters.share s.allocation.messages m) (counters.share s.allocation.bits n)) in
         omega (arith, a, before, after, less, g));
-    left = h.left;
-    unopened = h.unopened;
-    ungranted = h.ungranted;
+    grants = h.grants;
   } where
     never_over : (over : ℕ → Bool) → ((k : ℕ) → over k ≡ true → s.closed k ≡ true) → over c ≡ false
     never_over over f = never (over c) (λ o. unlike (s.closed c) (f c o) (opens c s e).2)
   returned_if c m n end h false e = record {
-    known = h.known;
-    own = h.own;
-    passed = h.passed;
-    heard = h.heard;
-    half = h.half;
+    ends = h.ends;
     down = h.down.1;
     still = h.still;
     up = h.up;
-    told = h.told;
-    sized = h.sized;
+    sizes = h.sizes;
     waiting = h.waiting;
-    whole = h.whole;
-    firsts = h.firsts;
-    settled = h.settled;
-    fronts = h.fronts;
-    came = h.came;
-    unsent = h.unsent;
+    arrivals = h.arrivals;
     account = h.account;
-    left = h.left;
-    unopened = h.unopened;
-    ungranted = h.ungranted;
+    grants = h.grants;
   }
 
   pub kept_gvb : (c m n : ℕ) → Inv (made r s (Gvb c m n ∷ rest) u b)
@@ -467,50 +366,38 @@ module _ (r : Receiver) (s : Sender) (rest u : List Word) (b : Box) where
 
   shut_if : (c : ℕ) → s.end ≡ Some c → s.shut ≡ false → Inv (made r s (Cls c ∷ rest) u b) → (v : Bool) → s.closed c ≡ v → Inv (made r (if v then record s { end = None } else record s { shut = true }) rest u b)
   shut_if c end shut h true closed = record {
-    known = h.known;
-    own = h.own;
-    passed = h.passed;
-    heard = λ k e. absurd (cc);
-    half = λ k e f. absurd (cc);
+    ends = record {
+      known = h.ends.known;
+      own = h.ends.own;
+      passed = h.ends.passed;
+      heard = λ k e. absurd (cc);
+      half = λ k e f. absurd (cc);
+    };
     down = subst (λ (o : Option ℕ). DownFits r.over r.asked o rest (unless r.closed r.end)) (sym (unless_none s.shut)) h.down.1;
     still = λ k e f. absurd (cc);
     up = h.up;
-    told = h.told;
-    sized = h.sized;
+    sizes = h.sizes;
     waiting = waits_over s (record s { end = None }) c b end closed h.waiting;
-    whole = h.whole;
-    firsts = h.firsts;
-    settled = h.settled;
-    fronts = h.fronts;
-    came = h.came;
-    unsent = h.unsent;
+    arrivals = h.arrivals;
     account = λ u' k. (let a : Account u' k r s (Cls c ∷ rest) u = h.account u' k in omega (arith, a));
-    left = h.left;
-    unopened = h.unopened;
-    ungranted = h.ungranted;
+    grants = h.grants;
   }
   shut_if c end shut h false closed = record {
-    known = h.known;
-    own = h.own;
-    passed = h.passed;
-    heard = h.heard;
-    half = λ k e f. (ap s.closed (both_are s.end c k end e) ∙ closed);
+    ends = record {
+      known = h.ends.known;
+      own = h.ends.own;
+      passed = h.ends.passed;
+      heard = h.ends.heard;
+      half = λ k e f. (ap s.closed (both_are s.end c k end e) ∙ closed);
+    };
     down = h.down.1;
     still = h.still;
     up = h.up;
-    told = h.told;
-    sized = h.sized;
+    sizes = h.sizes;
     waiting = h.waiting;
-    whole = h.whole;
-    firsts = h.firsts;
-    settled = h.settled;
-    fronts = h.fronts;
-    came = h.came;
-    unsent = h.unsent;
+    arrivals = h.arrivals;
     account = h.account;
-    left = h.left;
-    unopened = h.unopened;
-    ungranted = h.ungranted;
+    grants = h.grants;
   }
 
   pub kept_cls : (c : ℕ) → Inv (made r s (Cls c ∷ rest) u b) → Inv (made r (senders.shuts c s.end s) rest u b)

@@ -140,7 +140,7 @@ module _ (hosts : List Host) (addresses : HaveAddresses hosts) (m : HostMessage)
   unheard = by (r.over c) refl where
     by : (v : Bool) → r.over c ≡ v → v ≡ false
     by false e = refl
-    by true e = absurd (unlike ((joined link f.off_control hosts addresses x.host x.peer ms lawful.1 time.1).x.sender.closed c) (inv.passed c e) sender_open)
+    by true e = absurd (unlike ((joined link f.off_control hosts addresses x.host x.peer ms lawful.1 time.1).x.sender.closed c) (inv.ends.passed c e) sender_open)
 
   unsaid : IsUnclosed link ms x → r.closed ≡ false
   unsaid none = by r.closed refl where
@@ -148,7 +148,7 @@ module _ (hosts : List Host) (addresses : HaveAddresses hosts) (m : HostMessage)
     by false e = refl
     by true e =
         let first : (receiver_now numbered x.peer link (own_calls x.host x.peer ms)).first c ≡ true =
-        ap (λ (s : Receiver). s.first c) (sym ((joined link f.off_control hosts addresses x.host x.peer ms lawful.1 time.1).received_a stays)) ∙ inv.firsts c the_end.1.end e unheard in
+        ap (λ (s : Receiver). s.first c) (sym ((joined link f.off_control hosts addresses x.host x.peer ms lawful.1 time.1).received_a stays)) ∙ inv.arrivals.firsts c the_end.1.end e unheard in
         let name : c ≡ name_now numbered x.peer (own_calls x.host x.peer ms) x.socket x.foreign =
         ap (λ (k : ℕ). name_now numbered x.peer (own_calls x.host x.peer ms) k f.end.end.foreign) own ∙ ap (λ (k : ℕ). name_now numbered x.peer (own_calls x.host x.peer ms) x.socket k) f.end.foreign in
         absurd (none (subst (λ (k : ℕ). HasClosed numbered x.peer link k (own_calls x.host x.peer ms)) name (closed_first numbered x.peer link c (own_calls x.host x.peer ms) first)))

@@ -102,7 +102,7 @@ module _ (hosts : List Host) (a b : Host) (m : HostMessage) (ms : List Moment) (
   -- and what it has counted then was sent, and so was granted before
   pub count_granted : (c : ℕ) → (receiver_now numbered b m.flow.link.0 (calls_by a b (Crossed (crossing.In m)) ms ++ own_calls a b ms)).came c ≤ ((receiver_now numbered b m.flow.link.0 (own_calls a b ms)).granted c).messages
   count_granted c =
-      let all : length (j.x.sender.sent c) ≡ j.x.receiver.came c + waiting_of c j.x.box = j.joint.inv_x.came c in
+      let all : length (j.x.sender.sent c) ≡ j.x.receiver.came c + waiting_of c j.x.box = j.joint.inv_x.arrivals.came c in
       let box : waiting_of c j.x.box ≡ (if c == boxed.connection then 1 else 0) = ap (λ (z : Box). waiting_of c z) boxed.is in
       let safe : IsSafe j.x c = safe_inv j.x j.joint.inv_x c in
       let within : length (j.x.sender.sent c) + (j.x.receiver.returned c).messages ≤ (j.x.receiver.granted c).messages = safe.sent.in_messages in
@@ -198,7 +198,7 @@ module _ (hosts : List Host) where
 
         law_most : (c : ℕ) → (receiver_now numbered b link (own_calls a b ms)).came c ≤ ((receiver_now numbered b link (own_calls a b ms)).granted c).messages
         law_most c =
-            let all : length (j.x.sender.sent c) ≡ j.x.receiver.came c + waiting_of c j.x.box = j.joint.inv_x.came c in
+            let all : length (j.x.sender.sent c) ≡ j.x.receiver.came c + waiting_of c j.x.box = j.joint.inv_x.arrivals.came c in
             let safe : IsSafe j.x c = safe_inv j.x j.joint.inv_x c in
             let within : length (j.x.sender.sent c) + (j.x.receiver.returned c).messages ≤ (j.x.receiver.granted c).messages = safe.sent.in_messages in
             let was : j.x.receiver.came c ≡ (receiver_now numbered b link (own_calls a b ms)).came c = ap (λ (s : Receiver). s.came c) (j.received_a kept.1) in

@@ -244,7 +244,7 @@ module _ (hosts : List Host) (ms : List Moment) (l : Lawful hosts ms) (x s : Lif
 
   caught_up : ((w hosts ms l x at_rest).j link_here).x.sender.sent number ≡ ((w hosts ms l x at_rest).j link_here).x.receiver.taken number ++ waiting_in ((w hosts ms l x at_rest).j link_here).x.box
   caught_up =
-      ((w hosts ms l x at_rest).j link_here).joint.inv_x.whole number (ap (λ (r : Receiver). r.end) (same hosts ms l x at_rest) ∙ is_law.end) (ap (λ (r : Receiver). r.closed) (same hosts ms l x at_rest) ∙ is_law.closed ∙ (open_parts f.end.end f.opened).unclosed)
+      ((w hosts ms l x at_rest).j link_here).joint.inv_x.arrivals.whole number (ap (λ (r : Receiver). r.end) (same hosts ms l x at_rest) ∙ is_law.end) (ap (λ (r : Receiver). r.closed) (same hosts ms l x at_rest) ∙ is_law.closed ∙ (open_parts f.end.end f.opened).unclosed)
       (ap (λ (r : Receiver). r.over number) (same hosts ms l x at_rest) ∙ is_law.over ∙ (open_parts f.end.end f.opened).unheard)
 
   all_taken : ((w hosts ms l x at_rest).j link_here).x.receiver.taken number ≡ ((w hosts ms l x at_rest).j link_here).x.sender.sent number

@@ -214,7 +214,7 @@ module _ (hosts : List Host) (y : Moment) (ms : List Moment) (l : Lawful hosts (
     -- so the sender's CLS was heard
     over : (receiver_now numbered x.peer (suc its_n) (own_calls x.host x.peer (y ∷ ms))).over
         its_c ≡ true
-    over = by (inv.known its_c (ap (λ (v : Receiver). v.asked its_c) (law_is its_n) ∙ asked)) where
+    over = by (inv.ends.known its_c (ap (λ (v : Receiver). v.asked its_c) (law_is its_n) ∙ asked)) where
       inv : Inv ((later.at_now hosts x.host x.peer (y ∷ ms) l).j its_n).x
       inv = ((later.at_now hosts x.host x.peer (y ∷ ms) l).j its_n).joint.inv_x
 
@@ -240,7 +240,7 @@ module _ (hosts : List Host) (y : Moment) (ms : List Moment) (l : Lawful hosts (
       unsaid unheard said =
           let inv : Inv ((later.at_now hosts x.host x.peer ms (below hosts y ms l)).j its_n).x = ((later.at_now hosts x.host x.peer ms (below hosts y ms l)).j its_n).joint.inv_x in
           let first : ((later.at_now hosts x.host x.peer ms (below hosts y ms l)).j its_n).x.receiver.first its_c ≡ true =
-          inv.firsts its_c (ap (λ (v : Receiver). v.end) (law_was its_n) ∙ end_was) (ap (λ (v : Receiver). v.closed) (law_was its_n) ∙ said) (ap (λ (v : Receiver). v.over its_c) (law_was its_n) ∙ unheard) in
+          inv.arrivals.firsts its_c (ap (λ (v : Receiver). v.end) (law_was its_n) ∙ end_was) (ap (λ (v : Receiver). v.closed) (law_was its_n) ∙ said) (ap (λ (v : Receiver). v.over its_c) (law_was its_n) ∙ unheard) in
           never (closed_first numbered x.peer (suc its_n) its_c (own_calls x.host x.peer ms) (ap (λ (v : Receiver). v.first its_c) (sym (law_was its_n)) ∙ first))
 
       over_was : (receiver_now numbered x.peer (suc its_n) (own_calls x.host x.peer ms)).over its_c ≡ true

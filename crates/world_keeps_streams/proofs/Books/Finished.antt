@@ -184,7 +184,7 @@ module _ (hosts : List Host) (a b : Host) (T : ℕ → List (List Bool)) (n : �
                 closed.kept_calls numbered_by_peer turned_tells a (suc m) c (calls_by b a z ms) (own_calls b a ms)
                 (subst (λ (cs : List calls.Moment). calls.IsHistory a cs) own (chain hosts l.0 (z ∷ ms) l.1 l.2 b a).0)
                 (subst (λ (cs : List calls.Moment). calls.AreAllowed numbered_by_peer a (suc m) cs) own (((at_now hosts a b (z ∷ ms) l).j m).allowed_b on))
-                (ap (λ (s : Sender). s.closed c) (sym (((at_now hosts a b ms (below hosts z ms l)).j m).sent_b both_on.1)) ∙ ((at_now hosts a b ms (below hosts z ms l)).j m).joint.inv_x.passed c (f m).0)
+                (ap (λ (s : Sender). s.closed c) (sym (((at_now hosts a b ms (below hosts z ms l)).j m).sent_b both_on.1)) ∙ ((at_now hosts a b ms (below hosts z ms l)).j m).joint.inv_x.ends.passed c (f m).0)
 
     source_on : (t : Life) → IsOf t (lives_in ms) → (o : Source ms t) → o.sender.ended ≡ true → (k : Source (z ∷ ms) t) × (k.sender.ended ≡ true)
     source_on t i o over = (

@@ -55,13 +55,13 @@ took_all : (x : Stream) → Inv x → (c : ℕ) → x.receiver.end ≡ Some c �
     → length (x.receiver.taken c) ≡ x.receiver.came c
 took_all x h c end unclosed = by (x.receiver.over c) refl where
   all : length (x.sender.sent c) ≡ x.receiver.came c + waiting_of c x.box
-  all = h.came c
+  all = h.arrivals.came c
 
   unheard_by : x.receiver.over c ≡ false → (v : Bool) → x.receiver.closed ≡ v
       → length (x.receiver.taken c) ≡ x.receiver.came c
-  unheard_by unheard true said = absurd (unlike (x.receiver.first c) (h.firsts c end said unheard) unclosed)
+  unheard_by unheard true said = absurd (unlike (x.receiver.first c) (h.arrivals.firsts c end said unheard) unclosed)
   unheard_by unheard false unsaid =
-      let is : x.sender.sent c ≡ x.receiver.taken c ++ waiting_in x.box = h.whole c end unsaid unheard in
+      let is : x.sender.sent c ≡ x.receiver.taken c ++ waiting_in x.box = h.arrivals.whole c end unsaid unheard in
       let long : length (x.sender.sent c) ≡ length (x.receiver.taken c) + length (waiting_in x.box) =
       ap (λ (ts : List (List Bool)). length ts) is ∙ length-append (x.receiver.taken c) (waiting_in x.box) in
       let box : waiting_of c x.box ≡ length (waiting_in x.box) =
@@ -69,7 +69,7 @@ took_all x h c end unclosed = by (x.receiver.over c) refl where
       omega (arith, all, long, box)
 
   by : (v : Bool) → x.receiver.over c ≡ v → length (x.receiver.taken c) ≡ x.receiver.came c
-  by true heard = ap (λ (ts : List (List Bool)). length ts) (h.settled c heard unclosed) ∙ came_inv x h c heard
+  by true heard = ap (λ (ts : List (List Bool)). length ts) (h.arrivals.settled c heard unclosed) ∙ came_inv x h c heard
   by false unheard = unheard_by unheard x.receiver.closed refl
 
 -- ---- an open life counts all that came in

@@ -75,27 +75,15 @@ fetched_inv : (y : Stream) → y.box ≡ Empty → Inv y → Inv (boxed y Taken)
 fetched_inv y free h = by (subst (λ (box : Box). Inv (boxed y box)) free h) where
   by : Inv (boxed y Empty) → Inv (boxed y Taken)
   by i = record {
-    known = i.known;
-    own = i.own;
-    passed = i.passed;
-    heard = i.heard;
-    half = i.half;
+    ends = i.ends;
     down = i.down;
     still = i.still;
     up = i.up;
-    told = i.told;
-    sized = i.sized;
+    sizes = i.sizes;
     waiting = tt;
-    whole = i.whole;
-    firsts = i.firsts;
-    settled = i.settled;
-    fronts = i.fronts;
-    unsent = i.unsent;
-    came = i.came;
+    arrivals = i.arrivals;
     account = i.account;
-    left = i.left;
-    unopened = i.unopened;
-    ungranted = i.ungranted;
+    grants = i.grants;
   }
 
 free_box : (box : Box) → IsPosted Free box → box ≡ Empty
