@@ -33,6 +33,10 @@ some_is c d e = ap value e
 
 -- ---- by connection
 
+-- two connections that are the end's
+pub both_are : (o : Option ℕ) (c k : ℕ) → o ≡ Some c → o ≡ Some k → k ≡ c
+both_are o c k e f = some_is k c (sym f ∙ e)
+
 pub at : {A : Type 0} (c : ℕ) (x : A) (f : ℕ → A) (k : ℕ) → ((k ≡ c) × (for c x f k ≡ x)) ⊎ ((k ≢ c) × (for c x f k ≡ f k))
 at {A} c x f k = by (k == c) refl where
   by : (b : Bool) → (k == c) ≡ b → ((k ≡ c) × (for c x f k ≡ x)) ⊎ ((k ≢ c) × (for c x f k ≡ f k))
@@ -137,18 +141,15 @@ number_for u k d m b f = by (k == d) refl where
   by true e = (number_added u (f d) m b ∙ ap (λ (j : ℕ). number u (f j) + amount u m b) (sym (eqb-true k d e)))
   by false e = omega arith
 
-total_more : (u : Counter) (ms : List (List Bool)) (m : List Bool) → total u (ms ++ m ∷ []) ≡ total u ms + cost u m
-total_more u [] m = omega arith
-total_more u (x ∷ ms) m = let e : total u (ms ++ m ∷ []) ≡ total u ms + cost u m = total_more u ms m in omega (arith, e)
+pub total_of : (u : Counter) (ms : List (List Bool)) (m : List Bool) → total u (ms ++ m ∷ []) ≡ total u ms + cost u m
+total_of u [] m = omega arith
+total_of u (x ∷ ms) m = let e : total u (ms ++ m ∷ []) ≡ total u ms + cost u m = total_of u ms m in omega (arith, e)
 
 pub total_for : (u : Counter) (k d : ℕ) (m : List Bool) (f : ℕ → List (List Bool)) → total u (for d (f d ++ m ∷ []) f k) ≡ total u (f k) + mine k d (cost u m)
 total_for u k d m f = by (k == d) refl where
   by : (v : Bool) → (k == d) ≡ v → total u (if v then f d ++ m ∷ [] else f k) ≡ total u (f k) + (if v then cost u m else 0)
-  by true e = (total_more u (f d) m ∙ ap (λ (j : ℕ). total u (f j) + cost u m) (sym (eqb-true k d e)))
+  by true e = (total_of u (f d) m ∙ ap (λ (j : ℕ). total u (f j) + cost u m) (sym (eqb-true k d e)))
   by false e = omega arith
-
-pub total_of : (u : Counter) (ms : List (List Bool)) (m : List Bool) → total u (ms ++ m ∷ []) ≡ total u ms + cost u m
-total_of = total_more
 
 total_append : (u : Counter) (xs ys : List (List Bool)) → total u xs ≤ total u (xs ++ ys)
 total_append u [] ys = omega arith
@@ -170,38 +171,22 @@ total_bits (m ∷ ms) = let e : total Bits ms ≡ message_bits ms = total_bits m
 abbrev pub granted_in : Counter → ℕ → List Word → ℕ
 granted_in u k [] = 0
 granted_in u k (All d m b ∷ w) = mine k d (amount u m b) + granted_in u k w
-granted_in u k (Rts d ∷ w) = granted_in u k w
-granted_in u k (Str d z ∷ w) = granted_in u k w
-granted_in u k (Gvb d m b ∷ w) = granted_in u k w
-granted_in u k (Ret d m b ∷ w) = granted_in u k w
-granted_in u k (Cls d ∷ w) = granted_in u k w
+granted_in u k (other ∷ w) = granted_in u k w
 
 abbrev pub returned_in : Counter → ℕ → List Word → ℕ
 returned_in u k [] = 0
 returned_in u k (Ret d m b ∷ w) = mine k d (amount u m b) + returned_in u k w
-returned_in u k (Rts d ∷ w) = returned_in u k w
-returned_in u k (Str d z ∷ w) = returned_in u k w
-returned_in u k (Gvb d m b ∷ w) = returned_in u k w
-returned_in u k (All d m b ∷ w) = returned_in u k w
-returned_in u k (Cls d ∷ w) = returned_in u k w
+returned_in u k (other ∷ w) = returned_in u k w
 
 pub granted_more : (u : Counter) (k : ℕ) (w : List Word) (x : Word) → granted_in u k (w ++ x ∷ []) ≡ granted_in u k w + granted_in u k (x ∷ [])
 granted_more u k [] x = omega arith
 granted_more u k (All d m b ∷ w) x = let e : granted_in u k (w ++ x ∷ []) ≡ granted_in u k w + granted_in u k (x ∷ []) = granted_more u k w x in omega (arith, e)
-granted_more u k (Rts d ∷ w) x = granted_more u k w x
-granted_more u k (Str d z ∷ w) x = granted_more u k w x
-granted_more u k (Gvb d m b ∷ w) x = granted_more u k w x
-granted_more u k (Ret d m b ∷ w) x = granted_more u k w x
-granted_more u k (Cls d ∷ w) x = granted_more u k w x
+granted_more u k (other ∷ w) x = granted_more u k w x
 
 pub returned_more : (u : Counter) (k : ℕ) (w : List Word) (x : Word) → returned_in u k (w ++ x ∷ []) ≡ returned_in u k w + returned_in u k (x ∷ [])
 returned_more u k [] x = omega arith
 returned_more u k (Ret d m b ∷ w) x = let e : returned_in u k (w ++ x ∷ []) ≡ returned_in u k w + returned_in u k (x ∷ []) = returned_more u k w x in omega (arith, e)
-returned_more u k (Rts d ∷ w) x = returned_more u k w x
-returned_more u k (Str d z ∷ w) x = returned_more u k w x
-returned_more u k (Gvb d m b ∷ w) x = returned_more u k w x
-returned_more u k (All d m b ∷ w) x = returned_more u k w x
-returned_more u k (Cls d ∷ w) x = returned_more u k w x
+returned_more u k (other ∷ w) x = returned_more u k w x
 
 -- what an end holds of a connection
 abbrev pub held : Counter → ℕ → Option ℕ → Allocation → ℕ

@@ -12,7 +12,7 @@ use Rattle.stream_law.specs.Senders.{Sender}
 use Rattle.stream_law.specs.Streams.{Stream, Box, Empty, Waiting, Taken, Event, Receives, Sends, happens, word_queued, behind, opening_stream, stream, MayHappen, IsRun}
 use Rattle.stream_law.specs.Within.{message_bits}
 use Rattle.stream_law.specs.Agreed.{IsPrompt, ArePrompt, IsAtRest, AreAgreed}
-use Rattle.stream_law.proofs.Amounts.{parts, unlike, never, some_is, at, mine, mine_same, mine_most, mine_add, Counter, Messages, Bits, number, amount, cost, total, number_all, number_spent, number_less, number_back, number_nothing, number_for, total_for, total_front, total_messages, total_bits, granted_in, granted_more, returned_in, returned_more, held, held_is}
+use Rattle.stream_law.proofs.Amounts.{parts, unlike, never, some_is, both_are, at, mine, mine_same, mine_most, mine_add, Counter, Messages, Bits, number, amount, cost, total, number_all, number_spent, number_less, number_back, number_nothing, number_for, total_for, total_front, total_messages, total_bits, granted_in, granted_more, returned_in, returned_more, held, held_is}
 use Rattle.stream_law.proofs.Words.{unless_some}
 use Rattle.stream_law.proofs.Keeps.{made, Account, Inv, waits_of, link_free}
 use Rattle.stream_law.proofs.Receives as receives
@@ -29,12 +29,15 @@ abbrev pub Fits : Receiver → Type 0
 Fits r = (r.allocation.messages ≤ 65535) × (r.allocation.bits ≤ 4294967295)
 
 -- no end of the connection closes; and where grants may be lost, the sender's has opened
-pub record IsOpen (lost : Bool) (c : ℕ) (r : Receiver) (s : Sender) : Type 0 where
-  pub end : r.end ≡ Some c
-  pub receiver : r.closed ≡ false
-  pub sender : s.closed c ≡ false
-  pub unshut : s.end ≡ Some c → s.shut ≡ false
-  pub opened : lost ≡ true → s.end ≡ Some c → s.opened ≡ true
+pub record AreOpen (lost : Bool) (c : ℕ) (receives : Option ℕ) (closing : Bool) (sends : Option ℕ) (shut begun : Bool) (closed : ℕ → Bool) : Type 0 where
+  pub end : receives ≡ Some c
+  pub receiver : closing ≡ false
+  pub sender : closed c ≡ false
+  pub unshut : sends ≡ Some c → shut ≡ false
+  pub opened : lost ≡ true → sends ≡ Some c → begun ≡ true
+
+abbrev pub IsOpen : Bool → ℕ → Receiver → Sender → Type 0
+IsOpen lost c r s = AreOpen lost c r.end r.closed s.end s.shut s.opened s.closed
 
 abbrev pub AtMostAll : Counter → ℕ → Receiver → Sender → List Word → List Word → Type 0
 AtMostAll u c r s down up = number u (r.granted c) ≤ total u (s.sent c) + held u c s.end s.allocation + granted_in u c down + returned_in u c up + number u (r.returned c)
@@ -98,7 +101,7 @@ module _ (lost : Bool) (r : Receiver) (s : Sender) (d u : List Word) (b : Box) (
     holds = λ u' k e. (
         let l : number u' r.allocation + total u' (r.taken k) + number u' (r.returned k) ≤ number u' (r.granted k) = x.holds u' k e in
         let f : number u' (for c (counters.added (r.granted c) m n) r.granted k) ≡ number u' (r.granted k) + mine k c (amount u' m n) = number_for u' k c m n r.granted in
-        let same : mine k c (amount u' m n) ≡ amount u' m n = mine_same k c (amount u' m n) (receives.both_are r.end c k end e) in
+        let same : mine k c (amount u' m n) ≡ amount u' m n = mine_same k c (amount u' m n) (both_are r.end c k end e) in
         let all : number u' (counters.granted r.allocation m n) ≡ number u' r.allocation + amount u' m n = number_all u' r.allocation m n messages bits in
         omega (arith, l, f, same, all));
     fits = (
@@ -106,7 +109,7 @@ module _ (lost : Bool) (r : Receiver) (s : Sender) (d u : List Word) (b : Box) (
       (let e : (counters.granted r.allocation m n).bits ≡ r.allocation.bits + n = number_all Bits r.allocation m n messages bits in omega (arith, e, bits)),
     );
     all = λ u' k o. (
-        let a : AtMostAll u' k r s d u = x.all u' k (record { end = o.end; receiver = o.receiver; sender = o.sender; unshut = o.unshut; opened = o.opened }) in
+        let a : AtMostAll u' k r s d u = x.all u' k o in
         let g : granted_in u' k (d ++ All c m n ∷ []) ≡ granted_in u' k d + (mine k c (amount u' m n) + 0) = granted_more u' k d (All c m n) in
         let f : number u' (for c (counters.added (r.granted c) m n) r.granted k) ≡ number u' (r.granted k) + mine k c (amount u' m n) = number_for u' k c m n r.granted in
         omega (arith, a, g, f));
@@ -129,15 +132,15 @@ module _ (lost : Bool) (r : Receiver) (s : Sender) (d u : List Word) (b : Box) (
   exact_free = record { holds = λ u' k e. absurd (cc); fits = x.fits; all = λ u' k o. (let e : None ≡ Some k = o.end in absurd (cc)) }
 
   exact_opened : Exact lost (made (record r { opened = true }) s d u b)
-  exact_opened = record { holds = x.holds; fits = x.fits; all = λ u' k o. x.all u' k (record { end = o.end; receiver = o.receiver; sender = o.sender; unshut = o.unshut; opened = o.opened }) }
+  exact_opened = record { holds = x.holds; fits = x.fits; all = x.all }
 
 -- what it hears
 module _ (lost : Bool) (r : Receiver) (s : Sender) (d rest : List Word) (b : Box) where
   exact_str : (c z : ℕ) → Exact lost (made r s d (Str c z ∷ rest) b) → Exact lost (made (receivers.hears (Str c z) r) s d rest b)
-  exact_str c z x = record { holds = x.holds; fits = x.fits; all = λ u' k o. x.all u' k (record { end = o.end; receiver = o.receiver; sender = o.sender; unshut = o.unshut; opened = o.opened }) }
+  exact_str c z x = record { holds = x.holds; fits = x.fits; all = x.all }
 
   exact_over : (c : ℕ) → Exact lost (made r s d (Cls c ∷ rest) b) → Exact lost (made (receivers.hears (Cls c) r) s d rest b)
-  exact_over c x = record { holds = x.holds; fits = x.fits; all = λ u' k o. x.all u' k (record { end = o.end; receiver = o.receiver; sender = o.sender; unshut = o.unshut; opened = o.opened }) }
+  exact_over c x = record { holds = x.holds; fits = x.fits; all = x.all }
 
   -- an end that doesn't close holds what is returned to it
   room_for : (c m n : ℕ) → r.end ≡ Some c → Inv (made r s d (Ret c m n ∷ rest) b) → (u : Counter) → amount u m n ≤ number u r.allocation
@@ -178,13 +181,13 @@ module _ (lost : Bool) (r : Receiver) (s : Sender) (d rest : List Word) (b : Box
     holds = λ u' k i. (
         let l : number u' r.allocation + total u' (r.taken k) + number u' (r.returned k) ≤ number u' (r.granted k) = x.holds u' k i in
         let f : number u' (for c (counters.added (r.returned c) m n) r.returned k) ≡ number u' (r.returned k) + mine k c (amount u' m n) = number_for u' k c m n r.returned in
-        let same : mine k c (amount u' m n) ≡ amount u' m n = mine_same k c (amount u' m n) (receives.both_are r.end c k end i) in
+        let same : mine k c (amount u' m n) ≡ amount u' m n = mine_same k c (amount u' m n) (both_are r.end c k end i) in
         let less : number u' (record { messages = r.allocation.messages - m; bits = r.allocation.bits - n }) + amount u' m n ≡ number u' r.allocation
         = number_less u' r.allocation m n (parts (receivers.is_open c r) (holds r.allocation m n) e).1 in
         omega (arith, l, f, same, less));
     fits = ((let l : r.allocation.messages ≤ 65535 = x.fits.0 in omega (arith, l)), (let l : r.allocation.bits ≤ 4294967295 = x.fits.1 in omega (arith, l)));
     all = λ u' k o. (
-        let a : AtMostAll u' k r s d (Ret c m n ∷ rest) = x.all u' k (record { end = o.end; receiver = o.receiver; sender = o.sender; unshut = o.unshut; opened = o.opened }) in
+        let a : AtMostAll u' k r s d (Ret c m n ∷ rest) = x.all u' k o in
         let f : number u' (for c (counters.added (r.returned c) m n) r.returned k) ≡ number u' (r.returned k) + mine k c (amount u' m n) = number_for u' k c m n r.returned in
         omega (arith, a, f));
   }
@@ -193,7 +196,7 @@ module _ (lost : Bool) (r : Receiver) (s : Sender) (d rest : List Word) (b : Box
     fits = x.fits;
     all = λ u' k o. (
         let a : AtMostAll u' k r s d (Ret c m n ∷ rest) = x.all u' k o in
-        let same : k ≡ c = receives.both_are r.end c k end o.end in
+        let same : k ≡ c = both_are r.end c k end o.end in
         let none : amount u' m n ≡ 0 = ret_nothing c m n end h e o.receiver (ap s.closed (sym same) ∙ o.sender) u' in
         let less : mine k c (amount u' m n) ≤ amount u' m n = mine_most k c (amount u' m n) in
         omega (arith, a, none, less));
@@ -215,14 +218,14 @@ module _ (lost : Bool) (r : Receiver) (s : Sender) (d u : List Word) (c z : ℕ)
     holds = λ u' k i. (
         let l : number u' r.allocation + total u' (r.taken k) + number u' (r.returned k) ≤ number u' (r.granted k) = x.holds u' k i in
         let f : total u' (for c (r.taken c ++ bits ∷ []) r.taken k) ≡ total u' (r.taken k) + mine k c (cost u' bits) = total_for u' k c bits r.taken in
-        let own : mine k c (cost u' bits) ≡ cost u' bits = mine_same k c (cost u' bits) (receives.both_are r.end c k end_is i) in
+        let own : mine k c (cost u' bits) ≡ cost u' bits = mine_same k c (cost u' bits) (both_are r.end c k end_is i) in
         let less : number u' (counters.spent r.allocation (length bits)) + cost u' bits ≡ number u' r.allocation
         = number_spent u' r.allocation bits (parts (receivers.is_open c r && is_size z (r.size c)) (covers r.allocation (length bits)) e).1 in
         omega (arith, l, f, own, less));
     fits = ((let l : r.allocation.messages ≤ 65535 = x.fits.0 in omega (arith, l)), (let l : r.allocation.bits ≤ 4294967295 = x.fits.1 in omega (arith, l)));
-    all = λ u' k o. x.all u' k (record { end = o.end; receiver = o.receiver; sender = o.sender; unshut = o.unshut; opened = o.opened });
+    all = x.all;
   }
-  exact_taken_if false e = record { holds = x.holds; fits = x.fits; all = λ u' k o. x.all u' k (record { end = o.end; receiver = o.receiver; sender = o.sender; unshut = o.unshut; opened = o.opened }) }
+  exact_taken_if false e = record { holds = x.holds; fits = x.fits; all = x.all }
 
   exact_take : Exact lost (made (receivers.moved (receivers.Take z bits) r) s d u Taken)
   exact_take =
@@ -251,7 +254,7 @@ module _ (lost : Bool) (r : Receiver) (s : Sender) (d u : List Word) (b : Box) (
     holds = x.holds;
     fits = x.fits;
     all = λ u' k o. (
-        let a : AtMostAll u' k r s d u = x.all u' k (record { end = o.end; receiver = o.receiver; sender = o.sender; unshut = o.unshut; opened = o.opened }) in
+        let a : AtMostAll u' k r s d u = x.all u' k o in
         let g : returned_in u' k (u ++ Str c z ∷ []) ≡ returned_in u' k u + 0 = returned_more u' k u (Str c z) in
         omega (arith, a, g));
   }
@@ -276,7 +279,7 @@ module _ (lost : Bool) (r : Receiver) (s : Sender) (d u : List Word) (b : Box) (
             opened = λ g i. absurd (cc);
           }))
       | inr other ↦
-          x.all u' k (record { end = o.end; receiver = o.receiver; sender = o.sender; unshut = o.unshut; opened = λ g i. absurd (other (receives.both_are s.end c k end i)) })
+          x.all u' k (record { end = o.end; receiver = o.receiver; sender = o.sender; unshut = o.unshut; opened = λ g i. absurd (other (both_are s.end c k end i)) })
     ]
 
   exact_boxed : (b' : Box) → Exact lost (made r s d u b')
@@ -302,7 +305,7 @@ module _ (lost : Bool) (r : Receiver) (s : Sender) (d u : List Word) (b : Box) (
     holds = x.holds;
     fits = x.fits;
     all = λ u' k o. (
-        let a : AtMostAll u' k r s d u = x.all u' k (record { end = o.end; receiver = o.receiver; sender = o.sender; unshut = o.unshut; opened = o.opened }) in
+        let a : AtMostAll u' k r s d u = x.all u' k o in
         let f : total u' (for c (s.sent c ++ bits ∷ []) s.sent k) ≡ total u' (s.sent k) + mine k c (cost u' bits) = total_for u' k c bits s.sent in
         let before : held u' k s.end s.allocation ≡ mine k c (number u' s.allocation) = held_is u' k c s.end s.allocation end in
         let after : held u' k s.end (counters.spent s.allocation (length bits)) ≡ mine k c (number u' (counters.spent s.allocation (length bits))) = held_is u' k c s.end (counters.spent s.allocation (length bits)) end in
@@ -351,7 +354,7 @@ module _ (lost : Bool) (r : Receiver) (s : Sender) (rest u : List Word) (b : Box
     holds = x.holds;
     fits = x.fits;
     all = λ u' k o. (
-        let a : AtMostAll u' k r s (All c m n ∷ rest) u = x.all u' k (record { end = o.end; receiver = o.receiver; sender = o.sender; unshut = o.unshut; opened = o.opened }) in
+        let a : AtMostAll u' k r s (All c m n ∷ rest) u = x.all u' k o in
         let before : held u' k s.end s.allocation ≡ mine k c (number u' s.allocation) = held_is u' k c s.end s.allocation end in
         let after : held u' k s.end (counters.granted s.allocation m n) ≡ mine k c (number u' (counters.granted s.allocation m n)) = held_is u' k c s.end (counters.granted s.allocation m n) end in
         let more : mine k c (number u' s.allocation) + mine k c (amount u' m n) ≤ mine k c (number u' (counters.granted s.allocation m n)) = grows u' k o.end (is_same k c) in
@@ -395,7 +398,7 @@ module _ (lost : Bool) (r : Receiver) (s : Sender) (rest u : List Word) (b : Box
     holds = x.holds;
     fits = x.fits;
     all = λ u' k o. (
-        let a : AtMostAll u' k r s (Gvb c m n ∷ rest) u = x.all u' k (record { end = o.end; receiver = o.receiver; sender = o.sender; unshut = o.unshut; opened = o.opened }) in
+        let a : AtMostAll u' k r s (Gvb c m n ∷ rest) u = x.all u' k o in
         let before : held u' k s.end s.allocation ≡ mine k c (number u' s.allocation) = held_is u' k c s.end s.allocation end in
         let after : held u' k s.end (counters.given_back s.allocation m n) ≡ mine k c (number u' (counters.given_back s.allocation m n)) = held_is u' k c s.end (counters.given_back s.allocation m n) end in
         let less : mine k c (number u' (counters.given_back s.allocation m n)) + mine k c (amount u' (counters.share s.allocation.messages m) (counters.share s.allocation.bits n)) ≡ mine k c (number u' s.allocation)
@@ -420,7 +423,7 @@ module _ (lost : Bool) (r : Receiver) (s : Sender) (rest u : List Word) (b : Box
     fits = x.fits;
     all = λ u' k o. (
         let other : k ≢ c = λ same. unlike (s.closed c) closed (ap s.closed (sym same) ∙ o.sender) in
-        let a : AtMostAll u' k r s (Cls c ∷ rest) u = x.all u' k (record { end = o.end; receiver = o.receiver; sender = o.sender; unshut = λ e. absurd (other (receives.both_are s.end c k end e)); opened = λ g e. absurd (other (receives.both_are s.end c k end e)) }) in
+        let a : AtMostAll u' k r s (Cls c ∷ rest) u = x.all u' k (record { end = o.end; receiver = o.receiver; sender = o.sender; unshut = λ e. absurd (other (both_are s.end c k end e)); opened = λ g e. absurd (other (both_are s.end c k end e)) }) in
         let before : held u' k s.end s.allocation ≡ mine k c (number u' s.allocation) = held_is u' k c s.end s.allocation end in
         let none : mine k c (number u' s.allocation) ≡ 0 = mine_other k c (number u' s.allocation) other in
         omega (arith, a, before, none));

@@ -7,17 +7,13 @@ use Rattle.stream_law.specs.Receivers.{Receiver}
 use Rattle.stream_law.specs.Senders.{Sender}
 use Rattle.stream_law.specs.Streams.{Stream, Box, Empty, Waiting, Taken}
 use Rattle.stream_law.specs.Within.{IsPrefix, waiting_in}
-use Rattle.stream_law.proofs.Amounts.{parts, not_true, unlike, some_is, at, for_here, for_more, for_less, mine, mine_same, mine_most, number, amount, cost, total, number_all, number_spent, number_less, number_for, total_for, granted_in, granted_more}
+use Rattle.stream_law.proofs.Amounts.{parts, not_true, unlike, some_is, both_are, at, for_here, for_more, for_less, mine, mine_same, mine_most, number, amount, cost, total, number_all, number_spent, number_less, number_for, total_for, granted_in, granted_more}
 use Rattle.stream_law.proofs.Words.{unless, unless_none, DownFits, down_more, no_rts_said, down_said, down_asked, up_more, closed_more}
 use Rattle.stream_law.proofs.Keeps.{made, Account, Inv, all_over, sole, waits_for, waits_of, acceptable}
 
 -- the last connection of which anything was said
 last_of : (r : Receiver) (c : ℕ) → r.end ≡ Some c → r.closed ≡ false → unless r.closed r.end ≡ Some c
 last_of r c end closed = ap (λ (v : Bool). unless v r.end) closed ∙ end
-
--- two connections that are the end's
-pub both_are : (o : Option ℕ) (c k : ℕ) → o ≡ Some c → o ≡ Some k → k ≡ c
-both_are o c k e f = some_is k c (sym f ∙ e)
 
 pub opens : (c : ℕ) (r : Receiver) → receivers.is_open c r ≡ true → (r.opened ≡ true) × (r.closed ≡ false) × (r.over c ≡ false)
 opens c r e =

@@ -10,7 +10,7 @@ use Rattle.stream_law.specs.Senders as senders
 use Rattle.stream_law.specs.Senders.{Sender}
 use Rattle.stream_law.specs.Streams.{Box, Empty, Waiting, Taken, word_queued}
 use Rattle.stream_law.specs.Within.{IsPrefix}
-use Rattle.stream_law.proofs.Amounts.{parts, not_true, unlike, never, some_is, at, for_here, for_more, for_less, mine, mine_add, mine_within, Counter, number, amount, cost, total, number_granted, number_spent, number_back, number_nothing, total_for, returned_in, returned_more, held, held_is}
+use Rattle.stream_law.proofs.Amounts.{parts, not_true, unlike, never, some_is, both_are, at, for_here, for_more, for_less, mine, mine_add, mine_within, Counter, number, amount, cost, total, number_granted, number_spent, number_back, number_nothing, total_for, returned_in, returned_more, held, held_is}
 use Rattle.stream_law.proofs.Words.{unless, unless_none, unless_some, DownFits, up_more, up_said}
 use Rattle.stream_law.proofs.Keeps.{made, Waits, Account, Inv, sole, link_free}
 
@@ -19,9 +19,6 @@ opens c s e =
     let p : ((s.opened && not s.shut) ≡ true) × (not (s.closed c) ≡ true) = parts (s.opened && not s.shut) (not (s.closed c)) e in
     let q : (s.opened ≡ true) × (not s.shut ≡ true) = parts s.opened (not s.shut) p.0 in
     (q.0, not_true s.shut q.1, not_true (s.closed c) p.1)
-
-both_are : (o : Option ℕ) (c k : ℕ) → o ≡ Some c → o ≡ Some k → k ≡ c
-both_are o c k e f = some_is k c (sym f ∙ e)
 
 -- a size that is said once stays so
 size_more : (c z : ℕ) (size : ℕ → Option ℕ) → size c ≡ None → (k y : ℕ) → size k ≡ Some y → for c (Some z) size k ≡ Some y
