@@ -11,8 +11,8 @@ use Rattle.stream_law.specs.Senders.{Sender}
 use Rattle.stream_law.specs.Streams.{Box, Empty, Waiting, Taken, word_queued}
 use Rattle.stream_law.specs.Within.{IsPrefix}
 use Rattle.stream_law.proofs.Amounts.{parts, not_true, unlike, never, some_is, both_are, at, for_here, for_more, for_less, mine, mine_add, mine_within, Counter, number, amount, cost, total, number_granted, number_spent, number_back, number_nothing, total_for, returned_in, returned_more, held, held_is}
-use Rattle.stream_law.proofs.Words.{unless, unless_none, unless_some, DownFits, up_more, up_said}
-use Rattle.stream_law.proofs.Keeps.{made, Waits, Account, Inv, sole, link_free}
+use Rattle.stream_law.proofs.Words.{unless, unless_none, unless_some, NoRts, DownFits, UpFits, up_more, up_said}
+use Rattle.stream_law.proofs.Keeps.{made, Down, Waits, Account, Inv, sole, link_free}
 
 pub opens : (c : ℕ) (s : Sender) → senders.is_open c s ≡ true → (s.opened ≡ true) × (s.shut ≡ false) × (s.closed c ≡ false)
 opens c s e =
@@ -243,6 +243,22 @@ kept_told r s d u h = record {
   grants = h.grants;
 }
 
+-- what it may send and what is under way change, and nothing else does
+reallocated : (r : Receiver) (s : Sender) (d u : List Word) (b : Box) → Inv (made r s d u b) → (a : Allocation) (down up : List Word)
+    → Down r s down → (NoRts d → NoRts down) → UpFits r.over r.asked s.closed s.size up
+    → ((u' : Counter) (k : ℕ) → Account u' k r (record s { allocation = a }) down up) → Inv (made r (record s { allocation = a }) down up b)
+reallocated r s d u b h a down up fits still fits_up account = record {
+  ends = h.ends;
+  down = fits;
+  still = λ k e f. still (h.still k e f);
+  up = fits_up;
+  sizes = h.sizes;
+  waiting = h.waiting;
+  arrivals = h.arrivals;
+  account = account;
+  grants = h.grants;
+}
+
 -- it hears what the receiver said
 module _ (r : Receiver) (s : Sender) (rest u : List Word) (b : Box) where
   begun : (c : ℕ) → s.end ≡ None → Inv (made r s (Rts c ∷ rest) u b) → Inv (made r (senders.begins c None s) rest u b)
@@ -280,34 +296,16 @@ module _ (r : Receiver) (s : Sender) (rest u : List Word) (b : Box) where
   granted_to c m n h = (unless_some s.shut s.end c h.down.0).0
 
   granted_if : (c m n : ℕ) → s.end ≡ Some c → Inv (made r s (All c m n ∷ rest) u b) → (v : Bool) → Inv (made r (if v then record s { allocation = counters.granted s.allocation m n } else s) rest u b)
-  granted_if c m n end h true = record {
-    ends = h.ends;
-    down = h.down.1;
-    still = h.still;
-    up = h.up;
-    sizes = h.sizes;
-    waiting = h.waiting;
-    arrivals = h.arrivals;
-    account = λ u' k. (
-        let a : Account u' k r s (All c m n ∷ rest) u = h.account u' k in
-        let before : held u' k s.end s.allocation ≡ mine k c (number u' s.allocation) = held_is u' k c s.end s.allocation end in
-        let after : held u' k s.end (counters.granted s.allocation m n) ≡ mine k c (number u' (counters.granted s.allocation m n)) = held_is u' k c s.end (counters.granted s.allocation m n) end in
-        let more : mine k c (number u' (counters.granted s.allocation m n)) ≤ mine k c (number u' s.allocation) + mine k c (amount u' m n)
-        = mine_within k c (number u' (counters.granted s.allocation m n)) (number u' s.allocation) (amount u' m n) (number_granted u' s.allocation m n) in
-        omega (arith, a, before, after, more));
-    grants = h.grants;
-  }
-  granted_if c m n end h false = record {
-    ends = h.ends;
-    down = h.down.1;
-    still = h.still;
-    up = h.up;
-    sizes = h.sizes;
-    waiting = h.waiting;
-    arrivals = h.arrivals;
-    account = λ u' k. (let a : Account u' k r s (All c m n ∷ rest) u = h.account u' k in omega (arith, a));
-    grants = h.grants;
-  }
+  granted_if c m n end h true =
+      reallocated r s (All c m n ∷ rest) u b h (counters.granted s.allocation m n) rest u h.down.1 (λ q. q) h.up (λ u' k. (
+      let a : Account u' k r s (All c m n ∷ rest) u = h.account u' k in
+      let before : held u' k s.end s.allocation ≡ mine k c (number u' s.allocation) = held_is u' k c s.end s.allocation end in
+      let after : held u' k s.end (counters.granted s.allocation m n) ≡ mine k c (number u' (counters.granted s.allocation m n)) = held_is u' k c s.end (counters.granted s.allocation m n) end in
+      let more : mine k c (number u' (counters.granted s.allocation m n)) ≤ mine k c (number u' s.allocation) + mine k c (amount u' m n)
+      = mine_within k c (number u' (counters.granted s.allocation m n)) (number u' s.allocation) (amount u' m n) (number_granted u' s.allocation m n) in
+      omega (arith, a, before, after, more)))
+  granted_if c m n end h false =
+      reallocated r s (All c m n ∷ rest) u b h s.allocation rest u h.down.1 (λ q. q) h.up (λ u' k. (let a : Account u' k r s (All c m n ∷ rest) u = h.account u' k in omega (arith, a)))
 
   pub kept_all : (c m n : ℕ) → Inv (made r s (All c m n ∷ rest) u b) → Inv (made r (senders.with_allocation s.end (λ a. counters.granted a m n) s) rest u b)
   kept_all c m n h =
@@ -319,40 +317,24 @@ module _ (r : Receiver) (s : Sender) (rest u : List Word) (b : Box) where
 
   returned_if : (c m n : ℕ) → s.end ≡ Some c → Inv (made r s (Gvb c m n ∷ rest) u b) → (v : Bool) → senders.is_open c s ≡ v
       → Inv (made r (if v then record s { allocation = counters.given_back s.allocation m n } else s) rest (word_queued (if v then Some (Ret c (counters.share s.allocation.messages m) (counters.share s.allocation.bits n)) else None) u) b)
-  returned_if c m n end h true e = record {
-    ends = h.ends;
-    down = h.down.1;
-    still = h.still;
-    up = up_said r.asked s.closed s.size (Ret c (counters.share s.allocation.messages m) (counters.share s.allocation.bits n))
-        (λ over f. (never_over over f, h.ends.heard c end, tt)) r.over u h.ends.passed h.up;
-    sizes = h.sizes;
-    waiting = h.waiting;
-    arrivals = h.arrivals;
-    account = λ u' k. (
-        let a : Account u' k r s (Gvb c m n ∷ rest) u = h.account u' k in
-        let before : held u' k s.end s.allocation ≡ mine k c (number u' s.allocation) = held_is u' k c s.end s.allocation end in
-        let after : held u' k s.end (counters.given_back s.allocation m n) ≡ mine k c (number u' (counters.given_back s.allocation m n)) = held_is u' k c s.end (counters.given_back s.allocation m n) end in
-        let less : mine k c (number u' (counters.given_back s.allocation m n)) + mine k c (amount u' (counters.share s.allocation.messages m) (counters.share s.allocation.bits n)) ≡ mine k c (number u' s.allocation)
-        = mine_add k c (number u' (counters.given_back s.allocation m n)) (amount u' (counters.share s.allocation.messages m) (counters.share s.allocation.bits n)) (number u' s.allocation) (number_back u' s.allocation m n) in
-        let g : returned_in u' k (u ++ Ret c (counters.share s.allocation.messages m) (counters.share s.allocation.bits n) ∷ [])
-        ≡ returned_in u' k u + (mine k c (amount u' (counters.share s.allocation.messages m) (counters.share s.allocation.bits n)) + 0)
-        = returned_more u' k u (Ret c (counters.share s.allocation.messages m) (counters.share s.allocation.bits n)) in
-        omega (arith, a, before, after, less, g));
-    grants = h.grants;
-  } where
-    never_over : (over : ℕ → Bool) → ((k : ℕ) → over k ≡ true → s.closed k ≡ true) → over c ≡ false
-    never_over over f = never (over c) (λ o. unlike (s.closed c) (f c o) (opens c s e).2)
-  returned_if c m n end h false e = record {
-    ends = h.ends;
-    down = h.down.1;
-    still = h.still;
-    up = h.up;
-    sizes = h.sizes;
-    waiting = h.waiting;
-    arrivals = h.arrivals;
-    account = h.account;
-    grants = h.grants;
-  }
+  returned_if c m n end h true e =
+      reallocated r s (Gvb c m n ∷ rest) u b h (counters.given_back s.allocation m n) rest (u ++ share ∷ []) h.down.1 (λ q. q)
+      (up_said r.asked s.closed s.size share (λ over f. (never_over over f, h.ends.heard c end, tt)) r.over u h.ends.passed h.up) (λ u' k. (
+      let a : Account u' k r s (Gvb c m n ∷ rest) u = h.account u' k in
+      let before : held u' k s.end s.allocation ≡ mine k c (number u' s.allocation) = held_is u' k c s.end s.allocation end in
+      let after : held u' k s.end (counters.given_back s.allocation m n) ≡ mine k c (number u' (counters.given_back s.allocation m n)) = held_is u' k c s.end (counters.given_back s.allocation m n) end in
+      let less : mine k c (number u' (counters.given_back s.allocation m n)) + mine k c (amount u' (counters.share s.allocation.messages m) (counters.share s.allocation.bits n)) ≡ mine k c (number u' s.allocation)
+      = mine_add k c (number u' (counters.given_back s.allocation m n)) (amount u' (counters.share s.allocation.messages m) (counters.share s.allocation.bits n)) (number u' s.allocation) (number_back u' s.allocation m n) in
+      let g : returned_in u' k (u ++ share ∷ [])
+      ≡ returned_in u' k u + (mine k c (amount u' (counters.share s.allocation.messages m) (counters.share s.allocation.bits n)) + 0)
+      = returned_more u' k u share in
+      omega (arith, a, before, after, less, g))) where
+        share : Word
+        share = Ret c (counters.share s.allocation.messages m) (counters.share s.allocation.bits n)
+
+        never_over : (over : ℕ → Bool) → ((k : ℕ) → over k ≡ true → s.closed k ≡ true) → over c ≡ false
+        never_over over f = never (over c) (λ o. unlike (s.closed c) (f c o) (opens c s e).2)
+  returned_if c m n end h false e = reallocated r s (Gvb c m n ∷ rest) u b h s.allocation rest u h.down.1 (λ q. q) h.up h.account
 
   pub kept_gvb : (c m n : ℕ) → Inv (made r s (Gvb c m n ∷ rest) u b)
       → Inv (made r (senders.with_allocation s.end (λ a. counters.given_back a m n) s) rest (word_queued (senders.returns m n s.end s) u) b)
