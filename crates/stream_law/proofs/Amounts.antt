@@ -5,7 +5,7 @@ use Rattle.std.proofs.Math.Nat.{min-le_left, min-eq_left}
 use Rattle.ncp_control.specs.Allocation as counters
 use Rattle.ncp_control.specs.declared.allocation.Allocation.{Allocation}
 use Rattle.ncp_control.proofs.lemmas.{share-le}
-use Rattle.stream_law.specs.Words.{Word, Rts, Str, All, Gvb, Ret, Cls, for, covers, holds}
+use Rattle.stream_law.specs.Words.{Word, All, Ret, for, covers, holds}
 use Rattle.stream_law.specs.Within.{message_bits, IsPrefix}
 
 pub parts : (a b : Bool) → (a && b) ≡ true → (a ≡ true) × (b ≡ true)

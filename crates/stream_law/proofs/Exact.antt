@@ -456,8 +456,7 @@ exact_told lost r s rest u b (Rts c) p h x = exact_rts lost r s rest u b lost c 
 exact_told lost r s rest u b (All c m n) p h x = exact_all lost r s rest u b c m n p h x
 exact_told lost r s rest u b (Gvb c m n) p h x = exact_gvb lost r s rest u b c m n h x
 exact_told lost r s rest u b (Cls c) p h x = exact_cls lost r s rest u b c h x
-exact_told lost r s rest u b (Str c z) p h x = absurd (h.down)
-exact_told lost r s rest u b (Ret c m n) p h x = absurd (h.down)
+exact_told lost r s rest u b w p h x = absurd (h.down)
 
 pub exact_kept : (lost : Bool) (e : Event) (y : Stream) → MayHappen e y → IsKept lost e y → Inv y → Exact lost y → Exact lost (happens e y)
 exact_kept lost (Receives (receivers.Ask c)) y m p h x = exact_ask lost y.receiver y.sender y.to_sender y.to_receiver y.box h x c m.0.1
@@ -488,13 +487,9 @@ told_kept (All c m n) x p = λ e. p
 told_kept w x p = tt
 
 prompt_kept : (e : Event) (x : Stream) → IsPrompt e x → IsKept false e x
-prompt_kept (Receives m) x p = tt
-prompt_kept (Sends (senders.Ask c z)) x p = tt
 prompt_kept (Sends (senders.Open c)) x p = λ e o. absurd (cc)
-prompt_kept (Sends (senders.Send c z bits)) x p = tt
-prompt_kept (Sends (senders.Close c)) x p = tt
 prompt_kept (Sends (senders.Hear w)) x p = told_kept w x p
-prompt_kept (Sends senders.Told) x p = tt
+prompt_kept e x p = tt
 
 exact_run : (events : List Event) → IsRun events → ArePrompt events → Exact false (stream events)
 exact_run [] run prompt = exact_opening false

@@ -58,8 +58,7 @@ heard_by_sender r s rest u b (Rts c) h = sends.kept_rts r s rest u b c h
 heard_by_sender r s rest u b (All c m n) h = sends.kept_all r s rest u b c m n h
 heard_by_sender r s rest u b (Gvb c m n) h = sends.kept_gvb r s rest u b c m n h
 heard_by_sender r s rest u b (Cls c) h = sends.kept_cls r s rest u b c h
-heard_by_sender r s rest u b (Str c z) h = absurd (h.down)
-heard_by_sender r s rest u b (Ret c m n) h = absurd (h.down)
+heard_by_sender r s rest u b w h = absurd (h.down)
 
 pub kept : (e : Event) (x : Stream) → MayHappen e x → Inv x → Inv (happens e x)
 kept (Receives (receivers.Ask c)) x m h = receives.kept_ask x.receiver x.sender x.to_sender x.to_receiver x.box h c m.0.0 m.0.1
