@@ -29,7 +29,7 @@ abbrev pub Fits : Receiver → Type 0
 Fits r = (r.allocation.messages ≤ 65535) × (r.allocation.bits ≤ 4294967295)
 
 -- no end of the connection closes; and where grants may be lost, the sender's has opened
-pub record AreOpen (lost : Bool) (c : ℕ) (receives : Option ℕ) (closing : Bool) (sends : Option ℕ) (shut begun : Bool) (closed : ℕ → Bool) : Type 0 where
+pub record AreOpen (lost : Bool) (c : ℕ) (receives sends : Option ℕ) (closing shut begun : Bool) (closed : ℕ → Bool) : Type 0 where
   pub end : receives ≡ Some c
   pub receiver : closing ≡ false
   pub sender : closed c ≡ false
@@ -37,7 +37,7 @@ pub record AreOpen (lost : Bool) (c : ℕ) (receives : Option ℕ) (closing : Bo
   pub opened : lost ≡ true → sends ≡ Some c → begun ≡ true
 
 abbrev pub IsOpen : Bool → ℕ → Receiver → Sender → Type 0
-IsOpen lost c r s = AreOpen lost c r.end r.closed s.end s.shut s.opened s.closed
+IsOpen lost c r s = AreOpen lost c r.end s.end r.closed s.shut s.opened s.closed
 
 abbrev pub AtMostAll : Counter → ℕ → Receiver → Sender → List Word → List Word → Type 0
 AtMostAll u c r s down up = number u (r.granted c) ≤ total u (s.sent c) + held u c s.end s.allocation + granted_in u c down + returned_in u c up + number u (r.returned c)

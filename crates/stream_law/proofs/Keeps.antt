@@ -37,7 +37,7 @@ Account u c r s down up = total u (s.sent c) + held u c s.end s.allocation + gra
 -- ---- groups by what they speak of: a step passes on as it is each group of which it changes nothing
 
 -- the two ends, and the connections that were asked for, are over, and are closed by the sender
-pub record Ends (receives : Option ℕ) (asked over : ℕ → Bool) (sends : Option ℕ) (shut : Bool) (closed : ℕ → Bool) : Type 0 where
+pub record Ends (receives sends : Option ℕ) (asked over closed : ℕ → Bool) (shut : Bool) : Type 0 where
   -- what was asked for has the link, or is over
   pub known : (c : ℕ) → asked c ≡ true → (receives ≡ Some c) ⊎ (over c ≡ true)
   pub own : (c : ℕ) → receives ≡ Some c → asked c ≡ true
@@ -52,8 +52,8 @@ pub record Sizes (end : Option ℕ) (opened : Bool) (heard said : ℕ → Option
   pub sized : (c : ℕ) → end ≡ Some c → opened ≡ true → is_some (heard c) ≡ true
 
 -- the messages that were sent, that wait, that came and that were taken
-pub record Arrivals (end : Option ℕ) (closed : Bool) (asked over first : ℕ → Bool) (taken : ℕ → List (List Bool)) (count : ℕ → ℕ)
-    (sent : ℕ → List (List Bool)) (waiting : List (List Bool)) (waits : ℕ → ℕ) : Type 0 where
+pub record Arrivals (end : Option ℕ) (closed : Bool) (asked over first : ℕ → Bool) (taken sent : ℕ → List (List Bool))
+    (waiting : List (List Bool)) (count waits : ℕ → ℕ) : Type 0 where
   -- an end that isn't closing took all but what waits
   pub whole : (c : ℕ) → end ≡ Some c → closed ≡ false → over c ≡ false → sent c ≡ taken c ++ waiting
   -- an end that closes, and that hasn't heard the sender's CLS, said its own first
@@ -66,30 +66,28 @@ pub record Arrivals (end : Option ℕ) (closed : Bool) (asked over first : ℕ �
   pub came : (c : ℕ) → length (sent c) ≡ count c + waits c
 
 -- the amounts that the receiver granted
-pub record Grants (end : Option ℕ) (opened : Bool) (allocation : Allocation) (asked : ℕ → Bool) (granted returned : ℕ → Allocation) (taken : ℕ → List (List Bool)) : Type 0 where
-  pub left : (u : Counter) (c : ℕ) → end ≡ Some c → number u (granted c) ≤ number u allocation + total u (taken c) + number u (returned c)
+pub record Grants (end : Option ℕ) (opened : Bool) (asked : ℕ → Bool) (allocation : Allocation) (granted returned : ℕ → Allocation)
+    (taken : ℕ → List (List Bool)) : Type 0 where
+  pub left : (u : Counter) (c : ℕ) → end ≡ Some c
+      → number u (granted c) ≤ number u allocation + total u (taken c) + number u (returned c)
   pub unopened : (u : Counter) (c : ℕ) → end ≡ Some c → opened ≡ false → number u (granted c) ≡ 0
   pub ungranted : (u : Counter) (c : ℕ) → asked c ≡ false → number u (granted c) ≡ 0
-
-abbrev pub GrantsOf : Receiver → Type 0
-GrantsOf r = Grants r.end r.opened r.allocation r.asked r.granted r.returned r.taken
-
-abbrev pub ArrivalsOf : Receiver → Sender → Box → Type 0
-ArrivalsOf r s box = Arrivals r.end r.closed r.asked r.over r.first r.taken r.came s.sent (waiting_in box) (λ c. waiting_of c box)
 
 -- ---- all of it
 
 pub record Inv (x : Stream) : Type 0 where
-  pub ends : Ends x.receiver.end x.receiver.asked x.receiver.over x.sender.end x.sender.shut x.sender.closed
+  pub ends : Ends x.receiver.end x.sender.end x.receiver.asked x.receiver.over x.sender.closed x.sender.shut
   pub down : Down x.receiver x.sender x.to_sender
   -- no other connection is asked for while the sender's end isn't closed
   pub still : (c : ℕ) → x.sender.end ≡ Some c → x.sender.closed c ≡ false → NoRts x.to_sender
   pub up : UpFits x.receiver.over x.receiver.asked x.sender.closed x.sender.size x.to_receiver
   pub sizes : Sizes x.receiver.end x.receiver.opened x.receiver.size x.sender.size
   pub waiting : Waits x.sender x.box
-  pub arrivals : ArrivalsOf x.receiver x.sender x.box
+  pub arrivals : Arrivals x.receiver.end x.receiver.closed x.receiver.asked x.receiver.over x.receiver.first
+      x.receiver.taken x.sender.sent (waiting_in x.box) x.receiver.came (λ c. waiting_of c x.box)
   pub account : (u : Counter) (c : ℕ) → Account u c x.receiver x.sender x.to_sender x.to_receiver
-  pub grants : GrantsOf x.receiver
+  pub grants : Grants x.receiver.end x.receiver.opened x.receiver.asked x.receiver.allocation
+      x.receiver.granted x.receiver.returned x.receiver.taken
 
 -- ---- what follows
 

@@ -7,7 +7,7 @@ use Rattle.stream_law.specs.Receivers.{Receiver}
 use Rattle.stream_law.specs.Senders.{Sender}
 use Rattle.stream_law.specs.Streams.{Stream, Box, Empty, Waiting, Taken}
 use Rattle.stream_law.specs.Within.{IsPrefix, waiting_in}
-use Rattle.stream_law.proofs.Amounts.{parts, not_true, unlike, some_is, both_are, at, for_here, for_more, for_less, mine, mine_same, mine_most, number, amount, cost, total, number_all, number_spent, number_less, number_for, total_for, granted_in, granted_more}
+use Rattle.stream_law.proofs.Amounts.{parts, not_true, unlike, some_is, both_are, at, for_here, for_more, for_less, mine, mine_same, mine_most, Counter, number, amount, cost, total, number_all, number_spent, number_less, number_for, total_for, granted_in, granted_more}
 use Rattle.stream_law.proofs.Words.{unless, unless_none, DownFits, down_more, no_rts_said, down_said, down_asked, up_more, closed_more}
 use Rattle.stream_law.proofs.Keeps.{made, Account, Inv, all_over, sole, waits_for, waits_of, acceptable}
 
@@ -42,18 +42,17 @@ none_closed x h c end closed Taken e = refl
 -- ---- whose CLS was first
 
 -- an end that says its CLS, and has heard none, says it first
-firsts_closed : (c k : ℕ) (r : Receiver) → r.end ≡ Some c → r.end ≡ Some k → r.over k ≡ false → (receivers.closes c r).first k ≡ true
-firsts_closed c k r end e g =
-    let same : k ≡ c = both_are r.end c k end e in
+firsts_closed : (c k : ℕ) (r : Receiver) → k ≡ c → r.over k ≡ false → (receivers.closes c r).first k ≡ true
+firsts_closed c k r same g =
     let before : r.over c ≡ false = ap r.over (sym same) ∙ g in
     subst (λ (v : Bool). (if v then r.first else for c true r.first) k ≡ true) (sym before) (ap (for c true r.first) same ∙ for_here c true r.first)
 
-settled_closed : (c k : ℕ) (r : Receiver) (s : Sender) → (r.first k ≡ false → r.taken k ≡ s.sent k) → (receivers.closes c r).first k ≡ false
-    → r.taken k ≡ s.sent k
-settled_closed c k r s h first = by (r.over c) first where
-  by : (v : Bool) → (if v then r.first else for c true r.first) k ≡ false → r.taken k ≡ s.sent k
-  by true f = h f
-  by false f = h (for_less c r.first k f)
+-- and one that isn't the first now wasn't before
+first_less : (c k : ℕ) (r : Receiver) → (receivers.closes c r).first k ≡ false → r.first k ≡ false
+first_less c k r first = by (r.over c) first where
+  by : (v : Bool) → (if v then r.first else for c true r.first) k ≡ false → r.first k ≡ false
+  by true f = f
+  by false f = for_less c r.first k f
 
 -- where the sender's CLS comes to be heard first, all that was sent was taken
 settled_heard : (x : Stream) → Inv x → (c : ℕ) → x.sender.closed c ≡ true → x.receiver.first c ≡ false → x.receiver.taken c ≡ x.sender.sent c
@@ -103,8 +102,8 @@ module _ (r : Receiver) (s : Sender) (d u : List Word) (b : Box) (h : Inv (made 
     };
     account = λ u' k. (let a : Account u' k r s d u = h.account u' k in let g : granted_in u' k (d ++ Rts c ∷ []) ≡ granted_in u' k d + 0 = granted_more u' k d (Rts c) in omega (arith, a, g));
     grants = record {
-      left = λ u' k e. (let g : number u' (r.granted k) ≡ 0 = subst (λ (j : ℕ). number u' (r.granted j) ≡ 0) (some_is c k e) (h.grants.ungranted u' c fresh) in omega (arith, g));
-      unopened = λ u' k e f. subst (λ (j : ℕ). number u' (r.granted j) ≡ 0) (some_is c k e) (h.grants.ungranted u' c fresh);
+      left = λ u' k e. (let g : number u' (r.granted k) ≡ 0 = ungranted u' k e in omega (arith, g));
+      unopened = λ u' k e f. ungranted u' k e;
       ungranted = λ u' k e. h.grants.ungranted u' k (for_less c r.asked k e);
     };
   } where
@@ -113,6 +112,9 @@ module _ (r : Receiver) (s : Sender) (d u : List Word) (b : Box) (h : Inv (made 
 
     before : DownFits r.over r.asked (unless s.shut s.end) d None
     before = subst (λ (o : Option ℕ). DownFits r.over r.asked (unless s.shut s.end) d o) (ap (λ (o : Option ℕ). unless r.closed o) none ∙ unless_none r.closed) h.down
+
+    ungranted : (u' : Counter) (k : ℕ) → Some c ≡ Some k → number u' (r.granted k) ≡ 0
+    ungranted u' k e = subst (λ (j : ℕ). number u' (r.granted j) ≡ 0) (some_is c k e) (h.grants.ungranted u' c fresh)
 
     untaken : r.taken c ≡ []
     untaken = no_front (r.taken c) (subst (λ (l : List (List Bool)). IsPrefix (r.taken c) l) (h.arrivals.unsent c fresh) (h.arrivals.fronts c))
@@ -190,8 +192,8 @@ module _ (r : Receiver) (s : Sender) (d u : List Word) (b : Box) (h : Inv (made 
     waiting = h.waiting;
     arrivals = record {
       whole = λ k e f g. absurd (cc);
-      firsts = λ k e f g. firsts_closed c k r end e g;
-      settled = λ k e f. settled_closed c k r s (h.arrivals.settled k e) f;
+      firsts = λ k e f g. firsts_closed c k r (both_are r.end c k end e) g;
+      settled = λ k e f. h.arrivals.settled k e (first_less c k r f);
       fronts = h.arrivals.fronts;
       unsent = h.arrivals.unsent;
       came = h.arrivals.came;

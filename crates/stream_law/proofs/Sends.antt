@@ -244,9 +244,10 @@ kept_told r s d u h = record {
 }
 
 -- what it may send and what is under way change, and nothing else does
-reallocated : (r : Receiver) (s : Sender) (d u : List Word) (b : Box) → Inv (made r s d u b) → (a : Allocation) (down up : List Word)
-    → Down r s down → (NoRts d → NoRts down) → UpFits r.over r.asked s.closed s.size up
-    → ((u' : Counter) (k : ℕ) → Account u' k r (record s { allocation = a }) down up) → Inv (made r (record s { allocation = a }) down up b)
+reallocated : (r : Receiver) (s : Sender) (d u : List Word) (b : Box) → Inv (made r s d u b)
+    → (a : Allocation) (down up : List Word) → Down r s down → (NoRts d → NoRts down) → UpFits r.over r.asked s.closed s.size up
+    → ((u' : Counter) (k : ℕ) → Account u' k r (record s { allocation = a }) down up)
+    → Inv (made r (record s { allocation = a }) down up b)
 reallocated r s d u b h a down up fits still fits_up account = record {
   ends = h.ends;
   down = fits;
@@ -305,7 +306,8 @@ module _ (r : Receiver) (s : Sender) (rest u : List Word) (b : Box) where
       = mine_within k c (number u' (counters.granted s.allocation m n)) (number u' s.allocation) (amount u' m n) (number_granted u' s.allocation m n) in
       omega (arith, a, before, after, more)))
   granted_if c m n end h false =
-      reallocated r s (All c m n ∷ rest) u b h s.allocation rest u h.down.1 (λ q. q) h.up (λ u' k. (let a : Account u' k r s (All c m n ∷ rest) u = h.account u' k in omega (arith, a)))
+      reallocated r s (All c m n ∷ rest) u b h s.allocation rest u h.down.1 (λ q. q) h.up
+      (λ u' k. (let a : Account u' k r s (All c m n ∷ rest) u = h.account u' k in omega (arith, a)))
 
   pub kept_all : (c m n : ℕ) → Inv (made r s (All c m n ∷ rest) u b) → Inv (made r (senders.with_allocation s.end (λ a. counters.granted a m n) s) rest u b)
   kept_all c m n h =
