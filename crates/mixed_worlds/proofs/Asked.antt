@@ -1,26 +1,21 @@
 -- Both requests of a life of a host that runs the program crossed at its stamps, and what is reported of data has just
 -- crossed, whatever its peer sends.
-use Rattle.mixed_worlds.proofs.Common.{◌≡◌, inl, inr, ℕ, ◌*◌, ◌<◌, Bool, true, false, if◌then◌else◌, zero, suc, List, [], ◌∷◌, ◌++◌, take, drop, length, Option, Some, None, refl, ap, sym, subst, ◌∙◌, arith, Contains, drop-append_seam, Host, same_host, Flow, Answer, Crossing, HostMessage, same_host-true, header_bits, is_receive_socket, is_send_socket, Command, Legal, Order, orders_of, has_cls, is_ending, PairState, Parcel, Entry, Notice, CrossedAt, data_by, control_flow, accepted, NcpState, opening_state, pair_with, AreInOrder, served, message_for, next_in, offered, answer_leaves, message_leaves, next_pair, offer_leaves, pair_range, Asked, Crossed, Moment, places, program, crossings_of, host_in, notices_by, places_same, Begins, Each, Ends, Goes, Hears, IsOther, MayTell, Quiet, Rules, each_weaker, message_keeps, offer_keeps, request_told, IsMixed, Orders, Says, older, ordered, says, ReportsData, map, HasCrossed, coming, going}
+use Rattle.mixed_worlds.proofs.Common.{◌≡◌, inl, inr, ℕ, ◌*◌, ◌<◌, Bool, true, false, if◌then◌else◌, zero, suc, List, [], ◌∷◌, ◌++◌, take, drop, length, Option, Some, None, refl, ap, sym, subst, ◌∙◌, arith, map, Contains, drop-append_seam, Host, same_host, Flow, Answer, Crossing, HostMessage, same_host-true, header_bits, is_receive_socket, is_send_socket, Command, Legal, Order, orders_of, has_cls, is_ending, PairState, Parcel, Entry, Notice, CrossedAt, data_by, HasCrossed, coming, going, control_flow, accepted, NcpState, opening_state, pair_with, AreInOrder, served, message_for, next_in, offered, answer_leaves, message_leaves, next_pair, offer_leaves, pair_range, Asked, Crossed, Moment, places, program, crossings_of, host_in, notices_by, places_same, Begins, Each, Ends, Goes, Hears, IsOther, MayTell, Quiet, Rules, each_weaker, message_keeps, offer_keeps, request_told, IsMixed, Orders, Says, older, ordered, says, ReportsData, or_false, IsReadBack, offer_read, even_odd, send_odd, Done}
 use Rattle.std.proofs.Common.{slice_index_or}
 use Rattle.std.proofs.lemmas.Bool.{eqb-true}
 use Rattle.interface.specs.declared.crossing.Crossing.TheVariants as crossing
 use Rattle.interface.specs.declared.crossing.Inbound.TheVariants as inbound
-use Rattle.interface.proofs.lemmas.{or_false}
 use Rattle.ncp_control.specs.declared.command.Command.TheVariants as command
 use Rattle.host_pairs.specs.Parcels as parcel
 use Rattle.host_pairs.specs.declared.notice.Notice.TheVariants as notice
 use Rattle.promise.specs.Formed.{request}
-use Rattle.host_keeps_ranges.specs.Ranges.{IsReadBack}
-use Rattle.host_keeps_ranges.proofs.lemmas.{offer_read}
-use Rattle.world_keeps_pairing.proofs.lemmas.{even_odd, send_odd}
-use Rattle.world_keeps_lives.proofs.lemmas.{Done}
 use Rattle.world_keeps_lives.proofs.lemmas.{answer_keeps}
 use Rattle.world_keeps_lives.proofs.lemmas.{request_keeps}
 use Rattle.mixed_worlds.proofs.Sockets.{fit}
 
 -- ---- requests as commands
 
-rts_is : (own foreign link : ℕ) → is_receive_socket own ≡ true → request own foreign link ≡ command.Rts own foreign link
+pub rts_is : (own foreign link : ℕ) → is_receive_socket own ≡ true → request own foreign link ≡ command.Rts own foreign link
 rts_is own foreign link e = ap
     (λ (b : Bool). if b then command.Rts own foreign link else command.Str own foreign link) e
 
@@ -31,17 +26,17 @@ str_is own foreign size e = ap
 request_as : (a b own foreign n : ℕ) → a ≡ own → b ≡ foreign → request a b n ≡ request own foreign n
 request_as a b own foreign n e f = ap (λ (k : ℕ). request k b n) e ∙ ap (λ (k : ℕ). request own k n) f
 
-one_place : (x y : ℕ) → Some x ≡ Some y → x ≡ y
+pub one_place : (x y : ℕ) → Some x ≡ Some y → x ≡ y
 one_place x y e = cc
 
-read_at : (cs : List Command) (c : Command) (i : ℕ) → i < length cs → slice_index_or cs i c ≡ c
+pub read_at : (cs : List Command) (c : Command) (i : ℕ) → i < length cs → slice_index_or cs i c ≡ c
     → Contains (map Legal cs) (Legal c)
 read_at [] c i less is = absurd (omega (arith, less))
 read_at (d ∷ cs) c zero less is = (0, omega arith, ap Legal is)
 read_at (d ∷ cs) c (suc i) less is = let rest : Contains (map Legal cs) (Legal c) = read_at cs c i
     (omega (arith, less)) is in (suc rest.0, omega (arith, rest.1), rest.2)
 
-control_is : (f : Flow) (x y : Host) → x ≡ f.source → y ≡ f.destination → f.link.0 ≡ 0 → f ≡ control_flow x y
+pub control_is : (f : Flow) (x y : Host) → x ≡ f.source → y ≡ f.destination → f.link.0 ≡ 0 → f ≡ control_flow x y
 control_is f x y s d l =
     ap (λ (n : ℕ). two f.source f.destination n) l ∙ ap (λ (h : Host). two h f.destination 0) (sym s)
     ∙ ap (λ (h : Host). two x h 0) (sym d) where

@@ -1,13 +1,14 @@
 -- The bits of each life are those of messages on one link, in their order, whatever its peer sends.
-use Rattle.mixed_worlds.proofs.Common.{◌≡◌, ◌⊎◌, inl, inr, ℕ, ◌<◌, ◌==◌, Bool, true, false, if◌then◌else◌, List, [], ◌∷◌, ◌++◌, filter, length, Option, refl, ap, sym, subst, ◌∙◌, arith, Contains, Host, same_host, Flow, Crossing, same_host-true, is_mine_on, Entry, Notice, both, CrossedAt, flow_of, receives, Life, NcpState, pair_with, Request, Kept, all_told, book_told, changed_when, life_ended, lives_asked, lives_at, lives_between, lives_crossed, lives_on, lives_told, lives_with, new_life, returned, where_it, granted, HasOpenEnd, Each, each_in, AreOf}
+use Rattle.mixed_worlds.proofs.Common.{◌≡◌, ◌⊎◌, inl, inr, ℕ, ◌<◌, ◌==◌, Bool, true, false, if◌then◌else◌, List, [], ◌∷◌, ◌++◌, filter, length, Option, refl, ap, sym, subst, ◌∙◌, arith, Contains, Host, same_host, Flow, Crossing, same_host-true, is_mine_on, Entry, Notice, both, CrossedAt, flow_of, receives, Life, NcpState, pair_with, Request, Kept, all_told, book_told, changed_when, life_ended, lives_asked, lives_at, lives_between, lives_crossed, lives_on, lives_told, lives_with, new_life, returned, where_it, HasOpenEnd, Each, each_in, AreOf, sends}
+use Rattle.net_sim.specs.Book.{granted}
 use Rattle.std.proofs.lemmas.Bool.{eqb-true}
 use Rattle.interface.specs.declared.crossing.Crossing.TheVariants as crossing
 use Rattle.host_pairs.specs.Parcels.{link_of}
 use Rattle.host_pairs.specs.declared.notice.Notice.TheVariants as notice
 use Rattle.sockets.specs.declared.request.Request.TheVariants as request
-use Rattle.promise.specs.Safe.{sends}
 use Rattle.mixed_worlds.proofs.Asked.{Linked}
 use Rattle.mixed_worlds.proofs.Bound.{Bound}
+use Rattle.mixed_worlds.proofs.OwnLinks.{Said}
 
 -- ---- places
 
@@ -47,7 +48,7 @@ one_passes test x (e ∷ es) one = by (test e) refl one (one_passes test x es) w
       ((λ u. same), none_passes test x es none)
   by false t k rest = ((λ u. absurd (let clash : true ≡ false = sym u ∙ t in cc)), rest k)
 
-nobody_passes : (test : Entry → Bool) (es : List Entry) → filter test es ≡ []
+pub nobody_passes : (test : Entry → Bool) (es : List Entry) → filter test es ≡ []
     → Each (λ (e : Entry). test e ≡ true → ⊥) es
 nobody_passes test [] none = tt
 nobody_passes test (e ∷ es) none = by (test e) refl none (nobody_passes test es) where
@@ -102,6 +103,7 @@ pub record Counted (log : List Crossing) (s : NcpState) (x : Life) : Type 0 wher
   pub messages : AreOf (receives x) (flow_of x (link_of link)) x.own_stamp x.partner_stamp log x.messages x.bits
   pub bound : x.ended ≡ false → Each (Bound x link) (pair_with x.peer s.peers).entries
   pub named : sends x ≡ true → Linked x.host x.peer log x.socket x.foreign x.partner_stamp link
+  pub itself : receives x ≡ true → Said x.host x.peer log x.socket x.foreign x.own_stamp link
 
 abbrev pub IsNew : Life → Type 0
 IsNew x = (x.messages ≡ 0) × (x.bits ≡ [])
@@ -139,17 +141,18 @@ module _ (programs : Host → NcpState) (log : List Crossing) where
     messages = c.messages;
     bound = λ e. absurd (let clash : true ≡ false = e in cc);
     named = c.named;
+    itself = c.itself;
   })
 
   gave_back : (messages bits : ℕ) (x : Life) → Known programs log x → Known programs log (returned messages bits x)
   gave_back messages bits x (inl i) = inl i
   gave_back messages bits x (inr c) = inr (record
-      { link = c.link; messages = c.messages; bound = c.bound; named = c.named })
+      { link = c.link; messages = c.messages; bound = c.bound; named = c.named; itself = c.itself })
 
   gave : (messages bits : ℕ) (x : Life) → Known programs log x → Known programs log (granted messages bits x)
   gave messages bits x (inl i) = inl i
   gave messages bits x (inr c) = inr (record
-      { link = c.link; messages = c.messages; bound = c.bound; named = c.named })
+      { link = c.link; messages = c.messages; bound = c.bound; named = c.named; itself = c.itself })
 
   known_told : (h : Host) (n : Notice) (lives : List Life) → IsCalm n → Each (Known programs log) lives
       → Each (Known programs log) (lives_told h n lives)

@@ -1,25 +1,24 @@
 -- The bits of each life of a network with strangers are those of messages on one link, in their order.
-use Rattle.mixed_worlds.proofs.Common.{◌≡◌, inl, inr, ℕ, ◌*◌, ◌<◌, ◌==◌, ◌&&◌, not, Bool, true, false, if◌then◌else◌, List, [], ◌∷◌, ◌++◌, drop, length, take, Option, Some, None, refl, ap, sym, subst, ◌∙◌, eq-eqb, Contains, drop-append_seam, Host, same_host, Flow, Crossing, HostMessage, same_host-true, data_bits, header_bits, is_receive_socket, is_send_socket, data_of, is_mine_on, is_open, receives_on, PairState, Parcel, next_of, Entry, Notice, both, what_goes, pair_range, data_by, flow_of, receives, Life, pair_with, message_for, next_in, next_is, next_pair, all_told, carried, changed_when, lives_at, where_it, Asked, Crossed, Moment, places, program, crossings_of, host_in, kept_by, notices_by, places_same, HasOpenEnd, Each, IsOther, MayTell, Rules, each_weaker, found_in, message_keeps, offer_keeps, open_mine, request_told, each_in, IsMixed, Orders, Says, older, ordered, crossed_only, mixed_kept, AreOf, IsCarried}
+use Rattle.mixed_worlds.proofs.Common.{◌≡◌, inl, inr, ℕ, ◌*◌, ◌<◌, ◌==◌, ◌&&◌, not, Bool, true, false, if◌then◌else◌, List, [], ◌∷◌, ◌++◌, drop, length, take, Option, Some, None, refl, ap, sym, subst, ◌∙◌, eq-eqb, Contains, drop-append_seam, Host, same_host, Flow, Command, Crossing, HostMessage, same_host-true, data_bits, header_bits, is_receive_socket, is_send_socket, data_of, is_mine_on, is_open, receives_on, PairState, Parcel, next_of, Entry, Notice, both, what_goes, pair_range, data_by, flow_of, receives, Life, pair_with, message_for, next_in, next_is, next_pair, all_told, carried, changed_when, lives_at, where_it, Asked, Crossed, Moment, places, program, crossings_of, host_in, kept_by, notices_by, places_same, HasOpenEnd, Each, IsOther, MayTell, Rules, each_weaker, found_in, message_keeps, offer_keeps, open_mine, request_told, each_in, IsMixed, Orders, Says, older, ordered, crossed_only, mixed_kept, AreOf, IsCarried, is_receiving, may_send_on, find_passes, sends, HasCrossed, going, even_odd, each_of, IsNamed, NamesItself}
 use Rattle.std.proofs.lemmas.Bool.{eqb-true}
 use Rattle.interface.specs.declared.crossing.Crossing.TheVariants as crossing
 use Rattle.host_pairs.specs.Allowed.{MayGo}
-use Rattle.host_pairs.specs.Entries.{is_link, is_receiving}
+use Rattle.host_pairs.specs.Entries.{is_link}
 use Rattle.host_pairs.specs.Parcels as parcel
-use Rattle.host_pairs.specs.Parcels.{link_of, may_send_on}
+use Rattle.host_pairs.specs.Parcels.{link_of}
 use Rattle.host_pairs.specs.declared.notice.Notice.TheVariants as notice
 use Rattle.host_keeps_streams.proofs.lemmas.Senders as senders
-use Rattle.host_keeps_streams.proofs.lemmas.{find_passes}
 use Rattle.promise.specs.Formed.{AreData}
-use Rattle.promise.specs.Safe.{sends}
-use Rattle.world_keeps_lives.proofs.lemmas.{answer_keeps, each_of}
+use Rattle.world_keeps_lives.proofs.lemmas.{answer_keeps}
 use Rattle.world_keeps_lives.proofs.lemmas.{live_end}
-use Rattle.mixed_worlds.specs.Toward.{HasData, IsNamed}
-use Rattle.mixed_worlds.proofs.Asked.{Linked, Placed, linked_still, own_out, placed}
+use Rattle.mixed_worlds.specs.Toward.{HasData}
+use Rattle.mixed_worlds.proofs.Asked.{Linked, Placed, linked_still, own_out, placed, rts_is}
 use Rattle.mixed_worlds.proofs.AskedLives.{IsOwn, all_own}
 use Rattle.mixed_worlds.proofs.Bound.{Bound, stays_bound}
 use Rattle.mixed_worlds.proofs.Carried.{Counted, IsCalm, IsNew, ItsEnd, Known, below_all, its_end, kept_each, known_all}
 use Rattle.mixed_worlds.proofs.Carried.{known_asked, known_crossed, none_of, one_passes}
 use Rattle.mixed_worlds.proofs.DataNotices.{TakesIf, bytes_told, message_takes}
+use Rattle.mixed_worlds.proofs.OwnLinks.{HasSaid, Said, said, said_still}
 use Rattle.mixed_worlds.proofs.Sockets.{fit, held}
 
 -- ---- moments that report no data
@@ -104,6 +103,16 @@ module _ (orders : Orders) (strange : Host → Bool) (hosts : List Host) where
       x.partner_stamp link w
   link_on (Asked g r) moments x link w = w
 
+  -- and so was that of one that receives, by itself
+  abbrev IsSaid : List Moment → Life → Option ℕ → Type 0
+  IsSaid moments x link = Said x.host x.peer (crossings_of moments) x.socket x.foreign x.own_stamp link
+
+  said_on : (y : Moment) (moments : List Moment) (x : Life) (link : Option ℕ) → IsSaid moments x link
+      → IsSaid (y ∷ moments) x link
+  said_on (Crossed c) moments x link w = said_still x.host x.peer c (crossings_of moments) x.socket x.foreign
+      x.own_stamp link w
+  said_on (Asked g r) moments x link w = w
+
   module _ (moments : List Moment) (x : Life) (own : IsOwn strange (crossings_of moments) x) where
     own_before : x.own_stamp < length (crossings_of moments)
     own_before = below_all x.own_stamp _ (crossings_of moments) own.own.crossed.crossed
@@ -128,6 +137,7 @@ module _ (orders : Orders) (strange : Host → Bool) (hosts : List Host) where
           x.bits c.messages;
       bound = λ goes. still_bound c.link y mixed (c.bound goes);
       named = λ s. link_on y moments x c.link (c.named s);
+      itself = λ r. said_on y moments x c.link (c.itself r);
     }
 
     -- a message more
@@ -140,6 +150,7 @@ module _ (orders : Orders) (strange : Host → Bool) (hosts : List Host) where
       messages = inr (x.messages, x.bits, bits, refl, refl, has, own_before, partner_before, known.messages);
       bound = λ over. still_bound known.link (Crossed c) mixed (known.bound goes);
       named = λ s. link_on (Crossed c) moments x known.link (known.named s);
+      itself = λ r. said_on (Crossed c) moments x known.link (known.itself r);
     }
 
     live : IsMixed strange hosts moments → Contains (mixed_kept strange moments).book.lives x → x.ended ≡ false
@@ -470,6 +481,26 @@ module _ (orders : Orders) (strange : Host → Bool) (hosts : List Host) where
       (subst
       (λ (n : ℕ). Linked x.host x.peer (crossings_of moments) o.end.own n x.partner_stamp o.end.link) o.foreign there)
 
+  -- and it was named by its own RTS
+  end_said : (moments : List Moment) → IsMixed strange hosts moments → (x : Life)
+      → IsOwn strange (crossings_of moments) x → (o : HasOpenEnd (program x.host moments) x) → receives x ≡ true
+      → IsSaid moments x o.end.link
+  end_said moments mixed x own o r =
+      let Here : Entry → Type 0 = HasSaid x.host x.peer (crossings_of moments) in
+      let both_so : Each (λ (e : Entry). (is_mine_on x.socket e ≡ true) × Here e) (o.end ∷ []) =
+      subst (λ (es : List Entry). Each (λ (e : Entry). (is_mine_on x.socket e ≡ true) × Here e) es) o.one
+      (kept_each Here (is_mine_on x.socket) (pair_with x.peer (program x.host moments).peers).entries
+      (said orders strange hosts x.host own.plain moments mixed x.peer)) in
+      let parts : (o.end.mine ≡ true) × ((o.end.own == x.socket) ≡ true) = both o.end.mine (o.end.own == x.socket)
+      both_so.0.0 in
+      let socket : o.end.own ≡ x.socket = eqb-true o.end.own x.socket parts.1 in
+      let there : Said x.host x.peer (crossings_of moments) o.end.own o.end.foreign x.own_stamp o.end.link =
+      both_so.0.1 (ap is_receive_socket socket ∙ r) x.own_stamp o.own in
+      subst
+      (λ (n : ℕ). Said x.host x.peer (crossings_of moments) n x.foreign x.own_stamp o.end.link) socket
+      (subst
+      (λ (n : ℕ). Said x.host x.peer (crossings_of moments) o.end.own n x.own_stamp o.end.link) o.foreign there)
+
   settle : (moments : List Moment) → IsMixed strange hosts moments
       → Each (Known (λ h. program h moments) (crossings_of moments)) (mixed_kept strange moments).book.lives
       → Each (λ (x : Life). Counted (crossings_of moments) (program x.host moments) x)
@@ -503,12 +534,20 @@ module _ (orders : Orders) (strange : Host → Bool) (hosts : List Host) where
                 messages = none x (link_of w.0) new;
                 bound = λ goes. absurd (let clash : true ≡ false = sym over ∙ goes in cc);
                 named = λ k. w.1;
+                itself = λ r. absurd (even_odd x.socket r s);
               }
           by false s = record {
-            link = None;
-            messages = none x (link_of None) new;
+            link = Some own.own.named;
+            messages = none x own.own.named new;
             bound = λ goes. absurd (let clash : true ≡ false = sym over ∙ goes in cc);
             named = λ k. absurd (let clash : true ≡ false = sym k ∙ s in cc);
+            itself = λ r. record {
+              number = own.own.named;
+              is = refl;
+              crossed = subst
+                  (λ (c : Command). HasCrossed going x.host x.peer x.own_stamp c (crossings_of moments))
+                  (rts_is x.socket x.foreign own.own.named r) own.own.crossed;
+            };
           }
         begun x own there new false goes =
             let o : HasOpenEnd (program x.host moments) x = live moments x own mixed there goes in
@@ -522,6 +561,7 @@ module _ (orders : Orders) (strange : Host → Bool) (hosts : List Host) where
                   (one_passes (is_mine_on x.socket) o.end (pair_with x.peer (program x.host moments).peers).entries
                   o.one);
               named = λ s. end_linked moments mixed x own o s;
+              itself = λ r. end_said moments mixed x own o r;
             }
 
         one : (x : Life) → IsOwn strange (crossings_of moments) x
@@ -559,4 +599,6 @@ module _ (orders : Orders) (strange : Host → Bool) (hosts : List Host) where
         messages = c.messages;
         named = λ s. (let w : IsLinked moments x c.link = c.named s in
             subst (IsNamed (crossings_of moments) x) (sym (ap link_of w.is)) w.crossed);
+        itself = λ r. (let w : IsSaid moments x c.link = c.itself r in
+            subst (NamesItself (crossings_of moments) x) (sym (ap link_of w.is)) w.crossed);
       }

@@ -1,11 +1,7 @@
 -- What is reported of data that come in, and that go out.
-use Rattle.mixed_worlds.proofs.Common.{◌≡◌, ◌⊎◌, inl, inr, ℕ, ◌*◌, ◌==◌, Bool, true, false, if◌then◌else◌, List, [], ◌∷◌, ◌++◌, find, take, Option, Some, None, refl, ap, sym, subst, ◌∙◌, same_host, HostMessage, data_bits, is_ready, ERRONEOUS, data_of, data_taken, DeskState, desk_of, is_ending, is_open, receives_on, Parcel, TurnState, if_ready, message_taken, with_desk, Entry, Notice, after_turn, turn_of, NcpState, pair_with, next_in, offered_by, Peer}
+use Rattle.mixed_worlds.proofs.Common.{◌≡◌, ◌⊎◌, inl, inr, ℕ, ◌*◌, ◌==◌, Bool, true, false, if◌then◌else◌, List, [], ◌∷◌, ◌++◌, find, take, Option, Some, None, refl, ap, sym, subst, ◌∙◌, same_host, HostMessage, data_bits, is_ready, ERRONEOUS, data_of, data_taken, DeskState, desk_of, is_ending, is_open, receives_on, Parcel, TurnState, if_ready, message_taken, with_desk, Entry, Notice, after_turn, turn_of, NcpState, pair_with, next_in, offered_by, Peer, header_of, DataHeader, Ending, Open, Unconnected, arrived, arrived_if, data_found, is_acceptable, text_faulted}
 use Rattle.interface.specs.declared.crossing.Inbound.TheVariants as inbound
-use Rattle.ncp_control.specs.DataHeader.{header_of}
-use Rattle.ncp_control.specs.declared.data_header.DataHeader.{DataHeader}
 use Rattle.host_pairs.specs.Commands as commands
-use Rattle.host_pairs.specs.Commands.{Ending, Open, Unconnected}
-use Rattle.host_pairs.specs.Data.{arrived, arrived_if, data_found, is_acceptable, text_faulted}
 use Rattle.host_pairs.specs.Parcels as parcel
 use Rattle.host_pairs.specs.declared.notice.Notice.TheVariants as notice
 use Rattle.sockets.specs.Accepting.{accepted}

@@ -1,26 +1,19 @@
 -- Whatever a peer says, of two sockets there is at most one end with it, and what waits of it is what it still has to
 -- say.
-use Rattle.mixed_worlds.proofs.Common.{◌≡◌, ℕ, ◌==◌, ◌&&◌, Bool, true, false, if◌then◌else◌, List, [], ◌∷◌, ◌++◌, Option, Some, None, is_some, refl, ap, sym, subst, ◌∙◌, list_any, Host, same_host, HostMessage, is_ready, Command, ERRONEOUS, Legal, Order, orders_of, data_taken, DeskState, desk_of, has_cls, PairState, TurnState, if_ready, message_taken, with_desk, Entry, after_turn, turn_of, NcpState, pair_with, HasSome}
+use Rattle.mixed_worlds.proofs.Common.{◌≡◌, ℕ, ◌==◌, ◌&&◌, Bool, true, false, if◌then◌else◌, List, [], ◌∷◌, ◌++◌, Option, Some, None, is_some, refl, ap, sym, subst, ◌∙◌, list_any, Host, same_host, HostMessage, is_ready, Command, ERRONEOUS, Legal, Order, orders_of, data_taken, DeskState, desk_of, has_cls, PairState, TurnState, if_ready, message_taken, with_desk, Entry, after_turn, turn_of, NcpState, pair_with, HasSome, spelling, End, Ask, Close, Mark, asked_on_link, asked_with_size, changed, cls_taken_by, desk_taken, faulted, matched, matched_once, rts_taken_by, str_taken_by, NO_SOCKET, Wrong, error, command_queued, settled, swept, closed_by_partner, entry_at, is_at, sends_on, command_taken, order_taken, orders_taken, Stand, Standing, at, standing, mark_of, marks, put}
 use Rattle.host_pairs.specs.Entries.{close_due}
 use Rattle.host_pairs.specs.declared.entry.Closing.{Closing}
 use Rattle.interface.specs.declared.crossing.Inbound.TheVariants as inbound
-use Rattle.ncp_control.specs.Command.{spelling}
 use Rattle.ncp_control.specs.declared.command.Command.TheVariants as command
-use Rattle.pairing_law.specs.Ends.{End, fits, mark_taken, nothing}
-use Rattle.pairing_law.specs.Marks.{Ask, Close, Mark}
-use Rattle.host_pairs.specs.Commands.{asked_on_link, asked_with_size, changed, cls_taken_by, desk_taken, faulted}
-use Rattle.host_pairs.specs.Commands.{matched, matched_once, rts_taken_by, str_taken_by}
-use Rattle.host_pairs.specs.Control.{NO_SOCKET, Wrong, error}
-use Rattle.host_pairs.specs.Desk.{command_queued, settled, swept}
-use Rattle.host_pairs.specs.Entries.{closed_by_partner, entry_at, is_at, is_sent, sends_on}
-use Rattle.host_pairs.specs.Turn.{command_taken, order_taken, orders_taken}
+use Rattle.pairing_law.specs.Ends.{fits, mark_taken, nothing}
+use Rattle.host_pairs.specs.Entries.{is_sent}
 use Rattle.host_pairs.specs.declared.entry.Closing.TheVariants as closing
 use Rattle.sockets.specs.Accepting.{accepted}
-use Rattle.host_keeps_pairing.specs.Ends.{Stand, Standing, at, close_waits, end_of, is_past, request_due, standing}
-use Rattle.host_keeps_pairing.specs.Words.{AllFit, all_taken, mark_of, marks}
+use Rattle.host_keeps_pairing.specs.Ends.{close_waits, end_of, is_past, request_due}
+use Rattle.host_keeps_pairing.specs.Words.{AllFit, all_taken}
 use Rattle.host_keeps_pairing.proofs.lemmas.{Found, Is, On, after_data, after_reply, after_reset, are, asked_by}
 use Rattle.host_keeps_pairing.proofs.lemmas.{change_away, change_here, closed_by, ends_swept, found_here, live_end}
-use Rattle.host_keeps_pairing.proofs.lemmas.{loose, none_here, on_queued, on_settled, on_taken, plain, put}
+use Rattle.host_keeps_pairing.proofs.lemmas.{loose, none_here, on_queued, on_settled, on_taken, plain}
 
 -- ---- the end of two sockets is asked for, or closed, in whatever order
 
@@ -300,7 +293,7 @@ module _ (origin : ℕ → ℕ) (own foreign : ℕ) where
   one_command peer stamp (command.Erp octet) t h = opened_command peer stamp (command.Erp octet) t h
   one_command peer stamp (command.Err code detail) t h = opened_command peer stamp (command.Err code detail) t h
 
-  one_order : (peer : Host) (stamp : ℕ) (o : Order) (t : TurnState) → HasSome origin own foreign t.pair
+  pub one_order : (peer : Host) (stamp : ℕ) (o : Order) (t : TurnState) → HasSome origin own foreign t.pair
       → HasSome origin own foreign (order_taken peer stamp o t).pair
   one_order peer stamp (Legal c) t h = one_command peer stamp c t h
   one_order peer stamp (Wrong code octets) t h = while_ready (command_queued (error code octets)) t

@@ -1,7 +1,6 @@
 -- What each life of a host that runs the program sent is a prefix of what was handed over in it, whatever its peer
 -- sends.
-use Rattle.mixed_worlds.proofs.Common.{◌≡◌, ◌⊎◌, inl, inr, ℕ, Bool, true, List, [], ◌∷◌, refl, ap, sym, subst, ◌∙◌, eq-eqb, Host, IsBeside, Life, NcpState, Kept, EachOn, IsFreeSocket, IsLifeOf, IsOwned, at_socket, Holds}
-use Rattle.interface.proofs.lemmas.{same_host-refl}
+use Rattle.mixed_worlds.proofs.Common.{◌≡◌, ◌⊎◌, inl, inr, ℕ, Bool, true, List, [], ◌∷◌, refl, ap, sym, subst, ◌∙◌, eq-eqb, Host, IsBeside, Life, NcpState, Kept, EachOn, IsFreeSocket, IsLifeOf, IsOwned, at_socket, Holds, same_host-refl}
 use Rattle.world_keeps_lives.specs.Lives.{IsSafe, NoneOf}
 
 -- a life of a socket, and what is beside it

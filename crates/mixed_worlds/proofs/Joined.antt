@@ -1,5 +1,5 @@
 -- A finished initial connection among hosts with programs pairs the right four sockets.
-use Rattle.mixed_worlds.proofs.Common.{◌≡◌, ℕ, ◌&&◌, Bool, true, false, if◌then◌else◌, List, [], ◌∷◌, take, Option, Some, None, refl, ap, sym, subst, ◌∙◌, eq-eqb, arith, Contains, All-contains, Host, Crossing, is_receive_socket, is_send_socket, Notice, Match, Life, Kept, all_told, book_told, crossed, Asked, Crossed, Moment, crossings_of, host_in, kept_by, kept_in, notices_by, IsMixed, masked_moments, Orders, masked_crossings, crossed_only, lives_among, mixed_kept, ◌+◌, JoinedBook, Told, IsBacked}
+use Rattle.mixed_worlds.proofs.Common.{◌≡◌, ℕ, ◌&&◌, Bool, true, false, if◌then◌else◌, List, [], ◌∷◌, take, Option, Some, None, refl, ap, sym, subst, ◌∙◌, eq-eqb, arith, ◌+◌, Contains, All-contains, Host, Crossing, is_receive_socket, is_send_socket, Notice, Match, Life, Kept, all_told, book_told, crossed, Asked, Crossed, Moment, crossings_of, host_in, kept_by, kept_in, notices_by, IsMixed, masked_moments, Orders, masked_crossings, crossed_only, lives_among, mixed_kept, JoinedBook, Told, IsBacked}
 use Rattle.std.proofs.Common.{nat_le, ◌%◌}
 use Rattle.std.proofs.Common.{eqb-true}
 use Rattle.std.specs.Prelude.{All}

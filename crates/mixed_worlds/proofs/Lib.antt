@@ -15,10 +15,16 @@ pub mod Joined
 pub mod Asked
 pub mod AskedLives
 pub mod Handed
+pub mod Steps
+pub mod Waiting
+pub mod OwnLinks
 pub mod Bound
 pub mod Carried
 pub mod DataNotices
 pub mod CarriedLives
+pub mod Once
+pub mod OnceGone
+pub mod OnceLives
 pub mod Worlds
 pub mod SameTold
 pub mod RealTold

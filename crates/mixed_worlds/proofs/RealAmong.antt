@@ -1,5 +1,5 @@
 -- The real book among hosts with programs is safe, since that of the masked moments is.
-use Rattle.mixed_worlds.proofs.Common.{◌≡◌, Bool, false, List, sym, subst, Contains, Host, Crossing, safe_messages, ClosesWhole, IsFormed, SafeBook, Fate, Life, Moment, crossings_of, kept_in, IsMixed, masked_moments, Orders, masked_crossings, beside_among, lives_among, mixed_kept, FormedBook}
+use Rattle.mixed_worlds.proofs.Common.{◌≡◌, Bool, false, List, sym, subst, Contains, Host, Crossing, safe_messages, ClosesWhole, IsFormed, FormedBook, SafeBook, Fate, Life, Moment, crossings_of, kept_in, IsMixed, masked_moments, Orders, masked_crossings, beside_among, lives_among, mixed_kept}
 use Rattle.mixed_worlds.proofs.Books.{SameBook, same_book}
 use Rattle.mixed_worlds.proofs.RealBooks.{real_safe, real_whole}
 use Rattle.mixed_worlds.proofs.RealFormed.{real_formed}

@@ -1,6 +1,6 @@
 -- Notices of data among hosts with programs are formed over the real log where they are over that whose strangers are
 -- masked.
-use Rattle.mixed_worlds.proofs.Common.{◌≡◌, inl, inr, ℕ, Bool, true, false, List, [], ◌∷◌, Option, Some, None, is_some, refl, ap, sym, subst, ◌∙◌, Host, is_up, Crossing, HostMessage, Command, Moment, crossings_of, kept_in, CrossedAt, IsMixed, masked_moments, masked_as, masked_log, stranger_in, turn, Orders, masked_crossings, mixed_kept, ◌+◌, HasCrossed, coming, going, data_told, Told, ToldAmong, told_among}
+use Rattle.mixed_worlds.proofs.Common.{◌≡◌, inl, inr, ℕ, Bool, true, false, List, [], ◌∷◌, Option, Some, None, is_some, refl, ap, sym, subst, ◌∙◌, ◌+◌, Host, is_up, Crossing, HostMessage, Command, Moment, crossings_of, kept_in, CrossedAt, HasCrossed, coming, going, IsMixed, masked_moments, masked_as, masked_log, stranger_in, turn, Orders, masked_crossings, mixed_kept, data_told, Told, ToldAmong, told_among}
 use Rattle.interface.specs.declared.crossing.Crossing.TheVariants as crossing
 use Rattle.promise.specs.Notices.{AreTold, FormedNotices, HasLink, Tells, TellsOf, data_notice}
 use Rattle.mixed_worlds.specs.Told.{AreToldAmong}

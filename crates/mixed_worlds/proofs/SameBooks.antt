@@ -1,6 +1,7 @@
 -- Two books that have the same among hosts with programs: the one of a network with strangers, and the one of the
 -- masked moments.
-use Rattle.mixed_worlds.proofs.Common.{◌≡◌, ◌⊎◌, inl, inr, ℕ, ◌==◌, ◌&&◌, not, Bool, true, false, List, [], ◌∷◌, ◌++◌, length, Some, refl, ap, sym, subst, ◌∙◌, eq-eqb, if◌then◌else◌, Host, same_host, Crossing, AreAbout, IsAbout, Notice, both, Fate, Life, Request, Kept, all_told, asked, book_told, carried, crossed, fates_where, handed_to, life_ended, lives_at, lives_between, lives_on, lives_with, new_life, returned, where_it, granted, same_host-sym, stranger_in, turn, if_is, other_host, EachOn, at_socket, Each, beside_among, is_among, lives_among}
+use Rattle.mixed_worlds.proofs.Common.{◌≡◌, ◌⊎◌, inl, inr, ℕ, ◌==◌, ◌&&◌, not, Bool, true, false, List, [], ◌∷◌, ◌++◌, length, Some, refl, ap, sym, subst, ◌∙◌, eq-eqb, if◌then◌else◌, Host, same_host, Crossing, AreAbout, IsAbout, Notice, both, Fate, Life, Request, Kept, all_told, asked, book_told, carried, crossed, fates_where, handed_to, life_ended, lives_at, lives_between, lives_on, lives_with, new_life, returned, where_it, same_host-sym, stranger_in, turn, if_is, other_host, EachOn, at_socket, Each, beside_among, is_among, lives_among}
+use Rattle.net_sim.specs.Book.{granted}
 use Rattle.interface.specs.declared.crossing.Crossing.TheVariants as crossing
 use Rattle.host_pairs.specs.declared.notice.Notice.TheVariants as notice
 use Rattle.host_pairs.proofs.lemmas.{not_is}

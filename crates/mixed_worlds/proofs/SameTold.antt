@@ -1,9 +1,8 @@
 -- What hosts with programs are notified of about data among each other is what they are notified of in the masked
 -- moments.
-use Rattle.mixed_worlds.proofs.Common.{◌≡◌, ℕ, ◌==◌, ◌||◌, not, Bool, false, if◌then◌else◌, List, [], ◌∷◌, ◌++◌, length, Option, Some, None, is_some, refl, ap, sym, subst, ◌∙◌, arith, eq-eqb, suc, Host, is_up, Crossing, Notice, is_ready, NcpState, pair_with, Request, Kept, all_told, asked, book_told, crossed, Asked, Crossed, Moment, program, crossings_of, host_in, kept_in, notices_by, IsMixed, masked_moments, stranger_in, turn, Orders, older, Each, mixed_kept, map, peer_of, data_told, Told, is_of_stranger, closed, masked_crossing, stopped, told_among}
+use Rattle.mixed_worlds.proofs.Common.{◌≡◌, ℕ, ◌==◌, ◌||◌, not, Bool, false, if◌then◌else◌, List, [], ◌∷◌, ◌++◌, length, Option, Some, None, is_some, refl, ap, sym, subst, ◌∙◌, arith, eq-eqb, suc, map, Host, is_up, Crossing, Notice, is_ready, NcpState, pair_with, Request, Kept, all_told, asked, book_told, crossed, Asked, Crossed, Moment, program, crossings_of, host_in, kept_in, notices_by, IsMixed, masked_moments, closed, masked_crossing, stopped, stranger_in, turn, Orders, older, Each, mixed_kept, peer_of, data_told, Told, is_of_stranger, told_among, append-nil, append_assoc}
 use Rattle.std.proofs.Common.{true}
 use Rattle.std.proofs.Common.{◌≤◌, eqb-true}
-use Rattle.std.proofs.lemmas.List.{append-nil, append_assoc}
 use Rattle.std.proofs.lemmas.List.Elements.{filter-append}
 use Rattle.interface.specs.declared.crossing.Crossing.TheVariants as crossing
 use Rattle.host_pairs.specs.declared.notice.Notice.TheVariants as notice

@@ -94,7 +94,7 @@ fit_if false s t now old = old
 
 module _ (orders : Orders) (strange : Host → Bool) (hosts : List Host) (a : Host) (off : strange a ≡ false) where
   -- a request of this host
-  own_request : (h : Host) (r : Request) (moments : List Moment) → IsMixed strange hosts (Asked h r ∷ moments)
+  pub own_request : (h : Host) (r : Request) (moments : List Moment) → IsMixed strange hosts (Asked h r ∷ moments)
       → same_host a h ≡ true → Happens hosts (Asked a r) moments
   own_request h r moments mixed e =
       subst (λ (x : Host). Happens hosts (Asked x r) moments) (sym (same_host-true a h e))

@@ -1,14 +1,15 @@
 -- The book of a world with strangers.
-use Rattle.mixed_worlds.proofs.Common.{◌≡◌, Bool, true, false, List, length, subst, sym, Contains, Host, Crossing, safe_messages, ClosesWhole, IsBeside, SafeBook, receives, Life, IsMixed, Kept, Moment, crossings_of, beside_among, lives_among, mixed_kept, IsRun, JoinedBook, FormedBook, IsBacked, ToldAmong, HasAsked, IsCarried}
+use Rattle.mixed_worlds.proofs.Common.{◌≡◌, Bool, true, false, List, length, subst, sym, Contains, Host, Crossing, safe_messages, ClosesWhole, IsBeside, SafeBook, receives, Life, IsMixed, Kept, Moment, crossings_of, beside_among, lives_among, mixed_kept, IsRun, JoinedBook, FormedBook, IsBacked, ToldAmong, HasAsked, IsCarried, sends}
 use Rattle.interface.proofs.lemmas.{run_below}
 use Rattle.interface.specs.Calls.{Seen}
-use Rattle.promise.specs.Safe.{IsGranted, IsPrefix, sends}
+use Rattle.promise.specs.Safe.{IsGranted, IsPrefix}
 use Rattle.net_sim.specs.MixedWorlds.{IsLawfulAmong}
 use Rattle.std.proofs.Common.{All}
 use Rattle.net_sim.specs.Told.{without_reports}
 use Rattle.net_sim.specs.World.{WorldState}
 use Rattle.world_keeps_lives.specs.Lives.{IsBounded}
 use Rattle.mixed_worlds.specs.Laws.{Among, KeepsAmong, KeepsToward, Toward}
+use Rattle.mixed_worlds.specs.Toward.{AreOnce}
 
 module _ {C : Type 0} (strange : Host → Bool) (seen : C → Seen) (hosts : List Host) (w : WorldState C)
     (lawful : IsLawfulAmong strange seen hosts w) where
@@ -61,6 +62,7 @@ module _ {C : Type 0} (strange : Host → Bool) (seen : C → Seen) (hosts : Lis
         (law.owner strange hosts moments world_mixed);
     asked = kept (λ xs k. (x : Life) → Contains k.book.lives x → HasAsked xs x)
         (law.asked strange hosts moments world_mixed);
+    once = kept (λ xs k. AreOnce k.book.lives) (law.once strange hosts moments world_mixed);
     carried = kept (λ xs k. (x : Life) → Contains k.book.lives x → IsCarried xs x)
         (law.carried strange hosts moments world_mixed);
     handed = kept

@@ -34,7 +34,7 @@ use Rattle.mixed_worlds.specs.Book.{beside_among, book_among, lives_among, mixed
 use Rattle.mixed_worlds.specs.Ends.{HasSome}
 use Rattle.mixed_worlds.specs.Promised.{Promises}
 use Rattle.mixed_worlds.specs.Told.{ToldAmong}
-use Rattle.mixed_worlds.specs.Toward.{HasAsked, IsCarried, ReportsData}
+use Rattle.mixed_worlds.specs.Toward.{AreOnce, HasAsked, IsCarried, ReportsData}
 
 -- what the real book has among hosts with programs is the book of the masked moments
 pub record HasAmong (strange : Host → Bool) (hosts : List Host) (moments : List Moment) : Type 0 where
@@ -131,6 +131,10 @@ pub record Toward : Type 0 where
   pub asked :
       (strange : Host → Bool) (hosts : List Host) (moments : List Moment) → IsMixed strange hosts moments → (x : Life) →
       Contains (mixed_kept strange moments).book.lives x → HasAsked (crossings_of moments) x
+  -- and no two have the same request
+  pub once :
+      (strange : Host → Bool) (hosts : List Host) (moments : List Moment) → IsMixed strange hosts moments →
+      AreOnce (mixed_kept strange moments).book.lives
   -- and its bits are those of messages on one link, in their order
   pub carried :
       (strange : Host → Bool) (hosts : List Host) (moments : List Moment) → IsMixed strange hosts moments → (x : Life) →
@@ -169,7 +173,10 @@ pub record KeepsToward {C : Type 0} (strange : Host → Bool) (w : WorldState C)
   -- no life is a stranger's, and both requests of each crossed at its stamps
   pub owner : (x : Life) → Contains w.kept.book.lives x → strange x.host ≡ false
   pub asked : (x : Life) → Contains w.kept.book.lives x → HasAsked w.kept.book.crossings x
-  -- its bits are those of as many messages as it counts, on one link, after both requests and in their order
+  -- no two lives have the same own request, nor the same one of their partner
+  pub once : AreOnce w.kept.book.lives
+  -- its bits are those of as many messages as it counts, on one link, after both requests and in their order. An RTS
+  -- names this link: its peer's where it sends, and its own where it receives
   pub carried : (x : Life) → Contains w.kept.book.lives x → IsCarried w.kept.book.crossings x
   -- what was sent is a prefix of what was handed over
   pub handed :

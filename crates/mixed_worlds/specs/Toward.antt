@@ -6,8 +6,8 @@ use Rattle.interface.specs.declared.crossing.Crossing.TheVariants as crossing
 use Rattle.host_pairs.specs.declared.notice.Notice.{Notice}
 use Rattle.host_pairs.specs.declared.notice.Notice.TheVariants as notice
 use Rattle.ncp_control.specs.declared.command.Command.TheVariants as command
-use Rattle.promise.specs.Formed.{AreData, HasCrossed, coming, flow_of, own_named, partner_named}
-use Rattle.promise.specs.Safe.{receives, sends}
+use Rattle.promise.specs.Formed.{AreData, HasCrossed, coming, flow_of, going, own_named, partner_named}
+use Rattle.promise.specs.Safe.{AreTwo, Name, own_request, receives, sends}
 use Rattle.promise.specs.declared.life.Life.{Life}
 use Rattle.net_sim.specs.Story.{Crossed, Moment}
 
@@ -16,6 +16,15 @@ use Rattle.net_sim.specs.Story.{Crossed, Moment}
 pub record HasAsked (log : List Crossing) (x : Life) : Type 0 where
   pub own : IsSome (own_named log x)
   pub partner : IsSome (partner_named log x)
+
+-- the request of a life's partner, by the place where it came in, and its two sockets as its sender sees them
+abbrev pub taken_request : Life → Name
+taken_request x = record { place = x.partner_stamp; own = x.foreign; foreign = x.socket }
+
+-- no two lives have the same own request, nor the same one of their partner
+pub record AreOnce (lives : List Life) : Type 0 where
+  pub own : (x y : Life) → AreTwo lives x y → own_request x ≡ own_request y → ⊥
+  pub partner : (x y : Life) → AreTwo lives x y → taken_request x ≡ taken_request y → ⊥
 
 -- a message of a flow comes in, or goes out, with these data
 abbrev pub HasData : Bool → Flow → Crossing → List Bool → Type 0
@@ -37,12 +46,18 @@ AreOf comes f a b (c ∷ log) count bits =
 abbrev pub IsNamed : List Crossing → Life → ℕ → Type 0
 IsNamed log x link = HasCrossed coming x.peer x.host x.partner_stamp (command.Rts x.foreign x.socket link) log
 
+-- this link is named by its own RTS for its two sockets, in the message that went out at its own stamp
+abbrev pub NamesItself : List Crossing → Life → ℕ → Type 0
+NamesItself log x link = HasCrossed going x.host x.peer x.own_stamp (command.Rts x.socket x.foreign link) log
+
 -- the bits of a life are those of as many messages as it counts, on one link, after both its requests: they came in
--- from its peer, or went out to it. A life that sends has the link that its peer named
+-- from its peer, or went out to it. A life that sends has the link that its peer named, and one that receives that
+-- which it named itself
 pub record IsCarried (log : List Crossing) (x : Life) : Type 0 where
   pub link : ℕ
   pub messages : AreOf (receives x) (flow_of x link) x.own_stamp x.partner_stamp log x.messages x.bits
   pub named : sends x ≡ true → IsNamed log x link
+  pub itself : receives x ≡ true → NamesItself log x link
 
 -- what is reported of data at a moment is about the message that crosses there, and has its data: all that is after the
 -- header where it goes out, and what the header announces where it comes in, on another link than 0. Other notices are

@@ -14,9 +14,9 @@ use net_sim::{Book, MixedWorld};
 /// - `among`: `KeepsAmong`, of hosts that run the program among each other. What crossed is a run of the mailboxes;
 ///   lives and notices of data are made of what crossed; the lives are safe; an orderly close loses nothing; and a
 ///   finished initial connection pairs the right four sockets.
-/// - `toward`: `KeepsToward`, of each such host toward all others, strangers too. Both requests of a life crossed; its
-///   bits are those of messages on one link; what was sent is a prefix of what was handed over; and what was taken is
-///   within what was granted.
+/// - `toward`: `KeepsToward`, of each such host toward all others, strangers too. Both requests of a life crossed, and are
+///   no other life's; its bits are those of messages on one link, which one of the two names; what was sent is a prefix
+///   of what was handed over; and what was taken is within what was granted.
 ///
 /// Nothing is promised to arrive, and of a stranger nothing at all.
 pub fn book_among<C: Carrier>(world: &MixedWorld<C>) -> &Book

@@ -16,7 +16,7 @@ ghost use Rattle.masked_worlds.specs.Mixed.{AreMixed};
 ghost use Rattle.masked_worlds.specs.Worked.{is_third, listener_taken, three};
 ghost use Rattle.promise.specs.Formed.{IsFormed};
 ghost use Rattle.mixed_worlds.specs.Book.{beside_among, lives_among, mixed_kept};
-ghost use Rattle.mixed_worlds.specs.Toward.{AreOf, HasAsked, IsCarried, IsNamed, ReportsData};
+ghost use Rattle.mixed_worlds.specs.Toward.{AreOf, AreOnce, HasAsked, IsCarried, IsNamed, NamesItself, ReportsData};
 ghost use Rattle.mixed_worlds.specs.Told.{ToldAmong, told_among};
 ghost use Rattle.mixed_worlds.specs.Worked.{both_in, contacts, eight_bits, eight_taken, eight_told, granting_life};
 ghost use Rattle.mixed_worlds.specs.Worked.{odd_life, odd_size, sending_life};
@@ -90,9 +90,11 @@ pub fn worked_toward()
     ensures asked { HasAsked (crossings_of odd_size) odd_life }
     ensures turned { HasAsked (crossings_of odd_size) (new_life second 16 third 33 7 8) → ⊥ }
 
-    // its bits are those of one message on link 2. What comes in there before its requests isn't counted, nor may a
-    // message be counted that didn't come
+    // its bits are those of one message on link 2, which its own RTS names, and no other link. What comes in there
+    // before its requests isn't counted, nor may a message be counted that didn't come
     ensures carried { IsCarried (crossings_of odd_size) odd_life }
+    ensures itself { NamesItself (crossings_of odd_size) odd_life 2 }
+    ensures another { NamesItself (crossings_of odd_size) odd_life 3 → ⊥ }
     ensures early { AreOf true (on_link third second 2) 8 7 (crossing.In eight_bits ∷ []) 1 eight → ⊥ }
     ensures uncounted { AreOf true (on_link third second 2) 0 0 [] 1 eight → ⊥ }
 
@@ -112,6 +114,13 @@ pub fn worked_links()
     // no other link, and nothing that goes out names one
     ensures other { IsNamed (crossings_of stranger_opened) sending_life 3 → ⊥ }
     ensures turned { IsNamed (crossings_of stranger_opened) (new_life second 33 third 16 7 8) 2 → ⊥ }
+{}
+
+/// No two lives have the same own request, in the message at their own stamp for their two sockets, nor the same one of
+/// their partner.
+pub fn worked_once()
+    ensures own { AreOnce (sending_life ∷ new_life second 33 third 16 8 9 ∷ []) → ⊥ }
+    ensures partner { AreOnce (sending_life ∷ new_life second 33 third 16 9 7 ∷ []) → ⊥ }
 {}
 
 /// Where hosts with programs have nothing left to do: a stranger has taken a listening socket of the second host, which

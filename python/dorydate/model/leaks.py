@@ -1,12 +1,13 @@
-"""Programs that mix up their peers: what one says reaches what the host has with another. `check worlds --mixed` finds them."""
+"""Programs that mix up their peers, so that what one says reaches what the host has with another, and two that ask wrongly.
+`check worlds --mixed` finds them."""
 
 from __future__ import annotations
 
 from collections.abc import Callable, Iterator
 
 from dorydate.model.bits import Bits
-from dorydate.model.commands import ALL, CLS, GVB, INR, INS, RET, RST, RTS, STR, read_numbers
-from dorydate.model.connections import Pair
+from dorydate.model.commands import ALL, CLS, GVB, INR, INS, LINKS, RET, RST, RTS, STR, of_sockets, read_numbers
+from dorydate.model.connections import End, Pair
 from dorydate.model.host import Host
 from dorydate.model.names import HostName
 
@@ -77,5 +78,28 @@ class LeakedAnswers(Leak):
         return (it for it in self.pairs.values() if it is not pair)
 
 
+class SecondRequest(Host):
+    """A second request of the partner opens the end again."""
+
+    def take_ready(self, peer: HostName, pair: Pair, command: bytes, stamp: int) -> int | None:
+        if command[0] in (RTS, STR):
+            foreign, own = read_numbers(command, 4, 4)
+            end = pair.end(own, foreign)
+            if end is not None and end.mine:
+                end.asked = False
+        return super().take_ready(peer, pair, command, stamp)
+
+
+class OtherLink(Host):
+    """An RTS names another link than that of its end."""
+
+    def ask_to_receive(self, pair: Pair, end: End, link: int) -> None:
+        super().ask_to_receive(pair, end, link)
+        pair.queue[-1] = of_sockets(RTS, end.own, end.foreign, LINKS[0] if link == LINKS[-1] else link + 1)
+
+
 LEAKS: tuple[type[Host], ...] = (LeakedRequests, LeakedCloses, LeakedGrants, LeakedData, LeakedResets)
 HARMLESS: type[Host] = LeakedAnswers
+
+# what a stranger makes of them breaks what is promised toward it
+MISTAKES: tuple[type[Host], ...] = (SecondRequest, OtherLink)

@@ -21,7 +21,7 @@ from dorydate.model.audit import audit
 from dorydate.model.chance.strangers import mixed_script
 from dorydate.model.crossings import Passed
 from dorydate.model.host import Host
-from dorydate.model.leaks import HARMLESS, LEAKS
+from dorydate.model.leaks import HARMLESS, LEAKS, MISTAKES
 from dorydate.model.mailboxes import first_break
 from dorydate.model.names import spell_host
 from dorydate.model.runs import opened_carrier
@@ -119,7 +119,7 @@ def is_needless(stronger: Clause) -> bool:
 
 def check(runs: int) -> int:
     """The exit status."""
-    if missed := [it.__doc__ for it in LEAKS if not is_found(it)]:
+    if missed := [it.__doc__ for it in (*LEAKS, *MISTAKES) if not is_found(it)]:
         print("check worlds: no mixed world shows these programs to differ from the right one:", *missed, sep="\n")
         return 1
     if is_harmful(HARMLESS):
@@ -135,7 +135,8 @@ def check(runs: int) -> int:
             print(f"check worlds: mixed run {seed} breaks {ran.part}: {ran.network}", *ran.lines, sep="\n")
             return 1
         came_to += ran.counts
-    print(f"check worlds: {len(LEAKS)} programs that mix up their peers, each found, and one that does no harm")
+    wrong = f"{len(LEAKS)} programs that mix up their peers and {len(MISTAKES)} that ask wrongly"
+    print(f"check worlds: {wrong}, each found, and one that does no harm")
     for kind, count in sorted(came_to.items()):
         print(f"check worlds: {kind}: {count}")
     print(f"check worlds: {len(CLAUSES)} clauses toward strangers, all kept; {len(STRONGER)} others, each broken")

@@ -6,6 +6,7 @@ use Rattle.mixed_worlds.proofs.AskedLives.{data_reported, has_asked, plain_owner
 use Rattle.mixed_worlds.proofs.CarriedLives.{is_carried}
 use Rattle.mixed_worlds.proofs.Ends.{any_message}
 use Rattle.mixed_worlds.proofs.Handed.{safe_beside}
+use Rattle.mixed_worlds.proofs.OnceLives.{own_once, partner_once}
 use Rattle.mixed_worlds.proofs.RealBooks.{beside_in}
 use Rattle.mixed_worlds.proofs.Sockets.{held}
 use Rattle.mixed_worlds.proofs.law.toward.Goals as goal
@@ -51,6 +52,10 @@ returns c =
           plain_owner orders strange hosts moments mixed x there;
       asked = λ strange hosts moments mixed x there.
           has_asked orders strange hosts moments mixed x there;
+      once = λ strange hosts moments mixed. record {
+        own = own_once orders strange hosts moments mixed;
+        partner = partner_once orders strange hosts moments mixed;
+      };
       carried = λ strange hosts moments mixed x there.
           is_carried orders strange hosts moments mixed x there;
       reported = λ strange hosts x moments mixed off n there.

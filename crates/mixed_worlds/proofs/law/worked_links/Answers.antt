@@ -1,14 +1,13 @@
-use Rattle.mixed_worlds.proofs.Common.{◌≡◌, ◌<◌, ℕ, inl, inr, zero, suc, List, ◌∷◌, refl, false, ap, sym, subst, arith, Contains, Crossing, HostMessage, CrossedAt, crossings_of, on_link, second, third}
+use Rattle.mixed_worlds.proofs.Common.{◌≡◌, ◌<◌, ℕ, inl, inr, zero, suc, List, ◌∷◌, refl, true, false, ap, sym, subst, arith, Contains, Crossing, HostMessage, CrossedAt, crossings_of, on_link, second, third, Legal, Order, listener_taken, control, IsNamed, sending_life}
 use Rattle.bit_messages.specs.Octets.{octets_of}
 use Rattle.interface.specs.declared.crossing.Crossing.TheVariants as crossing
-use Rattle.host_pairs.specs.Control.{Legal, Order, orders_of}
+use Rattle.host_pairs.specs.Control.{orders_of}
 use Rattle.ncp_control.specs.Packing.{packed_count}
 use Rattle.ncp_control.specs.Reading.{command_of, read_of}
 use Rattle.ncp_control.specs.declared.command.Command.TheVariants as command
-use Rattle.masked_worlds.specs.Worked.{listener_taken, stranger_asks, stranger_ready}
-use Rattle.sockets.specs.Worked.{STR, control}
-use Rattle.mixed_worlds.specs.Toward.{IsNamed}
-use Rattle.mixed_worlds.specs.Worked.{sending_life, stranger_opened}
+use Rattle.masked_worlds.specs.Worked.{stranger_asks, stranger_ready}
+use Rattle.sockets.specs.Worked.{STR}
+use Rattle.mixed_worlds.specs.Worked.{stranger_opened}
 use Rattle.mixed_worlds.proofs.Carried.{below_all, none_of}
 use Rattle.mixed_worlds.proofs.law.worked_links.Goals as goal
 
@@ -27,6 +26,7 @@ returns-clause-carried c = record {
   link = 2;
   messages = none_of false (on_link second third 2) 8 7 log;
   named = λ s. named;
+  itself = λ r. absurd (let clash : false ≡ true = r in cc);
 }
 
 -- what came in at this place is the stranger's request

@@ -1,4 +1,4 @@
-use Rattle.mixed_worlds.proofs.Common.{◌≡◌, Bool, true, false, None, refl, sym, subst, ◌∙◌, Host, same_host, same_flow, Flow, same_host-true, on_link, second, third, program, crossings_of, same_host-sym, without_strangers}
+use Rattle.mixed_worlds.proofs.Common.{◌≡◌, Bool, true, false, None, refl, sym, subst, ◌∙◌, Host, same_host, same_flow, Flow, same_host-true, on_link, second, third, program, crossings_of, same_host-sym, without_strangers, listener_taken}
 use Rattle.bit_messages.specs.Octets.{octets_of}
 use Rattle.interface.specs.Mailboxes.{Empty, box_of}
 use Rattle.ncp_control.specs.Packing.{packed_count}
@@ -8,7 +8,7 @@ use Rattle.sockets.specs.Accepting.{accepted}
 use Rattle.sockets.specs.Requests.{refusal, served, served_notices}
 use Rattle.sockets.specs.Sending.{next_out, offered}
 use Rattle.sockets.specs.Worked.{first}
-use Rattle.masked_worlds.specs.Worked.{is_third, listener_taken}
+use Rattle.masked_worlds.specs.Worked.{is_third}
 use Rattle.mixed_worlds.proofs.RealLogs.{flow_off}
 use Rattle.mixed_worlds.proofs.law.worked_settled.Goals as goal
 
