@@ -96,19 +96,22 @@ module _ (log : List Crossing) where
 
 pub returns-clause-both : goal.returns-clause-both
 returns-clause-both c =
-    two_suit sent_log took took_nothing fate.Reset fate.Reset (goes_on sent_log took fate.Reset took_goes took_begins refl)
+    two_suit sent_log took took_nothing fate.Reset fate.Reset
+    (goes_on sent_log took fate.Reset took_goes took_begins refl)
     (goes_on sent_log took_nothing fate.Reset nothing_goes nothing_begins refl) (λ t. (λ e. e, λ e. e))
 
 pub returns-clause-neither : goal.returns-clause-neither
 returns-clause-neither c =
-    two_suit sent_log took took_nothing fate.Open fate.Closing (goes_on sent_log took fate.Open took_goes took_begins refl)
+    two_suit sent_log took took_nothing fate.Open fate.Closing
+    (goes_on sent_log took fate.Open took_goes took_begins refl)
     (goes_on sent_log took_nothing fate.Closing nothing_goes nothing_begins refl)
     (λ t. (λ e. absurd (cc), λ e. absurd (cc)))
 
 -- their hosts are two
 pub returns-clause-not_peers : goal.returns-clause-not_peers
 returns-clause-not_peers c =
-    two_suit sent_log took gave fate.Reset fate.Open (goes_on sent_log took fate.Reset took_goes took_begins refl)
+    two_suit sent_log took gave fate.Reset fate.Open
+    (goes_on sent_log took fate.Reset took_goes took_begins refl)
     (goes_on sent_log gave fate.Open gave_goes gave_begins refl)
     (λ t. absurd (false≢true (sym (ap (same_host took.host) t.host) ∙ same_host-refl took.host)))
 
@@ -163,7 +166,8 @@ returns-clause-not_first c = λ at. at.1 first_suits
 
 pub returns-clause-unasked : goal.returns-clause-unasked
 returns-clause-unasked c =
-    two_suit sent_log took unasked fate.Reset fate.Open (goes_on sent_log took fate.Reset took_goes took_begins refl)
+    two_suit sent_log took unasked fate.Reset fate.Open
+    (goes_on sent_log took fate.Reset took_goes took_begins refl)
     (record {
       begins = λ e. absurd (false≢true (sym (ap is_begun never_asks) ∙ e));
       fate = ap (λ (s : Stage). suits s fate.Open) never_asks;
