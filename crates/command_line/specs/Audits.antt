@@ -54,7 +54,9 @@ kept = record { stray = None; unmade = None; malformed = None; messages = None; 
 
 -- what may be asked of the log of any host's program holds, whatever is wrong with how its lives end
 abbrev pub is_safe : Verdict → Bool
-is_safe v = is_none v.stray && is_none v.unmade && is_none v.malformed && is_none v.messages && is_none v.partners && is_none v.streams && is_none v.grants
+is_safe v =
+    is_none v.stray && is_none v.unmade && is_none v.malformed && is_none v.messages && is_none v.partners
+    && is_none v.streams && is_none v.grants
 
 -- what this program promises beyond that: how lives end, and that those which their partners ended have lost nothing
 abbrev pub keeps_ends : Verdict → Bool

@@ -20,6 +20,7 @@ RECEIVER, SENDER = SHORT.splitlines()[9:11]
 LIST, LISTS, LISTS_TURNED = "handed 0 -\n", "handed 0 -\nhanded 24 484950\n", "handed 24 484950\nhanded 0 -\n"
 BOTH = f"{RECEIVER}\n{SENDER}\n{LISTS}"
 ENDED, NONE_TAKEN, NONE_SENT = RECEIVER.replace("open", "ended"), RECEIVER.replace("1 16 1", "0 0 1").replace("4849", "-"), SENDER.replace("1 16 0", "0 0 0").replace("4849", "-")
+CLOSED = SENDER.replace("open", "closed")
 NONE_ENDED = NONE_TAKEN.replace("open", "ended")
 ALL_TAKEN = "handed 0 -\nhanded 16 4849\n"  # the lists where no more was handed over than was taken
 ASKS, OFFERS, DATA = ("".join(f"{line}\n" for line in SHORT.splitlines()[at : at + 3]) for at in (0, 3, 6))
@@ -314,9 +315,10 @@ VERDICTS = [
     (BOTH, f"{ENDED}\n{ENDED}\n{SENDER}\n{LIST}{LISTS}", "broken partners lines 10 11\nbroken closes lines 10 12\n" + FATES_10),
     (BOTH, f"{ENDED}\n{NONE_ENDED}\n{SENDER}\n{LIST}{ALL_TAKEN}", "broken partners lines 10 11\nbroken closes lines 11 12\n" + FATES_10),
     # a life that ends as both CLS let it, and lost something
-    (f"{DATA}{RECEIVER}\n{SENDER}", f"{DATA}{BOTH_CLS}{ENDED}\n{SENDER.replace('open', 'closed')}", "broken closes lines 16 17\nsafe"),
+    (DATA + RECEIVER, DATA + BOTH_CLS + ENDED, "broken closes lines 16 17\nbroken fates line 17\nsafe"),
+    (f"{DATA}{RECEIVER}\n{SENDER}", f"{DATA}{BOTH_CLS}{ENDED}\n{CLOSED}", "broken closes lines 16 17\nsafe"),
     # with a part that may be asked of any program there is no word
-    (BOTH, f"{RECEIVER.replace('1 100', '1 15').replace('open', 'closed')}\n{SENDER}\n{LISTS}", "broken grants lines 10 11\n" + FATES_10),
+    (RECEIVER, RECEIVER.replace("1 100", "1 15").replace("open", "closed"), "broken grants lines 10 11\n" + FATES_10),
     # the life that fails is the receiving one, wherever it is
     (BOTH, f"{SENDER}\n{RECEIVER[:-1]}8\n{LISTS_TURNED}", "broken lives line 11\nbroken streams lines 11 10"),
     (BOTH, f"{SENDER}\n{RECEIVER.replace('1 100', '1 15')}\n{LISTS_TURNED}", "broken grants lines 11 10"),
