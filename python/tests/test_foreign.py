@@ -41,7 +41,7 @@ class Foreign(unittest.TestCase):
         self.assertEqual(found, wanted)
 
     def test_how_lives_end(self) -> None:
-        fates = "broken fates line 10"  # the trace has no CLS and no stop
+        fates = "broken fates line 10\nsafe"  # the trace has no CLS and no stop
         closes, over = [{"host": "0/2", "socket": 33, "closes": True}], [{"host": "0/1", "socket": 16, "over": "cls"}, {"host": "0/2", "socket": 33, "over": "cls"}]
         self.assertEqual(ended([*closes, *over]), (["ended", "closed"], f"broken closes lines 10 11\n{fates}"))
         self.assertEqual(ended([{"host": "0/1", "socket": 16, "closes": True}, *over]), (["closed", "ended"], fates))

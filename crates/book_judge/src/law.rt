@@ -14,7 +14,7 @@ ghost use Rattle.net_sim.specs.declared.auditing.findings.Finding.TheVariants as
 ghost use Rattle.net_sim.specs.Findings.{ShowsLife};
 ghost use Rattle.net_sim.specs.Worked.{eight, four};
 ghost use Rattle.net_sim.specs.WorkedMoments.{rts, str};
-ghost use Rattle.book_judge.specs.WorkedLives.{late_answer, stopped_log, took_nothing, unasked};
+ghost use Rattle.book_judge.specs.WorkedLives.{late_answer, stopped_log, third_log, took_from_third, took_nothing, unasked};
 ghost use Rattle.promise.specs.Ends.{CanBeLeft, Closed, Dropped, Going, Over, Stopped};
 ghost use Rattle.promise.specs.Fates.{ClosesWhole};
 ghost use Rattle.promise.specs.Formed.{FormedBook};
@@ -118,6 +118,9 @@ pub fn worked_contacts()
     ensures both { AreSuited sent_log (took ∷ took_nothing ∷ []) (fate.Reset ∷ fate.Reset ∷ []) }
     ensures neither { AreSuited sent_log (took ∷ took_nothing ∷ []) (fate.Open ∷ fate.Closing ∷ []) }
     ensures not_peers { AreSuited sent_log (took ∷ gave ∷ []) (fate.Reset ∷ fate.Open ∷ []) }
+
+    // nor any with another peer
+    ensures other_peer { AreSuited third_log (took ∷ took_from_third ∷ []) (fate.Reset ∷ fate.Open ∷ []) }
 
     // not one without the other, whichever it is; and it is the second that is named
     ensures not_one { AreSuited sent_log (took ∷ took_nothing ∷ []) (fate.Reset ∷ fate.Open ∷ []) → ⊥ }

@@ -7,6 +7,7 @@ mod Jobs
 mod Joined
 mod Joins
 mod Judged
+mod LastWord
 mod Lived
 mod Logs
 mod Named

@@ -52,8 +52,32 @@ SaysOf v b = Judged v b.crossings (lives_of b) b.handed (fates_of b)
 abbrev pub kept : Verdict
 kept = record { stray = None; unmade = None; malformed = None; messages = None; partners = None; streams = None; grants = None; closes = None; unsuited = None }
 
+-- what may be asked of the log of any host's program holds, whatever is wrong with how its lives end
+abbrev pub is_safe : Verdict → Bool
+is_safe v =
+    is_none v.stray && is_none v.unmade && is_none v.malformed && is_none v.messages && is_none v.partners
+    && is_none v.streams && is_none v.grants
+
+-- what this program promises beyond that: how lives end, and that those which their partners ended have lost nothing
+abbrev pub keeps_ends : Verdict → Bool
+keeps_ends v = is_none v.closes && is_none v.unsuited
+
 abbrev pub is_kept : Verdict → Bool
-is_kept v = is_none v.stray && is_none v.unmade && is_none v.malformed && is_none v.messages && is_none v.partners && is_none v.streams && is_none v.grants && is_none v.closes && is_none v.unsuited
+is_kept v = is_safe v && keeps_ends v
+
+-- the same two of a log, without its verdict
+pub record IsSafeLog (b : Book) : Type 0 where
+  pub run : IsSomeRun (reverse b.crossings)
+  pub made : AreMade (reverse b.crossings) (lives_of b)
+  pub formed : IsWellFormed (reverse b.crossings) (lives_of b) b.handed
+  pub messages : SafeMessages (reverse b.crossings)
+  pub partners : SafePartners (reverse b.crossings) (lives_of b)
+  pub streams : AreFed (reverse b.crossings) (lives_of b) (lives_of b) b.handed
+  pub grants : SafeGrants (reverse b.crossings) (lives_of b)
+
+pub record KeepsEnds (b : Book) : Type 0 where
+  pub closes : ClosesWhole (reverse b.crossings) (lives_of b) b.handed (fates_of b)
+  pub fates : AreSuited (reverse b.crossings) (lives_of b) (fates_of b)
 
 -- ---- what is written
 
@@ -102,13 +126,13 @@ abbrev pub parts_text : Book → Verdict → List ℕ
 parts_text b v =
     broken_text b part.Messages v.messages ++ (broken_text b part.Partners v.partners ++ (broken_text b part.Streams v.streams ++ (broken_text b part.Grants v.grants ++ closes_text b v.closes)))
 
--- that a book is kept, where nothing is wrong
-abbrev pub kept_text : Verdict → List ℕ
-kept_text v = if is_kept v then codes "kept\n" else []
+-- the last line is a word: `kept` where nothing is wrong, `safe` where only closes or fates are
+abbrev pub word_text : Verdict → List ℕ
+word_text v = if is_kept v then codes "kept\n" else (if is_safe v then codes "safe\n" else [])
 
--- a line for each thing that is wrong, in this order
+-- a line for each thing that is wrong, in this order, and the word
 abbrev pub verdict_text : Book → Verdict → List ℕ
-verdict_text b v = run_text v.stray ++ (lives_text b v.unmade ++ (malformed_text b v.malformed ++ (parts_text b v ++ (fates_text b v.unsuited ++ kept_text v))))
+verdict_text b v = run_text v.stray ++ (lives_text b v.unmade ++ (malformed_text b v.malformed ++ (parts_text b v ++ (fates_text b v.unsuited ++ word_text v))))
 
 -- octets are a log, and what is said of its book is written
 pub record AuditsLog (octets : List ℕ) (said : Verdict) (before after : Option (List ℕ)) : Type 0 where

@@ -108,7 +108,7 @@ pub fn audit_status(found: Verdict) -> u8
 
 /// Reads a log, and writes `kept` where its book is safe, what crossed is a run of the mailboxes, its lives are
 /// made of the messages that crossed, those that their partners ended lost nothing, and each has a fate that what
-/// crossed leaves it. Else it writes all that isn't so, a line each, in this order:
+/// crossed leaves it. Else it writes all that isn't so, a line each, and a word, in this order:
 ///
 /// - `broken run line N`, the line of the first crossing that finds no box as it needs it;
 /// - `broken lives line N`, the line of the first life whose messages aren't the first on its link;
@@ -118,7 +118,8 @@ pub fn audit_status(found: Verdict) -> u8
 ///   and grants;
 /// - `broken closes lines N M`, of such a book, with the lines of the first life that its partner ended and that
 ///   lost anything, and of the one that it matches;
-/// - `broken fates line N`, the line of the first life whose fate isn't one that what crossed leaves it.
+/// - `broken fates line N`, the line of the first life whose fate isn't one that what crossed leaves it;
+/// - `safe`, where only closes or fates are wrong, so that what may be asked of the log of any host's program holds.
 ///
 /// It answers what it found.
 ///

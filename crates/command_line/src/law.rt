@@ -16,6 +16,7 @@ ghost use Rattle.interface.specs.declared.crossing.Crossing.TheVariants as cross
 ghost use Rattle.interface.specs.declared.message.HostMessage.{HostMessage};
 ghost use Rattle.net_sim.specs.Audit.{IsWellFormed, Says};
 ghost use Rattle.net_sim.specs.Findings.{AreFed};
+ghost use Rattle.net_sim.specs.declared.auditing.findings.Finding.{Finding};
 ghost use Rattle.net_sim.specs.declared.auditing.findings.Finding.TheVariants as finding;
 ghost use Rattle.net_sim.specs.declared.auditing.said.Audit.TheVariants as audit;
 ghost use Rattle.promise.specs.Fates.{ClosesWhole};
@@ -27,7 +28,7 @@ ghost use Rattle.promise.specs.declared.life.Life.{Life};
 ghost use Rattle.replay.specs.declared.print.Detail.{Detail};
 ghost use Rattle.world_replay.specs.Output as lines;
 ghost use Rattle.world_replay.specs.Output.{Shown, crossings_of, notices_of};
-ghost use Rattle.command_line.specs.Audits.{IsKeptLog, SaysKept, SaysOf, kept};
+ghost use Rattle.command_line.specs.Audits.{IsKeptLog, IsSafeLog, KeepsEnds, SaysKept, SaysOf, kept, word_text};
 ghost use Rattle.command_line.specs.Events.{is_raw};
 ghost use Rattle.command_line.specs.Lived.{AreLived};
 ghost use Rattle.command_line.specs.Logs.{Logged, LogsInput};
@@ -173,6 +174,32 @@ pub fn named_parts()
     // where nothing is named the book is safe, and nothing is named of a safe book
     ensures safe { (b : log.Book) → SaysOf kept b → Says audit.Kept (reverse b.crossings) (log.lives_of b) b.handed }
     ensures kept { (b : log.Book) (v : Verdict) → SaysOf kept b → SaysOf v b → v ≡ kept }
+{}
+
+/// The word at the end of an audit: `kept` where all holds, `safe` where only closes or fates don't, and none where
+/// something is wrong that may be asked of the log of any host's program.
+pub fn last_words()
+    ensures kept { (b : log.Book) (v : Verdict) → SaysOf v b → (word_text v ≡ codes "kept\n") ↔ (IsSafeLog b × KeepsEnds b) }
+    ensures safe { (b : log.Book) (v : Verdict) → SaysOf v b → (word_text v ≡ codes "safe\n") ↔ (IsSafeLog b × (KeepsEnds b → ⊥)) }
+    ensures none { (b : log.Book) (v : Verdict) → SaysOf v b → (word_text v ≡ []) ↔ (IsSafeLog b → ⊥) }
+{}
+
+/// The words of verdicts.
+pub fn worked_words()
+    // closes, fates, and both
+    ensures closes { (at : Finding) → word_text (record kept { closes = Some at }) ≡ codes "safe\n" }
+    ensures fates { (n : ℕ) → word_text (record kept { unsuited = Some n }) ≡ codes "safe\n" }
+    ensures ends { (at : Finding) (n : ℕ) → word_text (record kept { closes = Some at; unsuited = Some n }) ≡ codes "safe\n" }
+
+    // anything else, with them or without
+    ensures run { (n : ℕ) → word_text (record kept { stray = Some n }) ≡ [] }
+    ensures lives { (n : ℕ) → word_text (record kept { unmade = Some n }) ≡ [] }
+    ensures malformed { (at : Finding) → word_text (record kept { malformed = Some at }) ≡ [] }
+    ensures messages { (at : Finding) → word_text (record kept { messages = Some at }) ≡ [] }
+    ensures partners { (at : Finding) → word_text (record kept { partners = Some at }) ≡ [] }
+    ensures streams { (at : Finding) → word_text (record kept { streams = Some at }) ≡ [] }
+    ensures grants { (at : Finding) → word_text (record kept { grants = Some at }) ≡ [] }
+    ensures both { (at : Finding) (n : ℕ) → word_text (record kept { grants = Some at; unsuited = Some n }) ≡ [] }
 {}
 
 /// Ends that the program does not have.

@@ -3,7 +3,7 @@
 ghost use Rattle.std.specs.Prelude.{◌≡◌, OnOk, false, true};
 ghost use Rattle.replay.specs.Failing.{TellsFailure};
 ghost use Rattle.std.specs.Io.KnownBytes.{Appends};
-ghost use Rattle.command_line.specs.Audits.{broken_text, closes_text, fates_text, is_kept, kept_text, lines_of, lives_text, malformed_text, parts_text, run_text, verdict_text};
+ghost use Rattle.command_line.specs.Audits.{broken_text, closes_text, fates_text, is_kept, is_safe, lines_of, lives_text, malformed_text, parts_text, run_text, verdict_text, word_text};
 
 use book_log::LoggedBook;
 use net_sim::{Finding, Part};
@@ -40,6 +40,14 @@ impl Verdict {
     pub fn is_kept(&self) -> bool
         ensures { result ≡ is_kept self.now }
     {
+        self.is_safe() && self.closes.is_none() && self.unsuited.is_none()
+    }
+
+    /// Returns whether nothing is wrong but closes or fates: whether that holds which may be asked of the log of any
+    /// host's program.
+    pub fn is_safe(&self) -> bool
+        ensures { result ≡ is_safe self.now }
+    {
         self.stray.is_none()
             && self.unmade.is_none()
             && self.malformed.is_none()
@@ -47,8 +55,6 @@ impl Verdict {
             && self.partners.is_none()
             && self.streams.is_none()
             && self.grants.is_none()
-            && self.closes.is_none()
-            && self.unsuited.is_none()
     }
 }
 
@@ -111,7 +117,7 @@ pub(crate) fn write_found<W: Output>(
     write_malformed(book, found.malformed, writer)?;
     write_parts(book, found, writer)?;
     write_fates(book, found.unsuited, writer)?;
-    write_kept(found, writer)?;
+    write_word(found, writer)?;
     writer.flush()
 }
 
@@ -257,16 +263,19 @@ fn write_parts<W: Output>(
     write_closes(book, found.closes, writer)
 }
 
-/// Writes that a book is kept, where nothing is wrong.
+/// Writes the word of a book: `kept` where nothing is wrong, `safe` where only closes or fates are.
 ///
 /// Errors: `WriteFailed`.
-fn write_kept<W: Output>(found: Verdict, writer: &mut W) -> Result<(), WriteFailed>
+fn write_word<W: Output>(found: Verdict, writer: &mut W) -> Result<(), WriteFailed>
     requires whole { W.failed writer.old ≡ false }
-    ensures written { OnOk result (Appends (W.contents writer.old) (W.contents writer.new) (kept_text found)) }
+    ensures written { OnOk result (Appends (W.contents writer.old) (W.contents writer.new) (word_text found)) }
     ensures failed { TellsFailure result (W.failed writer.new) }
 {
-    if !found.is_kept() {
-        return Ok(());
+    if found.is_kept() {
+        writer.write_all(b"kept\n")
+    } else if found.is_safe() {
+        writer.write_all(b"safe\n")
+    } else {
+        Ok(())
     }
-    writer.write_all(b"kept\n")
 }

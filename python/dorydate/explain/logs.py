@@ -222,8 +222,10 @@ def why_so(book: Book, verdict: str) -> str:
         "broken closes": why_closes,
         "broken fates": why_fates,
     }
-    if verdict == "kept":
-        return f"The book is safe: {counted(len(book.log), 'crossing')}, a run of the mailboxes, and {counted(len(book.lives), 'life', 'lives')} made of them."
+    if verdict in ("kept", "safe"):
+        lives = f"{counted(len(book.lives), 'life', 'lives')} made of them."
+        safe = f"The book is safe: {counted(len(book.log), 'crossing')}, a run of the mailboxes, and {lives}"
+        return safe if verdict == "kept" else f"{safe} Only how lives end is otherwise than this program promises."
     found = next((tell for name, tell in parts.items() if verdict.startswith(name)), None)
     return found(book, numbers) if found and numbers else "No cause was found."
 

@@ -785,6 +785,44 @@ class CountsOn(Judge):
         return True
 
 
+# ---- judges of the word
+
+
+class NeverSafe(Judge):
+    """No log is safe that isn't kept."""
+
+    def word(self, found: Sequence[str]) -> list[str]:
+        return [] if found else super().word(found)
+
+
+class SafeByItsEnds(Judge):
+    """A log of which closes or fates are broken is safe, whatever else is."""
+
+    def word(self, found: Sequence[str]) -> list[str]:
+        return super().word([*found[-1:]])
+
+
+class SafeByFates(Judge):
+    """Closes may be asked of any program."""
+
+    def word(self, found: Sequence[str]) -> list[str]:
+        return [] if found and found[0].startswith("broken closes") else super().word(found)
+
+
+class SafeByCloses(Judge):
+    """Fates may be asked of any program."""
+
+    def word(self, found: Sequence[str]) -> list[str]:
+        return [] if found and found[-1].startswith("broken fates") else super().word(found)
+
+
+class SafeAndKept(Judge):
+    """A log that is kept is safe, too."""
+
+    def word(self, found: Sequence[str]) -> list[str]:
+        return ["safe", *super().word(found)] if not found else super().word(found)
+
+
 READERS: list[type[LogReader]] = [
     GoesOn, NoLineFeed, NoEnd, EndAtLastLine, AnyOrder, AnyText, AnySocket, AnyStamp, ShortStamp, AnyAmount, ShortAmount, AnyKind, TwoFates, AnyFate,
 ]  # fmt: skip
@@ -797,6 +835,7 @@ JUDGES: list[type[Judge]] = [
     RstSentResetsNothing, RrpTakenResets, OwedRrpResets, RrpResetsNothing, OwedAfterStop, FailuresResetNothing,
     FailsWhileOwed, OneClsEnds, AnyClsCounts, EndedThoughClosedFirst, ResetBeforeItsCls, LastClsFirst, BeginsAnyhow,
     NothingBefore, ResetOfOne, ResetsAllOfTheHost, ResetsThePeers, ResetsWhatIsOver, CountsOn,
+    NeverSafe, SafeByItsEnds, SafeByFates, SafeByCloses, SafeAndKept,
 ]  # fmt: skip
 
 

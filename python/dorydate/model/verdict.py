@@ -20,6 +20,7 @@ from dorydate.model.mailboxes import Mailboxes, first_break, hosts_of
 from dorydate.model.runs import End
 
 LIVES = [*PARTS[1:], "closes"]  # the parts that are about lives
+OF_ENDS = "broken closes ", "broken fates "  # what is promised of this program only
 T = TypeVar("T")
 
 
@@ -46,9 +47,15 @@ class Judge:
             return f"bad log line {line}"
 
     def verdict(self, book: Book) -> str:
-        """What is to be said of a book, with the lines that show it: all that is wrong with it."""
-        found = [self.of_run(book.log), self.of_lives(book), *self.of_book(book), self.of_fates(book)]
-        return "\n".join(filter(None, found)) or "kept"
+        """What is to be said of a book, with the lines that show it: all that is wrong with it, and the word."""
+        parts = [self.of_run(book.log), self.of_lives(book), *self.of_book(book), self.of_fates(book)]
+        found = [part for part in parts if part is not None]
+        return "\n".join([*found, *self.word(found)])
+
+    def word(self, found: Sequence[str]) -> list[str]:
+        """The word of a book of which this is wrong: `kept` of none, `safe` where all of it is about how lives end."""
+        is_safe = all(part.startswith(OF_ENDS) for part in found)
+        return ["safe" if found else "kept"] if is_safe else []
 
     def of_run(self, log: Log) -> str | None:
         """What is wrong with what crossed, None where it is a run of the mailboxes between the hosts that it names."""

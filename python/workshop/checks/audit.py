@@ -212,7 +212,7 @@ def log_of_commands(count: int, closed: bool) -> bytes:
 
 def named_last(count: int) -> End:
     """What is said of a log of this many connections, of which the last is over by both CLS and said to be open."""
-    return 4, f"broken fates line {9 * count + 3 * count + 6 + 2 * count - 1}\n", ""
+    return 4, f"broken fates line {9 * count + 3 * count + 6 + 2 * count - 1}\nsafe\n", ""
 
 
 def check_long() -> list[str]:

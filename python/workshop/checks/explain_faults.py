@@ -140,6 +140,7 @@ BAD_LOG_LINES = [
 # ends of that log, in place of its own, and words of the cause
 BAD_LOG_ENDS = [(b"", "Its last line has to be `end`"), (b"end", "It isn't ended by a line feed"), (b"end\nend\n", "It follows `end`")]
 FATES_10, FATES_11 = "broken fates line 10", "broken fates line 11"
+SAFE_10, SAFE_11 = f"{FATES_10}\nsafe", f"{FATES_11}\nsafe"
 RST = b"out 0/1 0/2 0 48 00080001000C"
 DROPPED = [  # crossings that drop connections, and words of the cause
     (9, b"rfnm", b"incomplete", "0/2 dropped its connections with 0/1 in line 9, where a message of its host failed."),
@@ -161,7 +162,7 @@ BROKEN_LOGS = [
     (11, b"0/1 16 3", b"0/1 18 3", "broken lives line 11\nbroken streams line 10", "It took 16 bits, and no life matches it. That would be one of host 0/2, socket 33"),
     (10, b"100", b"15", "broken grants lines 10 11", "at most 1 with 15 bits may pass. But line 10 took 1 message with 16 bits and line 11 sent 1 message with 16 bits."),
     (10, b"0 0 open", b"0 85 open", "broken grants lines 10 11", "had 0 and 85 back: at most 1 with 15 bits may pass"),
-    (10, b"open", b"ended", "broken closes lines 10 11\n" + FATES_10, "all that was handed over in line 13, but octet 3 of what was handed over, 50, was not taken: what was taken has 16 bits, and what was handed over has 24."),
+    (10, b"open", b"ended", "broken closes lines 10 11\n" + SAFE_10, "all that was handed over in line 13, but octet 3 of what was handed over, 50, was not taken: what was taken has 16 bits, and what was handed over has 24."),
     (10, b"1 16 1 100 0 0 open 4849", b"1 8 1 100 0 0 ended 48", "broken lives line 10\nbroken closes lines 10 11\n" + FATES_10, "all that line 11 sent, but octet 2 of what was sent, 49, was not taken: what was taken has 8 bits, and what was sent has 16."),
     (10, b"0 0 open 4849", b"0 0 ended 4841", "broken lives line 10\nbroken streams lines 10 11\nbroken closes lines 10 11\n" + FATES_10, "So it took all that line 11 sent, but at octet 2 what was taken has 41, and what was sent has 49."),
     (10, b"receive 1 16 1 100 0 0 open", b"receive 0 16 1 100 0 0 ended", "broken lives line 10\nbroken closes lines 10 11\n" + FATES_10, "all that line 11 sent, but it counts 0 messages, and line 11 1."),
@@ -180,12 +181,13 @@ BROKEN_LOGS = [
     (7, b"out", b"down 0/2\nout", "broken run line 8\nbroken lives line 12\nbroken fates line 12", "Host 0/2 is down."),
     (7, b"out", b"down 0/2\nout", "broken run line 8\nbroken lives line 12", "It counts none that crossed after that."),
     # fates
-    *((line, old, new, FATES_11, f"It says `open`, but {why} It would be `reset`.") for line, old, new, why in DROPPED),
-    (10, b"open", b"closed", FATES_10, "no CLS of socket 16 with socket 33 went out and no CLS of socket 33 with"),
-    (11, b"open", b"stopped", FATES_11, "It says `stopped`, but its host, 0/2, hasn't stopped since it began."),
+    *((line, old, new, SAFE_11, f"It says `open`, but {why} It would be `reset`.") for line, old, new, why in DROPPED),
+    (10, b"open", b"closed", SAFE_10, "no CLS of socket 16 with socket 33 went out and no CLS of socket 33 with"),
+    (11, b"open", b"stopped", SAFE_11, "It says `stopped`, but its host, 0/2, hasn't stopped since it began."),
     (9, b"answer", b"down 0/2\nanswer", "broken run line 10\nbroken fates line 12", "0/2, stopped in line 9. It would"),
     *contacted("open", "reset"),
     *contacted("reset", "open"),
+    (10, b"open", b"closed", SAFE_10, "2 lives made of them. Only how lives end is otherwise than this program promises."),
     (11, b"3 1 send", b"3 1 send", "kept", "The book is safe: 9 crossings, a run of the mailboxes, and 2 lives made of them."),
     # lives of the messages that crossed
     (11, b"send 1", b"send 2", "broken lives line 11\nbroken grants lines 10 11", "It isn't made of the messages that crossed: it counts 2 messages, and after its requests 1 went out on 0/2 0/1 5."),

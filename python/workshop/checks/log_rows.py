@@ -20,6 +20,7 @@ RECEIVER, SENDER = SHORT.splitlines()[9:11]
 LIST, LISTS, LISTS_TURNED = "handed 0 -\n", "handed 0 -\nhanded 24 484950\n", "handed 24 484950\nhanded 0 -\n"
 BOTH = f"{RECEIVER}\n{SENDER}\n{LISTS}"
 ENDED, NONE_TAKEN, NONE_SENT = RECEIVER.replace("open", "ended"), RECEIVER.replace("1 16 1", "0 0 1").replace("4849", "-"), SENDER.replace("1 16 0", "0 0 0").replace("4849", "-")
+CLOSED = SENDER.replace("open", "closed")
 NONE_ENDED = NONE_TAKEN.replace("open", "ended")
 ALL_TAKEN = "handed 0 -\nhanded 16 4849\n"  # the lists where no more was handed over than was taken
 ASKS, OFFERS, DATA = ("".join(f"{line}\n" for line in SHORT.splitlines()[at : at + 3]) for at in (0, 3, 6))
@@ -74,7 +75,7 @@ def fated(
         f"life 0/1 16 0/2 33 {first} {second + 1} receive 1 16 1 100 0 0 {receiver} 4849",
         f"life 0/2 33 0/1 16 {second} {first + 1} send 1 16 0 0 0 0 {sender} 4849",
     ]
-    wanted = f"broken fates line {crossings.count(LINE_FEED) + named}" if named else "kept"
+    wanted = f"broken fates line {crossings.count(LINE_FEED) + named}\nsafe" if named else "kept"
     return f"{crossings}{lives[0]}\n{lives[1]}\n{ALL_TAKEN}end\n", wanted
 
 
@@ -174,7 +175,7 @@ def contacted(words: str, named: int, between: str = "", peer: str = "0/2") -> t
         f"life {peer} 33 0/1 16 {at + 3} {at + 1} send 0 0 0 0 0 0 open -",
     ]
     said = "".join(f"{life.replace('open', word)}\n" for life, word in zip(lives, words.split()))
-    wanted = f"broken fates line {crossings.count(LINE_FEED) + named}" if named else "kept"
+    wanted = f"broken fates line {crossings.count(LINE_FEED) + named}\nsafe" if named else "kept"
     return f"{crossings}{said}{ALL_TAKEN}{LIST}{LIST}end\n", wanted
 
 
@@ -223,6 +224,7 @@ NOTHING, ONE = ("0 0 1 100 0 0 open -", "0 0 0 0 0 0 open -"), ("1 8 1 100 0 0 o
 ON_6 = MORE.replace("0/1 5", "0/1 6")
 FATES_10, FATES_11 = "broken fates line 10", "broken fates line 11"
 RFNM = "answer rfnm 0/2 0/1 5\n"
+SAFE_10, SAFE_11 = f"{FATES_10}\nsafe", f"{FATES_11}\nsafe"
 CLOSES = "broken closes lines 10 11\n" + FATES_10
 VERDICTS = [
     ("", "", "kept"),
@@ -235,9 +237,9 @@ VERDICTS = [
     # the run of the mailboxes
     ("answer rfnm 0/2 0/1 5", "answer dead 0/2 0/1 5", "broken run line 9\n" + FATES_11),
     ("answer rfnm 0/2 0/1 5", "answer nottaken 0/2 0/1 5", "broken run line 9\n" + FATES_11),
-    ("answer rfnm 0/2 0/1 5", "answer incomplete 0/2 0/1 5", FATES_11),
+    ("answer rfnm 0/2 0/1 5", "answer incomplete 0/2 0/1 5", SAFE_11),
     ("answer rfnm 0/2 0/1 5", "out 0/2 0/1 5 0 -", "broken run line 9"),
-    ("answer rfnm 0/2 0/1 5", "down 0/2", FATES_11),
+    ("answer rfnm 0/2 0/1 5", "down 0/2", SAFE_11),
     ("answer rfnm 0/2 0/1 5\n", "down 0/2\nanswer rfnm 0/2 0/1 5\n", "broken run line 10\nbroken fates line 12"),
     ("answer rfnm 0/2 0/1 5\n", f"down 0/2\nup 0/2\n{RFNM}", "broken run line 11\nbroken fates line 13"),
     # lives of the messages that crossed: none crossed, others did, not all of one, and none but the second counts
@@ -295,23 +297,28 @@ VERDICTS = [
     ("receive 1 16 1 100", "receive 2 16 1 100", "broken lives line 10\nbroken grants lines 10 11"),
     ("send 1 16", "send 2 16", "broken lives line 11\nbroken grants lines 10 11"),
     # closes: a receiving life that its partner ended took all that was sent, and all that was handed over there
-    (BOTH, f"{ENDED}\n{SENDER}\n{LISTS}", CLOSES),
-    (BOTH, f"{ENDED}\n{SENDER}\n{ALL_TAKEN}", FATES_10),
-    (BOTH, f"{ENDED}\n{SENDER.replace('open', 'ended')}\n{ALL_TAKEN}", FATES_10),
-    *((BOTH, f"{RECEIVER.replace('open', word)}\n{SENDER.replace('open', 'ended')}\n{LISTS}", f"broken fates line {line}") for word, line in (("closed", 10), ("reset", 11), ("stopped", 10))),
-    *((BOTH, f"{NONE_TAKEN.replace('open', word)}\n{SENDER}\n{LISTS}", wanted) for word, wanted in (("open", "kept"), ("closed", FATES_10), ("reset", "kept"), ("stopped", FATES_10))),
-    (BOTH, f"{NONE_ENDED}\n{SENDER}\n{LISTS}", CLOSES),
-    (DATA + BOTH, f"{NONE_ENDED}\n{NONE_SENT}\n{LISTS}", "broken closes lines 7 8\nbroken fates line 7"),
-    (DATA + BOTH, f"{NONE_ENDED}\n{NONE_SENT}\n{LIST}{LIST}", "broken fates line 7"),
-    (BOTH, f"{SENDER}\n{ENDED}\n{LISTS_TURNED}", "broken closes lines 11 10\n" + FATES_11),
+    (BOTH, f"{ENDED}\n{SENDER}\n{LISTS}", f"{CLOSES}\nsafe"),
+    (BOTH, f"{ENDED}\n{SENDER}\n{ALL_TAKEN}", SAFE_10),
+    (BOTH, f"{ENDED}\n{SENDER.replace('open', 'ended')}\n{ALL_TAKEN}", SAFE_10),
+    *((BOTH, f"{RECEIVER.replace('open', word)}\n{SENDER.replace('open', 'ended')}\n{LISTS}", f"broken fates line {line}\nsafe") for word, line in (("closed", 10), ("reset", 11), ("stopped", 10))),
+    *((BOTH, f"{NONE_TAKEN.replace('open', word)}\n{SENDER}\n{LISTS}", wanted) for word, wanted in (("open", "kept"), ("closed", SAFE_10), ("reset", "kept"), ("stopped", SAFE_10))),
+    (BOTH, f"{NONE_ENDED}\n{SENDER}\n{LISTS}", f"{CLOSES}\nsafe"),
+    (DATA + BOTH, f"{NONE_ENDED}\n{NONE_SENT}\n{LISTS}", "broken closes lines 7 8\nbroken fates line 7\nsafe"),
+    (DATA + BOTH, f"{NONE_ENDED}\n{NONE_SENT}\n{LIST}{LIST}", "broken fates line 7\nsafe"),
+    (BOTH, f"{SENDER}\n{ENDED}\n{LISTS_TURNED}", "broken closes lines 11 10\n" + SAFE_11),
     (BOTH, f"{ENDED}\n{LIST}", "broken streams line 10\n" + FATES_10),
-    (BOTH, f"{NONE_ENDED}\n{LIST}", FATES_10),
+    (BOTH, f"{NONE_ENDED}\n{LIST}", SAFE_10),
     (BOTH, f"{ENDED.replace('receive 1', 'receive 0')}\n{SENDER}\n{ALL_TAKEN}", "broken lives line 10\n" + CLOSES),
     (BOTH, f"{ENDED}\n{SENDER.replace('4849', '4848')}\n{ALL_TAKEN.replace('4849', '4848')}", "broken lives line 11\nbroken streams lines 10 11\n" + CLOSES),
     (BOTH, f"{ENDED}\n{SENDER.replace('33 0/1 16', '33 0/1 18')}\n{LISTS}", "broken lives line 11\nbroken streams line 10\n" + FATES_10),
     (BOTH, f"{ENDED}\n{SENDER}\n{SENDER}\n{LIST}handed 16 4849\nhanded 24 484950\n", "broken partners lines 11 12\n" + CLOSES),
     (BOTH, f"{ENDED}\n{ENDED}\n{SENDER}\n{LIST}{LISTS}", "broken partners lines 10 11\nbroken closes lines 10 12\n" + FATES_10),
     (BOTH, f"{ENDED}\n{NONE_ENDED}\n{SENDER}\n{LIST}{ALL_TAKEN}", "broken partners lines 10 11\nbroken closes lines 11 12\n" + FATES_10),
+    # a life that ends as both CLS let it, and lost something
+    (DATA + RECEIVER, DATA + BOTH_CLS + ENDED, "broken closes lines 16 17\nbroken fates line 17\nsafe"),
+    (f"{DATA}{RECEIVER}\n{SENDER}", f"{DATA}{BOTH_CLS}{ENDED}\n{CLOSED}", "broken closes lines 16 17\nsafe"),
+    # with a part that may be asked of any program there is no word
+    (RECEIVER, RECEIVER.replace("1 100", "1 15").replace("open", "closed"), "broken grants lines 10 11\n" + FATES_10),
     # the life that fails is the receiving one, wherever it is
     (BOTH, f"{SENDER}\n{RECEIVER[:-1]}8\n{LISTS_TURNED}", "broken lives line 11\nbroken streams lines 11 10"),
     (BOTH, f"{SENDER}\n{RECEIVER.replace('1 100', '1 15')}\n{LISTS_TURNED}", "broken grants lines 11 10"),

@@ -12,7 +12,7 @@ import re
 from workshop.parts import ROOT
 
 MOST_WORDS = 900  # of README, which is read first
-MOST_OF_ALL = 69_950
+MOST_OF_ALL = 70_220
 PAGES = ("README.md", "CONTRIBUTING.md", "docs/*.md")
 # a line that begins something of its own: a heading, an item, a row, a quotation, a picture, a comment, code
 OWN = re.compile(r"(?:#|[-*] |\d+\. |\||>|!\[|<|```|    |\t)")
