@@ -6,7 +6,7 @@ use Rattle.std.specs.List.{All, Contains, flat_map, list_any}
 use Rattle.std.specs.List.Sorted.{IsStrictlySortedBy}
 use Rattle.interface.specs.Flow.{flow_cmp}
 use Rattle.trace.specs.Flows.{gone, same_flow_part, same_name, told}
-use Rattle.trace.specs.Joined.{extended, part_behind}
+use Rattle.trace.specs.Joined.{part_behind}
 use Rattle.trace.specs.declared.all_parts.AllParts.{AllParts}
 use Rattle.trace.specs.declared.flow_part.FlowPart.{FlowPart}
 

@@ -13,14 +13,14 @@ use Rattle.script.specs.Spelling.{IsEvent}
 use Rattle.script.specs.declared.event.RawEvent.TheVariants as event
 use Rattle.script.specs.declared.event.RawEvent.{RawEvent}
 use Rattle.topology.specs.declared.network.CarrierKind.TheVariants as kind
-use Rattle.trace.specs.Changes.{AreOfOne, IsGone, IsLostAt, changed, changed_parts, members_of}
+use Rattle.trace.specs.Changes.{AreOfOne, IsGone, IsLostAt, changed_parts, members_of}
 use Rattle.trace.specs.Flows.{gone}
 use Rattle.trace.specs.Kept.{IsTold}
 use Rattle.trace.specs.Parts.{Down, IsPart, Part, SamePart, Waiting, is_named, parts_of}
 use Rattle.trace.specs.Texts.{answer_object, crossing_object, opening_line, part_name, part_text, queues_text}
 use Rattle.trace.specs.Texts.{trace_line, whole_text}
 use Rattle.trace.specs.Traces.{SaysAll, TellsEvent, asking_from, change_text, numbered_from, plain_inside}
-use Rattle.trace.specs.Worked.{empty, first, flow, hosts, second, short, taken, third, waiting, with_down}
+use Rattle.trace.specs.Worked.{empty, first, flow, second, short, taken, third, waiting, with_down}
 use Rattle.trace.specs.declared.all_parts.AllParts.{AllParts}
 use Rattle.trace.specs.declared.element.Spot.{Spot}
 use Rattle.trace.specs.declared.fate.Fate.TheVariants as fate
