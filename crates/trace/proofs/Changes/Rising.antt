@@ -1,6 +1,7 @@
 -- Where no part has changed, and flows rise in each list, all parts are as they were.
-use Rattle.std.proofs.Common.{◌≡◌, ◌⊎◌, inl, inr, suc, ◌==◌, ◌&&◌, ◌||◌, Bool, true, false, not, List, [], ◌∷◌, ◌++◌}
+use Rattle.std.proofs.Common.{◌≡◌, inl, inr, ℕ, suc, ◌==◌, ◌&&◌, ◌||◌, Bool, true, false, not, List, [], ◌∷◌, ◌++◌}
 use Rattle.std.proofs.Common.{filter, length, map, arith, refl, sym, ap, subst, ◌∙◌}
+use Rattle.std.proofs.lemmas.Bool.{or_cases, or_right}
 use Rattle.std.proofs.lemmas.Cmp.{tied_itself}
 use Rattle.std.proofs.lemmas.List.{length-map}
 use Rattle.std.proofs.lemmas.List.Elements.{All-head, All-nil, All-tail}
@@ -36,23 +37,14 @@ not_before_itself f g less same =
     let itself : flow_cmp f g ≡ Equal = ap (flow_cmp f) (sym same) ∙ tied_itself flows_total f in
     let two : true ≡ false = ap is_lt (sym less ∙ itself) in cc
 
--- either is found
-any_of : (a b : Bool) → (a || b) ≡ true → (a ≡ true) ⊎ (b ≡ true)
-any_of true b e = inl refl
-any_of false b e = inr e
-
 name_flow : (p q : FlowPart) → same_name p q ≡ true → p.flow ≡ q.flow
 name_flow p q e = same_flow-true p.flow q.flow (and_true (same_side p.side q.side) (same_flow p.flow q.flow) e).1
-
-or_later : (a b : Bool) → b ≡ true → (a || b) ≡ true
-or_later true b e = refl
-or_later false b e = e
 
 -- what is found in a list comes after what is before all of it
 before_found : (f : Flow) (list : List FlowPart) (p : FlowPart) → IsBefore f list → is_there list p ≡ true
     → flow_cmp f p.flow ≡ Less
 before_found f [] p h e = absurd (cc)
-before_found f (q ∷ list) p h e = elim (any_of (same_name q p) (is_there list p) e) [
+before_found f (q ∷ list) p h e = elim (or_cases (same_name q p) (is_there list p) e) [
   | inl same ↦ subst (λ (g : Flow). flow_cmp f g ≡ Less) (name_flow q p same) h.0
   | inr rest ↦ before_found f list p h.1 rest
 ]
@@ -64,9 +56,9 @@ name_of p q e =
 
 told_there : (list : List FlowPart) (p : FlowPart) → is_told list p ≡ true → is_there list p ≡ true
 told_there [] p e = e
-told_there (q ∷ list) p e = elim (any_of (same_flow_part q p) (is_told list p) e) [
+told_there (q ∷ list) p e = elim (or_cases (same_flow_part q p) (is_told list p) e) [
   | inl same ↦ ap (λ (b : Bool). b || is_there list p) (name_of q p same)
-  | inr rest ↦ or_later (same_name q p) (is_there list p) (told_there list p rest)
+  | inr rest ↦ or_right (same_name q p) (is_there list p) (told_there list p rest)
 ]
 
 -- ---- two lists in which flows rise
@@ -83,7 +75,7 @@ told_later : (b : FlowPart) (before now : List FlowPart) → IsBefore b.flow now
     → AllTold before now
 told_later b before [] h all = tt
 told_later b before (p ∷ now) h all = (
-  elim (any_of (same_flow_part b p) (is_told before p) all.0) [
+  elim (or_cases (same_flow_part b p) (is_told before p) all.0) [
     | inl same ↦ absurd (not_before_itself b.flow p.flow h.0 (name_flow b p (name_of b p same)))
     | inr rest ↦ rest
   ],
@@ -94,7 +86,7 @@ there_later : (n : FlowPart) (before now : List FlowPart) → IsBefore n.flow be
     → AllThere before now
 there_later n [] now h all = tt
 there_later n (p ∷ before) now h all = (
-  elim (any_of (same_name n p) (is_there now p) all.0) [
+  elim (or_cases (same_name n p) (is_there now p) all.0) [
     | inl same ↦ absurd (not_before_itself n.flow p.flow h.0 (name_flow n p same))
     | inr rest ↦ rest
   ],
@@ -104,11 +96,11 @@ there_later n (p ∷ before) now h all = (
 -- the first of each is the first of the other
 first_is : (b n : FlowPart) (before now : List FlowPart) → IsBefore b.flow before → IsBefore n.flow now
     → is_told (b ∷ before) n ≡ true → is_there (n ∷ now) b ≡ true → n ≡ b
-first_is b n before now low high told there = elim (any_of (same_flow_part b n) (is_told before n) told) [
+first_is b n before now low high told there = elim (or_cases (same_flow_part b n) (is_told before n) told) [
   | inl same ↦ sym (part_is b n same)
   | inr behind ↦
       let less : flow_cmp b.flow n.flow ≡ Less = before_found b.flow before n low (told_there before n behind) in
-      absurd (elim (any_of (same_name n b) (is_there now b) there) [
+      absurd (elim (or_cases (same_name n b) (is_there now b) there) [
         | inl same ↦ not_before_itself b.flow n.flow less (sym (name_flow n b same))
         | inr rest ↦ not_before_itself b.flow b.flow
             (flows_total.trans b.flow n.flow b.flow less (before_found n.flow now b high rest)) refl
@@ -135,7 +127,7 @@ same_list (b ∷ before) (n ∷ now) rose rise all there =
 -- ---- where none has changed
 
 -- two lists are empty where they are so together
-none_of : {X : Type 0} (xs ys : List X) → xs ++ ys ≡ [] → (xs ≡ []) × (ys ≡ [])
+none_of : (xs ys : List (List ℕ)) → xs ++ ys ≡ [] → (xs ≡ []) × (ys ≡ [])
 none_of [] ys e = (refl, e)
 none_of (x ∷ xs) ys e = absurd (let long : suc (length (xs ++ ys)) ≡ 0 = ap length e in omega (arith, long))
 
