@@ -6,6 +6,6 @@ pub mod Putting
 pub mod FlowTexts
 pub mod Flowing
 pub mod FlowLaws
+pub mod Rising
 pub mod Deciding
-pub mod SameLists
 pub mod Reached

@@ -2,9 +2,11 @@
 use Rattle.std.specs.Prelude.{◌≡◌, ◌<◌, ℕ, Bool, false, not, ◌++◌, ◌∷◌, List, [], filter, if◌then◌else◌, length, map}
 use Rattle.std.specs.Prelude.{nat_eq, slice_get, slice_index_or, slice_set, Option, Some, None}
 use Rattle.std.specs.Cmp.Lexicographic.{pointwise}
-use Rattle.std.specs.List.{Contains, flat_map, list_any}
+use Rattle.std.specs.List.{All, Contains, flat_map, list_any}
+use Rattle.std.specs.List.Sorted.{IsStrictlySortedBy}
+use Rattle.interface.specs.Flow.{flow_cmp}
 use Rattle.trace.specs.Flows.{gone, same_flow_part, same_name, told}
-use Rattle.trace.specs.Joined.{extended, part_behind}
+use Rattle.trace.specs.Joined.{part_behind}
 use Rattle.trace.specs.declared.all_parts.AllParts.{AllParts}
 use Rattle.trace.specs.declared.flow_part.FlowPart.{FlowPart}
 
@@ -67,6 +69,24 @@ pub record IsLostAt (before now : List (List FlowPart)) (place : ℕ) (p : FlowP
   pub within : place < length now
   pub was : Contains (slice_index_or before place []) p
   pub none : is_there (slice_index_or now place []) p ≡ false
+
+-- a text is the null of such a flow
+pub record IsGone (before now : List (List FlowPart)) (text : List ℕ) : Type 0 where
+  pub place : ℕ
+  pub flow : FlowPart
+  pub lost : IsLostAt before now place flow
+  pub null : text ≡ gone flow
+
+-- in a list flows rise: each comes before all those after it, and so none is there twice
+abbrev pub Rises : List FlowPart → Type 0
+Rises list = IsStrictlySortedBy flow_cmp (map (λ p. p.flow) list)
+
+-- parts of one network: as many that are always there, and as many lists of flows, in each of which they rise
+pub record AreOfOne (before now : AllParts) : Type 0 where
+  pub fixed : length before.fixed ≡ length now.fixed
+  pub lists : length before.flows ≡ length now.flows
+  pub rose : All Rises before.flows
+  pub rise : All Rises now.flows
 
 -- ---- one by one
 

@@ -60,6 +60,10 @@ known = record { side = side.Source; flow = flow; state = state.Outstanding; num
 abbrev pub on_link : ℕ → FlowPart
 on_link link = record known { flow = record flow { link = record { 0 = link } } }
 
+-- and of the same flow at its destination
+abbrev pub at_destination : FlowPart
+at_destination = record known { side = side.Kept; state = state.Waits }
+
 -- parts of a network with one that is always there, and these flows
 abbrev pub with_flows : List (List FlowPart) → AllParts
 with_flows flows = record { fixed = codes "a" ∷ []; flows = flows }

@@ -7,40 +7,20 @@ ghost use Rattle.interface.specs.declared.crossing.Crossing.TheVariants as cross
 ghost use Rattle.interface.specs.declared.event.NetEvent.TheVariants as net;
 ghost use Rattle.leader1822.specs.Boxes.{host_stopped, opening_boxes, plain_calls, with_queue};
 ghost use Rattle.script.specs.declared.event.RawEvent.TheVariants as event;
-ghost use Rattle.trace.specs.Changes.{changed, changed_flows, changed_lists, changed_parts, members_of};
+ghost use Rattle.trace.specs.Changes.{IsGone, Rises, changed, changed_flows, changed_lists, changed_parts, members_of};
 ghost use Rattle.trace.specs.Elements.{by_round, elements_of};
 ghost use Rattle.trace.specs.Flows.{gone, told};
 ghost use Rattle.trace.specs.Parts.{Down, Waiting, SamePart, is_named, parts_of};
-ghost use Rattle.trace.specs.Texts.{answer_object, crossing_object, part_name, part_text, queues_text, whole_text};
-ghost use Rattle.trace.specs.Traces.{IsStill, MayTell, asking_from, numbered_from, plain_inside};
-ghost use Rattle.trace.specs.Worked.{first, flow, hosts, known, on_link, one_waits, second, short, started, stop, takes};
-ghost use Rattle.trace.specs.Worked.{third, three_takings, with_down, with_flows};
+ghost use Rattle.trace.specs.Traces.{IsStill, MayTell, plain_inside};
+ghost use Rattle.trace.specs.Worked.{at_destination, first, flow, hosts, known, on_link, one_waits, second, short};
+ghost use Rattle.trace.specs.Worked.{started, stop, takes, third, three_takings, with_down, with_flows};
 ghost use Rattle.trace.specs.declared.flow_part.FlowState.TheVariants as state;
 ghost use Rattle.trace.specs.declared.flow_part.Side.TheVariants as side;
-ghost use Rattle.trace.specs.Laws.WorkedTexts.{WorkedTextsQueues};
-ghost use Rattle.trace.specs.Laws.WorkedLines.{WorkedLinesDelivered, WorkedLinesOpening, WorkedLinesRefused};
-ghost use Rattle.trace.specs.Laws.WorkedLines.{WorkedLinesStart, WorkedLinesTaken};
+ghost use Rattle.trace.specs.Laws.{WorkedLines, WorkedTexts};
 
 /// The text of each part.
 pub fn worked_texts()
-    // the hosts that are down, in the order in which they went down
-    ensures down { part_text (with_down (third ∷ first ∷ [])) Down ≡ codes "[\"0/2\",\"0/1\"]" }
-    ensures none_down { part_text (with_down []) Down ≡ codes "[]" }
-
-    ensures queues { WorkedTextsQueues }
-    ensures no_queues { queues_text [] [] ≡ codes "{\"messages\":[],\"answers\":[]}" }
-
-    // two answers that are alike to hosts are distinguished
-    ensures incomplete { answer_object (answer.Incomplete, flow) ≡ codes "{\"kind\":\"incomplete\",\"from\":\"0/1\",\"to\":\"0/2\",\"link\":5}" }
-    ensures not_taken { crossing_object (crossing.Answer answer.NotTaken flow) ≡ codes "{\"kind\":\"nottaken\",\"from\":\"0/1\",\"to\":\"0/2\",\"link\":5}" }
-
-    // what else crosses
-    ensures went_out { crossing_object (crossing.Out short) ≡ codes "{\"kind\":\"out\",\"from\":\"0/1\",\"to\":\"0/2\",\"link\":5,\"bits\":3,\"octets\":\"A0\"}" }
-    ensures stopped { crossing_object (crossing.Down second) ≡ codes "{\"kind\":\"down\",\"host\":\"1/1\"}" }
-
-    // their names
-    ensures down_name { part_name Down ≡ codes "down" }
-    ensures host_name { part_name (Waiting second) ≡ codes "host 1/1" }
+    ensures { WorkedTexts }
 {}
 
 /// Which parts an event can change.
@@ -106,7 +86,7 @@ pub fn worked_flows()
     ensures order { changed_flows (on_link 4 ∷ []) (known ∷ on_link 6 ∷ []) ≡ told known ∷ told (on_link 6) ∷ gone (on_link 4) ∷ [] }
 
     // it is the flow and the side that make a name, so the same flow at the other side is another part
-    ensures sides { changed_flows (known ∷ []) (record known { side = side.Kept; state = state.Waits } ∷ []) ≡ told (record known { side = side.Kept; state = state.Waits }) ∷ gone known ∷ [] }
+    ensures sides { changed_flows (known ∷ []) (at_destination ∷ []) ≡ told at_destination ∷ gone known ∷ [] }
 
     // list by list, each compared with the one at its place
     ensures lists { changed_lists ((known ∷ []) ∷ [] ∷ []) ([] ∷ (known ∷ []) ∷ []) ≡ gone known ∷ told known ∷ [] }
@@ -114,22 +94,20 @@ pub fn worked_flows()
     // flows come after the parts that are always there, and only those that are there
     ensures all { members_of (with_flows ((known ∷ []) ∷ [] ∷ (on_link 6 ∷ []) ∷ [])) ≡ codes "a" ∷ told known ∷ told (on_link 6) ∷ [] }
     ensures after { changed_parts (with_flows ((known ∷ []) ∷ [])) (record (with_flows ([] ∷ [])) { fixed = codes "b" ∷ [] }) ≡ codes "b" ∷ gone known ∷ [] }
+
+    // a null is of a flow that is there no more, and not of one of which something else is known
+    ensures null { IsGone ((known ∷ []) ∷ []) ([] ∷ []) (gone known) }
+    ensures no_null { IsGone ((known ∷ []) ∷ []) ((record known { number = 8 } ∷ []) ∷ []) (gone known) → ⊥ }
+
+    // flows rise, or a line doesn't say that they were exchanged, or that one of two of a name went
+    ensures rise { Rises (on_link 4 ∷ known ∷ on_link 6 ∷ []) }
+    ensures fall { (Rises (known ∷ on_link 4 ∷ []) → ⊥) × (changed_flows (on_link 4 ∷ known ∷ []) (known ∷ on_link 4 ∷ []) ≡ []) }
+    ensures twice { (Rises (known ∷ known ∷ []) → ⊥) × (changed_flows (known ∷ known ∷ []) (known ∷ []) ≡ []) }
 {}
 
 /// Lines of a trace.
 pub fn worked_lines()
-    ensures opening { WorkedLinesOpening }
-    ensures all_parts { whole_text (opening_boxes (third ∷ [])) ≡ codes "{\"down\":[],\"host 0/2\":{\"messages\":[],\"answers\":[]}}" }
-
-    // lines that ask for nothing are counted, and their numbers passed over
-    ensures numbers { asking_from 1 (codes "calm 1" ∷ [] ∷ codes "# then" ∷ codes "take 0/1" ∷ []) ≡ 1 ∷ 4 ∷ [] }
-    ensures numbered { numbered_from 1 ((1, event.Calm 1) ∷ (4, event.Take first) ∷ []) ≡ (record { line = 1; number = 1 }, event.Calm 1) ∷ (record { line = 4; number = 2 }, event.Take first) ∷ [] }
-
-    ensures start { WorkedLinesStart }
-    ensures refused { WorkedLinesRefused }
-    ensures taken { WorkedLinesTaken }
-
-    ensures delivered { WorkedLinesDelivered }
+    ensures { WorkedLines }
 {}
 
 /// The elementary events of a calm.

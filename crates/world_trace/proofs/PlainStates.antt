@@ -12,7 +12,7 @@ use Rattle.replay.specs.Replay.{Happens, Replays}
 use Rattle.script.specs.Spelling.{IsEvent}
 use Rattle.script.specs.declared.event.RawEvent.TheVariants as raw
 use Rattle.trace.specs.Kept.{IsTold}
-use Rattle.trace.specs.Laws.Whole.{WholeTexts}
+use Rattle.trace.specs.Laws as laws
 use Rattle.trace.specs.Parts.{IsPart}
 use Rattle.trace.proofs.lemmas.{frame, left_of, reached}
 use Rattle.world_replay.proofs.lemmas.Driven.{in_turn_one}
@@ -86,14 +86,14 @@ plain_keeps hosts all = record {
   round = λ old new answer round on comes. still_comes hosts old new (plain_round old new answer round) comes;
 }
 
-pub plain_states : WholeTexts → PlainStates
-plain_states texts hosts one other all p q parts same =
+pub plain_states : laws.Whole → PlainStates
+plain_states law hosts one other all p q parts same =
     let a : Comes hosts one.carrier = reached_holds plain_calls (Comes hosts) (plain_keeps hosts all) (opening_boxes hosts) one p (none_comes hosts) in
     let b : Comes hosts other.carrier = reached_holds plain_calls (Comes hosts) (plain_keeps hosts all) (opening_boxes hosts) other q (none_comes hosts) in
     let first : IsTold one.carrier = reached hosts a.events one.carrier a.lines a.valid a.replays in
     let second : IsTold other.carrier = reached hosts b.events other.carrier b.lines b.valid b.replays in
     let carriers : other.carrier ≡ record one.carrier { log = other.carrier.log } =
-    texts one.carrier other.carrier first second (a.same ∙ sym b.same) (λ part is. parts part (subst (λ (hs : List Host). IsPart hs part) a.same is)) in
+    law.texts one.carrier other.carrier first second (a.same ∙ sym b.same) (λ part is. parts part (subst (λ (hs : List Host). IsPart hs part) a.same is)) in
     let told : IsWorldTold one = reached_told (shown plain_calls) (opening_boxes hosts) p.script one p.lines p.replays p.numbers in
     let others : IsWorldTold other = reached_told (shown plain_calls) (opening_boxes hosts) q.script other q.lines q.replays q.numbers in
     whole one other told others same ∙ ap (λ (c : Boxes). record one { carrier = c; kept = other.kept }) carriers

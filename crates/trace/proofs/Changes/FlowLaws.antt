@@ -1,14 +1,15 @@
 -- Which parts are among those that have changed: those that are always there, and flows.
 use Rattle.std.proofs.Common.{◌≡◌, ◌⊎◌, inl, inr, ℕ, zero, suc, ◌<◌, ◌==◌, ◌&&◌, ◌||◌, Bool, true, false, not, List, []}
-use Rattle.std.proofs.Common.{◌∷◌, ◌++◌, filter, length, map, arith, refl, sym, ap, subst, ◌∙◌}
+use Rattle.std.proofs.Common.{◌∷◌, ◌++◌, drop, filter, length, map, arith, refl, sym, ap, subst, ◌∙◌}
 use Rattle.std.proofs.lemmas.Bool.Decides.{nat_tests}
 use Rattle.std.proofs.lemmas.List.Elements.{Contains-append_cases, Contains-append_left, Contains-append_right}
 use Rattle.std.proofs.lemmas.List.Elements.{Contains-push, Contains-push_cases}
-use Rattle.std.specs.List.{Contains, flat_map, list_any}
+use Rattle.std.specs.List.{Contains, flat_map}
 use Rattle.std.specs.Prelude.{slice_index_or}
 use Rattle.interface.specs.Flow.{same_flow}
 use Rattle.interface.proofs.lemmas.{and_true, same_flow-true}
-use Rattle.trace.specs.Changes.{altered, changed, changed_flows, changed_lists, changed_parts, is_there, is_told, lost}
+use Rattle.trace.specs.Changes.{IsGone, altered, changed, changed_flows, changed_lists, changed_parts, is_there, is_told}
+use Rattle.trace.specs.Changes.{lost}
 use Rattle.trace.specs.Changes.{members_of}
 use Rattle.trace.specs.Flows.{gone, same_flow_part, same_name, same_side, same_state, told}
 use Rattle.trace.specs.declared.all_parts.AllParts.{AllParts}
@@ -18,7 +19,7 @@ use Rattle.trace.specs.declared.flow_part.FlowState.TheVariants as state
 use Rattle.trace.specs.declared.flow_part.Side.{Side}
 use Rattle.trace.specs.declared.flow_part.Side.TheVariants as side
 use Rattle.trace.proofs.Changes.Changed as fixed
-use Rattle.trace.proofs.Changes.Flowing.{keeps}
+use Rattle.trace.proofs.Changes.Flowing.{keeps, lists_first, no_lists}
 
 -- ---- two that are the same
 
@@ -60,7 +61,7 @@ later y xs x h = Contains-append_right (y ∷ []) xs x h
 none_in : {X : Type 0} (x : X) → Contains [] x → ⊥
 none_in x h = absurd (let past : h.0 < 0 = h.1 in omega (arith, past))
 
-only_one : {X : Type 0} (x y : X) → Contains (x ∷ []) y → x ≡ y
+pub only_one : {X : Type 0} (x y : X) → Contains (x ∷ []) y → x ≡ y
 only_one x y h = elim (Contains-push_cases [] x y h) [
   | inl none ↦ absurd (none_in y none)
   | inr is ↦ is
@@ -140,9 +141,6 @@ flow_kept before (x ∷ now) t h = elim (Contains-append_cases (told x ∷ []) (
 abbrev all_told : List (List FlowPart) → List (List ℕ)
 all_told ls = flat_map (map told) ls
 
-abbrev all_gone : List (List FlowPart) → List (List ℕ)
-all_gone ls = flat_map (map gone) ls
-
 joined : (ps qs rs ss : List (List ℕ)) (t : List ℕ) → Either ps rs t → Either (ps ++ qs) (rs ++ ss) t
 joined ps qs rs ss t (inl h) = inl (Contains-append_left ps qs t h)
 joined ps qs rs ss t (inr h) = inr (Contains-append_left rs ss t h)
@@ -172,26 +170,76 @@ lists_kept (b ∷ before) (n ∷ now) t h = elim (Contains-append_cases (map tol
       (lists_kept before now t rest)
 ]
 
-flow_only : (before now : List FlowPart) (t : List ℕ) → Contains (changed_flows before now) t
-    → Either (map told now) (map gone before) t
-flow_only before now t h = elim
-    (Contains-append_cases (map told (altered before now)) (map gone (lost before now)) t h) [
-      | inl first ↦ inl (passed told (λ p. not (is_told before p)) now t first)
-      | inr rest ↦ inr (passed gone (λ p. not (is_there now p)) before t rest)
-    ]
+-- the null of a flow that was in a list, and is in it no more
+record IsGoneFrom (before now : List FlowPart) (t : List ℕ) : Type 0 where
+  flow : FlowPart
+  was : Contains before flow
+  none : is_there now flow ≡ false
+  null : t ≡ gone flow
+
+flow_lost : (before now : List FlowPart) (t : List ℕ) → Contains (map gone (lost before now)) t
+    → IsGoneFrom before now t
+flow_lost [] now t h = absurd (none_in t h)
+flow_lost (x ∷ before) now t h = by (is_there now x) refl (flow_lost before now t) where
+  out : FlowPart → Bool
+  out q = not (is_there now q)
+
+  earlier : IsGoneFrom before now t → IsGoneFrom (x ∷ before) now t
+  earlier g = record { flow = g.flow; was = later x before g.flow g.was; none = g.none; null = g.null }
+
+  by : (b : Bool) → is_there now x ≡ b → (Contains (map gone (lost before now)) t → IsGoneFrom before now t)
+      → IsGoneFrom (x ∷ before) now t
+  by true e rest = earlier
+      (rest (subst (λ (ps : List FlowPart). Contains (map gone ps) t) (keeps out x before false (ap not e)) h))
+  by false e rest =
+      let some : Contains (gone x ∷ map gone (lost before now)) t =
+      subst (λ (ps : List FlowPart). Contains (map gone ps) t) (keeps out x before true (ap not e)) h in
+      elim (Contains-append_cases (gone x ∷ []) (map gone (lost before now)) t some) [
+        | inl first ↦ record { flow = x; was = here x before; none = e; null = sym (only_one (gone x) t first) }
+        | inr more ↦ earlier (rest more)
+      ]
+
+-- there now, or such a null
+abbrev IsOnly : List (List FlowPart) → List (List FlowPart) → List ℕ → Type 0
+IsOnly before now t = Contains (all_told now) t ⊎ IsGone before now t
+
+only_first : (before now : List (List FlowPart)) (n : List FlowPart) (t : List ℕ)
+    → Contains (changed_flows (slice_index_or before 0 []) n) t → IsOnly before (n ∷ now) t
+only_first before now n t h = elim (Contains-append_cases (map told (altered was n)) (map gone (lost was n)) t h) [
+  | inl first ↦ inl (Contains-append_left (map told n) (all_told now) t (passed told (λ p. not (is_told was p)) n t first))
+  | inr rest ↦ inr (at_first (flow_lost was n t rest))
+] where
+  was : List FlowPart
+  was = slice_index_or before 0 []
+
+  at_first : IsGoneFrom was n t → IsGone before (n ∷ now) t
+  at_first g = record {
+    place = 0;
+    flow = g.flow;
+    lost = record { within = omega arith; was = g.was; none = g.none };
+    null = g.null;
+  }
+
+only_later : (before now : List (List FlowPart)) (n : List FlowPart) (t : List ℕ) → IsOnly (drop 1 before) now t
+    → IsOnly before (n ∷ now) t
+only_later before now n t (inl h) = inl (Contains-append_right (map told n) (all_told now) t h)
+only_later [] now n t (inr g) = absurd (none_in g.flow g.lost.was)
+only_later (b ∷ before) now n t (inr g) = inr
+    (record {
+      place = suc g.place;
+      flow = g.flow;
+      lost = record { within = omega (arith, g.lost.within); was = g.lost.was; none = g.lost.none };
+      null = g.null;
+    })
 
 lists_only : (before now : List (List FlowPart)) (t : List ℕ) → Contains (changed_lists before now) t
-    → Either (all_told now) (all_gone before) t
-lists_only [] [] t h = absurd (none_in t h)
-lists_only (b ∷ before) [] t h = absurd (none_in t h)
-lists_only [] (n ∷ now) t h = elim (Contains-append_cases (changed_flows [] n) (changed_lists [] now) t h) [
-  | inl first ↦ joined (map told n) (all_told now) [] [] t (flow_only [] n t first)
-  | inr rest ↦ joined_later (map told n) (all_told now) [] [] t (lists_only [] now t rest)
-]
-lists_only (b ∷ before) (n ∷ now) t h = elim
-    (Contains-append_cases (changed_flows b n) (changed_lists before now) t h) [
-      | inl first ↦ joined (map told n) (all_told now) (map gone b) (all_gone before) t (flow_only b n t first)
-      | inr rest ↦ joined_later (map told n) (all_told now) (map gone b) (all_gone before) t (lists_only before now t rest)
+    → IsOnly before now t
+lists_only before [] t h = absurd (none_in t (subst (λ (xs : List (List ℕ)). Contains xs t) (no_lists before) h))
+lists_only before (n ∷ now) t h = elim
+    (Contains-append_cases (changed_flows (slice_index_or before 0 []) n) (changed_lists (drop 1 before) now) t
+    (subst (λ (xs : List (List ℕ)). Contains xs t) (lists_first before now n) h)) [
+      | inl first ↦ only_first before now n t first
+      | inr rest ↦ only_later before now n t (lists_only (drop 1 before) now t rest)
     ]
 
 -- a flow of a list that is there no more
@@ -230,7 +278,7 @@ kept before now t h = elim (Contains-append_cases now.fixed (all_told now.flows)
 ]
 
 pub only : (before now : AllParts) (t : List ℕ) → Contains (changed_parts before now) t
-    → Contains (members_of now) t ⊎ Contains (all_gone before.flows) t
+    → Contains (members_of now) t ⊎ IsGone before.flows now.flows t
 only before now t h = elim
     (Contains-append_cases (changed before.fixed now.fixed) (changed_lists before.flows now.flows) t h) [
       | inl first ↦ inl (Contains-append_left now.fixed (all_told now.flows) t (fixed.only before.fixed now.fixed t first))

@@ -1,10 +1,9 @@
 -- Lists of flows are compared with those before, flow by flow.
-use Rattle.std.proofs.Common.{◌≡◌, ℕ, zero, suc, ◌<◌, ◌≤◌, ◌+◌, ◌==◌, ◌&&◌, ◌||◌, Bool, true, false, not, nat_lt, List}
-use Rattle.std.proofs.Common.{[], ◌∷◌, ◌++◌, codes, drop, filter, get_or, if◌then◌else◌, length, map, arith, refl, sym}
+use Rattle.std.proofs.Common.{◌≡◌, ℕ, zero, suc, ◌<◌, ◌+◌, ◌==◌, ◌&&◌, ◌||◌, Bool, true, false, not, List}
+use Rattle.std.proofs.Common.{[], ◌∷◌, ◌++◌, codes, drop, filter, if◌then◌else◌, length, map, arith, refl, sym}
 use Rattle.std.proofs.Common.{ap, ap₂, ◌∙◌}
 use Rattle.std.proofs.lemmas.Bool.{eq-eqb}
-use Rattle.std.proofs.lemmas.Bool.Decides.{nat_tests}
-use Rattle.std.proofs.lemmas.List.{append_assoc, append-nil, drop_all, drop_more, length-append}
+use Rattle.std.proofs.lemmas.List.{append_assoc, append-nil}
 use Rattle.std.specs.Prelude.{slice_index_or}
 use Rattle.std.specs.List.{list_any}
 use Rattle.interface.proofs.lemmas.{same_flow-refl}
@@ -30,7 +29,7 @@ keeps test x xs false e = rw e refl
 
 -- ---- list by list
 
-lists_first : (before now : List (List FlowPart)) (x : List FlowPart)
+pub lists_first : (before now : List (List FlowPart)) (x : List FlowPart)
     → changed_lists before (x ∷ now) ≡ changed_flows (slice_index_or before 0 []) x ++ changed_lists (drop 1 before) now
 lists_first [] now x = refl
 lists_first (b ∷ before) now x = refl
@@ -60,7 +59,7 @@ next_list before now i was is lt old new =
     (sym old) (sym new)
     ∙ ap (λ (k : ℕ). changed_flows was is ++ changed_lists (drop k before) (drop k now)) sums
 
-no_lists : (before : List (List FlowPart)) → changed_lists before [] ≡ []
+pub no_lists : (before : List (List FlowPart)) → changed_lists before [] ≡ []
 no_lists [] = refl
 no_lists (b ∷ before) = refl
 

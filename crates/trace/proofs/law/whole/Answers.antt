@@ -34,8 +34,8 @@ whole a b p q hosts texts =
     let stopped : b.stopped ≡ a.stopped = q.running ∙ sym p.running in
     λ i. record { hosts = sym hosts i; down = sym down i; messages = sym messages i; answers = sym answers i; log = b.log; stopped = stopped i }
 
-pub returns-clause-texts : goal.returns-clause-texts
-returns-clause-texts c = whole
-
-pub returns-clause-reached : goal.returns-clause-reached
-returns-clause-reached c = reached
+pub returns : goal.returns
+returns c = record {
+  texts = whole;
+  reached = reached;
+}

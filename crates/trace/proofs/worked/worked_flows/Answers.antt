@@ -1,5 +1,11 @@
-use Rattle.std.proofs.Common.{refl}
+use Rattle.std.proofs.Common.{◌≡◌, ℕ, zero, suc, true, false, [], ◌∷◌, arith, refl, sym, ap, subst, ◌∙◌}
 use Rattle.std.specs.Fmt.{digits}
+use Rattle.std.specs.List.Sorted.{IsStrictlySortedBy}
+use Rattle.std.specs.Ordering.{is_lt}
+use Rattle.trace.specs.Changes.{IsLostAt, is_there}
+use Rattle.trace.specs.Worked.{known}
+use Rattle.trace.specs.declared.flow_part.FlowPart.{FlowPart}
+use Rattle.trace.proofs.Changes.FlowLaws.{only_one}
 use Rattle.trace.proofs.worked.worked_flows.Goals as goal
 
 pub returns-clause-told : goal.returns-clause-told
@@ -49,3 +55,35 @@ returns-clause-all c = refl
 pub returns-clause-after : goal.returns-clause-after
 unfolding digits
 returns-clause-after c = refl
+
+pub returns-clause-null : goal.returns-clause-null
+returns-clause-null c = record {
+  place = 0;
+  flow = known;
+  lost = record { within = omega arith; was = (0, omega arith, refl); none = refl };
+  null = refl;
+}
+
+-- the only flow of the only list is there
+not_lost : (place : ℕ) (p : FlowPart) → IsLostAt ((known ∷ []) ∷ []) ((record known { number = 8 } ∷ []) ∷ []) place p
+    → ⊥
+not_lost zero p lost =
+    let there : is_there (record known { number = 8 } ∷ []) p ≡ true =
+    subst (λ (q : FlowPart). is_there (record known { number = 8 } ∷ []) q ≡ true) (only_one known p lost.was) refl in
+    let two : true ≡ false = sym there ∙ lost.none in cc
+not_lost (suc place) p lost = absurd (omega (arith, lost.within))
+
+pub returns-clause-no_null : goal.returns-clause-no_null
+returns-clause-no_null c = λ g. not_lost g.place g.flow g.lost
+
+pub returns-clause-rise : goal.returns-clause-rise
+unfolding IsStrictlySortedBy
+returns-clause-rise c = ((refl, (refl, tt)), ((refl, tt), (tt, tt)))
+
+pub returns-clause-fall : goal.returns-clause-fall
+unfolding IsStrictlySortedBy
+returns-clause-fall c = (λ r. let two : false ≡ true = ap is_lt r.0.0 in cc, refl)
+
+pub returns-clause-twice : goal.returns-clause-twice
+unfolding IsStrictlySortedBy
+returns-clause-twice c = (λ r. let two : false ≡ true = ap is_lt r.0.0 in cc, refl)
