@@ -11,6 +11,7 @@ pub mod Known
 pub mod Reached
 pub mod Rest
 pub mod FlowLists
+pub mod Rising
 pub mod Scopes
 pub mod Pump
 pub mod Settled

@@ -101,11 +101,11 @@ dropped_has m imp old g = subst (λ (o : Option Noted). IfSome o (λ v. IsKeptTo
 
 -- ---- all entries
 
-known : (b : Bool) → T b → b ≡ true
+pub known : (b : Bool) → T b → b ≡ true
 known true t = refl
 known false t = absurd t
 
-both : (a b : Bool) → (a && b) ≡ true → (a ≡ true) × (b ≡ true)
+pub both : (a b : Bool) → (a && b) ≡ true → (a ≡ true) × (b ≡ true)
 both true b e = (refl, e)
 both false b e = absurd (cc)
 

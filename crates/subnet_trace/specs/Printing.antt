@@ -48,6 +48,10 @@ place_after place (Some port) = 1
 abbrev pub known_part : {V : Type 0} → Side → (Flow → V → FlowState) → (V → ℕ) → Flow × V → FlowPart
 known_part side state number e = record { side = side; flow = e.0; state = state e.0 e.1; number = number e.1 }
 
+-- what an IMP knows of flows, as members of an object
+abbrev pub known_members : State → List (List ℕ)
+known_members s = map told (sources_of (Some s)) ++ map told (kept_of (Some s))
+
 -- the two lists of an IMP in the place of those from this place on, if they may have changed
 abbrev pub put_lists : Bool → List (List FlowPart) → ℕ → Option State → List (List FlowPart)
 put_lists may lists place o = if may then slice_set (slice_set lists place (sources_of o)) (place + 1) (kept_of o) else lists

@@ -1,12 +1,12 @@
 //! What is known of flows: a part for each of them.
 
-ghost use Rattle.std.specs.Prelude.{◌≡◌, ◌++◌, IfOk, OnOk, Some, false, map, option_copied, ℕ};
+ghost use Rattle.std.specs.Prelude.{◌≡◌, IfOk, OnOk, false, map, option_copied, ℕ};
 ghost use Rattle.std.specs.Io.KnownBytes.{Appends};
 ghost use Rattle.imp_node.specs.State.{State};
 ghost use Rattle.interface.specs.declared.address.Flow.{Flow};
 ghost use Rattle.link_table.specs.Flows.{last_of};
 ghost use Rattle.replay.specs.Failing.{TellsFailure};
-ghost use Rattle.subnet_trace.specs.Printing.{known_part, members_behind, place_after_members};
+ghost use Rattle.subnet_trace.specs.Printing.{known_members, known_part, members_behind, place_after_members};
 ghost use Rattle.subnet_trace.specs.Texts as texts;
 ghost use Rattle.subnet_trace.specs.Texts.{awaits_host, fate_state, standing_state};
 ghost use Rattle.trace.specs.Flows.{told};
@@ -153,8 +153,8 @@ pub(crate) fn print_known<W: Output>(
     writer: &mut W,
 ) -> Result<usize, WriteFailed>
     requires { W.failed writer.old ≡ false }
-    ensures written { OnOk result (Appends (W.contents writer.old) (W.contents writer.new) (members_behind place (map told (texts.sources_of (Some imp.now)) ++ map told (texts.kept_of (Some imp.now))))) }
-    ensures place { IfOk result (λ next. next ≡ place_after_members place (map told (texts.sources_of (Some imp.now)) ++ map told (texts.kept_of (Some imp.now)))) }
+    ensures written { OnOk result (Appends (W.contents writer.old) (W.contents writer.new) (members_behind place (known_members imp.now))) }
+    ensures place { IfOk result (λ next. next ≡ place_after_members place (known_members imp.now)) }
     ensures failed { TellsFailure result (W.failed writer.new) }
 {
     let place = print_flows(place, Side::Source, imp, imp.sources().iter(), writer)?;

@@ -1,14 +1,8 @@
 //! What traces of worlds promise, as laws over their definitions. The functions here do nothing: each clause is the law.
 
-ghost use Rattle.std.specs.List.{All};
-ghost use Rattle.std.specs.Prelude.{◌≡◌};
-ghost use Rattle.net_sim.specs.World.{WorldState, opening_world};
-ghost use Rattle.trace.specs.Named.{IsHostNamed};
 ghost use Rattle.world_trace.specs.Carriers.{PlainCarriers, SubnetCarriers};
-ghost use Rattle.world_trace.specs.Laws.Calm.{CalmRound};
-ghost use Rattle.world_trace.specs.Laws.Whole.{WholeLasting, WholeReached, WholeTraced};
 ghost use Rattle.world_trace.specs.Reached.{PlainStates, SubnetStates};
-ghost use Rattle.world_trace.specs.Told.{HaveSameTexts, IsWorldTold};
+ghost use Rattle.world_trace.specs.Laws.{CalmRound, Whole};
 
 use interface::Carrier;
 
@@ -16,20 +10,12 @@ use interface::Carrier;
 /// texts differ in nothing else. This is so of each world to which a replay comes, if its numbers are not too long for a decimal:
 /// of a world at hand [`crate::says_all`] says that they are not.
 pub fn whole<C: Carrier>()
-    ensures texts { (one other : WorldState C) → IsWorldTold one → IsWorldTold other → HaveSameTexts one other → other ≡ record one { carrier = other.carrier; kept = other.kept } }
-
-    // so is each world at its opening whose hosts can be named
-    ensures opening { (c : C) → All IsHostNamed (C.calls.seen c).hosts → IsWorldTold (opening_world C.calls c) }
-
-    // and while memory lasts in the world it lasts in all programs and services
-    ensures lasting { WholeLasting C.calls }
-    ensures reached { WholeReached C.calls }
-    ensures traced { WholeTraced C.calls }
+    ensures { Whole C.calls }
 {}
 
 /// The events of a round that a trace has, with those that have no line, are a calm of one round as a replay lets it happen.
 pub fn calm<C: Carrier>()
-    ensures round { CalmRound C.calls }
+    ensures { CalmRound C.calls }
 {}
 
 /// The carrier of a world is a raw network, to which events lead from its opening: the calls that its script makes by what crosses.

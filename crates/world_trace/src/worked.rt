@@ -1,51 +1,27 @@
 //! Worked examples of the texts of a world's trace, and of which events of a calm have lines. The functions here do
 //! nothing: each clause is a row, over the definitions.
 
-ghost use Rattle.std.specs.Prelude.{◌≡◌, ℕ, List, [], ◌∷◌, None, Some, codes, true};
-ghost use Rattle.ncp_control.specs.declared.command.Command.TheVariants as command;
+ghost use Rattle.std.specs.Prelude.{◌≡◌, [], ◌∷◌, codes};
 ghost use Rattle.net_sim.specs.Carriers.{shown};
-ghost use Rattle.net_sim.specs.World.{WorldState};
-ghost use Rattle.net_sim.specs.declared.event.Event.{Event};
 ghost use Rattle.net_sim.specs.declared.event.Event.TheVariants as event;
 ghost use Rattle.script.specs.declared.event.RawEvent.TheVariants as raw;
-ghost use Rattle.sockets.specs.Pairs.{NcpState, opening_state};
 ghost use Rattle.sockets.specs.Worked.{first, second};
 ghost use Rattle.world_replay.specs.Driven.{Raw, Round};
 ghost use Rattle.world_script.specs.declared.event.WorldEvent.TheVariants as world;
 ghost use Rattle.world_trace.specs.Carriers.{AreMade};
-ghost use Rattle.world_trace.specs.Texts.{command_object, event_text, lines_text, program_text};
-ghost use Rattle.world_trace.specs.Traces.{MayTell};
-ghost use Rattle.world_trace.specs.Laws.WorkedFailures.{WorkedFailuresNothing};
-ghost use Rattle.world_trace.specs.Laws.WorkedPairs.{WorkedPairsCommands, WorkedPairsPair, WorkedPairsReceiver, WorkedPairsRefused};
-ghost use Rattle.world_trace.specs.Laws.WorkedHosts.{WorkedHostsRunning, WorkedHostsServer};
-ghost use Rattle.std.specs.List.{All};
-ghost use Rattle.world_script.specs.WorldSpelling.{IsWorldEvent};
-ghost use Rattle.world_trace.specs.Reached.{IsReached};
-ghost use Rattle.world_trace.specs.Laws.WorkedTold.{WorkedToldHeard, WorkedToldMemory, WorkedToldSilent};
-ghost use Rattle.world_trace.specs.Laws.WorkedTold.{WorkedReachedSaid};
+ghost use Rattle.world_trace.specs.Texts.{event_text, lines_text};
+ghost use Rattle.world_trace.specs.Laws.{WorkedEvents, WorkedFailures, WorkedHosts, WorkedPairs, WorkedReached};
 
 use interface::Carrier;
 
 /// Pairs, ends and commands.
 pub fn worked_pairs()
-    ensures pair { WorkedPairsPair }
-
-    ensures commands { WorkedPairsCommands }
-    ensures error { command_object (command.Err 3 (1 ∷ 171 ∷ [])) ≡ codes "{\"kind\":\"err\",\"code\":3,\"detail\":\"01AB\"}" }
-
-    ensures receiver { WorkedPairsReceiver }
-    ensures refused { WorkedPairsRefused }
+    ensures { WorkedPairs }
 {}
 
 /// Programs and services.
 pub fn worked_hosts()
-    ensures up { program_text (Some (record (opening_state first) { listening = record { socket = 1; size = 32 } ∷ [] })) ≡ codes "{\"pairs\":[],\"listening\":[{\"socket\":1,\"size\":32}]}" }
-    ensures down { program_text None ≡ codes "null" }
-
-    // its text leaves out whose program it is, and whether it has run out of memory
-    ensures left_out { (s : NcpState) → program_text (Some (record s { own = second; spent = true })) ≡ program_text (Some s) }
-    ensures server { WorkedHostsServer }
-    ensures running { WorkedHostsRunning }
+    ensures { WorkedHosts }
 {}
 
 /// Events and printed lines.
@@ -62,8 +38,7 @@ pub fn worked_lines()
 
 /// What is known of a world where a write failed: the event had happened, and its line is not among those that are known.
 pub fn worked_failures<C: Carrier>()
-    ensures nothing { WorkedFailuresNothing (shown C.calls) }
-    ensures no_line { (old new : WorldState C) (e : Event) (line : List ℕ) → MayTell (shown C.calls) old e new (line ∷ []) → ⊥ }
+    ensures { WorkedFailures (shown C.calls) }
 {}
 
 /// Calls of a carrier as events of a raw network.
@@ -79,15 +54,10 @@ pub fn worked_carriers()
 
 /// An event without a line leaves all as it is, and one with a line prints or changes something.
 pub fn worked_events<C: Carrier>()
-    ensures silent { WorkedToldSilent (shown C.calls) }
-    ensures heard { WorkedToldHeard (shown C.calls) }
-
-    // where memory runs out the world is as it was, or has processed the event
-    ensures memory { WorkedToldMemory (shown C.calls) }
+    ensures { WorkedEvents (shown C.calls) }
 {}
 
 /// A replay comes to a world by events that a script may ask for, and all that crossed there can be named.
 pub fn worked_reached<C: Carrier>()
-    ensures events { (opening : C) (w : WorldState C) (h : IsReached C.calls opening w) → All IsWorldEvent h.script }
-    ensures said { WorkedReachedSaid C.calls }
+    ensures { WorkedReached C.calls }
 {}

@@ -11,7 +11,7 @@ ghost use Rattle.sockets.specs.Pairs.{opening_state};
 ghost use Rattle.sockets.specs.Worked.{first, second};
 ghost use Rattle.terminal.specs.Machines.{opening_terminal};
 ghost use Rattle.world_trace.specs.Lasting.{Lasts, SeatLasts, ServicesLast, is_spent};
-ghost use Rattle.world_trace.specs.Laws.WorkedLasting.{long_seat, long_services, spent_echo, spent_seat, spent_services};
+ghost use Rattle.world_trace.specs.Worked.{long_seat, long_services, spent_echo, spent_seat, spent_services};
 ghost use Rattle.world_trace.specs.Reached.{IsReached, IsSaid};
 ghost use Rattle.world_trace.specs.Told.{AreNumbersTold, IsWorldTold};
 

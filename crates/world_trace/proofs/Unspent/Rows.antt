@@ -3,7 +3,7 @@ use Rattle.world_trace.proofs.Common.{◌≡◌, ◌≤◌, true, [], ◌∷◌,
 use Rattle.std.proofs.Common.{◌^◌, replicate}
 use Rattle.std.proofs.lemmas.List.{length-replicate}
 use Rattle.interface.specs.declared.crossing.Crossing.TheVariants as crossing
-use Rattle.world_trace.specs.Laws.WorkedLasting.{long_seat, long_services, spent_echo, spent_seat, spent_services}
+use Rattle.world_trace.specs.Worked.{long_seat, long_services, spent_echo, spent_seat, spent_services}
 use Rattle.world_trace.proofs.Whole.{reached_told}
 
 pub spent_refused : SeatLasts spent_seat → ⊥

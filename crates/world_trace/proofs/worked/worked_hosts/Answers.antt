@@ -2,14 +2,6 @@ use Rattle.std.proofs.Common.{refl}
 use Rattle.std.specs.Fmt.{digits}
 use Rattle.world_trace.proofs.worked.worked_hosts.Goals as goal
 
-pub returns-clause-up : goal.returns-clause-up
+pub returns : goal.returns
 unfolding digits
-returns-clause-up c = refl
-
-pub returns-clause-server : goal.returns-clause-server
-unfolding digits
-returns-clause-server c = refl
-
-pub returns-clause-running : goal.returns-clause-running
-unfolding digits
-returns-clause-running c = refl
+returns c = record { up = refl; down = refl; left_out = λ s. refl; server = refl; running = refl }
