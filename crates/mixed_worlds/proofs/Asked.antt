@@ -1,6 +1,7 @@
 -- Both requests of a life of a host that runs the program crossed at its stamps, and what is reported of data has just
 -- crossed, whatever its peer sends.
-use Rattle.mixed_worlds.proofs.Common.{◌≡◌, inl, inr, ℕ, ◌*◌, ◌<◌, Bool, true, false, if◌then◌else◌, zero, suc, List, [], ◌∷◌, ◌++◌, take, drop, length, Option, Some, None, refl, ap, sym, subst, ◌∙◌, arith, map, Contains, drop-append_seam, Host, same_host, Flow, Answer, Crossing, HostMessage, same_host-true, header_bits, is_receive_socket, is_send_socket, Command, Legal, Order, orders_of, has_cls, is_ending, PairState, Parcel, Entry, Notice, CrossedAt, data_by, HasCrossed, coming, going, control_flow, accepted, NcpState, opening_state, pair_with, AreInOrder, served, message_for, next_in, offered, answer_leaves, message_leaves, next_pair, offer_leaves, pair_range, Asked, Crossed, Moment, places, program, crossings_of, host_in, notices_by, places_same, Begins, Each, Ends, Goes, Hears, IsOther, MayTell, Quiet, Rules, each_weaker, message_keeps, offer_keeps, request_told, IsMixed, Orders, Says, older, ordered, says, ReportsData, or_false, IsReadBack, offer_read, even_odd, send_odd, Done}
+use Rattle.mixed_worlds.proofs.Common.{◌≡◌, inl, inr, ℕ, ◌*◌, ◌<◌, Bool, true, false, if◌then◌else◌, zero, suc, List, [], ◌∷◌, ◌++◌, take, drop, length, Option, Some, None, refl, ap, sym, subst, ◌∙◌, arith, map, Contains, drop-append_seam, Host, same_host, Flow, Answer, Crossing, HostMessage, same_host-true, or_false, header_bits, is_receive_socket, is_send_socket, Command, Legal, Order, orders_of, has_cls, is_ending, PairState, Parcel, Entry, Notice, CrossedAt, data_by, HasCrossed, coming, going, control_flow, accepted, NcpState, opening_state, pair_with, AreInOrder, served, message_for, next_in, offered, answer_leaves, message_leaves, next_pair, offer_leaves, pair_range, offer_read, Asked, Crossed, Moment, places, program, crossings_of, host_in, notices_by, places_same, Begins, Each, Ends, Goes, Hears, IsOther, MayTell, Quiet, Rules, each_weaker, message_keeps, offer_keeps, request_told, IsMixed, Orders, Says, older, ordered, says, ReportsData, IsReadBack, even_odd, send_odd}
+use Rattle.world_keeps_lives.proofs.lemmas.{Done}
 use Rattle.std.proofs.Common.{slice_index_or}
 use Rattle.std.proofs.lemmas.Bool.{eqb-true}
 use Rattle.interface.specs.declared.crossing.Crossing.TheVariants as crossing
@@ -15,7 +16,8 @@ use Rattle.mixed_worlds.proofs.Sockets.{fit}
 
 -- ---- requests as commands
 
-pub rts_is : (own foreign link : ℕ) → is_receive_socket own ≡ true → request own foreign link ≡ command.Rts own foreign link
+pub rts_is : (own foreign link : ℕ) → is_receive_socket own ≡ true
+    → request own foreign link ≡ command.Rts own foreign link
 rts_is own foreign link e = ap
     (λ (b : Bool). if b then command.Rts own foreign link else command.Str own foreign link) e
 
@@ -163,7 +165,8 @@ module _ (h p : Host) (log : List Crossing) where
               flow = flow;
               crossed = crossed;
               holds = subst (λ (c : Command). Contains (orders_of m.text) (Legal c))
-                  (ap (λ (n : ℕ). command.Rts n own link) (sym f) ∙ ap (λ (n : ℕ). command.Rts e.foreign n link) (sym o))
+                  (ap (λ (n : ℕ). command.Rts n own link) (sym f)
+                  ∙ ap (λ (n : ℕ). command.Rts e.foreign n link) (sym o))
                   there;
             });
       };

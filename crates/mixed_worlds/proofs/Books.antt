@@ -1,5 +1,5 @@
 -- The lives among hosts with programs are, in the book of a network with strangers, those of the masked moments.
-use Rattle.mixed_worlds.proofs.Common.{◌≡◌, ◌⊎◌, inl, inr, ℕ, ◌==◌, ◌||◌, Bool, true, false, List, [], ◌∷◌, filter, find, Option, Some, None, refl, ap, sym, subst, ◌∙◌, eq-eqb, if◌then◌else◌, list_any, Host, same_host, Flow, Crossing, HostMessage, is_ready, AreAbout, IsAbout, is_mine_on, Entry, Notice, Life, accepted, NcpState, pair_with, AreInOrder, offered, Request, message_about, Kept, all_told, asked, crossed, lives_at, Asked, Crossed, Moment, places, program, crossings_of, host_in, kept_in, notices_by, same_host-sym, pair_range, IsMixed, masked_moments, closed, masked_crossing, stopped, strange_end, stranger_in, turn, Orders, Says, if_is, masked_program, older, ordered, other_host, says, IsFreeSocket, IsLifeOf, IsOwned, mine_on, Each, Holds, is_among, lives_among, mixed_kept, peer_of, is_of_stranger, listens_on, owner_of, Listener}
+use Rattle.mixed_worlds.proofs.Common.{◌≡◌, ◌⊎◌, inl, inr, ℕ, ◌==◌, ◌||◌, Bool, true, false, List, [], ◌∷◌, filter, find, Option, Some, None, refl, ap, sym, subst, ◌∙◌, eq-eqb, if◌then◌else◌, list_any, Host, same_host, Flow, Crossing, HostMessage, is_ready, AreAbout, IsAbout, is_mine_on, Entry, Notice, Life, accepted, NcpState, pair_with, owner_of, AreInOrder, offered, Request, message_about, Kept, all_told, asked, crossed, lives_at, Asked, Crossed, Moment, places, program, crossings_of, host_in, kept_in, notices_by, same_host-sym, pair_range, IsMixed, masked_moments, closed, masked_crossing, stopped, strange_end, stranger_in, turn, Orders, Says, if_is, masked_program, older, ordered, other_host, says, IsFreeSocket, IsLifeOf, IsOwned, mine_on, Each, Holds, is_among, lives_among, mixed_kept, peer_of, is_of_stranger, listens_on, Listener}
 use Rattle.interface.specs.Mailboxes as mail
 use Rattle.interface.specs.declared.crossing.Crossing.TheVariants as crossing
 use Rattle.interface.specs.declared.crossing.Inbound.TheVariants as inbound

@@ -1,5 +1,5 @@
 -- The bits of each life are those of messages on one link, in their order, whatever its peer sends.
-use Rattle.mixed_worlds.proofs.Common.{◌≡◌, ◌⊎◌, inl, inr, ℕ, ◌<◌, ◌==◌, Bool, true, false, if◌then◌else◌, List, [], ◌∷◌, ◌++◌, filter, length, Option, refl, ap, sym, subst, ◌∙◌, arith, Contains, Host, same_host, Flow, Crossing, same_host-true, is_mine_on, Entry, Notice, both, CrossedAt, flow_of, receives, Life, NcpState, pair_with, Request, Kept, all_told, book_told, changed_when, life_ended, lives_asked, lives_at, lives_between, lives_crossed, lives_on, lives_told, lives_with, new_life, returned, where_it, HasOpenEnd, Each, each_in, AreOf, sends}
+use Rattle.mixed_worlds.proofs.Common.{◌≡◌, ◌⊎◌, inl, inr, ℕ, ◌<◌, ◌==◌, Bool, true, false, if◌then◌else◌, List, [], ◌∷◌, ◌++◌, filter, length, Option, refl, ap, sym, subst, ◌∙◌, arith, Contains, Host, same_host, Flow, Crossing, same_host-true, is_mine_on, Entry, Notice, both, CrossedAt, flow_of, receives, sends, Life, NcpState, pair_with, Request, Kept, all_told, book_told, changed_when, life_ended, lives_asked, lives_at, lives_between, lives_crossed, lives_on, lives_told, lives_with, new_life, returned, where_it, HasOpenEnd, Each, each_in, AreOf}
 use Rattle.net_sim.specs.Book.{granted}
 use Rattle.std.proofs.lemmas.Bool.{eqb-true}
 use Rattle.interface.specs.declared.crossing.Crossing.TheVariants as crossing

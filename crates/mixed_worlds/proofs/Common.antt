@@ -7,10 +7,10 @@ pub use Rattle.host_keeps_ranges.specs.Ranges.{IsReadBack}
 pub use Rattle.host_keeps_streams.proofs.lemmas.{find_passes}
 pub use Rattle.host_pairs.proofs.lemmas.{both, what_goes}
 pub use Rattle.host_pairs.specs.About.{AreAbout, IsAbout}
-pub use Rattle.host_pairs.specs.Commands.{Ending, Open, Unconnected, answered_on, asked_on_link, asked_with_size, changed, cls_taken_by, desk_taken, entry_joined, faulted, matched, matched_once, rts_taken_by, str_taken_by}
+pub use Rattle.host_pairs.specs.Commands.{Ending, Open, Unconnected, asked_on_link, asked_with_size, changed, cls_taken_by, desk_taken, entry_joined, faulted, matched, matched_once, rts_taken_by, str_taken_by}
 pub use Rattle.host_pairs.specs.Control.{ERRONEOUS, Legal, NO_SOCKET, Order, Wrong, error, orders_of}
 pub use Rattle.host_pairs.specs.Data.{arrived, arrived_if, data_found, data_of, data_taken, is_acceptable, text_faulted}
-pub use Rattle.host_pairs.specs.Desk.{DeskState, command_queued, desk_of, desk_told, listener_on, listens_on, settled, swept, without_listener}
+pub use Rattle.host_pairs.specs.Desk.{DeskState, command_queued, desk_of, desk_told, listener_on, listens_on, settled, swept}
 pub use Rattle.host_pairs.specs.Entries.{changed_at, changed_first, closed_by_partner, ending, entry_at, free_link, has_cls, is_at, is_ending, is_mine_on, is_open, is_over, is_receiving, opening_by, opening_notices, receives_on, receiving_end, sending_end, sends_on}
 pub use Rattle.host_pairs.specs.Pair.{PairState}
 pub use Rattle.host_pairs.specs.Parcels.{Parcel, asked_at, bits_gone, cls_sent, command_gone, commands_gone, may_send_on, next_of, pair_after, parcel_gone}
@@ -74,6 +74,6 @@ pub use Rattle.std.proofs.lemmas.List.{append-nil, append_assoc}
 pub use Rattle.std.proofs.lemmas.List.Elements.{All-append, All-cons, All-contains, All-filter, All-head, All-map, All-nil, All-tail, All-weaker}
 pub use Rattle.std.specs.List.{Contains, list_any}
 pub use Rattle.std.specs.Prelude.{IsSome, flat_map}
-pub use Rattle.world_keeps_lives.proofs.lemmas.{Begins, Done, Each, Ends, Goes, Hears, Holds, IsOther, MayTell, Quiet, Rules, each_in, each_of, each_weaker, found_in, message_keeps, offer_keeps, open_mine, request_told}
+pub use Rattle.world_keeps_lives.proofs.lemmas.{Begins, Each, Ends, Goes, Hears, Holds, IsOther, MayTell, Quiet, Rules, each_in, each_of, each_weaker, found_in, message_keeps, offer_keeps, open_mine, request_told}
 pub use Rattle.world_keeps_lives.specs.Lives.{EachOn, HasOpenEnd, IsFreeSocket, IsLifeOf, IsOwned, at_socket, mine_on}
 pub use Rattle.world_keeps_pairing.proofs.lemmas.{even_odd, send_odd}

@@ -1,5 +1,5 @@
 -- What is reported of data that come in, and that go out.
-use Rattle.mixed_worlds.proofs.Common.{◌≡◌, ◌⊎◌, inl, inr, ℕ, ◌*◌, ◌==◌, Bool, true, false, if◌then◌else◌, List, [], ◌∷◌, ◌++◌, find, take, Option, Some, None, refl, ap, sym, subst, ◌∙◌, same_host, HostMessage, data_bits, is_ready, ERRONEOUS, data_of, data_taken, DeskState, desk_of, is_ending, is_open, receives_on, Parcel, TurnState, if_ready, message_taken, with_desk, Entry, Notice, after_turn, turn_of, NcpState, pair_with, next_in, offered_by, Peer, header_of, DataHeader, Ending, Open, Unconnected, arrived, arrived_if, data_found, is_acceptable, text_faulted}
+use Rattle.mixed_worlds.proofs.Common.{◌≡◌, ◌⊎◌, inl, inr, ℕ, ◌*◌, ◌==◌, Bool, true, false, if◌then◌else◌, List, [], ◌∷◌, ◌++◌, find, take, Option, Some, None, refl, ap, sym, subst, ◌∙◌, same_host, HostMessage, data_bits, header_of, is_ready, ERRONEOUS, data_of, data_taken, arrived, arrived_if, data_found, is_acceptable, text_faulted, DeskState, desk_of, is_ending, is_open, receives_on, Parcel, TurnState, if_ready, message_taken, with_desk, Entry, Notice, after_turn, turn_of, NcpState, pair_with, next_in, offered_by, Peer, DataHeader, Ending, Open, Unconnected}
 use Rattle.interface.specs.declared.crossing.Inbound.TheVariants as inbound
 use Rattle.host_pairs.specs.Commands as commands
 use Rattle.host_pairs.specs.Parcels as parcel

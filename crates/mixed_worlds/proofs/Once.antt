@@ -1,5 +1,13 @@
 -- A message of a peer opens no end whose own request is that of a life already, whatever it says.
-use Rattle.mixed_worlds.proofs.Common.{◌≡◌, ◌⊎◌, inl, inr, ℕ, ◌<◌, ◌==◌, ◌&&◌, ◌||◌, eq-eqb, arith, Bool, false, not, if◌then◌else◌, List, [], ◌∷◌, ◌++◌, map, filter, find, Option, Some, None, is_some, refl, ap, sym, subst, ◌∙◌, Host, Command, DeskState, is_ending, Entry, Notice, append-nil, append_assoc, All-append, All-cons, All-filter, All-head, All-map, All-nil, All-tail, All-weaker, End, Mark, answered_on, changed, entry_joined, matched, desk_told, listener_on, listens_on, without_listener, changed_at, changed_first, entry_at, is_at, opening_by, opening_notices, Listener, Stand, Standing, at, standing, found_at, find_passes}
+use Rattle.mixed_worlds.proofs.Common.{◌≡◌, ◌⊎◌, inl, inr, ℕ, ◌<◌, ◌==◌, ◌&&◌, ◌||◌, eq-eqb, arith, Bool, false, not}
+use Rattle.mixed_worlds.proofs.Common.{if◌then◌else◌, List, [], ◌∷◌, ◌++◌, map, filter, find, Option, Some, None}
+use Rattle.mixed_worlds.proofs.Common.{is_some, refl, ap, sym, subst, ◌∙◌, Host, Command, DeskState, desk_told}
+use Rattle.mixed_worlds.proofs.Common.{listener_on, listens_on, is_ending, changed_at, changed_first, entry_at, is_at}
+use Rattle.mixed_worlds.proofs.Common.{opening_by, opening_notices, Entry, Notice, append-nil, append_assoc}
+use Rattle.mixed_worlds.proofs.Common.{All-append, All-cons, All-filter, All-head, All-map, All-nil, All-tail}
+use Rattle.mixed_worlds.proofs.Common.{All-weaker, End, Mark, changed, entry_joined, matched, Listener, Stand}
+use Rattle.mixed_worlds.proofs.Common.{Standing, at, standing, found_at, find_passes}
+use Rattle.host_pairs.specs.Desk.{without_listener}
 use Rattle.std.proofs.Common.{true}
 use Rattle.host_pairs.proofs.lemmas.{both}
 use Rattle.std.proofs.lemmas.Bool.{eqb-true}

@@ -1,5 +1,14 @@
 -- A message of a host's own opens no end whose own request, or whose partner's, is that of a life already.
-use Rattle.mixed_worlds.proofs.Common.{◌≡◌, inl, inr, ℕ, ◌<◌, ◌*◌, ◌==◌, ◌&&◌, Bool, true, false, not, if◌then◌else◌, List, [], ◌∷◌, ◌++◌, filter, take, drop, Option, Some, None, is_some, refl, ap, sym, subst, ◌∙◌, arith, eq-eqb, Host, Command, DeskState, desk_of, has_cls, is_ending, PairState, Parcel, Entry, Notice, NcpState, pair_with, next_in, offered_by, next_pair, Peer, AreInOrder, HasSome, both, append-nil, append_assoc, All-append, All-cons, All-filter, All-nil, All-weaker, flat_map, End, Ask, Close, Mark, changed, desk_told, swept, changed_at, changed_first, ending, entry_at, is_at, is_over, opening_by, opening_notices, asked_at, bits_gone, cls_sent, command_gone, commands_gone, may_send_on, pair_after, parcel_gone, Listener, Stand, Standing, at, standing, mark_of, marks, found_at, none_at, put, find_passes}
+use Rattle.mixed_worlds.proofs.Common.{◌≡◌, inl, inr, ℕ, ◌<◌, ◌*◌, ◌==◌, ◌&&◌, Bool, true, false, not, if◌then◌else◌}
+use Rattle.mixed_worlds.proofs.Common.{List, [], ◌∷◌, ◌++◌, filter, take, drop, Option, Some, None, is_some, refl, ap}
+use Rattle.mixed_worlds.proofs.Common.{sym, subst, ◌∙◌, arith, eq-eqb, Host, Command, DeskState, desk_of, desk_told}
+use Rattle.mixed_worlds.proofs.Common.{swept, is_ending, changed_at, changed_first, ending, entry_at, is_at, is_over}
+use Rattle.mixed_worlds.proofs.Common.{opening_by, opening_notices, PairState, Parcel, asked_at, bits_gone, cls_sent}
+use Rattle.mixed_worlds.proofs.Common.{command_gone, commands_gone, may_send_on, pair_after, parcel_gone, Entry}
+use Rattle.mixed_worlds.proofs.Common.{Notice, NcpState, pair_with, next_in, offered_by, next_pair, Peer, AreInOrder}
+use Rattle.mixed_worlds.proofs.Common.{HasSome, both, append-nil, append_assoc, All-append, All-cons, All-filter}
+use Rattle.mixed_worlds.proofs.Common.{All-nil, All-weaker, flat_map, End, Ask, Close, Mark, changed, Listener, Stand}
+use Rattle.mixed_worlds.proofs.Common.{Standing, at, standing, mark_of, marks, found_at, none_at, put, find_passes}
 use Rattle.std.proofs.lemmas.Bool.{eqb-true}
 use Rattle.std.proofs.lemmas.List.{take-append-drop}
 use Rattle.std.specs.Prelude.{All}
@@ -14,7 +23,7 @@ use Rattle.mixed_worlds.proofs.Asked.{one_place}
 use Rattle.mixed_worlds.proofs.Once.{AreApart, Differ, IsBoth, IsDone, Opening, all_here, apart_more, at_two}
 use Rattle.mixed_worlds.proofs.Once.{both_same, changed_found, done_same, found_all, lone_by, none_opened, openings}
 use Rattle.mixed_worlds.proofs.Once.{openings_append}
-use Rattle.mixed_worlds.proofs.Steps.{IsSame, OpenNone, desk_with, ended_none}
+use Rattle.mixed_worlds.proofs.Steps.{IsSame, desk_with, ended_none}
 use Rattle.mixed_worlds.proofs.Waiting.{all_changed}
 
 -- ---- an end whose request waits

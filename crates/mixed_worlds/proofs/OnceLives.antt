@@ -1,5 +1,19 @@
 -- No two lives have the same own request, nor the same one of their partner, whatever peers send.
-use Rattle.mixed_worlds.proofs.Common.{◌≡◌, ◌⊎◌, inl, inr, ℕ, ◌<◌, Bool, true, false, if◌then◌else◌, List, [], ◌∷◌, ◌++◌, length, map, take, Option, Some, None, is_some, refl, ap, sym, subst, ◌∙◌, arith, eq-eqb, Contains, Host, same_host, Flow, Answer, Crossing, HostMessage, same_host-true, Command, DeskState, Order, orders_of, is_mine_on, PairState, Parcel, Entry, Notice, CrossedAt, HasCrossed, coming, going, control_flow, Life, accepted, NcpState, opening_state, pair_with, served, offered, answer_leaves, message_leaves, offer_leaves, pair_range, Request, Kept, all_told, book_told, carried, changed_when, life_ended, lives_asked, lives_at, lives_between, lives_crossed, lives_on, lives_told, lives_with, new_life, returned, where_it, Asked, Crossed, Moment, places, program, crossings_of, host_in, kept_by, notices_by, places_same, Begins, Each, each_in, each_weaker, Ends, Goes, Hears, MayTell, Quiet, Rules, message_keeps, offer_keeps, IsFreeSocket, IsOwned, mine_on, IsMixed, Orders, Says, older, ordered, crossed_only, mixed_kept, both, append-nil, append_assoc, All-append, All-cons, All-head, All-nil, All-tail, All-weaker, same_host-refl, listens_on, Listener, is_ready, AreTwo, each_of}
+use Rattle.mixed_worlds.proofs.Common.{◌≡◌, inl, inr, ℕ, ◌<◌, Bool, true, false, if◌then◌else◌, List, [], ◌∷◌, ◌++◌}
+use Rattle.mixed_worlds.proofs.Common.{length, map, take, Some, None, is_some, refl, ap, sym, subst, ◌∙◌, arith}
+use Rattle.mixed_worlds.proofs.Common.{eq-eqb, Contains, Host, same_host, Flow, Answer, Crossing, HostMessage}
+use Rattle.mixed_worlds.proofs.Common.{same_host-true, same_host-refl, Command, Order, orders_of, is_mine_on}
+use Rattle.mixed_worlds.proofs.Common.{PairState, Parcel, Entry, Notice, CrossedAt, control_flow, AreTwo, Life}
+use Rattle.mixed_worlds.proofs.Common.{accepted, NcpState, opening_state, pair_with, served, offered, answer_leaves}
+use Rattle.mixed_worlds.proofs.Common.{message_leaves, offer_leaves, pair_range, Request, Kept, all_told, book_told}
+use Rattle.mixed_worlds.proofs.Common.{carried, changed_when, life_ended, lives_asked, lives_at, lives_between}
+use Rattle.mixed_worlds.proofs.Common.{lives_crossed, lives_on, lives_told, lives_with, new_life, returned, where_it}
+use Rattle.mixed_worlds.proofs.Common.{Asked, Crossed, Moment, places, program, crossings_of, host_in, kept_by}
+use Rattle.mixed_worlds.proofs.Common.{notices_by, places_same, Begins, Each, each_in, each_weaker, Ends, Goes, Hears}
+use Rattle.mixed_worlds.proofs.Common.{MayTell, Quiet, Rules, message_keeps, offer_keeps, each_of, mine_on, IsMixed}
+use Rattle.mixed_worlds.proofs.Common.{Orders, Says, older, ordered, crossed_only, mixed_kept, append-nil}
+use Rattle.mixed_worlds.proofs.Common.{append_assoc, All-append, All-cons, All-head, All-nil, All-tail, All-weaker}
+use Rattle.mixed_worlds.proofs.Common.{listens_on, is_ready}
 use Rattle.net_sim.specs.Book.{granted}
 use Rattle.std.proofs.lemmas.List.{map-append}
 use Rattle.std.specs.Prelude.{All}
@@ -371,7 +385,8 @@ module _ (orders : Orders) (strange : Host → Bool) (hosts : List Host) where
         → Reports h f.destination (so_far moments)
         (accepted (program h moments) (inbound.Answer kind f) (places moments)).1
         (accepted (program h moments) (inbound.Answer kind f) (places moments)).0
-    answer_reports kind f = by_once f.destination (accepted (program h moments) (inbound.Answer kind f) (places moments))
+    answer_reports kind f = by_once f.destination
+        (accepted (program h moments) (inbound.Answer kind f) (places moments))
         (answer_step (program h moments) kind f (places moments)
         (IsOnce h f.destination (places moments) (so_far moments))
         (once_steps h f.destination (places moments) (so_far moments))
@@ -400,7 +415,8 @@ module _ (orders : Orders) (strange : Host → Bool) (hosts : List Host) where
       → AreOnce (x ∷ moments)
       (opened (all_told (host_in x) (notices_by x moments) (kept_by x (mixed_kept strange moments))).book.lives)
   more x moments mixed p s is once r =
-      let same : opened (all_told (host_in x) (notices_by x moments) (kept_by x (mixed_kept strange moments))).book.lives
+      let same :
+      opened (all_told (host_in x) (notices_by x moments) (kept_by x (mixed_kept strange moments))).book.lives
       ≡ so_far moments ++ openings (host_in x) (notices_by x moments) =
       all_openings (host_in x) (notices_by x moments) (kept_by x (mixed_kept strange moments))
       ∙ ap (λ (os : List Opening). os ++ openings (host_in x) (notices_by x moments))
@@ -410,7 +426,8 @@ module _ (orders : Orders) (strange : Host → Bool) (hosts : List Host) where
         done = All-append (AreDone (x ∷ moments)) (so_far moments)
             (openings (host_in x) (notices_by x moments)) (still_done x moments mixed once.done)
             (All-weaker (λ n. (n.host ≡ host_in x) × (n.peer ≡ p) × All (IsBoth n) (pair_with p s.peers).entries)
-            (AreDone (x ∷ moments)) (λ n o. new_done n o.0 o.1 o.2) (openings (host_in x) (notices_by x moments)) r.new);
+            (AreDone (x ∷ moments)) (λ n o. new_done n o.0 o.1 o.2)
+            (openings (host_in x) (notices_by x moments)) r.new);
       }) where
         new_done : (n : Opening) → n.host ≡ host_in x → n.peer ≡ p → All (IsBoth n) (pair_with p s.peers).entries
             → AreDone (x ∷ moments) n
@@ -457,7 +474,8 @@ module _ (orders : Orders) (strange : Host → Bool) (hosts : List Host) where
       (offered (program m.flow.source moments) (places moments)).0
       (own_program m.flow.source (offered (program m.flow.source moments) (places moments)).0
       (program m.flow.source moments)) once
-      (out_reports m.flow.source off moments (older orders strange hosts (Crossed (crossing.Out m)) moments mixed) once m
+      (out_reports m.flow.source off moments (older orders strange hosts (Crossed (crossing.Out m)) moments mixed)
+      once m
       out)
   after (Crossed (crossing.In m)) moments mixed off once =
       more (Crossed (crossing.In m)) moments mixed m.flow.source
@@ -465,7 +483,8 @@ module _ (orders : Orders) (strange : Host → Bool) (hosts : List Host) where
       (own_program m.flow.destination
       (accepted (program m.flow.destination moments) (inbound.Message m) (places moments)).0
       (program m.flow.destination moments)) once
-      (in_reports m.flow.destination off moments (older orders strange hosts (Crossed (crossing.In m)) moments mixed) once
+      (in_reports m.flow.destination off moments (older orders strange hosts (Crossed (crossing.In m)) moments mixed)
+      once
       m)
   after (Crossed (crossing.Answer kind f)) moments mixed off once =
       more (Crossed (crossing.Answer kind f)) moments mixed f.destination
@@ -514,7 +533,8 @@ module _ (orders : Orders) (strange : Host → Bool) (hosts : List Host) where
       → AreTwo (mixed_kept strange moments).book.lives x y
       → IsOwn strange (crossings_of moments) x × IsOwn strange (crossings_of moments) y
   two_in moments mixed x y (front, between, rest, is) = parts front
-      (subst (λ (lives : List Life). Each (IsOwn strange (crossings_of moments)) lives) is (all_own orders strange hosts moments mixed)) where
+      (subst (λ (lives : List Life). Each (IsOwn strange (crossings_of moments)) lives) is
+      (all_own orders strange hosts moments mixed)) where
         second : (between : List Life) → Each (IsOwn strange (crossings_of moments)) (between ++ y ∷ rest)
             → IsOwn strange (crossings_of moments) y
         second [] all = all.0

@@ -1,5 +1,14 @@
 -- The RTS of an end that receives named its link in the message that went out at its place, whatever its peer sends.
-use Rattle.mixed_worlds.proofs.Common.{◌≡◌, inl, inr, ℕ, Bool, true, false, if◌then◌else◌, List, [], ◌∷◌, map, take, Option, Some, None, refl, ap, sym, subst, ◌∙◌, Contains, Host, same_host, Crossing, HostMessage, same_host-true, is_receive_socket, Command, Legal, Order, orders_of, PairState, Parcel, Entry, Notice, CrossedAt, HasCrossed, going, control_flow, accepted, NcpState, opening_state, pair_with, served, message_for, next_in, offered, answer_leaves, message_leaves, next_pair, offer_leaves, pair_range, Asked, Crossed, Moment, places, program, crossings_of, places_same, Begins, Each, Ends, Goes, Hears, MayTell, Quiet, Rules, each_weaker, message_keeps, offer_keeps, IsMixed, Orders, Says, older, ordered, All-contains, All-head, All-nil, All-tail, IsReadBack, offer_read, even_odd, Done, each_of}
+use Rattle.mixed_worlds.proofs.Common.{◌≡◌, inl, inr, ℕ, Bool, true, false, if◌then◌else◌, List, [], ◌∷◌, map, take}
+use Rattle.mixed_worlds.proofs.Common.{Option, Some, None, refl, ap, sym, subst, ◌∙◌, Contains, Host, same_host}
+use Rattle.mixed_worlds.proofs.Common.{Crossing, HostMessage, same_host-true, is_receive_socket, Command, Legal, Order}
+use Rattle.mixed_worlds.proofs.Common.{orders_of, PairState, Parcel, Entry, Notice, CrossedAt, HasCrossed, going}
+use Rattle.mixed_worlds.proofs.Common.{control_flow, accepted, NcpState, opening_state, pair_with, served, message_for}
+use Rattle.mixed_worlds.proofs.Common.{next_in, offered, answer_leaves, message_leaves, next_pair, offer_leaves}
+use Rattle.mixed_worlds.proofs.Common.{pair_range, offer_read, Asked, Crossed, Moment, places, program, crossings_of}
+use Rattle.mixed_worlds.proofs.Common.{places_same, Begins, Each, Ends, Goes, Hears, MayTell, Quiet, Rules}
+use Rattle.mixed_worlds.proofs.Common.{each_weaker, message_keeps, offer_keeps, IsMixed, Orders, Says, older, ordered}
+use Rattle.mixed_worlds.proofs.Common.{All-contains, All-head, All-nil, All-tail, IsReadBack, even_odd}
 use Rattle.std.proofs.lemmas.List.Elements.{All-take}
 use Rattle.std.specs.Prelude.{All}
 use Rattle.interface.specs.declared.crossing.Crossing.TheVariants as crossing
@@ -9,8 +18,8 @@ use Rattle.host_pairs.specs.Parcels as parcel
 use Rattle.world_keeps_lives.proofs.lemmas.{answer_keeps, request_keeps}
 use Rattle.mixed_worlds.proofs.Asked.{control_is, if_ends, one_place, own_out, read_at}
 use Rattle.mixed_worlds.proofs.Sockets.{fit, own_request}
-use Rattle.mixed_worlds.proofs.Steps.{desk_with, message_step}
-use Rattle.mixed_worlds.proofs.Waiting.{AreFitting, AreSound, DeskFits, Fits, Keeps, PairFits, answer_fits, keeps_fit}
+use Rattle.mixed_worlds.proofs.Steps.{message_step}
+use Rattle.mixed_worlds.proofs.Waiting.{AreSound, DeskFits, Fits, PairFits, answer_fits, keeps_fit}
 use Rattle.mixed_worlds.proofs.Waiting.{offer_fits, request_fits, steps}
 
 -- ---- what waits, at each moment

@@ -1,5 +1,5 @@
 -- A book that is safe where its strangers are masked is safe over the real log, of lives between hosts with programs.
-use Rattle.mixed_worlds.proofs.Common.{◌≡◌, inl, inr, suc, Bool, false, List, [], ◌∷◌, ◌++◌, refl, sym, subst, ◌∙◌, arith, IsSome, Contains, Host, Crossing, ClosesWhole, IsBeside, Match, SafeBook, partner_request, Fate, Life, masked_log, AreTwo}
+use Rattle.mixed_worlds.proofs.Common.{◌≡◌, inl, inr, suc, Bool, false, List, [], ◌∷◌, ◌++◌, refl, sym, subst, ◌∙◌, arith, IsSome, Contains, Host, Crossing, ClosesWhole, IsBeside, Match, SafeBook, partner_request, AreTwo, Fate, Life, masked_log}
 use Rattle.std.proofs.lemmas.List.Elements.{Contains-append_left}
 use Rattle.interface.specs.Messages.{SafeMessages}
 use Rattle.promise.specs.Safe.{Source}

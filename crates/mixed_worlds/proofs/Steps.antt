@@ -1,6 +1,21 @@
 -- What a peer's message does to the connections of a pair, in steps: for what holds of ends, of what waits and of what
 -- is reported together, whatever the peer says.
-use Rattle.mixed_worlds.proofs.Common.{◌≡◌, ℕ, ◌==◌, ◌&&◌, ◌||◌, Bool, true, false, not, if◌then◌else◌, List, [], ◌∷◌, ◌++◌, map, filter, find, Option, Some, None, is_some, refl, ap, sym, subst, ◌∙◌, list_any, Host, same_host, Flow, Answer, HostMessage, is_receive_socket, is_send_socket, is_ready, data_bits, Command, ERRONEOUS, Legal, Order, orders_of, data_of, data_taken, DeskState, desk_of, is_ending, is_open, receives_on, PairState, TurnState, if_ready, message_taken, with_desk, Entry, Notice, both, after_turn, turn_of, NcpState, pair_with, HasSome, append-nil, append_assoc, flat_map, spelling, header_of, DataHeader, Ending, Open, Unconnected, answered_on, asked_on_link, asked_with_size, changed, cls_taken_by, desk_taken, entry_joined, faulted, matched, matched_once, rts_taken_by, str_taken_by, NO_SOCKET, Wrong, error, arrived, arrived_if, data_found, is_acceptable, text_faulted, command_queued, desk_told, listener_on, settled, swept, without_listener, changed_first, closed_by_partner, ending, entry_at, free_link, is_at, is_over, opening_notices, receiving_end, sending_end, sends_on, command_taken, order_taken, orders_taken, Listener, Stand, Standing, marks, none_at, put, send_odd}
+use Rattle.mixed_worlds.proofs.Common.{◌≡◌, ℕ, ◌==◌, ◌||◌, Bool, true, false, not, if◌then◌else◌, List, [], ◌∷◌, ◌++◌}
+use Rattle.mixed_worlds.proofs.Common.{map, filter, Option, Some, None, is_some, refl, ap, sym, subst, ◌∙◌, list_any}
+use Rattle.mixed_worlds.proofs.Common.{Host, same_host, Flow, Answer, HostMessage, is_receive_socket, is_ready}
+use Rattle.mixed_worlds.proofs.Common.{data_bits, header_of, Command, ERRONEOUS, Legal, Order, orders_of, NO_SOCKET}
+use Rattle.mixed_worlds.proofs.Common.{Wrong, error, data_of, data_taken, arrived, arrived_if, data_found}
+use Rattle.mixed_worlds.proofs.Common.{is_acceptable, text_faulted, DeskState, desk_of, command_queued, desk_told}
+use Rattle.mixed_worlds.proofs.Common.{listener_on, settled, swept, receives_on, changed_first, closed_by_partner}
+use Rattle.mixed_worlds.proofs.Common.{ending, entry_at, free_link, is_at, is_over, opening_notices, receiving_end}
+use Rattle.mixed_worlds.proofs.Common.{sending_end, sends_on, PairState, TurnState, if_ready, message_taken, with_desk}
+use Rattle.mixed_worlds.proofs.Common.{command_taken, order_taken, orders_taken, Entry, Notice, both, after_turn}
+use Rattle.mixed_worlds.proofs.Common.{turn_of, NcpState, pair_with, HasSome, append-nil, append_assoc, flat_map}
+use Rattle.mixed_worlds.proofs.Common.{spelling, DataHeader, Ending, Open, Unconnected, asked_on_link, asked_with_size}
+use Rattle.mixed_worlds.proofs.Common.{changed, cls_taken_by, desk_taken, entry_joined, faulted, matched, matched_once}
+use Rattle.mixed_worlds.proofs.Common.{rts_taken_by, str_taken_by, Listener, Stand, Standing, marks, none_at, put}
+use Rattle.mixed_worlds.proofs.Common.{send_odd}
+use Rattle.host_pairs.specs.Commands.{answered_on}
 use Rattle.std.proofs.lemmas.Bool.{eqb-true}
 use Rattle.bit_messages.specs.Octets.{octets_of}
 use Rattle.interface.specs.declared.crossing.Answer.TheVariants as answer

@@ -53,9 +53,13 @@ eight_taken = Crossed (crossing.In eight_bits)
 abbrev pub odd_size : List Moment
 odd_size = eight_taken ∷ eight_waits
 
--- the life of the end that receives, before anything is taken
+-- the life of the end that receives, where it begins
+abbrev pub receiving_life : Life
+receiving_life = new_life second 16 third 33 8 7
+
+-- with that grant, before anything is taken
 abbrev pub granting_life : Life
-granting_life = granted 2 16 (new_life second 16 third 33 8 7)
+granting_life = granted 2 16 receiving_life
 
 -- and after it: only the second message was taken
 abbrev pub odd_life : Life

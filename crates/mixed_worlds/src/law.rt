@@ -20,7 +20,7 @@ ghost use Rattle.mixed_worlds.specs.Toward.{AreOf, AreOnce, HasAsked, IsCarried,
 ghost use Rattle.mixed_worlds.specs.Told.{ToldAmong, told_among};
 ghost use Rattle.mixed_worlds.specs.Worked.{both_in, contacts, eight_bits, eight_taken, eight_told, granting_life};
 ghost use Rattle.mixed_worlds.specs.Worked.{odd_life, odd_size, sending_life};
-ghost use Rattle.mixed_worlds.specs.Worked.{plain_bits, plain_life};
+ghost use Rattle.mixed_worlds.specs.Worked.{plain_bits, plain_life, receiving_life};
 ghost use Rattle.mixed_worlds.specs.Worked.{stranger_contacted, stranger_granted, stranger_opened};
 ghost use Rattle.mixed_worlds.specs.Laws.{Among, HaveSettled, Toward, Worlds};
 
@@ -117,8 +117,9 @@ pub fn worked_links()
 {}
 
 /// No two lives have the same own request, in the message at their own stamp for their two sockets, nor the same one of
-/// their partner.
+/// their partner. One message may hold requests of several.
 pub fn worked_once()
+    ensures together { AreOnce (sending_life ∷ receiving_life ∷ []) }
     ensures own { AreOnce (sending_life ∷ new_life second 33 third 16 8 9 ∷ []) → ⊥ }
     ensures partner { AreOnce (sending_life ∷ new_life second 33 third 16 9 7 ∷ []) → ⊥ }
 {}

@@ -1,4 +1,4 @@
-use Rattle.mixed_worlds.proofs.Common.{◌≡◌, ◌<◌, ℕ, inl, inr, zero, suc, List, ◌∷◌, refl, true, false, ap, sym, subst, arith, Contains, Crossing, HostMessage, CrossedAt, crossings_of, on_link, second, third, Legal, Order, listener_taken, control, IsNamed, sending_life}
+use Rattle.mixed_worlds.proofs.Common.{◌≡◌, ◌<◌, ℕ, inl, inr, zero, suc, List, ◌∷◌, refl, true, false, ap, sym, subst, arith, Contains, Crossing, HostMessage, CrossedAt, crossings_of, on_link, second, third, control, Legal, Order, listener_taken, IsNamed, sending_life}
 use Rattle.bit_messages.specs.Octets.{octets_of}
 use Rattle.interface.specs.declared.crossing.Crossing.TheVariants as crossing
 use Rattle.host_pairs.specs.Control.{orders_of}
@@ -63,7 +63,8 @@ returns-clause-other c h =
 -- at the last place something went out
 none_at : (m : HostMessage) → CrossedAt 8 (crossing.In m) log → ⊥
 none_at m (inl i) = absurd (let no : crossing.In m ≡ crossing.Out (control second third (STR 33 16 8)) = i.0 in cc)
-none_at m (inr i) = absurd (let less : 8 < 8 = below_all 8 (crossing.In m) (crossings_of listener_taken) i in omega (arith, less))
+none_at m (inr i) = absurd
+    (let less : 8 < 8 = below_all 8 (crossing.In m) (crossings_of listener_taken) i in omega (arith, less))
 
 pub returns-clause-turned : goal.returns-clause-turned
 returns-clause-turned c h = none_at h.message h.crossed

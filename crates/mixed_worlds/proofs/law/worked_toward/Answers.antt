@@ -1,4 +1,6 @@
-use Rattle.mixed_worlds.proofs.Common.{◌≡◌, ℕ, inl, inr, ◌<◌, zero, suc, [], Some, refl, ap, sym, subst, drop, false, true, arith, Contains, Crossing, HostMessage, CrossedAt, on_link, second, third, crossings_of, Legal, Order, control, NamesItself}
+use Rattle.mixed_worlds.proofs.Common.{◌≡◌, ℕ, inl, inr, ◌<◌, zero, suc, [], Some, refl, ap, sym, subst, drop, false}
+use Rattle.mixed_worlds.proofs.Common.{true, arith, Contains, Crossing, HostMessage, CrossedAt, on_link, second, third}
+use Rattle.mixed_worlds.proofs.Common.{control, crossings_of, Legal, Order, NamesItself}
 use Rattle.std.proofs.Common.{replicate}
 use Rattle.bit_messages.specs.Octets.{octets_of}
 use Rattle.ncp_control.specs.Packing.{packed_count}
