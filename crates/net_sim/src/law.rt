@@ -1,59 +1,35 @@
 //! What follows for hosts that run the network control program, whatever carries their messages. The functions here
 //! do nothing: each clause is a law.
 
-ghost use Rattle.std.specs.Prelude.{◌≡◌, ℕ, List, [], length, Result, Err};
+ghost use Rattle.std.specs.Prelude.{◌≡◌, ℕ, List, length};
 ghost use Rattle.interface.specs.Host.{Host, IsAddress};
 ghost use Rattle.interface.specs.declared.address.Flow.{Flow};
 ghost use Rattle.interface.specs.declared.crossing.Answer.{Answer};
 ghost use Rattle.interface.specs.declared.crossing.Crossing.{Crossing};
 ghost use Rattle.interface.specs.declared.crossing.Inbound.TheVariants as inbound;
 ghost use Rattle.interface.specs.declared.message.HostMessage.{HostMessage};
-ghost use Rattle.interface.specs.Mailboxes.{Needs, IsRun, box_of, is_up};
-ghost use Rattle.interface.specs.Messages.{SafeMessages};
-ghost use Rattle.net_sim.specs.Carriers.{shown, IsBooked};
-ghost use Rattle.net_sim.specs.Clean.{HaveAddresses, IsLawful};
+ghost use Rattle.interface.specs.Mailboxes.{Needs, box_of, is_up};
 ghost use Rattle.net_sim.specs.Story.{Moment, IsStory, program, events_of};
-ghost use Rattle.net_sim.specs.World.{WorldState, WorldFault, Event, opening_world, StepGives, CalmGives};
 ghost use Rattle.net_sim.specs.Projection.{Agrees, event_of};
-ghost use Rattle.net_sim.specs.Timeline.{IsAddressed, crossings_of, events_in, seen_box};
-ghost use Rattle.net_sim.specs.Whole.{IsWhole};
+ghost use Rattle.net_sim.specs.Timeline.{IsAddressed, crossings_of, seen_box};
 ghost use Rattle.reset_law.specs.Boxes.{boxes};
 ghost use Rattle.reset_law.specs.Events as events;
 ghost use Rattle.reset_law.specs.Pairs as pairs;
 ghost use Rattle.reset_law.specs.Runs as runs;
 ghost use Rattle.sockets.specs.Accepting.{accepted};
-ghost use Rattle.sockets.specs.Pairs.{NcpState, opening_state, pair_with};
+ghost use Rattle.sockets.specs.Pairs.{NcpState, pair_with};
 ghost use Rattle.sockets.specs.Peers.{AreInOrder};
 ghost use Rattle.sockets.specs.Requests.{served};
 ghost use Rattle.sockets.specs.Sending.{offered};
 ghost use Rattle.sockets.specs.declared.request.Request.{Request};
-ghost use Rattle.net_sim.specs.Laws.Resets.{ResetsAnswer, ResetsApart, ResetsMay, ResetsMessage, ResetsOffer, ResetsRequest, ResetsUnheard};
-ghost use Rattle.net_sim.specs.Laws.Books.{BooksRun};
-ghost use Rattle.net_sim.specs.Laws.Worlds.{WorldsCalm, WorldsRun, WorldsStep};
-ghost use Rattle.net_sim.specs.Laws.CleanResets.{CleanResetsAgrees, CleanResetsClean, CleanResetsStays};
-ghost use Rattle.net_sim.specs.Laws.CleanTakings.{CleanTakingsStories, CleanTakingsWorlds};
-ghost use Rattle.net_sim.specs.Laws.LawfulWorlds.{LawfulWorldsCalm, LawfulWorldsRun, LawfulWorldsStep};
-ghost use Rattle.net_sim.specs.Laws.MixedWorlds.{MixedWorldsAny, MixedWorldsCalm, MixedWorldsNobody, MixedWorldsOpening, MixedWorldsRun, MixedWorldsStep};
+ghost use Rattle.net_sim.specs.Laws.Worlds.{Books, CleanResets, CleanTakings, LawfulWorlds, MixedWorlds, Resets, Worlds};
 
 use interface::Carrier;
 
 /// Each call of a host's program is, for each peer `h`, a step of the law of resets: where program and law agree on the pair
 /// before it, they agree on it after it.
 pub fn resets()
-    // a program that starts knows of nobody
-    ensures opening { (own h : Host) → Agrees (pair_with h (opening_state own).peers) pairs.opening_pair }
-
-    ensures request { ResetsRequest }
-
-    ensures message { ResetsMessage }
-
-    ensures unheard { ResetsUnheard }
-
-    ensures answer { ResetsAnswer }
-
-    ensures may { ResetsMay }
-    ensures apart { ResetsApart }
-    ensures offer { ResetsOffer }
+    ensures { Resets }
 {}
 
 /// What becomes of all programs, moment by moment: crossings, and what users ask for.
@@ -68,20 +44,7 @@ pub fn stories()
 /// What is in the book of a world, whatever its carrier is made of: all that crossed, except for the event in which memory ran
 /// out, after every list of events.
 pub fn books<C: Carrier>()
-    // over a carrier whose log is empty
-    ensures opening { (c : C) → (C.calls.seen c).log ≡ [] → IsBooked C.calls.seen (opening_world (shown C.calls) c) }
-
-    // an event that is refused, or in which memory runs out, leaves the book and what was handed over as they were
-    ensures refused { (old new : WorldState C) (e : Event) (r : Result (Unit {0}) WorldFault) (f : WorldFault) → r ≡ Err f → StepGives (shown C.calls) old e r new → new.kept ≡ old.kept }
-
-    // one event, a list of events, and this many quiet rounds with all that the hosts take and say between them
-    ensures step { (old new : WorldState C) (e : Event) (r : Result (Unit {0}) WorldFault) → IsBooked C.calls.seen old → StepGives (shown C.calls) old e r new → IsBooked C.calls.seen new }
-    ensures run { BooksRun C.calls }
-    ensures calm { (old new : WorldState C) (times : ℕ) (r : Result (Unit {0}) WorldFault) → IsBooked C.calls.seen old → CalmGives (shown C.calls) times old r new → IsBooked C.calls.seen new }
-
-    // and where the carrier's log is a run of the mailboxes, a message answered by RFNM was taken exactly once, and none is taken
-    // twice: the message clause of the safe book
-    ensures messages { (w : WorldState C) → IsBooked C.calls.seen w → IsRun (C.calls.seen w.carrier).hosts (C.calls.seen w.carrier).log → SafeMessages w.kept.book.crossings }
+    ensures { Books C.calls }
 {}
 
 /// Each call of a host's program keeps its peers in order of their address octets, each host once.
@@ -108,53 +71,28 @@ pub fn mailboxes()
 /// made of. All that is kept, except for what services report, is theirs, and until memory runs out each host has the program that
 /// comes of them.
 pub fn worlds<C: Carrier>()
-    // over a carrier whose log is empty
-    ensures opening { (c : C) → (C.calls.seen c).log ≡ [] → IsWhole C.calls.seen (C.calls.seen c).hosts (opening_world (shown C.calls) c) }
-
-    ensures step { WorldsStep C.calls }
-    ensures run { WorldsRun C.calls }
-    ensures calm { WorldsCalm C.calls }
+    ensures { Worlds C.calls }
 {}
 
 /// What becomes of resets in a world, by the contacts and crossings in its book only. The carrier's log is a run of the
 /// mailboxes, as every carrier promises of it.
 pub fn clean_resets<C: Carrier>()
-    ensures clean { CleanResetsClean C.calls }
-
-    ensures stays { CleanResetsStays C.calls }
-
-    // for the book is a run of the law of resets, and each program in a seat is, for each peer, where that law has it
-    ensures run { (hosts : List Host) (w : WorldState C) → IsLawful C.calls.seen hosts w → runs.IsRun hosts (events_in w.kept.book.contacts w.kept.book.crossings) }
-    ensures agrees { CleanResetsAgrees C.calls }
+    ensures { CleanResets C.calls }
 {}
 
 /// Both halves of a clean reset, over any list of moments: of whatever a host takes of a peer, except for RST and RRP, either it went out
 /// after the host's last clean point for that peer, or its taking leaves every pair and what listens as they were, and reports nothing.
 pub fn clean_takings<C: Carrier>()
-    ensures stories { CleanTakingsStories C.calls }
-
-    ensures worlds { CleanTakingsWorlds C.calls }
+    ensures { CleanTakings C.calls }
 {}
 
 /// The worlds of which that is said: those that began over a carrier whose log is empty, between hosts with addresses, however
 /// they continued.
 pub fn lawful_worlds<C: Carrier>()
-    ensures opening { (c : C) → (C.calls.seen c).log ≡ [] → HaveAddresses (C.calls.seen c).hosts → IsLawful C.calls.seen (C.calls.seen c).hosts (opening_world (shown C.calls) c) }
-
-    ensures step { LawfulWorldsStep C.calls }
-    ensures run { LawfulWorldsRun C.calls }
-    ensures calm { LawfulWorldsCalm C.calls }
+    ensures { LawfulWorlds C.calls }
 {}
 
 /// The same of worlds with strangers: whatever these send and take, all that is kept of the hosts with programs is what their programs say.
 pub fn mixed_worlds<C: Carrier>()
-    ensures opening { MixedWorldsOpening C.calls }
-
-    ensures step { MixedWorldsStep C.calls }
-    ensures run { MixedWorldsRun C.calls }
-    ensures calm { MixedWorldsCalm C.calls }
-
-    // without strangers such a world is lawful, and a lawful one is such a world
-    ensures nobody { MixedWorldsNobody C.calls }
-    ensures any { MixedWorldsAny C.calls }
+    ensures { MixedWorlds C.calls }
 {}

@@ -6,7 +6,7 @@ ghost use Rattle.net_sim.specs.Carriers.{shown};
 ghost use Rattle.net_sim.specs.Inside.Mixed as inside;
 ghost use Rattle.net_sim.specs.Inside.Mixed.{mixed_after, mixed_of};
 ghost use Rattle.net_sim.specs.Inside.Parts.{IsOnce, AreLive, hosts_of, hosts_served, world_after, world_of};
-ghost use Rattle.net_sim.specs.Laws.MixedWorlds.{IsNamedMixed};
+ghost use Rattle.net_sim.specs.Laws.Worlds.{IsNamedMixed};
 ghost use Rattle.net_sim.specs.MixedWorlds as mixed;
 ghost use Rattle.net_sim.specs.World.{Take};
 ghost use Rattle.net_sim.specs.MixedWorlds.{AnyGives, AskedGives, FetchGives, MixedEventGives, OutGives, SaysGives, mixed_answer, with_programs};

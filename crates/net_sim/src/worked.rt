@@ -1,57 +1,22 @@
 //! Worked examples of books and worlds. The functions here do nothing: each clause is a row, computed over the definitions.
 
-ghost use Rattle.std.specs.Prelude.{◌≡◌, [], ◌∷◌, ◌++◌, Some, None, Ok, Result, map};
-ghost use Rattle.interface.specs.Calls.{Seen};
+ghost use Rattle.std.specs.Prelude.{◌≡◌, [], ◌∷◌, ◌++◌, map};
 ghost use Rattle.interface.specs.declared.crossing.Crossing.TheVariants as crossing;
 ghost use Rattle.net_sim.specs.Book.{book_told, asked, crossed};
 ghost use Rattle.net_sim.specs.Handed.{AreUnhanded};
 ghost use Rattle.promise.specs.Fates.{AreFated};
 ghost use Rattle.promise.specs.declared.life.Fate.TheVariants as fate;
-ghost use Rattle.promise.specs.Safe.{SafeBook, own_request, partner_request, last_out, before, control_flow};
-ghost use Rattle.net_sim.specs.Worked.{eight, eight_zeros, four, crossings, message, opened_kept, used, receiver, sender, taker, giver, elsewhere, asker, stranger, over, any_carrier, fresh, down};
-ghost use Rattle.net_sim.specs.Worked.{busy, lacking, stamp_of};
-ghost use Rattle.net_sim.specs.Carriers.{IsBooked};
-ghost use Rattle.net_sim.specs.World.{WorldState, WorldFault, Offer, StepGives, seat_of, up_in, changed};
-ghost use Rattle.sockets.specs.Pairs.{opening_state};
-ghost use Rattle.sockets.specs.Requests.{served};
-ghost use Rattle.sockets.specs.Worked.{first, second, third};
+ghost use Rattle.promise.specs.Safe.{SafeBook};
+ghost use Rattle.net_sim.specs.Worked.{eight, eight_zeros, four, crossings, message, used, receiver, sender, taker, giver, elsewhere, asker, stranger, over};
+ghost use Rattle.net_sim.specs.Worked.{stamp_of};
+ghost use Rattle.sockets.specs.Worked.{first, second};
 ghost use Rattle.host_pairs.specs.declared.notice.Notice.TheVariants as notice;
 ghost use Rattle.sockets.specs.declared.request.Request.TheVariants as request;
-ghost use Rattle.net_sim.specs.Laws.WorkedLives.{WorkedLivesAgain, WorkedLivesMore};
-ghost use Rattle.net_sim.specs.Laws.WorkedRequests.{WorkedRequestsBefore};
-ghost use Rattle.net_sim.specs.Laws.WorkedWorlds.{WorkedWorldsIsDown, WorkedWorldsNobody, WorkedWorldsRefused, WorkedWorldsServed, WorkedWorldsStopped};
+ghost use Rattle.net_sim.specs.Laws.Rows.{WorkedLives, WorkedRequests, WorkedWorlds};
 
 /// What becomes of a life.
 pub fn worked_lives()
-    // one begins at each host when its end is open, in the order in which they are reported
-    ensures opened { opened_kept.book.lives ≡ sender ∷ receiver ∷ [] }
-
-    // it has what was sent or taken, what was granted and what was returned
-    ensures used { used.book.lives ≡ giver ∷ taker ∷ [] }
-    ensures more { WorkedLivesMore }
-    ensures returned_again { (book_told first (notice.Returned 16 1 6) used).book.lives ≡ giver ∷ record taker { returned = record { messages = 2; bits = 10 } } ∷ [] }
-
-    // a notice to one host is about its own sockets
-    ensures own_socket { (book_told second (notice.Arrived 16 four) used).book.lives ≡ giver ∷ taker ∷ [] }
-
-    // it ends with its end, and the partner's life isn't over until it is reported too
-    ensures ended { (book_told first (notice.Ended 16 second 33) used).book.lives ≡ giver ∷ over taker ∷ [] }
-
-    // an end of the same socket with another partner isn't meant
-    ensures another_end { (book_told first (notice.Ended 16 second 35) used).book.lives ≡ giver ∷ taker ∷ [] }
-    ensures another_peer { (book_told first (notice.Ended 16 third 33) used).book.lives ≡ giver ∷ taker ∷ [] }
-
-    // it ends with a reset of its pair at its host, whichever of the two that is
-    ensures reset { (book_told second (notice.PairReset first) used).book.lives ≡ over giver ∷ taker ∷ [] }
-    ensures another_pair { (book_told second (notice.PairReset third) used).book.lives ≡ giver ∷ taker ∷ [] }
-    ensures contact_failed { (book_told second (notice.ContactFailed first) used).book.lives ≡ giver ∷ taker ∷ [] }
-
-    // it ends with its host, which ends no life of another
-    ensures down { (crossed (crossing.Down first) used).book.lives ≡ giver ∷ over taker ∷ [] }
-    ensures up { (crossed (crossing.Up first) used).book.lives ≡ giver ∷ taker ∷ [] }
-
-    ensures again { WorkedLivesAgain }
-    ensures granted_again { (asked first (request.Grant 16 2 100) (book_told first (notice.PairReset second) opened_kept)).book.lives ≡ sender ∷ over receiver ∷ [] }
+    ensures { WorkedLives }
 {}
 
 /// What else a book has, and what was handed over.
@@ -116,19 +81,7 @@ pub fn worked_fates()
 
 /// Which request a life is about.
 pub fn worked_requests()
-    // a request is named by where it went out: the partner's by the last message of the peer on link 0 before it was taken
-    ensures own { own_request taker ≡ record { place = 0; own = 16; foreign = 33 } }
-    ensures partner { (partner_request crossings taker ≡ Some (own_request giver)) × (partner_request crossings giver ≡ Some (own_request taker)) }
-
-    // a message of another flow isn't meant, nor a later one
-    ensures another_link { last_out (control_flow first second) (crossing.Out (message first second 2) ∷ crossings) ≡ Some 0 }
-    ensures another_way { last_out (control_flow second first) crossings ≡ Some 2 }
-    ensures later { partner_request (crossing.Out (message second first 0) ∷ crossings) taker ≡ Some (own_request giver) }
-
-    ensures before { WorkedRequestsBefore }
-
-    // where the peer has said nothing there is none
-    ensures none { partner_request [] taker ≡ None }
+    ensures { WorkedRequests }
 {}
 
 /// The book of a connection on which a message was taken is safe: so the safe book can be.
@@ -192,27 +145,5 @@ pub fn unsafe_ended_books()
 
 /// Why an event is refused, and what it does.
 pub fn worked_worlds()
-    ensures nobody { WorkedWorldsNobody }
-    ensures is_down { WorkedWorldsIsDown }
-    ensures refused { WorkedWorldsRefused }
-
-    ensures stopped { WorkedWorldsStopped }
-
-    // the book then lacks what crossed in one event, and no more
-    ensures lacks_one { IsBooked any_carrier.seen (lacking (crossing.Out (message first second 0) ∷ [])) }
-    ensures lacks_stops { IsBooked any_carrier.seen (lacking (crossing.Down second ∷ crossing.Down first ∷ [])) }
-    ensures lacks_two { IsBooked any_carrier.seen (lacking (crossing.Out (message second first 0) ∷ crossing.Out (message first second 0) ∷ [])) → ⊥ }
-
-    // a host that has nothing to say offers nothing
-    ensures nothing { (r : Result (Unit {0}) WorldFault) (new : WorldState Seen) → StepGives any_carrier fresh (Offer first) r new → (r ≡ Ok tt) × (new ≡ fresh) }
-
-    // a host that stops has no program, and its user's connections are over; one that starts has a new program
-    ensures stops { (seat_of second down.seats ≡ Some (record { host = second; program = None })) × (up_in down.seats ≡ first ∷ []) }
-    ensures starts { seat_of second (changed fresh.carrier (crossing.Up second ∷ []) down).seats ≡ Some (record { host = second; program = Some (opening_state second) }) }
-    ensures both { up_in (changed fresh.carrier (crossing.Down second ∷ crossing.Down first ∷ []) fresh).seats ≡ [] }
-    ensures anew { seat_of first (changed fresh.carrier (crossing.Up first ∷ crossing.Down first ∷ []) busy).seats ≡ Some (record { host = first; program = Some (opening_state first) }) }
-
-    // what a user asks for is in the book before what it is notified of it, and changes its own host only
-    ensures asked { busy.kept.book.contacts ≡ record { host = first; place = 0; peer = second } ∷ [] }
-    ensures served { WorkedWorldsServed }
+    ensures { WorkedWorlds }
 {}

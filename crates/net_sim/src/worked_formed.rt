@@ -2,15 +2,14 @@
 //! with a log of three crossings, with a life of it or with a notice.
 
 ghost use Rattle.std.specs.Prelude.{[], ◌∷◌};
-ghost use Rattle.host_pairs.specs.declared.notice.Notice.TheVariants as notice;
 ghost use Rattle.interface.specs.declared.crossing.Crossing.TheVariants as crossing;
 ghost use Rattle.promise.specs.Formed.{IsFormed};
 ghost use Rattle.promise.specs.Notices.{FormedNotices};
 ghost use Rattle.net_sim.specs.SmallLogs.{given_log, given_told, moved, one_given, one_taken, taken_log, taken_told, two_rts};
-ghost use Rattle.net_sim.specs.Worked.{eight, eight_zeros, message};
+ghost use Rattle.net_sim.specs.Worked.{eight_zeros, message};
 ghost use Rattle.net_sim.specs.WorkedMoments.{eight_sent, rts, str};
 ghost use Rattle.sockets.specs.Worked.{first, second, third};
-ghost use Rattle.net_sim.specs.Laws.UnformedNotices.{UnformedNoticesKind};
+ghost use Rattle.net_sim.specs.Laws.Rows.{UnformedNotices};
 
 /// The two lives of a message of data, and its two notices, are made of what crossed: so lives and notices can be.
 pub fn formed_rows()
@@ -70,17 +69,5 @@ pub fn unformed_data()
 
 /// A notice of data reports to its host, with the message's data, a socket whose connection has the message's link.
 pub fn unformed_notices()
-    ensures kind { UnformedNoticesKind }
-
-    // both requests have crossed
-    ensures partner_unheard { FormedNotices (crossing.In eight_sent ∷ crossing.Out rts ∷ []) (record taken_told { place = 2 } ∷ []) → ⊥ }
-    ensures own_unsaid { FormedNotices (crossing.In eight_sent ∷ crossing.In str ∷ []) (record taken_told { place = 2 } ∷ []) → ⊥ }
-
-    // other bits were sent, and on another socket
-    ensures sent_bits { FormedNotices given_log (record given_told { notice = notice.Sent 33 eight_zeros } ∷ []) → ⊥ }
-    ensures sent_socket { FormedNotices given_log (record given_told { notice = notice.Sent 35 eight } ∷ []) → ⊥ }
-    ensures arrived_socket { FormedNotices taken_log (record taken_told { notice = notice.Arrived 18 eight } ∷ []) → ⊥ }
-
-    // an arrival is reported to the host that took the message
-    ensures another_host { FormedNotices taken_log (record taken_told { host = third } ∷ []) → ⊥ }
+    ensures { UnformedNotices }
 {}

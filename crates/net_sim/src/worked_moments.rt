@@ -1,34 +1,22 @@
 //! Worked examples of moments: two hosts that contact each other, connect and send. The functions here do nothing: each
 //! clause is a row, computed over the definitions.
 
-ghost use Rattle.std.specs.Prelude.{◌≡◌, [], ◌∷◌};
+ghost use Rattle.std.specs.Prelude.{[], ◌∷◌};
 ghost use Rattle.host_pairs.specs.declared.notice.Notice.{Notice};
 ghost use Rattle.host_pairs.specs.declared.notice.Notice.TheVariants as notice;
 ghost use Rattle.interface.specs.declared.crossing.Inbound.TheVariants as inbound;
 ghost use Rattle.net_sim.specs.Clean.{IsUnheard};
 ghost use Rattle.net_sim.specs.Story.{Asked, places, program};
 ghost use Rattle.net_sim.specs.Timeline.{IsTimeline};
-ghost use Rattle.net_sim.specs.Told.{kept_in, notices_by};
-ghost use Rattle.net_sim.specs.Worked.{eight, receiver, sender};
-ghost use Rattle.net_sim.specs.WorkedMoments.{bits_sent, connected, contacted, eight_sent, sent_moments, str, str_sent};
+ghost use Rattle.net_sim.specs.WorkedMoments.{bits_sent, contacted, eight_sent, sent_moments, str, str_sent};
 ghost use Rattle.sockets.specs.Accepting.{accepted};
 ghost use Rattle.sockets.specs.Worked.{first, second, third};
 ghost use Rattle.sockets.specs.declared.request.Request.TheVariants as request;
-ghost use Rattle.net_sim.specs.Laws.WorkedTellings.{WorkedTellingsLives, WorkedTellingsReady};
+ghost use Rattle.net_sim.specs.Laws.Rows.{WorkedTellings};
 
 /// What is kept of moments.
 pub fn worked_tellings()
-    ensures ready { WorkedTellingsReady }
-
-    // a contact notifies its own host that an older one is over, and nobody else
-    ensures again { notices_by (Asked second (request.Contact first)) contacted ≡ notice.PairReset first ∷ [] }
-    ensures others { notices_by (Asked second (request.Listen 35 8)) contacted ≡ [] }
-
-    // a connection is open at its sender where the STR goes out, and at its receiver where it is taken
-    ensures opened { (kept_in connected).book.lives ≡ record sender { own_stamp = 8; partner_stamp = 7 } ∷ record receiver { own_stamp = 6; partner_stamp = 10 } ∷ [] }
-
-    ensures lives { WorkedTellingsLives }
-    ensures handed { (kept_in sent_moments).handed ≡ eight ∷ [] ∷ [] }
+    ensures { WorkedTellings }
 {}
 
 /// Which moments can be.

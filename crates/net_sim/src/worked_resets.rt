@@ -3,20 +3,14 @@
 ghost use Rattle.std.specs.Prelude.{◌≡◌, [], ◌∷◌, Some, None, true};
 ghost use Rattle.interface.specs.declared.crossing.Crossing.TheVariants as crossing;
 ghost use Rattle.net_sim.specs.Clean.{IsFresh, IsText, clean_point, is_through};
-ghost use Rattle.net_sim.specs.Timeline.{events_in};
-ghost use Rattle.net_sim.specs.Worked.{eight, message};
+ghost use Rattle.net_sim.specs.Worked.{message};
 ghost use Rattle.net_sim.specs.WorkedResets.{call, contacts, reset_on, rst, text};
-ghost use Rattle.reset_law.specs.Events.{Contact, Out, Other};
 ghost use Rattle.sockets.specs.Worked.{first, second};
-ghost use Rattle.net_sim.specs.Laws.WorkedEvents.{WorkedEventsPlaced};
+ghost use Rattle.net_sim.specs.Laws.Rows.{WorkedEvents};
 
 /// Crossings and contacts in one list.
 pub fn worked_events()
-    ensures placed { WorkedEventsPlaced }
-
-    // one after the last crossing is above it
-    ensures last { events_in (call first 1 second ∷ []) (crossing.Out (message first second 2) ∷ []) ≡ Contact first second ∷ Out first second 2 (Other eight) ∷ [] }
-    ensures none { events_in contacts [] ≡ Contact first second ∷ [] }
+    ensures { WorkedEvents }
 {}
 
 /// A whole reset, and what was sent before and after it.

@@ -1,21 +1,15 @@
 -- What a world keeps is enough for its next event.
-use Rattle.net_sim.proofs.Common.{◌≡◌, ℕ, Bool, true, false, ◌||◌, if◌then◌else◌, List, [], ◌∷◌, map, Option, Some, None, IfSome, refl, ap, sym, subst, MatchBool, All-nil, All-cons, All-head, All-tail, Calls, InOrder, Host, IsAddress, is_host, same_host, Inbound, after_turn, message_taken, answered_turn, is_busy, PairState, NcpState, opening_state, owner_of, pair_with, listens_on, at_owner, closed_end, Parcel, next_in, offered_by, Entry, Notice, Peer, Request, shown, HaveAddresses, IsLawful, IsHeld, AreLive, IsOnce, hosts_of, running, Moment, Crossed, Asked, program_after, places, program, crossings_of, IsNamed, IsWhole, seat_in, WorldState, WorldFault, Carrier, Seat, EventGives, CalmGives, Refuses, StepGives, opening_world}
+use Rattle.net_sim.proofs.Common.{◌≡◌, ℕ, Bool, true, false, ◌||◌, if◌then◌else◌, List, [], ◌∷◌, map, Some, None, IfSome, refl, ap, sym, subst, MatchBool, All-nil, All-cons, All-head, All-tail, Calls, InOrder, Host, IsAddress, is_host, same_host, NcpState, shown, HaveAddresses, IsLawful, IsHeld, AreLive, IsOnce, hosts_of, running, Moment, program, crossings_of, IsNamed, IsWhole, seat_in, WorldState, WorldFault, Carrier, Seat, EventGives, CalmGives, Refuses, StepGives, opening_world}
 use Rattle.std.proofs.Common.{All, Result}
 use Rattle.interface.proofs.lemmas.{host_before_never, host_before_trans}
 use Rattle.interface.specs.Host.{host_before}
 use Rattle.interface.specs.Mailboxes.{IsRun, is_up}
-use Rattle.interface.specs.declared.crossing.Crossing.TheVariants as crossing
-use Rattle.interface.specs.declared.crossing.Inbound.TheVariants as inbound
 use Rattle.sockets.proofs.lemmas.{same_host-true}
-use Rattle.sockets.specs.Accepting.{accepted, turn_of}
-use Rattle.host_pairs.specs.Desk.{without_listener}
-use Rattle.sockets.specs.Requests.{served}
-use Rattle.sockets.specs.Sending.{offered}
-use Rattle.sockets.specs.declared.request.Request.TheVariants as request
 use Rattle.interface.specs.declared.carrier.CarrierFault.TheVariants as fault
 use Rattle.net_sim.specs.World.{Event}
 use Rattle.net_sim.proofs.Resets.Clean.{calm_lawful, opening_lawful, step_lawful}
 use Rattle.net_sim.proofs.Books.Nobody.{calm_whole, step_whole}
+use Rattle.net_sim.proofs.Hosts.Stays.{program_stays}
 
 -- ---- hosts in order are there once each
 
@@ -43,62 +37,6 @@ once_in_order [] order = tt
 once_in_order (g ∷ []) order = (once_first g [] order, tt)
 once_in_order (g ∷ h ∷ hosts) order = (once_first g (h ∷ hosts) order, once_in_order (h ∷ hosts) order.1)
 
--- ---- no call spends a program
-
-abbrev IsLive : NcpState → Type 0
-IsLive s = s.spent ≡ false
-
-if_live : (b : Bool) (x y : NcpState) → IsLive x → IsLive y → IsLive (if b then x else y)
-if_live true x y left right = left
-if_live false x y left right = right
-
-turn_live : (b : Bool) (x y : NcpState × List Notice) → IsLive x.0 → IsLive y.0 → IsLive (if b then x else y).0
-turn_live true x y left right = left
-turn_live false x y left right = right
-
-accepted_live : (s : NcpState) (i : Inbound) (stamp : ℕ) → IsLive s → IsLive (accepted s i stamp).0
-unfolding accepted
-accepted_live s (inbound.Message m) stamp live =
-    turn_live (same_host s.own m.flow.destination) (after_turn s m.flow.source (message_taken m.flow.source stamp m.flow.link.0 m.text (turn_of s m.flow.source))) (s, []) live live
-accepted_live s (inbound.Answer kind f) stamp live =
-    let busy : Bool = is_busy (pair_with f.destination s.peers).busy f.link.0 in
-    let turn : NcpState × List Notice = after_turn s f.destination (answered_turn f.destination kind f.link.0 (turn_of s f.destination)) in
-    turn_live (same_host s.own f.source) (if busy then turn else (s, [])) (s, []) (turn_live busy turn (s, []) live live) live
-
-offered_live : (s : NcpState) (stamp : ℕ) → IsLive s → IsLive (offered s stamp).0
-unfolding offered
-offered_live s stamp live = by (next_in s.peers) where
-  by : (o : Option (Peer × Parcel)) → IsLive (offered_by s stamp o).0
-  by None = live
-  by (Some (p, parcel)) = live
-
-owner_live : (s : NcpState) (o : Option (Host × Entry)) (change : Entry → PairState → PairState) → IsLive s → IsLive (at_owner s o change)
-owner_live s None change live = live
-owner_live s (Some (peer, e)) change live = live
-
-served_live : (s : NcpState) (r : Request) → IsLive s → IsLive (served s r)
-unfolding served
-served_live s (request.Send socket bits) live = owner_live s (owner_of socket s.peers) _ live
-served_live s (request.Grant socket messages bits) live = owner_live s (owner_of socket s.peers) _ live
-served_live s (request.AskBack socket messages bits) live = owner_live s (owner_of socket s.peers) _ live
-served_live s (request.Interrupt socket) live = owner_live s (owner_of socket s.peers) _ live
-served_live s (request.Close socket) live =
-    if_live (listens_on socket s.listening) (record s { listening = without_listener socket s.listening }) (at_owner s (owner_of socket s.peers) (λ e. closed_end socket)) live
-    (owner_live s (owner_of socket s.peers) (λ e. closed_end socket) live)
-served_live s r live = live
-
-after_live : (a : Host) (here : ℕ) (x : Moment) (s : NcpState) → IsLive s → IsLive (program_after a here x s)
-after_live a here (Crossed (crossing.Out m)) s live = if_live (same_host a m.flow.source) (offered s here).0 s (offered_live s here live) live
-after_live a here (Crossed (crossing.In m)) s live = if_live (same_host a m.flow.destination) (accepted s (inbound.Message m) here).0 s (accepted_live s (inbound.Message m) here live) live
-after_live a here (Crossed (crossing.Answer kind f)) s live = if_live (same_host a f.source) (accepted s (inbound.Answer kind f) here).0 s (accepted_live s (inbound.Answer kind f) here live) live
-after_live a here (Crossed (crossing.Down h)) s live = if_live (same_host a h) (opening_state a) s refl live
-after_live a here (Crossed (crossing.Up h)) s live = if_live (same_host a h) (opening_state a) s refl live
-after_live a here (Asked h r) s live = if_live (same_host a h) (served s r) s (served_live s r live) live
-
-program_live : (a : Host) (moments : List Moment) → IsLive (program a moments)
-program_live a [] = refl
-program_live a (x ∷ moments) = after_live a (places moments) x (program a moments) (program_live a moments)
-
 -- ---- the seats
 
 pub hosts_seated : (hosts hs : List Host) (moments : List Moment) → hosts_of (map (seat_in hosts moments) hs) ≡ hs
@@ -108,14 +46,14 @@ hosts_seated hosts (h ∷ hs) moments = ap (λ (xs : List Host). h ∷ xs) (host
 abbrev RunsLive : Seat → Type 0
 RunsLive s = IfSome s.program (λ p. p.spent ≡ false)
 
-seat_by : (b : Bool) (s : NcpState) → IsLive s → IfSome (if b then Some s else None) (λ p. p.spent ≡ false)
+seat_by : (b : Bool) (s : NcpState) → s.spent ≡ false → IfSome (if b then Some s else None) (λ p. p.spent ≡ false)
 seat_by true s live = live
 seat_by false s live = tt
 
 pub seats_live : (hosts hs : List Host) (moments : List Moment) → AreLive (map (seat_in hosts moments) hs)
 seats_live hosts [] moments = All-nil RunsLive
 seats_live hosts (h ∷ hs) moments =
-    All-cons RunsLive (seat_in hosts moments h) (map (seat_in hosts moments) hs) (seat_by (is_up hosts h (crossings_of moments)) (program h moments) (program_live h moments)) (seats_live hosts hs moments)
+    All-cons RunsLive (seat_in hosts moments h) (map (seat_in hosts moments) hs) (seat_by (is_up hosts h (crossings_of moments)) (program h moments) (program_stays h moments).spent) (seats_live hosts hs moments)
 
 -- ---- addresses
 

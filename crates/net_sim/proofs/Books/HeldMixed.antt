@@ -5,7 +5,7 @@ use Rattle.std.specs.List.{filter}
 use Rattle.interface.specs.Mailboxes.{IsRun}
 use Rattle.interface.specs.declared.carrier.CarrierFault.TheVariants as fault
 use Rattle.net_sim.specs.Inside.Mixed.{IsHeldAmong, mixed_runs_out}
-use Rattle.net_sim.specs.Laws.MixedWorlds.{IsNamedMixed}
+use Rattle.net_sim.specs.Laws.Worlds.{IsNamedMixed}
 use Rattle.net_sim.specs.MixedWorlds.{IsLawfulAmong, MixedCalmGives, MixedEvent, MixedEventGives, MixedFault, MixedState, MixedStepGives, RefusesMixed, World, opening_mixed, strange_in}
 use Rattle.net_sim.proofs.Books.Held.{have_addresses, still_running}
 use Rattle.net_sim.proofs.Books.Mixed as mixed

@@ -6,6 +6,7 @@ use Rattle.promise.specs.declared.book.Told.{Told}
 use Rattle.net_sim.specs.Inside.Lives as all
 use Rattle.net_sim.specs.Inside.Lives.{of_kept, followed, written}
 use Rattle.net_sim.specs.World.{emptied}
+use Rattle.net_sim.proofs.Books.Booked.{crossed_crossings, told_crossings}
 
 turned_behind : (cs : List Crossing) (c : Crossing) (seats : List Seat) → all_turned (cs ++ c ∷ []) seats ≡ all_turned cs (seats_turned c seats)
 turned_behind [] c seats = refl
@@ -76,16 +77,12 @@ written_crossed (c ∷ cs) ts k =
     (ap (λ (ds : List Crossing). ds ++ k.book.crossings) (reverse-append (c ∷ []) cs) ∙ append_assoc (reverse cs) (c ∷ []) k.book.crossings) refl refl refl
     ∙ written_crossed cs ts (crossed c k) ∙ ap (λ (x : Kept). plain [] ts x) (crossed_reversed c cs k)
 
-crossings_after : (cs : List Crossing) (k : Kept) → (all_crossed cs k).book.crossings ≡ cs ++ k.book.crossings
-crossings_after [] k = refl
-crossings_after (c ∷ cs) k = ap (λ (xs : List Crossing). c ∷ xs) (crossings_after cs k)
-
 -- the places are the number of crossings after these
 written_before : (h : Host) (place : ℕ) (cs : List Crossing) (ns : List Notice) (k : Kept) → place ≡ length k.book.crossings + length cs
     → plain cs (map (told_at h place) ns) k ≡ all_told h ns (all_crossed (reverse cs) k)
 written_before h place cs ns k is =
     let after : Kept = all_crossed (reverse cs) k in
-    let many : place ≡ length after.book.crossings = is ∙ omega (arith, length-append (reverse cs) k.book.crossings, length-reverse cs) ∙ ap (λ (xs : List Crossing). length xs) (sym (crossings_after (reverse cs) k)) in
+    let many : place ≡ length after.book.crossings = is ∙ omega (arith, length-append (reverse cs) k.book.crossings, length-reverse cs) ∙ ap (λ (xs : List Crossing). length xs) (sym (crossed_crossings (reverse cs) k)) in
     written_crossed cs (map (told_at h place) ns) k ∙ ap (λ (n : ℕ). plain [] (map (told_at h n) ns) after) many ∙ written_told h ns after
 
 -- ---- what services asked for, and reported
@@ -112,10 +109,6 @@ written_ran h (r ∷ rs) reports k =
     (k.book.reports ++ reports) (k.book.reports ++ reports) (all.all_asked h rs (all.asked h r (of_kept k))) refl refl
     (sym (append_assoc k.book.contacts (contacts_asked h (length k.book.crossings) r) (flat_map (contacts_asked h (length k.book.crossings)) rs))) refl
     ∙ written_ran h rs reports (asked h r k)
-
-told_places : (h : Host) (ns : List Notice) (k : Kept) → (all_told h ns k).book.crossings ≡ k.book.crossings
-told_places h [] k = refl
-told_places h (n ∷ ns) k = told_places h ns (book_told h n k)
 
 -- all that follows what was written before
 after_that : (cs : List Crossing) (a : Option (Host × Request)) (first : List Called) (ts : List Told) (h : Host) (rs : List Request) (reports : List Reported) (k before : Kept) (n : ℕ)
@@ -148,7 +141,7 @@ pub entered_crossed : (h : Host) (cs : List Crossing) (ns : List Notice) (rs : L
 entered_crossed h cs ns rs reports k =
     let place : ℕ = length k.book.crossings + length cs in
     let before : Kept = all_told h ns (all_crossed (reverse cs) k) in
-    let same : before.book.crossings ≡ reverse cs ++ k.book.crossings = told_places h ns (all_crossed (reverse cs) k) ∙ crossings_after (reverse cs) k in
+    let same : before.book.crossings ≡ reverse cs ++ k.book.crossings = told_crossings h ns (all_crossed (reverse cs) k) ∙ crossed_crossings (reverse cs) k in
     let many : place ≡ length before.book.crossings = omega (arith, length-append (reverse cs) k.book.crossings, length-reverse cs) ∙ ap (λ (xs : List Crossing). length xs) (sym same) in
     after_that cs None [] (map (told_at h place) ns) h rs reports k before place (written_before h place cs ns k refl) many
 
@@ -169,7 +162,7 @@ entered_asked h r ns rs reports k =
     let same : length k.book.crossings + 0 ≡ length k.book.crossings = omega arith in
     ap (λ (m : ℕ). written [] (Some (h, r)) calls (map (told_at h m) ns) (Some h) rs reports k) same
     ∙ after_that [] (Some (h, r)) (contacts_asked h (length k.book.crossings) r) (map (told_at h (length k.book.crossings)) ns) h rs reports k (all_told h ns (asked h r k)) (length k.book.crossings) (asked_before h r ns k)
-    (ap (λ (xs : List Crossing). length xs) (sym (told_places h ns (asked h r k))))
+    (ap (λ (xs : List Crossing). length xs) (sym (told_crossings h ns (asked h r k))))
 
 -- ---- nothing else
 

@@ -4,7 +4,7 @@ use Rattle.std.proofs.Common.{Result}
 use Rattle.interface.specs.Mailboxes.{IsRun}
 use Rattle.interface.specs.declared.carrier.CarrierFault.TheVariants as fault
 use Rattle.net_sim.specs.Carriers.{IsBooked}
-use Rattle.net_sim.specs.Laws.MixedWorlds.{AreNamedMixed, IsNamedMixed}
+use Rattle.net_sim.specs.Laws.Worlds.{AreNamedMixed, IsNamedMixed}
 use Rattle.net_sim.specs.MixedWorlds.{AnyGives, FetchGives, HasProgram, IsLawfulAmong, IsWholeAmong, MixedEvent, MixedEventGives, MixedCalmGives, MixedFault, MixedRunGives, MixedRuns, MixedState, MixedStepGives, NoProgram, OfWorld, OutGives, RefusesMixed, SaysGives, World, Any, Out, asked_at, has_seat, is_strange, mixed_stops, opening_among, strange_in}
 use Rattle.net_sim.specs.Reports.{AreReported}
 use Rattle.net_sim.specs.World.{Event, Take}

@@ -20,7 +20,7 @@ pub str_read : orders_of str.text ≡ Legal (command.Str 33 16 8) ∷ []
 unfolding octets_of orders_of read_of command_of
 str_read = refl
 
-plain_read : orders_of eight ≡ Wrong 3 (octets_of eight) ∷ []
+pub plain_read : orders_of eight ≡ Wrong 3 (octets_of eight) ∷ []
 unfolding orders_of
 plain_read = refl
 
@@ -42,20 +42,20 @@ str_holds = subst (λ (os : List Order). Contains os (Legal (command.Str 33 16 8
 
 -- ---- what is named
 
-rts_named : named_in 16 33 (orders_of rts.text) ≡ Some 2
+pub rts_named : named_in 16 33 (orders_of rts.text) ≡ Some 2
 rts_named = ap (named_in 16 33) rts_read
 
-str_named : named_in 33 16 (orders_of str.text) ≡ Some 8
+pub str_named : named_in 33 16 (orders_of str.text) ≡ Some 8
 str_named = ap (named_in 33 16) str_read
 
-unnamed : (o : Option ℕ) → o ≡ None → IsSome o → ⊥
+pub unnamed : (o : Option ℕ) → o ≡ None → IsSome o → ⊥
 unnamed o is some = let both : false ≡ true = subst (λ (p : Option ℕ). IsSome p) is some in cc
 
 -- a life's bits, where its link is known
 bits_on : (log : List Crossing) (x : Life) (link : Option ℕ) → link_of log x ≡ link → IsFormed log x → first_data (receives x) x.messages (texts_on x link log) ≡ Some x.bits
 bits_on log x link is f = subst (λ (o : Option ℕ). first_data (receives x) x.messages (texts_on x o log) ≡ Some x.bits) is f.bits
 
-no_bits : (bits : List Bool) → None ≡ Some bits → ⊥
+pub no_bits : (bits : List Bool) → None ≡ Some bits → ⊥
 no_bits bits e = cc
 
 -- ---- good ones

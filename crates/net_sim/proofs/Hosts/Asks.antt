@@ -77,7 +77,7 @@ after_each hosts h p q a b c one two g = then_each hosts h p q a b c g (one g) (
 abbrev HasNamed : ServiceSeat → Type 0
 HasNamed s = NamePeers s.services
 
-one_order : (b : Bool) (x : ServicesState) (s : ServiceSeat) → (with_services b x s).host ≡ s.host
+pub one_order : (b : Bool) (x : ServicesState) (s : ServiceSeat) → (with_services b x s).host ≡ s.host
 one_order true x s = refl
 one_order false x s = refl
 

@@ -1,5 +1,6 @@
 -- A world that rests: the carrier does, and no message of a host goes out.
-use Rattle.net_sim.proofs.Common.{◌≡◌, ℕ, ◌+◌, ◌-◌, ◌<◌, zero, suc, Bool, false, ◌||◌, ◌==◌, inr, List, [], ◌∷◌, length, find, cond, if◌then◌else◌, Option, Some, None, IfSome, Ok, Err, refl, ap, sym, subst, ◌∙◌, arith, eqb-true, MatchBool, Host, same_host, Calls, Seen, ShowsOffer, ShowsTake, halted, is_memory, is_halt, RefusesOffer, Rests, CarrierFault, Inbound, HostMessage, NcpState, next_out, shown, WorldState, WorldFault, Carrier, Quiet, Offer, Seat, seat_of, Refuses, OfferGives, TakeGives, AtSeat, EventGives, stops, Repeats, TurnsOf, up_in, Calms}
+use Rattle.net_sim.proofs.Common.{◌≡◌, ℕ, ◌+◌, ◌-◌, ◌<◌, zero, suc, Bool, false, ◌==◌, inr, List, [], ◌∷◌, length, find, cond, if◌then◌else◌, Option, Some, None, IfSome, Ok, Err, refl, ap, sym, subst, ◌∙◌, arith, eqb-true, MatchBool, Host, same_host, Calls, Seen, ShowsOffer, ShowsTake, halted, is_memory, is_halt, RefusesOffer, Rests, CarrierFault, Inbound, HostMessage, NcpState, next_out, shown, WorldState, WorldFault, Carrier, Quiet, Offer, Seat, seat_of, Refuses, OfferGives, TakeGives, AtSeat, EventGives, stops, Repeats, TurnsOf, up_in, Calms}
+use Rattle.std.proofs.lemmas.Bool.{or_from}
 use Rattle.std.proofs.Common.{true, slice_get, Result}
 use Rattle.std.proofs.lemmas.Bool.Decides.{nat_tests}
 use Rattle.interface.specs.Rest.{BringsNothing, TakesNothing}
@@ -53,10 +54,6 @@ found_of P h seat (x ∷ seats) all found =
     found_by P h x seat seats (same_host h x.host) found (all 0 (omega arith) x refl)
     (λ f. found_of P h seat seats (λ at lt y got. all (suc at) (omega (arith, lt)) y got) f)
 
-neither : (a b : Bool) → a ≡ false → b ≡ false → (a || b) ≡ false
-neither true b e n = absurd (cc)
-neither false b e n = n
-
 module _ {C : Type 0} (calls : Calls C) where
   running_by : (P : Type 0) (w : WorldState C) (r : Result (Unit {0}) WorldFault) → P → (b : Bool) → b ≡ false → MatchBool b (Refuses (Carrier fault.Stopped) w r w) P
   running_by P w r h true is = absurd (cc)
@@ -95,7 +92,7 @@ module _ {C : Type 0} (calls : Calls C) where
         record {
           answer = Err (Carrier f);
           happens = (Err f, w.carrier, same, (refl, ap at (running ∙ sym nothing.1)));
-          on = neither (is_memory f) (is_halt f) nothing.1 nothing.0;
+          on = or_from (is_memory f) (is_halt f) nothing.1 nothing.0;
         }
 
   pub take_leaves : (h : Host) (w : WorldState C) → w.stopped ≡ false → TakesNothing calls.takes w.carrier h → Leaves calls w (Take h)
@@ -112,7 +109,7 @@ module _ {C : Type 0} (calls : Calls C) where
       record {
         answer = Err (Carrier f);
         happens = inr (Err f, w.carrier, refuses.unchanged, (refl, ap at (running ∙ sym refuses.lasts.1)));
-        on = neither (is_memory f) (is_halt f) refuses.lasts.1 refuses.lasts.0;
+        on = or_from (is_memory f) (is_halt f) refuses.lasts.1 refuses.lasts.0;
       }
 
   next_goes : (h : Host) (w : WorldState C) (s : NcpState) → Goes (λ x r. OfferGives calls h x (next_out s) w r w) s → Goes (λ x r. OfferGives calls h x (next_out x) w r w) s

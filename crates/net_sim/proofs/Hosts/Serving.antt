@@ -1,5 +1,6 @@
 -- A host's services are where its seat is.
-use Rattle.net_sim.proofs.Common.{◌≡◌, ℕ, zero, suc, ◌<◌, Bool, true, false, ◌||◌, List, [], ◌∷◌, length, Option, Some, refl, ap, sym, subst, ◌∙◌, arith, Host, same_host, is_host, or_false, same_host-refl, NcpState, ServicesState, IsOnce, Serves, Sits, hosts_of, hosts_served, ServiceSeat, Seat, services_of, serviced}
+use Rattle.net_sim.proofs.Common.{◌≡◌, ℕ, zero, suc, ◌<◌, Bool, true, false, List, [], ◌∷◌, length, Option, Some, refl, ap, sym, subst, ◌∙◌, arith, Host, same_host, is_host, or_false, same_host-refl, NcpState, ServicesState, IsOnce, Serves, Sits, hosts_of, hosts_served, ServiceSeat, Seat, services_of, serviced}
+use Rattle.std.proofs.lemmas.Bool.{or_left, or_right}
 use Rattle.std.proofs.Common.{slice_index_or}
 
 -- ---- a host that is none of these
@@ -15,18 +16,10 @@ not_there h x (s ∷ all) away =
 same_is : (g h : Host) → g ≡ h → same_host h g ≡ true
 same_is g h is = subst (λ (x : Host). same_host h x ≡ true) (sym is) (same_host-refl h)
 
-there_by : (a b : Bool) → b ≡ true → (a || b) ≡ true
-there_by true b e = refl
-there_by false b e = e
-
-first_by : (a b : Bool) → a ≡ true → (a || b) ≡ true
-first_by true b e = refl
-first_by false b e = absurd (cc)
-
 there : (hosts : List Host) (place : ℕ) (o h : Host) → place < length hosts → slice_index_or hosts place o ≡ h → is_host hosts h ≡ true
 there [] place o h lt is = absurd (omega (arith, lt))
-there (g ∷ hosts) zero o h lt is = first_by (same_host h g) (is_host hosts h) (same_is g h is)
-there (g ∷ hosts) (suc place) o h lt is = there_by (same_host h g) (is_host hosts h) (there hosts place o h (omega (arith, lt)) is)
+there (g ∷ hosts) zero o h lt is = or_left (same_host h g) (is_host hosts h) (same_is g h is)
+there (g ∷ hosts) (suc place) o h lt is = or_right (same_host h g) (is_host hosts h) (there hosts place o h (omega (arith, lt)) is)
 
 -- where one that is later is found, the first one is another
 not_first : (g h : Host) (hosts : List Host) → ((x : Host) → same_host x g ≡ true → is_host hosts x ≡ false) → is_host hosts h ≡ true → (b : Bool) → same_host h g ≡ b → b ≡ false

@@ -1,5 +1,6 @@
 -- What goes out is, for each peer, a step that the law of resets allows.
 use Rattle.net_sim.proofs.Common.{◌≡◌, ◌⊎◌, inl, inr, ℕ, Bool, not, ◌&&◌, ◌||◌, ◌==◌, ◌*◌, if◌then◌else◌, List, [], ◌∷◌, take, drop, find, filter, length, nat_lt, Option, Some, None, refl, ap, sym, subst, ◌∙◌, eq-eqb, zero, suc, eqb-true, Host, same_host, same_host-refl, Command, packed_count, Order, Legal, Wrong, changed_first, is_at, is_busy, is_open, is_receiving, PairState, DeskState, desk_of, NcpState, pair_with, AreInOrder, Parcel, next_of, pair_after, parcel_gone, next_in, message_for, Entry, Listener, Peer, at_link, Message, Reset, Reply, Other, part_of, Pair, Kind, pair_moved, is_rst, is_rrp, is_alone, message_on, has_asked, event_of, IsApart, ArePlain, AllPlain, Agrees, has_control, on_control, list_any}
+use Rattle.std.proofs.lemmas.Bool.{or_right}
 use Rattle.std.proofs.Common.{◌≢◌, true, false, is_some}
 use Rattle.bit_messages.specs.Octets.{octets_of}
 use Rattle.ncp_control.specs.declared.command.Command.TheVariants as command
@@ -95,14 +96,10 @@ bytes_say q e size count away = rw away refl
 
 -- ---- data go from an end whose request went out
 
-or_later : (a b : Bool) → b ≡ true → (a || b) ≡ true
-or_later true b h = refl
-or_later false b h = h
-
 found_step : (test : Entry → Bool) → ((x : Entry) → test x ≡ true → is_some x.asked ≡ true) → (x e : Entry) (xs : List Entry) → (find test xs ≡ Some e → has_asked xs ≡ true)
     → (b : Bool) → test x ≡ b → find test (x ∷ xs) ≡ Some e → has_asked (x ∷ xs) ≡ true
 found_step test k x e xs rest true t f = let a : is_some x.asked ≡ true = k x t in rw a refl
-found_step test k x e xs rest false t f = let g : find test xs ≡ Some e = rw t at f in or_later (is_some x.asked) (has_asked xs) (rest g)
+found_step test k x e xs rest false t f = let g : find test xs ≡ Some e = rw t at f in or_right (is_some x.asked) (has_asked xs) (rest g)
 
 found_asked : (test : Entry → Bool) → ((x : Entry) → test x ≡ true → is_some x.asked ≡ true) → (xs : List Entry) (e : Entry) → find test xs ≡ Some e → has_asked xs ≡ true
 found_asked test k [] e f = absurd (cc)
@@ -168,7 +165,7 @@ data_asked q e size count n =
 
 -- data are sent on a connection's link
 later_any : (T : Entry → Bool) (x : Entry) (xs : List Entry) → list_any T xs ≡ true → list_any T (x ∷ xs) ≡ true
-later_any T x xs h = or_later (T x) (list_any T xs) h
+later_any T x xs h = or_right (T x) (list_any T xs) h
 
 any_step : (T test : Entry → Bool) (x e : Entry) (xs : List Entry) → T e ≡ true → (find test xs ≡ Some e → list_any T xs ≡ true) → (b : Bool) → test x ≡ b → find test (x ∷ xs) ≡ Some e → list_any T (x ∷ xs) ≡ true
 any_step T test x e xs has rest true t f =

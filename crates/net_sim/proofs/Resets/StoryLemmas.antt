@@ -1,5 +1,5 @@
 -- After every story each program is, for each peer, where the law of resets has it.
-use Rattle.net_sim.proofs.Common.{◌≡◌, ℕ, Bool, true, false, if◌then◌else◌, List, [], ◌∷◌, Option, Some, None, refl, sym, subst, ◌∙◌, Host, same_host, Flow, Answer, Inbound, HostMessage, accepted_message, accepted_answer, is_busy, PairState, NcpState, pair_with, owner_of, listens_on, at_owner, closed_socket, Parcel, message_for, next_in, offered_by, Entry, Peer, Request, part_of, Pair, pair_moved, pair, Agrees, event_of, event_by, Moment, Crossed, Asked, places, events_of, program_after, program, IsStory}
+use Rattle.net_sim.proofs.Common.{◌≡◌, Bool, true, false, if◌then◌else◌, List, [], ◌∷◌, refl, sym, subst, Host, same_host, Flow, Answer, HostMessage, PairState, NcpState, pair_with, message_for, Request, part_of, Pair, pair_moved, pair, Agrees, event_of, event_by, Moment, Crossed, Asked, places, events_of, program, IsStory}
 use Rattle.std.proofs.Common.{is_some}
 use Rattle.interface.specs.declared.crossing.Crossing.TheVariants as crossing
 use Rattle.interface.specs.declared.crossing.Inbound.TheVariants as inbound
@@ -10,65 +10,14 @@ use Rattle.sockets.specs.Sending.{offered}
 use Rattle.sockets.specs.declared.request.Request.TheVariants as request
 use Rattle.reset_law.specs.Events.{Event}
 use Rattle.net_sim.specs.Story.{event_in, IsNext, Follows}
+use Rattle.net_sim.proofs.Hosts.Stays.{program_stays}
 use Rattle.net_sim.proofs.Resets.Calls.{opening_agrees, request_agrees, message_agrees, answer_agrees}
 use Rattle.net_sim.proofs.Resets.Offers.{offer_agrees}
 
 -- ---- a program keeps its own address
 
-owner_own : (s : NcpState) (o : Option (Host × Entry)) (change : Entry → PairState → PairState) → (at_owner s o change).own ≡ s.own
-owner_own s None change = refl
-owner_own s (Some (g, e)) change = refl
-
-closed_own : (s : NcpState) (socket : ℕ) (b : Bool) → listens_on socket s.listening ≡ b → (closed_socket s socket).own ≡ s.own
-closed_own s socket true e = rw e refl
-closed_own s socket false e = rw e (owner_own s (owner_of socket s.peers) _)
-
-served_own : (s : NcpState) (r : Request) → (served s r).own ≡ s.own
-unfolding served
-served_own s (request.Send socket bits) = owner_own s (owner_of socket s.peers) _
-served_own s (request.Grant socket messages bits) = owner_own s (owner_of socket s.peers) _
-served_own s (request.AskBack socket messages bits) = owner_own s (owner_of socket s.peers) _
-served_own s (request.Interrupt socket) = owner_own s (owner_of socket s.peers) _
-served_own s (request.Close socket) = closed_own s socket (listens_on socket s.listening) refl
-served_own s r = refl
-
-offered_own_by : (s : NcpState) (stamp : ℕ) (o : Option (Peer × Parcel)) → (offered_by s stamp o).0.own ≡ s.own
-offered_own_by s stamp None = refl
-offered_own_by s stamp (Some (p, x)) = refl
-
-offered_own : (s : NcpState) (stamp : ℕ) → (offered s stamp).0.own ≡ s.own
-unfolding offered
-offered_own s stamp = offered_own_by s stamp (next_in s.peers)
-
-message_own : (s : NcpState) (m : HostMessage) (stamp : ℕ) (b : Bool) → same_host s.own m.flow.destination ≡ b → (accepted_message s m stamp).0.own ≡ s.own
-message_own s m stamp true e = rw e refl
-message_own s m stamp false e = rw e refl
-
-answer_own : (s : NcpState) (kind : Answer) (f : Flow) (b c : Bool) → same_host s.own f.source ≡ b → is_busy (pair_with f.destination s.peers).busy f.link.0 ≡ c → (accepted_answer s kind f).0.own ≡ s.own
-answer_own s kind f true true e g = rw (e, g) refl
-answer_own s kind f true false e g = rw (e, g) refl
-answer_own s kind f false c e g = rw e refl
-
-accepted_own : (s : NcpState) (i : Inbound) (stamp : ℕ) → (accepted s i stamp).0.own ≡ s.own
-unfolding accepted
-accepted_own s (inbound.Message m) stamp = message_own s m stamp (same_host s.own m.flow.destination) refl
-accepted_own s (inbound.Answer kind f) stamp = answer_own s kind f (same_host s.own f.source) (is_busy (pair_with f.destination s.peers).busy f.link.0) refl refl
-
-own_if : (b : Bool) (s t : NcpState) (a : Host) → s.own ≡ a → t.own ≡ a → (if b then s else t).own ≡ a
-own_if true s t a e f = e
-own_if false s t a e f = f
-
-after_own : (a : Host) (here : ℕ) (x : Moment) (s : NcpState) → s.own ≡ a → (program_after a here x s).own ≡ a
-after_own a here (Crossed (crossing.Out m)) s e = own_if (same_host a m.flow.source) _ s a (offered_own s here ∙ e) e
-after_own a here (Crossed (crossing.In m)) s e = own_if (same_host a m.flow.destination) _ s a (accepted_own s (inbound.Message m) here ∙ e) e
-after_own a here (Crossed (crossing.Answer kind f)) s e = own_if (same_host a f.source) _ s a (accepted_own s (inbound.Answer kind f) here ∙ e) e
-after_own a here (Crossed (crossing.Down h)) s e = own_if (same_host a h) _ s a refl e
-after_own a here (Crossed (crossing.Up h)) s e = own_if (same_host a h) _ s a refl e
-after_own a here (Asked h r) s e = own_if (same_host a h) _ s a (served_own s r ∙ e) e
-
 pub program_own : (a : Host) (moments : List Moment) → (program a moments).own ≡ a
-program_own a [] = refl
-program_own a (x ∷ moments) = after_own a (places moments) x (program a moments) (program_own a moments)
+program_own a moments = (program_stays a moments).own
 
 -- ---- one moment
 

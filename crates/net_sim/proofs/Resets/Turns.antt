@@ -83,15 +83,15 @@ agrees_orders : (peer : Host) (stamp : ℕ) (os : List Order) (t : TurnState) (p
 agrees_orders peer stamp [] t p plain a = a
 agrees_orders peer stamp (o ∷ os) t p plain a = agrees_orders peer stamp os (order_taken peer stamp o t) p plain.1 (agrees_order peer stamp o t p plain.0 a)
 
-rst_is : (c : Command) → is_rst c ≡ true → c ≡ command.Rst
+pub rst_is : (c : Command) → is_rst c ≡ true → c ≡ command.Rst
 rst_is command.Rst e = refl
 rst_is c e = absurd (cc)
 
-rrp_is : (c : Command) → is_rrp c ≡ true → c ≡ command.Rrp
+pub rrp_is : (c : Command) → is_rrp c ≡ true → c ≡ command.Rrp
 rrp_is command.Rrp e = refl
 rrp_is c e = absurd (cc)
 
-alone_is : (test : Command → Bool) (x : Command) → ((c : Command) → test c ≡ true → c ≡ x) → (os : List Order) → is_alone test os ≡ true → os ≡ Legal x ∷ []
+pub alone_is : (test : Command → Bool) (x : Command) → ((c : Command) → test c ≡ true → c ≡ x) → (os : List Order) → is_alone test os ≡ true → os ≡ Legal x ∷ []
 alone_is test x only [] e = absurd (cc)
 alone_is test x only (Legal c ∷ []) e = ap (λ (y : Command). Legal y ∷ []) (only c e)
 alone_is test x only (Legal c ∷ o ∷ os) e = absurd (cc)

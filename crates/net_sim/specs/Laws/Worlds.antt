@@ -1,27 +1,226 @@
--- The book of a world describes one list of moments, the crossings and what users asked for and weren't refused, whatever the
--- carrier is made of. All that is kept, except for what services report, is theirs, and until memory runs out each host has the
--- program that comes of them.
-use Rattle.std.specs.Prelude.{ℕ, List, Result}
-use Rattle.interface.specs.Host.{Host}
-use Rattle.net_sim.specs.Carriers.{shown}
-use Rattle.net_sim.specs.World.{WorldState, WorldFault, Event, StepGives, RunGives, CalmGives}
-use Rattle.net_sim.specs.Whole.{Each, IsNamed, IsWhole}
+-- The laws of src/law.rt whose clauses are longer than a line: each is a record, and its fields are the clauses.
+use Rattle.std.specs.Prelude.{Bool, Err, List, Result, Some, [], false, is_some, true, ℕ, ◌++◌, ◌∷◌, ◌≡◌, ◌⊎◌}
+use Rattle.host_pairs.specs.Parcels.{Parcel, link_for, text_for}
 use Rattle.interface.specs.Calls.{Calls}
+use Rattle.interface.specs.Host.{Host, is_host, same_host}
+use Rattle.interface.specs.Mailboxes.{IsRun}
+use Rattle.interface.specs.Messages.{SafeMessages}
+use Rattle.interface.specs.declared.address.Flow.{Flow}
+use Rattle.interface.specs.declared.crossing.Answer.{Answer}
+use Rattle.interface.specs.declared.crossing.Crossing.{Crossing}
+use Rattle.interface.specs.declared.crossing.Crossing.TheVariants as crossing
+use Rattle.interface.specs.declared.crossing.Inbound.TheVariants as inbound
+use Rattle.interface.specs.declared.message.HostMessage.{HostMessage}
+use Rattle.ncp_control.specs.Phases.{is_ready}
+use Rattle.net_sim.specs.Carriers.{IsBooked, shown}
+use Rattle.net_sim.specs.Clean.{HaveAddresses, IsFresh, IsLawful, IsText, IsUnheard, is_through}
+use Rattle.net_sim.specs.MixedWorlds.{Any, IsLawfulAmong, MixedCalmGives, MixedEvent, MixedFault, MixedRunGives}
+use Rattle.net_sim.specs.MixedWorlds.{MixedState, MixedStepGives, Out, opening_among, strange_in}
+use Rattle.net_sim.specs.Projection.{Agrees, IsApart, event_by, event_of, message_on}
+use Rattle.net_sim.specs.Story as story
+use Rattle.net_sim.specs.Story.{Crossed, Moment, places}
+use Rattle.net_sim.specs.Timeline.{IsTimeline, contacts_of, crossings_of, events_in}
+use Rattle.net_sim.specs.Whole.{Each, IsNamed, IsWhole}
+use Rattle.net_sim.specs.World.{CalmGives, Event, RunGives, StepGives, WorldFault, WorldState, opening_world, seat_of}
+use Rattle.reset_law.specs.Events.{part_of}
+use Rattle.reset_law.specs.Pairs.{MaySend, Pair, pair_moved}
+use Rattle.reset_law.specs.Pairs as pairs
+use Rattle.reset_law.specs.Runs as runs
+use Rattle.reset_law.specs.Stays.{IsPrefix, heard_in_stay, said_in_stay}
+use Rattle.sockets.specs.Accepting.{accepted}
+use Rattle.sockets.specs.Pairs.{NcpState, opening_state, pair_with}
+use Rattle.sockets.specs.Peers.{AreInOrder}
+use Rattle.sockets.specs.Requests.{served}
+use Rattle.sockets.specs.Sending.{message_for, next_in, offered}
+use Rattle.sockets.specs.declared.peer.Peer.{Peer}
+use Rattle.sockets.specs.declared.request.Request.{Request}
 
--- after one event, a list of events, and this many quiet rounds with all that the hosts take and say between them, where users name
--- hosts by addresses, and sockets by numbers of their types
-abbrev pub WorldsStep : {C : Type 0} → Calls C → Type 0
-WorldsStep {C} calls =
-    (hosts : List Host) (old new : WorldState C) (e : Event) (r : Result (Unit {0}) WorldFault) → IsNamed e →
-    IsWhole calls.seen hosts old → StepGives (shown calls) old e r new → IsWhole calls.seen hosts new
+-- Each call of a host's program is, for each peer `h`, a step of the law of resets: where program and law agree on the
+-- pair before it, they agree on it after it.
+pub record Resets : Type 0 where
+  -- a program that starts knows of nobody
+  pub opening : (own h : Host) → Agrees (pair_with h (opening_state own).peers) pairs.opening_pair
+  -- of what a user asks a contact is a step, and all else none
+  pub request :
+      (s : NcpState) (r : Request) (h : Host) (p : Pair) → Agrees (pair_with h s.peers) p →
+      Agrees (pair_with h (served s r).peers) (pair_moved (part_of s.own h (event_by s.own r)) p)
+  -- a message that has RST and RRP only, or neither, is what the law says of an RST, of an RRP or of any other text
+  pub message :
+      (s : NcpState) (m : HostMessage) (stamp : ℕ) (h : Host) (p : Pair) →
+      IsApart m.flow.link.0 m.text (message_on m.flow.link.0 m.text) → Agrees (pair_with h s.peers) p →
+      Agrees (pair_with h (accepted s (inbound.Message m) stamp).0.peers)
+      (pair_moved (part_of s.own h (event_of (crossing.In m))) p)
+  -- where the pair isn't through a reset, any other text does nothing
+  pub unheard :
+      (s : NcpState) (m : HostMessage) (stamp : ℕ) → IsApart m.flow.link.0 m.text (message_on m.flow.link.0 m.text) →
+      IsText m → is_ready (pair_with m.flow.source s.peers).phase ≡ false →
+      IsUnheard s (accepted s (inbound.Message m) stamp)
+  -- an answer about a message that is outstanding
+  pub answer :
+      (s : NcpState) (kind : Answer) (f : Flow) (stamp : ℕ) (h : Host) (p : Pair) →
+      (same_host s.own f.source ≡ true → same_host h f.destination ≡ true → is_some (p.out f.link.0) ≡ true) →
+      Agrees (pair_with h s.peers) p →
+      Agrees (pair_with h (accepted s (inbound.Answer kind f) stamp).0.peers)
+      (pair_moved (part_of s.own h (event_of (crossing.Answer kind f))) p)
+  -- what goes out may go by the law, has RST and RRP only or neither, and the pair is then where the law has it
+  pub may :
+      (s : NcpState) (g : Peer) (x : Parcel) (p : Pair) → AreInOrder s.peers → next_in s.peers ≡ Some (g, x) →
+      Agrees (pair_with g.host s.peers) p → MaySend p (link_for x) (message_on (link_for x) (text_for g.pair x))
+  pub apart :
+      (s : NcpState) (g : Peer) (x : Parcel) (p : Pair) → AreInOrder s.peers → next_in s.peers ≡ Some (g, x) →
+      Agrees (pair_with g.host s.peers) p →
+      IsApart (link_for x) (text_for g.pair x) (message_on (link_for x) (text_for g.pair x))
+  pub offer :
+      (s : NcpState) (stamp : ℕ) (g : Peer) (x : Parcel) (h : Host) (p : Pair) → AreInOrder s.peers →
+      next_in s.peers ≡ Some (g, x) → Agrees (pair_with h s.peers) p →
+      Agrees (pair_with h (offered s stamp).0.peers)
+      (pair_moved (part_of s.own h (event_of (crossing.Out (message_for s.own g x)))) p)
 
-abbrev pub WorldsRun : {C : Type 0} → Calls C → Type 0
-WorldsRun {C} calls =
-    (hosts : List Host) (old new : WorldState C) (events : List Event) (r : Result (Unit {0}) WorldFault) →
-    Each IsNamed events → IsWhole calls.seen hosts old → RunGives (shown calls) old events r new →
-    IsWhole calls.seen hosts new
+-- What is in the book of a world, whatever its carrier is made of: all that crossed, except for the event in which
+-- memory ran out, after every list of events.
+pub record Books {C : Type 0} (calls : Calls C) : Type 0 where
+  -- over a carrier whose log is empty
+  pub opening : (c : C) → (calls.seen c).log ≡ [] → IsBooked calls.seen (opening_world (shown calls) c)
+  -- an event that is refused, or in which memory runs out, leaves the book and what was handed over as they were
+  pub refused :
+      (old new : WorldState C) (e : Event) (r : Result (Unit {0}) WorldFault) (f : WorldFault) → r ≡ Err f →
+      StepGives (shown calls) old e r new → new.kept ≡ old.kept
+  -- one event, a list of events, and this many quiet rounds with all that the hosts take and say between them
+  pub step :
+      (old new : WorldState C) (e : Event) (r : Result (Unit {0}) WorldFault) → IsBooked calls.seen old →
+      StepGives (shown calls) old e r new → IsBooked calls.seen new
+  pub run :
+      (old new : WorldState C) (events : List Event) (r : Result (Unit {0}) WorldFault) → IsBooked calls.seen old →
+      RunGives (shown calls) old events r new → IsBooked calls.seen new
+  pub calm :
+      (old new : WorldState C) (times : ℕ) (r : Result (Unit {0}) WorldFault) → IsBooked calls.seen old →
+      CalmGives (shown calls) times old r new → IsBooked calls.seen new
+  -- and where the carrier's log is a run of the mailboxes, a message answered by RFNM was taken exactly once, and
+  -- none is taken twice: the message clause of the safe book
+  pub messages :
+      (w : WorldState C) → IsBooked calls.seen w → IsRun (calls.seen w.carrier).hosts (calls.seen w.carrier).log →
+      SafeMessages w.kept.book.crossings
 
-abbrev pub WorldsCalm : {C : Type 0} → Calls C → Type 0
-WorldsCalm {C} calls =
-    (hosts : List Host) (old new : WorldState C) (times : ℕ) (r : Result (Unit {0}) WorldFault) →
-    IsWhole calls.seen hosts old → CalmGives (shown calls) times old r new → IsWhole calls.seen hosts new
+-- The book of a world describes one list of moments, the crossings and what users asked for and weren't refused,
+-- whatever the carrier is made of. All that is kept, except for what services report, is theirs, and until memory runs
+-- out each host has the program that comes of them.
+pub record Worlds {C : Type 0} (calls : Calls C) : Type 0 where
+  -- over a carrier whose log is empty
+  pub opening :
+      (c : C) → (calls.seen c).log ≡ [] → IsWhole calls.seen (calls.seen c).hosts (opening_world (shown calls) c)
+  -- after one event, a list of events, and this many quiet rounds with all that the hosts take and say between them,
+  -- where users name hosts by addresses, and sockets by numbers of their types
+  pub step :
+      (hosts : List Host) (old new : WorldState C) (e : Event) (r : Result (Unit {0}) WorldFault) → IsNamed e →
+      IsWhole calls.seen hosts old → StepGives (shown calls) old e r new → IsWhole calls.seen hosts new
+  pub run :
+      (hosts : List Host) (old new : WorldState C) (events : List Event) (r : Result (Unit {0}) WorldFault) →
+      Each IsNamed events → IsWhole calls.seen hosts old → RunGives (shown calls) old events r new →
+      IsWhole calls.seen hosts new
+  pub calm :
+      (hosts : List Host) (old new : WorldState C) (times : ℕ) (r : Result (Unit {0}) WorldFault) →
+      IsWhole calls.seen hosts old → CalmGives (shown calls) times old r new → IsWhole calls.seen hosts new
+
+-- What becomes of resets in a world, by the contacts and crossings in its book only. The carrier's log is a run of the
+-- mailboxes, as every carrier promises of it.
+pub record CleanResets {C : Type 0} (calls : Calls C) : Type 0 where
+  -- a host that is through a reset with a peer takes of it only what went out after its last clean point
+  pub clean :
+      (hosts : List Host) (w : WorldState C) → IsLawful calls.seen hosts w →
+      (newer older : List Crossing) (m : HostMessage) → w.kept.book.crossings ≡ newer ++ crossing.In m ∷ older →
+      IsText m → is_through m.flow.destination m.flow.source w.kept.book.contacts older ≡ true →
+      IsFresh m w.kept.book.contacts older
+  -- link by link, what a host heard of its peer in its last stay is a prefix of what the peer said in its own
+  pub stays :
+      (hosts : List Host) (w : WorldState C) → IsLawful calls.seen hosts w → (a b : Host) (link : ℕ) →
+      IsPrefix (heard_in_stay a b link (events_in w.kept.book.contacts w.kept.book.crossings))
+      (said_in_stay a b link (events_in w.kept.book.contacts w.kept.book.crossings))
+  -- for the book is a run of the law of resets, and each program in a seat is, for each peer, where that law has it
+  pub run :
+      (hosts : List Host) (w : WorldState C) → IsLawful calls.seen hosts w →
+      runs.IsRun hosts (events_in w.kept.book.contacts w.kept.book.crossings)
+  pub agrees :
+      (hosts : List Host) (w : WorldState C) → IsLawful calls.seen hosts w → w.stopped ≡ false →
+      (a b : Host) (s : NcpState) → seat_of a w.seats ≡ Some (record { host = a; program = Some s }) →
+      Agrees (pair_with b s.peers) (pairs.pair a b (events_in w.kept.book.contacts w.kept.book.crossings))
+
+-- Both halves of a clean reset, over any list of moments: of whatever a host takes of a peer, except for RST and RRP,
+-- either it went out after the host's last clean point for that peer, or its taking leaves every pair and what listens
+-- as they were, and reports nothing.
+pub record CleanTakings {C : Type 0} (calls : Calls C) : Type 0 where
+  pub stories :
+      (hosts : List Host) (newer older : List Moment) (m : HostMessage) → HaveAddresses hosts →
+      IsRun hosts (crossings_of (newer ++ Crossed (crossing.In m) ∷ older)) →
+      IsTimeline hosts (newer ++ Crossed (crossing.In m) ∷ older) → IsText m →
+      IsFresh m (contacts_of older) (crossings_of older) ⊎
+      IsUnheard (story.program m.flow.destination older)
+      (accepted (story.program m.flow.destination older) (inbound.Message m) (places older))
+  -- so of the moments that the book of a world describes
+  pub worlds :
+      (hosts : List Host) (w : WorldState C) → (lawful : IsLawful calls.seen hosts w) →
+      (newer older : List Moment) (m : HostMessage) → lawful.whole.moments ≡ newer ++ Crossed (crossing.In m) ∷ older →
+      IsText m →
+      IsFresh m (contacts_of older) (crossings_of older) ⊎
+      IsUnheard (story.program m.flow.destination older)
+      (accepted (story.program m.flow.destination older) (inbound.Message m) (places older))
+
+-- The worlds of which that is said: those that began over a carrier whose log is empty, between hosts with addresses,
+-- however they continued.
+pub record LawfulWorlds {C : Type 0} (calls : Calls C) : Type 0 where
+  pub opening :
+      (c : C) → (calls.seen c).log ≡ [] → HaveAddresses (calls.seen c).hosts →
+      IsLawful calls.seen (calls.seen c).hosts (opening_world (shown calls) c)
+  -- by one event, a list of events and this many quiet rounds, where users name hosts by addresses and the carrier's
+  -- log is still a run of the mailboxes
+  pub step :
+      (hosts : List Host) (old new : WorldState C) (e : Event) (r : Result (Unit {0}) WorldFault) →
+      IsLawful calls.seen hosts old → IsNamed e → StepGives (shown calls) old e r new →
+      IsRun hosts (calls.seen new.carrier).log → IsLawful calls.seen hosts new
+  pub run :
+      (hosts : List Host) (old new : WorldState C) (events : List Event) (r : Result (Unit {0}) WorldFault) →
+      IsLawful calls.seen hosts old → Each IsNamed events → RunGives (shown calls) old events r new →
+      IsRun hosts (calls.seen new.carrier).log → IsLawful calls.seen hosts new
+  pub calm :
+      (hosts : List Host) (old new : WorldState C) (times : ℕ) (r : Result (Unit {0}) WorldFault) →
+      IsLawful calls.seen hosts old → CalmGives (shown calls) times old r new →
+      IsRun hosts (calls.seen new.carrier).log → IsLawful calls.seen hosts new
+
+-- a user names hosts by addresses
+abbrev pub IsNamedMixed : MixedEvent → Type 0
+IsNamedMixed (Any e) = IsNamed e
+IsNamedMixed (Out m) = Unit {0}
+
+abbrev pub AreNamedMixed : List MixedEvent → Type 0
+AreNamedMixed [] = Unit {0}
+AreNamedMixed (e ∷ events) = IsNamedMixed e × AreNamedMixed events
+
+-- The same of worlds with strangers: whatever these send and take, all that is kept of the hosts with programs is what
+-- their programs say.
+pub record MixedWorlds {C : Type 0} (calls : Calls C) : Type 0 where
+  pub opening :
+      (strange : Host → Bool) (c : C) → (calls.seen c).log ≡ [] → HaveAddresses (calls.seen c).hosts →
+      ((h : Host) → strange h ≡ true → is_host (calls.seen c).hosts h ≡ true) →
+      IsLawfulAmong strange calls.seen (calls.seen c).hosts (opening_among (shown calls) strange c)
+  -- by one event, where users name hosts by addresses and the carrier's log is still a run of the mailboxes
+  pub step :
+      (hosts : List Host) (old new : MixedState C) (e : MixedEvent) (r : Result (Unit {0}) MixedFault) →
+      IsLawfulAmong (strange_in old) calls.seen hosts old.world → IsNamedMixed e →
+      MixedStepGives (shown calls) old e r new → IsRun hosts (calls.seen new.world.carrier).log →
+      IsLawfulAmong (strange_in new) calls.seen hosts new.world
+  -- by a list of events, and by this many quiet rounds, in which strangers take nothing
+  pub run :
+      (hosts : List Host) (old new : MixedState C) (events : List MixedEvent) (r : Result (Unit {0}) MixedFault) →
+      IsLawfulAmong (strange_in old) calls.seen hosts old.world → AreNamedMixed events →
+      MixedRunGives (shown calls) old events r new → IsRun hosts (calls.seen new.world.carrier).log →
+      IsLawfulAmong (strange_in new) calls.seen hosts new.world
+  pub calm :
+      (hosts : List Host) (old new : MixedState C) (times : ℕ) (r : Result (Unit {0}) MixedFault) →
+      IsLawfulAmong (strange_in old) calls.seen hosts old.world → MixedCalmGives (shown calls) times old r new →
+      IsRun hosts (calls.seen new.world.carrier).log → IsLawfulAmong (strange_in new) calls.seen hosts new.world
+  -- without strangers such a world is lawful as any world is, and a lawful one is such a world
+  pub nobody :
+      (strange : Host → Bool) (hosts : List Host) (w : WorldState C) → ((h : Host) → strange h ≡ false) →
+      IsLawfulAmong strange calls.seen hosts w → IsLawful calls.seen hosts w
+  pub any :
+      (strange : Host → Bool) (hosts : List Host) (w : WorldState C) → ((h : Host) → strange h ≡ false) →
+      IsLawful calls.seen hosts w → IsLawfulAmong strange calls.seen hosts w

@@ -1,5 +1,6 @@
 use Rattle.net_sim.proofs.Common.{◌≡◌, true, false, List, [], ◌∷◌, Some, refl, ap, ◌∙◌, arith, Crossing, Life}
 use Rattle.net_sim.proofs.Common.{AreUnmatched, Match, receives, crossings, giver, taker}
+use Rattle.std.proofs.lemmas.Option.{same_Some}
 use Rattle.net_sim.specs.Findings.{WithMatch}
 use Rattle.net_sim.specs.declared.auditing.findings.Finding.TheVariants as finding
 use Rattle.net_sim.proofs.Audits.Elements.{contains_head, contains_none}
@@ -15,12 +16,9 @@ matches = record {
   answered = refl;
 }
 
-some_same : (x y : Life) → Some x ≡ Some y → x ≡ y
-some_same x y e = cc
-
 not_named : (log : List Crossing) (y : Life) → WithMatch (finding.Lives 0 1) 0 log (giver ∷ y ∷ []) → ⊥
 not_named log y (at, (x, is, less, (before, matched))) =
-    matched (λ z there m. absurd (let sends : false ≡ true = ap receives (some_same giver x is) ∙ m.receiving in cc))
+    matched (λ z there m. absurd (let sends : false ≡ true = ap receives (same_Some giver x is) ∙ m.receiving in cc))
 
 first_match : WithMatch (finding.Lives 1 0) 1 crossings (giver ∷ taker ∷ [])
 first_match =

@@ -1,5 +1,6 @@
 use Rattle.net_sim.proofs.Common.{◌≡◌, [], ◌∷◌, Some, refl, subst, arith, Life, SafePartners, AreAtPeace}
 use Rattle.net_sim.proofs.Common.{crossings, giver, taker}
+use Rattle.std.proofs.lemmas.Option.{same_Some}
 use Rattle.net_sim.specs.Findings.{ShowsTwo}
 use Rattle.net_sim.specs.declared.auditing.findings.Finding.TheVariants as finding
 use Rattle.net_sim.proofs.Audits.Elements.{contains_head, contains_tail}
@@ -21,12 +22,9 @@ at_peace x there =
 no_peace : AreAtPeace crossings (giver ∷ taker ∷ []) taker → ⊥
 no_peace peace = at_odds (peace taker (contains_tail giver (taker ∷ []) taker (contains_head taker [])))
 
-some_same : (x y : Life) → Some x ≡ Some y → x ≡ y
-some_same x y e = cc
-
 not_sender : ShowsTwo (finding.Lives 0 2) crossings (giver ∷ taker ∷ taker ∷ []) → ⊥
 not_sender (ends, (y, is, less, (peace, odds))) =
-    odds (subst (λ (z : Life). AreAtPeace crossings (giver ∷ []) z) (some_same taker y is) at_peace)
+    odds (subst (λ (z : Life). AreAtPeace crossings (giver ∷ []) z) (same_Some taker y is) at_peace)
 
 pub returns-clause-twice : goal.returns-clause-twice
 returns-clause-twice c = ((partners, at_odds_after), (taker, refl, omega arith, (at_peace, no_peace)))

@@ -1,4 +1,5 @@
 use Rattle.net_sim.proofs.Common.{◌≡◌, ℕ, ◌+◌, Bool, true, false, ◌&&◌, ◌||◌, if◌then◌else◌, List, [], ◌∷◌, ◌++◌, Option, Some, None, refl, ap, sym, subst, ◌∙◌, arith, list_any, option_or, Host, Notice, is_receive_socket, is_send_socket, StartFault, ServerIsDone, UserIsDone, first, second}
+use Rattle.std.proofs.lemmas.Bool.{and_left}
 use Rattle.std.proofs.Common.{nat_le}
 use Rattle.bit_messages.specs.Octets.{octets_of}
 use Rattle.icp.specs.Notices.{is_opened, opened_on}
@@ -46,9 +47,6 @@ odd_never : (a b : Bool) → b ≡ false → ◌≡◌ {A = Option StartFault} (
 odd_never true true odd e = cc
 odd_never true false odd e = cc
 odd_never false b odd e = cc
-
-first_odd : (a b : Bool) → a ≡ false → (a && b) ≡ false
-first_odd a b odd = rw odd refl
 
 -- ---- the rows
 
@@ -107,4 +105,4 @@ returns-clause-odd_base c b is = odd_never (is_send_socket b.listen) (is_receive
 
 pub returns-clause-odd_own : goal.returns-clause-odd_own
 returns-clause-odd_own c b is =
-    odd_never (is_send_socket b.listen) (is_receive_socket b.own && nat_le (b.own + 3) 4294967295) (first_odd (is_receive_socket b.own) (nat_le (b.own + 3) 4294967295) (ap is_receive_socket is)) b.can
+    odd_never (is_send_socket b.listen) (is_receive_socket b.own && nat_le (b.own + 3) 4294967295) (and_left (is_receive_socket b.own) (nat_le (b.own + 3) 4294967295) (ap is_receive_socket is)) b.can

@@ -1,12 +1,14 @@
 use Rattle.net_sim.proofs.Common.{◌≡◌, zero, suc, true, false, List, [], ◌∷◌, Option, Some, None, arith, ap, refl}
 use Rattle.net_sim.proofs.Common.{subst, ◌∙◌, Host, NcpState, opening_state, first, second, Seat}
 use Rattle.std.proofs.Common.{is_some}
+use Rattle.std.proofs.lemmas.Option.{same_Some}
 use Rattle.host_services.specs.Turns as turns
 use Rattle.sockets.specs.Requests.{served, served_notices}
 use Rattle.sockets.specs.Sending.{next_out}
 use Rattle.sockets.specs.declared.request.Request.TheVariants as request
 use Rattle.net_sim.specs.Silent.{AllSilent}
 use Rattle.net_sim.specs.Worked.{busy, fresh}
+use Rattle.net_sim.proofs.Hosts.Mute.{opening_mute}
 use Rattle.net_sim.proofs.worked_rest.worked_silence.Goals as goal
 
 abbrev first_program : List Seat → Option NcpState
@@ -17,15 +19,8 @@ says_nothing : (seats : List Seat) (s : NcpState) → first_program seats ≡ So
 says_nothing [] s is silent = absurd (cc)
 says_nothing (seat ∷ seats) s is silent = silent 0 (omega arith) seat refl s is
 
-mute : (h : Host) → next_out (opening_state h) ≡ None
-unfolding next_out
-mute h = refl
-
-some_same : (s t : NcpState) → Some s ≡ Some t → s ≡ t
-some_same s t e = cc
-
 at_mute : (h : Host) (s : NcpState) → Some (opening_state h) ≡ Some s → next_out s ≡ None
-at_mute h s is = subst (λ (t : NcpState). next_out t ≡ None) (some_same (opening_state h) s is) (mute h)
+at_mute h s is = subst (λ (t : NcpState). next_out t ≡ None) (same_Some (opening_state h) s is) (opening_mute h)
 
 abbrev program_of : Option Seat → Option NcpState
 program_of None = None
