@@ -275,9 +275,9 @@ module _ (peer : Host) (stamp : ℕ) (J : DeskState → Type 0) (steps : Steps p
       (λ x. record { own = refl; foreign = refl; mine = refl; asked = refl; partner = refl; link = refl }) h))
       (fault ERRONEOUS (command.Ret link messages bits) d h)) h
   command_step busy (command.Inr link) d ok sound h = at_found (command.Inr link) interrupted (sender_on link d) d
-      (λ e. steps.told (notice.Interrupt e.own ∷ []) d (tt, tt) h) h
+      (λ e. steps.told (_ ∷ []) d (tt, tt) h) h
   command_step busy (command.Ins link) d ok sound h = at_found (command.Ins link) interrupted (receiver_on link d) d
-      (λ e. steps.told (notice.Interrupt e.own ∷ []) d (tt, tt) h) h
+      (λ e. steps.told (_ ∷ []) d (tt, tt) h) h
   command_step busy (command.Eco octet) d ok sound h = steps.queued (command.Erp octet ∷ []) d (tt, tt) h
   command_step busy (command.Erp octet) d ok sound h = steps.told (notice.Echoed peer octet ∷ []) d (tt, tt) h
   command_step busy (command.Err code detail) d ok sound h = steps.told (notice.RemoteError peer code detail ∷ []) d

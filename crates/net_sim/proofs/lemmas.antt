@@ -1,4 +1,4 @@
--- The lemmas of this crate that others may use: the proofs of headline, world_keeps_connections, world_keeps_lives, world_keeps_pairing, world_keeps_streams and world_replay do. All others in proofs/ are its own.
+-- The lemmas of this crate that others may use: the proofs of headline, world_keeps_connections, world_keeps_lives, world_keeps_pairing, world_keeps_streams, world_replay and world_trace do. All others in proofs/ are its own.
 pub use Rattle.net_sim.proofs.Books.Always.{calm_keeps}
 pub use Rattle.net_sim.proofs.Books.Booked.{booked_messages}
 pub use Rattle.net_sim.proofs.Books.Fated.{by_fated, kept_fated, told_fated, world_fated}
@@ -9,5 +9,6 @@ pub use Rattle.net_sim.proofs.Resets.Offers.{data_away, plain_take, says_reply}
 pub use Rattle.net_sim.proofs.Books.EachEvent.{Answered, HasProgram, Shows, Ways, event_way, step_way, unshown}
 pub use Rattle.net_sim.proofs.Books.Refusals.{step_stands}
 pub use Rattle.net_sim.proofs.Hosts.Seats.{same_host-sym}
+pub use Rattle.net_sim.proofs.Hosts.Stays.{Stays, accepted_stays, offered_stays, served_stays}
 pub use Rattle.net_sim.proofs.Resets.StoryLemmas.{program_own, story_agrees}
 pub use Rattle.net_sim.proofs.Resets.Turns.{freed_busy}

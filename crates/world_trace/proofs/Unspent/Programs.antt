@@ -1,9 +1,6 @@
 -- Calls of a program leave it its host's, and memory lasts in it; so do its services.
-use Rattle.world_trace.proofs.Common.{◌≡◌, ℕ, Bool, true, false, if◌then◌else◌, List, [], ◌∷◌, ◌++◌, length, nat_lt, take, Option, Some, None, refl, ◌∙◌, All-append, All-cons, All-head, All-nil, All-tail, All, PairState, Entry, Notice, ServiceDeskState, ServicesState, Service, ServerState, UserState, Host, same_host, NcpState, refusal, NcpFault, Peer, Request, EchoState, TerminalState, ProgramLasts, ServiceLasts}
+use Rattle.world_trace.proofs.Common.{◌≡◌, ℕ, Bool, true, false, if◌then◌else◌, List, [], ◌∷◌, ◌++◌, length, nat_lt, take, Option, Some, None, refl, ◌∙◌, All-append, All-cons, All-head, All-nil, All-tail, All, Notice, ServiceDeskState, ServicesState, Service, ServerState, UserState, Host, NcpState, refusal, NcpFault, Request, EchoState, TerminalState, ProgramLasts, ServiceLasts}
 use Rattle.std.proofs.Common.{◌&&◌}
-use Rattle.host_pairs.specs.Desk.{listens_on}
-use Rattle.host_pairs.specs.Entries.{is_busy}
-use Rattle.host_pairs.specs.Parcels.{Parcel}
 use Rattle.host_services.specs.Services.{noticing, reporting, serving, typing_on}
 use Rattle.host_services.specs.Turns as turns
 use Rattle.host_services.specs.Turns.{Turned, all_heard, asked_by, asks, heard_by, line_told, lines_told, notice_heard, server_asked, server_asks, server_begins, server_begun, server_ends, services_told, tried, tried_by, tries, user_asked, user_asks, user_begins, user_begun, user_ends}
@@ -19,72 +16,18 @@ use Rattle.icp.specs.declared.outcome.Failure.{Failure}
 use Rattle.icp.specs.declared.outcome.Outcome.{Outcome}
 use Rattle.icp.specs.declared.outcome.Outcome.TheVariants as outcome
 use Rattle.interface.specs.declared.Inbound.{Inbound}
-use Rattle.interface.specs.declared.Inbound.TheVariants as inbound
 use Rattle.ncp_control.specs.Numbers.{is_receive_socket}
+use Rattle.net_sim.proofs.lemmas.{Stays, accepted_stays, offered_stays, served_stays}
 use Rattle.sockets.specs.Accepting.{accepted}
-use Rattle.sockets.specs.Pairs.{owner_of, pair_with}
-use Rattle.sockets.specs.Requests.{at_owner, served}
-use Rattle.sockets.specs.Sending.{next_in, offered, offered_by}
-use Rattle.sockets.specs.declared.request.Request.TheVariants as request
+use Rattle.sockets.specs.Requests.{served}
+use Rattle.sockets.specs.Sending.{offered}
 use Rattle.terminal.specs.Ends as ends
 use Rattle.terminal.specs.Machines.{echo_by, echo_turn, terminal_by, terminal_heard, terminal_turn}
 
 -- ---- programs
 
--- nothing but its peers and what listens has changed
-record Stays (s t : NcpState) : Type 0 where
-  own : t.own ≡ s.own
-  spent : t.spent ≡ s.spent
-
 still_lasts : (h : Host) (s t : NcpState) → Stays s t → ProgramLasts h s → ProgramLasts h t
 still_lasts h s t stays is = record { own = stays.own ∙ is.own; unspent = stays.spent ∙ is.unspent }
-
-same : (s : NcpState) → Stays s s
-same s = record { own = refl; spent = refl }
-
-owner_stays : (s : NcpState) (o : Option (Host × Entry)) (change : Entry → PairState → PairState) → Stays s (at_owner s o change)
-owner_stays s None change = same s
-owner_stays s (Some (g, e)) change = record { own = refl; spent = refl }
-
-if_stays : (b : Bool) (s t u : NcpState) → Stays s t → Stays s u → Stays s (if b then t else u)
-if_stays true s t u k l = k
-if_stays false s t u k l = l
-
-served_stays : (s : NcpState) (r : Request) → Stays s (served s r)
-unfolding served
-served_stays s (request.Contact peer) = record { own = refl; spent = refl }
-served_stays s (request.Listen socket size) = record { own = refl; spent = refl }
-served_stays s (request.OpenSend peer own foreign size) = record { own = refl; spent = refl }
-served_stays s (request.OpenReceive peer own foreign) = record { own = refl; spent = refl }
-served_stays s (request.Send socket bits) = owner_stays s (owner_of socket s.peers) _
-served_stays s (request.Grant socket messages bits) = owner_stays s (owner_of socket s.peers) _
-served_stays s (request.AskBack socket messages bits) = owner_stays s (owner_of socket s.peers) _
-served_stays s (request.Interrupt socket) = owner_stays s (owner_of socket s.peers) _
-served_stays s (request.Close socket) = if_stays (listens_on socket s.listening) s _ _ (record { own = refl; spent = refl }) (owner_stays s (owner_of socket s.peers) _)
-served_stays s (request.Echo peer octet) = record { own = refl; spent = refl }
-
--- a turn leaves such a program
-abbrev TurnStays : NcpState → NcpState × List Notice → Type 0
-TurnStays s t = Stays s t.0
-
-offered_by_stays : (s : NcpState) (stamp : ℕ) (o : Option (Peer × Parcel)) → TurnStays s (offered_by s stamp o)
-offered_by_stays s stamp None = same s
-offered_by_stays s stamp (Some (p, x)) = record { own = refl; spent = refl }
-
-offered_stays : (s : NcpState) (stamp : ℕ) → TurnStays s (offered s stamp)
-unfolding offered
-offered_stays s stamp = offered_by_stays s stamp (next_in s.peers)
-
-turn_if : (b : Bool) (s : NcpState) (t u : NcpState × List Notice) → TurnStays s t → TurnStays s u → TurnStays s (if b then t else u)
-turn_if true s t u k l = k
-turn_if false s t u k l = l
-
-accepted_stays : (s : NcpState) (i : Inbound) (stamp : ℕ) → TurnStays s (accepted s i stamp)
-unfolding accepted
-accepted_stays s (inbound.Message m) stamp = turn_if (same_host s.own m.flow.destination) s _ (s, []) (record { own = refl; spent = refl }) (same s)
-accepted_stays s (inbound.Answer kind f) stamp =
-    turn_if (same_host s.own f.source) s _ (s, [])
-    (turn_if (is_busy (pair_with f.destination s.peers).busy f.link.0) s _ (s, []) (record { own = refl; spent = refl }) (same s)) (same s)
 
 module _ (h : Host) where
   pub served_lasts : (s : NcpState) (r : Request) → ProgramLasts h s → ProgramLasts h (served s r)
