@@ -45,19 +45,12 @@ module _ {C : Type 0} (seen : C → Seen) (w : WorldState C) (some : IsSomeWorld
   pub core_once : IsOnce (hosts_of w.seats)
   core_once = subst IsOnce (sym seated_are) (some_once (λ h. not (some.strange h)) hosts (once_in_order hosts some.ordered))
 
-  -- so its parts are, by whatever names they go
-  module _ (seats : List Seat) (is : seats ≡ w.seats) where
-    pub seats_once : IsOnce (hosts_of seats)
-    seats_once = subst (λ (s : List Seat). IsOnce (hosts_of s)) (sym is) core_once
+  pub core_live : AreLive w.seats
+  core_live = subst AreLive (sym (whole.seats on)) (seats_live hosts seated whole.moments)
 
-    pub seats_up : AreLive seats
-    seats_up = subst AreLive (sym (is ∙ whole.seats on)) (seats_live hosts seated whole.moments)
-
-    -- the services are in the order of the seats
-    pub seats_order : (services : List ServiceSeat) → services ≡ w.services → hosts_served services ≡ hosts_of seats
-    seats_order services same =
-        ap (λ (s : List ServiceSeat). hosts_served s) same ∙ (whole.services on).order ∙ sym seated_are
-        ∙ ap (λ (s : List Seat). hosts_of s) (sym is)
+  -- the services are in the order of the seats
+  pub core_order : hosts_served w.services ≡ hosts_of w.seats
+  core_order = (whole.services on).order ∙ sym seated_are
 
 -- ---- which worlds are so
 

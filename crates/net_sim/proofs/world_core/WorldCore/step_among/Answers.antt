@@ -1,18 +1,32 @@
-use Rattle.net_sim.proofs.Common.{rules, ◌≡◌, shown, Calls}
+use Rattle.net_sim.proofs.Common.{rules, ◌≡◌, List, sym, subst, ap, ◌∙◌, shown, AreLive, IsOnce, hosts_of, hosts_served, ServiceSeat, Seat, Calls}
+use Rattle.net_sim.specs.Inside.Core.{IsSomeWorld}
 use Rattle.net_sim.specs.Inside.Mixed.{mixed_runs_out, mixed_with}
 use Rattle.net_sim.specs.MixedWorlds.{MixedEventGives, MixedState}
 use Rattle.net_sim.proofs.Books.HeldMixed.{followed_mixed, mixed_ended, on_now}
-use Rattle.net_sim.proofs.Books.SomeWorld.{among_some, seats_once, seats_order, seats_up}
+use Rattle.net_sim.proofs.Books.SomeWorld.{among_some, core_live, core_once, core_order}
 use Rattle.net_sim.proofs.world_core.WorldCore.step_among.Goals as goal
 
 pub follow_mixed-done-requires-clause-once : goal.follow_mixed-done-requires-clause-once
-follow_mixed-done-requires-clause-once g c = seats_once g.C.Carrier.calls.seen c.args.self.now (search rules) (search rules) _ (search rules)
+follow_mixed-done-requires-clause-once g c =
+    let some : IsSomeWorld g.C.Carrier.calls.seen c.args.self.now = search rules in
+    let seats : c.self.inside.hosts.seats.items ≡ c.args.self.now.seats = search rules in
+    subst (λ (s : List Seat). IsOnce (hosts_of s)) (sym seats)
+    (core_once g.C.Carrier.calls.seen c.args.self.now some (search rules))
 
 pub follow_mixed-done-requires-clause-live : goal.follow_mixed-done-requires-clause-live
-follow_mixed-done-requires-clause-live g c = seats_up g.C.Carrier.calls.seen c.args.self.now (search rules) (search rules) _ (search rules)
+follow_mixed-done-requires-clause-live g c =
+    let some : IsSomeWorld g.C.Carrier.calls.seen c.args.self.now = search rules in
+    let seats : c.self.inside.hosts.seats.items ≡ c.args.self.now.seats = search rules in
+    subst AreLive (sym seats) (core_live g.C.Carrier.calls.seen c.args.self.now some (search rules))
 
 pub follow_mixed-done-requires-clause-order : goal.follow_mixed-done-requires-clause-order
-follow_mixed-done-requires-clause-order g c = seats_order g.C.Carrier.calls.seen c.args.self.now (search rules) (search rules) _ (search rules) _ (search rules)
+follow_mixed-done-requires-clause-order g c =
+    let some : IsSomeWorld g.C.Carrier.calls.seen c.args.self.now = search rules in
+    let seats : c.self.inside.hosts.seats.items ≡ c.args.self.now.seats = search rules in
+    let services : c.self.inside.hosts.services.items ≡ c.args.self.now.services = search rules in
+    ap (λ (s : List ServiceSeat). hosts_served s) services
+    ∙ core_order g.C.Carrier.calls.seen c.args.self.now some (search rules)
+    ∙ ap (λ (s : List Seat). hosts_of s) (sym seats)
 
 pub invariant_of-self : goal.invariant_of-self
 invariant_of-self g c =
