@@ -15,5 +15,5 @@ mod request;
 mod services;
 mod verb;
 
-pub use event::WorldEvent;
+pub use event::{MixedWorldEvent, WorldEvent};
 pub use events::read_world_script;
