@@ -114,7 +114,7 @@ pub(crate) fn read_three(words: &[u8]) -> Option<Flow>
 /// Returns the message that is spelled `source destination link bits octets`.
 ///
 /// Errors: `AllocError`, only where all words but the last are good and the last one is hexadecimal.
-fn read_message(alloc: Global, words: &[u8]) -> Result<Option<HostMessage>, AllocError>
+pub fn read_message(alloc: Global, words: &[u8]) -> Result<Option<HostMessage>, AllocError>
     ensures read { IfOk result (ReadsAs message_text IsMessage words.now) }
     ensures memory { IfErr result (λ _. IsTextRead words.now) }
 {

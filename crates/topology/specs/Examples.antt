@@ -39,3 +39,13 @@ line a b = record { a = a; b = b }
 -- five lines of IMP 1
 abbrev pub five_lines : List LineEnds
 five_lines = line 1 2 ∷ line 3 1 ∷ line 1 4 ∷ line 1 5 ∷ line 6 1 ∷ []
+
+-- an IMP that names some of its hosts as strangers, and the only one of a document
+abbrev pub items_of : List ℕ → Items
+items_of [] = no_items
+items_of (n ∷ numbers) = item (integer (pos n)) (items_of numbers)
+
+abbrev pub naming : ℕ → ℕ → List ℕ → Items
+naming id hosts numbers =
+    item (table (member (codes "foreign") (array (items_of numbers))
+    (member (codes "hosts") (integer (pos hosts)) (member (codes "id") (integer (pos id)) no_members)))) no_items

@@ -1,4 +1,6 @@
 pub mod Topology
+pub mod Naming
+pub mod Mixed
 pub mod Reading
 pub mod Examples
 pub mod Laws

@@ -1,12 +1,13 @@
 //! What topologies promise, as laws over their definitions. The functions here do nothing: their clauses are the
 //! laws.
 
-ghost use Rattle.std.specs.Prelude.{◌≡◌, ◌≤◌, length, true, false, Some, None, ◌∷◌, [], codes, pos, negsuc};
+ghost use Rattle.std.specs.Prelude.{◌≡◌, ◌≤◌, length, true, false, Some, None, ◌∷◌, [], codes, option_map, pos, negsuc};
 ghost use Rattle.toml.specs.Data.{no_items, item, no_members, member, integer, array, table, string, boolean};
 ghost use Rattle.interface.specs.Host.{Host, is_host};
 ghost use Rattle.topology.specs.declared.network.CarrierKind.TheVariants as kind;
-ghost use Rattle.topology.specs.Examples.{document, raw_document, imp_table, line_table, two_imps, one_imp, one_line, imp_hosts, line, five_lines};
+ghost use Rattle.topology.specs.Examples.{document, naming, raw_document, imp_table, line_table, two_imps, one_imp, one_line, imp_hosts, line, five_lines};
 ghost use Rattle.topology.specs.Topology.{AreSites, TopologyFields, most_network_lines, IsTopology, hosts_from, hosts_of, has_host, has_ports, imp_of, sites_of, topology_of};
+ghost use Rattle.topology.specs.Mixed.{MixedFields, mixed_of};
 ghost use Rattle.topology.specs.Laws.{WorkedSites};
 
 /// The hosts of a topology are those that its IMPs have.
@@ -59,6 +60,26 @@ pub fn worked_documents()
 
     // five lines at an IMP, and six
     ensures ports { (has_ports (imp_hosts 1 0 ∷ []) five_lines ≡ true) × (has_ports (imp_hosts 1 0 ∷ []) (line 7 1 ∷ five_lines) ≡ false) }
+{}
+
+/// Small documents that name strangers, and what they describe.
+#[tactic(auto, unfolding(crate::specs::Topology::numbered_below, crate::specs::Topology::hosts_below))]
+pub fn worked_strangers()
+    // the second of two hosts, and hosts 0 and 2 of three
+    ensures one { mixed_of (document (naming 2 2 (1 ∷ [])) no_items) ≡ Some (record { network = record { carrier = kind.Subnet; raw = false; imps = imp_hosts 2 2 ∷ []; lines = [] }; strangers = record { imp = 2; host = 1 } ∷ [] }) }
+    ensures two { option_map (λ (m : MixedFields). m.strangers) (mixed_of (document (naming 1 3 (0 ∷ 2 ∷ [])) no_items)) ≡ Some (record { imp = 1; host = 0 } ∷ record { imp = 1; host = 2 } ∷ []) }
+
+    // a number of no host, one that is there twice, and one that is out of order
+    ensures no_host { mixed_of (document (naming 2 2 (2 ∷ [])) no_items) ≡ None }
+    ensures twice { mixed_of (document (naming 2 2 (1 ∷ 1 ∷ [])) no_items) ≡ None }
+    ensures order { mixed_of (document (naming 2 2 (1 ∷ 0 ∷ [])) no_items) ≡ None }
+
+    // where there are no host programs, where nobody is named, and without the key
+    ensures raw { mixed_of (raw_document (codes "plain") (naming 2 2 (1 ∷ []))) ≡ None }
+    ensures nobody { (mixed_of (document (naming 2 2 []) no_items) ≡ None) × (mixed_of (document two_imps no_items) ≡ None) }
+
+    // and with it the document describes no other topology
+    ensures other { (topology_of (document (naming 2 2 (1 ∷ [])) no_items) ≡ None) × (topology_of (document (naming 2 2 []) no_items) ≡ None) }
 {}
 
 /// There are at most 157 lines: each has two ends, and each of 63 IMPs has five at most.

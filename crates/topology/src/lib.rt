@@ -8,6 +8,8 @@
 #![tactic(auto)]
 
 pub mod law;
+mod mixed;
 mod network;
 
+pub use mixed::MixedTopology;
 pub use network::{CarrierKind, ImpHosts, LineEnds, MOST_LINES, Topology, TopologyFault};

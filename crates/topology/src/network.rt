@@ -7,8 +7,9 @@ ghost use Rattle.toml.specs.Data.{get};
 ghost use Rattle.toml.specs.Errors.{IsBlank, IsMemory};
 ghost use Rattle.interface.specs.Calls.{InOrder};
 ghost use Rattle.interface.specs.Host.{most_imps};
-ghost use Rattle.topology.specs.Topology.{TopologyFields, most_hosts, most_network_lines, hosts_of, has_host, topology_in, topology_of, size, has, one_if, known_members, carrier_of, raw_of};
-ghost use Rattle.topology.specs.Topology.{number_at, host_if, hosts_from, site_of, sites_of, AreSites, is_imp, is_line, each_of, imp_of, line_of, imps_of, lines_of, are_imps, is_there, are_lines};
+ghost use Rattle.topology.specs.Topology.{TopologyFields, most_hosts, most_network_lines, hosts_of, has_host, topology_in, size, has, one_if, known_members, carrier_of, raw_of};
+ghost use Rattle.topology.specs.Topology.{number_at, host_if, hosts_from, site_of, sites_of, AreSites, is_imp, is_line, each_of, line_of, lines_of, are_imps, is_there, are_lines};
+ghost use Rattle.topology.specs.Naming.{imp_naming, imps_naming, network_of, number_of};
 ghost use Rattle.topology.specs.Topology.{are_apart, joins_same, has_ports, line_count, by_number, imp_of_number};
 ghost use Rattle.topology.specs.Reading.{Described, DescribedIn};
 
@@ -109,16 +110,21 @@ impl Topology {
         ensures memory { result ≡ Err TopologyFault.OutOfMemory → ¬ IsBlank text.now }
     {
         match toml::table_from_str(alloc, text) {
-            Ok(table) => Topology::from_document(alloc, &Value::Table(table)),
+            Ok(table) => Topology::from_document(alloc, &Value::Table(table), false),
             Err(error) => Err(fault_of(&error)),
         }
     }
 
-    /// Returns the topology that a document's value describes.
+    /// Returns the topology that a document's value describes. Its IMPs may name strangers, or not: which hosts these are
+    /// is read elsewhere.
     ///
     /// Errors: `BadTopology`; `OutOfMemory`, only for a document that lists an IMP.
-    fn from_document(alloc: Global, document: &Value) -> Result<Topology, TopologyFault>
-        ensures described { Described (topology_of (view document.now)) result }
+    pub(crate) fn from_document(
+        alloc: Global,
+        document: &Value,
+        may_name: bool,
+    ) -> Result<Topology, TopologyFault>
+        ensures described { Described (network_of may_name (view document.now)) result }
         ensures memory { result ≡ Err TopologyFault.OutOfMemory → has (codes "imp") (view document.now) ≡ true }
     {
         if size(document) != known_members(document) {
@@ -126,7 +132,7 @@ impl Topology {
         }
         let carrier = carrier_of(document).ok_or(TopologyFault::BadTopology)?;
         let raw = raw_of(document).ok_or(TopologyFault::BadTopology)?;
-        let listed = imps_of(alloc, document)?;
+        let listed = imps_of(alloc, document, may_name)?;
         let lines = lines_of(alloc, document)?;
         let imps = by_number(alloc, &listed)?;
         if imps.len() == listed.len() && are_imps(&imps) && are_lines(&imps, &lines) {
@@ -203,7 +209,7 @@ impl Topology {
 }
 
 /// Returns why a text is not a document, as a fault of a topology: only running out of memory is reported as such.
-fn fault_of(error: &toml::de::Error) -> TopologyFault
+pub(crate) fn fault_of(error: &toml::de::Error) -> TopologyFault
     ensures memory { (result ≡ TopologyFault.OutOfMemory) ↔ IsMemory error.now }
 {
     if error.is_memory() {
@@ -269,19 +275,24 @@ fn raw_of(document: &Value) -> Option<bool>
 }
 
 /// Returns the number from 0 to 255 that a table has at a key. `None` for anything else.
-fn number_at(table: &Value, key: &str) -> Option<u8>
+pub(crate) fn number_at(table: &Value, key: &str) -> Option<u8>
     ensures { result ≡ number_at key.now (view table.now) }
 {
-    let value = table.get(key)?;
-    let number = value.as_integer()?;
-    u8::try_from(number).ok()
+    number_of(table.get(key)?)
 }
 
-/// Returns the IMP that a table with the keys `id` and `hosts` describes.
-fn imp_of(value: &Value) -> Option<ImpHosts>
-    ensures { result ≡ imp_of (view value.now) }
+/// Returns the number from 0 to 255 that a value is. `None` for anything else.
+pub(crate) fn number_of(value: &Value) -> Option<u8>
+    ensures { result ≡ number_of (view value.now) }
 {
-    if size(value) != 2 {
+    u8::try_from(value.as_integer()?).ok()
+}
+
+/// Returns the IMP that a table with the keys `id` and `hosts` describes. It may name strangers, or not.
+fn imp_of(value: &Value, may_name: bool) -> Option<ImpHosts>
+    ensures { result ≡ imp_naming may_name (view value.now) }
+{
+    if size(value) != 2 + usize::from(may_name && has(value, "foreign")) {
         return None;
     }
     Some(ImpHosts {
@@ -304,26 +315,26 @@ fn line_of(value: &Value) -> Option<LineEnds>
 }
 
 /// Returns the IMPs of a document, in its order.
-fn imps_of(alloc: Global, document: &Value) -> Result<Vec<ImpHosts>, TopologyFault>
-    ensures described { DescribedIn (imps_of (get (codes "imp") (view document.now))) result }
+fn imps_of(alloc: Global, document: &Value, may_name: bool) -> Result<Vec<ImpHosts>, TopologyFault>
+    ensures described { DescribedIn (imps_naming may_name (get (codes "imp") (view document.now))) result }
     ensures memory { result ≡ Err TopologyFault.OutOfMemory → has (codes "imp") (view document.now) ≡ true }
 {
     let Some(listed) = document.get("imp") else {
         return Err(TopologyFault::BadTopology);
     };
     match listed.as_array() {
-        Some(values) => each_imp(alloc, values),
+        Some(values) => each_imp(alloc, values, may_name),
         None => Err(TopologyFault::BadTopology),
     }
 }
 
 /// Returns the IMPs that these values describe.
-fn each_imp(alloc: Global, values: &[Value]) -> Result<Vec<ImpHosts>, TopologyFault>
-    ensures { DescribedIn (each_of imp_of (items_view values.now)) result }
+fn each_imp(alloc: Global, values: &[Value], may_name: bool) -> Result<Vec<ImpHosts>, TopologyFault>
+    ensures { DescribedIn (each_of (imp_naming may_name) (items_view values.now)) result }
 {
     let mut imps = Vec::new(alloc);
     for value in values {
-        let Some(imp) = imp_of(value) else {
+        let Some(imp) = imp_of(value, may_name) else {
             return Err(TopologyFault::BadTopology);
         };
         imps.push(imp)?;

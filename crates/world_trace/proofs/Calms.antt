@@ -1,5 +1,5 @@
 -- A calm is traced round by round, a round event by event.
-use Rattle.world_trace.proofs.Common.{◌≡◌, inl, inr, ℕ, zero, suc, ◌<◌, ◌≤◌, ◌+◌, true, false, List, [], ◌∷◌, ◌++◌, Option, Ok, Err, arith, refl, sym, ap, subst, ◌∙◌, append_assoc, append-nil, Appends, Calls, IsAtRest, WorldState, Event, Quiet, appends_more, appends_none, last_shown, last_written, one_written, Happening, InTurn, text_of, ReplayFault, WritesTrace, Spot, when_false, Again, Repeated, crosses, turns_in, AgainEnds, EventEnds, RoundEnds, StepEnds, MayTell, StopsOne, TellsInCalm, TellsRound, first_rounds}
+use Rattle.world_trace.proofs.Common.{◌≡◌, inl, inr, ℕ, zero, suc, ◌<◌, ◌≤◌, ◌+◌, true, false, List, [], ◌∷◌, ◌++◌, Option, Ok, Err, arith, refl, sym, ap, subst, ◌∙◌, append_assoc, append-nil, Appends, Calls, IsAtRest, WorldState, Event, Quiet, appends_more, appends_none, last_shown, last_written, one_written, Happening, InTurn, text_of, ReplayFault, WritesTrace, Spot, when_false, Again, Repeated, crosses, turns_in, AgainEnds, EventEnds, RoundEnds, StepEnds, MayTell, StopsOne, TellsInCalm, TellsRound, first_rounds, AllParts}
 use Rattle.std.proofs.Common.{◌-◌}
 use Rattle.std.proofs.lemmas.Bool.{cases_lt}
 use Rattle.replay.proofs.lemmas.{text_of-append}
@@ -10,7 +10,6 @@ use Rattle.world_script.specs.declared.event.WorldEvent.TheVariants as world
 use Rattle.world_trace.specs.Steps.{EndsRoundAt}
 use Rattle.world_trace.proofs.Resting.{round_rests}
 use Rattle.world_trace.proofs.Telling.{SoFar, all_done, ends_so, fails_so, no_line, none_yet}
-use Rattle.trace.specs.declared.all_parts.AllParts.{AllParts}
 
 -- ---- an event again and again
 

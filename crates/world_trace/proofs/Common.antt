@@ -1,7 +1,5 @@
 -- The names that several files of these proofs take from elsewhere, passed on from one place.
 pub use Rattle.hex.specs.Hex.{IsBytes, encode_upper}
-pub use Rattle.host_pairs.specs.Pair.{PairState}
-pub use Rattle.host_pairs.specs.declared.entry.Entry.{Entry}
 pub use Rattle.host_pairs.specs.declared.notice.Notice.{Notice}
 pub use Rattle.host_services.specs.Ears.{all_in}
 pub use Rattle.host_services.specs.Services.{ServiceDeskState, ServicesState, no_services, opening_desk}
@@ -49,6 +47,7 @@ pub use Rattle.std.proofs.Output.{has_written_append, has_written_of_eq}
 pub use Rattle.std.proofs.lemmas.Bool.{false≢true}
 pub use Rattle.std.proofs.lemmas.List.{append-nil, append_assoc, drop_all, drop_more, length-append, map-append, reverse-append, reverse-reverse}
 pub use Rattle.std.proofs.lemmas.List.Elements.{All-append, All-cons, All-head, All-nil, All-same, All-tail}
+pub use Rattle.std.proofs.lemmas.Result.{IfOk-weaker}
 pub use Rattle.std.specs.Fmt.{HasWritten, IsPlainFormatter, decimal}
 pub use Rattle.std.specs.Io.KnownBytes.{Appends}
 pub use Rattle.std.specs.List.{All, flat_map}
@@ -59,11 +58,13 @@ pub use Rattle.subnet.specs.Working.{subnet_calls}
 pub use Rattle.subnet_trace.proofs.lemmas.{refused}
 pub use Rattle.subnet_trace.specs.Elements.{IsOfRound}
 pub use Rattle.terminal.specs.Machines.{EchoState, TerminalState}
-pub use Rattle.trace.proofs.lemmas.{AllPut, Any, AreClosed, IsClosed, Spelled, also_closed, bool_spelled, decimal_closed, first_same, host_spelled, host_words, lists_spelled, member_closed, member_once, none_changed, no_part_changed, none_closed, object_closed, object_once, quoted_once, rest_same, short_once, string_closed}
-pub use Rattle.trace.specs.Changes.{put_at, put_text}
+pub use Rattle.trace.proofs.lemmas.{AllPut, Any, AreClosed, IsClosed, Spelled, also_closed, bool_spelled, decimal_closed, ended_object, first_same, host_spelled, host_words, lists_spelled, member_closed, member_once, no_part_changed, none_changed, none_closed, object_closed, object_once, quoted_once, rest_same, short_once, string_closed}
+pub use Rattle.trace.specs.Changes.{changed_parts, put_at, put_text}
+pub use Rattle.trace.specs.Joined.{mark}
 pub use Rattle.trace.specs.Named.{IsHostNamed, IsShort}
 pub use Rattle.trace.specs.Texts.{array, bits_members, bool_text, member, object, quoted}
 pub use Rattle.trace.specs.Traces.{WritesTrace, numbered_from}
+pub use Rattle.trace.specs.declared.all_parts.AllParts.{AllParts}
 pub use Rattle.trace.specs.declared.element.Spot.{Spot}
 pub use Rattle.world_replay.proofs.lemmas.{when_false}
 pub use Rattle.world_replay.proofs.lemmas.Driven.{in_turn_then, replay_drives}

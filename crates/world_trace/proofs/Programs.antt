@@ -1,5 +1,6 @@
 -- The programs of hosts have texts of their own.
-use Rattle.world_trace.proofs.Common.{◌≡◌, ℕ, ◌%◌, ◌==◌, Bool, true, false, List, [], ◌∷◌, codes, if◌then◌else◌, map, Option, Some, None, IfSome, refl, sym, ap, ap₂, subst, ◌∙◌, arith, All-cons, All-head, All-nil, All-tail, decimal, All, bytes_eq, Entry, Host, host_text, Seat, unmarked_where, Lacks, NcpState, Peer, IsHostNamed, IsShort, array, bits_members, bool_text, member, object, quoted, Any, AreClosed, IsClosed, Spelled, bool_spelled, decimal_closed, first_same, host_spelled, host_words, lists_spelled, member_closed, member_once, none_closed, object_once, rest_same, short_once, string_closed, kind_text, ProgramLasts, SeatLasts, allocation_object, closings_object, command_object, number_text, requests_object, seat_member, IsCommandTold, IsListenerTold, IsPairTold, IsSeatTold}
+use Rattle.world_trace.proofs.Common.{◌≡◌, ℕ, ◌%◌, ◌==◌, Bool, true, false, List, [], ◌∷◌, codes, if◌then◌else◌, map, Option, Some, None, IfSome, refl, sym, ap, ap₂, subst, ◌∙◌, arith, All-cons, All-head, All-nil, All-tail, decimal, All, bytes_eq, Host, host_text, Seat, unmarked_where, Lacks, NcpState, Peer, IsHostNamed, IsShort, array, bits_members, bool_text, member, object, quoted, Any, AreClosed, IsClosed, Spelled, bool_spelled, decimal_closed, first_same, host_spelled, host_words, lists_spelled, member_closed, member_once, none_closed, object_once, rest_same, short_once, string_closed, kind_text, ProgramLasts, SeatLasts, allocation_object, closings_object, command_object, number_text, requests_object, seat_member, IsCommandTold, IsListenerTold, IsPairTold, IsSeatTold}
+use Rattle.host_pairs.specs.declared.entry.Entry.{Entry}
 use Rattle.host_pairs.specs.declared.entry.Closing.{Closing}
 use Rattle.host_pairs.specs.declared.entry.Closing.TheVariants as closing
 use Rattle.host_pairs.specs.declared.listener.Listener.{Listener}

@@ -1,5 +1,5 @@
 -- The world after a trace is one that the replay of its script comes to.
-use Rattle.world_trace.proofs.Common.{◌≡◌, ℕ, zero, suc, ◌+◌, List, [], ◌∷◌, ◌++◌, length, map, refl, subst, arith, length-append, Calls, WorldState, opening_world, InTurn, numbered_from, Spot, WorldEvent, TellsIn, TellsRound, TracesWorld, first_rounds}
+use Rattle.world_trace.proofs.Common.{◌≡◌, ℕ, zero, suc, ◌+◌, List, [], ◌∷◌, ◌++◌, length, map, refl, subst, arith, length-append, Calls, WorldState, opening_world, InTurn, numbered_from, Spot, WorldEvent, TellsIn, TellsRound, TracesWorld, first_rounds, AllParts}
 use Rattle.world_replay.specs.Output.{Shown}
 use Rattle.world_replay.specs.Replay.{Happens, Replays, rounds_of}
 use Rattle.world_replay.proofs.lemmas.CalmRounds.{rounds_calm}
@@ -7,7 +7,6 @@ use Rattle.world_script.specs.declared.event.WorldEvent.TheVariants as world
 use Rattle.world_trace.specs.Traces.{TellsAt}
 use Rattle.world_trace.proofs.Passing.{round_passes}
 use Rattle.world_trace.proofs.Unspent.Worlds.{Runs, happens_runs, opening_lasts}
-use Rattle.trace.specs.declared.all_parts.AllParts.{AllParts}
 
 rounds_counted : (rounds : ℕ) → length (first_rounds rounds) ≡ rounds
 rounds_counted zero = refl

@@ -1,5 +1,5 @@
 -- What an event leaves as it was.
-use Rattle.world_trace.proofs.Common.{◌≡◌, inl, inr, ℕ, suc, ◌≤◌, Bool, true, false, ◌||◌, List, [], ◌∷◌, length, map, Option, Some, None, Result, Ok, Err, arith, ap, refl, sym, subst, ◌∙◌, false≢true, Calls, crossing_of, is_halt, is_memory, Host, same_host, Crossing, Notice, ServiceDeskState, ServicesState, opening_desk, line_bits, all_told, asked, crossed, shown, AskGives, AtSeat, DoesOrHalts, Halts, OfferEnds, OfferGives, QuietEnds, StepGives, TakeEnds, TakeGives, TypeGives, WorldState, noticed, seat_of, seated, serviced, services_of, stops, tended, wants_memory, with_program, with_server, with_services, with_user, world_heard, world_moved, Event, Ask, Offer, Quiet, Server, Take, Typed, User, WorldFault, Carrier, Program, Seat, ServiceSeat, accepted, NcpState, refusal, served, served_notices, next_out, offered, NcpFault, Request, HappensInCalm, AreOthers, IsAsBefore, IsStill, at_host, event_of, is_of_network, seat_place, service_place, seat_member, services_member, CalmEvent}
+use Rattle.world_trace.proofs.Common.{◌≡◌, inl, inr, ℕ, suc, ◌≤◌, Bool, true, false, ◌||◌, List, [], ◌∷◌, length, map, Option, Some, None, Result, Ok, Err, arith, ap, refl, sym, subst, ◌∙◌, false≢true, Calls, crossing_of, is_halt, is_memory, Host, same_host, Crossing, Notice, ServiceDeskState, ServicesState, opening_desk, line_bits, all_told, asked, crossed, shown, AskGives, AtSeat, DoesOrHalts, Halts, OfferEnds, OfferGives, QuietEnds, StepGives, TakeEnds, TakeGives, TypeGives, WorldState, noticed, seat_of, seated, serviced, services_of, stops, tended, wants_memory, with_program, with_server, with_services, with_user, world_heard, world_moved, Event, Ask, Offer, Quiet, Server, Take, Typed, User, WorldFault, Carrier, Program, Seat, ServiceSeat, accepted, NcpState, refusal, served, served_notices, next_out, offered, NcpFault, Request, HappensInCalm, AreOthers, IsAsBefore, IsStill, at_host, event_of, is_of_network, seat_place, service_place, seat_member, services_member, CalmEvent, AllParts}
 use Rattle.interface.specs.declared.carrier.CarrierFault.{CarrierFault}
 use Rattle.interface.specs.declared.crossing.Crossing.TheVariants as crossing
 use Rattle.interface.specs.declared.crossing.Inbound.{Inbound}
@@ -13,7 +13,6 @@ use Rattle.world_replay.proofs.lemmas.{at_seat, if_stopped, one_crossed}
 use Rattle.world_replay.specs.Output.{Shown}
 use Rattle.world_trace.specs.Steps.{at_one, host_of}
 use Rattle.world_trace.specs.declared.calm.CalmEvent.TheVariants as calm
-use Rattle.trace.specs.declared.all_parts.AllParts.{AllParts}
 
 abbrev Answer : Type 0
 Answer = Result (Unit {0}) WorldFault

@@ -1,5 +1,5 @@
 -- Events are traced one after the other, and one of them may be the last.
-use Rattle.world_trace.proofs.Common.{Bool, true, false, nat_lt, lt-ltb, ◌≡◌, ◌⊎◌, inl, inr, ℕ, suc, ◌<◌, ◌+◌, List, [], ◌∷◌, ◌++◌, drop, get_or, length, reverse, Option, Some, Result, Ok, Err, arith, refl, sym, ap, ap₂, map, subst, ◌∙◌, false≢true, append_assoc, append-nil, length-append, reverse-append, reverse-reverse, Appends, Crossing, WorldState, Calls, Event, appends_more, appends_none, last_shown, last_written, one_written, Happening, InTurn, text_of, ReplayFault, ended_line, WritesTrace, numbered_from, Spot, HappensInCalm, MayDo, StopsIn, WorldEvent, AreTextsOf, EventEnds, IsAsBefore, StepEnds, state_objects, event_text, line_of, seat_member, services_member, Texts, none_changed, no_part_changed, object, shown, MayTell, StopsOne, TellsInCalm}
+use Rattle.world_trace.proofs.Common.{Bool, true, false, nat_lt, lt-ltb, ◌≡◌, ◌⊎◌, inl, inr, ℕ, suc, ◌<◌, ◌+◌, List, [], ◌∷◌, ◌++◌, drop, get_or, length, reverse, Option, Some, Result, Ok, Err, arith, refl, sym, ap, ap₂, map, subst, ◌∙◌, false≢true, append_assoc, append-nil, length-append, reverse-append, reverse-reverse, Appends, Crossing, WorldState, Calls, Event, appends_more, appends_none, last_shown, last_written, one_written, Happening, InTurn, text_of, ReplayFault, ended_line, WritesTrace, numbered_from, Spot, HappensInCalm, MayDo, StopsIn, WorldEvent, AreTextsOf, EventEnds, IsAsBefore, StepEnds, state_objects, event_text, line_of, seat_member, services_member, Texts, none_changed, no_part_changed, object, shown, MayTell, StopsOne, TellsInCalm, changed_parts, AllParts}
 use Rattle.std.proofs.lemmas.List.{length-reverse}
 use Rattle.std.proofs.Math.Seq.{drop-append_seam}
 use Rattle.replay.specs.InTurn.{EndsInTurn}
@@ -15,8 +15,7 @@ use Rattle.world_trace.specs.Steps.{AreChanged, AreChanges, HasPassed, OneEnds, 
 use Rattle.world_trace.specs.Texts.{opening_text, world_line}
 use Rattle.world_trace.specs.declared.line.Passed.{Passed}
 use Rattle.world_trace.specs.declared.texts.Changes.{Changes}
-use Rattle.trace.specs.Changes.{changed, changed_parts}
-use Rattle.trace.specs.declared.all_parts.AllParts.{AllParts}
+use Rattle.trace.specs.Changes.{changed}
 use Rattle.world_trace.proofs.Stays.{IsQuiet}
 use Rattle.world_trace.specs.Traces.{AfterOpening, IsUnchanged, TellsOne, change_of, state_of}
 

@@ -1,6 +1,5 @@
 -- Tests of each and of some element of a list, and two of its elements.
-use Rattle.net_sim.proofs.Common.{◌≡◌, ℕ, zero, suc, ◌<◌, ◌≤◌, Bool, true, false, ◌||◌, not, List, [], ◌∷◌, ◌++◌, length, take, refl, ap, sym, subst, arith, inl, inr, ◌⊎◌, Some, list_all, list_any, Contains, and_true}
-use Rattle.std.proofs.lemmas.Bool.{and_from, or_cases, or_left}
+use Rattle.net_sim.proofs.Common.{◌≡◌, ℕ, zero, suc, ◌<◌, ◌≤◌, Bool, true, false, ◌||◌, not, List, [], ◌∷◌, ◌++◌, length, take, refl, ap, sym, subst, arith, inl, inr, ◌⊎◌, Some, list_all, list_any, Contains, and_true, and_from, or_cases, or_left}
 use Rattle.std.specs.List.{slice_get, slice_index_or}
 
 -- ---- chains of tests

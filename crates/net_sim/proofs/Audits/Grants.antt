@@ -1,9 +1,8 @@
 -- The test of grants is true exactly where they are safe.
-use Rattle.net_sim.proofs.Common.{◌≡◌, ℕ, ◌+◌, true, ◌&&◌, List, length, list_all, Contains, Crossing, and_true, Life, is_match, has_granted, grants_hold, HaveGranted, SafeGrants, IsGranted, receives}
+use Rattle.net_sim.proofs.Common.{◌≡◌, ℕ, ◌+◌, true, ◌&&◌, List, length, list_all, Contains, Crossing, and_true, Life, is_match, has_granted, grants_hold, HaveGranted, SafeGrants, IsGranted, receives, and_from}
 use Rattle.std.specs.Prelude.{nat_le}
 use Rattle.std.proofs.lemmas.Bool.{leb-true, le-leb}
 use Rattle.net_sim.specs.Inside.Audit.{asked_at, is_granted, may_send}
-use Rattle.std.proofs.lemmas.Bool.{and_from}
 use Rattle.net_sim.proofs.Audits.Elements.{when_true, when_is, all_at, all_from}
 use Rattle.net_sim.proofs.Audits.Streams.{match_true, match_is}
 

@@ -1,9 +1,8 @@
 -- The answer that the tests give is the one that says what is so.
-use Rattle.net_sim.proofs.Common.{◌≡◌, Bool, true, false, List, refl, subst, ◌↔◌, Crossing, Says, Life, messages_hold, partners_hold, streams_hold, grants_hold, is_well_formed, Audit}
+use Rattle.net_sim.proofs.Common.{◌≡◌, Bool, true, false, List, refl, subst, ◌↔◌, Crossing, Says, Life, messages_hold, partners_hold, streams_hold, grants_hold, is_well_formed, Audit, false_from_ne_true}
 use Rattle.net_sim.specs.Inside.Audit.{answered_by, judged}
 use Rattle.net_sim.specs.declared.auditing.said.Audit.TheVariants as audit
 use Rattle.net_sim.specs.declared.auditing.said.Part.TheVariants as part
-use Rattle.std.proofs.lemmas.Bool.{false_from_ne_true}
 use Rattle.net_sim.proofs.Audits.Elements.{false_not}
 use Rattle.net_sim.proofs.Audits.Grants.{grants_decide}
 use Rattle.net_sim.proofs.Audits.Messages.{messages_decide}

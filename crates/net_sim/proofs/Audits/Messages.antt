@@ -1,12 +1,11 @@
 -- The test of messages is true exactly where they are safe.
-use Rattle.net_sim.proofs.Common.{◌≡◌, ℕ, ◌+◌, ◌<◌, Bool, true, false, List, ◌∷◌, ◌++◌, length, take, drop, get_or, refl, ap, sym, subst, ◌∙◌, if◌then◌else◌, inl, inr, ◌⊎◌, ◌-◌, Option, Some, arith, same_flow, SafeMessages, Flow, Answer, Crossing, HostMessage, and_true, or_false, same_flow-true, messages_hold, before, is_none, cases_lt, take-append-drop, take_all, reverse-append, length-reverse}
+use Rattle.net_sim.proofs.Common.{◌≡◌, ℕ, ◌+◌, ◌<◌, Bool, true, false, List, ◌∷◌, ◌++◌, length, take, drop, get_or, refl, ap, sym, subst, ◌∙◌, if◌then◌else◌, inl, inr, ◌⊎◌, ◌-◌, Option, Some, arith, same_flow, SafeMessages, Flow, Answer, Crossing, HostMessage, and_true, or_false, same_flow-true, messages_hold, before, is_none, cases_lt, take-append-drop, take_all, reverse-append, length-reverse, and_from, false_from_ne_true}
 use Rattle.std.proofs.Common.{[], reverse}
 use Rattle.interface.specs.Messages.{SinceLastOut, TakenOnce, taken_in, went_out}
 use Rattle.interface.specs.declared.crossing.Answer.TheVariants as answer
 use Rattle.interface.specs.declared.crossing.Crossing.TheVariants as crossing
 use Rattle.interface.proofs.lemmas.{same_flow-refl}
 use Rattle.net_sim.specs.Inside.Audit.{is_fresh, was_taken, answer_holds, crossing_holds, Found}
-use Rattle.std.proofs.lemmas.Bool.{and_from, false_from_ne_true}
 use Rattle.net_sim.proofs.Audits.Elements.{false_not}
 use Rattle.net_sim.proofs.Audits.Requests.{before_inside}
 use Rattle.net_sim.proofs.Audits.Searches.{none_found}

@@ -1,5 +1,5 @@
 -- The test of partners is true exactly where they are safe, in a book whose stamps name messages.
-use Rattle.net_sim.proofs.Common.{◌≡◌, ℕ, ◌+◌, ◌<◌, ◌==◌, Bool, ◌&&◌, ◌||◌, List, [], ◌∷◌, ◌++◌, length, take, drop, get_or, refl, ap, sym, subst, ◌∙◌, inl, inr, ◌⊎◌, Option, Some, None, arith, eq-eqb, is_none, list_all, Contains, eqb-true, take-append-drop, take_more, same_host, Flow, Crossing, HostMessage, and_true, IsStamped, Life, AreAtPeace, AreStamped, is_place, same_own, same_asked, may_both, partners_hold, FoundTwo, AreTwo, SafePartners, control_flow, own_request, partner_request}
+use Rattle.net_sim.proofs.Common.{◌≡◌, ℕ, ◌+◌, ◌<◌, ◌==◌, Bool, ◌&&◌, ◌||◌, List, [], ◌∷◌, ◌++◌, length, take, drop, get_or, refl, ap, sym, subst, ◌∙◌, inl, inr, ◌⊎◌, Option, Some, None, arith, eq-eqb, is_none, list_all, Contains, eqb-true, take-append-drop, take_more, same_host, Flow, Crossing, HostMessage, and_true, IsStamped, Life, AreAtPeace, AreStamped, is_place, same_own, same_asked, may_both, partners_hold, FoundTwo, AreTwo, SafePartners, control_flow, own_request, partner_request, and_from, false_from_ne_true, or_cases}
 use Rattle.std.proofs.Common.{true, false}
 use Rattle.std.proofs.lemmas.Option.{slice_get_read}
 use Rattle.std.proofs.lemmas.List.{append_assoc}
@@ -7,7 +7,6 @@ use Rattle.std.proofs.lemmas.List.Elements.{Contains-append_left, Contains-appen
 use Rattle.std.proofs.lemmas.List.Folds.{list_all-append}
 use Rattle.interface.specs.declared.crossing.Crossing.TheVariants as crossing
 use Rattle.net_sim.specs.Inside.Audit.{asked_at, are_mates, differ, is_one_way, are_at_odds, Found}
-use Rattle.std.proofs.lemmas.Bool.{and_from, false_from_ne_true, or_cases}
 use Rattle.net_sim.proofs.Audits.Elements.{all_at, all_fewer, all_from, false_not, contains_cases, contains_head, contains_none, contains_split, contains_take, none_of, not_is}
 use Rattle.net_sim.proofs.Audits.Requests.{WentAt, asked_is, asked_true, asked_went, crossed_one, named_is, named_some, own_is, own_true, place_is, place_true, same_host-is, some_named}
 

@@ -1,5 +1,5 @@
 -- The requests of lives: where one went out, and which two are alike.
-use Rattle.net_sim.proofs.Common.{◌≡◌, ℕ, zero, suc, ◌-◌, ◌<◌, ◌≤◌, Bool, true, false, ◌&&◌, ◌==◌, List, [], ◌∷◌, ◌++◌, length, take, drop, refl, ap, sym, subst, ◌∙◌, if◌then◌else◌, arith, inl, inr, Option, Some, None, eq-eqb, eqb-true, take-append-drop, reverse-append, length-reverse, Host, same_host, same_flow, Flow, Crossing, HostMessage, and_true, same_flow-true, same_host-refl, Life, CrossedAt, is_place, is_asked, same_own, same_asked, is_partner, Name, before, control_flow, last_out, own_request, partner_request}
+use Rattle.net_sim.proofs.Common.{◌≡◌, ℕ, zero, suc, ◌-◌, ◌<◌, ◌≤◌, Bool, true, false, ◌&&◌, ◌==◌, List, [], ◌∷◌, ◌++◌, length, take, drop, refl, ap, sym, subst, ◌∙◌, if◌then◌else◌, arith, inl, inr, Option, Some, None, eq-eqb, eqb-true, take-append-drop, reverse-append, length-reverse, Host, same_host, same_flow, Flow, Crossing, HostMessage, and_true, same_flow-true, same_host-refl, Life, CrossedAt, is_place, is_asked, same_own, same_asked, is_partner, Name, before, control_flow, last_out, own_request, partner_request, and_from}
 use Rattle.std.proofs.Common.{reverse}
 use Rattle.std.specs.Prelude.{IsSome}
 use Rattle.std.proofs.lemmas.List.{length-drop, drop_at}
@@ -7,7 +7,6 @@ use Rattle.interface.specs.declared.crossing.Crossing.TheVariants as crossing
 use Rattle.interface.proofs.lemmas.{same_host-true}
 use Rattle.net_sim.specs.Inside.Audit.{asked_at, same_place, same_ends}
 use Rattle.promise.specs.Safe.{named}
-use Rattle.std.proofs.lemmas.Bool.{and_from}
 
 -- ---- the log before a place, read from its end
 

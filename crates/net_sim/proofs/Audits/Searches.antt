@@ -1,9 +1,8 @@
 -- What searches find: how many of the first entries are well.
-use Rattle.net_sim.proofs.Common.{◌≡◌, ℕ, ◌+◌, Bool, true, false, not, List, length, take, refl, sym, subst, ◌∙◌, arith, Option, Some, None, is_none, list_all, take_all}
+use Rattle.net_sim.proofs.Common.{◌≡◌, ℕ, ◌+◌, Bool, true, false, not, List, length, take, refl, sym, subst, ◌∙◌, arith, Option, Some, None, is_none, list_all, take_all, false_from_ne_true}
 use Rattle.std.specs.Prelude.{is_some}
 use Rattle.net_sim.specs.Findings.{EndsAt}
 use Rattle.net_sim.specs.Inside.Audit.{Found}
-use Rattle.std.proofs.lemmas.Bool.{false_from_ne_true}
 use Rattle.net_sim.proofs.Audits.Elements.{all_take, false_not}
 
 -- ---- whether there is nothing to find

@@ -1,5 +1,5 @@
 -- The test of stamps is true exactly where they name messages.
-use Rattle.net_sim.proofs.Common.{◌≡◌, ℕ, ◌+◌, ◌<◌, ◌≤◌, Bool, true, false, ◌&&◌, ◌==◌, List, [], ◌∷◌, ◌++◌, length, take, drop, get_or, refl, ap, sym, subst, ◌∙◌, if◌then◌else◌, arith, inl, inr, Option, Some, None, eq-eqb, list_all, eqb-true, length-reverse, reverse-append, take-append-drop, drop_more, Flow, Crossing, and_true, same_flow-true, IsStamped, IsWellFormed, Life, AreStamped, CrossedAt, is_stamped, is_well_formed, control_flow}
+use Rattle.net_sim.proofs.Common.{◌≡◌, ℕ, ◌+◌, ◌<◌, ◌≤◌, Bool, true, false, ◌&&◌, ◌==◌, List, [], ◌∷◌, ◌++◌, length, take, drop, get_or, refl, ap, sym, subst, ◌∙◌, if◌then◌else◌, arith, inl, inr, Option, Some, None, eq-eqb, list_all, eqb-true, length-reverse, reverse-append, take-append-drop, drop_more, Flow, Crossing, and_true, same_flow-true, IsStamped, IsWellFormed, Life, AreStamped, CrossedAt, is_stamped, is_well_formed, control_flow, and_from, false_from_ne_true}
 use Rattle.std.proofs.Common.{reverse}
 use Rattle.std.specs.Prelude.{IsSome}
 use Rattle.std.proofs.lemmas.List.{length-take, length-append, append_assoc}
@@ -7,7 +7,6 @@ use Rattle.interface.specs.declared.crossing.Crossing.TheVariants as crossing
 use Rattle.net_sim.specs.Audit.{Passes}
 use Rattle.promise.specs.Formed.{going, coming}
 use Rattle.net_sim.specs.Inside.Audit.{asked_at, is_there, crossed_at, is_out, is_in}
-use Rattle.std.proofs.lemmas.Bool.{and_from, false_from_ne_true}
 use Rattle.net_sim.proofs.Audits.Elements.{all_at, all_from}
 use Rattle.net_sim.proofs.Audits.Messages.{same_yes}
 use Rattle.net_sim.proofs.Audits.Requests.{crossed_below}

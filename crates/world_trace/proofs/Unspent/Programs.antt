@@ -1,5 +1,5 @@
 -- Calls of a program leave it its host's, and memory lasts in it; so do its services.
-use Rattle.world_trace.proofs.Common.{◌≡◌, ℕ, Bool, true, false, if◌then◌else◌, List, [], ◌∷◌, ◌++◌, length, nat_lt, take, Option, Some, None, refl, ◌∙◌, All-append, All-cons, All-head, All-nil, All-tail, All, Notice, ServiceDeskState, ServicesState, Service, ServerState, UserState, Host, NcpState, refusal, NcpFault, Request, EchoState, TerminalState, ProgramLasts, ServiceLasts}
+use Rattle.world_trace.proofs.Common.{◌≡◌, ℕ, Bool, true, false, if◌then◌else◌, List, [], ◌∷◌, ◌++◌, length, nat_lt, take, Option, Some, None, refl, ◌∙◌, All-append, All-cons, All-head, All-nil, All-tail, All, Notice, ServiceDeskState, ServicesState, Service, ServerState, UserState, Host, NcpState, refusal, NcpFault, Request, EchoState, TerminalState, ProgramLasts, ServiceLasts, accepted, served, offered}
 use Rattle.std.proofs.Common.{◌&&◌}
 use Rattle.host_services.specs.Services.{noticing, reporting, serving, typing_on}
 use Rattle.host_services.specs.Turns as turns
@@ -18,9 +18,6 @@ use Rattle.icp.specs.declared.outcome.Outcome.TheVariants as outcome
 use Rattle.interface.specs.declared.Inbound.{Inbound}
 use Rattle.ncp_control.specs.Numbers.{is_receive_socket}
 use Rattle.net_sim.proofs.lemmas.{Stays, accepted_stays, offered_stays, served_stays}
-use Rattle.sockets.specs.Accepting.{accepted}
-use Rattle.sockets.specs.Requests.{served}
-use Rattle.sockets.specs.Sending.{offered}
 use Rattle.terminal.specs.Ends as ends
 use Rattle.terminal.specs.Machines.{echo_by, echo_turn, terminal_by, terminal_heard, terminal_turn}
 

@@ -1,4 +1,5 @@
-use Rattle.world_trace.proofs.Common.{List, subst, All, PairState, Command, IsCommandTold}
+use Rattle.world_trace.proofs.Common.{List, subst, All, Command, IsCommandTold}
+use Rattle.host_pairs.specs.Pair.{PairState}
 use Rattle.world_trace.proofs.lasting.pair_numbers.Goals as goal
 
 pub returns-clause-commands : goal.returns-clause-commands

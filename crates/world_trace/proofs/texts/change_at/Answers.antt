@@ -1,8 +1,5 @@
-use Rattle.world_trace.proofs.Common.{◌≡◌, ◌++◌, ◌≤◌, ◌∙◌, Bool, ap, arith, codes, length, map, rules, put_at, put_text, object, AllPut, at_host}
-use Rattle.std.proofs.lemmas.Result.{IfOk-weaker}
+use Rattle.world_trace.proofs.Common.{◌≡◌, ◌++◌, ◌≤◌, ◌∙◌, Bool, ap, arith, codes, length, map, rules, put_at, put_text, object, AllPut, at_host, IfOk-weaker, mark, ended_object}
 use Rattle.trace.specs.Changes.{changed}
-use Rattle.trace.specs.Joined.{mark}
-use Rattle.trace.proofs.lemmas.{ended_object}
 use Rattle.world_trace.proofs.Changing.{all_changed, next_changed, none_changed_yet, within}
 use Rattle.world_trace.proofs.texts.change_at.Goals as goal
 

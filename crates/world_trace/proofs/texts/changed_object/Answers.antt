@@ -1,8 +1,6 @@
-use Rattle.world_trace.proofs.Common.{◌≡◌, ◌++◌, ◌∙◌, [], List, ap, codes, length, object, ℕ}
-use Rattle.std.proofs.lemmas.Result.{IfOk-weaker}
+use Rattle.world_trace.proofs.Common.{◌≡◌, ◌++◌, ◌∙◌, [], List, ap, codes, length, ℕ, object, IfOk-weaker, mark, ended_object}
 use Rattle.trace.specs.Changes.{changed}
-use Rattle.trace.specs.Joined.{extended, mark}
-use Rattle.trace.proofs.lemmas.{ended_object}
+use Rattle.trace.specs.Joined.{extended}
 use Rattle.world_trace.proofs.texts.changed_object.Goals as goal
 
 pub returns : goal.returns

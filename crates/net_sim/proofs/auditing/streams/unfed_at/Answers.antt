@@ -1,7 +1,6 @@
-use Rattle.std.proofs.Common.{reverse, sym, ◌∙◌}
+use Rattle.net_sim.proofs.Common.{sym, ◌∙◌, handed_at, is_fed, and_left, and_right}
+use Rattle.std.proofs.Common.{reverse}
 use Rattle.std.specs.List.{slice_get}
-use Rattle.net_sim.specs.Inside.Audit.{handed_at, is_fed}
-use Rattle.std.proofs.lemmas.Bool.{and_left, and_right}
 use Rattle.net_sim.proofs.Audits.Streams.{fed_more, fed_stops}
 use Rattle.net_sim.proofs.auditing.streams.unfed_at.Goals.{then-not-is_fed-via-then-not-is_fed, then-not-is_fed-via-else-not-is_fed+then-not-is_handed_at}
 use Rattle.net_sim.proofs.auditing.streams.unfed_at.Goals as goal
