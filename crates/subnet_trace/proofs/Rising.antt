@@ -1,5 +1,8 @@
 -- In the lists of a subnet flows rise, and two subnets over one network have the same lists and parts.
-use Rattle.subnet_trace.proofs.Common.{◌≡◌, ℕ, suc, true, List, [], ◌∷◌, ◌++◌, filter, length, map, None, Option, Some, refl, sym, ap, ap₂, ◌∙◌, range_with_len, flat_map, All, All-cons, All-nil, Flow, flow_cmp, State, named, is_imp, Net, Imp, Line, all_parts, flows_at, FlowPart, IsOneNetwork, IsTold, kept_of, sources_of}
+use Rattle.subnet_trace.proofs.Common.{◌≡◌, ℕ, suc, true, List, [], ◌∷◌, ◌++◌, filter, length, map, None, Option, Some}
+use Rattle.subnet_trace.proofs.Common.{refl, sym, ap, ap₂, ◌∙◌, range_with_len, flat_map, All, All-cons, All-nil, Flow}
+use Rattle.subnet_trace.proofs.Common.{flow_cmp, State, named, is_imp, Net, Imp, Line, all_parts, flows_at, FlowPart}
+use Rattle.subnet_trace.proofs.Common.{IsOneNetwork, IsTold, kept_of, sources_of}
 use Rattle.std.proofs.lemmas.List.{length-map}
 use Rattle.std.proofs.lemmas.List.Elements.{All-append}
 use Rattle.std.specs.FinMap as fin

@@ -1,5 +1,8 @@
 -- What holds of each flow in a table, after each change of the table.
-use Rattle.subnet_trace.proofs.Common.{◌≡◌, ℕ, ◌<◌, ◌==◌, ◌&&◌, Bool, true, false, List, [], ◌∷◌, if◌then◌else◌, Option, Some, None, IfSome, refl, sym, ap, ◌∙◌, subst, arith, All-cons, All-nil, empty, get, get-empty, All, Flow, Sources, handed, last_of, number_in, flow_cmp, Fate, Noted, Standing, get_begun, get_put, IsFlowNamed, IsKeptTold, IsSourceTold}
+use Rattle.subnet_trace.proofs.Common.{◌≡◌, ℕ, ◌<◌, ◌==◌, ◌&&◌, Bool, true, false, List, [], ◌∷◌, if◌then◌else◌, Option}
+use Rattle.subnet_trace.proofs.Common.{Some, None, IfSome, refl, sym, ap, ◌∙◌, subst, arith, All-cons, All-nil, empty}
+use Rattle.subnet_trace.proofs.Common.{get, get-empty, All, Flow, Sources, handed, last_of, number_in, flow_cmp, Fate}
+use Rattle.subnet_trace.proofs.Common.{Noted, Standing, get_begun, get_put, IsFlowNamed, IsKeptTold, IsSourceTold}
 use Rattle.link_table.specs.Flows.{begun}
 use Rattle.std.proofs.Common.{cond, T}
 use Rattle.std.specs.Cmp.{eq_by_cmp_equiv}
@@ -11,7 +14,8 @@ use Rattle.std.specs.declared.cmp.Ordering.{Ordering}
 use Rattle.std.specs.declared.cmp.Ordering.TheVariants.{Less, Equal, Greater}
 use Rattle.interface.specs.Flow.{same_flow}
 use Rattle.interface.proofs.lemmas.{flows_total, same_flow-true}
-use Rattle.link_table.specs.Flows.{Destinations, answered_in, ended, ended_in, flow_answered, given_up, given_up_in, handed_in, noted}
+use Rattle.link_table.specs.Flows.{Destinations, answered_in, ended, ended_in, flow_answered, given_up, given_up_in}
+use Rattle.link_table.specs.Flows.{handed_in, noted}
 use Rattle.link_table.specs.Keys.{drop_from, is_from}
 use Rattle.link_table.specs.Numbers.{modulus}
 use Rattle.link_table.specs.declared.source.Standing.TheVariants as standing

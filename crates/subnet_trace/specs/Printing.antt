@@ -1,5 +1,6 @@
 -- What the contracts of private functions say. No public clause cites this file.
-use Rattle.std.specs.Prelude.{◌≡◌, ℕ, Bool, List, [], ◌∷◌, ◌++◌, Option, Some, None, codes, if◌then◌else◌, map, nat_lt, slice_index_or, slice_set, ◌+◌}
+use Rattle.std.specs.Prelude.{◌≡◌, ℕ, Bool, List, [], ◌∷◌, ◌++◌, Option, Some, None, codes, if◌then◌else◌, map, nat_lt}
+use Rattle.std.specs.Prelude.{slice_index_or, slice_set, ◌+◌}
 use Rattle.std.specs.Fmt.{decimal}
 use Rattle.std.specs.List.{flat_map}
 use Rattle.imp_node.specs.Arrival.{Arrival, arrival_has_room}
@@ -12,7 +13,8 @@ use Rattle.subnet.specs.Events.{is_imp}
 use Rattle.subnet.specs.Net.{Net}
 use Rattle.subnet_trace.specs.Fates.{arrival_fate}
 use Rattle.subnet_trace.specs.Parts.{Part, Imp, flows_at, part_name, part_text}
-use Rattle.subnet_trace.specs.Texts.{distances_text, heard_text, host_object, kept_of, next_text, packet_text, port_object, slot_text, sources_of}
+use Rattle.subnet_trace.specs.Texts.{distances_text, heard_text, host_object, kept_of, next_text, packet_text}
+use Rattle.subnet_trace.specs.Texts.{port_object, slot_text, sources_of}
 use Rattle.trace.specs.Changes.{changed_flows}
 use Rattle.trace.specs.Flows.{told}
 use Rattle.trace.specs.Joined.{mark}

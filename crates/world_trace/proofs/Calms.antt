@@ -1,5 +1,11 @@
 -- A calm is traced round by round, a round event by event.
-use Rattle.world_trace.proofs.Common.{◌≡◌, inl, inr, ℕ, zero, suc, ◌<◌, ◌≤◌, ◌+◌, true, false, List, [], ◌∷◌, ◌++◌, Option, Ok, Err, arith, refl, sym, ap, subst, ◌∙◌, append_assoc, append-nil, Appends, Calls, IsAtRest, WorldState, Event, Quiet, appends_more, appends_none, last_shown, last_written, one_written, Happening, InTurn, text_of, ReplayFault, WritesTrace, Spot, when_false, Again, Repeated, crosses, turns_in, AgainEnds, EventEnds, RoundEnds, StepEnds, MayTell, StopsOne, TellsInCalm, TellsRound, first_rounds, AllParts}
+use Rattle.world_trace.proofs.Common.{◌≡◌, inl, inr, ℕ, zero, suc, ◌<◌, ◌≤◌, ◌+◌, true, false, List, [], ◌∷◌, ◌++◌}
+use Rattle.world_trace.proofs.Common.{Option, Ok, Err, arith, refl, sym, ap, subst, ◌∙◌, append_assoc, append-nil}
+use Rattle.world_trace.proofs.Common.{Appends, Calls, IsAtRest, WorldState, Event, Quiet, appends_more, appends_none}
+use Rattle.world_trace.proofs.Common.{last_shown, last_written, one_written, Happening, InTurn, text_of, ReplayFault}
+use Rattle.world_trace.proofs.Common.{WritesTrace, Spot, when_false, Again, Repeated, crosses, turns_in, AgainEnds}
+use Rattle.world_trace.proofs.Common.{EventEnds, RoundEnds, StepEnds, MayTell, StopsOne, TellsInCalm, TellsRound}
+use Rattle.world_trace.proofs.Common.{first_rounds, AllParts}
 use Rattle.std.proofs.Common.{◌-◌}
 use Rattle.std.proofs.lemmas.Bool.{cases_lt}
 use Rattle.replay.proofs.lemmas.{text_of-append}

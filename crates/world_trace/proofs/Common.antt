@@ -17,14 +17,19 @@ pub use Rattle.ncp_control.specs.declared.command.Command.{Command}
 pub use Rattle.net_sim.specs.Book.{all_told, asked, crossed}
 pub use Rattle.net_sim.specs.Carriers.{shown}
 pub use Rattle.net_sim.specs.Rest.{IsAtRest}
-pub use Rattle.net_sim.specs.World.{AskGives, AtSeat, DoesOrHalts, Halts, OfferEnds, OfferGives, QuietEnds, StepGives, TakeEnds, TakeGives, TypeGives, WorldState, noticed, opening_seats, opening_services, opening_world, seat_of, seated, serviced, services_of, stops, tended, up_in, wants_memory, with_program, with_server, with_services, with_user, world_heard, world_moved}
+pub use Rattle.net_sim.specs.World.{AskGives, AtSeat, DoesOrHalts, Halts, OfferEnds, OfferGives, QuietEnds, StepGives}
+pub use Rattle.net_sim.specs.World.{TakeEnds, TakeGives, TypeGives, WorldState, noticed, opening_seats}
+pub use Rattle.net_sim.specs.World.{opening_services, opening_world, seat_of, seated, serviced, services_of, stops}
+pub use Rattle.net_sim.specs.World.{tended, up_in, wants_memory, with_program, with_server, with_services, with_user}
+pub use Rattle.net_sim.specs.World.{world_heard, world_moved}
 pub use Rattle.net_sim.specs.declared.event.Event.{Event}
 pub use Rattle.net_sim.specs.declared.event.Event.TheVariants.{Ask, Offer, Quiet, Server, Take, Typed, User}
 pub use Rattle.net_sim.specs.declared.event.WorldFault.{WorldFault}
 pub use Rattle.net_sim.specs.declared.event.WorldFault.TheVariants.{Carrier, Program}
 pub use Rattle.net_sim.specs.declared.seat.Seat.{Seat}
 pub use Rattle.net_sim.specs.declared.seat.ServiceSeat.{ServiceSeat}
-pub use Rattle.replay.proofs.lemmas.{appends_more, appends_none, crossings_shown, last_shown, last_written, on_ok, one_written}
+pub use Rattle.replay.proofs.lemmas.{appends_more, appends_none, crossings_shown, last_shown, last_written, on_ok}
+pub use Rattle.replay.proofs.lemmas.{one_written}
 pub use Rattle.replay.specs.InTurn.{Happening, InTurn, text_of}
 pub use Rattle.replay.specs.Output.{Refused, shown_crossings}
 pub use Rattle.replay.specs.Replay.{GoesOn, IsOneCall}
@@ -42,10 +47,14 @@ pub use Rattle.sockets.specs.Worked.{first, second}
 pub use Rattle.sockets.specs.declared.fault.NcpFault.{NcpFault}
 pub use Rattle.sockets.specs.declared.peer.Peer.{Peer}
 pub use Rattle.sockets.specs.declared.request.Request.{Request}
-pub use Rattle.std.proofs.Common.{Bool, Err, IfSome, List, None, Ok, Option, Result, Some, [], ap, ap₂, arith, codes, drop, false, get_or, if◌then◌else◌, inl, inr, le-ltb, length, lt-ltb, map, nat_lt, refl, reverse, rules, subst, suc, sym, take, true, zero, ℕ, ◌%◌, ◌++◌, ◌+◌, ◌<◌, ◌==◌, ◌||◌, ◌∙◌, ◌∷◌, ◌≡◌, ◌≤◌, ◌⊎◌}
+pub use Rattle.std.proofs.Common.{Bool, Err, IfSome, List, None, Ok, Option, Result, Some, [], ap, ap₂, arith, codes}
+pub use Rattle.std.proofs.Common.{drop, false, get_or, if◌then◌else◌, inl, inr, le-ltb, length, lt-ltb, map, nat_lt}
+pub use Rattle.std.proofs.Common.{refl, reverse, rules, subst, suc, sym, take, true, zero, ℕ, ◌%◌, ◌++◌, ◌+◌, ◌<◌, ◌==◌}
+pub use Rattle.std.proofs.Common.{◌||◌, ◌∙◌, ◌∷◌, ◌≡◌, ◌≤◌, ◌⊎◌}
 pub use Rattle.std.proofs.Output.{has_written_append, has_written_of_eq}
 pub use Rattle.std.proofs.lemmas.Bool.{false≢true}
-pub use Rattle.std.proofs.lemmas.List.{append-nil, append_assoc, drop_all, drop_more, length-append, map-append, reverse-append, reverse-reverse}
+pub use Rattle.std.proofs.lemmas.List.{append-nil, append_assoc, drop_all, drop_more, length-append, map-append}
+pub use Rattle.std.proofs.lemmas.List.{reverse-append, reverse-reverse}
 pub use Rattle.std.proofs.lemmas.List.Elements.{All-append, All-cons, All-head, All-nil, All-same, All-tail}
 pub use Rattle.std.proofs.lemmas.Result.{IfOk-weaker}
 pub use Rattle.std.specs.Fmt.{HasWritten, IsPlainFormatter, decimal}
@@ -58,7 +67,10 @@ pub use Rattle.subnet.specs.Working.{subnet_calls}
 pub use Rattle.subnet_trace.proofs.lemmas.{refused}
 pub use Rattle.subnet_trace.specs.Elements.{IsOfRound}
 pub use Rattle.terminal.specs.Machines.{EchoState, TerminalState}
-pub use Rattle.trace.proofs.lemmas.{AllPut, Any, AreClosed, IsClosed, Spelled, also_closed, bool_spelled, decimal_closed, ended_object, first_same, host_spelled, host_words, lists_spelled, member_closed, member_once, no_part_changed, none_changed, none_closed, object_closed, object_once, quoted_once, rest_same, short_once, string_closed}
+pub use Rattle.trace.proofs.lemmas.{AllPut, Any, AreClosed, IsClosed, Spelled, also_closed, bool_spelled}
+pub use Rattle.trace.proofs.lemmas.{decimal_closed, ended_object, first_same, host_spelled, host_words, lists_spelled}
+pub use Rattle.trace.proofs.lemmas.{member_closed, member_once, no_part_changed, none_changed, none_closed}
+pub use Rattle.trace.proofs.lemmas.{object_closed, object_once, quoted_once, rest_same, short_once, string_closed}
 pub use Rattle.trace.specs.Changes.{changed_parts, put_at, put_text}
 pub use Rattle.trace.specs.Joined.{mark}
 pub use Rattle.trace.specs.Named.{IsHostNamed, IsShort}
@@ -76,9 +88,14 @@ pub use Rattle.world_script.specs.declared.event.WorldEvent.{WorldEvent}
 pub use Rattle.world_trace.specs.Carriers.{AreMade, IsRawNetwork}
 pub use Rattle.world_trace.specs.Lasting.{Lasts, ProgramLasts, SeatLasts, ServiceLasts, ServicesLast}
 pub use Rattle.world_trace.specs.Reached.{IsReached, IsSaid}
-pub use Rattle.world_trace.specs.Steps.{AgainEnds, AreOthers, AreTextsOf, EventEnds, IsAsBefore, IsStill, RoundEnds, StepEnds, at_host, event_of, is_of_network, mark_after, marked, seat_place, service_place, state_objects, turn}
-pub use Rattle.world_trace.specs.Texts.{allocation_object, asked_object, closings_object, command_object, ends_object, event_text, line_of, number_text, requests_object, seat_member, service_object, services_member, sockets_object}
-pub use Rattle.world_trace.specs.Told.{AreNumbersTold, IsCommandTold, IsListenerTold, IsPairTold, IsSeatTold, IsServed, IsServiceTold, IsWorldTold}
+pub use Rattle.world_trace.specs.Steps.{AgainEnds, AreOthers, AreTextsOf, EventEnds, IsAsBefore, IsStill, RoundEnds}
+pub use Rattle.world_trace.specs.Steps.{StepEnds, at_host, event_of, is_of_network, mark_after, marked, seat_place}
+pub use Rattle.world_trace.specs.Steps.{service_place, state_objects, turn}
+pub use Rattle.world_trace.specs.Texts.{allocation_object, asked_object, closings_object, command_object, ends_object}
+pub use Rattle.world_trace.specs.Texts.{event_text, line_of, number_text, requests_object, seat_member, service_object}
+pub use Rattle.world_trace.specs.Texts.{services_member, sockets_object}
+pub use Rattle.world_trace.specs.Told.{AreNumbersTold, IsCommandTold, IsListenerTold, IsPairTold, IsSeatTold, IsServed}
+pub use Rattle.world_trace.specs.Told.{IsServiceTold, IsWorldTold}
 pub use Rattle.world_trace.specs.Traces.{MayTell, StopsOne, TellsIn, TellsInCalm, TellsRound, TracesWorld, first_rounds}
 pub use Rattle.world_trace.specs.declared.calm.CalmEvent.{CalmEvent}
 pub use Rattle.world_trace.specs.declared.texts.Texts.{Texts}

@@ -1,5 +1,6 @@
 -- What happened where a write failed.
-use Rattle.world_trace.proofs.Common.{◌≡◌, ℕ, List, [], ◌∷◌, ◌++◌, ap, arith, length, length-append, Calls, WorldState, Event, Spot, MayTell, AllParts}
+use Rattle.world_trace.proofs.Common.{◌≡◌, ℕ, List, [], ◌∷◌, ◌++◌, ap, arith, length, length-append, Calls, WorldState}
+use Rattle.world_trace.proofs.Common.{Event, Spot, MayTell, AllParts}
 use Rattle.world_script.specs.declared.event.WorldEvent.TheVariants as world
 use Rattle.world_trace.specs.Traces.{EndsAt}
 

@@ -1,5 +1,9 @@
 -- Texts say all of a world over plain mailboxes to which a replay comes.
-use Rattle.world_trace.proofs.Common.{◌≡◌, ◌||◌, inl, suc, Bool, true, false, if◌then◌else◌, List, [], ◌∷◌, ◌++◌, length, Option, Some, None, reverse, refl, ap, sym, subst, ◌∙◌, arith, false≢true, All-append, All-cons, All-head, All-nil, All-tail, All, Host, same_host, Crossing, same_host-true, Boxes, plain_calls, shown, Refused, IsOneCall, crossings_shown, IsHost, RawEvent, in_turn_then, IsWorldTold}
+use Rattle.world_trace.proofs.Common.{◌≡◌, ◌||◌, inl, suc, Bool, true, false, if◌then◌else◌, List, [], ◌∷◌, ◌++◌}
+use Rattle.world_trace.proofs.Common.{length, Option, Some, None, reverse, refl, ap, sym, subst, ◌∙◌, arith, false≢true}
+use Rattle.world_trace.proofs.Common.{All-append, All-cons, All-head, All-nil, All-tail, All, Host, same_host, Crossing}
+use Rattle.world_trace.proofs.Common.{same_host-true, Boxes, plain_calls, shown, Refused, IsOneCall, crossings_shown}
+use Rattle.world_trace.proofs.Common.{IsHost, RawEvent, in_turn_then, IsWorldTold}
 use Rattle.std.proofs.Common.{inr, not}
 use Rattle.interface.specs.Host.{is_host}
 use Rattle.interface.specs.declared.CarrierFault.{CarrierFault}

@@ -1,5 +1,7 @@
 -- The world after a trace is one that the replay of its script comes to.
-use Rattle.world_trace.proofs.Common.{◌≡◌, ℕ, zero, suc, ◌+◌, List, [], ◌∷◌, ◌++◌, length, map, refl, subst, arith, length-append, Calls, WorldState, opening_world, InTurn, numbered_from, Spot, WorldEvent, TellsIn, TellsRound, TracesWorld, first_rounds, AllParts}
+use Rattle.world_trace.proofs.Common.{◌≡◌, ℕ, zero, suc, ◌+◌, List, [], ◌∷◌, ◌++◌, length, map, refl, subst, arith}
+use Rattle.world_trace.proofs.Common.{length-append, Calls, WorldState, opening_world, InTurn, numbered_from, Spot}
+use Rattle.world_trace.proofs.Common.{WorldEvent, TellsIn, TellsRound, TracesWorld, first_rounds, AllParts}
 use Rattle.world_replay.specs.Output.{Shown}
 use Rattle.world_replay.specs.Replay.{Happens, Replays, rounds_of}
 use Rattle.world_replay.proofs.lemmas.CalmRounds.{rounds_calm}

@@ -1,5 +1,17 @@
 -- What an event leaves as it was.
-use Rattle.world_trace.proofs.Common.{◌≡◌, inl, inr, ℕ, suc, ◌≤◌, Bool, true, false, ◌||◌, List, [], ◌∷◌, length, map, Option, Some, None, Result, Ok, Err, arith, ap, refl, sym, subst, ◌∙◌, false≢true, Calls, crossing_of, is_halt, is_memory, Host, same_host, Crossing, Notice, ServiceDeskState, ServicesState, opening_desk, line_bits, all_told, asked, crossed, shown, AskGives, AtSeat, DoesOrHalts, Halts, OfferEnds, OfferGives, QuietEnds, StepGives, TakeEnds, TakeGives, TypeGives, WorldState, noticed, seat_of, seated, serviced, services_of, stops, tended, wants_memory, with_program, with_server, with_services, with_user, world_heard, world_moved, Event, Ask, Offer, Quiet, Server, Take, Typed, User, WorldFault, Carrier, Program, Seat, ServiceSeat, accepted, NcpState, refusal, served, served_notices, next_out, offered, NcpFault, Request, HappensInCalm, AreOthers, IsAsBefore, IsStill, at_host, event_of, is_of_network, seat_place, service_place, seat_member, services_member, CalmEvent, AllParts}
+use Rattle.world_trace.proofs.Common.{◌≡◌, inl, inr, ℕ, suc, ◌≤◌, Bool, true, false, ◌||◌, List, [], ◌∷◌, length, map}
+use Rattle.world_trace.proofs.Common.{Option, Some, None, Result, Ok, Err, arith, ap, refl, sym, subst, ◌∙◌, false≢true}
+use Rattle.world_trace.proofs.Common.{Calls, crossing_of, is_halt, is_memory, Host, same_host, Crossing, Notice}
+use Rattle.world_trace.proofs.Common.{ServiceDeskState, ServicesState, opening_desk, line_bits, all_told, asked}
+use Rattle.world_trace.proofs.Common.{crossed, shown, AskGives, AtSeat, DoesOrHalts, Halts, OfferEnds, OfferGives}
+use Rattle.world_trace.proofs.Common.{QuietEnds, StepGives, TakeEnds, TakeGives, TypeGives, WorldState, noticed}
+use Rattle.world_trace.proofs.Common.{seat_of, seated, serviced, services_of, stops, tended, wants_memory, with_program}
+use Rattle.world_trace.proofs.Common.{with_server, with_services, with_user, world_heard, world_moved, Event, Ask}
+use Rattle.world_trace.proofs.Common.{Offer, Quiet, Server, Take, Typed, User, WorldFault, Carrier, Program, Seat}
+use Rattle.world_trace.proofs.Common.{ServiceSeat, accepted, NcpState, refusal, served, served_notices, next_out}
+use Rattle.world_trace.proofs.Common.{offered, NcpFault, Request, HappensInCalm, AreOthers, IsAsBefore, IsStill}
+use Rattle.world_trace.proofs.Common.{at_host, event_of, is_of_network, seat_place, service_place, seat_member}
+use Rattle.world_trace.proofs.Common.{services_member, CalmEvent, AllParts}
 use Rattle.interface.specs.declared.carrier.CarrierFault.{CarrierFault}
 use Rattle.interface.specs.declared.crossing.Crossing.TheVariants as crossing
 use Rattle.interface.specs.declared.crossing.Inbound.{Inbound}

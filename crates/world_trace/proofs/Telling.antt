@@ -1,5 +1,14 @@
 -- Events are traced one after the other, and one of them may be the last.
-use Rattle.world_trace.proofs.Common.{Bool, true, false, nat_lt, lt-ltb, ◌≡◌, ◌⊎◌, inl, inr, ℕ, suc, ◌<◌, ◌+◌, List, [], ◌∷◌, ◌++◌, drop, get_or, length, reverse, Option, Some, Result, Ok, Err, arith, refl, sym, ap, ap₂, map, subst, ◌∙◌, false≢true, append_assoc, append-nil, length-append, reverse-append, reverse-reverse, Appends, Crossing, WorldState, Calls, Event, appends_more, appends_none, last_shown, last_written, one_written, Happening, InTurn, text_of, ReplayFault, ended_line, WritesTrace, numbered_from, Spot, HappensInCalm, MayDo, StopsIn, WorldEvent, AreTextsOf, EventEnds, IsAsBefore, StepEnds, state_objects, event_text, line_of, seat_member, services_member, Texts, none_changed, no_part_changed, object, shown, MayTell, StopsOne, TellsInCalm, changed_parts, AllParts}
+use Rattle.world_trace.proofs.Common.{Bool, true, false, nat_lt, lt-ltb, ◌≡◌, ◌⊎◌, inl, inr, ℕ, suc, ◌<◌, ◌+◌, List, []}
+use Rattle.world_trace.proofs.Common.{◌∷◌, ◌++◌, drop, get_or, length, reverse, Option, Some, Result, Ok, Err, arith}
+use Rattle.world_trace.proofs.Common.{refl, sym, ap, ap₂, map, subst, ◌∙◌, false≢true, append_assoc, append-nil}
+use Rattle.world_trace.proofs.Common.{length-append, reverse-append, reverse-reverse, Appends, Crossing, WorldState}
+use Rattle.world_trace.proofs.Common.{Calls, Event, appends_more, appends_none, last_shown, last_written, one_written}
+use Rattle.world_trace.proofs.Common.{Happening, InTurn, text_of, ReplayFault, ended_line, WritesTrace, numbered_from}
+use Rattle.world_trace.proofs.Common.{Spot, HappensInCalm, MayDo, StopsIn, WorldEvent, AreTextsOf, EventEnds}
+use Rattle.world_trace.proofs.Common.{IsAsBefore, StepEnds, state_objects, event_text, line_of, seat_member}
+use Rattle.world_trace.proofs.Common.{services_member, Texts, none_changed, no_part_changed, object, shown, MayTell}
+use Rattle.world_trace.proofs.Common.{StopsOne, TellsInCalm, changed_parts, AllParts}
 use Rattle.std.proofs.lemmas.List.{length-reverse}
 use Rattle.std.proofs.Math.Seq.{drop-append_seam}
 use Rattle.replay.specs.InTurn.{EndsInTurn}

@@ -8,7 +8,8 @@ use Rattle.std.specs.List.{Contains, flat_map}
 use Rattle.std.specs.Prelude.{slice_index_or}
 use Rattle.interface.specs.Flow.{same_flow}
 use Rattle.interface.proofs.lemmas.{and_true, same_flow-true}
-use Rattle.trace.specs.Changes.{IsGone, altered, changed, changed_flows, changed_lists, changed_parts, is_there, is_told}
+use Rattle.trace.specs.Changes.{IsGone, altered, changed, changed_flows, changed_lists, changed_parts, is_there}
+use Rattle.trace.specs.Changes.{is_told}
 use Rattle.trace.specs.Changes.{lost}
 use Rattle.trace.specs.Changes.{members_of}
 use Rattle.trace.specs.Flows.{gone, same_flow_part, same_name, same_side, same_state, told}

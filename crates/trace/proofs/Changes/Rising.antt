@@ -12,7 +12,8 @@ use Rattle.std.specs.declared.cmp.Ordering.TheVariants.{Less, Equal}
 use Rattle.interface.specs.Flow.{flow_cmp, same_flow}
 use Rattle.interface.specs.declared.address.Flow.{Flow}
 use Rattle.interface.proofs.lemmas.{and_true, flows_total, same_flow-true}
-use Rattle.trace.specs.Changes.{AreOfOne, Rises, altered, changed, changed_flows, changed_lists, changed_parts, is_there}
+use Rattle.trace.specs.Changes.{AreOfOne, Rises, altered, changed, changed_flows, changed_lists, changed_parts}
+use Rattle.trace.specs.Changes.{is_there}
 use Rattle.trace.specs.Changes.{is_told, lost}
 use Rattle.trace.specs.Flows.{gone, same_flow_part, same_name, same_side, same_state, told}
 use Rattle.trace.specs.declared.all_parts.AllParts.{AllParts}

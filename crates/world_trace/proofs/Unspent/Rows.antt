@@ -1,5 +1,8 @@
 -- Rows of worlds in which memory lasts, or not.
-use Rattle.world_trace.proofs.Common.{◌≡◌, ◌≤◌, true, [], ◌∷◌, Option, Some, None, ap, sym, subst, arith, false≢true, All-head, Calls, Host, shown, WorldState, opening_state, first, second, IsShort, Lasts, SeatLasts, ServiceLasts, ServicesLast, IsReached, IsSaid, AreNumbersTold, IsListenerTold, IsSeatTold, IsServed, IsWorldTold}
+use Rattle.world_trace.proofs.Common.{◌≡◌, ◌≤◌, true, [], ◌∷◌, Option, Some, None, ap, sym, subst, arith, false≢true}
+use Rattle.world_trace.proofs.Common.{All-head, Calls, Host, shown, WorldState, opening_state, first, second, IsShort}
+use Rattle.world_trace.proofs.Common.{Lasts, SeatLasts, ServiceLasts, ServicesLast, IsReached, IsSaid, AreNumbersTold}
+use Rattle.world_trace.proofs.Common.{IsListenerTold, IsSeatTold, IsServed, IsWorldTold}
 use Rattle.std.proofs.Common.{◌^◌, replicate}
 use Rattle.std.proofs.lemmas.List.{length-replicate}
 use Rattle.interface.specs.declared.crossing.Crossing.TheVariants as crossing

@@ -1,4 +1,5 @@
-use Rattle.subnet_trace.proofs.Common.{◌≡◌, zero, suc, false, List, Option, refl, arith, nat_tests, State, Imp, Line, is_part}
+use Rattle.subnet_trace.proofs.Common.{◌≡◌, zero, suc, false, List, Option, refl, arith, nat_tests, State, Imp, Line}
+use Rattle.subnet_trace.proofs.Common.{is_part}
 use Rattle.std.specs.Fmt.{digits}
 use Rattle.hex.specs.Hex.{encode_with}
 use Rattle.bit_messages.specs.Octets.{octets_of}

@@ -1,10 +1,13 @@
-use Rattle.std.proofs.Common.{arith, rules, inr, Err, ◌≡◌, ◌≤◌, ◌<◌, ◌+◌, length, drop, take, sym, ap, ◌∙◌, refl, [], subst}
+use Rattle.std.proofs.Common.{arith, rules, inr, Err, ◌≡◌, ◌≤◌, ◌<◌, ◌+◌, length, drop, take, sym, ap, ◌∙◌, refl, []}
+use Rattle.std.proofs.Common.{subst}
 use Rattle.script.specs.Script.{lines_of, lines_after}
-use Rattle.script.proofs.lemmas.{ask_next, ask_none, ask_past, drop_next, first_bad, length_next, line_count, ran_out, take_next, take_whole}
+use Rattle.script.proofs.lemmas.{ask_next, ask_none, ask_past, drop_next, first_bad, length_next, line_count, ran_out}
+use Rattle.script.proofs.lemmas.{take_next, take_whole}
 use Rattle.world_script.specs.Mixed.{AskForMixed, IsMixedEvent, WantsMixed, mixed_spelling}
 use Rattle.script.specs.declared.fault.LineFault.TheVariants as fault
 use Rattle.world_script.proofs.mixed.read_mixed_script.Goals as goal
-use Rattle.world_script.proofs.mixed.read_mixed_script.Goals.{then-not-is_passed_over+in_ok-event+in-Some-2+in_ok-push, else-not-is_passed_over}
+use Rattle.world_script.proofs.mixed.read_mixed_script.Goals.{then-not-is_passed_over+in_ok-event+in-Some-2+in_ok-push}
+use Rattle.world_script.proofs.mixed.read_mixed_script.Goals.{else-not-is_passed_over}
 
 pub lines-init : goal.lines-init
 lines-init c = (refl, ask_none mixed_spelling IsMixedEvent c.new-events.result.items c.new-events.ensures.items, c.requires)

@@ -1,10 +1,15 @@
-use Rattle.world_trace.proofs.Common.{◌≡◌, ◌<◌, ◌≤◌, ◌⊎◌, ◌∙◌, [], inl, inr, Err, List, Option, length, ℕ, ap, ap₂, arith, map, rules, subst, sym, Host, shown, WorldState, Event, Calls, AreOthers, AreTextsOf, StepEnds, at_host, event_of, seat_place, service_place, event_text, seat_member, services_member, StopsOne, Texts, changed_parts, AllParts}
+use Rattle.world_trace.proofs.Common.{◌≡◌, ◌<◌, ◌≤◌, ◌⊎◌, ◌∙◌, [], inl, inr, Err, List, Option, length, ℕ, ap, ap₂}
+use Rattle.world_trace.proofs.Common.{arith, map, rules, subst, sym, Host, shown, WorldState, Event, Calls, AreOthers}
+use Rattle.world_trace.proofs.Common.{AreTextsOf, StepEnds, at_host, event_of, seat_place, service_place, event_text}
+use Rattle.world_trace.proofs.Common.{seat_member, services_member, StopsOne, Texts, changed_parts, AllParts}
 use Rattle.replay.specs.declared.events.ReplayFault.TheVariants as fault
 use Rattle.world_script.specs.declared.event.WorldEvent.TheVariants as world
 use Rattle.world_trace.proofs.Stays.{others_by, quiet_by}
-use Rattle.world_trace.proofs.Telling.{changes_are, is_changed, none_changed_by, no_line, step_heard, step_may, step_quiet, step_still, texts_quiet, texts_still}
+use Rattle.world_trace.proofs.Telling.{changes_are, is_changed, none_changed_by, no_line, step_heard, step_may}
+use Rattle.world_trace.proofs.Telling.{step_quiet, step_still, texts_quiet, texts_still}
 use Rattle.world_trace.proofs.calm.trace_step.Goals as goal
-use Rattle.world_trace.proofs.calm.trace_step.Goals.{else-not-moved-2-via-then-not-moved-2+else-not-other, else-not-moved-2-via-else-not-moved-2}
+use Rattle.world_trace.proofs.calm.trace_step.Goals.{else-not-moved-2-via-then-not-moved-2+else-not-other}
+use Rattle.world_trace.proofs.calm.trace_step.Goals.{else-not-moved-2-via-else-not-moved-2}
 
 -- nothing crossed, and it is known that nothing changes then
 pub returns-then-not-moved-clause-ends : goal.returns-then-not-moved-clause-ends

@@ -1,4 +1,5 @@
-use Rattle.world_trace.proofs.Common.{◌≡◌, ◌++◌, ◌≤◌, ◌∙◌, Bool, ap, arith, codes, length, map, rules, put_at, put_text, object, AllPut, at_host, IfOk-weaker, mark, ended_object}
+use Rattle.world_trace.proofs.Common.{◌≡◌, ◌++◌, ◌≤◌, ◌∙◌, Bool, ap, arith, codes, length, map, rules, put_at, put_text}
+use Rattle.world_trace.proofs.Common.{object, AllPut, at_host, IfOk-weaker, mark, ended_object}
 use Rattle.trace.specs.Changes.{changed}
 use Rattle.world_trace.proofs.Changing.{all_changed, next_changed, none_changed_yet, within}
 use Rattle.world_trace.proofs.texts.change_at.Goals as goal
