@@ -58,7 +58,7 @@ pub use Rattle.net_sim.specs.Inside.Undo.{GoesBack, IsEndNoted, IsNoted, Undo, a
 pub use Rattle.net_sim.specs.Projection.{Agrees, AllPlain, ArePlain, IsApart, IsPlain, IsQueued, event_by, event_of, has_asked, has_control, is_alone, is_rrp, is_rst, message_on, names_control, on_control}
 pub use Rattle.net_sim.specs.Reports.{IsBacked, IsRunning, ServerIsDone, UserIsDone, told_to}
 pub use Rattle.net_sim.specs.SmallLogs.{given_log, moved, taken_log}
-pub use Rattle.net_sim.specs.Story.{Asked, Crossed, IsStory, Moment, events_of, places, program, program_after}
+pub use Rattle.net_sim.specs.Story.{Asked, Crossed, IsStory, Moment, events_of, places, program}
 pub use Rattle.net_sim.specs.Timeline.{Happens, IsAddressed, IsTimeline, contacts_of, crossings_of, events_in, seen_box}
 pub use Rattle.net_sim.specs.Told.{host_in, kept_by, kept_in, notices_by, without_reports}
 pub use Rattle.net_sim.specs.Whole.{AreServed, Each, IsNamed, IsWhole, seat_in}
@@ -77,7 +77,7 @@ pub use Rattle.reset_law.specs.Events.{Contact, Idle, In, Message, Other, Reply,
 pub use Rattle.reset_law.specs.Pairs.{Kind, Pair, pair, pair_moved}
 pub use Rattle.reset_law.specs.Runs.{Allowed, Needs, WaitsAfterClean}
 pub use Rattle.sockets.proofs.lemmas.{pair_changed}
-pub use Rattle.sockets.specs.Accepting.{accepted, accepted_answer, accepted_message, after_turn}
+pub use Rattle.sockets.specs.Accepting.{accepted, accepted_answer, accepted_message}
 pub use Rattle.sockets.specs.Pairs.{NcpState, opening_state, owner_of, pair_with, with_pair}
 pub use Rattle.sockets.specs.Peers.{AreInOrder}
 pub use Rattle.sockets.specs.Requests.{at_owner, closed_socket, refusal, served, served_notices}

@@ -1,5 +1,6 @@
 -- What no call of a program changes: whose it is, and whether memory has run out in it.
-use Rattle.net_sim.proofs.Common.{◌≡◌, ℕ, Bool, true, false, if◌then◌else◌, List, [], ◌∷◌, Option, Some, None, refl, ◌∙◌, Host, same_host, Inbound, is_busy, PairState, NcpState, opening_state, owner_of, pair_with, listens_on, at_owner, Parcel, next_in, offered_by, Entry, Notice, Peer, Request, Moment, Crossed, Asked, places, program_after, program}
+use Rattle.net_sim.proofs.Common.{◌≡◌, ℕ, Bool, true, false, if◌then◌else◌, List, [], ◌∷◌, Option, Some, None, refl, ◌∙◌, Host, same_host, Inbound, is_busy, PairState, NcpState, opening_state, owner_of, pair_with, listens_on, at_owner, Parcel, next_in, offered_by, Entry, Notice, Peer, Request, Moment, Crossed, Asked, places, program}
+use Rattle.net_sim.specs.Story.{program_after}
 use Rattle.interface.specs.declared.crossing.Crossing.TheVariants as crossing
 use Rattle.interface.specs.declared.crossing.Inbound.TheVariants as inbound
 use Rattle.sockets.specs.Accepting.{accepted}

@@ -1,5 +1,6 @@
 -- A host that isn't through a reset does nothing with a text.
-use Rattle.net_sim.proofs.Common.{◌≡◌, ℕ, Bool, true, false, ◌==◌, List, [], ◌∷◌, refl, ap, sym, subst, ◌∙◌, cond, Host, same_host, HostMessage, Command, TurnState, if_ready, command_taken, message_taken, order_taken, orders_taken, accepted_message, after_turn, Order, Legal, Wrong, orders_of, data_taken, DeskState, NcpState, pair_with, with_pair, Peer, pair_changed, Message, IsText, IsUnheard, is_rst, is_rrp, message_on, AllPlain, IsApart, IsPlain}
+use Rattle.net_sim.proofs.Common.{◌≡◌, ℕ, Bool, true, false, ◌==◌, List, [], ◌∷◌, refl, ap, sym, subst, ◌∙◌, cond, Host, same_host, HostMessage, Command, TurnState, if_ready, command_taken, message_taken, order_taken, orders_taken, accepted_message, Order, Legal, Wrong, orders_of, data_taken, DeskState, NcpState, pair_with, with_pair, Peer, pair_changed, Message, IsText, IsUnheard, is_rst, is_rrp, message_on, AllPlain, IsApart, IsPlain}
+use Rattle.sockets.specs.Accepting.{after_turn}
 use Rattle.interface.specs.declared.crossing.Inbound.TheVariants as inbound
 use Rattle.interface.proofs.lemmas.{same_host-true}
 use Rattle.ncp_control.specs.declared.command.Command.TheVariants as command
