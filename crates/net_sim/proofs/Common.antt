@@ -40,37 +40,29 @@ pub use Rattle.ncp_control.specs.Phases.{is_ready}
 pub use Rattle.ncp_control.specs.declared.command.Command.{Command}
 pub use Rattle.ncp_control.specs.declared.data_header.DataHeader.{DataHeader}
 pub use Rattle.net_sim.specs.Audit.{IsStamped, IsWellFormed, Says}
-pub use Rattle.net_sim.specs.Book.{Kept, all_asked, all_crossed, all_reported, all_told, asked, book_told, carried, changed_when, contacts_asked, crossed, fates_where, handed_to, life_ended, lives_asked, lives_at, lives_between, lives_crossed, lives_on, lives_told, lives_with, new_life, opening_kept, returned, where_it}
-pub use Rattle.net_sim.specs.Carriers.{AreOfOneEvent, AreStops, IsBooked, shown}
+pub use Rattle.net_sim.specs.Book.{Kept, all_asked, all_crossed, all_reported, all_told, asked, book_told, carried, changed_when, contacts_asked, crossed, fates_where, handed_to, life_ended, lives_asked, lives_at, lives_between, lives_crossed, lives_on, lives_told, lives_with, new_life, returned, where_it}
+pub use Rattle.net_sim.specs.Carriers.{AreOfOneEvent, AreStops, shown}
 pub use Rattle.net_sim.specs.Clean.{HaveAddresses, IsFresh, IsLawful, IsText, IsUnheard, is_through}
-pub use Rattle.net_sim.specs.Findings.{AreAtPeace, AreFed, AreStamped, AreUnmatched, HaveGranted, Shows, ShowsTwo, WithMatch}
-pub use Rattle.net_sim.specs.Inside.Audit.{FoundTwo, grants_hold, handed_at, has_granted, is_asked, is_fed, is_match, is_partner, is_place, is_prefix, is_source, is_stamped, is_unmatched, is_well_formed, may_both, messages_hold, partners_hold, same_asked, same_bit, same_own, some_fed, streams_hold}
-pub use Rattle.net_sim.specs.Inside.Calm.{AllOfferNothing}
-pub use Rattle.net_sim.specs.Inside.Core.{IsSomeWorld}
+pub use Rattle.net_sim.specs.Findings.{AreAtPeace, AreFed, AreStamped, AreUnmatched, HaveGranted, Shows}
+pub use Rattle.net_sim.specs.Inside.Audit.{FoundTwo, grants_hold, has_granted, is_asked, is_match, is_partner, is_place, is_prefix, is_source, is_stamped, is_unmatched, is_well_formed, may_both, messages_hold, partners_hold, same_asked, same_bit, same_own, some_fed, streams_hold}
 pub use Rattle.net_sim.specs.Inside.Counts.{AreWithin, IsWithin}
 pub use Rattle.net_sim.specs.Inside.Endings.{ends, turns}
 pub use Rattle.net_sim.specs.Inside.Growing.{grown}
 pub use Rattle.net_sim.specs.Inside.Held.{IsHeld}
 pub use Rattle.net_sim.specs.Inside.Lives.{LivesState, entered, told_at}
-pub use Rattle.net_sim.specs.Inside.Mixed.{IsHeldAmong, mixed_runs_out, mixed_with}
 pub use Rattle.net_sim.specs.Inside.Open.{AreKept, AreMarked, Covers, Holds, marked}
 pub use Rattle.net_sim.specs.Inside.Parts.{AreDone, AreLive, IsOnce, Serves, Sits, hosts_of, hosts_served, running, runs_out, world_ended}
 pub use Rattle.net_sim.specs.Inside.Places.{changed_here, is_open_at}
 pub use Rattle.net_sim.specs.Inside.Seats.{emptied_in_order, turned_in_order}
 pub use Rattle.net_sim.specs.Inside.Undo.{GoesBack, IsEndNoted, IsNoted, Undo, all_undone, life_back, reopened, undone}
-pub use Rattle.net_sim.specs.Laws.Worlds.{IsNamedMixed}
-pub use Rattle.net_sim.specs.Mixed.{AreMixed, crossed_only, mixed_kept}
-pub use Rattle.net_sim.specs.MixedWorlds.{AnyGives, FetchEnds, FetchGives, HasProgram, IsLawfulAmong, IsWholeAmong, MixedCalmGives, MixedEvent, MixedEventGives, MixedFault, MixedRunGives, MixedRuns, MixedState, MixedStepGives, OfWorld, OutEnds, OutGives, RefusesMixed, World, has_seat, is_strange, mixed_answer, mixed_stops, opening_among, opening_mixed, strange_in, with_programs}
 pub use Rattle.net_sim.specs.Projection.{Agrees, AllPlain, ArePlain, IsApart, IsPlain, IsQueued, event_by, event_of, has_asked, has_control, is_alone, is_rrp, is_rst, message_on, names_control, on_control}
-pub use Rattle.net_sim.specs.Reports.{AreReported, IsBacked, IsRunning, ServerIsDone, UserIsDone, told_to}
-pub use Rattle.net_sim.specs.Rest.{IsAtRest, Leaves}
+pub use Rattle.net_sim.specs.Reports.{IsBacked, IsRunning, ServerIsDone, UserIsDone, told_to}
 pub use Rattle.net_sim.specs.SmallLogs.{given_log, moved, taken_log}
 pub use Rattle.net_sim.specs.Story.{Asked, Crossed, IsStory, Moment, events_of, places, program}
 pub use Rattle.net_sim.specs.Timeline.{Happens, IsAddressed, IsTimeline, contacts_of, crossings_of, events_in, seen_box}
 pub use Rattle.net_sim.specs.Told.{host_in, kept_by, kept_in, notices_by, without_reports}
 pub use Rattle.net_sim.specs.Whole.{AreServed, Each, IsNamed, IsWhole, seat_in}
-pub use Rattle.net_sim.specs.Worked.{asker, busy, crossings, eight, eight_zeros, elsewhere, four, fresh, giver, message, over, receiver, sender, stranger, taker}
-pub use Rattle.net_sim.specs.WorkedMixed.{beside_third}
+pub use Rattle.net_sim.specs.Worked.{asker, crossings, eight, eight_zeros, elsewhere, four, giver, message, over, receiver, sender, stranger, taker}
 pub use Rattle.net_sim.specs.WorkedMoments.{eight_sent, rts, str}
 pub use Rattle.net_sim.specs.World.{Ask, AskGives, AtProgram, AtSeat, CalmGives, Calms, Carrier, Does, DoesOrHalts, EventGives, Halts, Net, NetEnds, Offer, OfferEnds, OfferGives, Program, Quiet, QuietEnds, Refuses, Repeats, RunGives, Runs, Seat, Server, ServiceSeat, StepGives, TakeEnds, TakeGives, TurnsOf, TypeGives, Typed, User, WorldFault, WorldState, all_emptied, all_turned, noticed, opening_seats, opening_services, opening_world, seat_of, seated, seats_turned, served_at, serviced, services_in, services_of, stops, tended, up_in, wants_memory, with_carrier, with_program, with_server, with_services, with_user, world_heard, world_moved}
 pub use Rattle.net_sim.specs.declared.auditing.said.Audit.{Audit}
@@ -94,13 +86,13 @@ pub use Rattle.sockets.specs.Worked.{first, second, third}
 pub use Rattle.sockets.specs.declared.fault.NcpFault.{NcpFault}
 pub use Rattle.sockets.specs.declared.peer.Peer.{Peer}
 pub use Rattle.sockets.specs.declared.request.Request.{Request}
-pub use Rattle.std.proofs.Common.{Bool, Err, IfSome, List, MatchOption, None, Ok, OnOk, Option, Some, [], add-one, ap, arith, cond, drop, eq-eqb, false, find, get_or, if◌then◌else◌, inl, inr, length, map, nat_lt, not, refl, rules, slice_set, subst, suc, sym, take, true, zero, ℕ, ◌%◌, ◌&&◌, ◌*◌, ◌++◌, ◌+◌, ◌-◌, ◌<◌, ◌==◌, ◌||◌, ◌∙◌, ◌∷◌, ◌≡◌, ◌≤◌, ◌⊎◌}
+pub use Rattle.std.proofs.Common.{Bool, Err, IfSome, List, MatchOption, None, Ok, OnOk, Option, Some, [], add-one, ap, arith, cond, drop, eq-eqb, false, filter, find, get_or, if◌then◌else◌, inl, inr, length, map, nat_lt, not, refl, rules, slice_set, subst, suc, sym, take, true, zero, ℕ, ◌%◌, ◌&&◌, ◌*◌, ◌++◌, ◌+◌, ◌-◌, ◌<◌, ◌==◌, ◌||◌, ◌∙◌, ◌∷◌, ◌≡◌, ◌≤◌, ◌⊎◌}
 pub use Rattle.std.proofs.Math.Seq.{drop-append_seam, take-append_seam}
-pub use Rattle.std.proofs.lemmas.Bool.{and_from, and_left, and_right, cases_lt, eqb-true, false_from_ne_true, or_cases, or_left, or_right}
+pub use Rattle.std.proofs.lemmas.Bool.{cases_lt, eqb-true}
 pub use Rattle.std.proofs.lemmas.Grind.{reverse_onto}
 pub use Rattle.std.proofs.lemmas.List.{append-nil, drop_more, length-map, length-reverse, map-append, nil_from_length, reverse-append, take-append-drop, take_all, take_more}
 pub use Rattle.std.proofs.lemmas.List.Elements.{All-cons, All-head, All-nil, All-push, All-tail, All-weaker}
-pub use Rattle.std.proofs.lemmas.Option.{same_Some}
+pub use Rattle.std.proofs.lemmas.List.Folds.{list_all_more}
 pub use Rattle.std.specs.Bool.{MatchBool}
 pub use Rattle.std.specs.List.{Contains, flat_map, fold, list_all, list_any}
 pub use Rattle.std.specs.Option.{option_or}

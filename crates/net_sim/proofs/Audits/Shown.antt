@@ -1,8 +1,8 @@
 -- Where it shows what an audit says: what the searches find is what the definitions say.
-use Rattle.net_sim.proofs.Common.{◌≡◌, ℕ, Bool, true, List, length, take, refl, subst, inr, arith, Option, Some, None, MatchOption, list_all, take_all, SafeMessages, Crossing, IsWellFormed, Says, Life, AreAtPeace, AreFed, AreStamped, HaveGranted, Shows, AreUnmatched, FoundTwo, messages_hold, partners_hold, is_stamped, has_granted, is_unmatched, may_both, some_fed, SafePartners, before, ShowsTwo, WithMatch}
+use Rattle.net_sim.proofs.Common.{◌≡◌, ℕ, Bool, true, List, length, take, refl, subst, inr, arith, Option, Some, None, MatchOption, list_all, take_all, SafeMessages, Crossing, IsWellFormed, Says, Life, AreAtPeace, AreFed, AreStamped, HaveGranted, Shows, AreUnmatched, FoundTwo, messages_hold, partners_hold, is_stamped, has_granted, is_unmatched, may_both, some_fed, SafePartners, before}
 use Rattle.std.proofs.Common.{reverse}
 use Rattle.std.specs.List.{slice_get}
-use Rattle.net_sim.specs.Findings.{ShowsCrossing, ShowsLife, ShowsMalformed, first_fed, first_granted}
+use Rattle.net_sim.specs.Findings.{ShowsCrossing, ShowsLife, ShowsMalformed, ShowsTwo, WithMatch, first_fed, first_granted}
 use Rattle.net_sim.specs.Inside.Audit.{Found}
 use Rattle.net_sim.specs.declared.auditing.findings.Finding.{Finding}
 use Rattle.net_sim.specs.declared.auditing.findings.Finding.TheVariants as finding

@@ -1,10 +1,12 @@
 -- The book has what crossed, after every list of events.
-use Rattle.net_sim.proofs.Common.{◌≡◌, ℕ, Bool, true, false, if◌then◌else◌, List, [], ◌∷◌, ◌++◌, length, Ok, refl, ap, sym, subst, ◌∙◌, Calls, Seen, ShowsRefusal, ShowsCrossings, halted, is_memory, crossing_of, step_crossings, Host, SafeMessages, CarrierFault, Crossing, HostMessage, run_below, safe_messages, NcpState, served, served_notices, offered, accepted, Notice, Request, ServiceDeskState, ServicesState, opening_desk, server_begun, user_begun, Kept, crossed, all_crossed, book_told, all_told, asked, all_asked, shown, AreOfOneEvent, Each, WorldState, opening_world, services_of, noticed, tended, with_carrier, world_moved, served_at, Halts, StepGives, RunGives, CalmGives, IsBooked, FetchGives, OutGives, opening_among}
+use Rattle.net_sim.proofs.Common.{◌≡◌, ℕ, Bool, true, false, if◌then◌else◌, List, [], ◌∷◌, ◌++◌, length, Ok, refl, ap, sym, subst, ◌∙◌, Calls, Seen, ShowsRefusal, ShowsCrossings, halted, is_memory, crossing_of, step_crossings, Host, SafeMessages, CarrierFault, Crossing, HostMessage, run_below, safe_messages, NcpState, served, served_notices, offered, accepted, Notice, Request, ServiceDeskState, ServicesState, opening_desk, server_begun, user_begun, Kept, crossed, all_crossed, book_told, all_told, asked, all_asked, shown, AreOfOneEvent, Each, WorldState, opening_world, services_of, noticed, tended, with_carrier, world_moved, served_at, Halts, StepGives, RunGives, CalmGives}
 use Rattle.interface.specs.Mailboxes.{IsRun}
 use Rattle.interface.specs.declared.crossing.Crossing.TheVariants as crossing
+use Rattle.net_sim.specs.Carriers.{IsBooked}
 use Rattle.net_sim.proofs.Books.Always.{run_keeps, calm_keeps}
 use Rattle.net_sim.proofs.Books.EachEvent.{Answered, Shows, Ways, step_way}
 use Rattle.net_sim.proofs.Books.Strangers.{fetch_way, out_way}
+use Rattle.net_sim.specs.MixedWorlds.{FetchGives, OutGives, opening_among}
 use Rattle.net_sim.specs.World.{Event, turn_of, changed}
 
 -- ---- the crossings of what is kept

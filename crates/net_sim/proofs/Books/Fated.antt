@@ -1,10 +1,12 @@
 -- A life is over exactly where its fate says so.
-use Rattle.net_sim.proofs.Common.{◌≡◌, Bool, true, false, List, [], ◌∷◌, ◌++◌, refl, sym, subst, ◌∙◌, if◌then◌else◌, Host, Seen, Crossing, Notice, Request, Fate, Life, Kept, all_told, book_told, carried, changed_when, fates_where, life_ended, lives_asked, lives_at, lives_between, lives_crossed, lives_on, lives_told, lives_with, new_life, returned, where_it, Moment, Crossed, Asked, IsLawful, host_in, kept_by, kept_in, notices_by, WorldState, crossed_only, mixed_kept, IsLawfulAmong}
+use Rattle.net_sim.proofs.Common.{◌≡◌, Bool, true, false, List, [], ◌∷◌, ◌++◌, refl, sym, subst, ◌∙◌, if◌then◌else◌, Host, Seen, Crossing, Notice, Request, Fate, Life, Kept, all_told, book_told, carried, changed_when, fates_where, life_ended, lives_asked, lives_at, lives_between, lives_crossed, lives_on, lives_told, lives_with, new_life, returned, where_it, Moment, Crossed, Asked, IsLawful, host_in, kept_by, kept_in, notices_by, WorldState}
 use Rattle.interface.specs.declared.crossing.Crossing.TheVariants as crossing
 use Rattle.host_pairs.specs.declared.notice.Notice.TheVariants as notice
 use Rattle.sockets.specs.declared.request.Request.TheVariants as request
 use Rattle.promise.specs.Fates.{AreFated, is_over}
 use Rattle.promise.specs.declared.life.Fate.TheVariants as fate
+use Rattle.net_sim.specs.Mixed.{crossed_only, mixed_kept}
+use Rattle.net_sim.specs.MixedWorlds.{IsLawfulAmong}
 use Rattle.net_sim.proofs.Hosts.Telling.{kept_nobody}
 use Rattle.net_sim.specs.Book.{closing, fates_asked, fates_crossed, fates_told, granted, over_by_cls}
 

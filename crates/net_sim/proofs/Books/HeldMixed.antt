@@ -1,9 +1,12 @@
 -- What a world with strangers keeps is enough for its next event.
-use Rattle.net_sim.proofs.Common.{◌≡◌, ℕ, Bool, false, List, [], sym, subst, MatchBool, Calls, InOrder, Host, IsAddress, is_host, Kept, shown, running, WorldState, Carrier, Seat, ServiceSeat, IsHeldAmong, mixed_runs_out, IsNamedMixed, IsLawfulAmong, MixedCalmGives, MixedEvent, MixedEventGives, MixedFault, MixedState, MixedStepGives, RefusesMixed, World, opening_mixed, strange_in}
+use Rattle.net_sim.proofs.Common.{◌≡◌, ℕ, Bool, false, List, [], sym, subst, MatchBool, Calls, InOrder, Host, IsAddress, is_host, Kept, shown, running, WorldState, Carrier, Seat, ServiceSeat}
 use Rattle.std.proofs.Common.{All, Result}
 use Rattle.std.specs.List.{filter}
 use Rattle.interface.specs.Mailboxes.{IsRun}
 use Rattle.interface.specs.declared.carrier.CarrierFault.TheVariants as fault
+use Rattle.net_sim.specs.Inside.Mixed.{IsHeldAmong, mixed_runs_out}
+use Rattle.net_sim.specs.Laws.Worlds.{IsNamedMixed}
+use Rattle.net_sim.specs.MixedWorlds.{IsLawfulAmong, MixedCalmGives, MixedEvent, MixedEventGives, MixedFault, MixedState, MixedStepGives, RefusesMixed, World, opening_mixed, strange_in}
 use Rattle.net_sim.proofs.Books.Held.{have_addresses, still_running}
 use Rattle.net_sim.proofs.Books.Mixed as mixed
 use Rattle.net_sim.proofs.Books.Whole.{some_hosts}

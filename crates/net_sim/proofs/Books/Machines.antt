@@ -1,6 +1,5 @@
 -- What services report while they have their turns is so, by what their host was notified of.
-use Rattle.net_sim.proofs.Common.{◌≡◌, inl, inr, ℕ, ◌+◌, Bool, true, false, List, [], ◌∷◌, ◌++◌, map, length, take, Option, Some, None, refl, ap, sym, subst, ◌∙◌, arith, append-nil, map-append, take_all, All-cons, All-head, All-nil, All-push, All-tail, All-weaker, option_or, Host, same_host, same_host-refl, Notice, NcpState, refusal, NcpFault, Request, StartFault, ServiceDeskState, ServicesState, opening_desk, Reported, Kept, all_told, book_told, IsBacked, IsRunning, ServerIsDone, UserIsDone, told_to}
-use Rattle.std.proofs.Common.{filter}
+use Rattle.net_sim.proofs.Common.{◌≡◌, inl, inr, ℕ, ◌+◌, Bool, true, false, List, [], ◌∷◌, ◌++◌, map, filter, length, take, Option, Some, None, refl, ap, sym, subst, ◌∙◌, arith, append-nil, map-append, take_all, All-cons, All-head, All-nil, All-push, All-tail, All-weaker, option_or, Host, same_host, same_host-refl, Notice, NcpState, refusal, NcpFault, Request, StartFault, ServiceDeskState, ServicesState, opening_desk, Reported, Kept, all_told, book_told, IsBacked, IsRunning, ServerIsDone, UserIsDone, told_to}
 use Rattle.std.proofs.Common.{All, append_assoc, length-append}
 use Rattle.std.proofs.lemmas.List.{take-append-le}
 use Rattle.std.proofs.lemmas.List.Elements.{filter-append}

@@ -1,6 +1,5 @@
 -- Lists of places that have at least those of the open lives.
-use Rattle.net_sim.proofs.Common.{◌≡◌, inl, inr, ℕ, ◌<◌, ◌≤◌, ◌&&◌, ◌==◌, Bool, true, false, not, if◌then◌else◌, zero, suc, List, [], ◌∷◌, ◌++◌, length, take, drop, map, slice_set, refl, ap, sym, subst, ◌∙◌, arith, eq-eqb, eqb-true, map-append, take-append_seam, Host, same_host, Life, changed_when, where_it, handed_to, lives_at, ends, AreKept, AreMarked, Covers, Holds, marked, is_open_at, IsEndNoted, IsNoted, Undo}
-use Rattle.std.proofs.Common.{filter}
+use Rattle.net_sim.proofs.Common.{◌≡◌, inl, inr, ℕ, ◌<◌, ◌≤◌, ◌&&◌, ◌==◌, Bool, true, false, not, if◌then◌else◌, zero, suc, List, [], ◌∷◌, ◌++◌, length, take, drop, map, filter, slice_set, refl, ap, sym, subst, ◌∙◌, arith, eq-eqb, eqb-true, map-append, take-append_seam, Host, same_host, Life, changed_when, where_it, handed_to, lives_at, ends, AreKept, AreMarked, Covers, Holds, marked, is_open_at, IsEndNoted, IsNoted, Undo}
 use Rattle.std.proofs.Common.{slice_index_or}
 use Rattle.interface.proofs.lemmas.{same_host-true}
 use Rattle.net_sim.specs.Inside.Endings.{Ending}

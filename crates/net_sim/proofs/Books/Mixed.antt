@@ -1,10 +1,12 @@
 -- Worlds with strangers, event by event.
-use Rattle.net_sim.proofs.Common.{◌≡◌, ℕ, Bool, true, false, List, [], ◌∷◌, refl, sym, subst, if◌then◌else◌, MatchBool, Calls, Host, is_host, Crossing, HostMessage, shown, HaveAddresses, IsNamed, WorldState, WorldFault, Carrier, Net, Quiet, Offer, Ask, Server, User, Typed, CalmGives, StepGives, IsBooked, IsNamedMixed, AnyGives, FetchGives, HasProgram, IsLawfulAmong, IsWholeAmong, MixedEvent, MixedEventGives, MixedCalmGives, MixedFault, MixedRunGives, MixedRuns, MixedState, MixedStepGives, OfWorld, OutGives, RefusesMixed, World, has_seat, is_strange, mixed_stops, opening_among, strange_in, AreReported}
+use Rattle.net_sim.proofs.Common.{◌≡◌, ℕ, Bool, true, false, List, [], ◌∷◌, refl, sym, subst, MatchBool, if◌then◌else◌, Calls, Host, is_host, Crossing, HostMessage, shown, HaveAddresses, IsNamed, WorldState, WorldFault, Carrier, Net, Quiet, Offer, Ask, Server, User, Typed, CalmGives, StepGives}
 use Rattle.std.proofs.Common.{Result}
 use Rattle.interface.specs.Mailboxes.{IsRun}
 use Rattle.interface.specs.declared.carrier.CarrierFault.TheVariants as fault
-use Rattle.net_sim.specs.Laws.Worlds.{AreNamedMixed}
-use Rattle.net_sim.specs.MixedWorlds.{NoProgram, SaysGives, Any, Out, asked_at}
+use Rattle.net_sim.specs.Carriers.{IsBooked}
+use Rattle.net_sim.specs.Laws.Worlds.{AreNamedMixed, IsNamedMixed}
+use Rattle.net_sim.specs.MixedWorlds.{AnyGives, FetchGives, HasProgram, IsLawfulAmong, IsWholeAmong, MixedEvent, MixedEventGives, MixedCalmGives, MixedFault, MixedRunGives, MixedRuns, MixedState, MixedStepGives, NoProgram, OfWorld, OutGives, RefusesMixed, SaysGives, World, Any, Out, asked_at, has_seat, is_strange, mixed_stops, opening_among, strange_in}
+use Rattle.net_sim.specs.Reports.{AreReported}
 use Rattle.net_sim.specs.World.{Event, Take}
 use Rattle.net_sim.proofs.Books.Booked.{among_booked, calm_books, fetch_books, out_books, step_books}
 use Rattle.net_sim.proofs.Books.Reported.{among_reported, calm_reported, fetch_reported, out_reported, step_reported}

@@ -1,6 +1,9 @@
 -- Worlds without strangers: what is kept of them describes a timeline of all hosts, after every event.
-use Rattle.net_sim.proofs.Common.{◌≡◌, ℕ, Bool, true, false, List, [], ◌∷◌, map, refl, ap, sym, subst, ◌∙◌, Calls, Seen, Host, shown, Moment, IsTimeline, host_in, AreServed, Each, IsNamed, IsWhole, seat_in, WorldState, WorldFault, opening_seats, opening_services, opening_world, StepGives, RunGives, CalmGives, AreMixed, IsLawfulAmong, IsWholeAmong, opening_among, with_programs, IsLawful}
+use Rattle.net_sim.proofs.Common.{◌≡◌, ℕ, Bool, true, false, List, [], ◌∷◌, map, refl, ap, sym, subst, ◌∙◌, Calls, Host, shown, Moment, IsTimeline, host_in, AreServed, Each, IsNamed, IsWhole, seat_in, WorldState, WorldFault, opening_seats, opening_services, opening_world, StepGives, RunGives, CalmGives, Seen}
 use Rattle.std.proofs.Common.{Result}
+use Rattle.net_sim.specs.Mixed.{AreMixed}
+use Rattle.net_sim.specs.MixedWorlds.{IsLawfulAmong, IsWholeAmong, opening_among, with_programs}
+use Rattle.net_sim.specs.Clean.{IsLawful}
 use Rattle.net_sim.specs.World.{Event}
 use Rattle.net_sim.proofs.Hosts.Telling.{kept_nobody}
 use Rattle.net_sim.proofs.Books.Whole.{calm_among, opening_among_whole, run_among, step_among}

@@ -1,11 +1,12 @@
 -- After every event of a world, what services have reported is so, and all that runs is as its host was notified.
-use Rattle.net_sim.proofs.Common.{◌≡◌, ℕ, Bool, true, false, if◌then◌else◌, find, List, [], ◌∷◌, ◌++◌, length, Option, Some, Ok, refl, sym, subst, ◌∙◌, All-cons, All-head, All-nil, All-tail, Calls, crossing_of, step_crossings, is_memory, Host, same_host, Crossing, HostMessage, Notice, accepted, NcpState, served, served_notices, offered, Request, ServiceDeskState, ServicesState, no_services, opening_desk, server_begun, user_begun, Reported, Kept, all_asked, all_crossed, all_told, asked, book_told, crossed, IsBacked, IsRunning, told_to, Each, WorldState, ServiceSeat, all_emptied, noticed, opening_services, opening_world, served_at, serviced, services_in, services_of, tended, with_services, world_heard, world_moved, CalmGives, Halts, RunGives, StepGives, AreReported, FetchGives, OutGives, opening_among, with_programs}
+use Rattle.net_sim.proofs.Common.{◌≡◌, ℕ, Bool, true, false, if◌then◌else◌, find, List, [], ◌∷◌, ◌++◌, length, Option, Some, Ok, refl, sym, subst, ◌∙◌, All-cons, All-head, All-nil, All-tail, Calls, crossing_of, step_crossings, is_memory, Host, same_host, Crossing, HostMessage, Notice, accepted, NcpState, served, served_notices, offered, Request, ServiceDeskState, ServicesState, no_services, opening_desk, server_begun, user_begun, Reported, Kept, all_asked, all_crossed, all_told, asked, book_told, crossed, IsBacked, IsRunning, told_to, Each, WorldState, ServiceSeat, all_emptied, noticed, opening_services, opening_world, served_at, serviced, services_in, services_of, tended, with_services, world_heard, world_moved, CalmGives, Halts, RunGives, StepGives}
 use Rattle.std.proofs.Common.{All}
 use Rattle.std.proofs.lemmas.List.Elements.{All-append}
 use Rattle.interface.specs.declared.crossing.Crossing.TheVariants as crossing
 use Rattle.interface.proofs.lemmas.{same_host-true}
 use Rattle.promise.specs.declared.book.Told.{Told}
-use Rattle.net_sim.specs.Reports.{AreRunning}
+use Rattle.net_sim.specs.Reports.{AreReported, AreRunning}
+use Rattle.net_sim.specs.MixedWorlds.{FetchGives, OutGives, opening_among, with_programs}
 use Rattle.net_sim.specs.World.{Event, changed, turn_of}
 use Rattle.net_sim.proofs.Books.Always.{calm_keeps, run_keeps}
 use Rattle.net_sim.proofs.Books.EachEvent.{Answered, Ways, step_way, unshown}

@@ -1,6 +1,7 @@
 -- A run, event by event.
-use Rattle.net_sim.proofs.Common.{◌≡◌, ℕ, ◌+◌, Bool, true, false, List, ◌∷◌, drop, refl, sym, subst, MatchBool, WorldState, WorldFault, Carrier, Refuses, StepGives, Runs, RunGives, stops, Calls, MixedEvent, MixedFault, MixedRunGives, MixedRuns, MixedState, MixedStepGives, RefusesMixed, World, mixed_stops}
+use Rattle.net_sim.proofs.Common.{◌≡◌, ℕ, ◌+◌, Bool, true, false, List, ◌∷◌, drop, refl, sym, subst, MatchBool, WorldState, WorldFault, Carrier, Refuses, StepGives, Runs, RunGives, stops, Calls}
 use Rattle.std.proofs.Common.{Result}
+use Rattle.net_sim.specs.MixedWorlds.{MixedEvent, MixedFault, MixedRunGives, MixedRuns, MixedState, MixedStepGives, RefusesMixed, World, mixed_stops}
 use Rattle.net_sim.specs.World.{Event}
 use Rattle.interface.specs.declared.carrier.CarrierFault.TheVariants as fault
 

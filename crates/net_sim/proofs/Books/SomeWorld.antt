@@ -1,8 +1,11 @@
 -- What the core of a world keeps is enough for its next event, whichever of its hosts are strangers.
-use Rattle.net_sim.proofs.Common.{◌≡◌, Bool, true, false, not, List, [], ◌∷◌, refl, ap, sym, subst, ◌∙◌, Calls, Seen, InOrder, Host, is_host, Kept, shown, AreLive, IsOnce, hosts_of, hosts_served, running, world_ended, IsHeld, IsNamed, WorldState, WorldFault, Seat, ServiceSeat, EventGives, StepGives, IsSomeWorld, IsHeldAmong, IsLawfulAmong, IsWholeAmong, MixedState, strange_in, with_programs}
+use Rattle.net_sim.proofs.Common.{◌≡◌, Bool, true, false, not, List, [], ◌∷◌, refl, ap, sym, subst, ◌∙◌, Calls, Seen, InOrder, Host, is_host, Kept, shown, AreLive, IsHeld, IsOnce, IsNamed, hosts_of, hosts_served, running, world_ended, WorldState, WorldFault, Seat, ServiceSeat, EventGives, StepGives}
 use Rattle.std.proofs.Common.{Result}
 use Rattle.std.specs.List.{filter}
 use Rattle.interface.specs.Mailboxes.{IsRun}
+use Rattle.net_sim.specs.Inside.Core.{IsSomeWorld}
+use Rattle.net_sim.specs.Inside.Mixed.{IsHeldAmong}
+use Rattle.net_sim.specs.MixedWorlds.{IsLawfulAmong, IsWholeAmong, MixedState, strange_in, with_programs}
 use Rattle.net_sim.specs.World.{Event}
 use Rattle.net_sim.proofs.Books.Held.{event_steps, hosts_seated, once_in_order, seats_live}
 use Rattle.net_sim.proofs.Books.Mixed as mixed

@@ -1,8 +1,9 @@
 -- One walk over what a stranger does, as EachEvent has it over the events of a world: a message of it goes out, something comes in for it,
 -- or nothing.
-use Rattle.net_sim.proofs.Common.{◌≡◌, inl, inr, false, List, [], ◌∷◌, Option, Some, None, Ok, Err, Calls, crossing_of, Host, CarrierFault, Crossing, Inbound, HostMessage, WorldState, with_carrier, FetchEnds, FetchGives, OutEnds, OutGives}
+use Rattle.net_sim.proofs.Common.{◌≡◌, inl, inr, false, List, [], ◌∷◌, Option, Some, None, Ok, Err, Calls, crossing_of, Host, CarrierFault, Crossing, Inbound, HostMessage, WorldState, with_carrier}
 use Rattle.std.proofs.Common.{Result}
 use Rattle.interface.specs.declared.crossing.Crossing.TheVariants as crossing
+use Rattle.net_sim.specs.MixedWorlds.{FetchEnds, FetchGives, OutEnds, OutGives}
 use Rattle.net_sim.specs.World.{changed}
 use Rattle.net_sim.proofs.Books.EachEvent.{Answered, Shows, Ways, does, passes}
 

@@ -1,5 +1,5 @@
 -- Nothing is handed over in a receiving life: a request to send is refused on a receiving socket.
-use Rattle.net_sim.proofs.Common.{◌≡◌, ℕ, ◌==◌, ◌&&◌, ◌++◌, ◌%◌, Bool, true, false, not, List, [], ◌∷◌, None, refl, ap, sym, subst, ◌∙◌, arith, if◌then◌else◌, eqb-true, Host, same_host, Seen, Crossing, and_true, is_receive_socket, is_send_socket, Notice, NcpState, Request, Life, Kept, all_told, book_told, carried, changed_when, handed_to, life_ended, lives_asked, lives_at, lives_between, lives_crossed, lives_on, lives_told, lives_with, new_life, returned, where_it, Moment, Crossed, Asked, program, Happens, IsLawful, host_in, kept_by, notices_by, WorldState, AreMixed, crossed_only, mixed_kept, IsLawfulAmong}
+use Rattle.net_sim.proofs.Common.{◌≡◌, ℕ, ◌==◌, ◌&&◌, ◌++◌, ◌%◌, Bool, true, false, not, List, [], ◌∷◌, None, refl, ap, sym, subst, ◌∙◌, arith, if◌then◌else◌, eqb-true, Host, same_host, Seen, Crossing, and_true, is_receive_socket, is_send_socket, Notice, NcpState, Request, Life, Kept, all_told, book_told, carried, changed_when, handed_to, life_ended, lives_asked, lives_at, lives_between, lives_crossed, lives_on, lives_told, lives_with, new_life, returned, where_it, Moment, Crossed, Asked, program, Happens, IsLawful, host_in, kept_by, notices_by, WorldState}
 use Rattle.interface.specs.declared.crossing.Crossing.TheVariants as crossing
 use Rattle.interface.proofs.lemmas.{guard, not_false}
 use Rattle.host_pairs.specs.declared.notice.Notice.TheVariants as notice
@@ -7,6 +7,8 @@ use Rattle.sockets.specs.Requests.{refusal}
 use Rattle.sockets.specs.declared.request.Request.TheVariants as request
 use Rattle.net_sim.specs.Book.{granted, handed_asked, handed_told}
 use Rattle.net_sim.specs.Handed.{AreUnhanded}
+use Rattle.net_sim.specs.Mixed.{AreMixed, crossed_only, mixed_kept}
+use Rattle.net_sim.specs.MixedWorlds.{IsLawfulAmong}
 use Rattle.net_sim.proofs.Books.Nobody.{lawful_among}
 
 -- ---- changes of lives

@@ -1,6 +1,5 @@
 -- After every event of a world some of whose hosts may be strangers its book still describes one list of mixed moments.
-use Rattle.net_sim.proofs.Common.{◌≡◌, ◌⊎◌, inl, inr, ℕ, Bool, true, not, ◌||◌, if◌then◌else◌, List, [], ◌∷◌, ◌++◌, map, length, Option, Some, None, Ok, Err, refl, ap, sym, subst, ◌∙◌, MatchBool, fold, Calls, Seen, ShowsOffer, ShowsTake, ShowsRefusal, ShowsCrossings, halted, is_memory, step_crossings, Host, IsAddress, same_host, is_host, same_host-refl, CarrierFault, Crossing, Inbound, NetEvent, HostMessage, accepted, NcpState, refusal, served, served_notices, next_out, offered, NcpFault, Notice, Request, MayAsk, NamePeers, NoneRefused, ServiceDeskState, ServicesState, opening_desk, server_begun, user_begun, line_bits, Called, Kept, contacts_asked, crossed, all_crossed, book_told, all_told, asked, shown, Moment, Crossed, Asked, places, Happens, IsAddressed, contacts_of, crossings_of, host_in, notices_by, without_reports, AreServed, Each, IsNamed, seat_in, WorldState, WorldFault, Carrier, Program, Net, Quiet, Offer, Ask, Server, User, Typed, Seat, seat_of, seated, all_turned, services_of, noticed, world_heard, tended, with_server, with_user, DoesOrHalts, TypeGives, with_program, with_carrier, world_moved, Refuses, Does, Halts, OfferEnds, OfferGives, TakeEnds, TakeGives, NetEnds, QuietEnds, AskGives, AtProgram, AtSeat, EventGives, StepGives, RunGives, CalmGives, opening_seats, AreMixed, mixed_kept, FetchEnds, FetchGives, IsWholeAmong, OutEnds, OutGives, opening_among, with_programs}
-use Rattle.std.proofs.Common.{false, filter}
+use Rattle.net_sim.proofs.Common.{◌≡◌, ◌⊎◌, inl, inr, ℕ, Bool, true, false, not, filter, ◌||◌, if◌then◌else◌, List, [], ◌∷◌, ◌++◌, map, length, Option, Some, None, Ok, Err, refl, ap, sym, subst, ◌∙◌, MatchBool, fold, Calls, Seen, ShowsOffer, ShowsTake, ShowsRefusal, ShowsCrossings, halted, is_memory, step_crossings, Host, IsAddress, same_host, is_host, same_host-refl, CarrierFault, Crossing, Inbound, NetEvent, HostMessage, accepted, NcpState, refusal, served, served_notices, next_out, offered, NcpFault, Notice, Request, MayAsk, NamePeers, NoneRefused, ServiceDeskState, ServicesState, opening_desk, server_begun, user_begun, line_bits, Called, Kept, contacts_asked, crossed, all_crossed, book_told, all_told, asked, shown, Moment, Crossed, Asked, places, Happens, IsAddressed, contacts_of, crossings_of, host_in, notices_by, without_reports, AreServed, Each, IsNamed, seat_in, WorldState, WorldFault, Carrier, Program, Net, Quiet, Offer, Ask, Server, User, Typed, Seat, seat_of, seated, all_turned, services_of, noticed, world_heard, tended, with_server, with_user, DoesOrHalts, TypeGives, with_program, with_carrier, world_moved, Refuses, Does, Halts, OfferEnds, OfferGives, TakeEnds, TakeGives, NetEnds, QuietEnds, AskGives, AtProgram, AtSeat, EventGives, StepGives, RunGives, CalmGives, opening_seats}
 use Rattle.std.proofs.Common.{All, Result}
 use Rattle.interface.specs.Calls.{ShowsStep, ShowsRound}
 use Rattle.interface.specs.Mailboxes as mail
@@ -14,6 +13,8 @@ use Rattle.host_services.proofs.lemmas.{server_asked_all, server_named_all, told
 use Rattle.host_services.specs.Named.{HasAsked}
 use Rattle.net_sim.specs.Story.{program}
 use Rattle.net_sim.specs.Timeline.{IsAsked}
+use Rattle.net_sim.specs.Mixed.{AreMixed, mixed_kept}
+use Rattle.net_sim.specs.MixedWorlds.{FetchEnds, FetchGives, IsWholeAmong, OutEnds, OutGives, opening_among, with_programs}
 use Rattle.net_sim.specs.World.{Event, Take, turn_of, changed, Passes}
 use Rattle.interface.proofs.lemmas.{same_host-true}
 use Rattle.net_sim.proofs.Books.Always.{run_keeps, calm_keeps}

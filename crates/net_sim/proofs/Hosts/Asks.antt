@@ -1,9 +1,10 @@
 -- What services of a host ask for, as one moment after the other; and the services of all hosts.
-use Rattle.net_sim.proofs.Common.{◌≡◌, ℕ, Bool, true, false, if◌then◌else◌, find, List, [], ◌∷◌, ◌++◌, map, length, Option, Some, None, refl, ap, sym, ◌∙◌, fold, All-cons, All-head, All-nil, All-tail, Host, same_host, Crossing, same_host-refl, NcpState, refusal, served, Request, MayAsk, NamePeers, NoneRefused, ServicesState, no_services, Called, Kept, all_asked, asked, contacts_asked, Moment, Asked, program, places, contacts_of, crossings_of, AreServed, seat_in, ServiceSeat, Seat, all_emptied, opening_services, services_in, services_of, serviced, with_program, with_services, AreMixed}
+use Rattle.net_sim.proofs.Common.{◌≡◌, ℕ, Bool, true, false, if◌then◌else◌, find, List, [], ◌∷◌, ◌++◌, map, length, Option, Some, None, refl, ap, sym, ◌∙◌, fold, All-cons, All-head, All-nil, All-tail, Host, same_host, Crossing, same_host-refl, NcpState, refusal, served, Request, MayAsk, NamePeers, NoneRefused, ServicesState, no_services, Called, Kept, all_asked, asked, contacts_asked, Moment, Asked, program, places, contacts_of, crossings_of, AreServed, seat_in, ServiceSeat, Seat, all_emptied, opening_services, services_in, services_of, serviced, with_program, with_services}
 use Rattle.std.proofs.Common.{All}
 use Rattle.interface.specs.Mailboxes as mail
 use Rattle.interface.specs.declared.crossing.Crossing.TheVariants as crossing
 use Rattle.host_services.specs.Named.{NamesPeer}
+use Rattle.net_sim.specs.Mixed.{AreMixed}
 use Rattle.net_sim.proofs.Hosts.Seats.{seated_at}
 
 -- ---- moments

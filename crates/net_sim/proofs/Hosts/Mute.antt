@@ -1,6 +1,7 @@
 -- A host that has just come up has nothing to say.
-use Rattle.net_sim.proofs.Common.{◌≡◌, ℕ, zero, suc, List, [], ◌∷◌, Option, Some, None, refl, ap, subst, ◌∙◌, Host, NcpState, opening_state, Seat, opening_seats, same_Some}
+use Rattle.net_sim.proofs.Common.{◌≡◌, ℕ, zero, suc, List, [], ◌∷◌, Option, Some, None, refl, ap, subst, ◌∙◌, Host, NcpState, opening_state, Seat, opening_seats}
 use Rattle.std.proofs.Common.{slice_get}
+use Rattle.std.proofs.lemmas.Option.{same_Some}
 use Rattle.sockets.specs.Sending.{next_out}
 
 pub opening_mute : (h : Host) → next_out (opening_state h) ≡ None

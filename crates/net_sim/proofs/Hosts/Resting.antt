@@ -1,11 +1,12 @@
 -- A world that rests: the carrier does, and no message of a host goes out.
-use Rattle.net_sim.proofs.Common.{◌≡◌, ℕ, ◌+◌, ◌-◌, ◌<◌, zero, suc, Bool, false, ◌==◌, inr, List, [], ◌∷◌, length, find, cond, if◌then◌else◌, Option, Some, None, IfSome, Ok, Err, refl, ap, sym, subst, ◌∙◌, arith, eqb-true, MatchBool, Host, same_host, Calls, Seen, ShowsOffer, ShowsTake, halted, is_memory, is_halt, RefusesOffer, Rests, CarrierFault, Inbound, HostMessage, NcpState, next_out, shown, WorldState, WorldFault, Carrier, Quiet, Offer, Seat, seat_of, Refuses, OfferGives, TakeGives, AtSeat, EventGives, stops, Repeats, TurnsOf, up_in, Calms, AllOfferNothing, IsAtRest, Leaves}
+use Rattle.net_sim.proofs.Common.{◌≡◌, ℕ, ◌+◌, ◌-◌, ◌<◌, zero, suc, Bool, false, ◌==◌, inr, List, [], ◌∷◌, length, find, cond, if◌then◌else◌, Option, Some, None, IfSome, Ok, Err, refl, ap, sym, subst, ◌∙◌, arith, eqb-true, MatchBool, Host, same_host, Calls, Seen, ShowsOffer, ShowsTake, halted, is_memory, is_halt, RefusesOffer, Rests, CarrierFault, Inbound, HostMessage, NcpState, next_out, shown, WorldState, WorldFault, Carrier, Quiet, Offer, Seat, seat_of, Refuses, OfferGives, TakeGives, AtSeat, EventGives, stops, Repeats, TurnsOf, up_in, Calms}
 use Rattle.std.proofs.lemmas.Bool.{or_from}
 use Rattle.std.proofs.Common.{true, slice_get, Result}
 use Rattle.std.proofs.lemmas.Bool.Decides.{nat_tests}
 use Rattle.interface.specs.Rest.{BringsNothing, TakesNothing}
 use Rattle.interface.specs.declared.carrier.CarrierFault.TheVariants as fault
-use Rattle.net_sim.specs.Inside.Calm.{OffersNothing}
+use Rattle.net_sim.specs.Inside.Calm.{AllOfferNothing, OffersNothing}
+use Rattle.net_sim.specs.Rest.{IsAtRest, Leaves}
 use Rattle.net_sim.specs.World.{Take}
 use Rattle.net_sim.proofs.Hosts.Calming.{Passed, none_repeated}
 

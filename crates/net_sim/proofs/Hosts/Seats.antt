@@ -1,10 +1,12 @@
 -- The seats of a world after one moment more.
-use Rattle.net_sim.proofs.Common.{◌≡◌, Bool, true, false, if◌then◌else◌, List, [], ◌∷◌, ◌++◌, map, Option, Some, None, refl, ap, sym, subst, ◌∙◌, reverse_onto, Seen, step_crossings, up_at, Host, same_host, Crossing, NetEvent, both_ways, same_host-refl, NcpState, opening_state, Moment, Crossed, program, contacts_of, crossings_of, seat_in, Seat, all_turned, seat_of, seated, seats_turned, with_program, AreMixed, with_programs}
+use Rattle.net_sim.proofs.Common.{◌≡◌, Bool, true, false, if◌then◌else◌, List, [], ◌∷◌, ◌++◌, map, Option, Some, None, refl, ap, sym, subst, ◌∙◌, reverse_onto, Seen, step_crossings, up_at, Host, same_host, Crossing, NetEvent, both_ways, same_host-refl, NcpState, opening_state, Moment, Crossed, program, contacts_of, crossings_of, seat_in, Seat, all_turned, seat_of, seated, seats_turned, with_program}
 use Rattle.std.specs.Prelude.{reverse}
 use Rattle.interface.specs.Mailboxes as mail
 use Rattle.interface.specs.declared.crossing.Crossing.TheVariants as crossing
 use Rattle.interface.specs.declared.event.NetEvent.TheVariants as event
 use Rattle.interface.proofs.lemmas.{same_host-true}
+use Rattle.net_sim.specs.Mixed.{AreMixed}
+use Rattle.net_sim.specs.MixedWorlds.{with_programs}
 
 -- ---- finding a seat
 

@@ -1,5 +1,6 @@
 -- A host's services are where its seat is.
-use Rattle.net_sim.proofs.Common.{◌≡◌, ℕ, zero, suc, ◌<◌, Bool, true, false, List, [], ◌∷◌, length, Option, Some, refl, ap, sym, subst, ◌∙◌, arith, Host, same_host, is_host, or_false, same_host-refl, NcpState, ServicesState, IsOnce, Serves, Sits, hosts_of, hosts_served, ServiceSeat, Seat, services_of, serviced, or_left, or_right}
+use Rattle.net_sim.proofs.Common.{◌≡◌, ℕ, zero, suc, ◌<◌, Bool, true, false, List, [], ◌∷◌, length, Option, Some, refl, ap, sym, subst, ◌∙◌, arith, Host, same_host, is_host, or_false, same_host-refl, NcpState, ServicesState, IsOnce, Serves, Sits, hosts_of, hosts_served, ServiceSeat, Seat, services_of, serviced}
+use Rattle.std.proofs.lemmas.Bool.{or_left, or_right}
 use Rattle.std.proofs.Common.{slice_index_or}
 
 -- ---- a host that is none of these

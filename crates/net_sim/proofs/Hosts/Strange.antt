@@ -1,9 +1,9 @@
 -- How an event of a world with strangers ends.
-use Rattle.net_sim.proofs.Common.{◌≡◌, Bool, true, false, List, Ok, Err, refl, ap, sym, subst, ◌∙◌, MatchBool, Calls, Host, is_host, HostMessage, WorldState, WorldFault, StepGives, mixed_runs_out, runs_out, AnyGives, FetchGives, MixedFault, MixedState, OfWorld, OutGives, RefusesMixed, is_strange, mixed_answer}
+use Rattle.net_sim.proofs.Common.{◌≡◌, Bool, true, false, List, Ok, Err, refl, ap, sym, subst, ◌∙◌, MatchBool, Calls, Host, is_host, HostMessage, WorldState, WorldFault, StepGives}
 use Rattle.std.proofs.Common.{Result}
-use Rattle.net_sim.specs.Inside.Mixed.{mixed_after, mixed_of}
-use Rattle.net_sim.specs.Inside.Parts.{Hosts, world_after, world_of, world_of_hosts}
-use Rattle.net_sim.specs.MixedWorlds.{AskedGives, NoProgram, asked_at}
+use Rattle.net_sim.specs.Inside.Mixed.{mixed_after, mixed_of, mixed_runs_out}
+use Rattle.net_sim.specs.Inside.Parts.{Hosts, runs_out, world_after, world_of, world_of_hosts}
+use Rattle.net_sim.specs.MixedWorlds.{AnyGives, AskedGives, FetchGives, MixedFault, MixedState, NoProgram, OfWorld, OutGives, RefusesMixed, asked_at, is_strange, mixed_answer}
 use Rattle.net_sim.specs.World.{Event, Take}
 
 abbrev Answer : Type 0

@@ -1,10 +1,11 @@
 -- What is kept of a world, but for what services report, is what its moments say.
-use Rattle.net_sim.proofs.Common.{◌≡◌, Bool, true, false, if◌then◌else◌, List, [], ◌∷◌, refl, ap, sym, ◌∙◌, All-head, All-tail, Host, Crossing, Notice, NcpState, Request, MayAsk, Kept, all_asked, all_crossed, all_told, asked, book_told, crossed, Moment, Crossed, Asked, program, host_in, kept_by, kept_in, notices_by, without_reports, crossed_only, mixed_kept}
+use Rattle.net_sim.proofs.Common.{◌≡◌, Bool, true, false, if◌then◌else◌, List, [], ◌∷◌, refl, ap, sym, ◌∙◌, All-head, All-tail, Host, Crossing, Notice, NcpState, Request, MayAsk, Kept, all_asked, all_crossed, all_told, asked, book_told, crossed, Moment, Crossed, Asked, program, host_in, kept_by, kept_in, notices_by, without_reports}
 use Rattle.std.proofs.Common.{All}
 use Rattle.interface.specs.declared.crossing.Crossing.TheVariants as crossing
 use Rattle.sockets.specs.Requests.{served_notices}
 use Rattle.sockets.specs.declared.request.Request.TheVariants as request
 use Rattle.host_services.specs.Named.{IsSilent}
+use Rattle.net_sim.specs.Mixed.{crossed_only, mixed_kept}
 use Rattle.net_sim.proofs.Hosts.Asks.{asks_of}
 use Rattle.net_sim.proofs.Hosts.Seats.{AreTurns, with_crossings}
 

@@ -1,7 +1,6 @@
 -- What a command, a message of data or a request does to the connections of a pair makes no request go out, and queues neither
 -- RST nor RRP.
-use Rattle.net_sim.proofs.Common.{◌≡◌, ℕ, Bool, false, not, ◌||◌, ◌&&◌, ◌==◌, if◌then◌else◌, List, [], ◌∷◌, ◌++◌, map, find, drop, length, Option, Some, None, refl, ap, sym, subst, ◌∙◌, zero, suc, arith, eq-eqb, octets_of, Host, Command, DataHeader, header_of, spelling, error, desk_taken, data_taken, changed_first, is_at, free_link, receiving_end, sending_end, DeskState, command_queued, settled, Entry, Listener, Notice, list_any, has_asked, has_control, names_control, on_control, ArePlain, IsQueued}
-use Rattle.std.proofs.Common.{filter}
+use Rattle.net_sim.proofs.Common.{◌≡◌, ℕ, Bool, false, not, ◌||◌, ◌&&◌, ◌==◌, if◌then◌else◌, List, [], ◌∷◌, ◌++◌, map, filter, find, drop, length, Option, Some, None, refl, ap, sym, subst, ◌∙◌, zero, suc, arith, eq-eqb, octets_of, Host, Command, DataHeader, header_of, spelling, error, desk_taken, data_taken, changed_first, is_at, free_link, receiving_end, sending_end, DeskState, command_queued, settled, Entry, Listener, Notice, list_any, has_asked, has_control, names_control, on_control, ArePlain, IsQueued}
 use Rattle.std.proofs.Common.{true, replicate, is_some, nat_le}
 use Rattle.std.proofs.lemmas.List.{length-append, length-take-le}
 use Rattle.std.proofs.lemmas.List.Folds.{list_any-append}

@@ -1,6 +1,6 @@
 -- What goes out is, for each peer, a step that the law of resets allows.
-use Rattle.net_sim.proofs.Common.{◌≡◌, ◌⊎◌, inl, inr, ℕ, Bool, not, ◌&&◌, ◌||◌, ◌==◌, ◌*◌, if◌then◌else◌, List, [], ◌∷◌, take, drop, find, length, nat_lt, Option, Some, None, refl, ap, sym, subst, ◌∙◌, eq-eqb, zero, suc, eqb-true, Host, same_host, same_host-refl, Command, packed_count, Order, Legal, Wrong, changed_first, is_at, is_busy, is_open, is_receiving, PairState, DeskState, desk_of, NcpState, pair_with, AreInOrder, Parcel, next_of, pair_after, parcel_gone, next_in, message_for, Entry, Listener, Peer, at_link, Message, Reset, Reply, Other, part_of, Pair, Kind, pair_moved, is_rst, is_rrp, is_alone, message_on, has_asked, event_of, IsApart, ArePlain, AllPlain, Agrees, has_control, on_control, list_any, or_right}
-use Rattle.std.proofs.Common.{filter}
+use Rattle.net_sim.proofs.Common.{◌≡◌, ◌⊎◌, inl, inr, ℕ, Bool, not, ◌&&◌, ◌||◌, ◌==◌, ◌*◌, if◌then◌else◌, List, [], ◌∷◌, take, drop, find, filter, length, nat_lt, Option, Some, None, refl, ap, sym, subst, ◌∙◌, eq-eqb, zero, suc, eqb-true, Host, same_host, same_host-refl, Command, packed_count, Order, Legal, Wrong, changed_first, is_at, is_busy, is_open, is_receiving, PairState, DeskState, desk_of, NcpState, pair_with, AreInOrder, Parcel, next_of, pair_after, parcel_gone, next_in, message_for, Entry, Listener, Peer, at_link, Message, Reset, Reply, Other, part_of, Pair, Kind, pair_moved, is_rst, is_rrp, is_alone, message_on, has_asked, event_of, IsApart, ArePlain, AllPlain, Agrees, has_control, on_control, list_any}
+use Rattle.std.proofs.lemmas.Bool.{or_right}
 use Rattle.std.proofs.Common.{◌≢◌, true, false, is_some}
 use Rattle.bit_messages.specs.Octets.{octets_of}
 use Rattle.ncp_control.specs.declared.command.Command.TheVariants as command

@@ -1,9 +1,12 @@
 -- After every story each program is, for each peer, where the law of resets has it.
-use Rattle.net_sim.proofs.Common.{◌≡◌, Bool, true, false, if◌then◌else◌, List, [], ◌∷◌, refl, sym, subst, Host, same_host, Flow, Answer, HostMessage, PairState, NcpState, pair_with, message_for, Request, part_of, Pair, pair_moved, pair, Agrees, event_of, event_by, Moment, Crossed, Asked, places, events_of, program, IsStory, accepted, served, offered}
+use Rattle.net_sim.proofs.Common.{◌≡◌, Bool, true, false, if◌then◌else◌, List, [], ◌∷◌, refl, sym, subst, Host, same_host, Flow, Answer, HostMessage, PairState, NcpState, pair_with, message_for, Request, part_of, Pair, pair_moved, pair, Agrees, event_of, event_by, Moment, Crossed, Asked, places, events_of, program, IsStory}
 use Rattle.std.proofs.Common.{is_some}
 use Rattle.interface.specs.declared.crossing.Crossing.TheVariants as crossing
 use Rattle.interface.specs.declared.crossing.Inbound.TheVariants as inbound
 use Rattle.interface.proofs.lemmas.{same_host-true}
+use Rattle.sockets.specs.Accepting.{accepted}
+use Rattle.sockets.specs.Requests.{served}
+use Rattle.sockets.specs.Sending.{offered}
 use Rattle.sockets.specs.declared.request.Request.TheVariants as request
 use Rattle.reset_law.specs.Events.{Event}
 use Rattle.net_sim.specs.Story.{event_in, IsNext, Follows}

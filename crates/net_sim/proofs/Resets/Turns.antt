@@ -1,6 +1,5 @@
 -- What comes in is, for each peer, a step of the law of resets.
-use Rattle.net_sim.proofs.Common.{◌≡◌, ℕ, Bool, not, ◌==◌, if◌then◌else◌, List, [], ◌∷◌, Option, None, refl, ap, sym, subst, ◌∙◌, eq-eqb, eqb-true, Host, Answer, Command, TurnState, if_ready, command_taken, order_taken, orders_taken, message_taken, answered_turn, desk_taken, Order, Legal, Wrong, orders_of, error, data_taken, is_busy, PairState, DeskState, desk_of, command_queued, Entry, Listener, Notice, at_link, Message, Reset, Reply, Other, Pair, Kind, has_control, is_rst, is_rrp, names_control, is_alone, message_on, Agrees, IsPlain, AllPlain, IsApart}
-use Rattle.std.proofs.Common.{filter}
+use Rattle.net_sim.proofs.Common.{◌≡◌, ℕ, Bool, not, ◌==◌, if◌then◌else◌, List, [], ◌∷◌, filter, Option, None, refl, ap, sym, subst, ◌∙◌, eq-eqb, eqb-true, Host, Answer, Command, TurnState, if_ready, command_taken, order_taken, orders_taken, message_taken, answered_turn, desk_taken, Order, Legal, Wrong, orders_of, error, data_taken, is_busy, PairState, DeskState, desk_of, command_queued, Entry, Listener, Notice, at_link, Message, Reset, Reply, Other, Pair, Kind, has_control, is_rst, is_rrp, names_control, is_alone, message_on, Agrees, IsPlain, AllPlain, IsApart}
 use Rattle.std.proofs.Common.{true, false, is_some}
 use Rattle.interface.specs.declared.crossing.Answer.TheVariants as answer
 use Rattle.ncp_control.specs.declared.command.Command.TheVariants as command

@@ -1,5 +1,6 @@
-use Rattle.net_sim.proofs.Common.{rules, if◌then◌else◌, Calls, shown, Carrier, HasProgram, World, has_seat}
+use Rattle.net_sim.proofs.Common.{rules, if◌then◌else◌, Calls, shown, Carrier}
 use Rattle.interface.specs.declared.carrier.CarrierFault.TheVariants as fault
+use Rattle.net_sim.specs.MixedWorlds.{HasProgram, World, has_seat}
 use Rattle.net_sim.proofs.Hosts.Strange.{says_strange}
 use Rattle.net_sim.proofs.strangers.say.Goals as goal
 

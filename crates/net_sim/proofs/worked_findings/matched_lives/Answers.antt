@@ -1,4 +1,7 @@
-use Rattle.net_sim.proofs.Common.{◌≡◌, true, false, List, [], ◌∷◌, Some, refl, ap, ◌∙◌, arith, Crossing, Life, AreUnmatched, Match, receives, crossings, giver, taker, same_Some, WithMatch}
+use Rattle.net_sim.proofs.Common.{◌≡◌, true, false, List, [], ◌∷◌, Some, refl, ap, ◌∙◌, arith, Crossing, Life}
+use Rattle.net_sim.proofs.Common.{AreUnmatched, Match, receives, crossings, giver, taker}
+use Rattle.std.proofs.lemmas.Option.{same_Some}
+use Rattle.net_sim.specs.Findings.{WithMatch}
 use Rattle.net_sim.specs.declared.auditing.findings.Finding.TheVariants as finding
 use Rattle.net_sim.proofs.Audits.Elements.{contains_head, contains_none}
 use Rattle.net_sim.proofs.worked_findings.matched_lives.Goals as goal

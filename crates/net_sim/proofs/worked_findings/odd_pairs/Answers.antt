@@ -1,4 +1,7 @@
-use Rattle.net_sim.proofs.Common.{◌≡◌, [], ◌∷◌, Some, refl, subst, arith, Life, SafePartners, AreAtPeace, crossings, giver, taker, same_Some, ShowsTwo}
+use Rattle.net_sim.proofs.Common.{◌≡◌, [], ◌∷◌, Some, refl, subst, arith, Life, SafePartners, AreAtPeace}
+use Rattle.net_sim.proofs.Common.{crossings, giver, taker}
+use Rattle.std.proofs.lemmas.Option.{same_Some}
+use Rattle.net_sim.specs.Findings.{ShowsTwo}
 use Rattle.net_sim.specs.declared.auditing.findings.Finding.TheVariants as finding
 use Rattle.net_sim.proofs.Audits.Elements.{contains_head, contains_tail}
 use Rattle.net_sim.proofs.Books.SafeRow.{partners}

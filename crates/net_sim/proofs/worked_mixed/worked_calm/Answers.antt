@@ -1,8 +1,11 @@
-use Rattle.net_sim.proofs.Common.{◌≡◌, Bool, true, false, [], ◌∷◌, Option, None, Ok, Err, IfSome, refl, sym, subst, Seen, Host, same_host, RefusesOffer, HostMessage, opening_state, first, second, WorldState, Carrier, third, AllOfferNothing, IsAtRest, Leaves, Quiet, beside_third}
+use Rattle.net_sim.proofs.Common.{◌≡◌, Bool, true, false, [], ◌∷◌, Option, None, Ok, Err, IfSome, refl, sym, subst, Seen, Host, same_host, RefusesOffer, HostMessage, opening_state, first, second, WorldState, Carrier}
 use Rattle.interface.specs.declared.carrier.CarrierFault.TheVariants as fault
 use Rattle.sockets.proofs.lemmas.{same_host-true}
-use Rattle.net_sim.specs.World.{Take}
-use Rattle.net_sim.specs.WorkedMixed.{beside_nobody, waiting_carrier}
+use Rattle.sockets.specs.Worked.{third}
+use Rattle.net_sim.specs.Inside.Calm.{AllOfferNothing}
+use Rattle.net_sim.specs.Rest.{IsAtRest, Leaves}
+use Rattle.net_sim.specs.World.{Quiet, Take}
+use Rattle.net_sim.specs.WorkedMixed.{beside_nobody, beside_third, waiting_carrier}
 use Rattle.net_sim.proofs.Hosts.Calming.{begun, none_passed}
 use Rattle.net_sim.proofs.Hosts.Mute.{all_mute}
 use Rattle.net_sim.proofs.Hosts.Resting.{offer_leaves, rest_passed, take_leaves}

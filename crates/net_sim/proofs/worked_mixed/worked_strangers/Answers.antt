@@ -1,9 +1,11 @@
-use Rattle.net_sim.proofs.Common.{◌≡◌, inl, inr, true, false, [], ◌∷◌, List, Option, Some, None, Ok, Err, refl, ap, sym, ◌∙◌, Seen, Host, first, message, CarrierFault, WorldFault, WorldState, OutEnds, third, MixedState, beside_third}
+use Rattle.net_sim.proofs.Common.{◌≡◌, inl, inr, true, false, [], ◌∷◌, List, Option, Some, None, Ok, Err, refl, ap, sym, ◌∙◌, Seen, Host, first, message, CarrierFault, WorldFault, WorldState}
 use Rattle.std.proofs.Common.{Result}
 use Rattle.interface.specs.declared.crossing.Crossing.TheVariants as crossing
-use Rattle.net_sim.specs.MixedWorlds.{StrangersFault, absent_in}
+use Rattle.net_sim.specs.MixedWorlds.{OutEnds}
+use Rattle.sockets.specs.Worked.{third}
+use Rattle.net_sim.specs.MixedWorlds.{MixedState, StrangersFault, absent_in}
 use Rattle.net_sim.specs.declared.mixed.StrangersFault.TheVariants as absent
-use Rattle.net_sim.specs.WorkedMixed.{IsMadeNaming, IsRefusedNaming, fifth, fourth, three_seen}
+use Rattle.net_sim.specs.WorkedMixed.{IsMadeNaming, IsRefusedNaming, beside_third, fifth, fourth, three_seen}
 use Rattle.net_sim.proofs.worked_mixed.worked_strangers.Goals as goal
 
 ends : (a : Result (Unit {0}) CarrierFault) (c : Seen) (r : Result (Unit {0}) WorldFault) (new : WorldState Seen) → a ≡ Ok tt → OutEnds (message third first 2) a c beside_third.world r new → new.stopped ≡ false

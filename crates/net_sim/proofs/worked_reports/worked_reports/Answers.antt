@@ -1,4 +1,5 @@
-use Rattle.net_sim.proofs.Common.{◌≡◌, ℕ, ◌+◌, Bool, true, false, ◌&&◌, ◌||◌, if◌then◌else◌, List, [], ◌∷◌, ◌++◌, Option, Some, None, refl, ap, sym, subst, ◌∙◌, arith, list_any, option_or, Host, Notice, is_receive_socket, is_send_socket, StartFault, ServerIsDone, UserIsDone, first, second, and_left}
+use Rattle.net_sim.proofs.Common.{◌≡◌, ℕ, ◌+◌, Bool, true, false, ◌&&◌, ◌||◌, if◌then◌else◌, List, [], ◌∷◌, ◌++◌, Option, Some, None, refl, ap, sym, subst, ◌∙◌, arith, list_any, option_or, Host, Notice, is_receive_socket, is_send_socket, StartFault, ServerIsDone, UserIsDone, first, second}
+use Rattle.std.proofs.lemmas.Bool.{and_left}
 use Rattle.std.proofs.Common.{nat_le}
 use Rattle.bit_messages.specs.Octets.{octets_of}
 use Rattle.icp.specs.Notices.{is_opened, opened_on}

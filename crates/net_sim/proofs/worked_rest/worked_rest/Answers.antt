@@ -1,11 +1,11 @@
-use Rattle.net_sim.proofs.Common.{◌≡◌, true, false, [], ◌∷◌, Option, Some, None, Ok, Err, IfSome, ap, refl, sym, subst, ◌∙◌, Seen, RefusesOffer, Rests, CarrierFault, HostMessage, NcpState, opening_state, first, second, QuietEnds, WorldFault, stops, busy, fresh}
+use Rattle.net_sim.proofs.Common.{◌≡◌, true, false, [], ◌∷◌, Option, Some, None, Ok, Err, IfSome, ap, refl, sym, subst, ◌∙◌, Seen, RefusesOffer, Rests, CarrierFault, HostMessage, NcpState, opening_state, first, second, QuietEnds, WorldFault, stops}
 use Rattle.std.proofs.Common.{Result}
 use Rattle.interface.specs.declared.carrier.CarrierFault.TheVariants as fault
 use Rattle.host_services.specs.Turns as turns
 use Rattle.sockets.specs.Requests.{served, served_notices}
 use Rattle.sockets.specs.Sending.{next_out}
 use Rattle.sockets.specs.declared.request.Request.TheVariants as request
-use Rattle.net_sim.specs.Worked.{accepting_carrier, any_carrier, giving_carrier}
+use Rattle.net_sim.specs.Worked.{accepting_carrier, any_carrier, busy, fresh, giving_carrier}
 use Rattle.net_sim.proofs.Hosts.Mute.{all_mute}
 use Rattle.net_sim.proofs.Hosts.Resting.{rests_by}
 use Rattle.net_sim.proofs.Hosts.Unresting.{given_moves, taken_moves}

@@ -1,10 +1,13 @@
-use Rattle.net_sim.proofs.Common.{◌≡◌, zero, suc, true, false, List, [], ◌∷◌, Option, Some, None, arith, ap, refl, subst, ◌∙◌, Host, NcpState, opening_state, first, second, Seat, same_Some, busy, fresh}
+use Rattle.net_sim.proofs.Common.{◌≡◌, zero, suc, true, false, List, [], ◌∷◌, Option, Some, None, arith, ap, refl}
+use Rattle.net_sim.proofs.Common.{subst, ◌∙◌, Host, NcpState, opening_state, first, second, Seat}
 use Rattle.std.proofs.Common.{is_some}
+use Rattle.std.proofs.lemmas.Option.{same_Some}
 use Rattle.host_services.specs.Turns as turns
 use Rattle.sockets.specs.Requests.{served, served_notices}
 use Rattle.sockets.specs.Sending.{next_out}
 use Rattle.sockets.specs.declared.request.Request.TheVariants as request
 use Rattle.net_sim.specs.Silent.{AllSilent}
+use Rattle.net_sim.specs.Worked.{busy, fresh}
 use Rattle.net_sim.proofs.Hosts.Mute.{opening_mute}
 use Rattle.net_sim.proofs.worked_rest.worked_silence.Goals as goal
 

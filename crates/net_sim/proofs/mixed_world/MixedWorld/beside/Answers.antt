@@ -1,6 +1,7 @@
-use Rattle.net_sim.proofs.Common.{rules, ◌≡◌, ◌∙◌, ap, refl, List, subst, shown, Calls, InOrder, Host, IsAddress, is_host, opening_seats, opening_services, opening_kept, opening_mixed, with_programs}
-use Rattle.std.proofs.Common.{filter}
+use Rattle.net_sim.proofs.Common.{rules, ◌≡◌, ◌∙◌, ap, refl, List, filter, subst, shown, Calls, InOrder, Host, IsAddress, is_host, opening_seats, opening_services}
 use Rattle.std.specs.List.{All}
+use Rattle.net_sim.specs.Book.{opening_kept}
+use Rattle.net_sim.specs.MixedWorlds.{opening_mixed, with_programs}
 use Rattle.net_sim.proofs.Books.HeldMixed.{mixed_opening_held}
 use Rattle.net_sim.proofs.Books.SomeWorld.{among_some}
 use Rattle.net_sim.proofs.mixed_world.MixedWorld.beside.Goals as goal

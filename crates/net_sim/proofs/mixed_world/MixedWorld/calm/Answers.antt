@@ -1,4 +1,6 @@
-use Rattle.net_sim.proofs.Common.{rules, ◌≡◌, refl, CalmGives, Calls, shown, IsHeldAmong, mixed_with, MixedState, mixed_answer}
+use Rattle.net_sim.proofs.Common.{rules, ◌≡◌, refl, CalmGives, Calls, shown}
+use Rattle.net_sim.specs.Inside.Mixed.{IsHeldAmong, mixed_with}
+use Rattle.net_sim.specs.MixedWorlds.{MixedState, mixed_answer}
 use Rattle.net_sim.proofs.Books.HeldMixed.{calm_held}
 use Rattle.net_sim.proofs.mixed_world.MixedWorld.calm.Goals as goal
 

@@ -1,4 +1,5 @@
-use Rattle.net_sim.proofs.Common.{rules, ◌≡◌, ◌∷◌, List, true, false, subst, shown, Calls, MixedEvent, MixedRuns, mixed_stops}
+use Rattle.net_sim.proofs.Common.{rules, ◌≡◌, ◌∷◌, List, true, false, subst, shown, Calls}
+use Rattle.net_sim.specs.MixedWorlds.{MixedEvent, MixedRuns, mixed_stops}
 use Rattle.net_sim.proofs.Books.RunLoop.{mixed_ends, mixed_more, mixed_on}
 use Rattle.net_sim.proofs.mixed_world.MixedWorld.run.Goals as goal
 

@@ -1,5 +1,6 @@
-use Rattle.net_sim.proofs.Common.{shown, Calls, MixedFault, MixedRuns, MixedState}
+use Rattle.net_sim.proofs.Common.{shown, Calls}
 use Rattle.std.specs.Prelude.{Result}
+use Rattle.net_sim.specs.MixedWorlds.{MixedFault, MixedRuns, MixedState}
 use Rattle.net_sim.proofs.mixed_world.MixedWorld.run.Given as goal
 
 -- what comes of the events that are left comes of all

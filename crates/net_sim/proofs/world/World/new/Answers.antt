@@ -1,5 +1,6 @@
-use Rattle.net_sim.proofs.Common.{rules, ◌≡◌, subst, shown, Calls, InOrder, Host, IsAddress, IsHeld, opening_seats, opening_services, opening_world, opening_kept}
+use Rattle.net_sim.proofs.Common.{rules, ◌≡◌, subst, shown, Calls, InOrder, Host, IsAddress, IsHeld, opening_seats, opening_services, opening_world}
 use Rattle.std.specs.List.{All}
+use Rattle.net_sim.specs.Book.{opening_kept}
 use Rattle.net_sim.proofs.Books.Held.{opening_held}
 use Rattle.net_sim.proofs.Books.SomeWorld.{held_some}
 use Rattle.net_sim.proofs.world.World.new.Goals as goal

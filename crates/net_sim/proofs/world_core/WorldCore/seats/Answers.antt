@@ -1,4 +1,5 @@
-use Rattle.net_sim.proofs.Common.{rules, IsSomeWorld}
+use Rattle.net_sim.proofs.Common.{rules}
+use Rattle.net_sim.specs.Inside.Core.{IsSomeWorld}
 use Rattle.net_sim.proofs.Books.SomeWorld.{core_once}
 use Rattle.net_sim.proofs.world_core.WorldCore.seats.Goals as goal
 

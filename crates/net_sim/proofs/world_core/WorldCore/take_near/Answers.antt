@@ -1,5 +1,6 @@
-use Rattle.net_sim.proofs.Common.{rules, ◌≡◌, List, sym, subst, ap, ◌∙◌, shown, AreLive, IsOnce, world_ended, hosts_of, hosts_served, running, runs_out, EventGives, ServiceSeat, Seat, Calls, IsSomeWorld}
+use Rattle.net_sim.proofs.Common.{rules, ◌≡◌, List, sym, subst, ap, ◌∙◌, shown, AreLive, IsOnce, world_ended, hosts_of, hosts_served, running, runs_out, EventGives, ServiceSeat, Seat, Calls}
 use Rattle.net_sim.specs.World.{Take}
+use Rattle.net_sim.specs.Inside.Core.{IsSomeWorld}
 use Rattle.net_sim.proofs.Books.SomeWorld.{core_live, core_once, core_order, followed_some}
 use Rattle.net_sim.proofs.world_core.WorldCore.take_near.Goals as goal
 
