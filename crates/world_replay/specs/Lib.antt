@@ -1,6 +1,7 @@
 pub mod Apart
 pub mod Driven
 pub mod Gains
+pub mod Kinds
 pub mod Output
 pub mod Printed
 pub mod Replay
