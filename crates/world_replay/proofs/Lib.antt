@@ -15,6 +15,7 @@ pub mod Replays
 pub mod Reports
 pub mod Rounds
 pub mod Steady
+pub mod Strangers
 mod Ticking
 pub mod ToldLines
 pub mod Turns

@@ -26,6 +26,17 @@ mixed_calm : (e : MixedWorldEvent) (n : ℕ) → mixed_rounds e ≡ Some n → e
 mixed_calm (mixed.Happen e) n has = absurd (let no : None ≡ Some n = has in cc)
 mixed_calm (mixed.Calm m) n has = ap mixed.Calm (let same : Some m ≡ Some n = has in cc)
 
+-- a world with strangers answers as well as its world whether memory has run out
+same_stops : (a : Answer) → mixed_stops (mixed_answer a) ≡ stops a
+same_stops (Ok done) = refl
+same_stops (Err f) = refl
+
+pub lasts_there : (r : Result (Unit {0}) MixedFault) (a : Answer) → r ≡ mixed_answer a → mixed_stops r ≡ false → stops a ≡ false
+lasts_there r a is on = sym (same_stops a) ∙ ap mixed_stops (sym is) ∙ on
+
+stops_there : (r : Result (Unit {0}) MixedFault) (a : Answer) → r ≡ mixed_answer a → mixed_stops r ≡ true → stops a ≡ true
+stops_there r a is halts = sym (same_stops a) ∙ ap mixed_stops (sym is) ∙ halts
+
 module _ {C : Type 0} (calls : Calls C) where
   -- rounds in which memory lasts, and then further ones
   calms_on : (n k : ℕ) (old mid new : WorldState C) (r q : Answer) → stops r ≡ false → Calms calls n old r mid → Calms calls k mid q new → Calms calls (n + k) old q new
@@ -78,16 +89,6 @@ module _ {C : Type 0} (calls : Calls C) where
   }
 
   -- ---- with strangers, a calm is that of the world
-
-  same_stops : (a : Answer) → mixed_stops (mixed_answer a) ≡ stops a
-  same_stops (Ok done) = refl
-  same_stops (Err f) = refl
-
-  lasts_there : (r : Result (Unit {0}) MixedFault) (a : Answer) → r ≡ mixed_answer a → mixed_stops r ≡ false → stops a ≡ false
-  lasts_there r a is on = sym (same_stops a) ∙ ap mixed_stops (sym is) ∙ on
-
-  stops_there : (r : Result (Unit {0}) MixedFault) (a : Answer) → r ≡ mixed_answer a → mixed_stops r ≡ true → stops a ≡ true
-  stops_there r a is halts = sym (same_stops a) ∙ ap mixed_stops (sym is) ∙ halts
 
   pub mixed_replayable : IsReplayable (mixed_kind calls)
   mixed_replayable = record {

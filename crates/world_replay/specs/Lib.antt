@@ -9,4 +9,5 @@ pub mod Rounds
 pub mod Seen
 pub mod Steps
 pub mod Worked
+pub mod WorkedMixed
 pub mod Laws

@@ -23,6 +23,7 @@ pub mod worked;
 pub mod worked_apart;
 pub mod worked_drives;
 pub mod worked_ends;
+pub mod worked_mixed;
 pub mod worked_rounds;
 
 pub use events::{UNSEEN_ROUNDS, has_calmed, replay_events, replay_in_calm, replay_mixed_events};
