@@ -1,24 +1,38 @@
 -- What is shown of a stranger in a small world.
-use Rattle.world_replay.proofs.Common.{◌≡◌, inl, inr, ℕ, Bool, true, false, List, [], ◌∷◌, ◌++◌, Option, None, Some, Result, Ok, Err, refl, ap, sym, subst, ◌∙◌, append-nil, Calls, Seen, crossing_of, Host, Crossing, Halts, StepGives, WorldState, AtSeat, OfferGives, Passes, QuietEnds, TakeEnds, TakeGives, changed, with_carrier, stops, up_in, seat_of, Event, Offer, Quiet, Take, WorldFault, Carrier, Kept, crossed, Gains, NcpState, next_out, first, second, message, Seat}
-use Rattle.interface.specs.Calls.{ShowsTake}
+use Rattle.world_replay.proofs.Common.{◌≡◌, inl, inr, ℕ, Bool, true, false, List, [], ◌∷◌, ◌++◌, Option, None, Some, Result, Ok, Err, refl, ap, sym, subst, ◌∙◌, append-nil, Calls, Seen, crossing_of, Host, Crossing, StepGives, WorldState, AtProgram, AtSeat, OfferGives, QuietEnds, TakeEnds, TakeGives, changed, stops, seat_of, Event, Ask, Net, Offer, Quiet, Server, Take, Typed, User, WorldFault, Kept, crossed, Gains, NcpState, next_out, first, second, message, Seat, accepted, world_moved, IsOfCalm}
+use Rattle.std.proofs.Common.{if◌then◌else◌}
+use Rattle.bit_messages.specs.Octets.{octets_of}
+use Rattle.host_pairs.specs.Control.{orders_of}
+use Rattle.host_pairs.specs.declared.notice.Notice.TheVariants as notice
+use Rattle.host_services.specs.Turns as services
+use Rattle.interface.proofs.lemmas.{same_host-true}
+use Rattle.interface.specs.Calls.{grown}
 use Rattle.interface.specs.Host.{same_host}
 use Rattle.interface.specs.declared.carrier.CarrierFault.{CarrierFault}
-use Rattle.interface.specs.declared.carrier.CarrierFault.TheVariants as fault
+use Rattle.interface.specs.declared.crossing.Answer.TheVariants as answer
 use Rattle.interface.specs.declared.crossing.Crossing.TheVariants as crossing
 use Rattle.interface.specs.declared.crossing.Inbound.{Inbound}
+use Rattle.interface.specs.declared.crossing.Inbound.TheVariants as inbound
+use Rattle.interface.specs.declared.message.HostMessage.{HostMessage}
+use Rattle.ncp_control.specs.Packing.{packed_count}
+use Rattle.ncp_control.specs.Reading.{command_of, read_of}
 use Rattle.net_sim.proofs.lemmas.{calm_keeps}
-use Rattle.net_sim.specs.MixedWorlds.{FetchEnds, MixedFault, MixedState, OutEnds, RefusesMixed, mixed_answer, mixed_stops}
-use Rattle.net_sim.specs.Worked.{accepting_carrier}
-use Rattle.net_sim.specs.WorkedMixed.{beside_third, waiting_carrier}
+use Rattle.net_sim.specs.MixedWorlds.{Any, FetchEnds, MixedFault, MixedState, Out, OutEnds, RefusesMixed, mixed_answer}
+use Rattle.net_sim.specs.Worked.{accepting_carrier, any_carrier}
+use Rattle.net_sim.specs.WorkedMixed.{beside_third, three_seen, waiting_carrier}
+use Rattle.net_sim.specs.World.{EventGives, opening_seats}
+use Rattle.promise.specs.declared.book.Told.{Told}
 use Rattle.sockets.specs.Pairs.{opening_state}
 use Rattle.sockets.specs.Worked.{third}
-use Rattle.std.proofs.Common.{nat_tests}
-use Rattle.world_replay.proofs.Grown.{gains_none}
+use Rattle.world_replay.proofs.Grown.{at_seat, gains_none, if_stopped}
+use Rattle.world_replay.proofs.Replayable.{lasts_there, mixed_replayable}
 use Rattle.world_replay.proofs.Replays.{gains_once, same_news}
+use Rattle.world_replay.proofs.Rounds.{is_false}
 use Rattle.world_replay.proofs.Steady.{halts_stop}
 use Rattle.world_replay.specs.Gains.{gained}
 use Rattle.world_replay.specs.Kinds.{HappensBy, mixed_kind}
-use Rattle.world_replay.specs.Output.{Crossed, Refused, Shown, mixed_refusal}
+use Rattle.world_replay.specs.Output.{Crossed, Noticed, Refused, Shown, mixed_refusal}
+use Rattle.world_replay.specs.WorkedMixed.{MayShow, hail, hailed}
 use Rattle.world_script.specs.declared.event.MixedWorldEvent.{MixedWorldEvent}
 use Rattle.world_script.specs.declared.event.MixedWorldEvent.TheVariants as script
 
