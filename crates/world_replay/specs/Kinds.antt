@@ -76,6 +76,13 @@ pub record MayDoBy {S E : Type 0} (kind : Kind S E) (old : S) (e : E) (new : S) 
 abbrev pub EndsBy : {S E : Type 0} → Kind S E → Happening S E Shown → S → List E → S → List Shown → Type 0
 EndsBy kind Goes old events new shown = EndsInTurn (HappensBy kind) Goes old events new shown
 
+-- memory ran out at the last one, or a write failed at it
+abbrev pub RunsOutBy : {S E : Type 0} → Kind S E → S → List E → S → List Shown → Type 0
+RunsOutBy kind old events new shown = EndsBy kind (StopsBy kind) old events new shown
+
+abbrev pub BreaksOffBy : {S E : Type 0} → Kind S E → S → List E → S → List Shown → Type 0
+BreaksOffBy kind old events new shown = EndsBy kind (MayDoBy kind) old events new shown
+
 -- ---- when what a long calm prints is handed on
 
 -- a calm of more than 64 rounds has come to rest, or all that it printed is handed on

@@ -6,7 +6,7 @@ ghost use Rattle.net_sim.specs.Carriers.{shown};
 ghost use Rattle.net_sim.specs.Rest.{IsAtRest};
 ghost use Rattle.net_sim.specs.World.{CalmGives};
 ghost use Rattle.replay.specs.Failing.{TellsCannotWrite};
-ghost use Rattle.world_replay.specs.Kinds.{EndsBy, EndsSeenBy, IsSeenBy, MayDoBy, ReplaysBy, StopsBy, mixed_kind};
+ghost use Rattle.world_replay.specs.Kinds.{BreaksOffBy, EndsSeenBy, IsSeenBy, ReplaysBy, RunsOutBy, mixed_kind};
 ghost use Rattle.world_replay.specs.Output.{Shown, Writes};
 ghost use Rattle.world_replay.specs.Replay.{EndsIn, HappensInCalm, MayDo, MayStep, Replays, StopsIn};
 ghost use Rattle.world_replay.specs.Seen.{EndsSeen};
@@ -93,7 +93,7 @@ pub fn replay_mixed_events<C: Carrier, W: Output>(
     ensures replayed { OnOk result (Writes detail (ReplaysBy (mixed_kind (shown C.calls)) world.old events.items world.new) (W.contents writer.old) (W.contents writer.new)) }
 
     // memory ran out at one event: as in `replay_events`
-    ensures memory { result ≡ Err ReplayFault.OutOfMemory → Writes detail (EndsBy (mixed_kind (shown C.calls)) (StopsBy (mixed_kind (shown C.calls))) world.old events.items world.new) (W.contents writer.old) (W.contents writer.new) }
+    ensures memory { result ≡ Err ReplayFault.OutOfMemory → Writes detail (RunsOutBy (mixed_kind (shown C.calls)) world.old events.items world.new) (W.contents writer.old) (W.contents writer.new) }
 
     // `CannotWrite` is answered where a write failed, and nowhere else
     ensures failed { TellsCannotWrite result (W.failed writer.new) }
@@ -102,7 +102,7 @@ pub fn replay_mixed_events<C: Carrier, W: Output>(
     ensures seen { OnOk result (EndsSeenBy (mixed_kind (shown C.calls)) events.items world.new (W.flushed writer.new)) }
 
     // a write failed: the event had already happened, or the rounds of a calm up to that one
-    ensures cannot_write { result ≡ Err ReplayFault.CannotWrite → (lines : List Shown) × EndsBy (mixed_kind (shown C.calls)) (MayDoBy (mixed_kind (shown C.calls))) world.old events.items world.new lines }
+    ensures cannot_write { result ≡ Err ReplayFault.CannotWrite → (lines : List Shown) × BreaksOffBy (mixed_kind (shown C.calls)) world.old events.items world.new lines }
 {
     let outcome = replay_in_turn(world, events, detail, writer);
     // for the proof only: by `MixedWorld::book` the world is lawful among its hosts with programs, so its messages are safe
@@ -157,8 +157,8 @@ fn replay_in_turn<R: Replayed, W: Output>(
     ensures failed { TellsCannotWrite result (W.failed writer.new) }
     ensures seen { OnOk result (EndsSeenBy R.kind events.items world.new (W.flushed writer.new)) }
     ensures replayed { OnOk result (Writes detail (ReplaysBy R.kind world.old events.items world.new) (W.contents writer.old) (W.contents writer.new)) }
-    ensures memory { result ≡ Err ReplayFault.OutOfMemory → Writes detail (EndsBy R.kind (StopsBy R.kind) world.old events.items world.new) (W.contents writer.old) (W.contents writer.new) }
-    ensures cannot_write { result ≡ Err ReplayFault.CannotWrite → (lines : List Shown) × EndsBy R.kind (MayDoBy R.kind) world.old events.items world.new lines }
+    ensures memory { result ≡ Err ReplayFault.OutOfMemory → Writes detail (RunsOutBy R.kind world.old events.items world.new) (W.contents writer.old) (W.contents writer.new) }
+    ensures cannot_write { result ≡ Err ReplayFault.CannotWrite → (lines : List Shown) × BreaksOffBy R.kind world.old events.items world.new lines }
 {
     let mut line = Line::new();
     for event in events {
