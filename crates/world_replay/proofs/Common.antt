@@ -43,7 +43,7 @@ pub use Rattle.std.specs.List.{All}
 pub use Rattle.world_replay.specs.Driven.{Brings, Drive, Drives, Goes, IsCall, IsDriven, IsDrivenIn, IsShown, Raw, Round}
 pub use Rattle.world_replay.specs.Gains.{Gains}
 pub use Rattle.world_replay.specs.Output.{Writes, notices_of, output, reports_of, shown_in_turn, shown_notices, shown_text, told_in_turn}
-pub use Rattle.world_replay.specs.Replay.{BeginsWith, HappensInCalm, IsOfCalm, MayDo, Replays, StopsIn}
+pub use Rattle.world_replay.specs.Replay.{HappensInCalm, IsOfCalm, MayDo, Replays, StopsIn}
 pub use Rattle.world_replay.specs.Rounds.{Again, EndsAgain, EndsRepeated, Repeated, RoundOf, crosses, turns_in}
 pub use Rattle.world_replay.specs.Seen.{EndsSeen}
 pub use Rattle.world_replay.specs.Steps.{EventEnds, Fronts, OneEnds}

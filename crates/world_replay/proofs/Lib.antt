@@ -7,7 +7,7 @@ mod Counting
 pub mod Driven
 mod Driving
 pub mod Grown
-pub mod Kinds
+pub mod ByKind
 pub mod Mixed
 pub mod News
 pub mod Replayable

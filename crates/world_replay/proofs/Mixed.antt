@@ -5,8 +5,12 @@ use Rattle.interface.specs.declared.carrier.CarrierFault.TheVariants as fault
 use Rattle.interface.specs.declared.crossing.Crossing.TheVariants as crossing
 use Rattle.interface.specs.declared.crossing.Inbound.{Inbound}
 use Rattle.interface.specs.declared.message.HostMessage.{HostMessage}
-use Rattle.net_sim.specs.MixedWorlds.{Any, AnyGives, AskedGives, FetchEnds, FetchGives, HasProgram, MixedEvent, MixedFault, MixedState, MixedStepGives, NoProgram, OfWorld, Out, OutEnds, OutGives, RefusesMixed, SaysGives, World, asked_at, has_seat, is_strange, strange_in}
-use Rattle.net_sim.specs.World.{Carrier}
+use Rattle.net_sim.specs.MixedWorlds.{AnyGives, AskedGives, FetchEnds, FetchGives, MixedState, MixedStepGives, OfWorld, OutEnds, OutGives, RefusesMixed, SaysGives, asked_at, has_seat, is_strange, strange_in}
+use Rattle.net_sim.specs.declared.mixed.MixedEvent.{MixedEvent}
+use Rattle.net_sim.specs.declared.mixed.MixedEvent.TheVariants.{Any, Out}
+use Rattle.net_sim.specs.declared.mixed.MixedFault.{MixedFault}
+use Rattle.net_sim.specs.declared.mixed.MixedFault.TheVariants.{HasProgram, NoProgram, World}
+use Rattle.net_sim.specs.declared.event.WorldFault.TheVariants.{Carrier}
 use Rattle.net_sim.specs.MixedWorlds as mixed
 use Rattle.std.proofs.Common.{if◌then◌else◌}
 use Rattle.world_replay.proofs.Grown.{Grew, does_grow, gains_none, gains_same, grew_all_crossed, grew_none, halts_grow, passes_grow, step_gains}

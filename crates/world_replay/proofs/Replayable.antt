@@ -1,6 +1,7 @@
 -- What a replay needs of worlds, of those with strangers as well.
 use Rattle.world_replay.proofs.Common.{◌≡◌, ℕ, ◌+◌, zero, suc, Bool, true, false, List, ◌++◌, Option, None, Some, Result, Ok, Err, refl, ap, ap₂, sym, subst, ◌∙◌, arith, Calls, CalmGives, Calms, WorldState, stops, WorldFault, WorldEvent, Kept, Gains}
-use Rattle.net_sim.specs.MixedWorlds.{MixedCalmGives, MixedFault, MixedState, mixed_answer, mixed_stops}
+use Rattle.net_sim.specs.MixedWorlds.{MixedCalmGives, MixedState, mixed_answer, mixed_stops}
+use Rattle.net_sim.specs.declared.mixed.MixedFault.{MixedFault}
 use Rattle.world_replay.specs.Gains.{gained}
 use Rattle.world_replay.specs.Kinds.{mixed_kind, mixed_rounds}
 use Rattle.world_replay.specs.Output.{Shown}
@@ -66,9 +67,9 @@ module _ {C : Type 0} (calls : Calls C) where
   ends k old new r g halts false is = when_false _ _ old.stopped is (round_ends calls k old new r halts g old.stopped refl)
 
   shows : (n k : ℕ) (old mid new : WorldState C) (r q : Answer) → CalmGives calls n old r mid → CalmGives calls k mid q new → (g : Gains old.kept mid.kept) (h : Gains mid.kept new.kept) (all : Gains old.kept new.kept) → gained all ≡ gained g ++ gained h
-  shows n k old mid new r q first then g h all =
+  shows n k old mid new r q first next g h all =
       let one : Grew old.kept mid.kept = calm_grows calls n old r mid first in
-      let two : Grew mid.kept new.kept = calm_grows calls k mid q new then in
+      let two : Grew mid.kept new.kept = calm_grows calls k mid q new next in
       let both : Gains old.kept new.kept = (grew_more old.kept mid.kept new.kept one two).gains in
       same_news old.kept new.kept new.kept all both (gains_once old.kept new.kept new.kept all both refl)
       ∙ gained_more old.kept mid.kept new.kept one two
@@ -84,11 +85,24 @@ module _ {C : Type 0} (calls : Calls C) where
     well = λ n old r new g on. well n old r new g on;
     gains = λ e old r new h. event_gains calls e old r new h;
     more = λ n k old mid new r q g on h. more n k old mid new r q g on h;
-    shows = λ n k old mid new r q first then g h all. shows n k old mid new r q first then g h all;
+    shows = λ n k old mid new r q first next g h all. shows n k old mid new r q first next g h all;
     ends = λ k old new r g halts. ends k old new r g halts old.stopped refl;
   }
 
   -- ---- with strangers, a calm is that of the world
+
+  mixed_well : (n : ℕ) (old : MixedState C) (r : Result (Unit {0}) MixedFault) (new : MixedState C) → MixedCalmGives calls n old r new → mixed_stops r ≡ false → r ≡ Ok tt
+  mixed_well n old r new (a, g, is, same) on = is ∙ ap mixed_answer (well n old.world a new.world g (lasts_there r a is on))
+
+  mixed_more : (n k : ℕ) (old mid new : MixedState C) (r q : Result (Unit {0}) MixedFault) → MixedCalmGives calls (suc n) old r mid → mixed_stops r ≡ false → MixedCalmGives calls (suc k) mid q new → MixedCalmGives calls (suc n + suc k) old q new
+  mixed_more n k old mid new r q (a, g, is, same) on (b, h, so, alike) = (b, more n k old.world mid.world new.world a b g (lasts_there r a is on) h, so, alike ∙ same)
+
+  mixed_shows : (n k : ℕ) (old mid new : MixedState C) (r q : Result (Unit {0}) MixedFault) → MixedCalmGives calls n old r mid → MixedCalmGives calls k mid q new
+      → (g : Gains old.world.kept mid.world.kept) (h : Gains mid.world.kept new.world.kept) (all : Gains old.world.kept new.world.kept) → gained all ≡ gained g ++ gained h
+  mixed_shows n k old mid new r q (a, first, is, same) (b, next, so, alike) g h all = shows n k old.world mid.world new.world a b first next g h all
+
+  mixed_ends : (k : ℕ) (old new : MixedState C) (r : Result (Unit {0}) MixedFault) → MixedCalmGives calls 1 old r new → mixed_stops r ≡ true → MixedCalmGives calls (suc k) old r new
+  mixed_ends k old new r (a, g, is, same) halts = (a, ends k old.world new.world a g (stops_there r a is halts) old.world.stopped refl, is, same)
 
   pub mixed_replayable : IsReplayable (mixed_kind calls)
   mixed_replayable = record {
@@ -96,9 +110,9 @@ module _ {C : Type 0} (calls : Calls C) where
     is_calm = mixed_calm;
     lasts = refl;
     unrefused = refl;
-    well = λ n old r new (a, g, is, same) on. is ∙ ap mixed_answer (well n old.world a new.world g (lasts_there r a is on));
+    well = λ n old r new g on. mixed_well n old r new g on;
     gains = λ e old r new h. mixed_event_gains calls e old r new h;
-    more = λ n k old mid new r q (a, g, is, same) on (b, h, so, alike). (b, more n k old.world mid.world new.world a b g (lasts_there r a is on) h, so, alike ∙ same);
-    shows = λ n k old mid new r q first then g h all. shows n k old.world mid.world new.world first.0 then.0 first.1 then.1 g h all;
-    ends = λ k old new r (a, g, is, same) halts. (a, ends k old.world new.world a g (stops_there r a is halts) old.world.stopped refl, is, same);
+    more = λ n k old mid new r q g on h. mixed_more n k old mid new r q g on h;
+    shows = λ n k old mid new r q first next g h all. mixed_shows n k old mid new r q first next g h all;
+    ends = λ k old new r g halts. mixed_ends k old new r g halts;
   }

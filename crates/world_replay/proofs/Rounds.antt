@@ -1,5 +1,5 @@
 -- Rounds of a calm: one that goes well and then others, and one in which memory runs out.
-use Rattle.world_replay.proofs.Common.{◌≡◌, ℕ, ◌+◌, ◌-◌, ◌<◌, ◌≤◌, zero, suc, Bool, true, false, List, [], ◌++◌, Option, Result, Ok, Err, refl, ap, sym, subst, ◌∙◌, arith, append-nil, false≢true, MatchBool, Appends, Appends-nil, Appends-trans, CalmGives, Calms, Does, Refuses, TurnsOf, WorldState, stops, up_in, Calls, WorldFault, Carrier, ReplayFault, Detail, output, BeginsWith, EventEnds, OneEnds, WorldEvent}
+use Rattle.world_replay.proofs.Common.{◌≡◌, ℕ, ◌+◌, ◌-◌, ◌<◌, ◌≤◌, zero, suc, Bool, true, false, List, [], ◌++◌, Option, Result, Ok, Err, refl, ap, sym, subst, ◌∙◌, arith, append-nil, false≢true, MatchBool, Appends, Appends-nil, Appends-trans, CalmGives, Calms, Does, Refuses, TurnsOf, WorldState, stops, up_in, Calls, WorldFault, Carrier, ReplayFault, Detail, output, EventEnds, OneEnds, WorldEvent}
 use Rattle.interface.specs.declared.carrier.CarrierFault.TheVariants as carrier
 use Rattle.replay.specs.declared.events.ReplayFault.TheVariants as fault
 use Rattle.world_replay.specs.Output.{Shown, shown_refusal}

@@ -17,7 +17,9 @@ use Rattle.interface.specs.declared.message.HostMessage.{HostMessage}
 use Rattle.ncp_control.specs.Packing.{packed_count}
 use Rattle.ncp_control.specs.Reading.{command_of, read_of}
 use Rattle.net_sim.proofs.lemmas.{calm_keeps}
-use Rattle.net_sim.specs.MixedWorlds.{Any, FetchEnds, MixedFault, MixedState, Out, OutEnds, RefusesMixed, mixed_answer}
+use Rattle.net_sim.specs.MixedWorlds.{FetchEnds, MixedState, OutEnds, RefusesMixed, mixed_answer}
+use Rattle.net_sim.specs.declared.mixed.MixedEvent.TheVariants.{Any, Out}
+use Rattle.net_sim.specs.declared.mixed.MixedFault.{MixedFault}
 use Rattle.net_sim.specs.Worked.{accepting_carrier, any_carrier}
 use Rattle.net_sim.specs.WorkedMixed.{beside_third, three_seen, waiting_carrier}
 use Rattle.net_sim.specs.World.{EventGives, opening_seats}
@@ -45,7 +47,7 @@ moved c k j g is =
     let one : Gains k (crossed c k) = record { crossings = c ∷ []; notices = []; reports = []; crossed = refl; told = sym (append-nil k.book.notices); said = sym (append-nil k.book.reports) } in
     same_news k j (crossed c k) g one (gains_once k j (crossed c k) g one is)
 
-world : WorldState Seen
+abbrev world : WorldState Seen
 world = beside_third.world
 
 -- ---- refusals

@@ -1,11 +1,11 @@
 -- The events of a script over any kind of world, and what they show. `Replay` says the same of worlds whose hosts all run the program.
-use Rattle.std.specs.Prelude.{◌≡◌, ◌⊎◌, ℕ, ◌<◌, ◌≤◌, Bool, true, false, List, [], ◌∷◌, ◌++◌, Option, Some, None, Ok}
+use Rattle.std.specs.Prelude.{◌≡◌, ◌⊎◌, ℕ, ◌<◌, ◌≤◌, Bool, true, false, List, [], ◌∷◌, ◌++◌, Option, Some, None, Result, Ok}
 use Rattle.interface.specs.Calls.{Calls}
 use Rattle.net_sim.specs.Book.{Kept}
 use Rattle.net_sim.specs.Rest.{IsAtRest}
-use Rattle.net_sim.specs.MixedWorlds.{MixedCalmGives, MixedFault, MixedState, MixedStepGives, mixed_stops}
+use Rattle.net_sim.specs.MixedWorlds.{MixedCalmGives, MixedState, MixedStepGives, mixed_stops}
+use Rattle.net_sim.specs.declared.mixed.MixedFault.{MixedFault}
 use Rattle.replay.specs.InTurn.{EndsInTurn, Happening, InTurn}
-use Rattle.std.specs.Prelude.{Result}
 use Rattle.world_replay.specs.Gains.{Gains, gained}
 use Rattle.world_replay.specs.Output.{Shown, mixed_refusal}
 use Rattle.world_script.specs.declared.event.MixedWorldEvent.{MixedWorldEvent}

@@ -2,7 +2,8 @@
 use Rattle.std.specs.Prelude.{◌≡◌, ℕ, suc, ◌+◌, false, true, List, [], ◌++◌, Option, Some, Result, Ok, Err}
 use Rattle.std.specs.Io.KnownBytes.{Appends}
 use Rattle.interface.specs.declared.crossing.Crossing.{Crossing}
-use Rattle.net_sim.specs.MixedWorlds.{MixedFault, mixed_stops}
+use Rattle.net_sim.specs.MixedWorlds.{mixed_stops}
+use Rattle.net_sim.specs.declared.mixed.MixedFault.{MixedFault}
 use Rattle.replay.specs.declared.events.ReplayFault.{ReplayFault}
 use Rattle.replay.specs.declared.events.ReplayFault.TheVariants as fault
 use Rattle.replay.specs.declared.print.Detail.{Detail}

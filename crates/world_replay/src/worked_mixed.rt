@@ -4,10 +4,12 @@
 ghost use Rattle.std.specs.Prelude.{◌≡◌, ℕ, [], ◌∷◌, codes};
 ghost use Rattle.interface.specs.declared.carrier.CarrierFault.TheVariants as fault;
 ghost use Rattle.interface.specs.declared.crossing.Crossing.TheVariants as crossing;
-ghost use Rattle.net_sim.specs.MixedWorlds.{Any, HasProgram, NoProgram, Out, World};
+ghost use Rattle.net_sim.specs.declared.mixed.MixedEvent.TheVariants.{Any, Out};
+ghost use Rattle.net_sim.specs.declared.mixed.MixedFault.TheVariants.{HasProgram, NoProgram, World};
 ghost use Rattle.net_sim.specs.Worked.{accepting_carrier, any_carrier, message};
 ghost use Rattle.net_sim.specs.WorkedMixed.{fourth, waiting_carrier};
-ghost use Rattle.net_sim.specs.World.{Ask, Carrier, Offer, Take};
+ghost use Rattle.net_sim.specs.declared.event.Event.TheVariants.{Ask, Offer, Take};
+ghost use Rattle.net_sim.specs.declared.event.WorldFault.TheVariants.{Carrier};
 ghost use Rattle.sockets.specs.Worked.{first, second, third};
 ghost use Rattle.sockets.specs.declared.request.Request.TheVariants as request;
 ghost use Rattle.world_replay.specs.Output.{Crossed, Refused};

@@ -1,5 +1,5 @@
 use Rattle.world_replay.proofs.Common.{◌≡◌, ◌+◌, ◌-◌, Err, inl, inr, rules, subst, sym, arith, EventEnds}
-use Rattle.world_replay.proofs.Kinds.{all_passed, calm_seen, no_rounds, round_ends_so, round_more, rounds_end}
+use Rattle.world_replay.proofs.ByKind.{all_passed, calm_seen, no_rounds, round_ends_so, round_more, rounds_end}
 use Rattle.world_replay.proofs.events.replay_calm.Goals as goal
 
 pub loop-passed-init : goal.loop-passed-init

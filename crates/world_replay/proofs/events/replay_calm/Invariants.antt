@@ -1,5 +1,5 @@
 use Rattle.world_replay.proofs.Common.{◌≡◌, ◌<◌, ◌≤◌, false, true}
-use Rattle.world_replay.proofs.Kinds.{HaveRounds}
+use Rattle.world_replay.proofs.ByKind.{HaveRounds}
 use Rattle.world_replay.proofs.events.replay_calm.Given as goal
 
 -- this many rounds have passed, and what they showed is written, and handed on after the 64th; no write has failed

@@ -3,7 +3,7 @@ use Rattle.std.proofs.lemmas.List.{append_assoc}
 use Rattle.replay.proofs.lemmas.{last_shown, last_written, one_written}
 use Rattle.replay.specs.declared.events.ReplayFault.TheVariants as fault
 use Rattle.world_replay.specs.Kinds.{HappensBy, MayDoBy, StopsBy}
-use Rattle.world_replay.proofs.Kinds.{last_seen}
+use Rattle.world_replay.proofs.ByKind.{last_seen}
 use Rattle.world_replay.proofs.events.replay_in_turn.Goals as goal
 
 pub loop-event-preserved : goal.loop-event-preserved

@@ -1,6 +1,6 @@
 use Rattle.world_replay.proofs.Common.{◌≡◌, ◌≤◌, length, ap, subst, ◌∙◌, arith, length-reverse, Kept, Gains}
 use Rattle.world_replay.proofs.Grown.{longer, more_notices, more_reports}
-use Rattle.world_replay.proofs.Kinds.{event_ends}
+use Rattle.world_replay.proofs.ByKind.{event_ends}
 use Rattle.world_replay.proofs.Replays.{News}
 use Rattle.world_replay.proofs.events.replay_one.Goals as goal
 
