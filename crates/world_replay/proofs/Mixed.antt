@@ -36,7 +36,7 @@ module _ {C : Type 0} (calls : Calls C) where
 
   of_world : (Gives : Result (Unit {0}) WorldFault → WorldState C → Type 0) (old : MixedState C) (r : Result (Unit {0}) MixedFault) (new : MixedState C) → ((q : Result (Unit {0}) WorldFault) (w : WorldState C) → Gives q w → Gains old.world.kept w.kept)
       → OfWorld Gives old r new → Gains old.world.kept new.world.kept
-  of_world Gives old r new k (answer, gives, told) = k answer new.world gives
+  of_world Gives old r new k (answer, gives, told, same) = k answer new.world gives
 
   refused : (f : MixedFault) (old : MixedState C) (r : Result (Unit {0}) MixedFault) (new : MixedState C) → RefusesMixed f old r new → Gains old.world.kept new.world.kept
   refused f old r new h = gains_same old.world.kept new.world.kept (ap (λ (s : MixedState C). s.world.kept) h.1)

@@ -158,7 +158,7 @@ event_gains calls (event.Happen e) old r new h = step_gains calls e old r new h
 event_gains calls (event.Calm rounds) old r new h = (calm_grows calls rounds old r new h).gains
 
 -- the crossings, notices and reports after those of before are what the book gained
-news_is : (old new : Kept) (g : Gains old new) (crossed told said : ℕ) → crossed ≡ length old.book.crossings → told ≡ length old.book.notices → said ≡ length old.book.reports
+pub news_is : (old new : Kept) (g : Gains old new) (crossed told said : ℕ) → crossed ≡ length old.book.crossings → told ≡ length old.book.notices → said ≡ length old.book.reports
     → shown_in_turn crossed (drop crossed (reverse new.book.crossings)) (told_in_turn told (drop told new.book.notices) (drop said new.book.reports)) ≡ gained g
 news_is old new g crossed told said is same alike =
     let whole : reverse new.book.crossings ≡ reverse old.book.crossings ++ g.crossings =

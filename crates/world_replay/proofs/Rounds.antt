@@ -1,12 +1,6 @@
 -- Rounds of a calm: one that goes well and then others, and one in which memory runs out.
-use Rattle.world_replay.proofs.Common.{◌≡◌, ℕ, ◌+◌, ◌-◌, ◌<◌, ◌≤◌, zero, suc, Bool, true, false, List, [], ◌++◌, Option, Result, Ok, Err, refl, ap, sym, subst, ◌∙◌, arith, append-nil, false≢true, MatchBool, Appends, Appends-nil, Appends-trans, CalmGives, Calms, Does, Refuses, TurnsOf, WorldState, stops, up_in, Calls, WorldFault, Carrier, ReplayFault, Detail, output, EventEnds, OneEnds, WorldEvent}
+use Rattle.world_replay.proofs.Common.{◌≡◌, ℕ, suc, Bool, true, false, Ok, refl, ap, sym, subst, ◌∙◌, false≢true, MatchBool, CalmGives, Calms, Does, Refuses, Result, TurnsOf, WorldState, stops, up_in, Calls, WorldFault, Carrier}
 use Rattle.interface.specs.declared.carrier.CarrierFault.TheVariants as carrier
-use Rattle.replay.specs.declared.events.ReplayFault.TheVariants as fault
-use Rattle.world_replay.specs.Output.{Shown, shown_refusal}
-use Rattle.world_replay.proofs.Grown.{Grew, grew_more, grew_none}
-use Rattle.world_replay.proofs.News.{output-append}
-use Rattle.world_replay.proofs.Replays.{calm_grows, gained, gained_more, gains_once, same_news}
-use Rattle.world_script.specs.declared.event.WorldEvent.TheVariants as event
 
 -- ---- one round, and more
 

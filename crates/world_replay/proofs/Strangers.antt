@@ -1,5 +1,5 @@
 -- What is shown of a stranger in a small world.
-use Rattle.world_replay.proofs.Common.{◌≡◌, inl, inr, ℕ, Bool, true, false, List, [], ◌∷◌, ◌++◌, Option, None, Some, Result, Ok, Err, refl, ap, sym, subst, ◌∙◌, append-nil, Calls, Seen, crossing_of, Host, Crossing, StepGives, WorldState, AtProgram, AtSeat, OfferGives, QuietEnds, TakeEnds, TakeGives, changed, stops, seat_of, Event, Ask, Net, Offer, Quiet, Server, Take, Typed, User, WorldFault, Kept, crossed, Gains, NcpState, next_out, first, second, message, Seat, accepted, world_moved, IsOfCalm}
+use Rattle.world_replay.proofs.Common.{◌≡◌, inl, inr, ℕ, Bool, true, false, List, [], ◌∷◌, ◌++◌, Option, None, Some, Result, Ok, Err, refl, ap, sym, subst, ◌∙◌, append-nil, Calls, Seen, crossing_of, Host, Crossing, StepGives, WorldState, AtProgram, AtSeat, OfferGives, QuietEnds, TakeEnds, TakeGives, changed, stops, seat_of, Event, Ask, Net, Offer, Quiet, Server, Take, Typed, User, WorldFault, Kept, crossed, Gains, NcpState, first, second, message, Seat, world_moved, IsOfCalm}
 use Rattle.std.proofs.Common.{if◌then◌else◌}
 use Rattle.bit_messages.specs.Octets.{octets_of}
 use Rattle.host_pairs.specs.Control.{orders_of}
@@ -24,7 +24,9 @@ use Rattle.net_sim.specs.Worked.{accepting_carrier, any_carrier}
 use Rattle.net_sim.specs.WorkedMixed.{beside_third, three_seen, waiting_carrier}
 use Rattle.net_sim.specs.World.{EventGives, opening_seats}
 use Rattle.promise.specs.declared.book.Told.{Told}
+use Rattle.sockets.specs.Accepting.{accepted}
 use Rattle.sockets.specs.Pairs.{opening_state}
+use Rattle.sockets.specs.Sending.{next_out}
 use Rattle.sockets.specs.Worked.{third}
 use Rattle.world_replay.proofs.Grown.{at_seat, gains_none, if_stopped}
 use Rattle.world_replay.proofs.Replayable.{lasts_there, mixed_replayable}
@@ -86,8 +88,8 @@ says_only new shown h =
 pub takes_only : (new : MixedState Seen) (shown : List Shown) → HappensBy (mixed_kind waiting_carrier) beside_third (script.Happen (Any (Take third))) new shown → (i : Inbound) × (shown ≡ Crossed (crossing_of i) ∷ [])
 takes_only new shown h =
     let (q, (a, c, ((i, given), seen), ends), told, same) = h.gives in
-    let (j, well) = took i a c q new.world given ends (lasts_there h.outcome q told h.goes_on) in
-    (j, went_well (crossing_of j) (script.Happen (Any (Take third))) waiting_carrier new shown h q told well)
+    let (j, kept, well) = took i a c q new.world given ends (lasts_there h.outcome q told h.goes_on) in
+    (j, went_well (crossing_of j) (script.Happen (Any (Take third))) waiting_carrier new shown h q told (kept, well))
 
 -- ---- a calm
 
@@ -131,12 +133,13 @@ IsMute (Some seat) = (s : NcpState) → seat.program ≡ Some s → next_out s �
 mute_seat : (h : Host) → IsMute (Some (record { host = h; program = Some (opening_state h) }))
 mute_seat h s is = subst (λ (t : NcpState). next_out t ≡ None) (let same : Some (opening_state h) ≡ Some s = is in cc) (opening_mute h)
 
+either_mute : (b : Bool) (o p : Option Seat) → IsMute o → IsMute p → IsMute (if b then o else p)
+either_mute true o p k l = k
+either_mute false o p k l = l
+
 mute_there : (h : Host) (hosts : List Host) → IsMute (seat_of h (opening_seats hosts))
 mute_there h [] = tt
-mute_there h (x ∷ hosts) = by (same_host h x) where
-  by : (b : Bool) → IsMute (if b then Some (record { host = x; program = Some (opening_state x) }) else seat_of h (opening_seats hosts))
-  by true = mute_seat x
-  by false = mute_there h hosts
+mute_there h (x ∷ hosts) = either_mute (same_host h x) (Some (record { host = x; program = Some (opening_state x) })) (seat_of h (opening_seats hosts)) (mute_seat x) (mute_there h hosts)
 
 offer_stays : (h : Host) (o : Option Seat) (old : WorldState Seen) (r : Result (Unit {0}) WorldFault) (new : WorldState Seen) → Stays old → IsMute o → AtSeat (λ s. OfferGives waiting_carrier h s (next_out s) old r new) o old r new → Stays new
 offer_stays h None old r new p mute t = still old new p t.1
