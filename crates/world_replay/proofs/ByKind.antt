@@ -67,7 +67,7 @@ module _ {S E : Type 0} (kind : Kind S E) (is : IsReplayable kind) where
         written = subst (λ w. Appends a (contents w) (output detail (gained gains))) (sym out.1)
             (subst (λ xs. Appends a (contents mid) (output detail xs)) (news_is (kind.kept old) (kind.kept new) gains crossed noticed said at same alike) lines);
       }
-  event_ends contents detail old e answer new (Err fault.CannotWrite) crossed noticed said a mid last (outcome, gives, told) at same alike lines refusal goes memory = (outcome, gives)
+  event_ends contents detail old e answer new (Err fault.CannotWrite) crossed noticed said a mid last (outcome, gives, stops, shows) at same alike lines refusal goes memory = (outcome, gives)
 
   -- ---- rounds, and then further ones
 

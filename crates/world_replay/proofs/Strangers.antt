@@ -217,7 +217,19 @@ is_answered = record {
 pub is_hailed : MayShow there (script.Happen (Out hail) ∷ script.Happen (Any (Take first)) ∷ script.Happen (Any (Take third)) ∷ []) hailed
 is_hailed = (
   answered,
-  (sent, Crossed (crossing.Out hail) ∷ [], Crossed (crossing.In hail) ∷ Noticed told ∷ Crossed (crossing.Answer answer.Rfnm hail.flow) ∷ [], goes_out,
-      (heard, Crossed (crossing.In hail) ∷ Noticed told ∷ [], Crossed (crossing.Answer answer.Rfnm hail.flow) ∷ [], comes_in,
-      (answered, Crossed (crossing.Answer answer.Rfnm hail.flow) ∷ [], [], is_answered, (refl, refl), refl), refl), refl),
+  (
+    sent,
+    Crossed (crossing.Out hail) ∷ [],
+    Crossed (crossing.In hail) ∷ Noticed told ∷ Crossed (crossing.Answer answer.Rfnm hail.flow) ∷ [],
+    goes_out,
+    (
+      heard,
+      Crossed (crossing.In hail) ∷ Noticed told ∷ [],
+      Crossed (crossing.Answer answer.Rfnm hail.flow) ∷ [],
+      comes_in,
+      (answered, Crossed (crossing.Answer answer.Rfnm hail.flow) ∷ [], [], is_answered, (refl, refl), refl),
+      refl,
+    ),
+    refl,
+  ),
 )
