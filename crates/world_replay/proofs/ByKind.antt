@@ -1,11 +1,11 @@
 -- The replay of events over any kind of world of which what a replay needs is known.
-use Rattle.world_replay.proofs.Common.{◌≡◌, ℕ, ◌+◌, ◌-◌, ◌<◌, ◌≤◌, zero, suc, Bool, true, false, List, [], ◌∷◌, ◌++◌, length, Option, None, Some, Result, Ok, Err, OnOk, inl, refl, ap, ap₂, sym, subst, ◌∙◌, arith, append-nil, Appends, Appends-nil, Appends-trans, Kept, ReplayFault, Detail, Gains, Writes, output, EventEnds, OneEnds}
+use Rattle.world_replay.proofs.Common.{◌≡◌, ℕ, ◌+◌, ◌-◌, ◌<◌, zero, suc, Bool, true, false, List, [], ◌∷◌, ◌++◌, length, Option, None, Some, Result, Ok, Err, OnOk, refl, ap, ap₂, sym, subst, ◌∙◌, arith, append-nil, Appends, Appends-nil, Appends-trans, ReplayFault, Detail, Gains, Writes, output, EventEnds, OneEnds}
 use Rattle.std.proofs.lemmas.List.{append_assoc}
 use Rattle.net_sim.specs.MixedWorlds.{mixed_stops}
 use Rattle.net_sim.specs.declared.mixed.MixedFault.{MixedFault}
 use Rattle.replay.specs.declared.events.ReplayFault.TheVariants as fault
 use Rattle.world_replay.specs.Gains.{gained}
-use Rattle.world_replay.specs.Kinds.{BeginsAs, BeginsBy, EndsSeenBy, HandsOn, HappensBy, IsSeenBy, Kind, MayDoBy, StopsBy}
+use Rattle.world_replay.specs.Kinds.{BeginsAs, EndsSeenBy, HandsOn, HappensBy, IsSeenBy, Kind, StopsBy}
 use Rattle.world_replay.specs.Output.{Shown, mixed_refusal}
 use Rattle.world_replay.specs.Steps.{IsReplayable, Tells}
 use Rattle.world_replay.proofs.News.{output-append}

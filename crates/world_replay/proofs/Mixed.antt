@@ -1,5 +1,5 @@
 -- What a book gains where strangers speak and take.
-use Rattle.world_replay.proofs.Common.{◌≡◌, inl, inr, ℕ, Bool, true, false, List, [], ◌∷◌, Option, None, Some, Result, Ok, Err, refl, ap, sym, subst, ◌∙◌, Calls, crossing_of, Host, CalmGives, StepGives, WorldState, changed, stops, with_carrier, Event, Take, WorldFault, Kept, Gains}
+use Rattle.world_replay.proofs.Common.{inl, inr, [], ◌∷◌, Option, None, Some, Result, Ok, Err, ap, Calls, crossing_of, CalmGives, StepGives, WorldState, changed, with_carrier, Event, Take, WorldFault, Gains}
 use Rattle.interface.specs.declared.carrier.CarrierFault.{CarrierFault}
 use Rattle.interface.specs.declared.carrier.CarrierFault.TheVariants as fault
 use Rattle.interface.specs.declared.crossing.Crossing.TheVariants as crossing
@@ -13,7 +13,7 @@ use Rattle.net_sim.specs.declared.mixed.MixedFault.TheVariants.{HasProgram, NoPr
 use Rattle.net_sim.specs.declared.event.WorldFault.TheVariants.{Carrier}
 use Rattle.net_sim.specs.MixedWorlds as mixed
 use Rattle.std.proofs.Common.{if◌then◌else◌}
-use Rattle.world_replay.proofs.Grown.{Grew, does_grow, gains_none, gains_same, grew_all_crossed, grew_none, halts_grow, passes_grow, step_gains}
+use Rattle.world_replay.proofs.Grown.{Grew, does_grow, gains_same, grew_all_crossed, grew_none, halts_grow, passes_grow, step_gains}
 use Rattle.world_replay.proofs.Replays.{calm_grows}
 use Rattle.world_replay.proofs.Steady.{on_either}
 use Rattle.world_replay.specs.Kinds.{MixedEventGives}

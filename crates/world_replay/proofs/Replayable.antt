@@ -1,5 +1,5 @@
 -- What a replay needs of worlds, of those with strangers as well.
-use Rattle.world_replay.proofs.Common.{◌≡◌, ℕ, ◌+◌, zero, suc, Bool, true, false, List, ◌++◌, Option, None, Some, Result, Ok, Err, refl, ap, ap₂, sym, subst, ◌∙◌, arith, Calls, CalmGives, Calms, WorldState, stops, WorldFault, WorldEvent, Kept, Gains}
+use Rattle.world_replay.proofs.Common.{◌≡◌, ℕ, ◌+◌, zero, suc, Bool, true, false, List, ◌++◌, None, Some, Result, Ok, Err, refl, ap, ap₂, sym, subst, ◌∙◌, arith, Calls, CalmGives, Calms, WorldState, stops, WorldFault, WorldEvent, Gains}
 use Rattle.net_sim.specs.MixedWorlds.{MixedCalmGives, MixedState, mixed_answer, mixed_stops}
 use Rattle.net_sim.specs.declared.mixed.MixedFault.{MixedFault}
 use Rattle.world_replay.specs.Gains.{gained}

@@ -1,5 +1,5 @@
 -- Words for worked examples of a replay with a stranger: hosts `first` and `second` run the program, and `third` runs anything.
-use Rattle.std.specs.Prelude.{◌≡◌, ℕ, List, [], ◌∷◌}
+use Rattle.std.specs.Prelude.{◌≡◌, List, [], ◌∷◌}
 use Rattle.interface.specs.Calls.{Calls, Seen, crossing_of}
 use Rattle.interface.specs.declared.crossing.Answer.TheVariants as answer
 use Rattle.interface.specs.declared.crossing.Crossing.TheVariants as crossing
@@ -8,7 +8,6 @@ use Rattle.interface.specs.declared.message.HostMessage.{HostMessage}
 use Rattle.host_pairs.specs.declared.notice.Notice.TheVariants as notice
 use Rattle.net_sim.specs.MixedWorlds.{MixedState}
 use Rattle.net_sim.specs.WorkedMixed.{beside_third}
-use Rattle.promise.specs.declared.book.Told.{Told}
 use Rattle.sockets.specs.Worked.{control, first, third}
 use Rattle.world_replay.specs.Kinds.{HappensBy, ReplaysBy, mixed_kind}
 use Rattle.world_replay.specs.Output.{Crossed, Noticed, Shown}
