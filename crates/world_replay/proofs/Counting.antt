@@ -1,13 +1,14 @@
 -- Worlds over a carrier that counts its calls.
-use Rattle.world_replay.proofs.Common.{◌≡◌, ℕ, ◌+◌, zero, suc, Bool, true, false, List, [], ◌∷◌, length, Result, Ok, Err, refl, ap, sym, subst, ◌∙◌, arith, MatchBool, Calms, QuietEnds, StepGives, TurnsOf, WorldState, stops, up_in, with_carrier, Kept, Quiet, Take, WorldFault, Carrier, first, Gains, HappensInCalm, MayDo, Again, Repeated, crosses, after, WorldEvent, Calm, Happen}
+use Rattle.world_replay.proofs.Common.{◌≡◌, ℕ, ◌+◌, zero, suc, Bool, true, false, List, [], ◌∷◌, length, Result, Ok, Err, refl, ap, sym, subst, ◌∙◌, arith, MatchBool, Calms, QuietEnds, StepGives, TurnsOf, WorldState, stops, up_in, with_carrier, Kept, Quiet, Take, WorldFault, Carrier, first, Gains, HappensInCalm, Again, Repeated, crosses, after, WorldEvent, Calm, gained, world_kind}
+use Rattle.world_replay.specs.Replay.{MayDo}
+use Rattle.world_script.specs.declared.event.WorldEvent.TheVariants.{Happen}
 use Rattle.std.proofs.Common.{add-zero}
 use Rattle.interface.specs.declared.carrier.CarrierFault.{CarrierFault}
 use Rattle.interface.specs.declared.carrier.CarrierFault.TheVariants as fault
-use Rattle.world_replay.specs.Gains.{gained}
 use Rattle.world_replay.proofs.Replays.{gains_once, same_news}
 use Rattle.world_replay.specs.Output.{Shown}
 use Rattle.world_replay.specs.Kinds.{BeginsBy}
-use Rattle.world_replay.specs.Replay.{EventGives, world_kind}
+use Rattle.world_replay.specs.Replay.{EventGives}
 use Rattle.world_replay.specs.Worked.{counting}
 
 -- a quiet round is one call, and succeeds

@@ -1,19 +1,15 @@
 -- What a replay needs of worlds, of those with strangers as well.
-use Rattle.world_replay.proofs.Common.{◌≡◌, ℕ, ◌+◌, zero, suc, Bool, true, false, List, ◌++◌, None, Some, Result, Ok, Err, refl, ap, ap₂, sym, subst, ◌∙◌, arith, Calls, CalmGives, Calms, WorldState, stops, WorldFault, WorldEvent, Gains}
-use Rattle.net_sim.specs.MixedWorlds.{MixedCalmGives, MixedState, mixed_answer, mixed_stops}
-use Rattle.net_sim.specs.declared.mixed.MixedFault.{MixedFault}
-use Rattle.world_replay.specs.Gains.{gained}
-use Rattle.world_replay.specs.Kinds.{mixed_kind, mixed_rounds}
+use Rattle.world_replay.proofs.Common.{◌≡◌, ℕ, ◌+◌, zero, suc, Bool, true, false, List, ◌++◌, None, Some, Result, Ok, Err, refl, ap, ap₂, sym, subst, ◌∙◌, arith, Calls, CalmGives, Calms, WorldState, stops, WorldFault, WorldEvent, Gains, MixedState, mixed_answer, mixed_stops, MixedFault, gained, mixed_kind, world_kind, IsReplayable, MixedWorldEvent}
+use Rattle.net_sim.specs.MixedWorlds.{MixedCalmGives}
+use Rattle.world_replay.specs.Kinds.{mixed_rounds}
 use Rattle.world_replay.specs.Output.{Shown}
-use Rattle.world_replay.specs.Replay.{rounds_in, world_kind}
-use Rattle.world_replay.specs.Steps.{IsReplayable}
+use Rattle.world_replay.specs.Replay.{rounds_in}
 use Rattle.world_replay.proofs.CalmRounds.{in_rounds, parted}
 use Rattle.world_replay.proofs.Grown.{Grew, grew_more}
 use Rattle.world_replay.proofs.Mixed.{mixed_event_gains}
 use Rattle.world_replay.proofs.Replays.{calm_grows, event_gains, gained_more, gains_once, same_news}
 use Rattle.world_replay.proofs.Rounds.{calm_one, calm_stopped, done_runs, is_false, is_true, round_ends, when_false, when_true}
 use Rattle.world_script.specs.declared.event.WorldEvent.TheVariants as event
-use Rattle.world_script.specs.declared.event.MixedWorldEvent.{MixedWorldEvent}
 use Rattle.world_script.specs.declared.event.MixedWorldEvent.TheVariants as mixed
 
 abbrev Answer : Type 0
@@ -32,15 +28,18 @@ same_stops : (a : Answer) → mixed_stops (mixed_answer a) ≡ stops a
 same_stops (Ok done) = refl
 same_stops (Err f) = refl
 
-pub lasts_there : (r : Result (Unit {0}) MixedFault) (a : Answer) → r ≡ mixed_answer a → mixed_stops r ≡ false → stops a ≡ false
+pub lasts_there : (r : Result (Unit {0}) MixedFault) (a : Answer) → r ≡ mixed_answer a → mixed_stops r ≡ false
+    → stops a ≡ false
 lasts_there r a is on = sym (same_stops a) ∙ ap mixed_stops (sym is) ∙ on
 
-stops_there : (r : Result (Unit {0}) MixedFault) (a : Answer) → r ≡ mixed_answer a → mixed_stops r ≡ true → stops a ≡ true
+stops_there : (r : Result (Unit {0}) MixedFault) (a : Answer) → r ≡ mixed_answer a → mixed_stops r ≡ true
+    → stops a ≡ true
 stops_there r a is halts = sym (same_stops a) ∙ ap mixed_stops (sym is) ∙ halts
 
 module _ {C : Type 0} (calls : Calls C) where
   -- rounds in which memory lasts, and then further ones
-  calms_on : (n k : ℕ) (old mid new : WorldState C) (r q : Answer) → stops r ≡ false → Calms calls n old r mid → Calms calls k mid q new → Calms calls (n + k) old q new
+  calms_on : (n k : ℕ) (old mid new : WorldState C) (r q : Answer) → stops r ≡ false → Calms calls n old r mid
+      → Calms calls k mid q new → Calms calls (n + k) old q new
   calms_on zero k old mid new r q on (done, same) h =
       let none : k ≡ 0 + k = omega arith in subst (λ (n : ℕ). Calms calls n old q new) none (subst (λ (w : WorldState C). Calms calls k w q new) same h)
   calms_on (suc n) k old mid new r q on g h =
@@ -50,23 +49,30 @@ module _ {C : Type 0} (calls : Calls C) where
       let count : suc (n + k) ≡ suc n + k = omega arith in
       subst (λ (n : ℕ). Calms calls n old q new) count (calm_one calls (n + k) old first (Ok tt) q new refl one later).1
 
-  passes : (k : ℕ) (now new : WorldState C) (q : Answer) → CalmGives calls (suc k) now q new → (b : Bool) → now.stopped ≡ b → Calms calls (suc k) now q new
+  passes : (k : ℕ) (now new : WorldState C) (q : Answer) → CalmGives calls (suc k) now q new → (b : Bool)
+      → now.stopped ≡ b → Calms calls (suc k) now q new
   passes k now new q h true is = calm_stopped calls k now new q is (is_true _ _ now.stopped is h)
   passes k now new q h false is = is_false _ _ now.stopped is h
 
-  more : (n k : ℕ) (old mid new : WorldState C) (r q : Answer) → CalmGives calls (suc n) old r mid → stops r ≡ false → CalmGives calls (suc k) mid q new → CalmGives calls (suc n + suc k) old q new
+  more : (n k : ℕ) (old mid new : WorldState C) (r q : Answer) → CalmGives calls (suc n) old r mid → stops r ≡ false
+      → CalmGives calls (suc k) mid q new → CalmGives calls (suc n + suc k) old q new
   more n k old mid new r q g on h =
       let runs : old.stopped ≡ false = done_runs calls (suc n) old mid r on old.stopped refl g in
       when_false _ _ old.stopped runs (calms_on (suc n) (suc k) old mid new r q on (is_false _ _ old.stopped runs g) (passes k mid new q h mid.stopped refl))
 
-  well : (n : ℕ) (old : WorldState C) (r : Answer) (new : WorldState C) → CalmGives calls n old r new → stops r ≡ false → r ≡ Ok tt
+  well : (n : ℕ) (old : WorldState C) (r : Answer) (new : WorldState C) → CalmGives calls n old r new
+      → stops r ≡ false → r ≡ Ok tt
   well n old r new g on = (in_rounds calls n old new r on (is_false _ _ old.stopped (done_runs calls n old new r on old.stopped refl g) g)).0
 
-  ends : (k : ℕ) (old new : WorldState C) (r : Answer) → CalmGives calls 1 old r new → stops r ≡ true → (b : Bool) → old.stopped ≡ b → CalmGives calls (suc k) old r new
+  ends : (k : ℕ) (old new : WorldState C) (r : Answer) → CalmGives calls 1 old r new → stops r ≡ true → (b : Bool)
+      → old.stopped ≡ b → CalmGives calls (suc k) old r new
   ends k old new r g halts true is = when_true _ _ old.stopped is (is_true _ _ old.stopped is g)
   ends k old new r g halts false is = when_false _ _ old.stopped is (round_ends calls k old new r halts g old.stopped refl)
 
-  shows : (n k : ℕ) (old mid new : WorldState C) (r q : Answer) → CalmGives calls n old r mid → CalmGives calls k mid q new → (g : Gains old.kept mid.kept) (h : Gains mid.kept new.kept) (all : Gains old.kept new.kept) → gained all ≡ gained g ++ gained h
+  shows : (n k : ℕ) (old mid new : WorldState C) (r q : Answer) → CalmGives calls n old r mid
+      → CalmGives calls k mid q new
+      → (g : Gains old.kept mid.kept) (h : Gains mid.kept new.kept) (all : Gains old.kept new.kept)
+      → gained all ≡ gained g ++ gained h
   shows n k old mid new r q first next g h all =
       let one : Grew old.kept mid.kept = calm_grows calls n old r mid first in
       let two : Grew mid.kept new.kept = calm_grows calls k mid q new next in
@@ -91,17 +97,22 @@ module _ {C : Type 0} (calls : Calls C) where
 
   -- ---- with strangers, a calm is that of the world
 
-  mixed_well : (n : ℕ) (old : MixedState C) (r : Result (Unit {0}) MixedFault) (new : MixedState C) → MixedCalmGives calls n old r new → mixed_stops r ≡ false → r ≡ Ok tt
+  mixed_well : (n : ℕ) (old : MixedState C) (r : Result (Unit {0}) MixedFault) (new : MixedState C)
+      → MixedCalmGives calls n old r new → mixed_stops r ≡ false → r ≡ Ok tt
   mixed_well n old r new (a, g, is, same) on = is ∙ ap mixed_answer (well n old.world a new.world g (lasts_there r a is on))
 
-  mixed_more : (n k : ℕ) (old mid new : MixedState C) (r q : Result (Unit {0}) MixedFault) → MixedCalmGives calls (suc n) old r mid → mixed_stops r ≡ false → MixedCalmGives calls (suc k) mid q new → MixedCalmGives calls (suc n + suc k) old q new
+  mixed_more : (n k : ℕ) (old mid new : MixedState C) (r q : Result (Unit {0}) MixedFault)
+      → MixedCalmGives calls (suc n) old r mid → mixed_stops r ≡ false → MixedCalmGives calls (suc k) mid q new
+      → MixedCalmGives calls (suc n + suc k) old q new
   mixed_more n k old mid new r q (a, g, is, same) on (b, h, so, alike) = (b, more n k old.world mid.world new.world a b g (lasts_there r a is on) h, so, alike ∙ same)
 
-  mixed_shows : (n k : ℕ) (old mid new : MixedState C) (r q : Result (Unit {0}) MixedFault) → MixedCalmGives calls n old r mid → MixedCalmGives calls k mid q new
+  mixed_shows : (n k : ℕ) (old mid new : MixedState C) (r q : Result (Unit {0}) MixedFault)
+      → MixedCalmGives calls n old r mid → MixedCalmGives calls k mid q new
       → (g : Gains old.world.kept mid.world.kept) (h : Gains mid.world.kept new.world.kept) (all : Gains old.world.kept new.world.kept) → gained all ≡ gained g ++ gained h
   mixed_shows n k old mid new r q (a, first, is, same) (b, next, so, alike) g h all = shows n k old.world mid.world new.world a b first next g h all
 
-  mixed_ends : (k : ℕ) (old new : MixedState C) (r : Result (Unit {0}) MixedFault) → MixedCalmGives calls 1 old r new → mixed_stops r ≡ true → MixedCalmGives calls (suc k) old r new
+  mixed_ends : (k : ℕ) (old new : MixedState C) (r : Result (Unit {0}) MixedFault) → MixedCalmGives calls 1 old r new
+      → mixed_stops r ≡ true → MixedCalmGives calls (suc k) old r new
   mixed_ends k old new r (a, g, is, same) halts = (a, ends k old.world new.world a g (stops_there r a is halts) old.world.stopped refl, is, same)
 
   pub mixed_replayable : IsReplayable (mixed_kind calls)

@@ -1,13 +1,13 @@
 -- One event of a world's script, and what it shows.
-use Rattle.world_replay.proofs.Common.{◌≡◌, ℕ, ◌+◌, true, false, List, [], ◌∷◌, ◌++◌, drop, length, reverse, Option, Result, Ok, Err, refl, ap, sym, subst, ◌∙◌, arith, append-nil, length-append, length-reverse, reverse-append, reverse-reverse, Appends, Kept, shown, CalmGives, StepGives, WorldState, stops, Event, Calls, WorldFault, HappensOnce, ShowsFront, grown_more, in_turn_once, AreSettled, WorldEvent, Gains, Writes, notices_of, output, reports_of, shown_in_turn, told_in_turn, HappensInCalm, Replays, StopsIn, Detail}
+use Rattle.world_replay.proofs.Common.{◌≡◌, ℕ, ◌+◌, true, false, List, [], ◌∷◌, ◌++◌, drop, length, reverse, Option, Result, Ok, Err, refl, ap, sym, subst, ◌∙◌, arith, append-nil, length-append, length-reverse, reverse-append, reverse-reverse, Appends, Kept, shown, CalmGives, StepGives, WorldState, stops, Event, Calls, WorldFault, HappensOnce, ShowsFront, grown_more, in_turn_once, AreSettled, WorldEvent, Gains, Writes, notices_of, output, reports_of, shown_in_turn, told_in_turn, HappensInCalm, Replays, Detail, gained, calm_keeps}
+use Rattle.world_replay.specs.Replay.{StopsIn}
 use Rattle.std.proofs.lemmas.List.{append_assoc, append_cancel_left, append_cancel_right, drop_at}
 use Rattle.replay.proofs.lemmas.{ends_front}
 use Rattle.replay.specs.Settled.{Grows}
 use Rattle.world_script.specs.declared.event.WorldEvent.TheVariants as event
-use Rattle.world_replay.specs.Gains.{gained, news}
+use Rattle.world_replay.specs.Gains.{news}
 use Rattle.world_replay.specs.Output.{Shown, crossings_of, shown_refusal}
 use Rattle.world_replay.specs.Replay.{EndsIn, EventGives, Happens}
-use Rattle.net_sim.proofs.lemmas.{calm_keeps}
 use Rattle.world_replay.proofs.Grown.{Grew, begins, gains_none, grew_more, grew_none, step_gains, step_grows, step_kept}
 use Rattle.world_replay.proofs.News.{crossings_in_turn, crossings_of-append, news_later, notices_in_turn, notices_of-append, reports_in_turn, reports_of-append, told_begin, told_later, told_want}
 use Rattle.world_replay.proofs.Steady.{Steady, steady_calm, step_once}

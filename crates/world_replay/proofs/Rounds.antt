@@ -1,5 +1,5 @@
 -- Rounds of a calm: one that goes well and then others, and one in which memory runs out.
-use Rattle.world_replay.proofs.Common.{◌≡◌, ℕ, suc, Bool, true, false, Ok, refl, ap, sym, subst, ◌∙◌, false≢true, MatchBool, CalmGives, Calms, Does, Refuses, Result, TurnsOf, WorldState, stops, up_in, Calls, WorldFault, Carrier}
+use Rattle.world_replay.proofs.Common.{◌≡◌, ℕ, suc, Bool, true, false, Ok, refl, ap, sym, subst, ◌∙◌, Result, false≢true, MatchBool, CalmGives, Calms, Does, Refuses, TurnsOf, WorldState, stops, up_in, Calls, WorldFault, Carrier}
 use Rattle.interface.specs.declared.carrier.CarrierFault.TheVariants as carrier
 
 -- ---- one round, and more

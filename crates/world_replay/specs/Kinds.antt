@@ -55,7 +55,7 @@ pub record StopsBy {S E : Type 0} (kind : Kind S E) (old : S) (e : E) (new : S) 
   pub gains : Gains (kind.kept old) (kind.kept new)
   pub lines : shown ≡ gained gains
 
--- the first rounds of a calm of so many; any other event is whole
+-- the first rounds of a calm of this many; any other event is whole
 abbrev pub BeginsAs : {S E : Type 0} → Kind S E → Option ℕ → E → E → Type 0
 BeginsAs kind None e first = first ≡ e
 BeginsAs kind (Some rounds) e first = (fewer : ℕ) × (first ≡ kind.calm fewer) × (fewer ≤ rounds)
@@ -101,7 +101,8 @@ EndsSeenBy kind (e ∷ next ∷ events) new flushed = EndsSeenBy kind (next ∷ 
 
 -- ---- worlds with strangers
 
-abbrev pub MixedEventGives : {C : Type 0} → Calls C → MixedState C → MixedWorldEvent → Result (Unit {0}) MixedFault → MixedState C → Type 0
+abbrev pub MixedEventGives : {C : Type 0} → Calls C → MixedState C → MixedWorldEvent → Result (Unit {0}) MixedFault
+    → MixedState C → Type 0
 MixedEventGives calls old (mixed.Happen e) r new = MixedStepGives calls old e r new
 MixedEventGives calls old (mixed.Calm rounds) r new = MixedCalmGives calls rounds old r new
 

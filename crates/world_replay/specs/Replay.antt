@@ -13,7 +13,8 @@ use Rattle.world_script.specs.declared.event.WorldEvent.{WorldEvent}
 use Rattle.world_script.specs.declared.event.WorldEvent.TheVariants as event
 
 -- how one event may go: the world before, the event, whether it was refused, and the world after
-abbrev pub EventGives : {C : Type 0} → Calls C → WorldState C → WorldEvent → Result (Unit {0}) WorldFault → WorldState C → Type 0
+abbrev pub EventGives : {C : Type 0} → Calls C → WorldState C → WorldEvent → Result (Unit {0}) WorldFault
+    → WorldState C → Type 0
 EventGives calls old (event.Happen e) r new = StepGives calls old e r new
 EventGives calls old (event.Calm rounds) r new = CalmGives calls rounds old r new
 
@@ -86,5 +87,6 @@ abbrev pub MayStep : {C : Type 0} → Calls C → WorldState C → Event → Wor
 MayStep calls old e new = (outcome : Result (Unit {0}) WorldFault) × StepGives calls old e outcome new
 
 -- the events before the last one happened, the last one went as is said, and these lines were shown by then
-abbrev pub EndsIn : {C : Type 0} → Calls C → (WorldState C → WorldEvent → WorldState C → List Shown → Type 0) → WorldState C → List WorldEvent → WorldState C → List Shown → Type 0
+abbrev pub EndsIn : {C : Type 0} → Calls C → (WorldState C → WorldEvent → WorldState C → List Shown → Type 0)
+    → WorldState C → List WorldEvent → WorldState C → List Shown → Type 0
 EndsIn calls Goes old events new shown = EndsBy (world_kind calls) Goes old events new shown

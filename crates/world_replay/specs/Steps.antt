@@ -13,20 +13,22 @@ use Rattle.world_replay.specs.Output.{Shown, Writes, mixed_refusal, output, show
 
 -- ---- what a replay needs of a kind of world
 
--- an event goes so, and what is told of it shows the same refusal and says as well whether memory has run out
+-- an event goes so, and this answer shows the same refusal, and says as well whether memory has run out
 abbrev pub Tells : {S E : Type 0} → Kind S E → S → E → Result (Unit {0}) MixedFault → S → Type 0
 Tells kind old e told new = (outcome : kind.Answer) × kind.gives old e outcome new × (mixed_stops told ≡ kind.stops outcome) × (kind.refusal outcome ≡ mixed_refusal told)
 
 pub record IsReplayable {S E : Type 0} (kind : Kind S E) : Type 0 where
-  -- the calm of so many rounds has these, and no other event has
+  -- the calm of this many rounds has these, and no other event has
   pub has_rounds : (n : ℕ) → kind.rounds (kind.calm n) ≡ Some n
   pub is_calm : (e : E) (n : ℕ) → kind.rounds e ≡ Some n → e ≡ kind.calm n
   -- memory lasts where all is done, and nothing is refused; and so it is in a calm in which memory lasts
   pub lasts : kind.stops kind.done ≡ false
   pub unrefused : kind.refusal kind.done ≡ []
-  pub well : (n : ℕ) (old : S) (r : kind.Answer) (new : S) → kind.gives old (kind.calm n) r new → kind.stops r ≡ false → r ≡ kind.done
+  pub well : (n : ℕ) (old : S) (r : kind.Answer) (new : S) → kind.gives old (kind.calm n) r new → kind.stops r ≡ false
+      → r ≡ kind.done
   -- the book only grows
-  pub gains : (e : E) (old : S) (r : kind.Answer) (new : S) → kind.gives old e r new → Gains (kind.kept old) (kind.kept new)
+  pub gains : (e : E) (old : S) (r : kind.Answer) (new : S) → kind.gives old e r new
+      → Gains (kind.kept old) (kind.kept new)
   -- rounds and then further ones are one calm, and so are their lines
   pub more :
       (n k : ℕ) (old mid new : S) (r q : kind.Answer) → kind.gives old (kind.calm (suc n)) r mid → kind.stops r ≡ false → kind.gives mid (kind.calm (suc k)) q new
@@ -35,17 +37,20 @@ pub record IsReplayable {S E : Type 0} (kind : Kind S E) : Type 0 where
       (n k : ℕ) (old mid new : S) (r q : kind.Answer) → kind.gives old (kind.calm n) r mid → kind.gives mid (kind.calm k) q new
       → (g : Gains (kind.kept old) (kind.kept mid)) (h : Gains (kind.kept mid) (kind.kept new)) (all : Gains (kind.kept old) (kind.kept new)) → gained all ≡ gained g ++ gained h
   -- a round in which memory runs out ends any longer calm
-  pub ends : (k : ℕ) (old new : S) (r : kind.Answer) → kind.gives old (kind.calm 1) r new → kind.stops r ≡ true → kind.gives old (kind.calm (suc k)) r new
+  pub ends : (k : ℕ) (old new : S) (r : kind.Answer) → kind.gives old (kind.calm 1) r new → kind.stops r ≡ true
+      → kind.gives old (kind.calm (suc k)) r new
 
 -- ---- how the replay of one event may end
 
-abbrev pub EventEnds : {S E : Type 0} → Kind S E → Detail → S → E → Result (Unit {0}) ReplayFault → S → Option (List ℕ) → Option (List ℕ) → Type 0
+abbrev pub EventEnds : {S E : Type 0} → Kind S E → Detail → S → E → Result (Unit {0}) ReplayFault → S
+    → Option (List ℕ) → Option (List ℕ) → Type 0
 EventEnds kind detail old e (Ok done) new before after = Writes detail (HappensBy kind old e new) before after
 EventEnds kind detail old e (Err fault.OutOfMemory) new before after = Writes detail (StopsBy kind old e new) before after
 EventEnds kind detail old e (Err fault.CannotWrite) new before after = (shown : List Shown) × MayDoBy kind old e new shown
 
 -- of one that is printed at once
-abbrev pub OneEnds : {S E : Type 0} → Kind S E → Detail → S → E → Result (Unit {0}) ReplayFault → S → Option (List ℕ) → Option (List ℕ) → Type 0
+abbrev pub OneEnds : {S E : Type 0} → Kind S E → Detail → S → E → Result (Unit {0}) ReplayFault → S → Option (List ℕ)
+    → Option (List ℕ) → Type 0
 OneEnds kind detail old e (Ok done) new before after = Writes detail (HappensBy kind old e new) before after
 OneEnds kind detail old e (Err fault.OutOfMemory) new before after = Writes detail (StopsBy kind old e new) before after
 OneEnds kind detail old e (Err fault.CannotWrite) new before after = (outcome : kind.Answer) × kind.gives old e outcome new
@@ -56,5 +61,6 @@ OneEnds kind detail old e (Err fault.CannotWrite) new before after = (outcome : 
 -- are left
 pub record Fronts (detail : Detail) (before : ℕ) (crossings : List Crossing) (news : List Shown) (later : ℕ) (left : List Crossing) (a b : Option (List ℕ)) : Type 0 where
   pub shown : List Shown
-  pub whole : (more : List Shown) → shown_in_turn before crossings (news ++ more) ≡ shown ++ shown_in_turn later left more
+  pub whole : (more : List Shown)
+      → shown_in_turn before crossings (news ++ more) ≡ shown ++ shown_in_turn later left more
   pub written : Appends a b (output detail shown)

@@ -1,4 +1,4 @@
-use Rattle.world_replay.proofs.Common.{◌≡◌, ◌<◌, ◌≤◌, false, true}
+use Rattle.std.proofs.Common.{◌≡◌, ◌<◌, ◌≤◌, false, true}
 use Rattle.world_replay.proofs.ByKind.{HaveRounds}
 use Rattle.world_replay.proofs.events.replay_calm.Given as goal
 

@@ -1,8 +1,8 @@
-use Rattle.world_replay.proofs.Common.{◌≡◌, ◌∷◌, [], ◌++◌, Err, rules, ap, sym, subst, ◌∙◌, shown_text, EventEnds}
+use Rattle.world_replay.proofs.Common.{◌≡◌, ◌∷◌, [], ◌++◌, Err, rules, ap, sym, subst, ◌∙◌, shown_text, EventEnds, HappensBy, StopsBy}
 use Rattle.std.proofs.lemmas.List.{append_assoc}
 use Rattle.replay.proofs.lemmas.{last_shown, last_written, one_written}
 use Rattle.replay.specs.declared.events.ReplayFault.TheVariants as fault
-use Rattle.world_replay.specs.Kinds.{HappensBy, MayDoBy, StopsBy}
+use Rattle.world_replay.specs.Kinds.{MayDoBy}
 use Rattle.world_replay.proofs.ByKind.{last_seen}
 use Rattle.world_replay.proofs.events.replay_in_turn.Goals as goal
 

@@ -1,5 +1,5 @@
-use Rattle.world_replay.proofs.Common.{◌≡◌, ◌++◌, false, Writes}
-use Rattle.world_replay.specs.Kinds.{EndsSeenBy, ReplaysBy}
+use Rattle.world_replay.proofs.Common.{◌≡◌, ◌++◌, false, Writes, EndsSeenBy}
+use Rattle.world_replay.specs.Kinds.{ReplaysBy}
 use Rattle.world_replay.proofs.events.replay_in_turn.Given as goal
 
 -- the events so far are replayed, and what they showed is written, and handed on where they end with a long calm; no write has failed

@@ -1,11 +1,6 @@
 use Rattle.interface.specs.declared.carrier.CarrierFault.TheVariants as fault
-use Rattle.net_sim.specs.declared.mixed.MixedEvent.TheVariants.{Any, Out}
-use Rattle.net_sim.specs.declared.mixed.MixedFault.TheVariants.{HasProgram, NoProgram, World}
-use Rattle.net_sim.specs.Worked.{any_carrier, message}
+use Rattle.world_replay.proofs.Common.{Any, Out, HasProgram, NoProgram, World, any_carrier, message, Ask, Offer, Carrier, first, second, third}
 use Rattle.net_sim.specs.WorkedMixed.{fourth}
-use Rattle.net_sim.specs.declared.event.Event.TheVariants.{Ask, Offer}
-use Rattle.net_sim.specs.declared.event.WorldFault.TheVariants.{Carrier}
-use Rattle.sockets.specs.Worked.{first, second, third}
 use Rattle.sockets.specs.declared.request.Request.TheVariants as request
 use Rattle.world_script.specs.declared.event.MixedWorldEvent.TheVariants.{Happen}
 use Rattle.world_replay.proofs.Strangers.{is_hailed, refused_only, says_only, takes_only, waits}

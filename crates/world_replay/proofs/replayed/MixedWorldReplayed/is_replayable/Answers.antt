@@ -1,4 +1,4 @@
-use Rattle.world_replay.proofs.Common.{shown}
+use Rattle.net_sim.specs.Carriers.{shown}
 use Rattle.world_replay.proofs.Replayable.{mixed_replayable}
 use Rattle.world_replay.proofs.replayed.MixedWorldReplayed.is_replayable.Goals as goal
 

@@ -1,4 +1,4 @@
-use Rattle.world_replay.proofs.Common.{shown}
+use Rattle.net_sim.specs.Carriers.{shown}
 use Rattle.world_replay.proofs.Replayable.{world_replayable}
 use Rattle.world_replay.proofs.replayed.WorldReplayed.is_replayable.Goals as goal
 
