@@ -1,9 +1,8 @@
 -- An event at one host leaves all others as they are, and one of a calm by which nothing crosses leaves all hosts so.
-use Rattle.world_replay.proofs.Common.{◌≡◌, inl, inr, ℕ, zero, suc, Bool, false, List, [], ◌∷◌, Option, Some, None, Result, Ok, Err, length, refl, ap, sym, subst, ◌∙◌, arith, Notice, ServiceDeskState, ServicesState, opening_desk, line_bits, Calls, crossing_of, Host, Crossing, all_told, asked, crossed, shown, AskGives, AtSeat, Does, DoesOrHalts, OfferEnds, OfferGives, Passes, QuietEnds, StepGives, TakeEnds, TakeGives, TypeGives, WorldState, noticed, seat_of, served_at, services_of, stops, with_carrier, with_server, with_user, world_moved, Event, Ask, Net, Offer, Quiet, Server, Take, Typed, User, WorldFault, Seat, ServiceSeat, accepted, NcpState, refusal, served, served_notices, next_out, offered, NcpFault, Request, IsOfCalm}
+use Rattle.world_replay.proofs.Common.{◌≡◌, inl, inr, ℕ, zero, suc, Bool, false, List, [], ◌∷◌, Option, Some, None, Result, Ok, Err, length, refl, ap, sym, subst, ◌∙◌, arith, Notice, ServiceDeskState, ServicesState, opening_desk, line_bits, Calls, crossing_of, Host, Crossing, all_told, asked, crossed, shown, AskGives, AtSeat, Does, DoesOrHalts, OfferEnds, OfferGives, Passes, QuietEnds, StepGives, TakeEnds, TakeGives, TypeGives, WorldState, noticed, seat_of, served_at, services_of, stops, with_carrier, with_server, with_user, world_moved, Event, Ask, Net, Offer, Quiet, Server, Take, Typed, User, WorldFault, Seat, ServiceSeat, accepted, NcpState, refusal, served, served_notices, next_out, offered, NcpFault, Request, IsOfCalm, same_host}
 use Rattle.std.proofs.Common.{slice_get}
 use Rattle.std.proofs.lemmas.List.{length-map}
 use Rattle.host_services.specs.Turns as services
-use Rattle.interface.specs.Host.{same_host}
 use Rattle.interface.specs.declared.CarrierFault.{CarrierFault}
 use Rattle.interface.specs.declared.HostMessage.{HostMessage}
 use Rattle.interface.specs.declared.Inbound.{Inbound}

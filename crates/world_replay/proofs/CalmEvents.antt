@@ -1,10 +1,10 @@
 -- A calm is its events, one after another.
-use Rattle.world_replay.proofs.Common.{◌≡◌, ℕ, zero, suc, Bool, true, false, List, [], ◌∷◌, ◌++◌, Result, Ok, refl, ap, sym, subst, ◌∙◌, length, nat_lt, false≢true, All-cons, All-nil, MatchBool, All, Calls, Host, Calms, Does, Repeats, StepGives, TurnsOf, WorldState, stops, up_in, Event, Offer, Quiet, Take, WorldFault, InTurn, HappensInCalm, IsOfCalm}
+use Rattle.world_replay.proofs.Common.{◌≡◌, ℕ, zero, suc, Bool, true, false, List, [], ◌∷◌, ◌++◌, Result, Ok, refl, ap, sym, subst, ◌∙◌, length, nat_lt, false≢true, All-cons, All-nil, MatchBool, All, Calls, Host, Calms, Does, Repeats, StepGives, TurnsOf, WorldState, stops, up_in, Event, Offer, Quiet, Take, WorldFault, InTurn, HappensInCalm, IsOfCalm, gained}
 use Rattle.world_replay.specs.Output.{Shown}
 use Rattle.world_replay.specs.Replay.{Happens, quiet_rounds}
 use Rattle.world_replay.proofs.CalmRounds.{Gained, calm_gained, more_gained, none_gained, runs_at}
 use Rattle.world_replay.proofs.Grown.{Grew, begins, step_grows}
-use Rattle.world_replay.proofs.Replays.{gained, gains_once, same_news}
+use Rattle.world_replay.proofs.Replays.{gains_once, same_news}
 use Rattle.world_replay.proofs.Rounds.{is_false, is_true}
 use Rattle.world_script.specs.declared.event.WorldEvent.TheVariants as event
 

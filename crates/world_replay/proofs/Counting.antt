@@ -1,10 +1,13 @@
 -- Worlds over a carrier that counts its calls.
-use Rattle.world_replay.proofs.Common.{◌≡◌, ℕ, ◌+◌, zero, suc, Bool, true, false, List, [], ◌∷◌, length, Result, Ok, Err, refl, ap, sym, subst, ◌∙◌, arith, MatchBool, Calms, QuietEnds, StepGives, TurnsOf, WorldState, stops, up_in, with_carrier, Kept, Quiet, Take, WorldFault, Carrier, first, Gains, BeginsWith, HappensInCalm, MayDo, Again, Repeated, crosses, after, WorldEvent, Calm, Happen}
+use Rattle.world_replay.proofs.Common.{◌≡◌, ℕ, ◌+◌, zero, suc, Bool, true, false, List, [], ◌∷◌, length, Result, Ok, Err, refl, ap, sym, subst, ◌∙◌, arith, MatchBool, Calms, QuietEnds, StepGives, TurnsOf, WorldState, stops, up_in, with_carrier, Kept, Quiet, Take, WorldFault, Carrier, first, Gains, HappensInCalm, Again, Repeated, crosses, after, WorldEvent, Calm, gained, world_kind}
+use Rattle.world_replay.specs.Replay.{MayDo}
+use Rattle.world_script.specs.declared.event.WorldEvent.TheVariants.{Happen}
 use Rattle.std.proofs.Common.{add-zero}
 use Rattle.interface.specs.declared.carrier.CarrierFault.{CarrierFault}
 use Rattle.interface.specs.declared.carrier.CarrierFault.TheVariants as fault
-use Rattle.world_replay.proofs.Replays.{gained, gains_once, same_news}
+use Rattle.world_replay.proofs.Replays.{gains_once, same_news}
 use Rattle.world_replay.specs.Output.{Shown}
+use Rattle.world_replay.specs.Kinds.{BeginsBy}
 use Rattle.world_replay.specs.Replay.{EventGives}
 use Rattle.world_replay.specs.Worked.{counting}
 
@@ -79,7 +82,7 @@ one_round = record {
 -- a calm of two rounds has no third
 pub no_third : (shown : List Shown) → ¬ (MayDo counting (after 3) (Calm 2) (after 6) shown)
 no_third shown h = by h.begins where
-  by : BeginsWith (Calm 2) h.processed → ⊥
+  by : BeginsBy (world_kind counting) (Calm 2) h.processed → ⊥
   by (fewer, is, le) =
       let gives : Calms counting fewer (after 3) h.outcome (after 6) = subst (λ (e : WorldEvent). EventGives counting (after 3) e h.outcome (after 6)) is h.gives in
       let counted : 6 ≡ 3 + fewer = calms_count fewer 3 h.outcome (after 6) gives in

@@ -1,6 +1,6 @@
 -- Each event of a world drives its carrier by the call that it makes.
-use Rattle.world_replay.proofs.Common.{◌≡◌, ◌⊎◌, inr, ℕ, Bool, true, false, List, [], ◌∷◌, ◌++◌, length, Option, Some, None, Result, Ok, Err, reverse, refl, ap, sym, subst, ◌∙◌, false≢true, append-nil, reverse-reverse, All-cons, All-nil, MatchBool, All, Notice, ServiceDeskState, opening_desk, line_bits, Calls, Seen, crossing_of, is_memory, step_crossings, Host, Crossing, Kept, all_asked, all_crossed, all_told, asked, book_told, crossed, shown, AskGives, AtProgram, AtSeat, DoesOrHalts, NetEnds, OfferEnds, OfferGives, Passes, QuietEnds, Refuses, StepGives, TakeEnds, TakeGives, TypeGives, WorldState, changed, done_by, noticed, seat_of, served_at, services_of, stops, with_carrier, with_server, with_user, world_moved, Event, Ask, Net, Offer, Quiet, Server, Take, Typed, User, WorldFault, Carrier, Seat, Happening, InTurn, GoesOn, outcome_of, grown_more, accepted, NcpState, refusal, served, served_notices, next_out, offered, NcpFault, Request, Brings, Drive, Drives, Goes, IsCall, IsDriven, IsDrivenIn, IsShown, Raw, Round, HappensInCalm, Replays, WorldEvent}
-use Rattle.std.proofs.Common.{inl, if◌then◌else◌}
+use Rattle.world_replay.proofs.Common.{◌≡◌, ◌⊎◌, inr, ℕ, Bool, true, false, List, [], ◌∷◌, ◌++◌, length, Option, Some, None, Result, Ok, Err, reverse, refl, ap, sym, subst, ◌∙◌, false≢true, append-nil, reverse-reverse, All-cons, All-nil, MatchBool, All, Notice, ServiceDeskState, opening_desk, line_bits, Calls, Seen, crossing_of, is_memory, step_crossings, Host, Crossing, Kept, all_asked, all_crossed, all_told, asked, book_told, crossed, shown, AskGives, AtProgram, AtSeat, DoesOrHalts, NetEnds, OfferEnds, OfferGives, Passes, QuietEnds, Refuses, StepGives, TakeEnds, TakeGives, TypeGives, WorldState, changed, done_by, noticed, seat_of, served_at, services_of, stops, with_carrier, with_server, with_user, world_moved, Event, Ask, Net, Offer, Quiet, Server, Take, Typed, User, WorldFault, Carrier, Seat, Happening, InTurn, GoesOn, grown_more, accepted, NcpState, refusal, served, served_notices, next_out, offered, NcpFault, Request, Brings, Drive, Drives, Goes, IsCall, IsDriven, IsDrivenIn, IsShown, Raw, Round, HappensInCalm, Replays, WorldEvent, if◌then◌else◌}
+use Rattle.std.proofs.Common.{inl}
 use Rattle.std.proofs.lemmas.List.{append_assoc}
 use Rattle.std.proofs.lemmas.List.Elements.{All-append}
 use Rattle.std.specs.Option.{option_and_then, option_map, option_to_list}

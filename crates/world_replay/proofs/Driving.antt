@@ -1,12 +1,12 @@
 -- What crosses by calls of small carriers.
-use Rattle.world_replay.proofs.Common.{◌≡◌, inl, inr, ℕ, suc, List, [], ◌∷◌, ◌++◌, length, None, Ok, reverse, refl, ap, subst, ◌∙◌, arith, All-cons, All-nil, All, Seen, crossing_of, Host, fresh, message, WorldState, Event, InTurn, first, second, Brings, Drive, Drives, Goes, IsCall, IsDriven, IsDrivenIn, IsShown, Raw, Round, IsOfCalm, after, booked, Calm, Happen}
+use Rattle.world_replay.proofs.Common.{◌≡◌, inl, inr, ℕ, suc, List, [], ◌∷◌, ◌++◌, length, None, Ok, reverse, refl, ap, subst, ◌∙◌, arith, All-cons, All-nil, All, Seen, crossing_of, Host, fresh, message, WorldState, Event, InTurn, first, second, Brings, Drive, Drives, Goes, IsCall, IsDriven, IsDrivenIn, IsShown, Raw, Round, IsOfCalm, after, booked, Calm, any_carrier}
+use Rattle.world_script.specs.declared.event.WorldEvent.TheVariants.{Happen}
 use Rattle.std.proofs.lemmas.List.Elements.{All-head, All-tail}
 use Rattle.interface.specs.Calls.{IsFor}
 use Rattle.interface.specs.declared.HostMessage.{HostMessage}
 use Rattle.interface.specs.declared.Inbound.{Inbound}
 use Rattle.interface.specs.declared.crossing.Inbound.TheVariants as inbound
 use Rattle.interface.specs.declared.crossing.Crossing.TheVariants as crossing
-use Rattle.net_sim.specs.Worked.{any_carrier}
 use Rattle.net_sim.specs.declared.event.Event.TheVariants as event
 use Rattle.replay.specs.Output.{Crossed, Shown, crossings_of, shown_crossings, shown_refusal}
 use Rattle.replay.specs.Worked.{counting}

@@ -1,5 +1,6 @@
 -- One event of a world's script, and what it shows.
-use Rattle.world_replay.proofs.Common.{◌≡◌, ℕ, ◌+◌, true, false, List, [], ◌∷◌, ◌++◌, drop, length, reverse, Option, Result, Ok, Err, OnOk, refl, ap, sym, subst, ◌∙◌, arith, append-nil, length-append, length-reverse, reverse-append, reverse-reverse, Appends, Appends-trans, Kept, shown, CalmGives, StepGives, WorldState, stops, Event, Calls, WorldFault, HappensOnce, ShowsFront, grown_more, in_turn_once, AreSettled, WorldEvent, Gains, Writes, notices_of, output, reports_of, shown_in_turn, told_in_turn, HappensInCalm, Replays, StopsIn, ReplayFault, Detail, OneEnds}
+use Rattle.world_replay.proofs.Common.{◌≡◌, ℕ, ◌+◌, true, false, List, [], ◌∷◌, ◌++◌, drop, length, reverse, Option, Result, Ok, Err, refl, ap, sym, subst, ◌∙◌, arith, append-nil, length-append, length-reverse, reverse-append, reverse-reverse, Appends, Kept, shown, CalmGives, StepGives, WorldState, stops, Event, Calls, WorldFault, HappensOnce, ShowsFront, grown_more, in_turn_once, AreSettled, WorldEvent, Gains, Writes, notices_of, output, reports_of, shown_in_turn, told_in_turn, HappensInCalm, Replays, Detail, gained, calm_keeps}
+use Rattle.world_replay.specs.Replay.{StopsIn}
 use Rattle.std.proofs.lemmas.List.{append_assoc, append_cancel_left, append_cancel_right, drop_at}
 use Rattle.replay.proofs.lemmas.{ends_front}
 use Rattle.replay.specs.Settled.{Grows}
@@ -7,15 +8,15 @@ use Rattle.world_script.specs.declared.event.WorldEvent.TheVariants as event
 use Rattle.world_replay.specs.Gains.{news}
 use Rattle.world_replay.specs.Output.{Shown, crossings_of, shown_refusal}
 use Rattle.world_replay.specs.Replay.{EndsIn, EventGives, Happens}
-use Rattle.net_sim.proofs.lemmas.{calm_keeps}
-use Rattle.replay.specs.declared.events.ReplayFault.TheVariants as fault
 use Rattle.world_replay.proofs.Grown.{Grew, begins, gains_none, grew_more, grew_none, step_gains, step_grows, step_kept}
-use Rattle.world_replay.proofs.News.{crossings_in_turn, crossings_of-append, news_later, notices_in_turn, notices_of-append, output-append, reports_in_turn, reports_of-append, told_begin, told_later, told_want}
+use Rattle.world_replay.proofs.News.{crossings_in_turn, crossings_of-append, news_later, notices_in_turn, notices_of-append, reports_in_turn, reports_of-append, told_begin, told_later, told_want}
 use Rattle.world_replay.proofs.Steady.{Steady, steady_calm, step_once}
 
 -- ---- one event
 
-event_once : {C : Type 0} (calls : Calls C) → AreSettled calls → (e : WorldEvent) (old : WorldState C) (r q : Result (Unit {0}) WorldFault) (new other : WorldState C) → EventGives calls old e r new → stops r ≡ false → EventGives calls old e q other → stops q ≡ false
+event_once : {C : Type 0} (calls : Calls C) → AreSettled calls → (e : WorldEvent) (old : WorldState C)
+    (r q : Result (Unit {0}) WorldFault) (new other : WorldState C) → EventGives calls old e r new → stops r ≡ false
+    → EventGives calls old e q other → stops q ≡ false
     → (r ≡ q) × (new ≡ other)
 event_once calls settled (event.Happen e) old r q new other h hg k kg = step_once calls settled e old r q new other h hg k kg
 event_once calls settled (event.Calm rounds) old r q new other h hg k kg = (steady_calm calls settled rounds old).once r q new other h hg k kg
@@ -25,10 +26,6 @@ pub record SameGains {old new other : Kept} (g : Gains old new) (k : Gains old o
   pub crossings : g.crossings ≡ k.crossings
   pub notices : g.notices ≡ k.notices
   pub reports : g.reports ≡ k.reports
-
--- what a book gained, in the order in which it is shown
-abbrev pub gained : {old new : Kept} → Gains old new → List Shown
-gained {old} {new} g = news old g.crossings g.notices g.reports
 
 pub same_news : (old new other : Kept) (g : Gains old new) (k : Gains old other) → SameGains g k → gained g ≡ gained k
 same_news old new other g k same =
@@ -56,7 +53,8 @@ happens_once {C} calls settled old e new other shown more h k =
     )
 
 -- this many crossings were there, and this many came
-counted : (old new : Kept) (g : Gains old new) → length new.book.crossings ≡ length old.book.crossings + length g.crossings
+counted : (old new : Kept) (g : Gains old new)
+    → length new.book.crossings ≡ length old.book.crossings + length g.crossings
 counted old new g =
     let all : length new.book.crossings ≡ length (reverse g.crossings ++ old.book.crossings) = ap length g.crossed in
     omega (arith, all, length-append (reverse g.crossings) old.book.crossings, length-reverse g.crossings)
@@ -68,7 +66,8 @@ noticed old new g =
     omega (arith, all, length-append old.book.notices g.notices)
 
 -- the lines of two events in turn are the lines of each
-pub gained_more : (old mid new : Kept) (g : Grew old mid) (k : Grew mid new) → gained (grew_more old mid new g k).gains ≡ gained g.gains ++ gained k.gains
+pub gained_more : (old mid new : Kept) (g : Grew old mid) (k : Grew mid new)
+    → gained (grew_more old mid new g k).gains ≡ gained g.gains ++ gained k.gains
 unfolding grew_more
 gained_more old mid new g k =
     let n : ℕ = length old.book.notices in
@@ -122,7 +121,8 @@ news_gained old new g =
       said = g.said ∙ ap (λ rs. old.book.reports ++ rs) (sym (reports_in_turn crossings notices g.crossings g.notices g.reports));
     }
 
-both_gained : (old mid new : Kept) (first rest : List Shown) → HaveGains old mid first → HaveGains mid new rest → HaveGains old new (first ++ rest)
+both_gained : (old mid new : Kept) (first rest : List Shown) → HaveGains old mid first → HaveGains mid new rest
+    → HaveGains old new (first ++ rest)
 both_gained old mid new first rest h k = record {
   crossed = grown_more old.book.crossings mid.book.crossings new.book.crossings (crossings_of first) (crossings_of rest) h.crossed k.crossed
       ∙ ap (λ cs. reverse cs ++ old.book.crossings) (sym (crossings_of-append first rest));
@@ -132,19 +132,22 @@ both_gained old mid new first rest h k = record {
       ∙ ap (λ rs. old.book.reports ++ rs) (sym (reports_of-append first rest));
 }
 
-happens_show : {C : Type 0} (calls : Calls C) (old : WorldState C) (e : WorldEvent) (new : WorldState C) (shown : List Shown) → Happens calls old e new shown → HaveGains old.kept new.kept shown
+happens_show : {C : Type 0} (calls : Calls C) (old : WorldState C) (e : WorldEvent) (new : WorldState C)
+    (shown : List Shown) → Happens calls old e new shown → HaveGains old.kept new.kept shown
 happens_show calls old e new shown h =
     subst (HaveGains old.kept new.kept) (sym h.lines)
     (both_gained old.kept new.kept new.kept (gained h.gains) (shown_refusal h.outcome) (news_gained old.kept new.kept h.gains) (refusal_gained new.kept h.outcome))
 
-pub replays_show : {C : Type 0} (calls : Calls C) (old : WorldState C) (events : List WorldEvent) (new : WorldState C) (shown : List Shown) → Replays calls old events new shown → HaveGains old.kept new.kept shown
+pub replays_show : {C : Type 0} (calls : Calls C) (old : WorldState C) (events : List WorldEvent) (new : WorldState C)
+    (shown : List Shown) → Replays calls old events new shown → HaveGains old.kept new.kept shown
 replays_show {C} calls old [] new shown h =
     subst (λ (w : WorldState C). HaveGains old.kept w.kept shown) (sym h.0) (subst (HaveGains old.kept old.kept) (sym h.1) (nothing_gained old.kept))
 replays_show calls old (e ∷ events) new shown (mid, first, rest, happens, more, whole) =
     subst (HaveGains old.kept new.kept) (sym whole)
     (both_gained old.kept mid.kept new.kept first rest (happens_show calls old e mid first happens) (replays_show calls mid events new rest more))
 
-pub stops_show : {C : Type 0} (calls : Calls C) (old : WorldState C) (events : List WorldEvent) (new : WorldState C) (shown : List Shown) → EndsIn calls (StopsIn calls) old events new shown
+pub stops_show : {C : Type 0} (calls : Calls C) (old : WorldState C) (events : List WorldEvent) (new : WorldState C)
+    (shown : List Shown) → EndsIn calls (StopsIn calls) old events new shown
     → HaveGains old.kept new.kept shown
 stops_show calls old events new shown h =
     subst (HaveGains old.kept new.kept) (sym h.lines)
@@ -153,16 +156,19 @@ stops_show calls old events new shown h =
 
 -- ---- printing an event
 
-pub calm_grows : {C : Type 0} (calls : Calls C) (rounds : ℕ) (old : WorldState C) (r : Result (Unit {0}) WorldFault) (new : WorldState C) → CalmGives calls rounds old r new → Grew old.kept new.kept
+pub calm_grows : {C : Type 0} (calls : Calls C) (rounds : ℕ) (old : WorldState C) (r : Result (Unit {0}) WorldFault)
+    (new : WorldState C) → CalmGives calls rounds old r new → Grew old.kept new.kept
 calm_grows {C} calls rounds old r new h =
     calm_keeps calls (λ (w : WorldState C). Grew old.kept w.kept) (λ e. begins e ≡ false) refl (λ x. refl) (λ x. refl) (λ e v q w n g s. grew_more old.kept v.kept w.kept g (step_grows calls e v q w n s)) rounds old r new (grew_none old.kept) h
 
-pub event_gains : {C : Type 0} (calls : Calls C) (e : WorldEvent) (old : WorldState C) (r : Result (Unit {0}) WorldFault) (new : WorldState C) → EventGives calls old e r new → Gains old.kept new.kept
+pub event_gains : {C : Type 0} (calls : Calls C) (e : WorldEvent) (old : WorldState C)
+    (r : Result (Unit {0}) WorldFault) (new : WorldState C) → EventGives calls old e r new → Gains old.kept new.kept
 event_gains calls (event.Happen e) old r new h = step_gains calls e old r new h
 event_gains calls (event.Calm rounds) old r new h = (calm_grows calls rounds old r new h).gains
 
 -- the crossings, notices and reports after those of before are what the book gained
-news_is : (old new : Kept) (g : Gains old new) (crossed told said : ℕ) → crossed ≡ length old.book.crossings → told ≡ length old.book.notices → said ≡ length old.book.reports
+pub news_is : (old new : Kept) (g : Gains old new) (crossed told said : ℕ) → crossed ≡ length old.book.crossings
+    → told ≡ length old.book.notices → said ≡ length old.book.reports
     → shown_in_turn crossed (drop crossed (reverse new.book.crossings)) (told_in_turn told (drop told new.book.notices) (drop said new.book.reports)) ≡ gained g
 news_is old new g crossed told said is same alike =
     let whole : reverse new.book.crossings ≡ reverse old.book.crossings ++ g.crossings =
@@ -182,35 +188,10 @@ abbrev pub News : {W : Type 0} → (W → Option (List ℕ)) → Detail → ℕ 
 News contents detail crossed told said a mid k =
     Appends a (contents mid) (output detail (shown_in_turn crossed (drop crossed (reverse k.book.crossings)) (told_in_turn told (drop told k.book.notices) (drop said k.book.reports))))
 
--- an event ends as its printing ends
-pub event_ends : {C W : Type 0} (contents : W → Option (List ℕ)) (calls : Calls C) (detail : Detail) (old : WorldState C) (e : WorldEvent) (outcome : Result (Unit {0}) WorldFault) (new : WorldState C) (printed : Result (Unit {0}) ReplayFault) (crossed told said : ℕ) (a : Option (List ℕ)) (mid last : W)
-    → EventGives calls old e outcome new → crossed ≡ length old.kept.book.crossings → told ≡ length old.kept.book.notices → said ≡ length old.kept.book.reports
-    → News contents detail crossed told said a mid new.kept
-    → OnOk printed (Appends (contents mid) (contents last) (output detail (shown_refusal outcome))) → OnOk printed (stops outcome ≡ false)
-    → (printed ≡ Err fault.OutOfMemory → (stops outcome ≡ true) × (last ≡ mid)) → OneEnds calls detail old e printed new a (contents last)
-event_ends contents calls detail old e outcome new (Ok done) crossed told said a mid last gives is same alike lines refusal goes memory =
-    let gains : Gains old.kept new.kept = event_gains calls e old outcome new gives in
-    record {
-      shown = gained gains ++ shown_refusal outcome;
-      is_shown = record { outcome = outcome; gives = gives; goes_on = goes; gains = gains; lines = refl };
-      written = subst (Appends a (contents last)) (sym (output-append detail (gained gains) (shown_refusal outcome)))
-          (Appends-trans a (contents mid) (contents last) (output detail (gained gains)) (output detail (shown_refusal outcome))
-          (subst (λ xs. Appends a (contents mid) (output detail xs)) (news_is old.kept new.kept gains crossed told said is same alike) lines) refusal);
-    }
-event_ends contents calls detail old e outcome new (Err fault.OutOfMemory) crossed told said a mid last gives is same alike lines refusal goes memory =
-    let gains : Gains old.kept new.kept = event_gains calls e old outcome new gives in
-    let out : (stops outcome ≡ true) × (last ≡ mid) = memory refl in
-    record {
-      shown = gained gains;
-      is_shown = record { outcome = outcome; gives = gives; stops = out.0; gains = gains; lines = refl };
-      written = subst (λ w. Appends a (contents w) (output detail (gained gains))) (sym out.1)
-          (subst (λ xs. Appends a (contents mid) (output detail xs)) (news_is old.kept new.kept gains crossed told said is same alike) lines);
-    }
-event_ends contents calls detail old e outcome new (Err fault.CannotWrite) crossed told said a mid last gives is same alike lines refusal goes memory =
-    (outcome, gives)
-
 -- an event of a calm, whose printing leaves out a refusal
-pub calm_shown : {C W : Type 0} (contents : W → Option (List ℕ)) (calls : Calls C) (detail : Detail) (old : WorldState C) (e : Event) (outcome : Result (Unit {0}) WorldFault) (new : WorldState C) (crossed told said : ℕ) (a : Option (List ℕ)) (mid : W)
+pub calm_shown : {C W : Type 0} (contents : W → Option (List ℕ)) (calls : Calls C) (detail : Detail)
+    (old : WorldState C) (e : Event) (outcome : Result (Unit {0}) WorldFault) (new : WorldState C)
+    (crossed told said : ℕ) (a : Option (List ℕ)) (mid : W)
     → StepGives calls old e outcome new → crossed ≡ length old.kept.book.crossings → told ≡ length old.kept.book.notices → said ≡ length old.kept.book.reports
     → News contents detail crossed told said a mid new.kept → stops outcome ≡ false → Writes detail (HappensInCalm calls old e new) a (contents mid)
 calm_shown contents calls detail old e outcome new crossed told said a mid gives is same alike lines goes =
@@ -221,7 +202,9 @@ calm_shown contents calls detail old e outcome new crossed told said a mid gives
       written = subst (λ xs. Appends a (contents mid) (output detail xs)) (news_is old.kept new.kept gains crossed told said is same alike) lines;
     }
 
-pub calm_stopped : {C W : Type 0} (contents : W → Option (List ℕ)) (calls : Calls C) (detail : Detail) (old : WorldState C) (e : Event) (outcome : Result (Unit {0}) WorldFault) (new : WorldState C) (crossed told said : ℕ) (a : Option (List ℕ)) (mid : W)
+pub calm_stopped : {C W : Type 0} (contents : W → Option (List ℕ)) (calls : Calls C) (detail : Detail)
+    (old : WorldState C) (e : Event) (outcome : Result (Unit {0}) WorldFault) (new : WorldState C)
+    (crossed told said : ℕ) (a : Option (List ℕ)) (mid : W)
     → StepGives calls old e outcome new → crossed ≡ length old.kept.book.crossings → told ≡ length old.kept.book.notices → said ≡ length old.kept.book.reports
     → News contents detail crossed told said a mid new.kept → stops outcome ≡ true → Writes detail (StopsIn calls old (event.Happen e) new) a (contents mid)
 calm_stopped contents calls detail old e outcome new crossed told said a mid gives is same alike lines halts =
@@ -248,11 +231,13 @@ shown_settled own s = record {
   quiet_round = λ old r new h. s.quiet_round old r new h.0;
 }
 
-pub one_replay : {C : Type 0} (own : Calls C) → AreSettled own → (old new other : WorldState C) (events : List WorldEvent) (lines more : List Shown)
+pub one_replay : {C : Type 0} (own : Calls C) → AreSettled own → (old new other : WorldState C)
+    (events : List WorldEvent) (lines more : List Shown)
     → Replays (shown own) old events new lines → Replays (shown own) old events other more → (new ≡ other) × (lines ≡ more)
 one_replay own s old new other events lines more h k = in_turn_once (Happens (shown own)) (happens_once (shown own) (shown_settled own s)) old events new other lines more h k
 
-pub first_part : {C : Type 0} (own : Calls C) → AreSettled own → (old new other : WorldState C) (events : List WorldEvent) (part whole : List Shown)
+pub first_part : {C : Type 0} (own : Calls C) → AreSettled own → (old new other : WorldState C)
+    (events : List WorldEvent) (part whole : List Shown)
     → EndsIn (shown own) (StopsIn (shown own)) old events new part → Replays (shown own) old events other whole → (rest : List Shown) × (whole ≡ part ++ rest)
 first_part own s old new other events part whole h k =
     ends_front (Happens (shown own)) (StopsIn (shown own)) (happens_once (shown own) (shown_settled own s)) (stops_front (shown own) (shown_settled own s)) old events new other part whole h k

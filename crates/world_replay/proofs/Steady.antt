@@ -1,5 +1,6 @@
 -- A settled carrier leaves a world no choice.
-use Rattle.world_replay.proofs.Common.{◌≡◌, inl, inr, ℕ, zero, suc, Bool, true, false, List, [], ◌∷◌, length, nat_lt, Option, Some, None, Result, Ok, Err, refl, sym, ap, subst, ◌∙◌, false≢true, MatchBool, Calls, crossing_of, step_crossings, is_memory, Host, Kept, WorldState, seat_of, services_of, up_in, with_carrier, world_moved, changed, with_server, with_user, TypeGives, DoesOrHalts, stops, Refuses, Does, Halts, Passes, OfferEnds, OfferGives, TakeEnds, TakeGives, NetEnds, QuietEnds, AskGives, AtProgram, AtSeat, StepGives, Repeats, TurnsOf, Calms, CalmGives, Event, Net, Quiet, Offer, Take, Ask, Server, User, Typed, WorldFault, Carrier, Program, Seat, GoesOn, outcome_of, AreSettled, accepted, NcpState, refusal, next_out, offered, NcpFault, Request, line_bits}
+use Rattle.world_replay.proofs.Common.{◌≡◌, inl, inr, ℕ, zero, suc, Bool, true, false, List, [], ◌∷◌, length, nat_lt, Option, Some, None, Result, Ok, Err, refl, sym, ap, subst, ◌∙◌, false≢true, MatchBool, Calls, crossing_of, step_crossings, is_memory, Host, Kept, WorldState, seat_of, services_of, up_in, with_carrier, world_moved, changed, with_server, with_user, TypeGives, DoesOrHalts, stops, Refuses, Does, Halts, Passes, OfferEnds, OfferGives, TakeEnds, TakeGives, NetEnds, QuietEnds, AskGives, AtProgram, AtSeat, StepGives, Repeats, TurnsOf, Calms, CalmGives, Event, Net, Quiet, Offer, Take, Ask, Server, User, Typed, WorldFault, Carrier, Program, Seat, GoesOn, AreSettled, accepted, NcpState, refusal, next_out, offered, NcpFault, Request, line_bits}
+use Rattle.replay.specs.Replay.{outcome_of}
 use Rattle.std.proofs.Common.{◌||◌}
 use Rattle.interface.specs.Calls.{is_halt}
 use Rattle.interface.specs.declared.carrier.CarrierFault.{CarrierFault}
@@ -40,7 +41,7 @@ Onward Next a mid r new = MatchBool (stops a) ((r ≡ a) × (new ≡ mid)) (Next
 abbrev Then : {C : Type 0} → (Result (Unit {0}) WorldFault → WorldState C → Type 0) → (WorldState C → Result (Unit {0}) WorldFault → WorldState C → Type 0) → Result (Unit {0}) WorldFault → WorldState C → Type 0
 Then {C} P Next r new = (a : Result (Unit {0}) WorldFault) × (mid : WorldState C) × P a mid × Onward Next a mid r new
 
-on_either : {A B X : Type 0} (b : Bool) → (b ≡ true → A → X) → (b ≡ false → B → X) → MatchBool b A B → X
+pub on_either : {A B X : Type 0} (b : Bool) → (b ≡ true → A → X) → (b ≡ false → B → X) → MatchBool b A B → X
 on_either true f g h = f refl h
 on_either false f g h = g refl h
 

@@ -1,9 +1,8 @@
-use Rattle.world_replay.proofs.Common.{◌≡◌, ℕ, Bool, true, false, length, Option, Some, None, arith, refl, ap, false≢true, fresh, with_carrier, Seat, ServiceSeat, NcpState, first, second, booked}
+use Rattle.world_replay.proofs.Common.{◌≡◌, ℕ, Bool, true, false, length, Option, Some, None, arith, refl, ap, false≢true, fresh, with_carrier, Seat, ServiceSeat, NcpState, first, second, booked, opening_state}
 use Rattle.std.proofs.Common.{is_some}
 use Rattle.host_services.specs.Services.{no_services}
 use Rattle.host_services.specs.Turns as turns
 use Rattle.net_sim.specs.Worked.{down}
-use Rattle.sockets.specs.Pairs.{opening_state}
 use Rattle.sockets.specs.Requests.{served, served_notices}
 use Rattle.sockets.specs.declared.request.Request.TheVariants as request
 use Rattle.world_replay.proofs.AtHosts.{others_same, others_served, serviced_elsewhere}
