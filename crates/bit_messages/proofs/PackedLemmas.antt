@@ -406,6 +406,20 @@ pad_keeps octets marked new count units text k p is covered few =
       packs = record { zeros = 0; same = bits ∙ sym (append-nil (body text)); few = omega arith };
     }
 
+-- once the mark is put, at most one octet is missing
+pub pad_room : (octets marked : List ℕ) (count units : ℕ) (text : List Bool) → Keeps octets count text → Packs marked (take count (bits_of octets) ++ true ∷ [])
+    → count + 1 ≤ 16 * units → 16 * units < count + 17 → (length marked ≤ 2 * units) × (2 * units ≤ length marked + 1)
+pad_room octets marked count units text k p covered few =
+    let P : List Bool → Type 0 = λ v. Packs marked (v ++ true ∷ []) in
+    let m : Packs marked (text ++ true ∷ []) = subst P (keeps_view octets count text k) p in
+    let size : 8 * length marked ≡ length text + 1 + m.zeros = packs_size marked (text ++ true ∷ []) m ∙ ap (λ (n : ℕ). n + m.zeros) (length-append text (true ∷ [])) in
+    (omega (arith, size, k.size, covered, m.few), omega (arith, size, k.size, few, m.few))
+
+-- a part with octets has bits
+pub some_part : (part : List ℕ) (bits : List Bool) (n : ℕ) → Packs part (take (8 * n) bits) → 0 < length part → 0 < n
+some_part part bits zero p some = absurd (omega (arith, packs_size part [] p, p.few, some))
+some_part part bits (suc n) p some = omega arith
+
 -- what is before the mark of a list that is kept
 pub record IsMarked (mark : ℕ) (bits : List Bool) : Type 0 where
   pub marked : has_mark bits ≡ true

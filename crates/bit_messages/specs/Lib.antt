@@ -2,3 +2,4 @@ pub mod Body
 pub mod Faults
 pub mod Octets
 pub mod Packed
+pub mod Store

@@ -8,7 +8,8 @@ ghost use Rattle.bit_messages.specs.Packed.{IsPacked};
 ghost use Rattle.bit_messages.specs.declared.fault.BitFault.TheVariants as fault;
 
 use crate::BitFault;
-use crate::octets::{are_octets, bit_in, copied, last_one, part, put, put_bit};
+use crate::octets::{are_octets, bit_in, copied, fill, last_one, part, put, put_bit};
+use crate::store::Octets;
 use std::alloc::{AllocError, Global};
 use std::marker::Model;
 
@@ -24,16 +25,16 @@ pub const BODY_UNIT: usize = 16;
 /// last octet that the list doesn't use are zero.
 #[derive(Debug, Drop)]
 pub struct Bits {
-    octets: Vec<u8>,
+    octets: Octets,
     len: usize,
 }
 
 impl Model for Bits {
     ghost Value = { List Bool };
 
-    ghost view = { λ b. take b.len (bits_of b.octets.items) };
+    ghost view = { λ b. take b.len (bits_of b.octets) };
 
-    ghost invariant = { λ b. IsPacked b.octets.items b.len };
+    ghost invariant = { λ b. IsPacked b.octets b.len };
 }
 
 impl Bits {
@@ -42,7 +43,7 @@ impl Bits {
         ensures { result ≡ [] }
     {
         Bits {
-            octets: Vec::new(alloc),
+            octets: Octets::new(alloc),
             len: 0,
         }
     }
@@ -68,7 +69,7 @@ impl Bits {
         if i >= self.len {
             return None;
         }
-        Some(bit_in(&self.octets, i))
+        Some(bit_in(self.octets.as_slice(), i))
     }
 
     /// Puts a bit at the end.
@@ -97,7 +98,12 @@ impl Bits {
         let Some(len) = self.len.checked_add(other.len) else {
             return Err(BitFault::OutOfMemory);
         };
-        put(&mut self.octets, self.len, &other.octets, other.len)?;
+        put(
+            &mut self.octets,
+            self.len,
+            other.octets.as_slice(),
+            other.len,
+        )?;
         self.len = len;
         Ok(())
     }
@@ -113,7 +119,7 @@ impl Bits {
             return Err(BitFault::Range);
         }
         Ok(Bits {
-            octets: part(alloc, &self.octets, from, to - from)?,
+            octets: part(alloc, self.octets.as_slice(), from, to - from)?,
             len: to - from,
         })
     }
@@ -138,8 +144,9 @@ impl Bits {
     pub fn as_octets(&self) -> &[u8]
         ensures { result.now ≡ octets_of self.now }
     {
-        are_octets(&self.octets);
-        &self.octets
+        let octets = self.octets.as_slice();
+        are_octets(octets);
+        octets
     }
 
     /// Returns the bits in octets, the last octet filled with zeros.
@@ -162,9 +169,10 @@ impl Bits {
         if from > self.len() || n > (self.len() - from) / 8 {
             return Err(BitFault::Range);
         }
-        let octets = part(alloc, &self.octets, from, 8 * n)?;
-        are_octets(&octets);
-        Ok(octets)
+        let part = part(alloc, self.octets.as_slice(), from, 8 * n)?;
+        let octets = part.as_slice();
+        are_octets(octets);
+        Ok(copied(alloc, octets)?)
     }
 
     /// Returns the body of this text: its bits, a 1, and the fewest zeros that make a multiple of sixteen bits.
@@ -177,10 +185,10 @@ impl Bits {
         if len > MAX_TEXT_BITS {
             return Err(BitFault::TooLong);
         }
-        let mut octets = copied(alloc, &self.octets)?;
+        let mut octets = Octets::from_slice(alloc, self.octets.as_slice())?;
         put_bit(&mut octets, self.len, true)?;
         let units = (len + 1).div_ceil(BODY_UNIT);
-        octets.resize(BODY_UNIT / 8 * units, 0)?;
+        fill(&mut octets, BODY_UNIT / 8 * units)?;
         Ok(Bits {
             octets,
             len: BODY_UNIT * units,
@@ -219,7 +227,7 @@ impl Bits {
         ensures none { result ≡ None → has_mark self.now ≡ false }
         ensures some { IfSome result (λ mark. (has_mark self.now ≡ true) × (mark < length self.now) × (text_of self.now ≡ take mark self.now)) }
     {
-        last_one(&self.octets, self.len)
+        last_one(self.octets.as_slice(), self.len)
     }
 }
 
@@ -231,7 +239,7 @@ impl Clone for Bits {
 
     fn clone(&self) -> Result<Bits, AllocError> {
         Ok(Bits {
-            octets: copied(*self.octets.allocator(), &self.octets)?,
+            octets: self.octets.copied()?,
             len: self.len,
         })
     }

@@ -8,6 +8,7 @@ ghost use Rattle.bit_messages.specs.Body.{has_mark, text_of};
 ghost use Rattle.bit_messages.specs.Octets.{bits_of, octet_bits};
 ghost use Rattle.bit_messages.specs.Packed.{IsPacked, Packs};
 
+use crate::store::Octets;
 use std::alloc::{AllocError, Global};
 
 /// Returns the bit at a place.
@@ -34,9 +35,9 @@ pub(crate) fn part(
     octets: &[u8],
     from: usize,
     count: usize,
-) -> Result<Vec<u8>, AllocError>
+) -> Result<Octets, AllocError>
     requires there { from + count ≤ 8 * length octets.now }
-    ensures packed { IfOk result (λ part. Packs part.items (take count (drop from (bits_of octets.now)))) }
+    ensures packed { IfOk result (λ part. Packs part (take count (drop from (bits_of octets.now)))) }
     ensures memory { OnErr result (0 < count) }
 {
     let mut part = begun(alloc, octets, from, count)?;
@@ -44,35 +45,36 @@ pub(crate) fn part(
     if used == 0 {
         return Ok(part);
     }
-    part[count / 8] = cleared(part[count / 8], used);
+    let last = cleared(part.as_slice()[count / 8], used);
+    part.set(count / 8, last);
     Ok(part)
 }
 
 /// Returns the octets that `count` bits from place `from` on begin; in the last octet other bits may follow them.
-fn begun(alloc: Global, octets: &[u8], from: usize, count: usize) -> Result<Vec<u8>, AllocError>
+fn begun(alloc: Global, octets: &[u8], from: usize, count: usize) -> Result<Octets, AllocError>
     requires there { from + count ≤ 8 * length octets.now }
-    ensures bits { IfOk result (λ part. take count (bits_of part.items) ≡ take count (drop from (bits_of octets.now))) }
-    ensures size { IfOk result (λ part. length part.items ≡ (count + 7) / 8) }
+    ensures bits { IfOk result (λ part. take count (bits_of part) ≡ take count (drop from (bits_of octets.now))) }
+    ensures size { IfOk result (λ part. length part ≡ (count + 7) / 8) }
     ensures memory { OnErr result (0 < count) }
 {
     let (_, rest) = octets.split_at(from / 8);
     let size = count.div_ceil(8);
     if from % 8 == 0 {
-        return copied(alloc, rest.split_at(size).0);
+        return Octets::from_slice(alloc, rest.split_at(size).0);
     }
     shifted(alloc, rest, from % 8, size)
 }
 
 /// Returns the first `size` octets of the bits after the first `by` bits, with zeros after the last bit.
-fn shifted(alloc: Global, octets: &[u8], by: usize, size: usize) -> Result<Vec<u8>, AllocError>
+fn shifted(alloc: Global, octets: &[u8], by: usize, size: usize) -> Result<Octets, AllocError>
     requires some { 0 < by }
     requires few { by < 8 }
     requires there { size ≤ length octets.now }
-    ensures bits { IfOk result (λ part. bits_of part.items ≡ take (8 * size) (drop by (bits_of octets.now ++ replicate 8 false))) }
-    ensures size { IfOk result (λ part. length part.items ≡ size) }
+    ensures bits { IfOk result (λ part. bits_of part ≡ take (8 * size) (drop by (bits_of octets.now ++ replicate 8 false))) }
+    ensures size { IfOk result (λ part. length part ≡ size) }
     ensures memory { OnErr result (0 < size) }
 {
-    let mut part = Vec::new(alloc);
+    let mut part = Octets::new(alloc);
     for i in 0..size {
         part.push(joined(octets[i], octet_at(octets, i + 1), by))?;
     }
@@ -116,44 +118,52 @@ fn filled(octet: u8, used: usize, next: u8) -> u8
 
 /// Puts the first `more_len` bits of `more` after the first `len` bits of `octets`.
 pub(crate) fn put(
-    octets: &mut Vec<u8>,
+    octets: &mut Octets,
     len: usize,
     more: &[u8],
     more_len: usize,
 ) -> Result<(), AllocError>
-    requires packed { IsPacked octets.old.items len }
+    requires packed { IsPacked octets.old len }
     requires more { IsPacked more.now more_len }
-    ensures ok { OnOk result (Packs octets.new.items (take len (bits_of octets.old.items) ++ take more_len (bits_of more.now))) }
-    ensures err { OnErr result (octets.new.items ≡ octets.old.items) }
+    ensures ok { OnOk result (Packs octets.new (take len (bits_of octets.old) ++ take more_len (bits_of more.now))) }
+    ensures err { OnErr result (octets.new ≡ octets.old) }
     ensures memory { OnErr result (0 < more_len) }
 {
     let used = len % 8;
     if used == 0 {
-        octets.extend_from_slice(more)?;
+        octets.append(more)?;
         return Ok(());
     }
     if more.is_empty() {
         return Ok(());
     }
     let room = 8 - used;
-    let tail = part(
-        *octets.allocator(),
-        more,
-        room,
-        more_len.saturating_sub(room),
-    )?;
-    octets.extend_from_slice(&tail)?;
-    octets[len / 8] = filled(octets[len / 8], used, more[0]);
+    let tail = part(octets.alloc(), more, room, more_len.saturating_sub(room))?;
+    octets.append(tail.as_slice())?;
+    let last = filled(octets.as_slice()[len / 8], used, more[0]);
+    octets.set(len / 8, last);
     Ok(())
 }
 
 /// Puts a bit after the first `len` bits of `octets`.
-pub(crate) fn put_bit(octets: &mut Vec<u8>, len: usize, bit: bool) -> Result<(), AllocError>
-    requires packed { IsPacked octets.old.items len }
-    ensures ok { OnOk result (Packs octets.new.items (take len (bits_of octets.old.items) ++ bit ∷ [])) }
-    ensures err { OnErr result (octets.new.items ≡ octets.old.items) }
+pub(crate) fn put_bit(octets: &mut Octets, len: usize, bit: bool) -> Result<(), AllocError>
+    requires packed { IsPacked octets.old len }
+    ensures ok { OnOk result (Packs octets.new (take len (bits_of octets.old) ++ bit ∷ [])) }
+    ensures err { OnErr result (octets.new ≡ octets.old) }
 {
     put(octets, len, &[octet_with(bit)], 1)
+}
+
+/// Puts a zero after octets where one is missing to this many.
+pub(crate) fn fill(octets: &mut Octets, size: usize) -> Result<(), AllocError>
+    requires least { length octets.old ≤ size }
+    requires most { size ≤ length octets.old + 1 }
+    ensures { OnOk result (octets.new ≡ take size octets.old ++ replicate (size - length octets.old) 0) }
+{
+    if octets.as_slice().len() == size {
+        return Ok(());
+    }
+    octets.push(0)
 }
 
 /// Returns the octet that begins with this bit and has zeros after it.

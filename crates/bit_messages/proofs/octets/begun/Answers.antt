@@ -10,7 +10,7 @@ returns-then-from-eq0-clause-bits c =
     let covered : c.args.count ≤ 8 * c.div_ceil-size.result = omega (arith, (div_ceil_times c.args.count 8 (omega arith)).0) in
     let within : c.div_ceil-size.result ≤ length (drop (c.args.from / 8) c.args.octets.now) =
     omega (arith, (div_ceil_times c.args.count 8 (omega arith)).1, c.requires.there, c.if-from-eq0.true, length-drop (c.args.from / 8) c.args.octets.now) in
-    if_ok _ _ c.copied.result c.copied.ensures.same
+    if_ok _ _ c.from_slice.result c.from_slice.ensures.same
     (λ v same. ap (λ (ns : List ℕ). take c.args.count (bits_of ns)) (same ∙ c.split_at-then-from-eq0.ensures.front ∙ ap (λ (ns : List ℕ). take c.div_ceil-size.result ns) c.split_at.ensures.back)
     ∙ part_whole c.args.octets.now c.args.from c.args.count c.div_ceil-size.result c.if-from-eq0.true covered within)
 

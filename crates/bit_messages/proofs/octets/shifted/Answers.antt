@@ -5,15 +5,15 @@ use Rattle.bit_messages.proofs.PackedLemmas.{shifted_more}
 use Rattle.bit_messages.proofs.octets.shifted.Goals as goal
 
 pub loop-i-init : goal.loop-i-init
-loop-i-init c = record { bits = ap bits_of c.new-part.ensures.items; size = ap length c.new-part.ensures.items }
+loop-i-init c = record { bits = ap bits_of c.new-part.ensures; size = ap length c.new-part.ensures }
 
 pub loop-i-preserved : goal.loop-i-preserved
 loop-i-preserved c = record {
   bits =
-      (ap bits_of c.in_ok-push.ensures.items
-      ∙ shifted_more c.args.octets.now c.loop-i.part.items c.args.by c.loop-i.i c.octet_at.result c.joined.result c.requires.some c.requires.few
+      (ap bits_of c.in_ok-push.ensures.done
+      ∙ shifted_more c.args.octets.now c.loop-i.part c.args.by c.loop-i.i c.octet_at.result c.joined.result c.requires.some c.requires.few
       (omega (arith, c.requires.there, c.loop-i-test.true)) c.octet_at.ensures c.joined.ensures c.loop-i.invariant.bits);
-  size = ap length c.in_ok-push.ensures.items ∙ length-append c.loop-i.part.items (c.joined.result ∷ []) ∙ ap (λ (n : ℕ). n + 1) c.loop-i.invariant.size;
+  size = ap length c.in_ok-push.ensures.done ∙ length-append c.loop-i.part (c.joined.result ∷ []) ∙ ap (λ (n : ℕ). n + 1) c.loop-i.invariant.size;
 }
 
 pub returns-clause-bits : goal.returns-clause-bits
