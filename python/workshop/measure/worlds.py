@@ -162,7 +162,8 @@ def contacts(other: str, rounds: int, count: int) -> Script:
 def restarts(other: str, rounds: int, count: int) -> Script:
     lines = ready(other, rounds)
     for _ in range(count):
-        lines += [f"hostdown {other}", f"hostup {other}", f"contact 0/1 {other}", f"calm {4 * rounds}", *opened(other, "0/1", rounds)]
+        lines += [f"hostdown {other}", f"hostup {other}", f"contact 0/1 {other}", f"calm {4 * rounds}"]
+        lines += opened(other, "0/1", rounds)
     return lines, {"opened": 2 * count}
 
 

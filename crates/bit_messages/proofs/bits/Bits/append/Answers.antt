@@ -12,7 +12,8 @@ returns-in_err-put-clause-memory c =
 
 pub invariant_of-self-2 : goal.invariant_of-self-2
 invariant_of-self-2 c =
-    let k : Keeps c.self.inside.octets c.self.inside.len c.args.self.now = keeps _ _ _ c.self.invariant c.self.view_is in
+    let k : Keeps c.self.inside.octets c.self.inside.len c.args.self.now =
+    keeps _ _ _ c.self.invariant c.self.view_is in
     let o : Keeps c.as_slice.result.now c.other.inside.len c.args.other.now = keeps_along c.other.inside.octets c.as_slice.result.now c.other.inside.len c.args.other.now (sym c.as_slice.ensures) (keeps _ _ _ c.other.invariant c.other.view_is) in
     let n : Keeps c.put.new.octets c.in-Some.len (c.args.self.now ++ c.args.other.now) =
     put_keeps c.self.inside.octets c.put.new.octets c.as_slice.result.now c.self.inside.len c.other.inside.len c.in-Some.len c.args.self.now c.args.other.now k o c.in_ok-put.ensures.ok c.in-Some.ensures.1 in
@@ -20,7 +21,8 @@ invariant_of-self-2 c =
 
 pub returns-clause-decided : goal.returns-clause-decided
 returns-clause-decided c =
-    let k : Keeps c.self.inside.octets c.self.inside.len c.args.self.now = keeps _ _ _ c.self.invariant c.self.view_is in
+    let k : Keeps c.self.inside.octets c.self.inside.len c.args.self.now =
+    keeps _ _ _ c.self.invariant c.self.view_is in
     let o : Keeps c.as_slice.result.now c.other.inside.len c.args.other.now = keeps_along c.other.inside.octets c.as_slice.result.now c.other.inside.len c.args.other.now (sym c.as_slice.ensures) (keeps _ _ _ c.other.invariant c.other.view_is) in
     let n : Keeps c.put.new.octets c.in-Some.len (c.args.self.now ++ c.args.other.now) =
     put_keeps c.self.inside.octets c.put.new.octets c.as_slice.result.now c.self.inside.len c.other.inside.len c.in-Some.len c.args.self.now c.args.other.now k o c.in_ok-put.ensures.ok c.in-Some.ensures.1 in

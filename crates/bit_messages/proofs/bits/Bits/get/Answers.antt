@@ -7,7 +7,8 @@ use Rattle.bit_messages.proofs.bits.Bits.get.Goals as goal
 
 pub returns : goal.returns
 returns c =
-    let k : Keeps c.self.inside.octets c.self.inside.len c.args.self.now = keeps _ _ _ c.self.invariant c.self.view_is in
+    let k : Keeps c.self.inside.octets c.self.inside.len c.args.self.now =
+    keeps _ _ _ c.self.invariant c.self.view_is in
     let read : c.bit_in.result ≡ get_or c.args.self.now c.args.i false =
     c.bit_in.ensures
     ∙ ap (λ (ns : List ℕ). get_or (bits_of ns) c.args.i false) c.as_slice.ensures

@@ -6,7 +6,8 @@ use Rattle.bit_messages.proofs.bits.Bits.pad16.Goals as goal
 
 pub fill-requires : goal.fill-requires
 fill-requires c =
-    let k : Keeps c.self.inside.octets c.self.inside.len c.args.self.now = keeps _ _ _ c.self.invariant c.self.view_is in
+    let k : Keeps c.self.inside.octets c.self.inside.len c.args.self.now =
+    keeps _ _ _ c.self.invariant c.self.view_is in
     let o : Keeps c.in_ok-octets.octets c.self.inside.len c.args.self.now = keeps_along c.self.inside.octets c.in_ok-octets.octets c.self.inside.len c.args.self.now (sym (c.in_ok-octets.ensures.same ∙ c.as_slice.ensures)) k in
     let room : (length c.put_bit.new.octets ≤ 2 * c.div_ceil-units.result) × (2 * c.div_ceil-units.result ≤ length c.put_bit.new.octets + 1) =
     pad_room c.in_ok-octets.octets c.put_bit.new.octets c.self.inside.len c.div_ceil-units.result c.args.self.now o c.in_ok-put_bit.ensures.ok
@@ -15,7 +16,8 @@ fill-requires c =
 
 pub invariant_of-result : goal.invariant_of-result
 invariant_of-result c =
-    let k : Keeps c.self.inside.octets c.self.inside.len c.args.self.now = keeps _ _ _ c.self.invariant c.self.view_is in
+    let k : Keeps c.self.inside.octets c.self.inside.len c.args.self.now =
+    keeps _ _ _ c.self.invariant c.self.view_is in
     let o : Keeps c.in_ok-octets.octets c.self.inside.len c.args.self.now = keeps_along c.self.inside.octets c.in_ok-octets.octets c.self.inside.len c.args.self.now (sym (c.in_ok-octets.ensures.same ∙ c.as_slice.ensures)) k in
     keeps_packed _ _ _
     (pad_keeps c.in_ok-octets.octets c.put_bit.new.octets c.fill.new.octets c.self.inside.len c.div_ceil-units.result c.args.self.now o c.in_ok-put_bit.ensures.ok
@@ -24,7 +26,8 @@ invariant_of-result c =
 
 pub returns : goal.returns
 returns c =
-    let k : Keeps c.self.inside.octets c.self.inside.len c.args.self.now = keeps _ _ _ c.self.invariant c.self.view_is in
+    let k : Keeps c.self.inside.octets c.self.inside.len c.args.self.now =
+    keeps _ _ _ c.self.invariant c.self.view_is in
     let o : Keeps c.in_ok-octets.octets c.self.inside.len c.args.self.now = keeps_along c.self.inside.octets c.in_ok-octets.octets c.self.inside.len c.args.self.now (sym (c.in_ok-octets.ensures.same ∙ c.as_slice.ensures)) k in
     let short : nat_lt 8063 (length c.args.self.now) ≡ false = le-ltb 8063 (length c.args.self.now) (omega (arith, c.len-len.ensures, c.if-len-gt-MAX_TEXT_BITS.false)) in
     record {

@@ -4,7 +4,8 @@ use Rattle.bit_messages.proofs.bits.Bits.push.Goals as goal
 
 pub invariant_of-self-2 : goal.invariant_of-self-2
 invariant_of-self-2 c =
-    let k : Keeps c.self.inside.octets c.self.inside.len c.args.self.now = keeps _ _ _ c.self.invariant c.self.view_is in
+    let k : Keeps c.self.inside.octets c.self.inside.len c.args.self.now =
+    keeps _ _ _ c.self.invariant c.self.view_is in
     let total : c.in-Some.len ≡ c.self.inside.len + 1 = c.in-Some.ensures.1 in
     let n : Keeps c.put_bit.new.octets c.in-Some.len (c.args.self.now ++ c.args.bit ∷ []) =
     put_bit_keeps c.self.inside.octets c.put_bit.new.octets c.self.inside.len c.in-Some.len c.args.self.now c.args.bit k c.in_ok-put_bit.ensures.ok total in
@@ -12,7 +13,8 @@ invariant_of-self-2 c =
 
 pub returns-clause-decided : goal.returns-clause-decided
 returns-clause-decided c =
-    let k : Keeps c.self.inside.octets c.self.inside.len c.args.self.now = keeps _ _ _ c.self.invariant c.self.view_is in
+    let k : Keeps c.self.inside.octets c.self.inside.len c.args.self.now =
+    keeps _ _ _ c.self.invariant c.self.view_is in
     let total : c.in-Some.len ≡ c.self.inside.len + 1 = c.in-Some.ensures.1 in
     let n : Keeps c.put_bit.new.octets c.in-Some.len (c.args.self.now ++ c.args.bit ∷ []) =
     put_bit_keeps c.self.inside.octets c.put_bit.new.octets c.self.inside.len c.in-Some.len c.args.self.now c.args.bit k c.in_ok-put_bit.ensures.ok total in

@@ -5,14 +5,16 @@ use Rattle.bit_messages.proofs.bits.Bits.slice.Goals as goal
 
 pub invariant_of-result : goal.invariant_of-result
 invariant_of-result c =
-    let k : Keeps c.self.inside.octets c.self.inside.len c.args.self.now = keeps _ _ _ c.self.invariant c.self.view_is in
+    let k : Keeps c.self.inside.octets c.self.inside.len c.args.self.now =
+    keeps _ _ _ c.self.invariant c.self.view_is in
     let o : Keeps c.as_slice.result.now c.self.inside.len c.args.self.now = keeps_along c.self.inside.octets c.as_slice.result.now c.self.inside.len c.args.self.now (sym c.as_slice.ensures) k in
     keeps_packed _ _ _
     (part_keeps c.as_slice.result.now c.in_ok-part.field-0 c.self.inside.len c.args.from c.args.to (c.args.to - c.args.from) c.args.self.now o (omega (arith, c.if-from-to.false)) (omega (arith, k.size, c.len.ensures, c.if-to-len.false)) c.in_ok-part.ensures.packed)
 
 pub returns-clause-decided : goal.returns-clause-decided
 returns-clause-decided c =
-    let k : Keeps c.self.inside.octets c.self.inside.len c.args.self.now = keeps _ _ _ c.self.invariant c.self.view_is in
+    let k : Keeps c.self.inside.octets c.self.inside.len c.args.self.now =
+    keeps _ _ _ c.self.invariant c.self.view_is in
     let o : Keeps c.as_slice.result.now c.self.inside.len c.args.self.now = keeps_along c.self.inside.octets c.as_slice.result.now c.self.inside.len c.args.self.now (sym c.as_slice.ensures) k in
     let order : nat_lt c.args.to c.args.from ≡ false = le-ltb c.args.to c.args.from (omega (arith, c.if-from-to.false)) in
     let within : nat_lt (length c.args.self.now) c.args.to ≡ false = le-ltb (length c.args.self.now) c.args.to (omega (arith, c.len.ensures, c.if-to-len.false)) in (

@@ -4,13 +4,15 @@ use Rattle.bit_messages.proofs.bits.BitsPartialEq.eq.Goals as goal
 
 pub returns-then-self-other : goal.returns-then-self-other
 returns-then-self-other c =
-    let k : Keeps c.self.inside.octets c.self.inside.len c.args.self.now = keeps _ _ _ c.self.invariant c.self.view_is in
+    let k : Keeps c.self.inside.octets c.self.inside.len c.args.self.now =
+    keeps _ _ _ c.self.invariant c.self.view_is in
     let o : Keeps c.other.inside.octets c.other.inside.len c.args.other.now = keeps _ _ _ c.other.invariant c.other.view_is in
     differ_by_length c.args.self.now c.args.other.now (λ e. c.if-self-other.true (k.size ∙ e ∙ sym o.size))
 
 pub returns : goal.returns
 returns c =
-    let k : Keeps c.self.inside.octets c.self.inside.len c.args.self.now = keeps _ _ _ c.self.invariant c.self.view_is in
+    let k : Keeps c.self.inside.octets c.self.inside.len c.args.self.now =
+    keeps _ _ _ c.self.invariant c.self.view_is in
     let o : Keeps c.other.inside.octets c.other.inside.len c.args.other.now = keeps _ _ _ c.other.invariant c.other.view_is in
     let ours : Keeps c.as_slice-ours.result.now c.self.inside.len c.args.self.now = keeps_along c.self.inside.octets c.as_slice-ours.result.now c.self.inside.len c.args.self.now (sym c.as_slice-ours.ensures) k in
     let theirs : Keeps c.as_slice-theirs.result.now c.other.inside.len c.args.other.now = keeps_along c.other.inside.octets c.as_slice-theirs.result.now c.other.inside.len c.args.other.now (sym c.as_slice-theirs.ensures) o in
