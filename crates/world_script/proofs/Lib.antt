@@ -1,4 +1,5 @@
 mod Lines
+mod Strangers
 mod Requests
 pub mod WorldOnce
 pub mod lemmas

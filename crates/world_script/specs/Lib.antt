@@ -1,3 +1,4 @@
 pub mod Steps
+pub mod Mixed
 pub mod WorldScript
 pub mod WorldSpelling

@@ -53,9 +53,24 @@ fn read_event(alloc: Global, line: &[u8]) -> Result<Option<WorldEvent>, AllocErr
     ensures read { IfOk result (ReadsAs world_spelling IsWorldEvent line.now) }
     ensures memory { IfErr result (λ _. WantsMemory line.now) }
 {
-    let Some((word, rest)) = cut(line, b' ') else {
-        return Ok(None);
-    };
+    match cut(line, b' ') {
+        Some((word, rest)) => read_words(alloc, word, rest),
+        None => Ok(None),
+    }
+}
+
+/// Returns the event of a line, from its first word and what follows it.
+///
+/// Errors: `AllocError`, only for octets to send and for a line that is typed.
+pub(crate) fn read_words(
+    alloc: Global,
+    word: &[u8],
+    rest: &[u8],
+) -> Result<Option<WorldEvent>, AllocError>
+    requires { Lacks 32 word.now }
+    ensures read { IfOk result (ReadsAs world_spelling IsWorldEvent (word.now ++ 32 ∷ rest.now)) }
+    ensures memory { IfErr result (λ _. WantsMemory (word.now ++ 32 ∷ rest.now)) }
+{
     if let Some(verb) = read_verb(word) {
         return read_ask(alloc, verb, rest);
     }

@@ -4,16 +4,18 @@
 //! a script asks for one list of events, or is refused with its first bad line. Numbers fit the fields of the
 //! commands that carry them; whether a host, a peer or a socket is there is seen when the event is run.
 //!
-//! The lines of what happens inside a network, and the words of all lines, are crate `script`'s. A message of
-//! a network without host programs (`out`) is a bad line here. Nothing here runs an event.
+//! The lines of what happens inside a network, the words of all lines and a message (`out`) are crate `script`'s. Only
+//! where some hosts are strangers is a message a line here, too. Nothing here runs an event.
 #![tactic(auto)]
 
 mod event;
 mod events;
 pub mod law;
+mod mixed;
 mod request;
 mod services;
 mod verb;
 
 pub use event::{MixedWorldEvent, WorldEvent};
 pub use events::read_world_script;
+pub use mixed::read_mixed_script;

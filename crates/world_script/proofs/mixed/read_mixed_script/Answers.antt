@@ -1,0 +1,57 @@
+use Rattle.std.proofs.Common.{arith, rules, inr, Err, ◌≡◌, ◌≤◌, ◌<◌, ◌+◌, length, drop, take, sym, ap, ◌∙◌, refl, [], subst}
+use Rattle.script.specs.Script.{lines_of, lines_after}
+use Rattle.script.proofs.lemmas.{ask_next, ask_none, ask_past, drop_next, first_bad, length_next, line_count, ran_out, take_next, take_whole}
+use Rattle.world_script.specs.Mixed.{AskForMixed, IsMixedEvent, WantsMixed, mixed_spelling}
+use Rattle.script.specs.declared.fault.LineFault.TheVariants as fault
+use Rattle.world_script.proofs.mixed.read_mixed_script.Goals as goal
+use Rattle.world_script.proofs.mixed.read_mixed_script.Goals.{then-not-is_passed_over+in_ok-event+in-Some-2+in_ok-push, else-not-is_passed_over}
+
+pub lines-init : goal.lines-init
+lines-init c = (refl, ask_none mixed_spelling IsMixedEvent c.new-events.result.items c.new-events.ensures.items, c.requires)
+
+pub overflow_add-result : goal.overflow_add-result
+overflow_add-result c =
+    let before : c.lines.passed < length (lines_of c.args.text.now) = length_next c.lines.passed (lines_of c.args.text.now) (lines_after c.first_line.result.1) c.first_line.result.0.now (c.lines.invariant.0 ∙ ap lines_after c.in-Some.is ∙ c.first_line.ensures.lines) in
+    let most : length (lines_of c.args.text.now) ≤ length c.args.text.now + 1 = line_count c.args.text.now in
+    let few : length c.args.text.now ≤ 1048576 = c.lines.invariant.2 in
+    omega arith
+
+pub returns-in_default-2 : goal.returns-in_default-2
+returns-in_default-2 c =
+    first_bad mixed_spelling IsMixedEvent c.args.text.now c.lines.passed c.first_line.result.0.now (lines_after c.first_line.result.1) c.lines.events.items (c.lines.invariant.0 ∙ ap lines_after c.in-Some.is ∙ c.first_line.ensures.lines) (sym c.is_passed_over.ensures ∙ c.if-not-is_passed_over.true) (rw c.in_default-2.is at c.in_ok-event.ensures.read) c.lines.invariant.1
+
+pub overflow_add-passed : goal.overflow_add-passed
+overflow_add-passed c =
+    let before : c.lines.passed < length (lines_of c.args.text.now) = length_next c.lines.passed (lines_of c.args.text.now) (lines_after c.first_line.result.1) c.first_line.result.0.now (c.lines.invariant.0 ∙ ap lines_after c.in-Some.is ∙ c.first_line.ensures.lines) in
+    let most : length (lines_of c.args.text.now) ≤ length c.args.text.now + 1 = line_count c.args.text.now in
+    let few : length c.args.text.now ≤ 1048576 = c.lines.invariant.2 in
+    omega arith
+
+pub lines-preserved : goal.lines-preserved
+lines-preserved c = (
+  drop_next c.lines.passed (lines_of c.args.text.now) (lines_after c.first_line.result.1) c.first_line.result.0.now (c.lines.invariant.0 ∙ ap lines_after c.in-Some.is ∙ c.first_line.ensures.lines),
+  rw (take_next c.lines.passed (lines_of c.args.text.now) (lines_after c.first_line.result.1) c.first_line.result.0.now (c.lines.invariant.0 ∙ ap lines_after c.in-Some.is ∙ c.first_line.ensures.lines)) (elim c.if-not-is_passed_over.branch [
+    | then-not-is_passed_over+in_ok-event+in-Some-2+in_ok-push w ↦
+        let read = rw w.in-Some-2.is at w.in_ok-event.ensures.read in
+        rw (w.events-is, w.in_ok-push.ensures.items) (ask_next mixed_spelling IsMixedEvent c.lines.events.items (take c.lines.passed (lines_of c.args.text.now)) c.first_line.result.0.now w.in-Some-2.event (sym c.is_passed_over.ensures ∙ w.if-not-is_passed_over.true) read.0 read.1 c.lines.invariant.1)
+    | else-not-is_passed_over w ↦
+        rw w.events-is (ask_past mixed_spelling IsMixedEvent c.lines.events.items (take c.lines.passed (lines_of c.args.text.now)) c.first_line.result.0.now (sym c.is_passed_over.ensures ∙ w.if-not-is_passed_over.false) c.lines.invariant.1)
+  ]),
+  c.lines.invariant.2,
+)
+
+pub returns : goal.returns
+returns c =
+    let done : drop c.lines.passed (lines_of c.args.text.now) ≡ [] = c.lines.invariant.0 ∙ ap lines_after c.in_default.is in
+    subst (AskForMixed c.lines.events.items) (take_whole c.lines.passed (lines_of c.args.text.now) done) c.lines.invariant.1
+
+pub returns-in_err-event : goal.returns-in_err-event
+returns-in_err-event c =
+    let told : c.from_residual.result ≡ Err fault.OutOfMemory = search rules in
+    rw told (ran_out mixed_spelling IsMixedEvent WantsMixed c.args.text.now c.lines.passed c.first_line.result.0.now (lines_after c.first_line.result.1) c.lines.events.items (c.lines.invariant.0 ∙ ap lines_after c.in-Some.is ∙ c.first_line.ensures.lines) (sym c.is_passed_over.ensures ∙ c.if-not-is_passed_over.true) c.in_err-event.ensures.memory c.lines.invariant.1)
+
+pub returns-in_err-push : goal.returns-in_err-push
+returns-in_err-push c =
+    let told : c.from_residual-in_err-push.result ≡ Err fault.OutOfMemory = search rules in
+    let read = rw c.in-Some-2.is at c.in_ok-event.ensures.read in
+    rw told (ran_out mixed_spelling IsMixedEvent WantsMixed c.args.text.now c.lines.passed c.first_line.result.0.now (lines_after c.first_line.result.1) c.lines.events.items (c.lines.invariant.0 ∙ ap lines_after c.in-Some.is ∙ c.first_line.ensures.lines) (sym c.is_passed_over.ensures ∙ c.if-not-is_passed_over.true) (inr (inr (c.in-Some-2.event, read.0, read.1))) c.lines.invariant.1)
