@@ -1,5 +1,6 @@
 pub mod Common
 mod CommandLine
+mod Either
 mod Faults
 mod Hyphens
 mod InCalm
@@ -9,6 +10,7 @@ mod Joins
 mod Judged
 mod Lived
 mod Logs
+mod Strangers
 mod Named
 mod Once
 mod OneInput
