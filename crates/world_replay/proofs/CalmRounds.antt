@@ -4,7 +4,8 @@ use Rattle.interface.specs.declared.carrier.CarrierFault.TheVariants as carrier
 use Rattle.world_replay.specs.Output.{Shown, shown_refusal}
 use Rattle.world_replay.specs.Replay.{Happens, rounds_of}
 use Rattle.world_replay.proofs.Grown.{Grew, grew_more, grew_none}
-use Rattle.world_replay.proofs.Replays.{calm_grows, gained, gained_more, gains_once, same_news}
+use Rattle.world_replay.specs.Gains.{gained}
+use Rattle.world_replay.proofs.Replays.{calm_grows, gained_more, gains_once, same_news}
 use Rattle.world_replay.proofs.Rounds.{calm_one, done_runs, is_false, is_true, when_false}
 use Rattle.world_script.specs.declared.event.WorldEvent.TheVariants as event
 
@@ -62,7 +63,7 @@ steps_run calls old quiet answer h on true is =
 abbrev Parted : {C : Type 0} → Calls C → ℕ → WorldState C → Answer → WorldState C → Type 0
 Parted {C} calls rounds old r new = (mid : WorldState C) × CalmGives calls 1 old (Ok tt) mid × Calms calls rounds mid r new
 
-parted : {C : Type 0} (calls : Calls C) (rounds : ℕ) (old new : WorldState C) (r : Answer) → stops r ≡ false → Calms calls (suc rounds) old r new → Parted calls rounds old r new
+pub parted : {C : Type 0} (calls : Calls C) (rounds : ℕ) (old new : WorldState C) (r : Answer) → stops r ≡ false → Calms calls (suc rounds) old r new → Parted calls rounds old r new
 parted {C} calls rounds old new r on (first, quiet, step, rest) = by (stops first) refl where
   by : (b : Bool) → stops first ≡ b → Parted calls rounds old r new
   by true is = absurd (let ends : (r ≡ first) × (new ≡ quiet) = is_true _ _ (stops first) is rest in false≢true (sym on ∙ ap stops ends.0 ∙ is))
@@ -87,7 +88,7 @@ one_round calls old mid gives =
 abbrev InRounds : {C : Type 0} → Calls C → ℕ → WorldState C → Answer → WorldState C → Type 0
 InRounds calls rounds old r new = (r ≡ Ok tt) × ((lines : List Shown) × Replays calls old (rounds_of rounds) new lines × Gained old new lines)
 
-in_rounds : {C : Type 0} (calls : Calls C) (rounds : ℕ) (old new : WorldState C) (r : Answer) → stops r ≡ false → Calms calls rounds old r new → InRounds calls rounds old r new
+pub in_rounds : {C : Type 0} (calls : Calls C) (rounds : ℕ) (old new : WorldState C) (r : Answer) → stops r ≡ false → Calms calls rounds old r new → InRounds calls rounds old r new
 in_rounds {C} calls zero old new r on (done, same) = (done, ([], (same, refl), subst (λ (w : WorldState C). Gained old w []) (sym same) (none_gained old)))
 in_rounds calls (suc rounds) old new r on h =
     let (mid, round, left) = parted calls rounds old new r on h in

@@ -3,7 +3,8 @@ use Rattle.world_replay.proofs.Common.{◌≡◌, ℕ, ◌+◌, zero, suc, Bool,
 use Rattle.std.proofs.Common.{add-zero}
 use Rattle.interface.specs.declared.carrier.CarrierFault.{CarrierFault}
 use Rattle.interface.specs.declared.carrier.CarrierFault.TheVariants as fault
-use Rattle.world_replay.proofs.Replays.{gained, gains_once, same_news}
+use Rattle.world_replay.specs.Gains.{gained}
+use Rattle.world_replay.proofs.Replays.{gains_once, same_news}
 use Rattle.world_replay.specs.Output.{Shown}
 use Rattle.world_replay.specs.Replay.{EventGives}
 use Rattle.world_replay.specs.Worked.{counting}

@@ -42,7 +42,7 @@ more_reports old new g =
 abbrev pub gains_none : (k : Kept) → Gains k k
 gains_none k = record { crossings = []; notices = []; reports = []; crossed = refl; told = sym (append-nil k.book.notices); said = sym (append-nil k.book.reports) }
 
-gains_same : (old new : Kept) → new ≡ old → Gains old new
+pub gains_same : (old new : Kept) → new ≡ old → Gains old new
 gains_same old new is = subst (Gains old) (sym is) (gains_none old)
 
 unfoldable pub grew_none : (k : Kept) → Grew k k
@@ -81,7 +81,7 @@ grew_all_told : (h : Host) (ns : List Notice) (k : Kept) → Grew k (all_told h 
 grew_all_told h [] k = grew_none k
 grew_all_told h (n ∷ ns) k = grew_more k (book_told h n k) (all_told h ns (book_told h n k)) (grew_told h n k) (grew_all_told h ns (book_told h n k))
 
-grew_all_crossed : (cs : List Crossing) (k : Kept) → Grew k (all_crossed cs k)
+pub grew_all_crossed : (cs : List Crossing) (k : Kept) → Grew k (all_crossed cs k)
 grew_all_crossed [] k = grew_none k
 grew_all_crossed (c ∷ cs) k = grew_more k (all_crossed cs k) (crossed c (all_crossed cs k)) (grew_all_crossed cs k) (grew_crossed c (all_crossed cs k))
 
@@ -180,16 +180,16 @@ begins (User h peer listen own) = true
 begins e = false
 
 module _ {C : Type 0} (calls : Calls C) where
-  does_grow : (old done : WorldState C) (r : Result (Unit {0}) WorldFault) (new : WorldState C) → Grew old.kept done.kept → Does done r new → Grew old.kept new.kept
+  pub does_grow : (old done : WorldState C) (r : Result (Unit {0}) WorldFault) (new : WorldState C) → Grew old.kept done.kept → Does done r new → Grew old.kept new.kept
   does_grow old done r new g d = subst (λ (w : WorldState C). Grew old.kept w.kept) (sym d.1) g
 
-  halts_grow : (c : C) (old : WorldState C) (r : Result (Unit {0}) WorldFault) (new : WorldState C) → Halts c old r new → Grew old.kept new.kept
+  pub halts_grow : (c : C) (old : WorldState C) (r : Result (Unit {0}) WorldFault) (new : WorldState C) → Halts c old r new → Grew old.kept new.kept
   halts_grow c old r new h = grew_same old.kept new.kept h.kept
 
   refuses_grow : (f : WorldFault) (old : WorldState C) (r : Result (Unit {0}) WorldFault) (new : WorldState C) → Refuses f old r new → Grew old.kept new.kept
   refuses_grow f old r new h = grew_same old.kept new.kept (ap (λ (w : WorldState C). w.kept) h.1)
 
-  passes_grow : (e : CarrierFault) (c : C) (old : WorldState C) (r : Result (Unit {0}) WorldFault) (new : WorldState C) → Passes e c old r new → Grew old.kept new.kept
+  pub passes_grow : (e : CarrierFault) (c : C) (old : WorldState C) (r : Result (Unit {0}) WorldFault) (new : WorldState C) → Passes e c old r new → Grew old.kept new.kept
   passes_grow e c old r new h = grew_same old.kept new.kept (ap (λ (w : WorldState C). w.kept) h.1)
 
   offer_end : (h : Host) (s : NcpState) (m : HostMessage) (answer : Result (Unit {0}) CarrierFault) (c : C) (old : WorldState C) (r : Result (Unit {0}) WorldFault) (new : WorldState C)

@@ -7,13 +7,16 @@ mod Counting
 pub mod Driven
 mod Driving
 pub mod Grown
+pub mod Kinds
+pub mod Mixed
 pub mod News
+pub mod Replayable
 pub mod Replays
 pub mod Reports
 pub mod Rounds
 pub mod Steady
+pub mod Strangers
 mod Ticking
 pub mod ToldLines
 pub mod Turns
 pub mod lemmas
-pub mod SeenEvents

@@ -4,7 +4,7 @@ use Rattle.std.proofs.lemmas.List.{append_assoc, append_cancel_left, append_canc
 use Rattle.replay.proofs.lemmas.{ends_front}
 use Rattle.replay.specs.Settled.{Grows}
 use Rattle.world_script.specs.declared.event.WorldEvent.TheVariants as event
-use Rattle.world_replay.specs.Gains.{news}
+use Rattle.world_replay.specs.Gains.{gained, news}
 use Rattle.world_replay.specs.Output.{Shown, crossings_of, shown_refusal}
 use Rattle.world_replay.specs.Replay.{EndsIn, EventGives, Happens}
 use Rattle.net_sim.proofs.lemmas.{calm_keeps}
@@ -25,10 +25,6 @@ pub record SameGains {old new other : Kept} (g : Gains old new) (k : Gains old o
   pub crossings : g.crossings ≡ k.crossings
   pub notices : g.notices ≡ k.notices
   pub reports : g.reports ≡ k.reports
-
--- what a book gained, in the order in which it is shown
-abbrev pub gained : {old new : Kept} → Gains old new → List Shown
-gained {old} {new} g = news old g.crossings g.notices g.reports
 
 pub same_news : (old new other : Kept) (g : Gains old new) (k : Gains old other) → SameGains g k → gained g ≡ gained k
 same_news old new other g k same =
@@ -181,33 +177,6 @@ news_is old new g crossed told said is same alike =
 abbrev pub News : {W : Type 0} → (W → Option (List ℕ)) → Detail → ℕ → ℕ → ℕ → Option (List ℕ) → W → Kept → Type 0
 News contents detail crossed told said a mid k =
     Appends a (contents mid) (output detail (shown_in_turn crossed (drop crossed (reverse k.book.crossings)) (told_in_turn told (drop told k.book.notices) (drop said k.book.reports))))
-
--- an event ends as its printing ends
-pub event_ends : {C W : Type 0} (contents : W → Option (List ℕ)) (calls : Calls C) (detail : Detail) (old : WorldState C) (e : WorldEvent) (outcome : Result (Unit {0}) WorldFault) (new : WorldState C) (printed : Result (Unit {0}) ReplayFault) (crossed told said : ℕ) (a : Option (List ℕ)) (mid last : W)
-    → EventGives calls old e outcome new → crossed ≡ length old.kept.book.crossings → told ≡ length old.kept.book.notices → said ≡ length old.kept.book.reports
-    → News contents detail crossed told said a mid new.kept
-    → OnOk printed (Appends (contents mid) (contents last) (output detail (shown_refusal outcome))) → OnOk printed (stops outcome ≡ false)
-    → (printed ≡ Err fault.OutOfMemory → (stops outcome ≡ true) × (last ≡ mid)) → OneEnds calls detail old e printed new a (contents last)
-event_ends contents calls detail old e outcome new (Ok done) crossed told said a mid last gives is same alike lines refusal goes memory =
-    let gains : Gains old.kept new.kept = event_gains calls e old outcome new gives in
-    record {
-      shown = gained gains ++ shown_refusal outcome;
-      is_shown = record { outcome = outcome; gives = gives; goes_on = goes; gains = gains; lines = refl };
-      written = subst (Appends a (contents last)) (sym (output-append detail (gained gains) (shown_refusal outcome)))
-          (Appends-trans a (contents mid) (contents last) (output detail (gained gains)) (output detail (shown_refusal outcome))
-          (subst (λ xs. Appends a (contents mid) (output detail xs)) (news_is old.kept new.kept gains crossed told said is same alike) lines) refusal);
-    }
-event_ends contents calls detail old e outcome new (Err fault.OutOfMemory) crossed told said a mid last gives is same alike lines refusal goes memory =
-    let gains : Gains old.kept new.kept = event_gains calls e old outcome new gives in
-    let out : (stops outcome ≡ true) × (last ≡ mid) = memory refl in
-    record {
-      shown = gained gains;
-      is_shown = record { outcome = outcome; gives = gives; stops = out.0; gains = gains; lines = refl };
-      written = subst (λ w. Appends a (contents w) (output detail (gained gains))) (sym out.1)
-          (subst (λ xs. Appends a (contents mid) (output detail xs)) (news_is old.kept new.kept gains crossed told said is same alike) lines);
-    }
-event_ends contents calls detail old e outcome new (Err fault.CannotWrite) crossed told said a mid last gives is same alike lines refusal goes memory =
-    (outcome, gives)
 
 -- an event of a calm, whose printing leaves out a refusal
 pub calm_shown : {C W : Type 0} (contents : W → Option (List ℕ)) (calls : Calls C) (detail : Detail) (old : WorldState C) (e : Event) (outcome : Result (Unit {0}) WorldFault) (new : WorldState C) (crossed told said : ℕ) (a : Option (List ℕ)) (mid : W)

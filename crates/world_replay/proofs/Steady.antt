@@ -40,7 +40,7 @@ Onward Next a mid r new = MatchBool (stops a) ((r ≡ a) × (new ≡ mid)) (Next
 abbrev Then : {C : Type 0} → (Result (Unit {0}) WorldFault → WorldState C → Type 0) → (WorldState C → Result (Unit {0}) WorldFault → WorldState C → Type 0) → Result (Unit {0}) WorldFault → WorldState C → Type 0
 Then {C} P Next r new = (a : Result (Unit {0}) WorldFault) × (mid : WorldState C) × P a mid × Onward Next a mid r new
 
-on_either : {A B X : Type 0} (b : Bool) → (b ≡ true → A → X) → (b ≡ false → B → X) → MatchBool b A B → X
+pub on_either : {A B X : Type 0} (b : Bool) → (b ≡ true → A → X) → (b ≡ false → B → X) → MatchBool b A B → X
 on_either true f g h = f refl h
 on_either false f g h = g refl h
 

@@ -9,7 +9,8 @@ use Rattle.world_replay.specs.Replay.{Happens}
 use Rattle.world_replay.specs.Rounds.{turn_of}
 use Rattle.world_replay.proofs.CalmRounds.{Gained, calm_gained, more_gained, none_gained, runs_at, steps_run}
 use Rattle.world_replay.proofs.Grown.{Grew, begins, step_grows}
-use Rattle.world_replay.proofs.Replays.{gained, gains_once, same_news}
+use Rattle.world_replay.specs.Gains.{gained}
+use Rattle.world_replay.proofs.Replays.{gains_once, same_news}
 use Rattle.world_replay.proofs.Rounds.{is_false, is_true, when_false}
 use Rattle.world_script.specs.declared.event.WorldEvent.TheVariants as event
 

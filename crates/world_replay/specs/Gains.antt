@@ -18,3 +18,6 @@ pub record Gains (old new : Kept) : Type 0 where
 -- what a book gained, in the order in which it is shown
 abbrev pub news : (old : Kept) → List Crossing → List Told → List Reported → List Shown
 news old crossings notices reports = shown_in_turn (length old.book.crossings) crossings (told_in_turn (length old.book.notices) notices reports)
+
+abbrev pub gained : {old new : Kept} → Gains old new → List Shown
+gained {old} {new} g = news old g.crossings g.notices g.reports

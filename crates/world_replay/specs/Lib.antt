@@ -1,6 +1,7 @@
 pub mod Apart
 pub mod Driven
 pub mod Gains
+pub mod Kinds
 pub mod Output
 pub mod Printed
 pub mod Replay
@@ -8,4 +9,5 @@ pub mod Rounds
 pub mod Seen
 pub mod Steps
 pub mod Worked
+pub mod WorkedMixed
 pub mod Laws

@@ -1,12 +1,13 @@
--- The events of a world's script over a carrier, whatever it is made of.
-use Rattle.std.specs.Prelude.{◌≡◌, ℕ, zero, suc, ◌≤◌, true, false, List, [], ◌∷◌, ◌++◌, Result}
+-- The events of a world's script over a carrier, whatever it is made of: the worlds of `Kinds` whose hosts all run the program.
+use Rattle.std.specs.Prelude.{◌≡◌, ℕ, zero, suc, false, List, [], ◌∷◌, Option, Some, None, Result, Ok}
+use Rattle.net_sim.specs.Rest.{IsAtRest}
 use Rattle.net_sim.specs.World.{WorldState, StepGives, CalmGives, stops}
 use Rattle.net_sim.specs.declared.event.Event.{Event}
 use Rattle.net_sim.specs.declared.event.Event.TheVariants.{Offer, Quiet, Take}
 use Rattle.interface.specs.Calls.{Calls}
 use Rattle.net_sim.specs.declared.event.WorldFault.{WorldFault}
-use Rattle.replay.specs.InTurn.{InTurn, EndsInTurn}
-use Rattle.world_replay.specs.Gains.{Gains, news}
+use Rattle.world_replay.specs.Gains.{Gains, gained}
+use Rattle.world_replay.specs.Kinds.{EndsBy, HappensBy, Kind, MayDoBy, ReplaysBy, StopsBy}
 use Rattle.world_replay.specs.Output.{Shown, shown_refusal}
 use Rattle.world_script.specs.declared.event.WorldEvent.{WorldEvent}
 use Rattle.world_script.specs.declared.event.WorldEvent.TheVariants as event
@@ -16,19 +17,30 @@ abbrev pub EventGives : {C : Type 0} → Calls C → WorldState C → WorldEvent
 EventGives calls old (event.Happen e) r new = StepGives calls old e r new
 EventGives calls old (event.Calm rounds) r new = CalmGives calls rounds old r new
 
--- one event happens, refused or not, and shows what its world's book gained, each notice after the crossings that were before
--- it and each report after its notice, and then its refusal. Of a single event these are its crossings and then its notices with
--- their reports, and of a calm those of each of its events in turn, without the refusals
-pub record Happens {C : Type 0} (calls : Calls C) (old : WorldState C) (e : WorldEvent) (new : WorldState C) (shown : List Shown) : Type 0 where
-  pub outcome : Result (Unit {0}) WorldFault
-  pub gives : EventGives calls old e outcome new
-  pub goes_on : stops outcome ≡ false
-  pub gains : Gains old.kept new.kept
-  pub lines : shown ≡ news old.kept gains.crossings gains.notices gains.reports ++ shown_refusal outcome
+abbrev pub rounds_in : WorldEvent → Option ℕ
+rounds_in (event.Happen e) = None
+rounds_in (event.Calm rounds) = Some rounds
+
+abbrev pub world_kind : {C : Type 0} → Calls C → Kind (WorldState C) WorldEvent
+world_kind {C} calls = record {
+  kept = λ (w : WorldState C). w.kept;
+  Answer = Result (Unit {0}) WorldFault;
+  done = Ok tt;
+  gives = EventGives calls;
+  stops = stops;
+  refusal = shown_refusal;
+  calm = event.Calm;
+  rounds = rounds_in;
+  rests = IsAtRest calls;
+}
+
+-- one event happens, refused or not, and shows what its world's book gained, and then its refusal
+abbrev pub Happens : {C : Type 0} → Calls C → WorldState C → WorldEvent → WorldState C → List Shown → Type 0
+Happens calls old e new shown = HappensBy (world_kind calls) old e new shown
 
 -- the events happen one after the other, and show these lines together
 abbrev pub Replays : {C : Type 0} → Calls C → WorldState C → List WorldEvent → WorldState C → List Shown → Type 0
-Replays calls old events new shown = InTurn (Happens calls) old events new shown
+Replays calls old events new shown = ReplaysBy (world_kind calls) old events new shown
 
 -- the rounds of a calm as calms of one round
 abbrev pub rounds_of : ℕ → List WorldEvent
@@ -56,31 +68,18 @@ pub record HappensInCalm {C : Type 0} (calls : Calls C) (old : WorldState C) (e 
   pub gives : StepGives calls old e outcome new
   pub goes_on : stops outcome ≡ false
   pub gains : Gains old.kept new.kept
-  pub lines : shown ≡ news old.kept gains.crossings gains.notices gains.reports
+  pub lines : shown ≡ gained gains
 
 -- ---- a replay that ends early, in one of its events
 
 -- memory ran out at this event: a calm shows what its world's book gained before that, and a single event nothing
-pub record StopsIn {C : Type 0} (calls : Calls C) (old : WorldState C) (e : WorldEvent) (new : WorldState C) (shown : List Shown) : Type 0 where
-  pub outcome : Result (Unit {0}) WorldFault
-  pub gives : EventGives calls old e outcome new
-  pub stops : stops outcome ≡ true
-  pub gains : Gains old.kept new.kept
-  pub lines : shown ≡ news old.kept gains.crossings gains.notices gains.reports
-
--- the first rounds of a calm; any other event is whole
-abbrev pub BeginsWith : WorldEvent → WorldEvent → Type 0
-BeginsWith (event.Happen e) first = first ≡ event.Happen e
-BeginsWith (event.Calm rounds) first = (fewer : ℕ) × (first ≡ event.Calm fewer) × (fewer ≤ rounds)
+abbrev pub StopsIn : {C : Type 0} → Calls C → WorldState C → WorldEvent → WorldState C → List Shown → Type 0
+StopsIn calls old e new shown = StopsBy (world_kind calls) old e new shown
 
 -- the world processed this event, or the first rounds of a calm, and may have answered anything; how much was written of what it showed the writer
 -- only knows
-pub record MayDo {C : Type 0} (calls : Calls C) (old : WorldState C) (e : WorldEvent) (new : WorldState C) (shown : List Shown) : Type 0 where
-  pub processed : WorldEvent
-  pub begins : BeginsWith e processed
-  pub outcome : Result (Unit {0}) WorldFault
-  pub gives : EventGives calls old processed outcome new
-  pub unknown : shown ≡ []
+abbrev pub MayDo : {C : Type 0} → Calls C → WorldState C → WorldEvent → WorldState C → List Shown → Type 0
+MayDo calls old e new shown = MayDoBy (world_kind calls) old e new shown
 
 -- the world processed this event, whatever it answered
 abbrev pub MayStep : {C : Type 0} → Calls C → WorldState C → Event → WorldState C → Type 0
@@ -88,4 +87,4 @@ MayStep calls old e new = (outcome : Result (Unit {0}) WorldFault) × StepGives 
 
 -- the events before the last one happened, the last one went as is said, and these lines were shown by then
 abbrev pub EndsIn : {C : Type 0} → Calls C → (WorldState C → WorldEvent → WorldState C → List Shown → Type 0) → WorldState C → List WorldEvent → WorldState C → List Shown → Type 0
-EndsIn calls Goes old events new shown = EndsInTurn (Happens calls) Goes old events new shown
+EndsIn calls Goes old events new shown = EndsBy (world_kind calls) Goes old events new shown

@@ -1,22 +1,24 @@
 //! Replaying the events of a world's script.
 
-ghost use Rattle.std.specs.Prelude.{◌≡◌, ◌≤◌, Err, List, Ok, OnOk, false, length, true, ℕ};
+ghost use Rattle.std.specs.Prelude.{◌≡◌, ◌≤◌, ◌<◌, Err, List, Ok, OnOk, false, length, true, ℕ};
 ghost use Rattle.interface.specs.Messages.{SafeMessages};
 ghost use Rattle.net_sim.specs.Carriers.{shown};
 ghost use Rattle.net_sim.specs.Rest.{IsAtRest};
 ghost use Rattle.net_sim.specs.World.{CalmGives};
 ghost use Rattle.replay.specs.Failing.{TellsCannotWrite};
+ghost use Rattle.world_replay.specs.Kinds.{EndsBy, EndsSeenBy, IsSeenBy, MayDoBy, ReplaysBy, StopsBy, mixed_kind};
 ghost use Rattle.world_replay.specs.Output.{Shown, Writes};
-ghost use Rattle.world_replay.specs.Replay.{EndsIn, EventGives, HappensInCalm, MayDo, MayStep, Replays, StopsIn};
-ghost use Rattle.world_replay.specs.Seen.{EndsSeen, IsSeen};
+ghost use Rattle.world_replay.specs.Replay.{EndsIn, HappensInCalm, MayDo, MayStep, Replays, StopsIn};
+ghost use Rattle.world_replay.specs.Seen.{EndsSeen};
 ghost use Rattle.world_replay.specs.Steps.{EventEnds, OneEnds};
 ghost use Rattle.world_script.specs.declared.event.WorldEvent.TheVariants as world_event;
 
 use crate::print::{check_memory, print_news, print_refusal};
+use crate::replayed::Replayed;
 use interface::Carrier;
-use net_sim::{Event, World, WorldFault};
+use net_sim::{Event, MixedWorld, World};
 use replay::{Detail, Line, Output, ReplayFault};
-use world_script::WorldEvent;
+use world_script::{MixedWorldEvent, WorldEvent};
 
 /// How many rounds of a calm pass before each further one is seen at once.
 pub const UNSEEN_ROUNDS: u32 = 64;
@@ -70,6 +72,44 @@ pub fn replay_events<C: Carrier, W: Output>(
     outcome
 }
 
+/// Lets each event happen in order in a world some of whose hosts are strangers, and prints what it shows, as
+/// [`replay_events`] does. What a stranger says and takes is shown as crossings, and what it is asked for as a refusal
+/// (`NoProgram`), and so is what another host is to say (`HasProgram`). In a calm a stranger has no turn: what waits for
+/// it stays.
+///
+/// Errors: as in [`replay_events`].
+pub fn replay_mixed_events<C: Carrier, W: Output>(
+    world: &mut MixedWorld<C>,
+    events: Vec<MixedWorldEvent>,
+    detail: Detail,
+    writer: &mut W,
+) -> Result<(), ReplayFault>
+    requires { W.failed writer.old ≡ false }
+
+    // each RFNM belongs to one message, which was taken exactly once, whatever strangers say
+    ensures messages { SafeMessages world.new.world.kept.book.crossings }
+
+    // each event in turn went as the world says that its calls may go, and what it showed was printed
+    ensures replayed { OnOk result (Writes detail (ReplaysBy (mixed_kind (shown C.calls)) world.old events.items world.new) (W.contents writer.old) (W.contents writer.new)) }
+
+    // memory ran out at one event: as in `replay_events`
+    ensures memory { result ≡ Err ReplayFault.OutOfMemory → Writes detail (EndsBy (mixed_kind (shown C.calls)) (StopsBy (mixed_kind (shown C.calls))) world.old events.items world.new) (W.contents writer.old) (W.contents writer.new) }
+
+    // `CannotWrite` is answered where a write failed, and nowhere else
+    ensures failed { TellsCannotWrite result (W.failed writer.new) }
+
+    // a long calm is seen, as in `replay_events`
+    ensures seen { OnOk result (EndsSeenBy (mixed_kind (shown C.calls)) events.items world.new (W.flushed writer.new)) }
+
+    // a write failed: the event had already happened, or the rounds of a calm up to that one
+    ensures cannot_write { result ≡ Err ReplayFault.CannotWrite → (lines : List Shown) × EndsBy (mixed_kind (shown C.calls)) (MayDoBy (mixed_kind (shown C.calls))) world.old events.items world.new lines }
+{
+    let outcome = replay_in_turn(world, events, detail, writer);
+    // for the proof only: by `MixedWorld::book` the world is lawful among its hosts with programs, so its messages are safe
+    let _book = world.book();
+    outcome
+}
+
 /// Lets one event happen as an event of a calm, and prints what it shows: its crossings, notices and reports. A refusal changes nothing,
 /// and isn't printed.
 ///
@@ -107,18 +147,18 @@ pub fn replay_in_calm<C: Carrier, W: Output>(
 }
 
 /// Lets each event happen in order, and prints what it shows.
-fn replay_in_turn<C: Carrier, W: Output>(
-    world: &mut World<C>,
-    events: Vec<WorldEvent>,
+fn replay_in_turn<R: Replayed, W: Output>(
+    world: &mut R,
+    events: Vec<R::Event>,
     detail: Detail,
     writer: &mut W,
 ) -> Result<(), ReplayFault>
     requires { W.failed writer.old ≡ false }
     ensures failed { TellsCannotWrite result (W.failed writer.new) }
-    ensures seen { OnOk result (EndsSeen (shown C.calls) events.items world.new (W.flushed writer.new)) }
-    ensures replayed { OnOk result (Writes detail (Replays (shown C.calls) world.old events.items world.new) (W.contents writer.old) (W.contents writer.new)) }
-    ensures memory { result ≡ Err ReplayFault.OutOfMemory → Writes detail (EndsIn (shown C.calls) (StopsIn (shown C.calls)) world.old events.items world.new) (W.contents writer.old) (W.contents writer.new) }
-    ensures cannot_write { result ≡ Err ReplayFault.CannotWrite → (lines : List Shown) × EndsIn (shown C.calls) (MayDo (shown C.calls)) world.old events.items world.new lines }
+    ensures seen { OnOk result (EndsSeenBy R.kind events.items world.new (W.flushed writer.new)) }
+    ensures replayed { OnOk result (Writes detail (ReplaysBy R.kind world.old events.items world.new) (W.contents writer.old) (W.contents writer.new)) }
+    ensures memory { result ≡ Err ReplayFault.OutOfMemory → Writes detail (EndsBy R.kind (StopsBy R.kind) world.old events.items world.new) (W.contents writer.old) (W.contents writer.new) }
+    ensures cannot_write { result ≡ Err ReplayFault.CannotWrite → (lines : List Shown) × EndsBy R.kind (MayDoBy R.kind) world.old events.items world.new lines }
 {
     let mut line = Line::new();
     for event in events {
@@ -128,45 +168,46 @@ fn replay_in_turn<C: Carrier, W: Output>(
 }
 
 /// Lets one event happen, and prints what it shows, of a calm round by round. Lines are put together in this buffer, of which nothing is kept.
-fn replay_event<C: Carrier, W: Output>(
-    world: &mut World<C>,
-    event: WorldEvent,
+fn replay_event<R: Replayed, W: Output>(
+    world: &mut R,
+    event: R::Event,
     line: &mut Line,
     detail: Detail,
     writer: &mut W,
 ) -> Result<(), ReplayFault>
     requires { W.failed writer.old ≡ false }
-    ensures ends { EventEnds (shown C.calls) detail world.old event result world.new (W.contents writer.old) (W.contents writer.new) }
-    ensures seen { OnOk result (IsSeen (shown C.calls) event world.new (W.flushed writer.new)) }
+    ensures ends { EventEnds R.kind detail world.old event result world.new (W.contents writer.old) (W.contents writer.new) }
+    ensures seen { OnOk result (IsSeenBy R.kind event world.new (W.flushed writer.new)) }
     ensures failed { TellsCannotWrite result (W.failed writer.new) }
 {
-    match event {
-        WorldEvent::Calm(rounds) => replay_calm(world, rounds, line, detail, writer),
-        happening => replay_one(world, happening, line, detail, writer),
+    R::is_replayable();
+    let rounds = R::rounds_of(&event);
+    match rounds {
+        None | Some(0) => replay_one(world, event, line, detail, writer),
+        Some(rounds) => replay_calm(world, rounds, line, detail, writer),
     }
 }
 
 /// Lets this many rounds pass, and prints after each what it showed. Where the world rests, the rounds that are left would change nothing and
 /// show nothing, and are not made.
-fn replay_calm<C: Carrier, W: Output>(
-    world: &mut World<C>,
+fn replay_calm<R: Replayed, W: Output>(
+    world: &mut R,
     rounds: u32,
     line: &mut Line,
     detail: Detail,
     writer: &mut W,
 ) -> Result<(), ReplayFault>
-    requires { W.failed writer.old ≡ false }
-    ensures ends { EventEnds (shown C.calls) detail world.old (world_event.Calm rounds) result world.new (W.contents writer.old) (W.contents writer.new) }
-    ensures seen { OnOk result (IsSeen (shown C.calls) (world_event.Calm rounds) world.new (W.flushed writer.new)) }
+    requires some { 0 < rounds }
+    requires whole { W.failed writer.old ≡ false }
+    ensures ends { EventEnds R.kind detail world.old (R.kind.calm rounds) result world.new (W.contents writer.old) (W.contents writer.new) }
+    ensures seen { OnOk result (IsSeenBy R.kind (R.kind.calm rounds) world.new (W.flushed writer.new)) }
     ensures failed { TellsCannotWrite result (W.failed writer.new) }
 {
-    if rounds == 0 {
-        return replay_one(world, WorldEvent::Calm(rounds), line, detail, writer);
-    }
+    R::is_replayable();
     for passed in 0..rounds {
         let before = world.book().crossings().len();
         replay_round(world, passed, line, detail, writer)?;
-        if has_calmed(world, before) {
+        if rests_since(world, before) {
             return Ok(());
         }
     }
@@ -175,19 +216,19 @@ fn replay_calm<C: Carrier, W: Output>(
 
 /// Lets one more round of a calm pass of which this many have passed, and prints what it showed. Of a long calm it hands on all that was
 /// printed so far, so that it is seen though the calm may never rest.
-fn replay_round<C: Carrier, W: Output>(
-    world: &mut World<C>,
+fn replay_round<R: Replayed, W: Output>(
+    world: &mut R,
     passed: u32,
     line: &mut Line,
     detail: Detail,
     writer: &mut W,
 ) -> Result<(), ReplayFault>
     requires { W.failed writer.old ≡ false }
-    ensures ends { OneEnds (shown C.calls) detail world.old (world_event.Calm 1) result world.new (W.contents writer.old) (W.contents writer.new) }
+    ensures ends { OneEnds R.kind detail world.old (R.kind.calm 1) result world.new (W.contents writer.old) (W.contents writer.new) }
     ensures seen { 64 ≤ passed → OnOk result (W.flushed writer.new ≡ true) }
     ensures failed { TellsCannotWrite result (W.failed writer.new) }
 {
-    replay_one(world, WorldEvent::Calm(1), line, detail, writer)?;
+    replay_one(world, R::round(), line, detail, writer)?;
     if passed >= UNSEEN_ROUNDS {
         writer.flush()?;
     }
@@ -201,35 +242,35 @@ pub fn has_calmed<C: Carrier>(world: &World<C>, before: usize) -> bool
     ensures unchanged { result ≡ true → (times : ℕ) → CalmGives (shown C.calls) times world.now (Ok tt) world.now }
     ensures rest { result ≡ true → IsAtRest (shown C.calls) world.now }
 {
+    rests_since(world, before)
+}
+
+/// Returns whether nothing has crossed since the book had this many crossings, and the world is known to rest.
+fn rests_since<R: Replayed>(world: &R, before: usize) -> bool
+    ensures crossed { result ≡ true → length (R.kind.kept world.now).book.crossings ≡ before }
+    ensures unchanged { result ≡ true → (n : ℕ) → R.kind.gives world.now (R.kind.calm n) R.kind.done world.now }
+    ensures rest { result ≡ true → R.kind.rests world.now }
+{
     world.book().crossings().len() == before && world.rests()
 }
 
 /// Lets one event happen, and then prints what it showed.
-fn replay_one<C: Carrier, W: Output>(
-    world: &mut World<C>,
-    event: WorldEvent,
+fn replay_one<R: Replayed, W: Output>(
+    world: &mut R,
+    event: R::Event,
     line: &mut Line,
     detail: Detail,
     writer: &mut W,
 ) -> Result<(), ReplayFault>
     requires { W.failed writer.old ≡ false }
-    ensures ends { OneEnds (shown C.calls) detail world.old event result world.new (W.contents writer.old) (W.contents writer.new) }
+    ensures ends { OneEnds R.kind detail world.old event result world.new (W.contents writer.old) (W.contents writer.new) }
     ensures failed { TellsCannotWrite result (W.failed writer.new) }
 {
+    R::is_replayable();
     let crossed = world.book().crossings().len();
     let told = world.book().notices().len();
     let said = world.book().reports().len();
-    let outcome = happen(world, event);
+    let outcome = world.happen(event);
     print_news(line, world.book(), crossed, told, said, detail, writer)?;
     print_refusal(outcome, writer)
-}
-
-/// Lets one event happen.
-fn happen<C: Carrier>(world: &mut World<C>, event: WorldEvent) -> Result<(), WorldFault>
-    ensures { EventGives (shown C.calls) world.old event result world.new }
-{
-    match event {
-        WorldEvent::Happen(event) => world.step(event),
-        WorldEvent::Calm(rounds) => world.calm(rounds),
-    }
 }

@@ -1,36 +1,33 @@
-use Rattle.world_replay.proofs.Common.{◌≡◌, ◌∷◌, [], ◌++◌, Err, rules, ap, sym, subst, ◌∙◌, shown, Calls, shown_text, MayDo, StopsIn, EventEnds}
+use Rattle.world_replay.proofs.Common.{◌≡◌, ◌∷◌, [], ◌++◌, Err, rules, ap, sym, subst, ◌∙◌, shown_text, EventEnds}
 use Rattle.std.proofs.lemmas.List.{append_assoc}
 use Rattle.replay.proofs.lemmas.{last_shown, last_written, one_written}
 use Rattle.replay.specs.declared.events.ReplayFault.TheVariants as fault
-use Rattle.world_replay.specs.Replay.{Happens}
-use Rattle.world_replay.proofs.SeenEvents.{last_seen}
+use Rattle.world_replay.specs.Kinds.{HappensBy, MayDoBy, StopsBy}
+use Rattle.world_replay.proofs.Kinds.{last_seen}
 use Rattle.world_replay.proofs.events.replay_in_turn.Goals as goal
 
 pub loop-event-preserved : goal.loop-event-preserved
-loop-event-preserved g c =
-    let calls : Calls g.row.C.Denot = shown g.C.Carrier.calls in (
-      c.loop-event.invariant.0 ∙ ap (λ es. c.loop-event.yielded ++ es) c.in-Some.ensures.steps.0 ∙ sym (append_assoc c.loop-event.yielded (c.in-Some.event ∷ []) c.next.new.self.rest.items),
-      one_written (Happens calls) (shown_text c.args.detail) c.args.world.now c.loop-event.world c.replay_event.new.world c.loop-event.yielded c.in-Some.event
-          (g.W.Output.contents c.args.writer.now) (g.W.Output.contents c.loop-event.writer) (g.W.Output.contents c.replay_event.new.writer) c.loop-event.invariant.1 c.in_ok-replay_event.ensures.ends,
-      c.in_ok-replay_event.ensures.failed,
-      last_seen calls c.loop-event.yielded c.in-Some.event c.replay_event.new.world (g.W.Output.flushed c.replay_event.new.writer) c.in_ok-replay_event.ensures.seen,
-    )
+loop-event-preserved g c = (
+  c.loop-event.invariant.0 ∙ ap (λ es. c.loop-event.yielded ++ es) c.in-Some.ensures.steps.0 ∙ sym (append_assoc c.loop-event.yielded (c.in-Some.event ∷ []) c.next.new.self.rest.items),
+  one_written (HappensBy g.R.Replayed.kind) (shown_text c.args.detail) c.args.world.now c.loop-event.world c.replay_event.new.world c.loop-event.yielded c.in-Some.event
+      (g.W.Output.contents c.args.writer.now) (g.W.Output.contents c.loop-event.writer) (g.W.Output.contents c.replay_event.new.writer) c.loop-event.invariant.1 c.in_ok-replay_event.ensures.ends,
+  c.in_ok-replay_event.ensures.failed,
+  last_seen g.R.Replayed.kind c.loop-event.yielded c.in-Some.event c.replay_event.new.world (g.W.Output.flushed c.replay_event.new.writer) c.in_ok-replay_event.ensures.seen,
+)
 
 pub returns-in_err-replay_event-clause-memory : goal.returns-in_err-replay_event-clause-memory
 returns-in_err-replay_event-clause-memory g c = λ e.
-    let calls : Calls g.row.C.Denot = shown g.C.Carrier.calls in
     let is : c.replay_event.result ≡ Err fault.OutOfMemory = search rules in
-    last_written (Happens calls) (StopsIn calls) (shown_text c.args.detail) c.args.world.now c.loop-event.world c.replay_event.new.world c.args.events.items c.loop-event.yielded c.in-Some.event c.next.new.self.rest.items
+    last_written (HappensBy g.R.Replayed.kind) (StopsBy g.R.Replayed.kind) (shown_text c.args.detail) c.args.world.now c.loop-event.world c.replay_event.new.world c.args.events.items c.loop-event.yielded c.in-Some.event c.next.new.self.rest.items
     (g.W.Output.contents c.args.writer.now) (g.W.Output.contents c.loop-event.writer) (g.W.Output.contents c.replay_event.new.writer)
     (c.loop-event.invariant.0 ∙ ap (λ es. c.loop-event.yielded ++ es) c.in-Some.ensures.steps.0) c.loop-event.invariant.1
-    (subst (λ r. EventEnds calls c.args.detail c.loop-event.world c.in-Some.event r c.replay_event.new.world (g.W.Output.contents c.loop-event.writer) (g.W.Output.contents c.replay_event.new.writer)) is c.replay_event.ensures.ends)
+    (subst (λ r. EventEnds g.R.Replayed.kind c.args.detail c.loop-event.world c.in-Some.event r c.replay_event.new.world (g.W.Output.contents c.loop-event.writer) (g.W.Output.contents c.replay_event.new.writer)) is c.replay_event.ensures.ends)
 
 pub returns-in_err-replay_event-clause-cannot_write : goal.returns-in_err-replay_event-clause-cannot_write
 returns-in_err-replay_event-clause-cannot_write g c = λ e.
-    let calls : Calls g.row.C.Denot = shown g.C.Carrier.calls in
     let is : c.replay_event.result ≡ Err fault.CannotWrite = search rules in
-    let last = subst (λ r. EventEnds calls c.args.detail c.loop-event.world c.in-Some.event r c.replay_event.new.world (g.W.Output.contents c.loop-event.writer) (g.W.Output.contents c.replay_event.new.writer)) is c.replay_event.ensures.ends in (
+    let last = subst (λ r. EventEnds g.R.Replayed.kind c.args.detail c.loop-event.world c.in-Some.event r c.replay_event.new.world (g.W.Output.contents c.loop-event.writer) (g.W.Output.contents c.replay_event.new.writer)) is c.replay_event.ensures.ends in (
       c.loop-event.invariant.1.shown ++ last.0,
-      last_shown (Happens calls) (MayDo calls) c.args.world.now c.loop-event.world c.replay_event.new.world c.args.events.items c.loop-event.yielded c.in-Some.event c.next.new.self.rest.items
+      last_shown (HappensBy g.R.Replayed.kind) (MayDoBy g.R.Replayed.kind) c.args.world.now c.loop-event.world c.replay_event.new.world c.args.events.items c.loop-event.yielded c.in-Some.event c.next.new.self.rest.items
           c.loop-event.invariant.1.shown last.0 (c.loop-event.invariant.0 ∙ ap (λ es. c.loop-event.yielded ++ es) c.in-Some.ensures.steps.0) c.loop-event.invariant.1.is_shown last.1,
     )

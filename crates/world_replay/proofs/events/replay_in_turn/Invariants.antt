@@ -1,9 +1,9 @@
-use Rattle.world_replay.proofs.Common.{◌≡◌, ◌++◌, false, shown, Calls, Writes, Replays, EndsSeen}
+use Rattle.world_replay.proofs.Common.{◌≡◌, ◌++◌, false, Writes}
+use Rattle.world_replay.specs.Kinds.{EndsSeenBy, ReplaysBy}
 use Rattle.world_replay.proofs.events.replay_in_turn.Given as goal
 
 -- the events so far are replayed, and what they showed is written, and handed on where they end with a long calm; no write has failed
 abbrev pub invariant-loop-event : goal.invariant-loop-event
 invariant-loop-event g l =
-    let calls : Calls g.row.C.Denot = shown g.C.Carrier.calls in
-    (l.fn.events.items ≡ l.yielded ++ l.event-iterator.rest.items) × Writes l.detail (Replays calls l.fn.world l.yielded l.world) (g.W.Output.contents l.fn.writer) (g.W.Output.contents l.writer)
-    × (g.W.Output.failed l.writer ≡ false) × EndsSeen calls l.yielded l.world (g.W.Output.flushed l.writer)
+    (l.fn.events.items ≡ l.yielded ++ l.event-iterator.rest.items) × Writes l.detail (ReplaysBy g.R.Replayed.kind l.fn.world l.yielded l.world) (g.W.Output.contents l.fn.writer) (g.W.Output.contents l.writer)
+    × (g.W.Output.failed l.writer ≡ false) × EndsSeenBy g.R.Replayed.kind l.yielded l.world (g.W.Output.flushed l.writer)

@@ -1,0 +1,197 @@
+-- The replay of events over any kind of world of which what a replay needs is known.
+use Rattle.world_replay.proofs.Common.{◌≡◌, ℕ, ◌+◌, ◌-◌, ◌<◌, ◌≤◌, zero, suc, Bool, true, false, List, [], ◌∷◌, ◌++◌, length, Option, None, Some, Result, Ok, Err, OnOk, inl, refl, ap, ap₂, sym, subst, ◌∙◌, arith, append-nil, Appends, Appends-nil, Appends-trans, Kept, ReplayFault, Detail, Gains, Writes, output, EventEnds, OneEnds}
+use Rattle.std.proofs.lemmas.List.{append_assoc}
+use Rattle.net_sim.specs.MixedWorlds.{MixedFault, mixed_stops}
+use Rattle.replay.specs.declared.events.ReplayFault.TheVariants as fault
+use Rattle.world_replay.specs.Gains.{gained}
+use Rattle.world_replay.specs.Kinds.{BeginsAs, BeginsBy, EndsSeenBy, HandsOn, HappensBy, IsSeenBy, Kind, MayDoBy, StopsBy}
+use Rattle.world_replay.specs.Output.{Shown, mixed_refusal}
+use Rattle.world_replay.specs.Steps.{IsReplayable, Tells}
+use Rattle.world_replay.proofs.News.{output-append}
+use Rattle.world_replay.proofs.Grown.{gains_none}
+use Rattle.world_replay.proofs.Replays.{News, news_is}
+
+-- ---- what is handed on after the last of several events
+
+pub whether_ok : {T E Q : Type 0} (r : Result T E) → Q → OnOk r Q
+whether_ok (Ok x) q = q
+whether_ok (Err e) q = tt
+
+pub last_seen : {S E : Type 0} (kind : Kind S E) (events : List E) (e : E) (new : S) (flushed : Bool) → IsSeenBy kind e new flushed → EndsSeenBy kind (events ++ e ∷ []) new flushed
+last_seen kind [] e new flushed h = h
+last_seen kind (x ∷ []) e new flushed h = h
+last_seen kind (x ∷ y ∷ events) e new flushed h = last_seen kind (y ∷ events) e new flushed h
+
+-- this many rounds have passed, and what they showed is written
+abbrev pub HaveRounds : {S E : Type 0} → Kind S E → Detail → ℕ → S → S → Option (List ℕ) → Option (List ℕ) → Type 0
+HaveRounds kind detail zero old now a b = (now ≡ old) × Appends a b []
+HaveRounds kind detail (suc n) old now a b = Writes detail (HappensBy kind old (kind.calm (suc n)) now) a b
+
+pub no_rounds : {S E : Type 0} (kind : Kind S E) (detail : Detail) (w : S) (a : Option (List ℕ)) → HaveRounds kind detail 0 w w a a
+no_rounds kind detail w a = (refl, Appends-nil a)
+
+module _ {S E : Type 0} (kind : Kind S E) (is : IsReplayable kind) where
+  -- ---- an event that is printed at once
+
+  begins_as : (e : E) (o : Option ℕ) → kind.rounds e ≡ o → BeginsAs kind o e e
+  begins_as e None has = refl
+  begins_as e (Some n) has = (n, is.is_calm e n has, omega arith)
+
+  pub one_is_event : (detail : Detail) (old : S) (e : E) (r : Result (Unit {0}) ReplayFault) (new : S) (a b : Option (List ℕ)) → OneEnds kind detail old e r new a b → EventEnds kind detail old e r new a b
+  one_is_event detail old e (Ok done) new a b h = h
+  one_is_event detail old e (Err fault.OutOfMemory) new a b h = h
+  one_is_event detail old e (Err fault.CannotWrite) new a b h = ([], record { processed = e; begins = begins_as e (kind.rounds e) refl; outcome = h.0; gives = h.1; unknown = refl })
+
+  -- an event ends as its printing ends
+  pub event_ends : {W : Type 0} (contents : W → Option (List ℕ)) (detail : Detail) (old : S) (e : E) (answer : Result (Unit {0}) MixedFault) (new : S) (printed : Result (Unit {0}) ReplayFault) (crossed noticed said : ℕ) (a : Option (List ℕ)) (mid last : W)
+      → Tells kind old e answer new → crossed ≡ length (kind.kept old).book.crossings → noticed ≡ length (kind.kept old).book.notices → said ≡ length (kind.kept old).book.reports
+      → News contents detail crossed noticed said a mid (kind.kept new)
+      → OnOk printed (Appends (contents mid) (contents last) (output detail (mixed_refusal answer))) → OnOk printed (mixed_stops answer ≡ false)
+      → (printed ≡ Err fault.OutOfMemory → (mixed_stops answer ≡ true) × (last ≡ mid)) → OneEnds kind detail old e printed new a (contents last)
+  event_ends contents detail old e answer new (Ok done) crossed noticed said a mid last (outcome, gives, stops, shows) at same alike lines refusal goes memory =
+      let gains : Gains (kind.kept old) (kind.kept new) = is.gains e old outcome new gives in
+      record {
+        shown = gained gains ++ kind.refusal outcome;
+        is_shown = record { outcome = outcome; gives = gives; goes_on = sym stops ∙ goes; gains = gains; lines = refl };
+        written = subst (Appends a (contents last)) (sym (ap (λ (xs : List Shown). output detail (gained gains ++ xs)) shows ∙ output-append detail (gained gains) (mixed_refusal answer)))
+            (Appends-trans a (contents mid) (contents last) (output detail (gained gains)) (output detail (mixed_refusal answer))
+            (subst (λ xs. Appends a (contents mid) (output detail xs)) (news_is (kind.kept old) (kind.kept new) gains crossed noticed said at same alike) lines) refusal);
+      }
+  event_ends contents detail old e answer new (Err fault.OutOfMemory) crossed noticed said a mid last (outcome, gives, stops, shows) at same alike lines refusal goes memory =
+      let gains : Gains (kind.kept old) (kind.kept new) = is.gains e old outcome new gives in
+      let out : (mixed_stops answer ≡ true) × (last ≡ mid) = memory refl in
+      record {
+        shown = gained gains;
+        is_shown = record { outcome = outcome; gives = gives; stops = sym stops ∙ out.0; gains = gains; lines = refl };
+        written = subst (λ w. Appends a (contents w) (output detail (gained gains))) (sym out.1)
+            (subst (λ xs. Appends a (contents mid) (output detail xs)) (news_is (kind.kept old) (kind.kept new) gains crossed noticed said at same alike) lines);
+      }
+  event_ends contents detail old e answer new (Err fault.CannotWrite) crossed noticed said a mid last (outcome, gives, told) at same alike lines refusal goes memory = (outcome, gives)
+
+  -- ---- rounds, and then further ones
+
+  unshown : (n : ℕ) (old : S) (r : kind.Answer) (new : S) → kind.gives old (kind.calm n) r new → kind.stops r ≡ false → kind.refusal r ≡ []
+  unshown n old r new gives on = ap kind.refusal (is.well n old r new gives on) ∙ is.unrefused
+
+  shown_well : (n : ℕ) (old mid : S) (first : List Shown) (h : HappensBy kind old (kind.calm n) mid first) → first ≡ gained h.gains
+  shown_well n old mid first h = h.lines ∙ ap (λ (xs : List Shown). gained h.gains ++ xs) (unshown n old h.outcome mid h.gives h.goes_on) ∙ append-nil (gained h.gains)
+
+  pub happens_more : (n k : ℕ) (old mid new : S) (first rest : List Shown) → HappensBy kind old (kind.calm (suc n)) mid first → HappensBy kind mid (kind.calm (suc k)) new rest → HappensBy kind old (kind.calm (suc n + suc k)) new (first ++ rest)
+  happens_more n k old mid new first rest h j =
+      let gives : kind.gives old (kind.calm (suc n + suc k)) j.outcome new = is.more n k old mid new h.outcome j.outcome h.gives h.goes_on j.gives in
+      let all : Gains (kind.kept old) (kind.kept new) = is.gains (kind.calm (suc n + suc k)) old j.outcome new gives in
+      record {
+        outcome = j.outcome;
+        gives = gives;
+        goes_on = j.goes_on;
+        gains = all;
+        lines = ap₂ (λ (xs ys : List Shown). xs ++ ys) (shown_well (suc n) old mid first h) j.lines ∙ sym (append_assoc (gained h.gains) (gained j.gains) (kind.refusal j.outcome))
+            ∙ ap (λ (xs : List Shown). xs ++ kind.refusal j.outcome) (sym (is.shows (suc n) (suc k) old mid new h.outcome j.outcome h.gives j.gives h.gains j.gains all));
+      }
+
+  stops_more : (n k : ℕ) (old mid new : S) (first rest : List Shown) → HappensBy kind old (kind.calm (suc n)) mid first → StopsBy kind mid (kind.calm (suc k)) new rest → StopsBy kind old (kind.calm (suc n + suc k)) new (first ++ rest)
+  stops_more n k old mid new first rest h j =
+      let gives : kind.gives old (kind.calm (suc n + suc k)) j.outcome new = is.more n k old mid new h.outcome j.outcome h.gives h.goes_on j.gives in
+      let all : Gains (kind.kept old) (kind.kept new) = is.gains (kind.calm (suc n + suc k)) old j.outcome new gives in
+      record {
+        outcome = j.outcome;
+        gives = gives;
+        stops = j.stops;
+        gains = all;
+        lines = ap₂ (λ (xs ys : List Shown). xs ++ ys) (shown_well (suc n) old mid first h) j.lines
+            ∙ sym (is.shows (suc n) (suc k) old mid new h.outcome j.outcome h.gives j.gives h.gains j.gains all);
+      }
+
+  -- a world that rests shows nothing in a calm
+  rest_happens : (k : ℕ) (now : S) → kind.gives now (kind.calm k) kind.done now → HappensBy kind now (kind.calm k) now []
+  rest_happens k now gives = record {
+    outcome = kind.done;
+    gives = gives;
+    goes_on = is.lasts;
+    gains = gains_none (kind.kept now);
+    lines = sym is.unrefused;
+  }
+
+  -- ---- this many rounds
+
+  -- what is shown by further ones is written after what was shown before
+  after_more : (detail : Detail) (count k : ℕ) (old now new : S) (a b c : Option (List ℕ)) → HaveRounds kind detail count old now a b → Writes detail (HappensBy kind now (kind.calm (suc k)) new) b c → Writes detail (HappensBy kind old (kind.calm (count + suc k)) new) a c
+  after_more detail zero k old now new a b c (same, none) w = record {
+    shown = w.shown;
+    is_shown = subst (λ (n : ℕ). HappensBy kind old (kind.calm n) new w.shown) (let e : suc k ≡ 0 + suc k = omega arith in e) (subst (λ (s : S). HappensBy kind s (kind.calm (suc k)) new w.shown) same w.is_shown);
+    written = Appends-trans a b c [] (output detail w.shown) none w.written;
+  }
+  after_more detail (suc n) k old now new a b c h w = record {
+    shown = h.shown ++ w.shown;
+    is_shown = happens_more n k old now new h.shown w.shown h.is_shown w.is_shown;
+    written = subst (Appends a c) (sym (output-append detail h.shown w.shown)) (Appends-trans a b c (output detail h.shown) (output detail w.shown) h.written w.written);
+  }
+
+  after_stops : (detail : Detail) (count k : ℕ) (old now new : S) (a b c : Option (List ℕ)) → HaveRounds kind detail count old now a b → Writes detail (StopsBy kind now (kind.calm (suc k)) new) b c → Writes detail (StopsBy kind old (kind.calm (count + suc k)) new) a c
+  after_stops detail zero k old now new a b c (same, none) w = record {
+    shown = w.shown;
+    is_shown = subst (λ (n : ℕ). StopsBy kind old (kind.calm n) new w.shown) (let e : suc k ≡ 0 + suc k = omega arith in e) (subst (λ (s : S). StopsBy kind s (kind.calm (suc k)) new w.shown) same w.is_shown);
+    written = Appends-trans a b c [] (output detail w.shown) none w.written;
+  }
+  after_stops detail (suc n) k old now new a b c h w = record {
+    shown = h.shown ++ w.shown;
+    is_shown = stops_more n k old now new h.shown w.shown h.is_shown w.is_shown;
+    written = subst (Appends a c) (sym (output-append detail h.shown w.shown)) (Appends-trans a b c (output detail h.shown) (output detail w.shown) h.written w.written);
+  }
+
+  after_gives : (detail : Detail) (count k : ℕ) (old now new : S) (q : kind.Answer) (a b : Option (List ℕ)) → HaveRounds kind detail count old now a b → kind.gives now (kind.calm (suc k)) q new → kind.gives old (kind.calm (count + suc k)) q new
+  after_gives detail zero k old now new q a b (same, none) gives =
+      subst (λ (n : ℕ). kind.gives old (kind.calm n) q new) (let e : suc k ≡ 0 + suc k = omega arith in e) (subst (λ (s : S). kind.gives s (kind.calm (suc k)) q new) same gives)
+  after_gives detail (suc n) k old now new q a b h gives = is.more n k old now new h.is_shown.outcome q h.is_shown.gives h.is_shown.goes_on gives
+
+  pub round_more : (detail : Detail) (count : ℕ) (old now mid : S) (a b c : Option (List ℕ)) → HaveRounds kind detail count old now a b → OneEnds kind detail now (kind.calm 1) (Ok tt) mid b c → HaveRounds kind detail (count + 1) old mid a c
+  round_more detail count old now mid a b c h k =
+      let same : count + suc 0 ≡ suc count = omega arith in
+      let one : suc count ≡ count + 1 = omega arith in
+      let all : Writes detail (HappensBy kind old (kind.calm (suc count)) mid) a c = subst (λ (n : ℕ). Writes detail (HappensBy kind old (kind.calm n) mid) a c) same (after_more detail count 0 old now mid a b c h k) in
+      subst (λ (n : ℕ). HaveRounds kind detail n old mid a c) one all
+
+  -- a round that is the last one, since memory ran out or a write failed
+  pub round_ends_so : (detail : Detail) (count total : ℕ) (old now mid : S) (f : ReplayFault) (a b c : Option (List ℕ)) → HaveRounds kind detail count old now a b → count < total → OneEnds kind detail now (kind.calm 1) (Err f) mid b c → EventEnds kind detail old (kind.calm total) (Err f) mid a c
+  round_ends_so detail count total old now mid fault.OutOfMemory a b c h lt k =
+      let left : ℕ = total - (count + 1) in
+      let same : count + suc left ≡ total = omega (arith, lt) in
+      let one = k.is_shown in
+      let longer : Writes detail (StopsBy kind now (kind.calm (suc left)) mid) b c = record {
+        shown = k.shown;
+        is_shown = record { outcome = one.outcome; gives = is.ends left now mid one.outcome one.gives one.stops; stops = one.stops; gains = one.gains; lines = one.lines };
+        written = k.written;
+      } in
+      subst (λ (n : ℕ). Writes detail (StopsBy kind old (kind.calm n) mid) a c) same (after_stops detail count left old now mid a b c h longer)
+  round_ends_so detail count total old now mid fault.CannotWrite a b c h lt k = (
+    [],
+    record {
+      processed = kind.calm (count + 1);
+      begins = subst (λ (o : Option ℕ). BeginsAs kind o (kind.calm total) (kind.calm (count + 1))) (sym (is.has_rounds total)) (count + 1, refl, omega (arith, lt));
+      outcome = k.0;
+      gives = (let one : count + suc 0 ≡ count + 1 = omega arith in subst (λ (n : ℕ). kind.gives old (kind.calm n) k.0 mid) one (after_gives detail count 0 old now mid k.0 a b h k.1));
+      unknown = refl;
+    },
+  )
+
+  -- the end of a calm, of which the rounds that are left change nothing
+  pub rounds_end : (detail : Detail) (count left total : ℕ) (old now : S) (a b : Option (List ℕ)) → HaveRounds kind detail count old now a b → 0 < count → count + left ≡ total → ((n : ℕ) → kind.gives now (kind.calm n) kind.done now) → EventEnds kind detail old (kind.calm total) (Ok tt) now a b
+  rounds_end detail zero left total old now a b h some sum rest = absurd (omega (arith, some))
+  rounds_end detail (suc n) zero total old now a b h some sum rest =
+      let same : suc n ≡ total = omega (arith, sum) in subst (λ (m : ℕ). Writes detail (HappensBy kind old (kind.calm m) now) a b) same h
+  rounds_end detail (suc n) (suc k) total old now a b h some sum rest =
+      subst (λ (m : ℕ). Writes detail (HappensBy kind old (kind.calm m) now) a b) sum
+      (after_more detail (suc n) k old now now a b b h (record { shown = []; is_shown = rest_happens (suc k) now (rest (suc k)); written = Appends-nil b }))
+
+  -- and of one that has passed whole
+  pub all_passed : (detail : Detail) (count total : ℕ) (old now : S) (a b : Option (List ℕ)) → HaveRounds kind detail count old now a b → 0 < count → count ≡ total → EventEnds kind detail old (kind.calm total) (Ok tt) now a b
+  all_passed detail zero total old now a b h some same = absurd (omega (arith, some))
+  all_passed detail (suc n) total old now a b h some same = subst (λ (m : ℕ). Writes detail (HappensBy kind old (kind.calm m) now) a b) same h
+
+  -- a calm is handed on, or rests
+  pub calm_seen : (rounds : ℕ) (new : S) (flushed : Bool) → HandsOn (Some rounds) (kind.rests new) flushed → IsSeenBy kind (kind.calm rounds) new flushed
+  calm_seen rounds new flushed h = subst (λ (o : Option ℕ). HandsOn o (kind.rests new) flushed) (sym (is.has_rounds rounds)) h
+
+  -- an event that is a calm
+  pub calm_event : (detail : Detail) (old : S) (e : E) (rounds : ℕ) (r : Result (Unit {0}) ReplayFault) (new : S) (a b : Option (List ℕ)) → kind.rounds e ≡ Some rounds → EventEnds kind detail old (kind.calm rounds) r new a b → EventEnds kind detail old e r new a b
+  calm_event detail old e rounds r new a b has h = subst (λ (x : E). EventEnds kind detail old x r new a b) (sym (is.is_calm e rounds has)) h

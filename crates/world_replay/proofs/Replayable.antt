@@ -1,0 +1,104 @@
+-- What a replay needs of worlds, of those with strangers as well.
+use Rattle.world_replay.proofs.Common.{◌≡◌, ℕ, ◌+◌, zero, suc, Bool, true, false, List, ◌++◌, Option, None, Some, Result, Ok, Err, refl, ap, ap₂, sym, subst, ◌∙◌, arith, Calls, CalmGives, Calms, WorldState, stops, WorldFault, WorldEvent, Kept, Gains}
+use Rattle.net_sim.specs.MixedWorlds.{MixedCalmGives, MixedFault, MixedState, mixed_answer, mixed_stops}
+use Rattle.world_replay.specs.Gains.{gained}
+use Rattle.world_replay.specs.Kinds.{mixed_kind, mixed_rounds}
+use Rattle.world_replay.specs.Output.{Shown}
+use Rattle.world_replay.specs.Replay.{rounds_in, world_kind}
+use Rattle.world_replay.specs.Steps.{IsReplayable}
+use Rattle.world_replay.proofs.CalmRounds.{in_rounds, parted}
+use Rattle.world_replay.proofs.Grown.{Grew, grew_more}
+use Rattle.world_replay.proofs.Mixed.{mixed_event_gains}
+use Rattle.world_replay.proofs.Replays.{calm_grows, event_gains, gained_more, gains_once, same_news}
+use Rattle.world_replay.proofs.Rounds.{calm_one, calm_stopped, done_runs, is_false, is_true, round_ends, when_false, when_true}
+use Rattle.world_script.specs.declared.event.WorldEvent.TheVariants as event
+use Rattle.world_script.specs.declared.event.MixedWorldEvent.{MixedWorldEvent}
+use Rattle.world_script.specs.declared.event.MixedWorldEvent.TheVariants as mixed
+
+abbrev Answer : Type 0
+Answer = Result (Unit {0}) WorldFault
+
+world_calm : (e : WorldEvent) (n : ℕ) → rounds_in e ≡ Some n → e ≡ event.Calm n
+world_calm (event.Happen e) n has = absurd (let no : None ≡ Some n = has in cc)
+world_calm (event.Calm m) n has = ap event.Calm (let same : Some m ≡ Some n = has in cc)
+
+mixed_calm : (e : MixedWorldEvent) (n : ℕ) → mixed_rounds e ≡ Some n → e ≡ mixed.Calm n
+mixed_calm (mixed.Happen e) n has = absurd (let no : None ≡ Some n = has in cc)
+mixed_calm (mixed.Calm m) n has = ap mixed.Calm (let same : Some m ≡ Some n = has in cc)
+
+-- a world with strangers answers as well as its world whether memory has run out
+same_stops : (a : Answer) → mixed_stops (mixed_answer a) ≡ stops a
+same_stops (Ok done) = refl
+same_stops (Err f) = refl
+
+pub lasts_there : (r : Result (Unit {0}) MixedFault) (a : Answer) → r ≡ mixed_answer a → mixed_stops r ≡ false → stops a ≡ false
+lasts_there r a is on = sym (same_stops a) ∙ ap mixed_stops (sym is) ∙ on
+
+stops_there : (r : Result (Unit {0}) MixedFault) (a : Answer) → r ≡ mixed_answer a → mixed_stops r ≡ true → stops a ≡ true
+stops_there r a is halts = sym (same_stops a) ∙ ap mixed_stops (sym is) ∙ halts
+
+module _ {C : Type 0} (calls : Calls C) where
+  -- rounds in which memory lasts, and then further ones
+  calms_on : (n k : ℕ) (old mid new : WorldState C) (r q : Answer) → stops r ≡ false → Calms calls n old r mid → Calms calls k mid q new → Calms calls (n + k) old q new
+  calms_on zero k old mid new r q on (done, same) h =
+      let none : k ≡ 0 + k = omega arith in subst (λ (n : ℕ). Calms calls n old q new) none (subst (λ (w : WorldState C). Calms calls k w q new) same h)
+  calms_on (suc n) k old mid new r q on g h =
+      let (first, round, left) = parted calls n old mid r on g in
+      let later : Calms calls (n + k) first q new = calms_on n k first mid new r q on left h in
+      let one : Calms calls 1 old (Ok tt) first = is_false _ _ old.stopped (done_runs calls 1 old first (Ok tt) refl old.stopped refl round) round in
+      let count : suc (n + k) ≡ suc n + k = omega arith in
+      subst (λ (n : ℕ). Calms calls n old q new) count (calm_one calls (n + k) old first (Ok tt) q new refl one later).1
+
+  passes : (k : ℕ) (now new : WorldState C) (q : Answer) → CalmGives calls (suc k) now q new → (b : Bool) → now.stopped ≡ b → Calms calls (suc k) now q new
+  passes k now new q h true is = calm_stopped calls k now new q is (is_true _ _ now.stopped is h)
+  passes k now new q h false is = is_false _ _ now.stopped is h
+
+  more : (n k : ℕ) (old mid new : WorldState C) (r q : Answer) → CalmGives calls (suc n) old r mid → stops r ≡ false → CalmGives calls (suc k) mid q new → CalmGives calls (suc n + suc k) old q new
+  more n k old mid new r q g on h =
+      let runs : old.stopped ≡ false = done_runs calls (suc n) old mid r on old.stopped refl g in
+      when_false _ _ old.stopped runs (calms_on (suc n) (suc k) old mid new r q on (is_false _ _ old.stopped runs g) (passes k mid new q h mid.stopped refl))
+
+  well : (n : ℕ) (old : WorldState C) (r : Answer) (new : WorldState C) → CalmGives calls n old r new → stops r ≡ false → r ≡ Ok tt
+  well n old r new g on = (in_rounds calls n old new r on (is_false _ _ old.stopped (done_runs calls n old new r on old.stopped refl g) g)).0
+
+  ends : (k : ℕ) (old new : WorldState C) (r : Answer) → CalmGives calls 1 old r new → stops r ≡ true → (b : Bool) → old.stopped ≡ b → CalmGives calls (suc k) old r new
+  ends k old new r g halts true is = when_true _ _ old.stopped is (is_true _ _ old.stopped is g)
+  ends k old new r g halts false is = when_false _ _ old.stopped is (round_ends calls k old new r halts g old.stopped refl)
+
+  shows : (n k : ℕ) (old mid new : WorldState C) (r q : Answer) → CalmGives calls n old r mid → CalmGives calls k mid q new → (g : Gains old.kept mid.kept) (h : Gains mid.kept new.kept) (all : Gains old.kept new.kept) → gained all ≡ gained g ++ gained h
+  shows n k old mid new r q first then g h all =
+      let one : Grew old.kept mid.kept = calm_grows calls n old r mid first in
+      let two : Grew mid.kept new.kept = calm_grows calls k mid q new then in
+      let both : Gains old.kept new.kept = (grew_more old.kept mid.kept new.kept one two).gains in
+      same_news old.kept new.kept new.kept all both (gains_once old.kept new.kept new.kept all both refl)
+      ∙ gained_more old.kept mid.kept new.kept one two
+      ∙ ap₂ (λ (xs ys : List Shown). xs ++ ys) (same_news old.kept mid.kept mid.kept one.gains g (gains_once old.kept mid.kept mid.kept one.gains g refl))
+      (same_news mid.kept new.kept new.kept two.gains h (gains_once mid.kept new.kept new.kept two.gains h refl))
+
+  pub world_replayable : IsReplayable (world_kind calls)
+  world_replayable = record {
+    has_rounds = λ n. refl;
+    is_calm = world_calm;
+    lasts = refl;
+    unrefused = refl;
+    well = λ n old r new g on. well n old r new g on;
+    gains = λ e old r new h. event_gains calls e old r new h;
+    more = λ n k old mid new r q g on h. more n k old mid new r q g on h;
+    shows = λ n k old mid new r q first then g h all. shows n k old mid new r q first then g h all;
+    ends = λ k old new r g halts. ends k old new r g halts old.stopped refl;
+  }
+
+  -- ---- with strangers, a calm is that of the world
+
+  pub mixed_replayable : IsReplayable (mixed_kind calls)
+  mixed_replayable = record {
+    has_rounds = λ n. refl;
+    is_calm = mixed_calm;
+    lasts = refl;
+    unrefused = refl;
+    well = λ n old r new (a, g, is, same) on. is ∙ ap mixed_answer (well n old.world a new.world g (lasts_there r a is on));
+    gains = λ e old r new h. mixed_event_gains calls e old r new h;
+    more = λ n k old mid new r q (a, g, is, same) on (b, h, so, alike). (b, more n k old.world mid.world new.world a b g (lasts_there r a is on) h, so, alike ∙ same);
+    shows = λ n k old mid new r q first then g h all. shows n k old.world mid.world new.world first.0 then.0 first.1 then.1 g h all;
+    ends = λ k old new r (a, g, is, same) halts. (a, ends k old.world new.world a g (stops_there r a is halts) old.world.stopped refl, is, same);
+  }

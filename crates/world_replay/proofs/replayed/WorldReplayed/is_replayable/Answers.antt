@@ -1,0 +1,6 @@
+use Rattle.world_replay.proofs.Common.{shown}
+use Rattle.world_replay.proofs.Replayable.{world_replayable}
+use Rattle.world_replay.proofs.replayed.WorldReplayed.is_replayable.Goals as goal
+
+pub returns : goal.returns
+returns g c = world_replayable (shown g.C.Carrier.calls)

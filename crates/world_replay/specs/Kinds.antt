@@ -1,0 +1,116 @@
+-- The events of a script over any kind of world, and what they show. `Replay` says the same of worlds whose hosts all run the program.
+use Rattle.std.specs.Prelude.{◌≡◌, ◌⊎◌, ℕ, ◌<◌, ◌≤◌, Bool, true, false, List, [], ◌∷◌, ◌++◌, Option, Some, None, Ok}
+use Rattle.interface.specs.Calls.{Calls}
+use Rattle.net_sim.specs.Book.{Kept}
+use Rattle.net_sim.specs.Rest.{IsAtRest}
+use Rattle.net_sim.specs.MixedWorlds.{MixedCalmGives, MixedFault, MixedState, MixedStepGives, mixed_stops}
+use Rattle.replay.specs.InTurn.{EndsInTurn, Happening, InTurn}
+use Rattle.std.specs.Prelude.{Result}
+use Rattle.world_replay.specs.Gains.{Gains, gained}
+use Rattle.world_replay.specs.Output.{Shown, mixed_refusal}
+use Rattle.world_script.specs.declared.event.MixedWorldEvent.{MixedWorldEvent}
+use Rattle.world_script.specs.declared.event.MixedWorldEvent.TheVariants as mixed
+
+-- a kind of world, with the events of its scripts, as a replay sees it
+pub record Kind (S E : Type 0) : Type 1 where
+  -- what is kept of a world
+  pub kept : S → Kept
+  -- what an event is answered, and the answer where all is done
+  pub Answer : Type 0
+  pub done : Answer
+  -- how one event may go: the world before, the event, the answer, and the world after
+  pub gives : S → E → Answer → S → Type 0
+  -- whether memory has run out, and the refusal that is shown, if there is one
+  pub stops : Answer → Bool
+  pub refusal : Answer → List Shown
+  -- the calm of this many rounds, and how many rounds an event has that is a calm
+  pub calm : ℕ → E
+  pub rounds : E → Option ℕ
+  -- the world rests
+  pub rests : S → Type 0
+
+-- ---- events that happen
+
+-- one event happens, refused or not, and shows what its world's book gained, each notice after the crossings that were before
+-- it and each report after its notice, and then its refusal. Of a single event these are its crossings and then its notices with
+-- their reports, and of a calm those of each of its events in turn, without the refusals
+pub record HappensBy {S E : Type 0} (kind : Kind S E) (old : S) (e : E) (new : S) (shown : List Shown) : Type 0 where
+  pub outcome : kind.Answer
+  pub gives : kind.gives old e outcome new
+  pub goes_on : kind.stops outcome ≡ false
+  pub gains : Gains (kind.kept old) (kind.kept new)
+  pub lines : shown ≡ gained gains ++ kind.refusal outcome
+
+-- the events happen one after the other, and show these lines together
+abbrev pub ReplaysBy : {S E : Type 0} → Kind S E → S → List E → S → List Shown → Type 0
+ReplaysBy kind old events new shown = InTurn (HappensBy kind) old events new shown
+
+-- ---- a replay that ends early, in one of its events
+
+-- memory ran out at this event: a calm shows what its world's book gained before that, and a single event nothing
+pub record StopsBy {S E : Type 0} (kind : Kind S E) (old : S) (e : E) (new : S) (shown : List Shown) : Type 0 where
+  pub outcome : kind.Answer
+  pub gives : kind.gives old e outcome new
+  pub stops : kind.stops outcome ≡ true
+  pub gains : Gains (kind.kept old) (kind.kept new)
+  pub lines : shown ≡ gained gains
+
+-- the first rounds of a calm of so many; any other event is whole
+abbrev pub BeginsAs : {S E : Type 0} → Kind S E → Option ℕ → E → E → Type 0
+BeginsAs kind None e first = first ≡ e
+BeginsAs kind (Some rounds) e first = (fewer : ℕ) × (first ≡ kind.calm fewer) × (fewer ≤ rounds)
+
+abbrev pub BeginsBy : {S E : Type 0} → Kind S E → E → E → Type 0
+BeginsBy kind e first = BeginsAs kind (kind.rounds e) e first
+
+-- the world processed this event, or the first rounds of a calm, and may have answered anything; how much was written of what it showed the writer
+-- only knows
+pub record MayDoBy {S E : Type 0} (kind : Kind S E) (old : S) (e : E) (new : S) (shown : List Shown) : Type 0 where
+  pub processed : E
+  pub begins : BeginsBy kind e processed
+  pub outcome : kind.Answer
+  pub gives : kind.gives old processed outcome new
+  pub unknown : shown ≡ []
+
+-- the events before the last one happened, the last one went as is said, and these lines were shown by then
+abbrev pub EndsBy : {S E : Type 0} → Kind S E → Happening S E Shown → S → List E → S → List Shown → Type 0
+EndsBy kind Goes old events new shown = EndsInTurn (HappensBy kind) Goes old events new shown
+
+-- ---- when what a long calm prints is handed on
+
+-- a calm of more than 64 rounds has come to rest, or all that it printed is handed on
+abbrev pub HandsOn : Option ℕ → Type 0 → Bool → Type 0
+HandsOn None Rests flushed = Unit {0}
+HandsOn (Some rounds) Rests flushed = 64 < rounds → Rests ⊎ (flushed ≡ true)
+
+abbrev pub IsSeenBy : {S E : Type 0} → Kind S E → E → S → Bool → Type 0
+IsSeenBy kind e new flushed = HandsOn (kind.rounds e) (kind.rests new) flushed
+
+-- so it is where events end with one
+abbrev pub EndsSeenBy : {S E : Type 0} → Kind S E → List E → S → Bool → Type 0
+EndsSeenBy kind [] new flushed = Unit {0}
+EndsSeenBy kind (e ∷ []) new flushed = IsSeenBy kind e new flushed
+EndsSeenBy kind (e ∷ next ∷ events) new flushed = EndsSeenBy kind (next ∷ events) new flushed
+
+-- ---- worlds with strangers
+
+abbrev pub MixedEventGives : {C : Type 0} → Calls C → MixedState C → MixedWorldEvent → Result (Unit {0}) MixedFault → MixedState C → Type 0
+MixedEventGives calls old (mixed.Happen e) r new = MixedStepGives calls old e r new
+MixedEventGives calls old (mixed.Calm rounds) r new = MixedCalmGives calls rounds old r new
+
+abbrev pub mixed_rounds : MixedWorldEvent → Option ℕ
+mixed_rounds (mixed.Happen e) = None
+mixed_rounds (mixed.Calm rounds) = Some rounds
+
+abbrev pub mixed_kind : {C : Type 0} → Calls C → Kind (MixedState C) MixedWorldEvent
+mixed_kind {C} calls = record {
+  kept = λ (s : MixedState C). s.world.kept;
+  Answer = Result (Unit {0}) MixedFault;
+  done = Ok tt;
+  gives = MixedEventGives calls;
+  stops = mixed_stops;
+  refusal = mixed_refusal;
+  calm = mixed.Calm;
+  rounds = mixed_rounds;
+  rests = λ (s : MixedState C). IsAtRest calls s.world;
+}
