@@ -46,4 +46,6 @@ items_of [] = no_items
 items_of (n ∷ numbers) = item (integer (pos n)) (items_of numbers)
 
 abbrev pub naming : ℕ → ℕ → List ℕ → Items
-naming id hosts numbers = item (table (member (codes "foreign") (array (items_of numbers)) (member (codes "hosts") (integer (pos hosts)) (member (codes "id") (integer (pos id)) no_members)))) no_items
+naming id hosts numbers =
+    item (table (member (codes "foreign") (array (items_of numbers))
+    (member (codes "hosts") (integer (pos hosts)) (member (codes "id") (integer (pos id)) no_members)))) no_items

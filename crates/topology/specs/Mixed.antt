@@ -1,5 +1,6 @@
 -- Topologies some of whose hosts are strangers, that run no program, and the documents that describe them.
-use Rattle.std.specs.Prelude.{◌≡◌, ℕ, ◌+◌, ◌==◌, ◌&&◌, ◌||◌, nat_le, nat_lt, not, Bool, true, false, List, filter, length, Option, Some, None, option_and_then, if◌then◌else◌, codes}
+use Rattle.std.specs.Prelude.{◌≡◌, ℕ, ◌+◌, ◌==◌, ◌&&◌, ◌||◌, nat_le, nat_lt, not, Bool, true, false, List, filter}
+use Rattle.std.specs.Prelude.{length, Option, Some, None, option_and_then, if◌then◌else◌, codes}
 use Rattle.std.specs.List.{All}
 use Rattle.toml.specs.Data.{Data, Items, no_items, item, Members, table, as_array, get}
 use Rattle.toml.specs.Parse.{parse_document}
@@ -37,7 +38,8 @@ next_of (Some n) = n + 1
 -- numbers from the least to below the limit, each greater than the one before
 abbrev pub are_rising : ℕ → ℕ → Items → Bool
 are_rising least limit no_items = true
-are_rising least limit (item d items) = is_between least limit (number_of d) && are_rising (next_of (number_of d)) limit items
+are_rising least limit (item d items) =
+    is_between least limit (number_of d) && are_rising (next_of (number_of d)) limit items
 
 -- numbers of hosts that an IMP has, where it has this many: each once, and rising
 abbrev pub are_numbers : Option ℕ → Option Items → Bool
@@ -88,7 +90,8 @@ mixed_if right m = if right && (not m.network.raw && nat_le 1 (length m.stranger
 
 abbrev pub mixed_by : Items → Option TopologyFields → Option MixedFields
 mixed_by imps None = None
-mixed_by imps (Some network) = mixed_if (all_foreign imps) (record { network = network; strangers = filter (is_foreign imps) (hosts_of network) })
+mixed_by imps (Some network) =
+    mixed_if (all_foreign imps) (record { network = network; strangers = filter (is_foreign imps) (hosts_of network) })
 
 -- the topology with strangers that a document's value describes
 abbrev pub mixed_of : Data → Option MixedFields

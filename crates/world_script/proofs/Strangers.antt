@@ -1,5 +1,8 @@
 -- Events of a world with strangers as lines, and that no two are spelled alike.
-use Rattle.std.proofs.Common.{◌≡◌, ◌≢◌, ℕ, List, ◌∷◌, ◌++◌, codes, refl, sym, ap, ◌∙◌, subst, inl, inr, ◌⊎◌}
+use Rattle.std.proofs.Common.{◌≡◌, ◌≢◌, ℕ, List, ◌∷◌, ◌++◌, codes, refl, sym, ap, ◌∙◌, subst, inl, inr}
+use Rattle.std.proofs.Common.{Result, Ok, Err, IfErr}
+use Rattle.std.proofs.lemmas.Bool.{false≢true}
+use Rattle.std.specs.Str.{bytes_eq}
 use Rattle.interface.specs.declared.event.NetEvent.{NetEvent}
 use Rattle.interface.specs.declared.event.NetEvent.TheVariants as net
 use Rattle.interface.specs.declared.message.HostMessage.{HostMessage}
@@ -51,7 +54,7 @@ net_first (net.HostUp h) e = absurd (cc)
 net_first (net.GiveUp f) e = absurd (cc)
 net_first (net.Forget at from) e = absurd (cc)
 net_first (net.Abandon f) e = absurd (cc)
-net_first (net.Ask f) e = absurd (cc)
+net_first (net.Ask f) e = false≢true (ap (λ (word : List ℕ). bytes_eq word (codes "ask")) e)
 
 -- no line of any world begins with a stranger's word
 other_first : (x : WorldEvent) → codes "out" ≢ first x
@@ -101,6 +104,10 @@ spelled_among (world.Calm n) = refl
 pub meant_among : (e : WorldEvent) → IsWorldEvent e → IsMixedEvent (among e)
 meant_among (world.Happen e) meant = meant
 meant_among (world.Calm n) meant = meant
+
+pub if_err : {T E P : Type 0} (r : Result T E) → P → IfErr r (λ e. P)
+if_err (Ok x) p = tt
+if_err (Err e) p = p
 
 pub wants_among : (line : List ℕ) → WantsMemory line → WantsMixed line
 wants_among line (inl read) = inr (inl read)

@@ -53,10 +53,10 @@ fn read_event(alloc: Global, line: &[u8]) -> Result<Option<WorldEvent>, AllocErr
     ensures read { IfOk result (ReadsAs world_spelling IsWorldEvent line.now) }
     ensures memory { IfErr result (λ _. WantsMemory line.now) }
 {
-    match cut(line, b' ') {
-        Some((word, rest)) => read_words(alloc, word, rest),
-        None => Ok(None),
-    }
+    let Some((word, rest)) = cut(line, b' ') else {
+        return Ok(None);
+    };
+    read_words(alloc, word, rest)
 }
 
 /// Returns the event of a line, from its first word and what follows it.

@@ -6,4 +6,6 @@ use Rattle.topology.proofs.Documents.{behind}
 use Rattle.topology.proofs.network.each_imp.Given as goal
 
 abbrev pub invariant-loop-value : goal.invariant-loop-value
-invariant-loop-value l = each_of (imp_naming l.may_name) (items_view l.values) ≡ behind l.imps.items (each_of (imp_naming l.may_name) (items_view (drop l.value-index l.values)))
+invariant-loop-value l =
+    each_of (imp_naming l.may_name) (items_view l.values)
+    ≡ behind l.imps.items (each_of (imp_naming l.may_name) (items_view (drop l.value-index l.values)))

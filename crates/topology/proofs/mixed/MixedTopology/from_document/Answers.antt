@@ -11,6 +11,7 @@ invariant_of-result c = record {
   programs = search rules;
   some = search rules;
   hosts =
-      named_there (is_foreign (items_view c.listed-imps.result.now)) c.deref.result.now (hosts_of c.in_ok-network.network) c.in_ok-strangers.strangers.items
+      named_there (is_foreign (items_view c.listed-imps.result.now)) c.deref.result.now (hosts_of c.in_ok-network.network)
+      c.in_ok-strangers.strangers.items
       c.in_ok-strangers.ensures (c.deref.ensures.value ∙ c.in_ok-hosts.ensures.all);
 }
