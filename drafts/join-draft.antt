@@ -1,0 +1,31 @@
+-- Terms for the goals that are left in command_line on branch `join` (not checked; a check with --allow-holes prints the goals' names).
+
+-- mixed::replay_mixed_on: strangers are there, over each of the two carriers (`requires there`; `all_there` of proofs/Strangers.antt)
+--   `subst (λ (named : List Host). absent_in (hosts_of c.args.topology.now.network) named ≡ None) (sym c.strangers.ensures.all)
+--        (all_there (hosts_of c.args.topology.now.network) c.args.topology.now.strangers c.strangers.ensures.there)`
+--   with the carrier's hosts rewritten by c.in_ok-hosts.ensures.all (plain) or by c.in_ok-carrier-in-Subnet.ensures and c.network.ensures (subnet)
+-- mixed::replay_mixed_on, of the subnet:
+--   stopped:  λ e. mixed_over_part kind.Subnet c.args.topology.now c.args.detail c.args.events.items a b is
+--             (subst (λ (k : Kept). Keeps a b ⊎ lines.Writes c.args.detail (MixedStopsFrom subnet_calls c.args.topology.now.strangers k c.args.events.items) a b)
+--              (c.in_ok-carrier-in-Subnet.ensures ∙ ap subnet_of c.network.ensures) (c.replay_mixed-in-Subnet.ensures.stopped e))
+--   replayed: the same with mixed_over_all and WritesWorld book detail (MixedShowsFrom ..)
+--
+-- simulator::follow, input without strangers, replayed:
+--   read:     plain_read c.args.octets.now c.replay_on.result (network, asked_of events, c.in-Ok.ensures.read) c.replay_on.ensures.fault
+--   replayed: λ off. plain_replayed c.args.octets.now network (asked_of events) book detail c.replay_on.result a b c.in-Ok.ensures.read c.replay_on.ensures.replayed
+--   stopped:  λ e. plain_stopped c.args.octets.now network (asked_of events) detail a b c.in-Ok.ensures.read (c.replay_on.ensures.stopped e)
+--   only read (then-check): plain_read .. c.write_ok.result (network, asked_of events, ..) (write_fault c.write_ok.result c.write_ok.ensures.fault)
+-- simulator::follow, bad topology:
+--   read:     either_read c.args.octets.now c.follow_mixed.result c.in-Err-BadTopology.ensures.fault c.follow_mixed.ensures.read
+--   replayed: λ off. either_replayed c.args.octets.now book detail c.follow_mixed.result a b (c.follow_mixed.ensures.replayed off)
+--   stopped:  λ e. either_stopped c.args.octets.now detail a b (c.follow_mixed.ensures.stopped e)
+--   fault:    follow_fault c.args.octets.now c.follow_mixed.result c.follow_mixed.ensures.read
+-- simulator::follow, any other fault f:
+--   read:     plain_fault c.args.octets.now f not_topology c.in-Err.ensures.read_only c.in-Err.ensures.fault
+--   failed:   unwritten result f (g.W.Output.failed c.args.writer.now) refl c.in-Err.ensures.read_only c.requires.writes
+--
+-- simulator::follow_mixed:
+--   read:     mixed_read c.args.octets.now c.replay_mixed_on.result (network, events.items, c.in_ok-...ensures.read) c.replay_mixed_on.ensures.fault
+--   replayed: λ off. mixed_replayed c.args.octets.now network events.items book detail c.replay_mixed_on.result a b read c.replay_mixed_on.ensures.replayed
+--   stopped:  λ e. mixed_stopped c.args.octets.now network events.items detail a b read (c.replay_mixed_on.ensures.stopped e)
+--   failed, of an input that isn't read: unwritten .. c.in_err-...ensures.read_only c.requires.writes
