@@ -12,7 +12,11 @@ Two hosts talk over plain mailboxes, and over a chain of four IMPs:
 - connections that open and close, one after the other;
 - the same beside a connection that stays open from before the first of them to the end;
 - lines that are typed at a terminal, each of which comes back from the other host's echo service before the next one;
-- initial connections, one after the other, each closed before the next one.
+- initial connections, one after the other, each closed before the next one;
+- lines that are typed in bulk: no calm passes between them;
+- ECOs, one after the other, each of which is answered before the next one;
+- contacts, one after the other: each has both hosts go through a reset again;
+- restarts: a host is stopped and comes up, one contacts it, and a connection opens.
 
 Over plain mailboxes only:
 
@@ -142,6 +146,27 @@ def initial(other: str, rounds: int, count: int) -> Script:
     return lines, {"done": 2 * count, "opened": 6 * count, "ended": 6 * count}
 
 
+def in_bulk(other: str, rounds: int, count: int) -> Script:
+    lines = ready(other, rounds) + asked(other, rounds) + ["type 0/1 A"] * count
+    return [*lines, f"calm {6 * rounds + count}"], {"line": count, "done": 2}
+
+
+def echoes(other: str, rounds: int, count: int) -> Script:
+    return ready(other, rounds) + [f"echo 0/1 {other} 7", f"calm {2 * rounds}"] * count, {"echoed": count}
+
+
+def contacts(other: str, rounds: int, count: int) -> Script:
+    return ready(other, rounds) + [f"contact 0/1 {other}", f"calm {4 * rounds}"] * count, {"ready": count + 2}
+
+
+def restarts(other: str, rounds: int, count: int) -> Script:
+    lines = ready(other, rounds)
+    for _ in range(count):
+        lines += [f"hostdown {other}", f"hostup {other}", f"contact 0/1 {other}", f"calm {4 * rounds}"]
+        lines += opened(other, "0/1", rounds)
+    return lines, {"opened": 2 * count}
+
+
 def queued(other: str, rounds: int, count: int) -> Script:
     lines = ready(other, rounds) + [f"echo 0/1 {other} 7"] * count
     return [*lines, f"calm {count}"], {"echoed": count}
@@ -227,6 +252,10 @@ MEASURED: list[tuple[str, Make, list[str], list[tuple[int, ...]]]] = [
     ("the same beside an open connection", beside_one, BETWEEN_TWO, [(1_000, 10_000)]),
     ("lines typed", typed, BETWEEN_TWO, [(2_000, 20_000)]),
     ("initial connections", initial, BETWEEN_TWO, [(100, 1_000)]),
+    ("lines typed in bulk", in_bulk, BETWEEN_TWO, [(400, 4_000)]),
+    ("ECOs one after the other", echoes, BETWEEN_TWO, [(2_000, 20_000)]),
+    ("contacts one after the other", contacts, BETWEEN_TWO, [(2_000, 20_000)]),
+    ("restarts", restarts, BETWEEN_TWO, [(600, 6_000)]),
     ("ECOs that wait", queued, BETWEEN_TWO[:1], [(6_000, 60_000)]),
     ("sockets that listen", listening, BETWEEN_TWO[:1], [(3_000, 30_000)]),
     ("servers that wait", waiting, BETWEEN_TWO[:1], [(3_000, 30_000)]),
