@@ -354,13 +354,12 @@ module _ (orders : Orders) (strange : Host → Bool) (hosts : List Host) (a : Ho
   placed [] mixed p = tt
   placed (x ∷ moments) mixed p =
       moved_ends orders strange hosts a off p moments (Placed a p (crossings_of (x ∷ moments)))
-      (placed_quiet a p (crossings_of (x ∷ moments))) x mixed (moved x) (grown x) where
-        old : Ends (Placed a p (crossings_of moments)) p (program a moments)
-        old = placed moments (older orders strange hosts x moments mixed) p
-
-        grown : (y : Moment) → Ends (Placed a p (crossings_of (y ∷ moments))) p (program a moments)
-        grown (Asked g r) = old
-        grown (Crossed c) = each_weaker (Placed a p (crossings_of moments)) (Placed a p (c ∷ crossings_of moments))
+      (placed_quiet a p (crossings_of (x ∷ moments))) x mixed (moved x)
+      (grown x (placed moments (older orders strange hosts x moments mixed) p)) where
+        grown : (y : Moment) → Ends (Placed a p (crossings_of moments)) p (program a moments)
+            → Ends (Placed a p (crossings_of (y ∷ moments))) p (program a moments)
+        grown (Asked g r) old = old
+        grown (Crossed c) old = each_weaker (Placed a p (crossings_of moments)) (Placed a p (c ∷ crossings_of moments))
             (pair_with p (program a moments).peers).entries (placed_still a p c (crossings_of moments)) old
 
         moved : (y : Moment)

@@ -172,40 +172,42 @@ module _ (orders : Orders) (strange : Host → Bool) (hosts : List Host) (a : Ho
   pub said : (moments : List Moment) → IsMixed strange hosts moments → (p : Host)
       → Ends (HasSaid a p (crossings_of moments)) p (program a moments)
   said [] mixed p = tt
-  said (x ∷ moments) mixed p = by x mixed where
+  said (x ∷ moments) mixed p = by x mixed (said moments (older orders strange hosts x moments mixed) p) where
     below : IsMixed strange hosts moments
     below = older orders strange hosts x moments mixed
 
     queue : List Command
     queue = (pair_with p (program a moments).peers).queue
 
-    grown : (y : Moment) → Ends (HasSaid a p (crossings_of (y ∷ moments))) p (program a moments)
-    grown (Asked g r) = said moments below p
-    grown (Crossed c) = each_weaker (HasSaid a p (crossings_of moments)) (HasSaid a p (c ∷ crossings_of moments))
+    grown : (y : Moment) → Ends (HasSaid a p (crossings_of moments)) p (program a moments)
+        → Ends (HasSaid a p (crossings_of (y ∷ moments))) p (program a moments)
+    grown (Asked g r) old = old
+    grown (Crossed c) old = each_weaker (HasSaid a p (crossings_of moments)) (HasSaid a p (c ∷ crossings_of moments))
         (pair_with p (program a moments).peers).entries
-        (λ e i even b is. said_still a p c (crossings_of moments) e.own e.foreign b e.link (i even b is))
-        (said moments below p)
+        (λ e i even b is. said_still a p c (crossings_of moments) e.own e.foreign b e.link (i even b is)) old
 
     alone : (y : Moment) → IsMixed strange hosts (y ∷ moments)
         → Moved orders strange hosts a off p moments (HasSaid a p (crossings_of (y ∷ moments))) y
+        → Ends (HasSaid a p (crossings_of moments)) p (program a moments)
         → Ends (HasSaid a p (crossings_of (y ∷ moments))) p (program a (y ∷ moments))
-    alone y mixed moved =
+    alone y mixed moved old =
         moved_ends orders strange hosts a off p moments (HasSaid a p (crossings_of (y ∷ moments)))
-        (said_quiet a p (crossings_of (y ∷ moments))) y mixed moved (grown y)
+        (said_quiet a p (crossings_of (y ∷ moments))) y mixed moved (grown y old)
 
     by : (y : Moment) → IsMixed strange hosts (y ∷ moments)
+        → Ends (HasSaid a p (crossings_of moments)) p (program a moments)
         → Ends (HasSaid a p (crossings_of (y ∷ moments))) p (program a (y ∷ moments))
-    by (Crossed (crossing.Out m)) mixed =
+    by (Crossed (crossing.Out m)) mixed old =
         each_weaker (Going a p log queue) (HasSaid a p log)
         (pair_with p (program a (Crossed (crossing.Out m) ∷ moments)).peers).entries (λ e i. i.0)
         (moved_ends orders strange hosts a off p moments (Going a p log queue) (going_quiet a p log queue)
         (Crossed (crossing.Out m)) mixed
         (λ flow n reads. goes a p log m (places moments) n queue flow (inl (refl, places_same moments)) reads)
         (each_beside (HasSaid a p log) (λ e. All (Fits e) queue) (pair_with p (program a moments).peers).entries
-        (fitting orders strange hosts a off moments below p) (grown (Crossed (crossing.Out m))))) where
+        (fitting orders strange hosts a off moments below p) (grown (Crossed (crossing.Out m)) old))) where
           log : List Crossing
           log = crossing.Out m ∷ crossings_of moments
-    by (Crossed (crossing.In m)) mixed = alone (Crossed (crossing.In m)) mixed
-        (λ flow. hears a p (crossing.In m ∷ crossings_of moments) (places moments) (orders_of m.text))
-    by (Asked g r) mixed = alone (Asked g r) mixed (begins a p (crossings_of moments))
-    by (Crossed c) mixed = alone (Crossed c) mixed tt
+    by (Crossed (crossing.In m)) mixed old = alone (Crossed (crossing.In m)) mixed
+        (λ flow. hears a p (crossing.In m ∷ crossings_of moments) (places moments) (orders_of m.text)) old
+    by (Asked g r) mixed old = alone (Asked g r) mixed (begins a p (crossings_of moments)) old
+    by (Crossed c) mixed old = alone (Crossed c) mixed tt old
