@@ -12,28 +12,28 @@ use Rattle.net_sim.proofs.Hosts.Serving.{serves}
 -- ---- what a call at one place leaves
 
 seat_at : (at : ℕ) (seats : List Seat) (all : List ServiceSeat) (s d : Seat) → AreHosts seats all
-    → s.host ≡ (slice_index_or seats at d).host → AreHosts (slice_set seats at s) all
-seat_at at seats all s d are mine =
-    let same : hosts_of (slice_set seats at s) ≡ hosts_of seats = map-set_same (λ (x : Seat). x.host) seats at s d mine in
+    → s.host ≡ d.host → d ≡ slice_index_or seats at d → AreHosts (slice_set seats at s) all
+seat_at at seats all s d are mine was =
+    let same : hosts_of (slice_set seats at s) ≡ hosts_of seats =
+    map-set_same (λ (x : Seat). x.host) seats at s d (mine ∙ ap (λ (x : Seat). x.host) was) in
     record { once = subst IsOnce (sym same) are.once; order = are.order ∙ sym same }
 
 pub kept_at : (at : ℕ) (seats : List Seat) (all : List ServiceSeat) (s d : Seat) (y e : ServiceSeat) → AreHosts seats all
-    → s.host ≡ (slice_index_or seats at d).host → y.host ≡ (slice_index_or all at e).host
+    → s.host ≡ d.host → d ≡ slice_index_or seats at d → y.host ≡ e.host → e ≡ slice_index_or all at e
     → AreHosts (slice_set seats at s) (slice_set all at y)
-kept_at at seats all s d y e are mine its =
-    let moved : AreHosts (slice_set seats at s) all = seat_at at seats all s d are mine in
+kept_at at seats all s d y e are mine was its had =
+    let moved : AreHosts (slice_set seats at s) all = seat_at at seats all s d are mine was in
     record {
       once = moved.once;
-      order = map-set_same (λ (x : ServiceSeat). x.host) all at y e its ∙ moved.order;
+      order = map-set_same (λ (x : ServiceSeat). x.host) all at y e (its ∙ ap (λ (x : ServiceSeat). x.host) had) ∙ moved.order;
     }
 
 -- a program was taken out of its seat, and put back
 pub put_at : (at : ℕ) (seats : List Seat) (all : List ServiceSeat) (s d t u : Seat) (y e : ServiceSeat) → AreHosts seats all
-    → s.host ≡ (slice_index_or seats at d).host → y.host ≡ (slice_index_or all at e).host
-    → t.host ≡ (slice_index_or (slice_set seats at s) at u).host
-    → AreHosts (slice_set (slice_set seats at s) at t) (slice_set all at y)
-put_at at seats all s d t u y e are mine its back =
-    seat_at at (slice_set seats at s) (slice_set all at y) t u (kept_at at seats all s d y e are mine its) back
+    → s.host ≡ d.host → d ≡ slice_index_or seats at d → t.host ≡ u.host → u ≡ slice_index_or (slice_set seats at s) at u
+    → y.host ≡ e.host → e ≡ slice_index_or all at e → AreHosts (slice_set (slice_set seats at s) at t) (slice_set all at y)
+put_at at seats all s d t u y e are mine was back is its had =
+    seat_at at (slice_set seats at s) (slice_set all at y) t u (kept_at at seats all s d y e are mine was its had) back is
 
 -- ---- what is at one place
 
@@ -53,15 +53,13 @@ up_served h hosts (Err f) are found = found
 
 -- ---- what crossings leave
 
-host_kept : (b : Bool) (p : Option NcpState) (s : Seat) → (with_program b p s).host ≡ s.host
-host_kept true p s = refl
-host_kept false p s = refl
-
 seated_order : (h : Host) (p : Option NcpState) (seats : List Seat) → hosts_of (seated h p seats) ≡ hosts_of seats
 seated_order h p [] = refl
-seated_order h p (s ∷ seats) =
-    ap (λ (g : Host). g ∷ hosts_of (seated h p seats)) (host_kept (same_host h s.host) p s)
-    ∙ ap (λ (hs : List Host). s.host ∷ hs) (seated_order h p seats)
+seated_order h p (s ∷ seats) = by (seated_order h p seats) (same_host h s.host) where
+  by : hosts_of (seated h p seats) ≡ hosts_of seats → (b : Bool)
+      → ◌≡◌ {A = List Host} ((with_program b p s).host ∷ hosts_of (seated h p seats)) (s.host ∷ hosts_of seats)
+  by rest true = ap (λ (hs : List Host). s.host ∷ hs) rest
+  by rest false = ap (λ (hs : List Host). s.host ∷ hs) rest
 
 turned_order : (cs : List Crossing) (seats : List Seat) → hosts_of (all_turned cs seats) ≡ hosts_of seats
 turned_order [] seats = refl
@@ -74,7 +72,7 @@ emptied_order [] all = refl
 emptied_order (crossing.Down h ∷ cs) all = same_order h _ (all_emptied cs all) ∙ emptied_order cs all
 emptied_order (c ∷ cs) all = emptied_order cs all
 
--- what is written back of all seats and services, where the crossings stand oldest first
+-- what is written back of all seats and services, where the crossings are oldest first
 pub seats_back : (len : ℕ) (news : List Crossing) (seats new : List Seat) → len ≡ length new → new ≡ turned_in_order news seats
     → take len (new ++ drop (length new) seats) ≡ all_turned (reverse news) seats
 seats_back len news seats new long is =

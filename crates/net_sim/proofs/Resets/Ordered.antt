@@ -119,9 +119,6 @@ request_order s (request.OpenSend peer own foreign size) a o =
     order_with peer (requested (sending_end own foreign size) (command.Str own foreign size) (pair_with peer s.peers)) s.peers a o
 request_order s (request.OpenReceive peer own foreign) a o =
     order_with peer (receiver_requested own foreign (free_link (pair_with peer s.peers).entries) (pair_with peer s.peers)) s.peers a o
-request_order s (request.Send socket bits) a o = at_order s socket (λ e. with_end socket (with_more_bits bits)) o
-request_order s (request.Grant socket messages bits) a o = at_order s socket (λ e q. commanded (command.All (link_of e.link) messages bits) (with_end socket (granted messages bits) q)) o
-request_order s (request.AskBack socket messages bits) a o = at_order s socket (λ e. commanded (command.Gvb (link_of e.link) messages bits)) o
-request_order s (request.Interrupt socket) a o = at_order s socket (λ e. commanded (interrupt_of e)) o
 request_order s (request.Close socket) a o = close_order s socket o (listens_on socket s.listening) refl
 request_order s (request.Echo peer octet) a o = order_with peer (commanded (command.Eco octet) (pair_with peer s.peers)) s.peers a o
+request_order s r a o = at_order s _ _ o

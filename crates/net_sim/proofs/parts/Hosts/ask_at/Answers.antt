@@ -1,4 +1,4 @@
-use Rattle.net_sim.proofs.Common.{Err, ap, ◌∙◌, Seat, ServiceSeat, Program}
+use Rattle.net_sim.proofs.Common.{Err, ap, ◌∙◌, Seat, Program}
 use Rattle.net_sim.proofs.Hosts.Doing.{refused_at}
 use Rattle.net_sim.proofs.Hosts.Parts.{kept_at}
 use Rattle.net_sim.proofs.parts.Hosts.ask_at.Goals as goal
@@ -12,7 +12,5 @@ returns-clause-refused c = rw (← c.self.view_is) (λ h s f sits r.
 
 pub invariant_of-self : goal.invariant_of-self
 invariant_of-self c =
-    kept_at c.args.at c.self.inside.seats.items c.self.inside.services.items c.ask.new.seat c.index_mut-2.result.now
-    c.ask.new.self c.index_mut.result.now c.self.invariant
-    (c.ask.ensures.seat ∙ ap (λ (z : Seat). z.host) c.index_mut-2.ensures.value)
-    (c.ask.ensures.host ∙ ap (λ (z : ServiceSeat). z.host) c.index_mut.ensures.value)
+    kept_at c.args.at c.self.inside.seats.items c.self.inside.services.items _ _ _ _ c.self.invariant
+    c.ask.ensures.seat c.index_mut-2.ensures.value c.ask.ensures.host c.index_mut.ensures.value

@@ -1,4 +1,4 @@
-use Rattle.net_sim.proofs.Common.{rules, length, Some, ap, ◌∙◌, Seat, ServiceSeat, Host, NcpState, ServicesState, opening_desk, user_begun}
+use Rattle.net_sim.proofs.Common.{rules, refl, length, Host, NcpState, ServicesState, opening_desk, user_begun}
 use Rattle.net_sim.proofs.Hosts.Doing.{call_done}
 use Rattle.net_sim.proofs.Hosts.Parts.{kept_at, put_at}
 use Rattle.net_sim.proofs.parts.Hosts.user_at.Goals as goal
@@ -10,16 +10,10 @@ returns-clause-done c = rw (← c.self.view_is) (λ h s x sits serves.
 
 pub invariant_of-self-in_default-begin_user : goal.invariant_of-self-in_default-begin_user
 invariant_of-self-in_default-begin_user c =
-    let out : Seat = record { host = c.index_mut.result.now.host; program = c.take.new.self } in
-    kept_at c.args.at c.self.inside.seats.items c.self.inside.services.items out c.index_mut.result.now c.begin_user.new.self
-    c.index_mut-2.result.now c.self.invariant (ap (λ (z : Seat). z.host) c.index_mut.ensures.value)
-    (c.begin_user.ensures.host ∙ ap (λ (z : ServiceSeat). z.host) c.index_mut-2.ensures.value)
+    kept_at c.args.at c.self.inside.seats.items c.self.inside.services.items _ _ _ _ c.self.invariant
+    refl c.index_mut.ensures.value c.begin_user.ensures.host c.index_mut-2.ensures.value
 
 pub invariant_of-self-2 : goal.invariant_of-self-2
 invariant_of-self-2 c =
-    let out : Seat = record { host = c.index_mut.result.now.host; program = c.take.new.self } in
-    let back : Seat = record { host = c.index_mut-3.result.now.host; program = Some c.in-Ok.program } in
-    put_at c.args.at c.self.inside.seats.items c.self.inside.services.items out c.index_mut.result.now back c.index_mut-3.result.now
-    c.begin_user.new.self c.index_mut-2.result.now c.self.invariant (ap (λ (z : Seat). z.host) c.index_mut.ensures.value)
-    (c.begin_user.ensures.host ∙ ap (λ (z : ServiceSeat). z.host) c.index_mut-2.ensures.value)
-    (ap (λ (z : Seat). z.host) c.index_mut-3.ensures.value)
+    put_at c.args.at c.self.inside.seats.items c.self.inside.services.items _ _ _ _ _ _ c.self.invariant
+    refl c.index_mut.ensures.value refl c.index_mut-3.ensures.value c.begin_user.ensures.host c.index_mut-2.ensures.value
