@@ -1,4 +1,4 @@
-use Rattle.net_sim.proofs.Common.{◌≡◌, rules, length}
+use Rattle.net_sim.proofs.Common.{rules}
 use Rattle.std.proofs.Common.{reverse}
 use Rattle.net_sim.proofs.Hosts.Parts.{seats_back, services_back, turned_hosts}
 use Rattle.net_sim.proofs.parts.Hosts.change.Goals as goal

@@ -1,4 +1,4 @@
-use Rattle.net_sim.proofs.Common.{rules, ◌≡◌, List, sym, subst, ap, ◌∙◌, shown, AreLive, IsOnce, world_ended, hosts_of, hosts_served, running, runs_out, EventGives, ServiceSeat, Seat, Calls}
+use Rattle.net_sim.proofs.Common.{rules, ◌≡◌, shown, world_ended, running, runs_out, EventGives, Calls}
 use Rattle.net_sim.specs.Inside.Core.{IsSomeWorld}
 use Rattle.net_sim.proofs.Books.SomeWorld.{core_live, followed_some}
 use Rattle.net_sim.proofs.world_core.WorldCore.step.Goals as goal

@@ -1,5 +1,4 @@
-use Rattle.net_sim.proofs.Common.{rules, ◌≡◌, List, sym, subst, ap, ◌∙◌, shown, AreLive, IsOnce, hosts_of, hosts_served, ServiceSeat, Seat, Calls}
-use Rattle.net_sim.specs.Inside.Core.{IsSomeWorld}
+use Rattle.net_sim.proofs.Common.{rules, ◌≡◌, shown, Calls}
 use Rattle.net_sim.specs.Inside.Mixed.{mixed_runs_out, mixed_with}
 use Rattle.net_sim.specs.MixedWorlds.{MixedEventGives, MixedState}
 use Rattle.net_sim.proofs.Books.HeldMixed.{followed_mixed, mixed_ended, on_now}
