@@ -1,5 +1,5 @@
 -- What the core of a world keeps is enough for its next event, whichever of its hosts are strangers.
-use Rattle.net_sim.proofs.Common.{◌≡◌, Bool, true, false, not, List, [], ◌∷◌, refl, ap, sym, subst, ◌∙◌, Calls, Seen, InOrder, Host, is_host, Kept, shown, AreLive, IsHeld, IsOnce, IsNamed, running, world_ended, WorldState, WorldFault, Seat, ServiceSeat, EventGives, StepGives}
+use Rattle.net_sim.proofs.Common.{◌≡◌, Bool, true, false, List, [], ◌∷◌, refl, sym, subst, ◌∙◌, Calls, Seen, InOrder, Host, is_host, Kept, shown, AreLive, IsHeld, IsOnce, IsNamed, running, world_ended, WorldState, WorldFault, Seat, ServiceSeat, EventGives, StepGives}
 use Rattle.std.proofs.Common.{Result}
 use Rattle.std.specs.List.{filter}
 use Rattle.interface.specs.Mailboxes.{IsRun}

@@ -1,5 +1,5 @@
 -- The hosts of a world as each call of them leaves them: each is there once, and its services are in the place of its seat.
-use Rattle.net_sim.proofs.Common.{◌≡◌, ◌<◌, ℕ, Bool, true, false, List, [], ◌∷◌, ◌++◌, drop, length, take, slice_set, Option, Ok, Err, refl, ap, sym, subst, ◌∙◌, arith, length-map, take-append_seam, Host, same_host, Crossing, IsOnce, hosts_of, hosts_served, emptied_in_order, turned_in_order, Sits, NcpState, WorldFault, Seat, ServiceSeat, opening_seats, opening_services, seated, serviced, with_program}
+use Rattle.net_sim.proofs.Common.{◌≡◌, ◌<◌, ℕ, Bool, true, false, List, [], ◌∷◌, ◌++◌, drop, length, take, slice_set, Option, Ok, Err, refl, ap, sym, subst, ◌∙◌, arith, length-map, take-append_seam, Host, same_host, Crossing, IsOnce, hosts_of, hosts_served, emptied_in_order, turned_in_order, Sits, NcpState, WorldFault, Seat, ServiceSeat, opening_seats, opening_services, seated, with_program}
 use Rattle.std.proofs.Common.{MatchResult, Result, reverse, slice_index_or}
 use Rattle.std.proofs.Math.Seq.{map-set_same}
 use Rattle.interface.specs.declared.crossing.Crossing.TheVariants as crossing

@@ -5,7 +5,7 @@ use Rattle.net_sim.proofs.world_core.WorldCore.offer_near.Goals as goal
 
 pub offer-sent-requires : goal.offer-sent-requires
 offer-sent-requires g c = record {
-  live = core_live g.C.Carrier.calls.seen c.args.self.now (search rules) (search rules) c.self.inside.hosts.seats (search rules)
+  live = core_live g.C.Carrier.calls.seen c.args.self.now (search rules) (search rules) c.self.inside.hosts.seats (search rules);
 }
 
 pub invariant_of-self : goal.invariant_of-self

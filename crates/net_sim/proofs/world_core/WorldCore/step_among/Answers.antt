@@ -7,7 +7,7 @@ use Rattle.net_sim.proofs.world_core.WorldCore.step_among.Goals as goal
 
 pub follow_mixed-done-requires : goal.follow_mixed-done-requires
 follow_mixed-done-requires g c = record {
-  live = core_live g.C.Carrier.calls.seen c.args.self.now (search rules) (search rules) c.self.inside.hosts.seats (search rules)
+  live = core_live g.C.Carrier.calls.seen c.args.self.now (search rules) (search rules) c.self.inside.hosts.seats (search rules);
 }
 
 pub invariant_of-self : goal.invariant_of-self

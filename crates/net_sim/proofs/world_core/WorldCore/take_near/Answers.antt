@@ -6,7 +6,7 @@ use Rattle.net_sim.proofs.world_core.WorldCore.take_near.Goals as goal
 
 pub take-taken-requires : goal.take-taken-requires
 take-taken-requires g c = record {
-  live = core_live g.C.Carrier.calls.seen c.args.self.now (search rules) (search rules) c.self.inside.hosts.seats (search rules)
+  live = core_live g.C.Carrier.calls.seen c.args.self.now (search rules) (search rules) c.self.inside.hosts.seats (search rules);
 }
 
 pub invariant_of-self : goal.invariant_of-self
