@@ -30,7 +30,7 @@ two_imps = item (imp_table 2 1) (item (imp_table 1 2) no_items)
 abbrev pub one_imp : ℕ → ℕ → Items
 one_imp id hosts = item (imp_table id hosts) no_items
 
--- what a document describes that lists this IMP alone
+-- what a document describes whose only IMP is this
 abbrev pub alone : ℕ → ℕ → Option TopologyFields
 alone id hosts = topology_of (document (one_imp id hosts) no_items)
 

@@ -1,5 +1,6 @@
 -- The test of streams is true exactly where they are safe, in a log with safe partners.
-use Rattle.net_sim.proofs.Common.{◌≡◌, ℕ, zero, suc, add-one, ◌+◌, ◌<◌, ◌≤◌, Bool, true, false, ◌&&◌, ◌||◌, ◌==◌, not, List, [], ◌∷◌, ◌++◌, length, take, drop, get_or, refl, ap, sym, subst, ◌∙◌, arith, inl, inr, Option, Some, None, eq-eqb, list_all, list_any, is_none, take_all, list_all_more, AreFed, AreUnmatched, eqb-true, cases_lt, Crossing, and_true, Life, is_asked, is_partner, is_match, same_bit, is_prefix, is_source, is_unmatched, some_fed, streams_hold, Name, SafePartners, SafeStreams, Match, Source, own_request, partner_request, receives, sends}
+use Rattle.net_sim.proofs.Common.{◌≡◌, ℕ, zero, suc, add-one, ◌+◌, ◌<◌, ◌≤◌, Bool, true, false, ◌&&◌, ◌||◌, ◌==◌, not, List, [], ◌∷◌, ◌++◌, length, take, drop, get_or, refl, ap, sym, subst, ◌∙◌, arith, inl, inr, Option, Some, None, eq-eqb, list_all, list_any, is_none, take_all, AreFed, AreUnmatched, eqb-true, cases_lt, Crossing, and_true, Life, is_asked, is_partner, is_match, same_bit, is_prefix, is_source, is_unmatched, some_fed, streams_hold, Name, SafePartners, SafeStreams, Match, Source, own_request, partner_request, receives, sends}
+use Rattle.std.proofs.lemmas.List.Folds.{list_all_more}
 use Rattle.std.proofs.Common.{ap₂}
 use Rattle.std.specs.List.{slice_get}
 use Rattle.net_sim.specs.Inside.Audit.{asked_at, same_found, is_fed, is_handed, handed_at, are_handed, Found}
