@@ -1,5 +1,6 @@
 -- What is written where memory runs out before anything is replayed.
-use Rattle.command_line.proofs.Common.{◌≡◌, ◌⊎◌, inl, inr, ℕ, List, Option, Some, None, Result, Err, IfSome, MatchResult, refl, sym, subst, Keeps, IsInputFault, IsSomeInput, EndsTask, Sides, StopsInput, ScriptFault, Options, detail_of}
+use Rattle.command_line.proofs.Common.{◌≡◌, ◌⊎◌, inl, inr, ℕ, List, Option, Some, None, Result, Err, IfSome, MatchResult, refl, sym, subst, Keeps, EndsTask, Sides, ScriptFault, Options, detail_of}
+use Rattle.command_line.specs.Either.{IsEitherFault, IsEitherInput, StopsEither}
 use Rattle.command_line.specs.Reading.{ReadsFirst}
 use Rattle.command_line.proofs.Reading.{reads_none}
 use Rattle.command_line.specs.declared.fault.ScriptFault.TheVariants as script
@@ -24,12 +25,12 @@ no_memory (Some options) s unread same = (
   inl (refl, keeps_same s.after s.after refl),
   record {
     replayed = tt;
-    read = λ whole. if_known s.input (λ octets. MatchResult ends_in_memory (λ done. IsSomeInput octets) (IsInputFault octets)) (λ octets. tt);
+    read = λ whole. if_known s.input (λ octets. MatchResult ends_in_memory (λ done. IsEitherInput octets) (IsEitherFault octets)) (λ octets. tt);
     options_read = λ e. cc;
     reads = subst (λ (left : Option (List ℕ)). ReadsFirst s.input left) (sym unread) (reads_none s.input);
     reads_all = λ read kept. absurd (kept refl);
     ran_in_part = λ e. inl same;
     nothing = λ on e. same;
-    first_part = λ e. if_known s.input (λ octets. Keeps s.before s.after ⊎ StopsInput (detail_of options.texts) octets s.before s.after) (λ octets. inl same);
+    first_part = λ e. if_known s.input (λ octets. Keeps s.before s.after ⊎ StopsEither (detail_of options.texts) octets s.before s.after) (λ octets. inl same);
   },
 )

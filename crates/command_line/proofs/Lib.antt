@@ -1,5 +1,6 @@
 pub mod Common
 mod CommandLine
+mod Either
 mod Faults
 mod Hyphens
 mod InCalm
@@ -10,6 +11,7 @@ mod Judged
 mod LastWord
 mod Lived
 mod Logs
+mod Strangers
 mod Named
 mod Once
 mod OneInput

@@ -1,5 +1,5 @@
 -- A replay over the carrier of a topology continues, and ends.
-use Rattle.command_line.proofs.Common.{◌≡◌, ◌⊎◌, inl, inr, ℕ, Bool, List, [], ◌++◌, Option, Some, None, Result, IfSome, OnOk, codes, ap, sym, subst, ◌∙◌, Appends, Keeps, KeepsPromise, IsRun, SafeMessages, shown, WorldState, opening_world, Life, Writes, crossings_of, output, Calls, Detail, on_ok, RawEvent, TopologyFields, CarrierKind, WorldEvent, IsInput, LogsOn, LogsOver, Ran, RanInPart, ReplaysInput, ReplaysOn, ReplaysOver, ShowsBook, ShowsFrom, StopsFrom, StopsInput, WorldShowsFrom, WorldStopsFrom, book_text, ScriptFault}
+use Rattle.command_line.proofs.Common.{◌≡◌, ◌⊎◌, inl, inr, ℕ, Bool, List, [], ◌++◌, Option, Result, OnOk, codes, ap, sym, subst, ◌∙◌, Appends, Keeps, KeepsPromise, IsRun, SafeMessages, shown, WorldState, opening_world, Life, Writes, crossings_of, output, Calls, Detail, RawEvent, TopologyFields, CarrierKind, WorldEvent, LogsOn, LogsOver, ReplaysOn, ReplaysOver, ShowsBook, ShowsFrom, StopsFrom, WorldShowsFrom, WorldStopsFrom, book_text}
 use Rattle.std.proofs.Common.{reverse}
 use Rattle.std.proofs.lemmas.List.{append-nil}
 use Rattle.net_sim.specs.Book.{opening_kept}
@@ -96,29 +96,3 @@ over_all carrier network book detail events a b r is h = subst (λ (k : CarrierK
 
 pub logged_over : {A E : Type 0} (carrier : CarrierKind) (network : TopologyFields) (events : Asked) (a b : Option (List ℕ)) (r : Result A E) → network.carrier ≡ carrier → OnOk r (LogsOver carrier network events a b) → OnOk r (LogsOn network events a b)
 logged_over carrier network events a b r is h = subst (λ (k : CarrierKind). OnOk r (LogsOver k network events a b)) (sym is) h
-
--- ---- of known octets
-
-by_known : (known : Option (List ℕ)) (octets : List ℕ) (network : TopologyFields) (book : Bool) (detail : Detail) (events : Asked) (a b : Option (List ℕ)) → IfSome known (λ k. octets ≡ k) → IsInput octets network events → ReplaysOn network book detail events a b
-    → IfSome known (λ k. ReplaysInput book detail k a b)
-by_known None octets network book detail events a b same read h = tt
-by_known (Some k) octets network book detail events a b same read h = record { network = network; events = events; input = subst (λ o. IsInput o network events) same read; replayed = h }
-
-pub known_replayed : (known : Option (List ℕ)) (octets : List ℕ) (network : TopologyFields) (book : Bool) (detail : Detail) (events : Asked) (r : Result (Unit {0}) ScriptFault) (a b : Option (List ℕ)) → IfSome known (λ k. octets ≡ k)
-    → IsInput octets network events → OnOk r (ReplaysOn network book detail events a b) → OnOk r (IfSome known (λ k. ReplaysInput book detail k a b))
-known_replayed known octets network book detail events r a b same read h = on_ok r (by_known known octets network book detail events a b same read) h
-
-pub known_stopped : (known : Option (List ℕ)) (octets : List ℕ) (network : TopologyFields) (detail : Detail) (events : Asked) (a b : Option (List ℕ)) → IfSome known (λ k. octets ≡ k) → IsInput octets network events
-    → (Keeps a b ⊎ EndsOn network detail events a b) → IfSome known (λ k. Keeps a b ⊎ StopsInput detail k a b)
-known_stopped None octets network detail events a b same read h = tt
-known_stopped (Some k) octets network detail events a b same read (inl kept) = inl kept
-known_stopped (Some k) octets network detail events a b same read (inr h) = inr (record { network = network; events = events; input = subst (λ o. IsInput o network events) same read; stopped = h })
-
--- ---- of any octets
-
-pub ran : (network : TopologyFields) (book : Bool) (detail : Detail) (events : Asked) (a b : Option (List ℕ)) → ReplaysOn network book detail events a b → Ran book detail a b
-ran network book detail events a b h = record { network = network; events = events; replayed = h }
-
-pub ran_in_part : (network : TopologyFields) (detail : Detail) (events : Asked) (a b : Option (List ℕ)) → (Keeps a b ⊎ EndsOn network detail events a b) → Keeps a b ⊎ RanInPart detail a b
-ran_in_part network detail events a b (inl kept) = inl kept
-ran_in_part network detail events a b (inr h) = inr (record { network = network; events = events; stopped = h })
