@@ -332,11 +332,15 @@ def read(text: str) -> Network:
     return Network(imps, tuple(Line(it["a"], it["b"]) for it in tables(document, "line")), raw, carrier)
 
 
+def has_keys(table: object, name: str) -> bool:
+    """Whether a table has the keys of those of a name, and none that they can't have."""
+    return isinstance(table, dict) and {*table} - OPTIONAL[name] == KEYS[name]
+
+
 def tables(document: Mapping[str, Any], name: str) -> list[dict[str, Any]]:
     """The tables of a name, each of which has just its keys, with whole numbers. An IMP may list its strangers, too."""
     found = document.get(name, [])
-    is_list = isinstance(found, list) and all(isinstance(it, dict) for it in found)
-    if not is_list or not all({*it} - OPTIONAL[name] == KEYS[name] for it in found):
+    if not isinstance(found, list) or not all(has_keys(it, name) for it in found):
         raise BadNetwork(f"a table [[{name}]] has exactly the keys {' and '.join(sorted(KEYS[name]))}")
     listed = [it["foreign"] for it in found if "foreign" in it]
     numbers = [value for it in found for key, value in it.items() if key not in OPTIONAL[name]]
