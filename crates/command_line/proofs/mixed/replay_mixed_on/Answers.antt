@@ -1,7 +1,6 @@
-use Rattle.command_line.proofs.Common.{◌≡◌, List, Host, ap, rules, ◌∙◌}
+use Rattle.command_line.proofs.Common.{◌≡◌, ap, rules, ◌∙◌}
 use Rattle.leader1822.specs.Boxes.{Boxes}
 use Rattle.subnet.specs.Calls.{Kept}
-use Rattle.topology.specs.Mixed.{MixedFields}
 use Rattle.topology.specs.Topology.{hosts_of}
 use Rattle.topology.specs.declared.network.CarrierKind.TheVariants as kind
 use Rattle.command_line.specs.Carriers.{subnet_of}

@@ -1,7 +1,7 @@
-use Rattle.command_line.proofs.Common.{List, subst, asked_of, IsInputFault, ScriptFault}
-use Rattle.command_line.proofs.Replayed.Either.{either_read, either_replayed, either_stopped, follow_fault, plain_fault}
+use Rattle.command_line.proofs.Common.{subst, asked_of, IsInputFault, ScriptFault}
+use Rattle.command_line.proofs.Replayed.Either.{either_read, either_replayed, either_stopped, follow_fault}
 use Rattle.command_line.proofs.Replayed.Either.{plain_read, plain_replayed, plain_stopped}
-use Rattle.command_line.proofs.Faults.{unwritten, write_fault}
+use Rattle.command_line.proofs.Faults.{write_fault}
 use Rattle.command_line.proofs.simulator.follow.Goals as goal
 
 -- ---- without strangers
