@@ -4,7 +4,7 @@ use Rattle.command_line.proofs.Common.{Ok, Err, IfSome, IfErr, MatchResult, OnOk
 use Rattle.command_line.proofs.Common.{Keeps, IsReplayFault, IsInputFault, IsSomeInput, IsInput}
 use Rattle.command_line.proofs.Common.{ReplaysOn, ScriptFault, Detail, TopologyFields}
 use Rattle.command_line.proofs.Common.{on_ok}
-use Rattle.std.proofs.Common.{length, ◌≢◌}
+use Rattle.std.proofs.Common.{length}
 use Rattle.topology.specs.Mixed.{MixedFields}
 use Rattle.world_script.specs.declared.event.MixedWorldEvent.{MixedWorldEvent}
 use Rattle.command_line.specs.Either.{IsEitherFault, IsEitherInput, RanEither, RanEitherInPart, ReplaysEither}

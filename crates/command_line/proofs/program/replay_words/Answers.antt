@@ -1,4 +1,4 @@
-use Rattle.command_line.proofs.Common.{◌≡◌, ◌⊎◌, ℕ, List, Option, Result, Err, IfSome, OnOk, false, true, map, ap, refl}
+use Rattle.command_line.proofs.Common.{◌≡◌, ◌⊎◌, ℕ, List, Option, Result, Err, IfSome, OnOk, false, map, ap, refl}
 use Rattle.command_line.proofs.Common.{subst, Detail, Keeps, Options, ScriptFault, Sides}
 use Rattle.std.proofs.Common.{string_bytes}
 use Rattle.command_line.specs.Either.{RanEither, RanEitherInPart, ReplaysEither, StopsEither}
