@@ -42,7 +42,7 @@ returns-in-Ok-clause-ends g c =
           c.detail.ensures c.run_script-ended.ensures.ran_in_part;
       first_part =
           subst (λ (d : Detail). r ≡ Err fault.OutOfMemory
-              → IfSome input (λ octets. Keeps before written ⊎ StopsEither d octets before written))
+          → IfSome input (λ octets. Keeps before written ⊎ StopsEither d octets before written))
           c.detail.ensures c.run_script-ended.ensures.first_part;
       nothing = λ on e. keeps_same before written
           (ap g.W.Output.contents (c.run_script-ended.ensures.check_memory on e));
