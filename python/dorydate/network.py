@@ -73,6 +73,7 @@ class Imp:
     hosts: int = 1
     name: str = ""
     more: str = ""  # what the comment after its number says beside the name: machines, and where it is (dorydate.sites)
+    foreign: tuple[int, ...] = ()  # the numbers of its hosts that are strangers and run no program
 
     def __str__(self) -> str:
         return self.name or f"IMP {self.number}"
@@ -242,7 +243,7 @@ class Network:
         hosts = 1
         """
         head = [f'carrier = "{self.carrier}"', f"raw = {'true' if self.raw else 'false'}"]
-        imps = [f"[[imp]]\nid = {imp.number}{f' # {imp.name}{imp.more}' if imp.name else ''}\nhosts = {imp.hosts}" for imp in self.imps]
+        imps = [written(imp) for imp in self.imps]
         lines = [f"[[line]]\na = {line.a}\nb = {line.b}" for line in self.lines]
         return "\n".join([*head, *imps, *lines]) + "\n"
 
@@ -256,10 +257,16 @@ class Network:
         return read(text)
 
 
-def imp_of(number: int, hosts: int, comment: str) -> Imp:
-    """An IMP, by the comment after its number."""
+def written(imp: Imp) -> str:
+    """The table of an IMP."""
+    strangers = f"\nforeign = [{', '.join(map(str, imp.foreign))}]" if imp.foreign else ""
+    return f"[[imp]]\nid = {imp.number}{f' # {imp.name}{imp.more}' if imp.name else ''}\nhosts = {imp.hosts}{strangers}"
+
+
+def imp_of(table: Mapping[str, Any], comment: str) -> Imp:
+    """An IMP, by its table and the comment after its number."""
     name = Site.read(comment).name
-    return Imp(number, hosts, name, comment[len(name) :])
+    return Imp(table["id"], table["hosts"], name, comment[len(name) :], tuple(table.get("foreign", ())))
 
 
 def check(network: Network) -> None:
@@ -276,6 +283,8 @@ def check(network: Network) -> None:
             raise BadNetwork(f"{imp} has a number from 1 to {MOST_IMPS} and 0 to {MOST_HOSTS} hosts")
         if numbers.count(imp.number) > 1:
             raise BadNetwork(f"two IMPs have the number {imp.number}")
+        if [*imp.foreign] != sorted({*imp.foreign} & {*range(imp.hosts)}) or network.raw and imp.foreign:
+            raise BadNetwork(f"the strangers of {imp} are hosts of it, each once and rising, in a network with host programs")
         if not imp.name.isprintable():
             raise BadNetwork("a site's name has one line of characters that can be printed")
     check_lines(network.lines, numbers)
@@ -299,6 +308,7 @@ def check_lines(lines: Iterable[Line], numbers: list[int]) -> None:
 # ---- topologies
 
 KEYS = {"imp": {"id", "hosts"}, "line": {"a", "b"}}
+OPTIONAL: dict[str, set[str]] = {"imp": {"foreign"}, "line": set()}
 NAME = re.compile(r"^[ \t]*id[ \t]*=[ \t]*(\d+)[ \t]*#[ \t]*(\S.*)$", re.MULTILINE)  # a comment after an IMP's number is the name of its site
 
 
@@ -318,16 +328,24 @@ def read(text: str) -> Network:
     if not isinstance(raw, bool) or not isinstance(carrier, str):
         raise BadNetwork("`raw` is true or false, and `carrier` is \"plain\" or \"subnet\"")
     comments = {int(number): printable(comment) for number, comment in NAME.findall(text)}
-    imps = tuple(imp_of(it["id"], it["hosts"], comments.get(it["id"], "")) for it in tables(document, "imp"))
+    imps = tuple(imp_of(it, comments.get(it["id"], "")) for it in tables(document, "imp"))
     return Network(imps, tuple(Line(it["a"], it["b"]) for it in tables(document, "line")), raw, carrier)
 
 
-def tables(document: Mapping[str, Any], name: str) -> list[dict[str, int]]:
-    """The tables of a name, each of which has just its keys, with whole numbers."""
+def has_keys(table: object, name: str) -> bool:
+    """Whether a table has the keys of those of a name, and none that they can't have."""
+    return isinstance(table, dict) and {*table} - OPTIONAL[name] == KEYS[name]
+
+
+def tables(document: Mapping[str, Any], name: str) -> list[dict[str, Any]]:
+    """The tables of a name, each of which has just its keys, with whole numbers. An IMP may list its strangers, too."""
     found = document.get(name, [])
-    if not isinstance(found, list) or not all(isinstance(it, dict) and {*it} == KEYS[name] for it in found):
+    if not isinstance(found, list) or not all(has_keys(it, name) for it in found):
         raise BadNetwork(f"a table [[{name}]] has exactly the keys {' and '.join(sorted(KEYS[name]))}")
-    if not all(type(value) is int for it in found for value in it.values()):
+    listed = [it["foreign"] for it in found if "foreign" in it]
+    numbers = [value for it in found for key, value in it.items() if key not in OPTIONAL[name]]
+    numbers += [value for it in listed if isinstance(it, list) for value in it]
+    if not all(type(value) is int for value in numbers) or not all(isinstance(it, list) for it in listed):
         raise BadNetwork("numbers of IMPs, hosts and ends of lines are whole")
     return found
 

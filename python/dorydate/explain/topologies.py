@@ -97,7 +97,8 @@ def wrong_with_network(document: Table, lines: Sequence[str]) -> Fault | None:
         return Fault(None, TOPOLOGIES["imps"])
     if not is_tables(joined):
         return Fault(None, TOPOLOGIES["lines"])
-    return wrong_with_imps(imps, lines) or wrong_with_lines(joined, [imp["id"] for imp in imps], lines)
+    found = wrong_with_imps(imps, lines) or wrong_with_lines(joined, [imp["id"] for imp in imps], lines)
+    return found or wrong_with_strangers(imps, document.get("raw", False), lines)
 
 
 def wrong_with_imps(imps: Sequence[Table], lines: Sequence[str]) -> Fault | None:
@@ -134,6 +135,29 @@ def wrong_with_lines(joined: Sequence[Table], numbers: list[int], lines: Sequenc
     return None
 
 
+def wrong_with_strangers(imps: Sequence[Table], raw: bool, lines: Sequence[str]) -> Fault | None:
+    """The same of the strangers that IMPs name; None where none names any."""
+    named = [(place, imp) for place, imp in enumerate(imps) if "foreign" in imp]
+    for place, imp in named:
+        if why := "foreign raw" if raw else wrong_with_numbers(imp["foreign"], imp["hosts"]):
+            holes = {"imp": imp["id"], "hosts": imp["hosts"]}
+            return Fault(line_in_table(lines, "imp", place, "foreign"), filled(TOPOLOGIES[why], holes))
+    if named and not any(imp["foreign"] for _, imp in named):
+        return Fault(line_in_table(lines, "imp", named[0][0], "foreign"), TOPOLOGIES["foreign none"])
+    return None
+
+
+def wrong_with_numbers(numbers: object, hosts: int) -> str:
+    """Which rule of the numbers of an IMP's strangers these break; nothing where they break none."""
+    if not isinstance(numbers, list) or not all(type(it) is int for it in numbers):
+        return "foreign list"
+    if not all(0 <= it < hosts for it in numbers):
+        return "foreign host"
+    if len({*numbers}) < len(numbers):
+        return "foreign twice"
+    return "" if numbers == sorted(numbers) else "foreign order"
+
+
 def is_tables(value: object) -> bool:
     return isinstance(value, list) and all(isinstance(it, dict) for it in value)
 
@@ -144,7 +168,7 @@ def wrong_with_table(name: str, place: int, table: Table, lines: Sequence[str]) 
     if displaced := [it for it in table if it in ("raw", "carrier")]:
         why = filled(TOPOLOGIES["displaced"], key=displaced[0], table=name)
         return Fault(line_in_table(lines, name, place, displaced[0]), why)
-    if {*table} != {*ranges}:
+    if {*table} - ({"foreign"} if name == "imp" else set()) != {*ranges}:
         found = ", ".join(table) or "none"
         why = filled(TOPOLOGIES["keys"], table=name, keys=" and ".join(ranges), found=found)
         return Fault(line_of_table(lines, name, place), why)

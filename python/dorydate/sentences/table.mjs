@@ -438,7 +438,13 @@ export const TABLE = {
 "five lines": "IMP {number} has more than five lines.",
 "displaced": "`{key}` comes after `[[{table}]]`, so it is a key of that table. Put it before the first `[[`.",
 "keys": "A table `[[{table}]]` has exactly the keys {keys}; here it has {found}.",
-"number": "`{key}` of `[[{table}]]` is a whole number from {least} to {most}."
+"number": "`{key}` of `[[{table}]]` is a whole number from {least} to {most}.",
+"foreign list": "`foreign` is a list of whole numbers, as in `foreign = [1]`: those of the IMP's hosts that are strangers.",
+"foreign host": "`foreign` of IMP {imp} names a host that it hasn't: it has {hosts}, numbered from 0.",
+"foreign twice": "`foreign` of IMP {imp} names a host twice.",
+"foreign order": "`foreign` of IMP {imp} is by rising number.",
+"foreign raw": "In a network with `raw = true` no host runs a program, so there are no strangers among programs: leave out `foreign`, or `raw`.",
+"foreign none": "No `foreign` names a host. Without strangers leave the key out."
 },
 "commands": ["NOP 1", "RTS 10", "STR 10", "CLS 9", "ALL 8", "GVB 4", "RET 8", "INR 2", "INS 2", "ECO 2", "ERP 2", "ERR 12", "RST 1", "RRP 1"],
 "texts": {
