@@ -63,7 +63,7 @@ def events_of(name: str) -> bytes:
     """What the program reads for an input, whose IMPs are in a row and have a host each."""
     with open(f"{ROOT}/{name}", "rb") as file:
         topology, script = file.read().split(b"\n%\n", 1)
-    carrier, raw, imps, _ = network_in(topology)
+    carrier, raw, imps, _, _ = network_in(topology)
     assert imps == [(number, 1) for number in range(1, len(imps) + 1)]
     return f"{'raw' if raw else 'world'} {carrier} {len(imps)}\n".encode() + script
 
