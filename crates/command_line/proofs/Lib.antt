@@ -1,6 +1,5 @@
 pub mod Common
 mod CommandLine
-mod Either
 mod Faults
 mod Hyphens
 mod InCalm
@@ -11,7 +10,6 @@ mod Judged
 mod LastWord
 mod Lived
 mod Logs
-mod Strangers
 mod Named
 mod Once
 mod OneInput
@@ -19,9 +17,9 @@ mod OneTrace
 mod Printed
 mod Reading
 mod Recorded
+mod Replayed
 mod Sites
 mod Traced
 mod Words
 mod WorkedLines
 mod WorkedPrograms
-mod Written

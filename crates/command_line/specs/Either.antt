@@ -2,7 +2,8 @@
 use Rattle.std.specs.Prelude.{◌⊎◌, ℕ, Bool, List, Option, IfSome}
 use Rattle.replay.specs.declared.print.Detail.{Detail}
 use Rattle.command_line.specs.Input.{HasBadLine, IsInputFault, IsSomeInput}
-use Rattle.command_line.specs.Mixed.{HasBadMixedLine, IsMixedFault, IsSomeMixed, MixedReplaysInput, MixedStopsInput, RanMixed, RanMixedInPart}
+use Rattle.command_line.specs.Mixed.{HasBadMixedLine, IsMixedFault, IsSomeMixed, MixedReplaysInput, MixedStopsInput}
+use Rattle.command_line.specs.Mixed.{RanMixed, RanMixedInPart}
 use Rattle.command_line.specs.Replayed.{Ran, RanInPart, ReplaysInput, StopsInput}
 use Rattle.command_line.specs.Stopping.{NothingOr}
 use Rattle.command_line.specs.declared.fault.ScriptFault.{ScriptFault}
@@ -23,11 +24,13 @@ IsEitherFault octets fault.BadOptions = ⊥
 
 -- the script of an input is replayed over the carrier of its topology
 abbrev pub ReplaysEither : Bool → Detail → List ℕ → Option (List ℕ) → Option (List ℕ) → Type 0
-ReplaysEither book detail octets before after = ReplaysInput book detail octets before after ⊎ MixedReplaysInput book detail octets before after
+ReplaysEither book detail octets before after = ReplaysInput book detail octets before after
+    ⊎ MixedReplaysInput book detail octets before after
 
 -- memory ran out while it was replayed
 abbrev pub StopsEither : Detail → List ℕ → Option (List ℕ) → Option (List ℕ) → Type 0
-StopsEither detail octets before after = StopsInput detail octets before after ⊎ MixedStopsInput detail octets before after
+StopsEither detail octets before after = StopsInput detail octets before after
+    ⊎ MixedStopsInput detail octets before after
 
 -- nothing is written, or this much of a reader's octets, where these are known
 abbrev pub StopsKnown : Detail → Option (List ℕ) → Option (List ℕ) → Option (List ℕ) → Type 0

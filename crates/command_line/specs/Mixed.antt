@@ -16,7 +16,7 @@ use Rattle.subnet.specs.Working.{subnet_calls}
 use Rattle.topology.specs.Mixed.{MixedFields, mixed_in}
 use Rattle.topology.specs.declared.network.CarrierKind.{CarrierKind}
 use Rattle.topology.specs.declared.network.CarrierKind.TheVariants as kind
-use Rattle.world_replay.specs.Kinds.{EndsBy, ReplaysBy, StopsBy, mixed_kind}
+use Rattle.world_replay.specs.Kinds.{ReplaysBy, RunsOutBy, mixed_kind}
 use Rattle.world_replay.specs.Output as lines
 use Rattle.world_script.specs.Mixed.{AskForMixed, IsMixedEvent, mixed_spelling}
 use Rattle.world_script.specs.declared.event.MixedWorldEvent.{MixedWorldEvent}
@@ -63,7 +63,8 @@ pub record HasNoStrangers (octets : List ℕ) : Type 0 where
 -- when each fault may be given for octets that have to be such an input
 abbrev pub IsMixedFault : List ℕ → ScriptFault → Type 0
 IsMixedFault octets (fault.BadLine number) = HasBadMixedLine octets number
-IsMixedFault octets fault.BadTopology = (1048576 < length octets) ⊎ (All (λ line. line ≢ codes "%") (lines_of octets)) ⊎ HasNoStrangers octets
+IsMixedFault octets fault.BadTopology = (1048576 < length octets) ⊎ (All (λ line. line ≢ codes "%") (lines_of octets))
+    ⊎ HasNoStrangers octets
 IsMixedFault octets fault.CannotRead = ⊥
 IsMixedFault octets fault.OutOfMemory = Unit {0}
 IsMixedFault octets fault.CannotWrite = IsSomeMixed octets
@@ -73,7 +74,8 @@ IsMixedFault octets fault.BadOptions = ⊥
 
 -- events are replayed in a world over such a carrier in which these hosts are strangers, and show these lines. The lines have what is in the book of
 -- this world, and the lives are those of its book. The book keeps what is promised among hosts with programs and, of each of these, toward all others
-pub record MixedShowsFrom {C : Type 0} (calls : Calls C) (strangers : List Host) (opening : C) (events : List MixedWorldEvent) (lives : List Life) (shows : List lines.Shown) : Type 0 where
+pub record MixedShowsFrom {C : Type 0} (calls : Calls C) (strangers : List Host) (opening : C)
+    (events : List MixedWorldEvent) (lives : List Life) (shows : List lines.Shown) : Type 0 where
   pub last : MixedState C
   pub replayed : ReplaysBy (mixed_kind (shown calls)) (opening_mixed (shown calls) opening strangers) events last shows
   pub booked : ShowsBook last.world.kept.book shows
@@ -82,30 +84,40 @@ pub record MixedShowsFrom {C : Type 0} (calls : Calls C) (strangers : List Host)
   pub toward : KeepsToward (strange_in last) last.world
 
 -- memory ran out in one of the events: the lines that were shown by then have what is in the world's book, which keeps the same
-pub record MixedStopsFrom {C : Type 0} (calls : Calls C) (strangers : List Host) (opening : C) (events : List MixedWorldEvent) (shows : List lines.Shown) : Type 0 where
+pub record MixedStopsFrom {C : Type 0} (calls : Calls C) (strangers : List Host) (opening : C)
+    (events : List MixedWorldEvent) (shows : List lines.Shown) : Type 0 where
   pub last : MixedState C
-  pub stopped : EndsBy (mixed_kind (shown calls)) (StopsBy (mixed_kind (shown calls))) (opening_mixed (shown calls) opening strangers) events last shows
+  pub stopped : RunsOutBy (mixed_kind (shown calls))
+      (opening_mixed (shown calls) opening strangers) events last shows
   pub booked : ShowsBook last.world.kept.book shows
   pub among : KeepsAmong (strange_in last) (calls.seen last.world.carrier).hosts last.world
   pub toward : KeepsToward (strange_in last) last.world
 
 -- over the carrier that a topology names: plain mailboxes between its hosts, or the subnet of its IMPs and lines
-abbrev pub MixedReplaysOver : CarrierKind → MixedFields → Bool → Detail → List MixedWorldEvent → Option (List ℕ) → Option (List ℕ) → Type 0
-MixedReplaysOver kind.Plain t book detail events before after = WritesWorld book detail (MixedShowsFrom plain_calls t.strangers (plain_of t.network) events) before after
-MixedReplaysOver kind.Subnet t book detail events before after = WritesWorld book detail (MixedShowsFrom subnet_calls t.strangers (subnet_of t.network) events) before after
+abbrev pub MixedReplaysOver : CarrierKind → MixedFields → Bool → Detail → List MixedWorldEvent → Option (List ℕ)
+    → Option (List ℕ) → Type 0
+MixedReplaysOver kind.Plain t book detail events before after = WritesWorld book detail
+    (MixedShowsFrom plain_calls t.strangers (plain_of t.network) events) before after
+MixedReplaysOver kind.Subnet t book detail events before after = WritesWorld book detail
+    (MixedShowsFrom subnet_calls t.strangers (subnet_of t.network) events) before after
 
-abbrev pub MixedEndsOver : CarrierKind → MixedFields → Detail → List MixedWorldEvent → Option (List ℕ) → Option (List ℕ) → Type 0
-MixedEndsOver kind.Plain t detail events before after = lines.Writes detail (MixedStopsFrom plain_calls t.strangers (plain_of t.network) events) before after
-MixedEndsOver kind.Subnet t detail events before after = lines.Writes detail (MixedStopsFrom subnet_calls t.strangers (subnet_of t.network) events) before after
+abbrev pub MixedEndsOver : CarrierKind → MixedFields → Detail → List MixedWorldEvent → Option (List ℕ) → Option (List ℕ)
+    → Type 0
+MixedEndsOver kind.Plain t detail events before after = lines.Writes detail
+    (MixedStopsFrom plain_calls t.strangers (plain_of t.network) events) before after
+MixedEndsOver kind.Subnet t detail events before after = lines.Writes detail
+    (MixedStopsFrom subnet_calls t.strangers (subnet_of t.network) events) before after
 
-abbrev pub MixedReplaysOn : MixedFields → Bool → Detail → List MixedWorldEvent → Option (List ℕ) → Option (List ℕ) → Type 0
+abbrev pub MixedReplaysOn : MixedFields → Bool → Detail → List MixedWorldEvent → Option (List ℕ) → Option (List ℕ)
+    → Type 0
 MixedReplaysOn t book detail events before after = MixedReplaysOver t.network.carrier t book detail events before after
 
 abbrev pub MixedEndsOn : MixedFields → Detail → List MixedWorldEvent → Option (List ℕ) → Option (List ℕ) → Type 0
 MixedEndsOn t detail events before after = MixedEndsOver t.network.carrier t detail events before after
 
 -- the script of an input is replayed over the carrier of its topology
-pub record MixedReplaysInput (book : Bool) (detail : Detail) (octets : List ℕ) (before after : Option (List ℕ)) : Type 0 where
+pub record MixedReplaysInput (book : Bool) (detail : Detail) (octets : List ℕ) (before after : Option (List ℕ)) :
+    Type 0 where
   pub network : MixedFields
   pub events : List MixedWorldEvent
   pub input : IsMixedInput octets network events

@@ -2,12 +2,12 @@
 use Rattle.command_line.proofs.Common.{◌≡◌, ◌⊎◌, inl, inr, ℕ, Bool, List, [], ◌++◌, Option, Result, OnOk, codes, ap, sym, subst, ◌∙◌, Appends, Keeps, KeepsPromise, IsRun, SafeMessages, shown, WorldState, opening_world, Life, Writes, crossings_of, output, Calls, Detail, RawEvent, TopologyFields, CarrierKind, WorldEvent, LogsOn, LogsOver, ReplaysOn, ReplaysOver, ShowsBook, ShowsFrom, StopsFrom, WorldShowsFrom, WorldStopsFrom, book_text}
 use Rattle.std.proofs.Common.{reverse}
 use Rattle.std.proofs.lemmas.List.{append-nil}
-use Rattle.net_sim.specs.Book.{opening_kept}
+use Rattle.net_sim.specs.Book.{Kept, opening_kept}
 use Rattle.replay.specs.Replay.{EndsIn, Replays, StopsIn}
 use Rattle.replay.proofs.lemmas.{appends_more, replays_show, stops_show}
 use Rattle.world_replay.specs.Output as lines
 use Rattle.world_replay.specs.Replay as worlds
-use Rattle.world_replay.proofs.lemmas.Replays as world
+use Rattle.world_replay.proofs.lemmas.Gained as world
 use Rattle.command_line.specs.Events.{Asked}
 use Rattle.command_line.specs.Replayed.{EndsOn, EndsOver, WritesAll, WritesWorld}
 
@@ -46,7 +46,7 @@ writes_part calls opening last events detail a b empty h safe run = record {
 -- ---- with host programs
 
 -- what a book has gained since its opening is all that it has
-shows_book : {C : Type 0} (last : WorldState C) (shows : List lines.Shown) → world.HaveGains opening_kept last.kept shows → ShowsBook last.kept.book shows
+pub shows_book : (last : Kept) (shows : List lines.Shown) → world.HaveGains opening_kept last shows → ShowsBook last.book shows
 shows_book last shows h = record { crossed = h.crossed ∙ append-nil (reverse (lines.crossings_of shows)); told = h.told; said = h.said }
 
 pub world_writes_all : {C : Type 0} (calls : Calls C) (carrier : C) (opening last : WorldState C) (events : List WorldEvent) (lives : List Life) (book : Bool) (detail : Detail) (a b c : Option (List ℕ)) → opening ≡ opening_world (shown calls) carrier
@@ -61,7 +61,7 @@ world_writes_all {C} calls carrier opening last events lives book detail a b c i
       shows = record {
         last = last;
         replayed = from;
-        booked = shows_book last h.shown (world.replays_show (shown calls) (opening_world (shown calls) carrier) events last h.shown from);
+        booked = shows_book last.kept h.shown (world.replays_show (worlds.world_kind (shown calls)) world.refusal_gained (opening_world (shown calls) carrier) events last h.shown from);
         left = left;
         promise = promise;
       };
@@ -79,7 +79,7 @@ world_writes_part {C} calls carrier opening last events detail a b is h promise 
       is_shown = record {
         last = last;
         stopped = from;
-        booked = shows_book last h.shown (world.stops_show (shown calls) (opening_world (shown calls) carrier) events last h.shown from);
+        booked = shows_book last.kept h.shown (world.stops_show (worlds.world_kind (shown calls)) world.refusal_gained (opening_world (shown calls) carrier) events last h.shown from);
         promise = promise;
       };
       written = h.written;
