@@ -368,8 +368,9 @@ def read(text: str) -> Network:
 def tables(document: Mapping[str, Any], name: str) -> list[dict[str, Any]]:
     """The tables of a name, each of which has just its keys, with whole numbers. An IMP may list its strangers, too."""
     found = document.get(name, [])
-    is_list = isinstance(found, list) and all(isinstance(it, dict) for it in found)
-    if not is_list or not all({*it} - OPTIONAL[name] == KEYS[name] for it in found):
+    if not isinstance(found, list) or not all(isinstance(it, dict) for it in found):
+        raise BadNetwork(f"`{name}` is a list of tables [[{name}]]")
+    if not all({*it} - OPTIONAL[name] == KEYS[name] for it in found):
         raise BadNetwork(f"a table [[{name}]] has exactly the keys {' and '.join(sorted(KEYS[name]))}")
     if not all(type(value) is int for it in found for key, value in it.items() if key not in OPTIONAL[name]):
         raise BadNetwork("numbers of IMPs, hosts and ends of lines are whole")
