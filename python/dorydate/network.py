@@ -365,12 +365,15 @@ def read(text: str) -> Network:
     return Network(imps, tuple(Line(it["a"], it["b"]) for it in tables(document, "line")), raw, carrier)
 
 
+def has_keys(table: object, name: str) -> bool:
+    """Whether a table has the keys of those of a name, and none that they can't have."""
+    return isinstance(table, dict) and {*table} - OPTIONAL[name] == KEYS[name]
+
+
 def tables(document: Mapping[str, Any], name: str) -> list[dict[str, Any]]:
     """The tables of a name, each of which has just its keys, with whole numbers. An IMP may list its strangers, too."""
     found = document.get(name, [])
-    if not isinstance(found, list) or not all(isinstance(it, dict) for it in found):
-        raise BadNetwork(f"`{name}` is a list of tables [[{name}]]")
-    if not all({*it} - OPTIONAL[name] == KEYS[name] for it in found):
+    if not isinstance(found, list) or not all(has_keys(it, name) for it in found):
         raise BadNetwork(f"a table [[{name}]] has exactly the keys {' and '.join(sorted(KEYS[name]))}")
     if not all(type(value) is int for it in found for key, value in it.items() if key not in OPTIONAL[name]):
         raise BadNetwork("numbers of IMPs, hosts and ends of lines are whole")

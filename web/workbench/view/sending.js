@@ -18,7 +18,10 @@ import { h, say, set } from "./dom.js";
  */
 export function sendingBox(network, host, send) {
     const others = network.hosts.filter((it) => it !== host);
-    const to = h("select", { id: "send-to" }, ...others.map((it) => h("option", { value: it }, `${hostName(network, it)} (${it})`)));
+    const named = (/** @type {string} */ it) => (
+        hostName(network, it) === `host ${it}` ? `host ${it}` : `${hostName(network, it)} (${it})`
+    );
+    const to = h("select", { id: "send-to" }, ...others.map((it) => h("option", { value: it }, named(it))));
     const link = h("input", { id: "send-link", type: "number", min: 0, max: 255, value: 0, inputmode: "numeric" });
     const words = h("input", {
         ...{ id: "send-words", type: "text", autocomplete: "off", autocapitalize: "none", spellcheck: "false" },
