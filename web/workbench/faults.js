@@ -387,11 +387,12 @@ function lineRule(numbers) {
 function wrongTable(name, table) {
     const ranges = TABLE.tables.filter(([of]) => of === name);
     const keys = ranges.map(([, key]) => String(key));
-    const found = Object.keys(table).filter((key) => name !== "imp" || key !== "foreign");
+    const found = Object.keys(table);
+    const needed = found.filter((key) => name !== "imp" || key !== "foreign");
     const displaced = found.find((key) => key === "raw" || key === "carrier");
     if (displaced) return { text: filled(TOPOLOGIES.displaced, { key: displaced, table: name }), key: displaced };
-    const other = found.find((key) => !keys.includes(key));
-    if (other || found.length !== keys.length) {
+    const other = needed.find((key) => !keys.includes(key));
+    if (other || needed.length !== keys.length) {
         const holes = { table: name, keys: keys.join(" and "), found: found.join(", ") || "none" };
         return { text: filled(TOPOLOGIES.keys, holes), key: other ?? "" };
     }

@@ -50,7 +50,7 @@ function textOf(octets, bits) {
  */
 function dataOf(size, octets) {
     if (size < 1 || size > 255 || octets.length % 2) {
-        return { why: "Data are `data SIZE OCTETS`: bytes of 1 to 255 bits, and two hexadecimal digits for each octet." };
+        return { why: "Data are “data SIZE OCTETS”: bytes of 1 to 255 bits, and two hexadecimal digits for each octet." };
     }
     if ((4 * octets.length) % size) return { why: `${4 * octets.length} bits are no whole bytes of ${size} bits.` };
     return withHeader(size, (4 * octets.length) / size, octets, 4 * octets.length);
@@ -75,11 +75,11 @@ function withHeader(size, count, octets, bits) {
 function commandOf(words) {
     const [name, ...numbers] = words.toUpperCase().split(/\s+/);
     const code = COMMANDS.findIndex((it) => it.name === name);
-    if (code < 0) return { why: `\`${words}\` is no command, no data and no octets.` };
+    if (code < 0) return { why: `“${words}” is no command, no data and no octets.` };
     const fields = FIELDS[name];
     if (numbers.length !== fields.length) return { why: `${name} has ${fields.length} numbers, and here ${numbers.length}.` };
     const wrong = numbers.find((it, at) => !/^\d+$/.test(it) || BigInt(it) >= 1n << BigInt(8 * fields[at]));
-    if (wrong !== undefined) return { why: `\`${wrong}\` is no number that ${name} has there.` };
+    if (wrong !== undefined) return { why: `“${wrong}” is no number that ${name} has there.` };
     return hex(code, 1) + numbers.map((it, at) => hex(Number(it), Math.min(4, fields[at])).padEnd(2 * fields[at], "0")).join("");
 }
 

@@ -97,8 +97,8 @@ test("what is no text is said to be none, and why", () => {
     const rows = [
         ["HELLO", /is no command/],
         ["RTS 16 33", /RTS has 3 numbers, and here 2/],
-        ["ECO 256", /`256` is no number/],
-        ["CLS 1 4294967296", /`4294967296` is no number/],
+        ["ECO 256", /“256” is no number/],
+        ["CLS 1 4294967296", /“4294967296” is no number/],
         ["data 0 4C", /bytes of 1 to 255 bits/],
         ["data 8 4", /two hexadecimal digits/],
         ["data 16 4C", /no whole bytes of 16 bits/],
