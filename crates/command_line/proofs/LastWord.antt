@@ -3,7 +3,6 @@ use Rattle.command_line.proofs.Common.{◌≡◌, ℕ, Bool, true, false, List, 
 use Rattle.command_line.proofs.Common.{codes, if◌then◌else◌, refl, ap, sym, false≢true}
 use Rattle.command_line.proofs.Common.{fates_of, lives_of, SaysOf, Verdict}
 use Rattle.interface.proofs.lemmas.{and_true}
-use Rattle.std.proofs.Common.{reverse}
 use Rattle.std.specs.Prelude.{◌&&◌, ◌↔◌, is_none}
 use Rattle.book_log.specs.Log.{Book}
 use Rattle.command_line.specs.Audits.{IsSafeLog, KeepsEnds, is_safe, keeps_ends, word_text}

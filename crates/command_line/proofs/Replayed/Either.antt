@@ -1,17 +1,17 @@
 -- An input of either kind, read and replayed.
 use Rattle.command_line.proofs.Common.{◌≡◌, ◌⊎◌, ◌<◌, inl, inr, ℕ, Bool, true, false, List, Option, Some, None, Result}
-use Rattle.command_line.proofs.Common.{Ok, Err, IfSome, IfErr, MatchResult, OnOk, refl, sym, ap, subst, ◌∙◌, false≢true}
-use Rattle.command_line.proofs.Common.{Keeps, IsReplayFault, IsInputFault, IsSomeInput, IsInput, ReplaysInput}
-use Rattle.command_line.proofs.Common.{ReplaysOn, StopsInput, Ran, RanInPart, ScriptFault, Detail, TopologyFields}
+use Rattle.command_line.proofs.Common.{Ok, Err, IfSome, IfErr, MatchResult, OnOk, refl, sym, subst, ◌∙◌, false≢true}
+use Rattle.command_line.proofs.Common.{Keeps, IsReplayFault, IsInputFault, IsSomeInput, IsInput}
+use Rattle.command_line.proofs.Common.{ReplaysOn, ScriptFault, Detail, TopologyFields}
 use Rattle.command_line.proofs.Common.{on_ok}
-use Rattle.std.proofs.Common.{length, ◌≢◌}
+use Rattle.std.proofs.Common.{length}
 use Rattle.topology.specs.Mixed.{MixedFields}
 use Rattle.world_script.specs.declared.event.MixedWorldEvent.{MixedWorldEvent}
 use Rattle.command_line.specs.Either.{IsEitherFault, IsEitherInput, RanEither, RanEitherInPart, ReplaysEither}
 use Rattle.command_line.specs.Either.{StopsEither}
 use Rattle.command_line.specs.Events.{Asked}
 use Rattle.command_line.specs.Mixed.{IsMixedFault, IsMixedInput, IsSomeMixed, MixedEndsOn, MixedReplaysInput}
-use Rattle.command_line.specs.Mixed.{MixedReplaysOn, MixedStopsInput, RanMixed, RanMixedInPart}
+use Rattle.command_line.specs.Mixed.{MixedReplaysOn, MixedStopsInput}
 use Rattle.command_line.specs.Replayed.{EndsOn}
 use Rattle.command_line.specs.Steps.{IsFollowFault, IsReadFault}
 use Rattle.command_line.specs.declared.fault.ScriptFault.TheVariants as fault
@@ -58,7 +58,7 @@ pub unread_either : (known : Option (List ℕ)) (r : Result (Unit {0}) ScriptFau
 unread_either None r f failed is read long told whole = tt
 unread_either (Some k) r f failed is read long told whole =
     subst (λ q. MatchResult q (λ done. IsEitherInput k) (IsEitherFault k)) (sym is)
-        (unread_known k f failed read long told whole)
+    (unread_known k f failed read long told whole)
 
 -- ---- without strangers
 
@@ -86,16 +86,6 @@ pub plain_stopped : (octets : List ℕ) (network : TopologyFields) (events : Ask
 plain_stopped octets network events detail a b read (inl kept) = inl kept
 plain_stopped octets network events detail a b read (inr h) =
     inr (inl (record { network = network; events = events; input = read; stopped = h }))
-
--- another fault than that of the topology is the input's, of whatever kind
-pub plain_fault : (octets : List ℕ) (f : ScriptFault) → f ≢ fault.BadTopology → f ≢ fault.CannotWrite
-    → IsInputFault octets f → IsEitherFault octets f
-plain_fault octets (fault.BadLine number) topology write h = inl h
-plain_fault octets fault.BadTopology topology write h = absurd (topology refl)
-plain_fault octets fault.CannotRead topology write h = h
-plain_fault octets fault.OutOfMemory topology write h = tt
-plain_fault octets fault.CannotWrite topology write h = absurd (write refl)
-plain_fault octets fault.BadOptions topology write h = h
 
 -- ---- with strangers
 
