@@ -9,13 +9,12 @@ from collections.abc import Mapping, Sequence
 from typing import Any
 
 from dorydate.given import Input, shown
-from dorydate.network import MOST_IMPS, MOST_LINES
+from dorydate.network import MOST_IMPS, MOST_LINES, TOPOLOGIES, wrong_with_numbers
 from dorydate.program import MOST_OCTETS
 from dorydate.sentences.table import TABLE, filled, pattern, sentences
 from dorydate.toml import Beyond, Fault, document_of, line_in_table, line_of_key, line_of_table
 from dorydate.where import here
 
-TOPOLOGIES = sentences("topologies")
 EVENTS = "|".join([*sentences("forms"), *sentences("forms of programs")])
 MARKERS = [(pattern(it.replace("{events}", EVENTS)), *names) for it, *names in TABLE["rules of markers"]]
 RANGES: dict[str, dict[str, tuple[int, int]]] = {"imp": {}, "line": {}}
@@ -145,17 +144,6 @@ def wrong_with_strangers(imps: Sequence[Table], raw: bool, lines: Sequence[str])
     if named and not any(imp["foreign"] for _, imp in named):
         return Fault(line_in_table(lines, "imp", named[0][0], "foreign"), TOPOLOGIES["foreign none"])
     return None
-
-
-def wrong_with_numbers(numbers: object, hosts: int) -> str:
-    """Which rule of the numbers of an IMP's strangers these break; nothing where they break none."""
-    if not isinstance(numbers, list) or not all(type(it) is int for it in numbers):
-        return "foreign list"
-    if not all(0 <= it < hosts for it in numbers):
-        return "foreign host"
-    if len({*numbers}) < len(numbers):
-        return "foreign twice"
-    return "" if numbers == sorted(numbers) else "foreign order"
 
 
 def is_tables(value: object) -> bool:

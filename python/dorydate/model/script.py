@@ -98,9 +98,9 @@ def read_line(line: str, raw: bool = True, runs: Collection[str] = EVERYTHING, s
     return read_raw_line(line) if raw or strangers and line.startswith("out ") else read_world_line(line, runs)
 
 
-def read_event(line: str, raw: bool = True) -> Event:
+def read_event(line: str, raw: bool = True, strangers: bool = False) -> Event:
     """The event of a line that has one."""
-    event = read_line(line, raw)
+    event = read_line(line, raw, strangers=strangers)
     if event is None:
         raise BadLine
     return event

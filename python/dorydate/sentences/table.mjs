@@ -217,7 +217,9 @@ export const TABLE = {
 "BadSize": "The byte size is 0, or the bits are not a whole number of bytes of the connection's size.",
 "Closing": "The connection is being closed.",
 "NoLink": "All thirty links from this peer are in use.",
-"OverGrant": "What is granted and still open would pass 65535 messages or 4294967295 bits."
+"OverGrant": "What is granted and still open would pass 65535 messages or 4294967295 bits.",
+"NoProgram": "The host is a stranger and runs no program that could be asked: `out` says what it sends, and `take` when it takes.",
+"HasProgram": "The host runs a program, which says itself what goes out. Only for a stranger does the script say that."
 },
 "network": {
 "NoSuch": "The network has no such host, IMP or end of a line, no frame is live at that place of the line, or there are no pieces to throw away.",
