@@ -26,7 +26,7 @@ if_ends : (P : Entry → Type 0) (p : Host) (b : Bool) (t old : NcpState) → (b
 if_ends P p true t old now k = now refl
 if_ends P p false t old now k = k
 
--- of an end alone, and of no notice
+-- of ends only, and of no notice
 abbrev Free : Notice → Type 0
 Free n = Unit {0}
 

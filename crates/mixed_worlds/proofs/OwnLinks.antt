@@ -186,11 +186,11 @@ module _ (orders : Orders) (strange : Host → Bool) (hosts : List Host) (a : Ho
         (pair_with p (program a moments).peers).entries
         (λ e i even b is. said_still a p c (crossings_of moments) e.own e.foreign b e.link (i even b is)) old
 
-    alone : (y : Moment) → IsMixed strange hosts (y ∷ moments)
+    moved_so : (y : Moment) → IsMixed strange hosts (y ∷ moments)
         → Moved orders strange hosts a off p moments (HasSaid a p (crossings_of (y ∷ moments))) y
         → Ends (HasSaid a p (crossings_of moments)) p (program a moments)
         → Ends (HasSaid a p (crossings_of (y ∷ moments))) p (program a (y ∷ moments))
-    alone y mixed moved old =
+    moved_so y mixed moved old =
         moved_ends orders strange hosts a off p moments (HasSaid a p (crossings_of (y ∷ moments)))
         (said_quiet a p (crossings_of (y ∷ moments))) y mixed moved (grown y old)
 
@@ -207,7 +207,7 @@ module _ (orders : Orders) (strange : Host → Bool) (hosts : List Host) (a : Ho
         (fitting orders strange hosts a off moments below p) (grown (Crossed (crossing.Out m)) old))) where
           log : List Crossing
           log = crossing.Out m ∷ crossings_of moments
-    by (Crossed (crossing.In m)) mixed old = alone (Crossed (crossing.In m)) mixed
+    by (Crossed (crossing.In m)) mixed old = moved_so (Crossed (crossing.In m)) mixed
         (λ flow. hears a p (crossing.In m ∷ crossings_of moments) (places moments) (orders_of m.text)) old
-    by (Asked g r) mixed old = alone (Asked g r) mixed (begins a p (crossings_of moments)) old
-    by (Crossed c) mixed old = alone (Crossed c) mixed tt old
+    by (Asked g r) mixed old = moved_so (Asked g r) mixed (begins a p (crossings_of moments)) old
+    by (Crossed c) mixed old = moved_so (Crossed c) mixed tt old
