@@ -11,7 +11,8 @@ plainest spelling.
 Networks with host programs are tried as far as the program runs them, which it is asked first: their scripts are made event by
 event, by looking at what the model has come to (python/dorydate/model/chance/worlds.py), and it is counted what they came to. So are scripts of raw
 networks in which IMPs ask what became of their messages (python/dorydate/model/chance/questions.py). Of these the log is compared too, since two answers
-are printed alike. `./check model asking RUNS` tries only these, this many.
+are printed alike. `./check model asking RUNS` tries only these, this many. Networks with strangers are tried with what strangers send at random,
+most of it by the protocol (python/dorydate/model/chance/strangers.py).
 
 It takes the proved program, or where ./build has not made that the one that was built without proofs. With `--try`, and perhaps the folder of another clone of the repository, it
 takes the program that `rt try` builds without proofs, and fewer inputs, since that one is slow.
@@ -37,6 +38,7 @@ from dorydate.model.topology import Topology, spelled_input
 from dorydate.model.runs import End, expected
 from dorydate.model.chance.worlds import reached
 from dorydate.model.chance.worlds import some_script as some_script_of_world
+from dorydate.model.chance.strangers import mixed_script
 from workshop.parts import ROOT, any_program
 
 Run = tuple[list[str], bytes]  # options and an input
@@ -59,6 +61,13 @@ def some_world_input(seed: int, runs: Sequence[str]) -> Given:
         lines[place] = changed(chance, lines[place]) if chance.random() < 0.6 else chance.choice(others)
     options: list[list[str]] = [[], ["--book"], ["--texts", "--book"]]
     return chance.choice(options), network, lines
+
+
+def some_mixed(seed: int) -> Given:
+    """A network with strangers, and the lines of a script in which they send and take."""
+    network, script, world = mixed_script(seed)
+    named = [(imp, sorted(it.number for it in world.strangers if it.imp == imp)) for imp, _ in network.imps]
+    return ["--texts", "--book"], network._replace(foreign=[it for it in named if it[1]]), script.lines
 
 
 def some_questions(seed: int, seen: Counter[str]) -> tuple[Topology, list[str]]:
@@ -169,6 +178,10 @@ def main() -> int:
     if came_to is None:
         return 1
     print("check model: worlds came to", ", ".join(f"{count} {name}" for name, count in sorted(came_to.items())))
+    mixed = compare(program, [some_mixed(seed) for seed in range(worlds // 5)], runs)
+    if mixed is None:
+        return 1
+    print("check model: networks with strangers came to", ", ".join(f"{count} {name}" for name, count in sorted(mixed.items())))
     return compare_asking(program, ASKING if not is_tried else ASKING // 10, runs)
 
 
