@@ -1,6 +1,6 @@
 -- What `--log` writes, `--audit` reads and calls kept.
-use Rattle.command_line.proofs.Common.{◌≡◌, ℕ, Bool, true, List, [], ◌∷◌, Option, Some, None, IfSome, Result, Ok, Err, MatchResult, inl, inr, map, refl, sym, subst, reverse-reverse, fates_of, lives_of, lives_back, Host, IsRun, SafeMessages, Crossing, Says, AreFated, ClosesWhole, Fate, Life, Calls, TopologyFields, CarrierKind, AreSuited, IsSomeRun, AuditsLog, IsAuditFault, IsSomeLog, Judged, SaysOf, kept, Verdict, plain_calls, subnet_calls, plain_of, subnet_of, Raw, World, Logged, LogsFrom, LogsOver, raw_book, world_book, AuditFault}
-use Rattle.std.proofs.Common.{ap, reverse, ◌∙◌}
+use Rattle.command_line.proofs.Common.{◌≡◌, ℕ, Bool, true, List, [], ◌∷◌, Option, Some, None, IfSome, Result, Ok, Err, MatchResult, inl, inr, map, refl, sym, subst, reverse-reverse, fates_of, lives_of, lives_back, Host, IsRun, SafeMessages, Crossing, Says, AreFated, ClosesWhole, Fate, Life, Calls, TopologyFields, CarrierKind, AreSuited, IsSomeRun, AuditsLog, IsAuditFault, IsSomeLog, Judged, SaysOf, kept, Verdict, plain_calls, subnet_calls, plain_of, subnet_of, Raw, World, Logged, LogsFrom, LogsOver, raw_book, world_book, AuditFault, ap, ◌∙◌}
+use Rattle.std.proofs.Common.{reverse}
 use Rattle.book_log.specs.Log.{Book, logged_fate}
 use Rattle.book_log.proofs.lemmas.{book_once, fates_back}
 use Rattle.headline.proofs.lemmas.{kept_promise}

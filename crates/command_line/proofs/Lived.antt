@@ -1,6 +1,6 @@
 -- The lives of a book are those that its crossings and notices make.
-use Rattle.command_line.proofs.Common.{◌≡◌, ℕ, ◌<◌, ◌==◌, Bool, true, false, if◌then◌else◌, List, [], ◌∷◌, ◌++◌, map, refl, sym, ap, ap₂, ◌∙◌, arith, subst, map-append, Host, Crossing, Told, Life, AreLived, lives_in, ungranted}
-use Rattle.std.proofs.Common.{suc, ◌≤◌, length, append-nil}
+use Rattle.command_line.proofs.Common.{◌≡◌, ℕ, ◌<◌, ◌==◌, Bool, true, false, if◌then◌else◌, List, [], ◌∷◌, ◌++◌, map, refl, sym, ap, ap₂, ◌∙◌, arith, subst, map-append, Host, Crossing, Told, Life, AreLived, lives_in, ungranted, ◌≤◌}
+use Rattle.std.proofs.Common.{suc, length, append-nil}
 use Rattle.std.proofs.lemmas.Bool.{eq-eqb, ne_eqb}
 use Rattle.interface.specs.declared.crossing.Crossing.TheVariants as crossing
 use Rattle.host_pairs.specs.declared.notice.Notice.{Notice}

@@ -1,5 +1,6 @@
 -- An input leaves a replay no choice.
-use Rattle.command_line.proofs.Common.{◌≡◌, Bool, List, ◌++◌, Some, codes, sym, ap, subst, ◌∙◌, ℕ, append_assoc, shown, WorldState, opening_world, Life, output, Calls, AreSettled, Detail, TopologyFields, CarrierKind, WorldEvent, plain_calls, subnet_calls, plain_of, subnet_of, Raw, World, ReplaysFrom, ReplaysInput, ReplaysOn, ReplaysOver, ShowsFrom, StopsFrom, StopsInput, WorldShowsFrom, WorldStopsFrom, book_text, RawEvent, OneReplay, replays_once}
+use Rattle.command_line.proofs.Common.{◌≡◌, Bool, List, ◌++◌, Some, codes, sym, ap, subst, ◌∙◌, ℕ, append_assoc, shown, WorldState, opening_world, Life, output, Calls, AreSettled, Detail, TopologyFields, CarrierKind, WorldEvent, plain_calls, subnet_calls, plain_of, subnet_of, Raw, World, ReplaysFrom, ReplaysInput, ReplaysOn, ReplaysOver, ShowsFrom, StopsFrom, WorldShowsFrom, WorldStopsFrom, book_text, RawEvent, OneReplay, replays_once, subnet_settled, plain_settled}
+use Rattle.command_line.specs.Replayed.{StopsInput}
 use Rattle.replay.specs.Output.{Shown}
 use Rattle.topology.specs.declared.network.CarrierKind.TheVariants as kind
 use Rattle.world_replay.specs.Output as lines
@@ -8,8 +9,6 @@ use Rattle.world_replay.proofs.lemmas.Replays as worlds
 use Rattle.command_line.specs.Events.{Asked}
 use Rattle.command_line.specs.Replayed.{EndsFrom, EndsOn, EndsOver}
 use Rattle.command_line.proofs.OneInput.{OneInput, input_once}
-use Rattle.subnet_trace.proofs.lemmas.{subnet_settled}
-use Rattle.trace.proofs.lemmas.{plain_settled}
 use Rattle.replay.proofs.lemmas.{StartsWith, output-append}
 use Rattle.replay.proofs.lemmas.Settled as replay
 

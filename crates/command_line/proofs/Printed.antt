@@ -1,6 +1,6 @@
 -- What a replay prints is a formed and safe book.
-use Rattle.command_line.proofs.Common.{arith, ◌≡◌, ◌+◌, ℕ, Bool, true, false, List, [], ◌∷◌, ◌++◌, Option, codes, refl, ap, sym, subst, ◌∙◌, length-append, Appends, Contains, KeepsPromise, plain_calls, Calls, Host, IsRun, SafeMessages, Crossing, Told, AreTwo, WorldState, Life, Reported, crossings_of, output, Detail, ended_line, TopologyFields, CarrierKind, WorldEvent, subnet_calls, plain_of, subnet_of, Raw, World, AreLived, lives_in, AreOneBook, PrintsBook, PrintsPart, Ran, RanInPart, ReplaysFrom, ReplaysOver, ShowsBook, WorldShowsFrom, book_text}
-use Rattle.leader1822.specs.Boxes.{Boxes}
+use Rattle.command_line.proofs.Common.{arith, ◌≡◌, ◌+◌, ℕ, Bool, true, false, List, [], ◌∷◌, ◌++◌, Option, codes, refl, ap, sym, subst, ◌∙◌, length-append, Appends, Contains, KeepsPromise, plain_calls, Calls, Host, IsRun, SafeMessages, Crossing, Told, AreTwo, WorldState, Life, Reported, crossings_of, output, Detail, ended_line, TopologyFields, CarrierKind, WorldEvent, subnet_calls, plain_of, subnet_of, Raw, World, AreLived, lives_in, AreOneBook, PrintsBook, PrintsPart, ReplaysFrom, ReplaysOver, ShowsBook, WorldShowsFrom, book_text, Boxes, plain_settled}
+use Rattle.command_line.specs.Replayed.{Ran, RanInPart}
 use Rattle.std.proofs.Common.{reverse}
 use Rattle.promise.specs.Formed.{FormedBook}
 use Rattle.std.proofs.Common.{length}
@@ -22,7 +22,6 @@ use Rattle.command_line.specs.Printed.{log_of, shown_book}
 use Rattle.command_line.specs.Replayed.{EndsFrom, EndsOver}
 use Rattle.command_line.proofs.Lived.{lived, none_lived}
 use Rattle.command_line.proofs.Once.{world_once}
-use Rattle.trace.proofs.lemmas.{plain_settled}
 
 -- ---- a network without host programs
 

@@ -1,5 +1,5 @@
 -- What the parser of arguments makes of the three flags.
-use Rattle.command_line.proofs.Common.{◌≡◌, ◌≢◌, ◌⊎◌, ◌||◌, not, ℕ, Bool, true, false, if◌then◌else◌, List, [], ◌∷◌, ◌++◌, Option, Some, None, codes, subst, refl, sym, ap, ◌∙◌, inl, inr, false≢true, bytes_eq, list_any, option_and_then, HasKind, long_of, one_of, kind_of, command_line, Options}
+use Rattle.command_line.proofs.Common.{◌≡◌, ◌≢◌, ◌⊎◌, ◌||◌, not, ℕ, Bool, true, false, if◌then◌else◌, List, [], ◌∷◌, ◌++◌, Option, Some, None, codes, subst, refl, sym, ap, ◌∙◌, inl, inr, false≢true, bytes_eq, list_any, option_and_then, HasKind, long_of, one_of, kind_of, command_line, Options, options_of}
 use Rattle.std.proofs.Common.{◌&&◌, find, is_some, fold}
 use Rattle.std.proofs.lemmas.List.{append-nil}
 use Rattle.std.proofs.lemmas.Slice.Eq.{bytes_eq-Decides}
@@ -18,7 +18,7 @@ use Rattle.clap.proofs.OnLiterals.{clap_on_literals}
 use Rattle.clap.specs.Values.{reading_of}
 use Rattle.clap.specs.declared.builder.value_parser.ValueParser.TheVariants as parser
 use Rattle.clap.specs.declared.parser.matches.ValueSource.TheVariants.{CommandLine, DefaultValue}
-use Rattle.command_line.specs.Options.{options_after, options_of, with_word}
+use Rattle.command_line.specs.Options.{options_after, with_word}
 use Rattle.command_line.specs.Parser.{flag}
 use Rattle.command_line.proofs.Hyphens.{long_is}
 

@@ -1,13 +1,9 @@
 -- Ends that the program does not have.
-use Rattle.command_line.proofs.Common.{◌≡◌, inl, inr, ℕ, true, false, List, [], ◌∷◌, ◌++◌, Option, Some, None, Result, Ok, Err, codes, map, refl, sym, ap, ◌∙◌, false≢true, Appends, Keeps, log_text, text_of, TopologyFields, CarrierKind, Raw, World, plain_calls, subnet_calls, LogsOver, raw_book, world_book, EndsTask, Sides, TracesOver, AuditFault, ScriptFault, Verdict, detail_of, ReplaysOver}
+use Rattle.command_line.proofs.Common.{◌≡◌, inl, inr, ℕ, true, false, List, [], ◌∷◌, ◌++◌, Option, Some, None, Result, Ok, Err, codes, map, refl, sym, ap, ◌∙◌, false≢true, Appends, Keeps, log_text, text_of, TopologyFields, CarrierKind, Raw, World, plain_calls, subnet_calls, LogsOver, raw_book, world_book, EndsTask, Sides, TracesOver, AuditFault, ScriptFault, Verdict, detail_of, ReplaysOver, MixedFields, MixedWorldEvent, RanEither, MixedReplaysOver, EndsReplay}
 use Rattle.book_log.specs.Log.{Book, handed_line, life_line, log_lines, logged_line, text_of_lines}
-use Rattle.topology.specs.Mixed.{MixedFields}
 use Rattle.topology.specs.declared.network.CarrierKind.TheVariants as kind
-use Rattle.world_script.specs.declared.event.MixedWorldEvent.{MixedWorldEvent}
-use Rattle.command_line.specs.Either.{RanEither}
 use Rattle.command_line.specs.Events.{Asked}
-use Rattle.command_line.specs.Mixed.{MixedReplaysOver}
-use Rattle.command_line.specs.Program.{Closes, EndsReplay, audited_as, finished_as}
+use Rattle.command_line.specs.Program.{Closes, audited_as, finished_as}
 use Rattle.command_line.specs.WorkedSides.{Never, drained, no_options, only_check, out_of_memory, unread, wrote}
 use Rattle.command_line.specs.declared.auditing.AuditFault.TheVariants as log
 use Rattle.command_line.specs.declared.fault.ScriptFault.TheVariants as script

@@ -1,19 +1,11 @@
 -- An input of either kind, read and replayed.
-use Rattle.command_line.proofs.Common.{◌≡◌, ◌⊎◌, ◌<◌, inl, inr, ℕ, Bool, true, false, List, Option, Some, None, Result}
-use Rattle.command_line.proofs.Common.{Ok, Err, IfSome, IfErr, MatchResult, OnOk, refl, sym, subst, ◌∙◌, false≢true}
-use Rattle.command_line.proofs.Common.{Keeps, IsReplayFault, IsInputFault, IsSomeInput, IsInput}
-use Rattle.command_line.proofs.Common.{ReplaysOn, ScriptFault, Detail, TopologyFields}
-use Rattle.command_line.proofs.Common.{on_ok}
+use Rattle.command_line.proofs.Common.{◌≡◌, ◌⊎◌, ◌<◌, inl, inr, ℕ, Bool, true, false, List, Option, Some, None, Result, Ok, Err, IfSome, IfErr, MatchResult, OnOk, refl, sym, subst, ◌∙◌, false≢true, Keeps, IsReplayFault, IsInputFault, IsSomeInput, IsInput, ReplaysOn, ScriptFault, Detail, TopologyFields, on_ok, MixedFields, MixedWorldEvent, IsEitherFault, IsEitherInput, RanEither, RanEitherInPart, ReplaysEither, StopsEither, IsMixedFault, MixedEndsOn, MixedReplaysOn, IsReadFault}
 use Rattle.std.proofs.Common.{length}
-use Rattle.topology.specs.Mixed.{MixedFields}
-use Rattle.world_script.specs.declared.event.MixedWorldEvent.{MixedWorldEvent}
-use Rattle.command_line.specs.Either.{IsEitherFault, IsEitherInput, RanEither, RanEitherInPart, ReplaysEither}
-use Rattle.command_line.specs.Either.{StopsEither}
 use Rattle.command_line.specs.Events.{Asked}
-use Rattle.command_line.specs.Mixed.{IsMixedFault, IsMixedInput, IsSomeMixed, MixedEndsOn, MixedReplaysInput}
-use Rattle.command_line.specs.Mixed.{MixedReplaysOn, MixedStopsInput}
+use Rattle.command_line.specs.Mixed.{IsMixedInput, IsSomeMixed, MixedReplaysInput}
+use Rattle.command_line.specs.Mixed.{MixedStopsInput}
 use Rattle.command_line.specs.Replayed.{EndsOn}
-use Rattle.command_line.specs.Steps.{IsFollowFault, IsReadFault}
+use Rattle.command_line.specs.Steps.{IsFollowFault}
 use Rattle.command_line.specs.declared.fault.ScriptFault.TheVariants as fault
 
 -- ---- of any octets, and of known ones

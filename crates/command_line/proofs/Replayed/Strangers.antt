@@ -1,27 +1,16 @@
 -- A replay over the carrier of a topology with strangers continues, and ends.
-use Rattle.command_line.proofs.Common.{◌≡◌, ◌⊎◌, inl, inr, ℕ, Bool, true, List, [], ◌∷◌, ◌++◌, Option, None, Result}
-use Rattle.command_line.proofs.Common.{OnOk, sym, subst, refl, Appends, Keeps, Calls, Detail, Host, Life, book_text}
-use Rattle.command_line.proofs.Common.{codes, shown, CarrierKind, ScriptFault, subnet_calls, subnet_of}
-use Rattle.std.proofs.Common.{IsUtf8}
-use Rattle.std.proofs.lemmas.List.Elements.{All-head, All-tail}
-use Rattle.std.specs.List.{All}
+use Rattle.command_line.proofs.Common.{◌≡◌, ◌⊎◌, inl, inr, ℕ, Bool, true, List, [], ◌∷◌, ◌++◌, Option, None, Result, OnOk, sym, subst, refl, Appends, Keeps, Calls, Detail, Host, Life, book_text, codes, shown, CarrierKind, ScriptFault, subnet_calls, subnet_of, IsUtf8, All-head, All-tail, All, appends_more, IsParted, MixedFields, hosts_of, MixedWorldEvent, IsMixedFault, MixedEndsOn, MixedReplaysOn, MixedReplaysOver, WritesWorld, IsNetworkFault}
 use Rattle.interface.specs.Host.{is_host}
 use Rattle.mixed_worlds.specs.Laws.{KeepsAmong, KeepsToward}
 use Rattle.net_sim.specs.MixedWorlds.{MixedState, absent_in, opening_mixed, strange_in}
-use Rattle.replay.proofs.lemmas.{appends_more}
-use Rattle.script.specs.Input.{IsParted}
 use Rattle.subnet.specs.Calls.{Kept}
-use Rattle.topology.specs.Mixed.{AreHosts, MixedFields}
-use Rattle.topology.specs.Topology.{hosts_of}
+use Rattle.topology.specs.Mixed.{AreHosts}
 use Rattle.topology.specs.declared.network.CarrierKind.TheVariants as kind
 use Rattle.world_replay.specs.Kinds.{ReplaysBy, RunsOutBy, mixed_kind}
 use Rattle.world_replay.specs.Output as lines
 use Rattle.world_replay.proofs.lemmas.Gained.{mixed_refusal_gained, replays_show, stops_show}
-use Rattle.world_script.specs.declared.event.MixedWorldEvent.{MixedWorldEvent}
-use Rattle.command_line.specs.Mixed.{DescribesMixed, IsMixedFault, MixedEndsOn, MixedEndsOver, MixedReplaysOn}
-use Rattle.command_line.specs.Mixed.{MixedReplaysOver, MixedShowsFrom, MixedStopsFrom}
-use Rattle.command_line.specs.Replayed.{WritesWorld}
-use Rattle.command_line.specs.Steps.{IsNetworkFault}
+use Rattle.command_line.specs.Mixed.{DescribesMixed, MixedEndsOver}
+use Rattle.command_line.specs.Mixed.{MixedShowsFrom, MixedStopsFrom}
 use Rattle.command_line.proofs.Replayed.Written.{shows_book}
 use Rattle.command_line.specs.declared.fault.ScriptFault.TheVariants as fault
 

@@ -1,15 +1,15 @@
 -- A replay over the carrier of a topology continues, and ends.
-use Rattle.command_line.proofs.Common.{◌≡◌, ◌⊎◌, inl, inr, ℕ, Bool, List, [], ◌++◌, Option, Result, OnOk, codes, ap, sym, subst, ◌∙◌, Appends, Keeps, KeepsPromise, IsRun, SafeMessages, shown, WorldState, opening_world, Life, Writes, crossings_of, output, Calls, Detail, RawEvent, TopologyFields, CarrierKind, WorldEvent, LogsOn, LogsOver, ReplaysOn, ReplaysOver, ShowsBook, ShowsFrom, StopsFrom, WorldShowsFrom, WorldStopsFrom, book_text}
+use Rattle.command_line.proofs.Common.{◌≡◌, ◌⊎◌, inl, inr, ℕ, Bool, List, [], ◌++◌, Option, Result, OnOk, codes, ap, sym, subst, ◌∙◌, Appends, Keeps, KeepsPromise, IsRun, SafeMessages, shown, WorldState, opening_world, Life, Writes, crossings_of, output, Calls, Detail, RawEvent, TopologyFields, CarrierKind, WorldEvent, LogsOn, LogsOver, ReplaysOn, ReplaysOver, ShowsBook, ShowsFrom, StopsFrom, WorldShowsFrom, WorldStopsFrom, book_text, appends_more, WritesWorld}
 use Rattle.std.proofs.Common.{reverse}
 use Rattle.std.proofs.lemmas.List.{append-nil}
 use Rattle.net_sim.specs.Book.{Kept, opening_kept}
 use Rattle.replay.specs.Replay.{EndsIn, Replays, StopsIn}
-use Rattle.replay.proofs.lemmas.{appends_more, replays_show, stops_show}
+use Rattle.replay.proofs.lemmas.{replays_show, stops_show}
 use Rattle.world_replay.specs.Output as lines
 use Rattle.world_replay.specs.Replay as worlds
 use Rattle.world_replay.proofs.lemmas.Gained as world
 use Rattle.command_line.specs.Events.{Asked}
-use Rattle.command_line.specs.Replayed.{EndsOn, EndsOver, WritesAll, WritesWorld}
+use Rattle.command_line.specs.Replayed.{EndsOn, EndsOver, WritesAll}
 
 -- ---- without host programs
 

@@ -1,9 +1,6 @@
-use Rattle.command_line.proofs.Common.{◌≡◌, ap, rules, ◌∙◌}
-use Rattle.leader1822.specs.Boxes.{Boxes}
+use Rattle.command_line.proofs.Common.{◌≡◌, ap, rules, ◌∙◌, Boxes, hosts_of, subnet_of}
 use Rattle.subnet.specs.Calls.{Kept}
-use Rattle.topology.specs.Topology.{hosts_of}
 use Rattle.topology.specs.declared.network.CarrierKind.TheVariants as kind
-use Rattle.command_line.specs.Carriers.{subnet_of}
 use Rattle.command_line.proofs.Replayed.Strangers.{strangers_there, subnet_all, subnet_part}
 use Rattle.command_line.proofs.mixed.replay_mixed_on.Goals as goal
 

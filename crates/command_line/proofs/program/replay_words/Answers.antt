@@ -1,8 +1,6 @@
-use Rattle.command_line.proofs.Common.{◌≡◌, ◌⊎◌, ℕ, List, Option, Result, Err, IfSome, OnOk, false, map, ap, refl}
-use Rattle.command_line.proofs.Common.{subst, Detail, Keeps, Options, ScriptFault, Sides}
+use Rattle.command_line.proofs.Common.{◌≡◌, ◌⊎◌, ℕ, List, Option, Result, Err, IfSome, OnOk, false, map, ap, refl, subst, Detail, Keeps, Options, ScriptFault, Sides, RanEither, RanEitherInPart, ReplaysEither, StopsEither, options_of}
 use Rattle.std.proofs.Common.{string_bytes}
-use Rattle.command_line.specs.Either.{RanEither, RanEitherInPart, ReplaysEither, StopsEither}
-use Rattle.command_line.specs.Options.{options_in, options_of}
+use Rattle.command_line.specs.Options.{options_in}
 use Rattle.command_line.specs.Program.{sides}
 use Rattle.command_line.specs.declared.fault.ScriptFault.TheVariants as fault
 use Rattle.command_line.proofs.Jobs.{asked_ends, keeps_same, no_memory, replayed_if}

@@ -1,4 +1,4 @@
-use Rattle.command_line.proofs.Common.{◌≡◌, Err, rules}
+use Rattle.std.proofs.Common.{◌≡◌, Err, rules}
 use Rattle.command_line.proofs.Replayed.Either.{mixed_read, mixed_replayed, mixed_stopped}
 use Rattle.command_line.proofs.Faults.{unwritten, write_fault}
 use Rattle.command_line.proofs.simulator.follow_mixed.Goals as goal
