@@ -11,7 +11,8 @@ plainest spelling.
 Networks with host programs are tried as far as the program runs them, which it is asked first: their scripts are made event by
 event, by looking at what the model has come to (python/dorydate/model/chance/worlds.py), and it is counted what they came to. So are scripts of raw
 networks in which IMPs ask what became of their messages (python/dorydate/model/chance/questions.py). Of these the log is compared too, since two answers
-are printed alike. And so are scripts of networks with strangers (python/dorydate/model/chance/strangers.py). `./check model asking RUNS` tries only these, this many.
+are printed alike. And so are scripts of networks with strangers (python/dorydate/model/chance/strangers.py).
+`./check model asking RUNS` tries only those with questions, this many.
 
 It takes the proved program, or where ./build has not made that the one that was built without proofs. With `--try`, and perhaps the folder of another clone of the repository, it
 takes the program that `rt try` builds without proofs, and fewer inputs, since that one is slow.
