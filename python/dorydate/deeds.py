@@ -100,6 +100,16 @@ class Deed:
         """
         return next((flow_of(it) for it in self.printed if it.startswith("out ")), None)
 
+    @property
+    def text(self) -> Text | None:
+        """The text of the last message that crossed.
+
+        >>> net.out("UCLA", "SRI", 5, b"LO").text
+        Text(octets=b'LO', bits=16)
+        """
+        crossed = [it.split(" ") for step in self.steps for it in step.texts if it.startswith(("out ", "in "))]
+        return Text.read(*crossed[-1][4:]) if crossed else None
+
     def __bool__(self) -> bool:
         return self.refused is None
 

@@ -4,16 +4,18 @@ from __future__ import annotations
 
 import re
 from collections.abc import Iterable, Mapping
-from dataclasses import dataclass
+from dataclasses import dataclass, replace
 from typing import Any, Union
 
 from dorydate.given import short
+from dorydate.sentences.table import filled, sentences
 from dorydate.sites import Site
 from dorydate.toml import MOST_NUMBER, document_of, line_of_key, line_of_table
 
 MOST_IMPS = MOST_NUMBER
 MOST_HOSTS = 4
 MOST_LINES = 5  # of one IMP
+TOPOLOGIES = sentences("topologies")
 
 
 class BadNetwork(ValueError):
@@ -73,6 +75,7 @@ class Imp:
     hosts: int = 1
     name: str = ""
     more: str = ""  # what the comment after its number says beside the name: machines, and where it is (dorydate.sites)
+    foreign: tuple[int, ...] = ()  # the numbers of its hosts that are strangers and run no program
 
     def __str__(self) -> str:
         return self.name or f"IMP {self.number}"
@@ -128,15 +131,24 @@ class Network:
         check(self)
 
     @staticmethod
-    def joined(*chains: str, hosts: int | Mapping[str, int] = 1, raw: bool = False, carrier: str = "subnet") -> Network:
+    def joined(
+        *chains: str,
+        hosts: int | Mapping[str, int] = 1,
+        raw: bool = False,
+        carrier: str = "subnet",
+        foreign: Iterable[str] = (),
+    ) -> Network:
         """The network of these chains of sites, as in `UCLA-SRI-UTAH`, `UCLA-UCSB`. IMPs are numbered as they first come.
 
         `hosts` is how many each has, or a mapping from names; those that it doesn't name have one. A line that comes again, as
-        between two chains, is one line.
+        between two chains, is one line. `foreign` names the hosts that are strangers and run no program, as `host`
+        reads them.
 
         >>> four = Network.joined("UCLA-SRI-UTAH", "SRI-UCSB-UCLA", hosts={"UTAH": 2})
         >>> len(four.imps), len(four.lines), len(four.hosts())
         (4, 4, 5)
+        >>> Network.joined("UCLA-SRI", hosts=2, foreign=["SRI", "1 at SRI"]).imps[1].foreign
+        (0, 1)
         """
         names: list[str] = []
         pairs: list[tuple[str, str]] = []
@@ -153,7 +165,10 @@ class Network:
         counts = {it: hosts if isinstance(hosts, int) else hosts.get(it, 1) for it in names}
         imps = tuple(Imp(number, counts[name], name) for number, name in enumerate(names, 1))
         number = {name: at for at, name in enumerate(names, 1)}
-        return Network(imps, tuple(Line(number[a], number[b]) for a, b in pairs), raw, carrier)
+        network = Network(imps, tuple(Line(number[a], number[b]) for a, b in pairs), raw, carrier)
+        strangers = [(it.host, network.imp(it.imp)) for it in map(network.host, foreign)]
+        named = {imp: tuple(number for number, of in strangers if of == imp) for imp in imps}
+        return replace(network, imps=tuple(replace(imp, foreign=named[imp]) for imp in imps))
 
     # ---- names
 
@@ -217,6 +232,14 @@ class Network:
         """
         return [Host(host, imp.number) for imp in sorted(self.imps, key=lambda it: it.number) for host in range(imp.hosts)]
 
+    def strangers(self) -> list[Host]:
+        """The hosts that run no program, in order.
+
+        >>> mixed.strangers()
+        [Host(host=0, imp=2)]
+        """
+        return [it for it in self.hosts() if it.host in self.imp(it.imp).foreign]
+
     def title(self, host: Host) -> str:
         """How a host is called: its site's name where that is known.
 
@@ -242,7 +265,7 @@ class Network:
         hosts = 1
         """
         head = [f'carrier = "{self.carrier}"', f"raw = {'true' if self.raw else 'false'}"]
-        imps = [f"[[imp]]\nid = {imp.number}{f' # {imp.name}{imp.more}' if imp.name else ''}\nhosts = {imp.hosts}" for imp in self.imps]
+        imps = [written(imp) for imp in self.imps]
         lines = [f"[[line]]\na = {line.a}\nb = {line.b}" for line in self.lines]
         return "\n".join([*head, *imps, *lines]) + "\n"
 
@@ -256,10 +279,16 @@ class Network:
         return read(text)
 
 
-def imp_of(number: int, hosts: int, comment: str) -> Imp:
-    """An IMP, by the comment after its number."""
+def written(imp: Imp) -> str:
+    """The table of an IMP."""
+    strangers = f"\nforeign = [{', '.join(map(str, imp.foreign))}]" if imp.foreign else ""
+    return f"[[imp]]\nid = {imp.number}{f' # {imp.name}{imp.more}' if imp.name else ''}\nhosts = {imp.hosts}{strangers}"
+
+
+def imp_of(table: Mapping[str, Any], comment: str) -> Imp:
+    """An IMP, by its table and the comment after its number."""
     name = Site.read(comment).name
-    return Imp(number, hosts, name, comment[len(name) :])
+    return Imp(table["id"], table["hosts"], name, comment[len(name) :], tuple(table.get("foreign", ())))
 
 
 def check(network: Network) -> None:
@@ -276,9 +305,22 @@ def check(network: Network) -> None:
             raise BadNetwork(f"{imp} has a number from 1 to {MOST_IMPS} and 0 to {MOST_HOSTS} hosts")
         if numbers.count(imp.number) > 1:
             raise BadNetwork(f"two IMPs have the number {imp.number}")
+        if imp.foreign and (why := "foreign raw" if network.raw else wrong_with_numbers([*imp.foreign], imp.hosts)):
+            raise BadNetwork(filled(TOPOLOGIES[why], imp=imp.number, hosts=imp.hosts))
         if not imp.name.isprintable():
             raise BadNetwork("a site's name has one line of characters that can be printed")
     check_lines(network.lines, numbers)
+
+
+def wrong_with_numbers(numbers: object, hosts: int) -> str:
+    """Which rule of the numbers of an IMP's strangers these break, by its sentence's name; nothing where they keep all."""
+    if not isinstance(numbers, list) or not all(type(it) is int for it in numbers):
+        return "foreign list"
+    if not all(0 <= it < hosts for it in numbers):
+        return "foreign host"
+    if len({*numbers}) < len(numbers):
+        return "foreign twice"
+    return "" if numbers == sorted(numbers) else "foreign order"
 
 
 def check_lines(lines: Iterable[Line], numbers: list[int]) -> None:
@@ -299,6 +341,7 @@ def check_lines(lines: Iterable[Line], numbers: list[int]) -> None:
 # ---- topologies
 
 KEYS = {"imp": {"id", "hosts"}, "line": {"a", "b"}}
+OPTIONAL: dict[str, set[str]] = {"imp": {"foreign"}, "line": set()}
 NAME = re.compile(r"^[ \t]*id[ \t]*=[ \t]*(\d+)[ \t]*#[ \t]*(\S.*)$", re.MULTILINE)  # a comment after an IMP's number is the name of its site
 
 
@@ -318,17 +361,27 @@ def read(text: str) -> Network:
     if not isinstance(raw, bool) or not isinstance(carrier, str):
         raise BadNetwork("`raw` is true or false, and `carrier` is \"plain\" or \"subnet\"")
     comments = {int(number): printable(comment) for number, comment in NAME.findall(text)}
-    imps = tuple(imp_of(it["id"], it["hosts"], comments.get(it["id"], "")) for it in tables(document, "imp"))
+    imps = tuple(imp_of(it, comments.get(it["id"], "")) for it in tables(document, "imp"))
     return Network(imps, tuple(Line(it["a"], it["b"]) for it in tables(document, "line")), raw, carrier)
 
 
-def tables(document: Mapping[str, Any], name: str) -> list[dict[str, int]]:
-    """The tables of a name, each of which has just its keys, with whole numbers."""
+def has_keys(table: object, name: str) -> bool:
+    """Whether a table has the keys of those of a name, and none that they can't have."""
+    return isinstance(table, dict) and {*table} - OPTIONAL[name] == KEYS[name]
+
+
+def tables(document: Mapping[str, Any], name: str) -> list[dict[str, Any]]:
+    """The tables of a name, each of which has just its keys, with whole numbers. An IMP may list its strangers, too."""
     found = document.get(name, [])
-    if not isinstance(found, list) or not all(isinstance(it, dict) and {*it} == KEYS[name] for it in found):
+    if not isinstance(found, list) or not all(has_keys(it, name) for it in found):
         raise BadNetwork(f"a table [[{name}]] has exactly the keys {' and '.join(sorted(KEYS[name]))}")
-    if not all(type(value) is int for it in found for value in it.values()):
+    if not all(type(value) is int for it in found for key, value in it.items() if key not in OPTIONAL[name]):
         raise BadNetwork("numbers of IMPs, hosts and ends of lines are whole")
+    listed = [it["foreign"] for it in found if "foreign" in it]
+    if not all(isinstance(it, list) for it in listed):
+        raise BadNetwork(TOPOLOGIES["foreign list"])
+    if listed and not any(listed):
+        raise BadNetwork(TOPOLOGIES["foreign none"])
     return found
 
 

@@ -7,11 +7,12 @@ tried here can be replayed, explained and audited without this package.
 from __future__ import annotations
 
 from collections.abc import Callable, Iterable, Sequence
+from dataclasses import dataclass
 
 from dorydate import script as events
 from dorydate.deeds import Deed, Octets, Step, Stopped, text_of, together
 from dorydate.drawing import drawn
-from dorydate.inside import CannotFollow, state_of, trace_of
+from dorydate.inside import NOT_YET, CannotFollow, state_of, trace_of
 from dorydate.marks import LAST, Marked, Unmarked, each_printed, mark_for
 from dorydate.network import Host, HostName, ImpName, Network
 from dorydate.printed import flow_of, kind_of, matches, may_match, without_text
@@ -108,8 +109,8 @@ class Replay:
         """Raises `BadLine` for what is no event, and `Stopped` for one that networks of this kind don't have."""
         if not isinstance(event, Event):
             raise BadLine(f"{event!r} is no event; `read_event` reads one from a line of a script")
-        if event.word not in (events.RAW if self.network.raw else events.WORLD):
-            raise Stopped(f"`{event.word}` is an event of {'networks with host programs' if self.network.raw else 'raw networks'}")
+        if event.word not in events.words_in(self.network):
+            raise Stopped(events.not_here(event.word, self.network))
 
     def _printed(self, happened: Sequence[Event]) -> list[str]:
         """All lines that these events print, with the octets of messages."""
@@ -159,7 +160,7 @@ class Replay:
         return Flow(self.network.host(source), self.network.host(destination), link)
 
     def out(self, source: HostName, destination: HostName, link: int = 0, text: Octets = b"", why: str = "") -> Deed:
-        """A host hands its IMP a message, in a raw network.
+        """A host hands its IMP a message, in a raw network; where hosts have programs, a stranger.
 
         >>> net.out("UCLA", "SRI", link=5, text=b"LO")
         out 0/1 0/2 5 16 4C4F
@@ -219,6 +220,23 @@ class Replay:
         'IsUp'
         """
         return self.do(events.HostUp(self.network.host(host)), why)
+
+    def foreign(self, host: HostName) -> Stranger:
+        """A host that runs no program of this project's: one says oneself what it sends and when it takes.
+
+        >>> other = Replay(mixed)
+        >>> other.foreign("MINE").host
+        Host(host=0, imp=2)
+        >>> other.foreign("UCLA")
+        Traceback (most recent call last):
+            ..
+        dorydate.deeds.Stopped: UCLA is no stranger; these are: MINE
+        """
+        named = self.network.host(host)
+        if named not in (strangers := self.network.strangers()):
+            known = ", ".join(map(self.network.title, strangers)) or "none"
+            raise Stopped(f"{self.network.title(named)} is no stranger; these are: {known}")
+        return Stranger(self, named)
 
     # ---- users of hosts with programs
 
@@ -548,6 +566,8 @@ class Replay:
         >>> net.out("UCLA", "SRI", 5, b"LO") and net.log.splitlines()
         ['out 0/1 0/2 5 16 4C4F', 'end']
         """
+        if self.network.strangers():
+            raise Stopped(NOT_YET)
         return self.program.run(octets_of(self.text), "--log").output
 
     def audit(self) -> str:
@@ -618,3 +638,41 @@ class Replay:
         except CannotFollow:
             state = State(self.network, {})
         return drawn(self.network, state, self.unanswered())
+
+
+@dataclass(frozen=True)
+class Stranger:
+    """A host that runs no program of this project's, in a replay: it sends what one likes and takes when one likes.
+
+    Here it makes contact by RST, and takes the RRP of the proved host. [Hosts](hosts.md) has the rules.
+
+    >>> other = Replay(mixed)
+    >>> mine = other.foreign("MINE")
+    >>> other.calm(2) and mine.out("UCLA", text=bytes.fromhex("00080001000C")) and other.calm(2).printed
+    ['in 0/2 0/1 0 48', 'ready 0/1 0/2', 'out 0/1 0/2 0 48']
+    >>> mine.take() and mine.take()
+    take 0/2
+        in 0/1 0/2 0 48
+    """
+
+    net: Replay
+    host: Host
+
+    def out(self, destination: HostName, link: int = 0, text: Octets = b"", why: str = "") -> Deed:
+        """It hands its IMP a message.
+
+        >>> other = Replay(mixed)
+        >>> other.calm(2) and other.foreign("MINE").out("UCLA", text=bytes.fromhex("00080001000C"))
+        out 0/2 0/1 0 48 00080001000C
+            out 0/2 0/1 0 48
+        """
+        return self.net.out(self.host, destination, link, text, why)
+
+    def take(self, why: str = "") -> Deed:
+        """It takes what waits for it: the oldest answer, or else the oldest message.
+
+        >>> other = Replay(mixed)
+        >>> other.contact("UCLA", "MINE") and other.calm(2) and other.foreign("MINE").take().text.octets.hex()
+        '00080001000c'
+        """
+        return self.net.take(self.host, why)

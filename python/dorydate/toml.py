@@ -12,7 +12,7 @@ MOST_DOTS = 100  # in a line that is given to Python's reader of TOML
 MOST_DIGITS = 1000  # of a number in it
 STRING = re.compile(r""""[^"]*"|'[^']*'""")
 TABLE = re.compile(r"\s*\[\[\s*(\w+)\s*\]\]\s*(#.*)?")
-PAIR = re.compile(r'\s*(\w+)\s*=\s*("[^"\\]*"|true|false|-?[0-9]+(?:\.[0-9]+)?|\[\])\s*(#.*)?')
+PAIR = re.compile(r'\s*(\w+)\s*=\s*("[^"\\]*"|true|false|-?[0-9]+(?:\.[0-9]+)?|\[[-0-9, ]*\])\s*(#.*)?')
 
 
 class Fault(NamedTuple):
@@ -75,8 +75,10 @@ def by_hand(text: str) -> dict[str, Any]:
 
 def value_of(word: str) -> object:
     """The value of a key in the plain spelling."""
-    if word[0] in '"[':
-        return word[1:-1] if word[0] == '"' else []
+    if word[0] == '"':
+        return word[1:-1]
+    if word[0] == "[":
+        return [int(it) for it in word[1:-1].split(",") if it.strip()]
     if word in ("true", "false"):
         return word == "true"
     return float(word) if "." in word else int(word)

@@ -107,7 +107,7 @@ class Carried(unittest.TestCase):
         self.assertIn("in 0/1 0/3 5 8\n", long[1])
 
     def test_what_only_reports_look_at_keeps_no_calm_going(self) -> None:
-        one, other = Subnet(*PAIR[2:]), Subnet(*PAIR[2:])
+        one, other = Subnet(PAIR.imps, PAIR.lines), Subnet(PAIR.imps, PAIR.lines)
         assert (imp := other.imps[1]) is not None
         imp.lost += 1
         self.assertEqual(one.state(), other.state())

@@ -16,6 +16,7 @@ from dorydate.explore.many import moved
 from dorydate.network import BadNetwork, Host, Imp, Line, Network
 from dorydate.script import BadLine, Calm, Drop, Flow, Out, Script, Text, read_event
 
+TWO, TWO_RAW = (Network.joined("A-B", raw=raw) for raw in (False, True))
 MANY_DIGITS = "9" * 4301  # Python refuses to read as many
 
 ROOT = Path(__file__).resolve().parents[2]
@@ -79,7 +80,7 @@ class Scripts(unittest.TestCase):
         rows = ["jump", "take", "take 0/64", "take 4/1", "out 0/1 0/2 5 8 ff", "out 0/1 0/2 5 7 FF", "out 0/1 0/2 256 0 -", "calm 01", "calm 4294967296", "deliver 0 * 0", "drop 0 + -1", "offer 0/1", "out 0/1 0/2 5 0 00"]
         for line in rows:
             with self.subTest(line), self.assertRaises((BadLine, BadNetwork)):
-                read_event(line, raw=True)
+                read_event(line, TWO_RAW)
 
     def test_bad_inputs_are_named_by_their_lines(self) -> None:
         good = Network.joined("A-B", raw=True).toml()
@@ -113,7 +114,7 @@ class Scripts(unittest.TestCase):
                 Network.joined(f"{name}-C")
 
     def test_typed_text_keeps_its_spaces(self) -> None:
-        self.assertEqual(read_event("type 0/1  a b", raw=False), events.Type(Host(0, 1), " a b"))
+        self.assertEqual(read_event("type 0/1  a b", TWO), events.Type(Host(0, 1), " a b"))
         self.assertEqual(str(events.Type(Host(0, 1), "")), "type 0/1 ")
 
     def test_numbers_in_range(self) -> None:

@@ -109,6 +109,44 @@ export function stepped({ $, one, press, slide, want }, name) {
 }
 
 /**
+ * A stranger is asked what it sends: what is typed is read, sent by its button, and in the script; hosts with programs
+ * are not asked.
+ *
+ * @param {Page} page
+ */
+export async function sending({ $, all, one, key, focused, load, changed, pause, want }) {
+    await load("a-storm-of-resets");
+    const menuOf = async (/** @type {string} */ host) => {
+        key("Escape", focused());
+        all("#network [data-what]").find((it) => it.dataset.what.includes('"host":"' + host + '"')).dispatchEvent(
+            new MouseEvent("click", { bubbles: true }),
+        );
+        await pause(100);
+        return all("#menu button").find((it) => it.textContent.startsWith("It sends commands"));
+    };
+    want(!(await menuOf("0/1")), "a host with a program is asked what it sends");
+    const asks = await menuOf("1/2");
+    want(asks, "a stranger isn't asked what it sends");
+    if (!asks) return;
+    asks.click();
+    await pause(100);
+    const typed = (/** @type {string} */ words) => {
+        $("send-words").value = words;
+        $("send-words").dispatchEvent(new Event("input", { bubbles: true }));
+        return $("send-said").textContent;
+    };
+    want(focused() === $("send-words"), "what is sent isn't ready to be typed");
+    want(typed("HELLO").includes("is no command"), "what is no command isn't told");
+    want(one("#menu [type=submit]").disabled, "what is no command can be sent");
+    want(typed("ECO 7, NOP") === "It says: ECO 7, NOP.", "what is typed isn't said in words");
+    $("send-to").value = "0/2";
+    await changed(() => one("#menu [type=submit]").click());
+    want($("menu").hidden, "the box stays when its message is sent");
+    const script = all("#sheet code, #sheet .text").map((it) => it.textContent).join(" ") || $("sheet").textContent;
+    want(script.includes("out 1/2 0/2 0 64 000800030009" + "0700"), "what is sent isn't in the script");
+}
+
+/**
  * Nothing is cut at this size, and no text is on another.
  *
  * @param {Page} page

@@ -11,6 +11,9 @@ import { capital } from "./words.js";
 /** @typedef {import("./state.js").State} State */
 /** @typedef {import("./talk.js").Talk} Talk */
 
+/** The text of a message with RST, by which a stranger makes contact. */
+export const RST = "48 00080001000C";
+
 /**
  * @typedef {{kind: "line", line: number}} LinePart
  * @typedef {{kind: "frame", line: number, way: "+" | "-", place: number}} FramePart
@@ -22,6 +25,7 @@ import { capital } from "./words.js";
  * @typedef {object} Choice
  * @property {string} words
  * @property {string[]} lines what it adds; none where it only colours the map
+ * @property {boolean} [asks] whether one is asked first what a stranger sends
  */
 
 /**
@@ -193,6 +197,11 @@ function hostChoices(state, talk, host) {
                 words: `It sends “HI” to ${hostName(network, other)}`,
                 lines: [`out ${host} ${other} ${freeLink(talk, host, other)} 16 4849`],
             });
+        }
+    } else if (network.strangers.includes(host)) {
+        found.push({ words: "It sends commands or octets…", lines: [], asks: true });
+        for (const other of others.filter((it) => !network.strangers.includes(it)).slice(0, 4)) {
+            found.push({ words: `It says RST to ${hostName(network, other)}`, lines: [`out ${host} ${other} 0 ${RST}`] });
         }
     } else {
         found.push({ words: "It offers its next message", lines: [`offer ${host}`] });

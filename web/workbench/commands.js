@@ -7,6 +7,12 @@ export const COMMANDS = TABLE.commands
     .map((it) => it.split(" "))
     .map(([name, length]) => ({ name, length: Number(length) }));
 
+/** Of each command the octets of the numbers after its code. */
+export const FIELDS = /** @type {{[name: string]: number[]}} */ ({
+    ...{ NOP: [], RTS: [4, 4, 1], STR: [4, 4, 1], CLS: [4, 4], ALL: [1, 2, 4], GVB: [1, 1, 1], RET: [1, 2, 4] },
+    ...{ INR: [1], INS: [1], ECO: [1], ERP: [1], ERR: [1, 10], RST: [], RRP: [] },
+});
+
 const HEADER = 5; // octets
 
 /**

@@ -20,8 +20,12 @@ import { isOfHost, isQuiet, put, REST, TraceReader } from "./trace.js";
 /** @typedef {import("./trace.js").Record} Record */
 /** @typedef {{seconds: number, octets: number}} Limits */
 
-/** The trace of a network with host programs: its parts at the opening, and its events with all that each changed. */
-/** @typedef {{opening: {[name: string]: Part}, steps: Moment[]}} Traced */
+/**
+ * The trace of a network with host programs: its parts at the opening, and its events with all that each changed. Where
+ * there are strangers that isn't known, and they take nothing in a round (strangers.js).
+ *
+ * @typedef {{opening: {[name: string]: Part}, steps: Moment[], isKnown: boolean}} Traced
+ */
 
 /** A line of a raw script, the step that it belongs to, and whether it is of a quiet round that is spelled out. */
 /** @typedef {{text: string, step: number, quiet: boolean}} Line */
@@ -64,11 +68,11 @@ const INNER = [
  * @returns {Promise<Moment[] | null>}
  */
 export async function driven(run, input, network, traced, limits) {
-    if (network.plain) return traced.steps;
+    if (network.plain && traced.isKnown) return traced.steps;
     const head = rawHead(input);
-    const frames = await framesOfRounds(run, head, network, traced.steps, limits);
+    const frames = await framesOfRounds(run, head, network, traced, limits);
     if (!frames) return null;
-    const lines = rawScript(traced.steps, (step) => quietRound(network, frames.get(step) ?? []));
+    const lines = rawScript(traced, (step) => quietRound(network, frames.get(step) ?? []));
     const text = [...head, ...lines.map((line) => line.text), ""].join("\n");
     if (text.length > MOST_OCTETS) return null;
     const joined = new Joined(network, lines, traced);
@@ -84,8 +88,8 @@ export async function driven(run, input, network, traced, limits) {
  * @param {Input} input
  * @returns {string[]}
  */
-function rawHead(input) {
-    return ["raw = true", ...input.head.filter((line) => !/^\s*raw\s*=/.test(line)), "%"];
+export function rawHead(input) {
+    return ["raw = true", ...input.head.filter((line) => !/^\s*(?:raw|foreign)\s*=/.test(line)), "%"];
 }
 
 /** @param {string} line */
@@ -109,17 +113,17 @@ function endOfRound(steps, from) {
 /**
  * The raw script. A quiet round is one line with the takings after it, unless some host sends in its round.
  *
- * @param {Moment[]} steps
+ * @param {Traced} traced
  * @param {(step: number) => string[]} quietLines the lines of a quiet round that is spelled out
  * @returns {Line[]}
  */
-function rawScript(steps, quietLines) {
+function rawScript({ steps, isKnown }, quietLines) {
     /** @type {Line[]} */
     const lines = [];
     for (let from = 0; from < steps.length; ) {
         const to = endOfRound(steps, from);
         const mine = steps.slice(from, to);
-        if (isQuiet(mine[0]) && !mine.some((it) => it.words[0] === "offer")) {
+        if (isKnown && isQuiet(mine[0]) && !mine.some((it) => it.words[0] === "offer")) {
             lines.push({ text: ROUND, step: from, quiet: false });
         } else {
             mine.forEach((it, place) => {
@@ -139,7 +143,7 @@ function rawScript(steps, quietLines) {
  * @param {Moment} step
  */
 function linesOf({ words, printed }) {
-    if (words[0] === "offer") return printed.filter(isOut);
+    if (words[0] === "offer" || words[0] === "out") return printed.filter(isOut);
     return INNER.includes(words[0]) ? [words.join(" ")] : [];
 }
 
@@ -150,6 +154,7 @@ function linesOf({ words, printed }) {
  * @param {number[]} frames how many arrive, line by line, first `+` and then `-`
  */
 function quietRound(network, frames) {
+    if (network.plain) return [];
     const lines = network.sites.flatMap(({ number }) => [`route ${number}`, `resend ${number}`]);
     frames.forEach((count, place) => {
         const way = `${place >> 1} ${place % 2 ? "-" : "+"} 0`;
@@ -165,15 +170,16 @@ function quietRound(network, frames) {
  * @param {Runner["run"]} run
  * @param {string[]} head
  * @param {Network} network
- * @param {Moment[]} steps
+ * @param {Traced} traced
  * @param {Limits} limits
  * @returns {Promise<Map<number, number[]> | null>}
  */
-async function framesOfRounds(run, head, network, steps, limits) {
-    const spelled = [...new Set(rawScript(steps, () => [ROUND]).flatMap((it) => (it.quiet ? [it.step] : [])))];
+async function framesOfRounds(run, head, network, traced, limits) {
+    if (network.plain) return new Map();
+    const spelled = [...new Set(rawScript(traced, () => [ROUND]).flatMap((it) => (it.quiet ? [it.step] : [])))];
     if (spelled.length === 0) return new Map();
     for (let most = 8; most <= 256; most *= 2) {
-        const padded = rawScript(steps, () => paddedRound(network, most));
+        const padded = rawScript(traced, () => paddedRound(network, most));
         const text = [...head, ...padded.map((line) => line.text), ""].join("\n");
         if (text.length > MOST_OCTETS) return null;
         const outcome = await run([], octetsOf(text), limits);
@@ -259,8 +265,9 @@ class Joined {
      * @param {Line[]} lines
      * @param {Traced} traced
      */
-    constructor(network, lines, { opening, steps }) {
+    constructor(network, lines, { opening, steps, isKnown }) {
         this.network = network;
+        this.isKnown = isKnown;
         this.lines = lines;
         this.steps = steps;
         this.isLarge = isLarge(network, steps);
@@ -301,7 +308,8 @@ class Joined {
         this.records = [];
         const parts = moments?.flatMap((it) => it.parts) ?? [];
         const shown = moments && this.isLarge && isQuiet(step) ? condensed(moments, this.inside) : moments;
-        if (!this.moments || !shown || !areAlike(this.inside, parts, this.real, step.parts)) this.moments = null;
+        const isAlike = areAlike(this.inside, parts, this.real, this.isKnown ? step.parts : parts);
+        if (!this.moments || !shown || !isAlike) this.moments = null;
         else this.moments.push(...shown);
         if (this.moments && this.moments.length > MOST_MOMENTS) this.moments = null;
     }

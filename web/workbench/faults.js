@@ -44,7 +44,7 @@ export function faultOf({ input, said, status }) {
         const number = Number(found[1]);
         const text = input.lines[number - 1]?.text ?? "";
         return {
-            text: `Line ${number} of the script: ${wrongLine(text, isRaw(input)) ?? "No cause was found."}`,
+            text: `Line ${number} of the script: ${wrongLine(text, readsRaw(input, text)) ?? "No cause was found."}`,
             line: input.head.length + 1 + number,
         };
     }
@@ -58,6 +58,17 @@ export function faultOf({ input, said, status }) {
 /** @param {Input} input */
 function isRaw(input) {
     return input.head.some((line) => /^\s*raw\s*=\s*true\b/.test(line));
+}
+
+/**
+ * Whether a line is read as one of a raw network: as all there are, and what a stranger sends.
+ *
+ * @param {Input} input
+ * @param {string} line
+ */
+function readsRaw(input, line) {
+    const isAmong = input.head.some((it) => /^\s*foreign\s*=/.test(it));
+    return isRaw(input) || (isAmong && line.startsWith("out "));
 }
 
 /**
@@ -293,8 +304,40 @@ function wrongNetwork({ values, places }) {
         if (numbers.has(id)) return filled(TOPOLOGIES["two imps"], { number: id });
         numbers.add(id);
         return "";
-    }) ?? wrongRows("line", "", tables(lines), lineRule(numbers));
+    }) ?? wrongRows("line", "", tables(lines), lineRule(numbers)) ?? wrongStrangers(imps, values.raw === true);
     return broken && { text: broken.text, line: at(broken.table, broken.key) };
+}
+
+/**
+ * The first IMP whose strangers aren't named as they have to be.
+ *
+ * @param {{[key: string]: any}[]} imps
+ * @param {boolean} raw
+ */
+function wrongStrangers(imps, raw) {
+    const named = imps.filter((it) => "foreign" in it);
+    for (const table of named) {
+        const why = raw ? "foreign raw" : wrongNumbers(table.foreign, table.hosts);
+        if (why) {
+            const text = filled(TOPOLOGIES[why], { imp: table.id, hosts: table.hosts });
+            return { text, key: "foreign", table };
+        }
+    }
+    if (!named.length || named.some((it) => it.foreign.length)) return null;
+    return { text: TOPOLOGIES["foreign none"], key: "foreign", table: named[0] };
+}
+
+/**
+ * Which rule of the numbers of strangers these break, by its sentence's name; "" where they keep all.
+ *
+ * @param {any} numbers
+ * @param {number} hosts
+ */
+function wrongNumbers(numbers, hosts) {
+    if (!Array.isArray(numbers) || !numbers.every(Number.isInteger)) return "foreign list";
+    if (numbers.some((it) => it < 0 || it >= hosts)) return "foreign host";
+    if (new Set(numbers).size < numbers.length) return "foreign twice";
+    return numbers.every((it, at) => at === 0 || numbers[at - 1] < it) ? "" : "foreign order";
 }
 
 /**
@@ -345,10 +388,11 @@ function wrongTable(name, table) {
     const ranges = TABLE.tables.filter(([of]) => of === name);
     const keys = ranges.map(([, key]) => String(key));
     const found = Object.keys(table);
+    const needed = found.filter((key) => name !== "imp" || key !== "foreign");
     const displaced = found.find((key) => key === "raw" || key === "carrier");
     if (displaced) return { text: filled(TOPOLOGIES.displaced, { key: displaced, table: name }), key: displaced };
-    const other = found.find((key) => !keys.includes(key));
-    if (other || found.length !== keys.length) {
+    const other = needed.find((key) => !keys.includes(key));
+    if (other || needed.length !== keys.length) {
         const holes = { table: name, keys: keys.join(" and "), found: found.join(", ") || "none" };
         return { text: filled(TOPOLOGIES.keys, holes), key: other ?? "" };
     }

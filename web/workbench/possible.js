@@ -3,6 +3,7 @@
  * kept with what each would print.
  */
 
+import { RST } from "./choices.js";
 import { goOn } from "./edits.js";
 import { octetsOf, textOf } from "./octets.js";
 import { frameName } from "./sentences.js";
@@ -64,7 +65,9 @@ function ofHost(state, talk, host) {
     const others = network.hosts.filter((it) => it !== host).slice(0, MOST_PEERS);
     const open = [...talk.messages.keys()].filter((flow) => flow.startsWith(`${host} `));
     const sends = others.map((other) => (
-        network.raw
+        network.strangers.includes(host)
+            ? one(`says RST to ${hostName(network, other)}`, `out ${host} ${other} 0 ${RST}`)
+            : network.raw
             ? one(`sends “HI” to ${hostName(network, other)}`, `out ${host} ${other} 5 16 4849`)
             : one(`contacts ${hostName(network, other)}`, `contact ${host} ${other}`)
     ));
@@ -72,7 +75,7 @@ function ofHost(state, talk, host) {
     const isWaited = box !== null && box.messages.length + box.answers.length > 0;
     return [
         one(isWaited ? "takes what waits for it" : "takes, and nothing waits for it", `take ${host}`),
-        ...(network.raw ? [] : [one("offers its next message", `offer ${host}`)]),
+        ...(network.raw || network.strangers.includes(host) ? [] : [one("offers its next message", `offer ${host}`)]),
         ...sends,
         ...open.flatMap((flow) => [
             ...(network.plain ? [] : [one(`asks what became of ${messageName(network, flow)}`, `ask ${flow}`)]),

@@ -521,8 +521,40 @@ const SERVICES = {
     ],
 };
 
+/** @type {{[name: string]: Question[]}} */
+const STRANGERS = {
+    "a-request-that-takes-a-listener": [
+        [
+            14,
+            "Host 0/1 asks for socket 33, too. Who has the connection?",
+            "The stranger: it asked first, and a socket listens for anybody. Host 0/1 is refused by CLS.",
+        ],
+    ],
+    "a-stolen-socket": [
+        [
+            14,
+            "The stranger's CLS names the two sockets of the connection of 0/1 and 0/2. What does host 0/2 do?",
+            "It answers ERR: with the stranger it has no such connection.",
+        ],
+    ],
+    "a-storm-of-resets": [
+        [
+            22,
+            "RST, RRP and RST are out in one message, and a letter waits for host 0/1. What does host 0/2 send?",
+            "The letter, since no reset of another host touches that connection; and one RRP, for both RSTs.",
+        ],
+    ],
+    "data-past-the-grant": [
+        [
+            18,
+            "Three octets are out, and two are granted. How many does host 0/1 take?",
+            "None: the message is answered by ERR, and the whole grant is left.",
+        ],
+    ],
+};
+
 /** The questions of each lesson, by its name. */
-export const QUESTIONS = { ...MAILBOXES, ...SUBNET, ...ANSWERS_LOST, ...PROGRAMS, ...SERVICES };
+export const QUESTIONS = { ...MAILBOXES, ...SUBNET, ...ANSWERS_LOST, ...PROGRAMS, ...SERVICES, ...STRANGERS };
 
 /** The subjects of the lessons that belong to no hour, and the names of theirs. */
 export const SUBJECTS = /** @type {[string, string[]][]} */ ([
@@ -531,4 +563,5 @@ export const SUBJECTS = /** @type {[string, string[]][]} */ ([
     ["Answers that are lost, and questions", Object.keys(ANSWERS_LOST)],
     ["Hosts with their programs", Object.keys(PROGRAMS)],
     ["Services", Object.keys(SERVICES)],
+    ["Among strangers", Object.keys(STRANGERS)],
 ]);

@@ -20,6 +20,7 @@
  * @property {boolean} raw whether the script itself sends and takes, without host programs
  * @property {Site[]} sites the IMPs in order of their numbers
  * @property {string[]} hosts all hosts in order of IMP and host
+ * @property {string[]} strangers those that run no program, while others do
  * @property {[number, number][]} lines the two IMPs of each line
  * @property {Set<string>} numbered the flows whose messages are named with their numbers, since in the replay two of them
  *   are alive at once
@@ -187,7 +188,10 @@ export function readTopology(text) {
     const { values, comments } = readDocument(text);
     /** @type {Site[]} */
     const sites = [];
+    /** @type {string[]} */
+    const strangers = [];
     for (const imp of tables(values.imp)) {
+        if (Array.isArray(imp.foreign)) strangers.push(...imp.foreign.map((host) => `${host}/${imp.id}`));
         sites.push({ number: Number(imp.id), hosts: Number(imp.hosts), ...readSite(comments.get(imp) ?? "") });
     }
     sites.sort((a, b) => a.number - b.number);
@@ -195,7 +199,7 @@ export function readTopology(text) {
     /** @type {[number, number][]} */
     const lines = tables(values.line).map((line) => [Number(line.a), Number(line.b)]);
     const numbered = new Set();
-    return { plain: values.carrier === "plain", raw: values.raw === true, sites, hosts, lines, numbered };
+    return { plain: values.carrier === "plain", raw: values.raw === true, sites, hosts, strangers, lines, numbered };
 }
 
 /**

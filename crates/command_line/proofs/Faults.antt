@@ -1,9 +1,10 @@
 -- Why octets are no input.
-use Rattle.command_line.proofs.Common.{◌≡◌, ◌<◌, Bool, true, false, List, ℕ, Option, Some, None, IfSome, Result, Ok, Err, IfErr, MatchResult, ap, inl, inr, refl, subst, sym, ◌∙◌, false≢true, TopologyFields, Describes, IsInput, IsInputFault, IsSomeInput, IsReplayFault, ScriptFault}
-use Rattle.std.proofs.Common.{◌↔◌, length, IsUtf8}
-use Rattle.script.specs.Input.{IsParted}
+use Rattle.command_line.proofs.Common.{◌≡◌, ◌<◌, Bool, true, false, List, ℕ, Option, Some, None, IfSome, Result, Ok}
+use Rattle.command_line.proofs.Common.{Err, IfErr, MatchResult, ap, inl, inr, refl, subst, sym, ◌∙◌, false≢true}
+use Rattle.command_line.proofs.Common.{TopologyFields, Describes, IsInput, IsInputFault, IsSomeInput, IsReplayFault}
+use Rattle.command_line.proofs.Common.{ScriptFault, IsUtf8, IsParted, IsNetworkFault, IsReadFault}
+use Rattle.std.proofs.Common.{◌↔◌, length}
 use Rattle.command_line.specs.Events.{Asked}
-use Rattle.command_line.specs.Steps.{IsNetworkFault, IsReadFault}
 use Rattle.replay.specs.Failing.{TellsCannotWrite}
 use Rattle.replay.specs.declared.events.ReplayFault.{ReplayFault}
 use Rattle.replay.specs.declared.events.ReplayFault.TheVariants as replay

@@ -1,6 +1,12 @@
 -- What `--log` writes, `--audit` reads and calls kept.
-use Rattle.command_line.proofs.Common.{◌≡◌, ℕ, Bool, true, List, [], ◌∷◌, Option, Some, None, IfSome, Result, Ok, Err, MatchResult, inl, inr, map, refl, sym, subst, reverse-reverse, fates_of, lives_of, lives_back, Host, IsRun, SafeMessages, Crossing, Says, AreFated, ClosesWhole, Fate, Life, Calls, TopologyFields, CarrierKind, AreSuited, IsSomeRun, AuditsLog, IsAuditFault, IsSomeLog, Judged, SaysOf, kept, Verdict, plain_calls, subnet_calls, plain_of, subnet_of, Raw, World, Logged, LogsFrom, LogsOver, raw_book, world_book, AuditFault}
-use Rattle.std.proofs.Common.{ap, reverse, ◌∙◌}
+use Rattle.command_line.proofs.Common.{◌≡◌, ℕ, Bool, true, List, [], ◌∷◌, Option, Some, None, IfSome, Result, Ok, Err}
+use Rattle.command_line.proofs.Common.{MatchResult, inl, inr, map, refl, sym, subst, reverse-reverse, fates_of}
+use Rattle.command_line.proofs.Common.{lives_of, lives_back, Host, IsRun, SafeMessages, Crossing, Says, AreFated}
+use Rattle.command_line.proofs.Common.{ClosesWhole, Fate, Life, Calls, TopologyFields, CarrierKind, AreSuited}
+use Rattle.command_line.proofs.Common.{IsSomeRun, AuditsLog, IsAuditFault, IsSomeLog, Judged, SaysOf, kept, Verdict}
+use Rattle.command_line.proofs.Common.{plain_calls, subnet_calls, plain_of, subnet_of, Raw, World, Logged, LogsFrom}
+use Rattle.command_line.proofs.Common.{LogsOver, raw_book, world_book, AuditFault, ap, ◌∙◌}
+use Rattle.std.proofs.Common.{reverse}
 use Rattle.book_log.specs.Log.{Book, logged_fate}
 use Rattle.book_log.proofs.lemmas.{book_once, fates_back}
 use Rattle.headline.proofs.lemmas.{kept_promise}

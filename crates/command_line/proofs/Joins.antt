@@ -1,5 +1,11 @@
 -- An input has one log, and its outputs are of one replay.
-use Rattle.command_line.proofs.Common.{◌≡◌, Bool, List, [], ◌++◌, Some, codes, sym, ap, ap₂, subst, ◌∙◌, ℕ, reverse-reverse, lives_of, log_text, lives_back, Crossing, shown, WorldState, opening_world, Life, crossings_of, output, Calls, AreSettled, Detail, OneReplay, replays_once, TopologyFields, CarrierKind, plain_calls, subnet_calls, plain_of, subnet_of, Raw, World, LogsFrom, LogsInput, LogsOn, LogsOver, raw_book, world_book, ReplaysFrom, ReplaysInput, ReplaysOn, ReplaysOver, book_text}
+use Rattle.command_line.proofs.Common.{◌≡◌, Bool, List, [], ◌++◌, Some, codes, sym, ap, ap₂, subst, ◌∙◌, ℕ}
+use Rattle.command_line.proofs.Common.{reverse-reverse, lives_of, log_text, lives_back, Crossing, shown, WorldState}
+use Rattle.command_line.proofs.Common.{opening_world, Life, crossings_of, output, Calls, AreSettled, Detail, OneReplay}
+use Rattle.command_line.proofs.Common.{replays_once, TopologyFields, CarrierKind, plain_calls, subnet_calls, plain_of}
+use Rattle.command_line.proofs.Common.{subnet_of, Raw, World, LogsFrom, LogsInput, LogsOn, LogsOver, raw_book}
+use Rattle.command_line.proofs.Common.{world_book, ReplaysFrom, ReplaysInput, ReplaysOn, ReplaysOver, book_text}
+use Rattle.command_line.proofs.Common.{subnet_settled, plain_settled}
 use Rattle.std.proofs.Common.{reverse}
 use Rattle.replay.specs.Output.{Shown}
 use Rattle.topology.specs.declared.network.CarrierKind.TheVariants as kind
@@ -10,8 +16,6 @@ use Rattle.command_line.specs.Joins.{PrintTheSame, TellTheSame}
 use Rattle.command_line.proofs.Once.{raw_once, world_once}
 use Rattle.command_line.proofs.OneInput.{OneInput, input_once}
 use Rattle.command_line.proofs.Printed.{as_world, no_lives, same_crossings, same_output}
-use Rattle.subnet_trace.proofs.lemmas.{subnet_settled}
-use Rattle.trace.proofs.lemmas.{plain_settled}
 
 -- ---- one log
 

@@ -17,9 +17,9 @@ mod OneTrace
 mod Printed
 mod Reading
 mod Recorded
+mod Replayed
 mod Sites
 mod Traced
 mod Words
 mod WorkedLines
 mod WorkedPrograms
-mod Written

@@ -1,20 +1,27 @@
 -- An input leaves its trace no choice.
-use Rattle.command_line.proofs.Common.{◌≡◌, inl, inr, ℕ, List, [], ◌∷◌, ◌++◌, Some, sym, ap, ap₂, subst, zip, ◌∙◌, append_assoc, HappensOnce, ShowsFront, text_of, Calls, AreSettled, ends_front, in_turn_once, parted_once, RawEvent, TopologyFields, CarrierKind, shown, WorldState, opening_world, Event, SameGains, gains_once, happens_once, shown_settled, EndsRound, WorldEvent, opening_text, world_line, StopsOne, TellsIn, TellsInCalm, TellsOne, TellsRound, change_of, first_rounds, state_of, object, opening_line, Spot, Inside, TellsEvent, asking_from, numbered_from, plain_inside, plain_calls, subnet_calls, subnet_inside, plain_of, subnet_of, Raw, World, EndsAll, IsScripted, TraceStops, TracesAll, TracesFrom, TracesInput, TracesOn, TracesOver, WorldEndsFrom, WorldTracesFrom}
+use Rattle.command_line.proofs.Common.{◌≡◌, inl, inr, ℕ, List, [], ◌∷◌, ◌++◌, Some, sym, ap, ap₂, subst, zip, ◌∙◌}
+use Rattle.command_line.proofs.Common.{append_assoc, HappensOnce, ShowsFront, text_of, Calls, AreSettled, ends_front}
+use Rattle.command_line.proofs.Common.{in_turn_once, parted_once, RawEvent, TopologyFields, CarrierKind, shown}
+use Rattle.command_line.proofs.Common.{WorldState, opening_world, Event, SameGains, gains_once, happens_once}
+use Rattle.command_line.proofs.Common.{shown_settled, EndsRound, WorldEvent, opening_text, world_line, StopsOne}
+use Rattle.command_line.proofs.Common.{TellsIn, TellsInCalm, TellsOne, TellsRound, change_of, first_rounds, state_of}
+use Rattle.command_line.proofs.Common.{object, opening_line, Spot, Inside, TellsEvent, asking_from, numbered_from}
+use Rattle.command_line.proofs.Common.{plain_inside, plain_calls, subnet_calls, subnet_inside, plain_of, subnet_of, Raw}
+use Rattle.command_line.proofs.Common.{World, EndsAll, IsScripted, TraceStops, TracesAll, TracesFrom, TracesInput}
+use Rattle.command_line.proofs.Common.{TracesOn, TracesOver, WorldEndsFrom, WorldTracesFrom, members_of, AllParts}
+use Rattle.command_line.proofs.Common.{subnet_settled, plain_settled}
 use Rattle.replay.proofs.lemmas.{text_of-append}
 use Rattle.topology.specs.declared.network.CarrierKind.TheVariants as kind
 use Rattle.world_replay.specs.Gains.{Gains}
 use Rattle.world_replay.specs.Output.{Shown as Printed}
 use Rattle.world_script.specs.declared.event.WorldEvent.TheVariants as worlds
 use Rattle.world_trace.specs.Traces.{EndsIn, IsHeard, IsSilent, IsUnchanged, TellsStep}
-use Rattle.trace.specs.Changes.{members_of}
 use Rattle.trace.specs.Traces.{EndsEvent, StopsElement}
-use Rattle.trace.specs.declared.all_parts.AllParts.{AllParts}
 use Rattle.command_line.specs.Events.{Asked}
 use Rattle.command_line.specs.Traced.{EndsFrom, EndsOn, EndsOver}
 use Rattle.command_line.proofs.InCalm.{in_calm_once, round_front, round_once}
 use Rattle.command_line.proofs.OneInput.{OneInput, input_once}
-use Rattle.subnet_trace.proofs.lemmas.{subnet_settled}
-use Rattle.trace.proofs.lemmas.{event_front, event_once, plain_settled}
+use Rattle.trace.proofs.lemmas.{event_front, event_once}
 
 -- ---- events have one trace
 

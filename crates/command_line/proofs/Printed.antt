@@ -1,9 +1,14 @@
 -- What a replay prints is a formed and safe book.
-use Rattle.command_line.proofs.Common.{arith, ◌≡◌, ◌+◌, ℕ, Bool, true, false, List, [], ◌∷◌, ◌++◌, Option, codes, refl, ap, sym, subst, ◌∙◌, length-append, Appends, Contains, KeepsPromise, plain_calls, Calls, Host, IsRun, SafeMessages, Crossing, Told, AreTwo, WorldState, Life, Reported, crossings_of, output, Detail, ended_line, TopologyFields, CarrierKind, WorldEvent, subnet_calls, plain_of, subnet_of, Raw, World, AreLived, lives_in, AreOneBook, PrintsBook, PrintsPart, Ran, RanInPart, ReplaysFrom, ReplaysOver, ShowsBook, WorldShowsFrom, book_text}
-use Rattle.leader1822.specs.Boxes.{Boxes}
-use Rattle.std.proofs.Common.{reverse}
+use Rattle.command_line.proofs.Common.{arith, ◌≡◌, ◌+◌, ℕ, Bool, true, false, List, [], ◌∷◌, ◌++◌, Option, codes, refl}
+use Rattle.command_line.proofs.Common.{ap, sym, subst, ◌∙◌, length-append, Appends, Contains, KeepsPromise, plain_calls}
+use Rattle.command_line.proofs.Common.{Calls, Host, IsRun, SafeMessages, Crossing, Told, AreTwo, WorldState, Life}
+use Rattle.command_line.proofs.Common.{Reported, crossings_of, output, Detail, ended_line, TopologyFields, CarrierKind}
+use Rattle.command_line.proofs.Common.{WorldEvent, subnet_calls, plain_of, subnet_of, Raw, World, AreLived, lives_in}
+use Rattle.command_line.proofs.Common.{AreOneBook, PrintsBook, PrintsPart, ReplaysFrom, ReplaysOver, ShowsBook}
+use Rattle.command_line.proofs.Common.{WorldShowsFrom, book_text, Boxes, plain_settled}
+use Rattle.command_line.specs.Replayed.{Ran, RanInPart, EndsFrom, EndsOver}
+use Rattle.std.proofs.Common.{reverse, length}
 use Rattle.promise.specs.Formed.{FormedBook}
-use Rattle.std.proofs.Common.{length}
 use Rattle.interface.specs.Calls.{Seen}
 use Rattle.promise.specs.Book.{Book}
 use Rattle.promise.specs.Notices.{FormedNotices}
@@ -19,10 +24,8 @@ use Rattle.promise.specs.Connections.{HasReported, IsEnd, JoinedBook}
 use Rattle.world_replay.specs.Output as lines
 use Rattle.command_line.specs.Events.{Asked, is_raw}
 use Rattle.command_line.specs.Printed.{log_of, shown_book}
-use Rattle.command_line.specs.Replayed.{EndsFrom, EndsOver}
 use Rattle.command_line.proofs.Lived.{lived, none_lived}
 use Rattle.command_line.proofs.Once.{world_once}
-use Rattle.trace.proofs.lemmas.{plain_settled}
 
 -- ---- a network without host programs
 

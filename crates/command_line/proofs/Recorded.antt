@@ -1,18 +1,27 @@
 -- What a replay prints is what its trace has as printed.
-use Rattle.command_line.proofs.Common.{◌≡◌, inl, inr, ℕ, ◌+◌, Bool, true, false, List, [], ◌∷◌, ◌++◌, Some, codes, map, zip, arith, refl, sym, ap, ap₂, subst, ◌∙◌, length-append, map-append, Calls, Crossing, plain_calls, shown, WorldState, opening_world, Life, OneReplay, in_turn_once, replays_once, text_of, AreSettled, Sizes, ended_line, RawEvent, subnet_calls, subnet_inside, TopologyFields, CarrierKind, object, opening_line, Inside, TellsEvent, numbered_from, plain_inside, Spot, happens_once, shown_settled, Happens, HappensInCalm, WorldEvent, opening_text, world_line, TellsIn, TellsInCalm, TellsOne, TellsRound, change_of, first_rounds, state_of, ends_of, plain_of, subnet_of, Raw, World, ReplaysFrom, ReplaysInput, ReplaysOn, ReplaysOver, book_text, TracesAll, TracesFrom, TracesInput, TracesOver, WorldTracesFrom, asked_count}
-use Rattle.std.proofs.Common.{◌≤◌, suc, zero, length}
+use Rattle.command_line.proofs.Common.{◌≡◌, inl, inr, ℕ, ◌+◌, Bool, true, false, List, [], ◌∷◌, ◌++◌, Some, codes, map}
+use Rattle.command_line.proofs.Common.{zip, arith, refl, sym, ap, ap₂, subst, ◌∙◌, length-append, map-append, Calls}
+use Rattle.command_line.proofs.Common.{Crossing, plain_calls, shown, WorldState, opening_world, Life, OneReplay}
+use Rattle.command_line.proofs.Common.{in_turn_once, replays_once, text_of, AreSettled, Sizes, ended_line, RawEvent}
+use Rattle.command_line.proofs.Common.{subnet_calls, subnet_inside, TopologyFields, CarrierKind, object, opening_line}
+use Rattle.command_line.proofs.Common.{Inside, TellsEvent, numbered_from, plain_inside, Spot, happens_once}
+use Rattle.command_line.proofs.Common.{shown_settled, Happens, HappensInCalm, WorldEvent, opening_text, world_line}
+use Rattle.command_line.proofs.Common.{TellsIn, TellsInCalm, TellsOne, TellsRound, change_of, first_rounds, state_of}
+use Rattle.command_line.proofs.Common.{ends_of, plain_of, subnet_of, Raw, World, ReplaysFrom, ReplaysInput, ReplaysOn}
+use Rattle.command_line.proofs.Common.{ReplaysOver, book_text, TracesAll, TracesFrom, TracesInput, TracesOver}
+use Rattle.command_line.proofs.Common.{WorldTracesFrom, asked_count, ◌≤◌, length-map, Host, IsEvent, All-head, All-tail}
+use Rattle.command_line.proofs.Common.{All, range_with_len, members_of, AllParts, AsksFor, subnet_settled}
+use Rattle.command_line.proofs.Common.{plain_settled}
+use Rattle.std.proofs.Common.{suc, zero, length}
 use Rattle.std.proofs.lemmas.Grind.{flat_map-append}
-use Rattle.std.proofs.lemmas.List.{append-nil, length-map}
+use Rattle.std.proofs.lemmas.List.{append-nil}
 use Rattle.std.proofs.lemmas.List.Folds.{flat_map-map}
 use Rattle.std.specs.List.{flat_map}
 use Rattle.replay.specs.InTurn.{InTurn}
 use Rattle.replay.specs.Output as raw
 use Rattle.replay.specs.Replay as of_network
-use Rattle.interface.specs.Host.{Host, most_imps}
-use Rattle.script.specs.Spelling.{IsEvent}
-use Rattle.std.proofs.lemmas.List.Elements.{All-head, All-tail}
+use Rattle.interface.specs.Host.{most_imps}
 use Rattle.std.proofs.lemmas.List.FromFn.{length-range_with_len}
-use Rattle.std.specs.List.{All, range_with_len}
 use Rattle.subnet.specs.Calls.{running}
 use Rattle.subnet.specs.Net.{Net}
 use Rattle.subnet.specs.Opening.{opening_subnet}
@@ -21,25 +30,22 @@ use Rattle.topology.proofs.lemmas.{described_keeps, hosts_listed}
 use Rattle.topology.specs.Topology.{IsTopology, site_of, sites_of}
 use Rattle.topology.specs.declared.network.CarrierKind.TheVariants as kind
 use Rattle.trace.proofs.lemmas.{told}
-use Rattle.trace.specs.Changes.{members_of}
 use Rattle.trace.specs.Elements.{events_of}
 use Rattle.trace.specs.Traces.{SaysAll, TellsElement, change_text}
 use Rattle.trace.specs.declared.element.Element.{Element}
-use Rattle.trace.specs.declared.all_parts.AllParts.{AllParts}
 use Rattle.world_replay.proofs.lemmas.Accounts.{AreParts, ShowsAs, round_as}
 use Rattle.world_replay.proofs.lemmas.CalmRounds.{calm_rounds}
 use Rattle.world_replay.proofs.lemmas.{round_calm}
 use Rattle.world_replay.specs.Output.{Shown, shown_text}
 use Rattle.world_replay.specs.Replay.{Replays, rounds_of}
 use Rattle.world_script.specs.declared.event.WorldEvent.TheVariants as worlds
-use Rattle.command_line.specs.Events.{Asked, AsksFor}
-use Rattle.command_line.specs.Recorded.{OfElement, OfWorld, PrintsTrace, Recorded, printed_lines, recorded_text, told_from, told_lines, told_over}
+use Rattle.command_line.specs.Events.{Asked}
+use Rattle.command_line.specs.Recorded.{OfElement, OfWorld, PrintsTrace, Recorded, printed_lines, recorded_text}
+use Rattle.command_line.specs.Recorded.{told_from, told_lines, told_over}
 use Rattle.command_line.specs.WorkedSides.{starts}
 use Rattle.command_line.proofs.Printed.{no_lives}
 use Rattle.command_line.proofs.Sites.{same_hosts}
 use Rattle.command_line.proofs.OneInput.{OneInput, input_once}
-use Rattle.subnet_trace.proofs.lemmas.{subnet_settled}
-use Rattle.trace.proofs.lemmas.{plain_settled}
 
 -- ---- lines of a trace that have these lines as printed
 

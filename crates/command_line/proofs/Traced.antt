@@ -1,10 +1,15 @@
 -- What `--trace` writes is the trace of the input's script.
-use Rattle.command_line.proofs.Common.{◌≡◌, ◌≢◌, ◌⊎◌, ◌∙◌, inl, inr, ℕ, ◌+◌, Bool, true, false, List, [], ◌∷◌, Option, Some, None, IfSome, Result, Ok, Err, IfErr, OnOk, ap, refl, subst, sym, length-map, Keeps, text_of, Calls, parted_once, RawEvent, TopologyFields, CarrierKind, Inside, asking_from, WorldState, opening_world, StopsOne, WorldEvent, AsksFor, Raw, World, IsInput, IsReplayFault, IsScriptOf, IsScripted, TraceStops, TracesFrom, TracesInput, TracesOn, TracesOver, WorldEndsFrom, WorldTracesFrom, asked_count, ScriptFault}
+use Rattle.command_line.proofs.Common.{◌≡◌, ◌≢◌, ◌⊎◌, ◌∙◌, inl, inr, ℕ, ◌+◌, Bool, true, false, List, [], ◌∷◌, Option}
+use Rattle.command_line.proofs.Common.{Some, None, IfSome, Result, Ok, Err, IfErr, OnOk, ap, refl, subst, sym}
+use Rattle.command_line.proofs.Common.{length-map, Keeps, text_of, Calls, parted_once, RawEvent, TopologyFields}
+use Rattle.command_line.proofs.Common.{CarrierKind, Inside, asking_from, WorldState, opening_world, StopsOne}
+use Rattle.command_line.proofs.Common.{WorldEvent, AsksFor, Raw, World, IsInput, IsReplayFault, IsScriptOf, IsScripted}
+use Rattle.command_line.proofs.Common.{TraceStops, TracesFrom, TracesInput, TracesOn, TracesOver, WorldEndsFrom}
+use Rattle.command_line.proofs.Common.{WorldTracesFrom, asked_count, ScriptFault, IsEvent, AllParts}
 use Rattle.std.proofs.Common.{suc, filter, length}
 use Rattle.script.specs.Script.{AskForAs, asks, lines_of}
-use Rattle.script.specs.Spelling.{IsEvent, spelling}
+use Rattle.script.specs.Spelling.{spelling}
 use Rattle.trace.specs.Traces.{AfterOpening, Traces, WritesTrace, event_lines}
-use Rattle.trace.specs.declared.all_parts.AllParts.{AllParts}
 use Rattle.world_trace.specs.Traces as worlds
 use Rattle.world_trace.specs.Traces.{TracesWorld, WorldTraceEnds}
 use Rattle.world_script.specs.WorldSpelling.{IsWorldEvent, world_spelling}

@@ -1,9 +1,14 @@
 -- Ends that the program does not have.
-use Rattle.command_line.proofs.Common.{◌≡◌, inl, inr, ℕ, true, false, List, [], ◌∷◌, ◌++◌, Option, Some, None, Result, Ok, Err, codes, map, refl, sym, ap, ◌∙◌, false≢true, Appends, Keeps, log_text, text_of, TopologyFields, CarrierKind, Raw, World, plain_calls, subnet_calls, LogsOver, raw_book, world_book, EndsTask, Sides, TracesOver, AuditFault, ScriptFault, Verdict, detail_of, Ran, ReplaysOver}
+use Rattle.command_line.proofs.Common.{◌≡◌, inl, inr, ℕ, true, false, List, [], ◌∷◌, ◌++◌, Option, Some, None, Result}
+use Rattle.command_line.proofs.Common.{Ok, Err, codes, map, refl, sym, ap, ◌∙◌, false≢true, Appends, Keeps, log_text}
+use Rattle.command_line.proofs.Common.{text_of, TopologyFields, CarrierKind, Raw, World, plain_calls, subnet_calls}
+use Rattle.command_line.proofs.Common.{LogsOver, raw_book, world_book, EndsTask, Sides, TracesOver, AuditFault}
+use Rattle.command_line.proofs.Common.{ScriptFault, Verdict, detail_of, ReplaysOver, MixedFields, MixedWorldEvent}
+use Rattle.command_line.proofs.Common.{RanEither, MixedReplaysOver, EndsReplay}
 use Rattle.book_log.specs.Log.{Book, handed_line, life_line, log_lines, logged_line, text_of_lines}
 use Rattle.topology.specs.declared.network.CarrierKind.TheVariants as kind
 use Rattle.command_line.specs.Events.{Asked}
-use Rattle.command_line.specs.Program.{Closes, EndsReplay, audited_as, finished_as}
+use Rattle.command_line.specs.Program.{Closes, audited_as, finished_as}
 use Rattle.command_line.specs.WorkedSides.{Never, drained, no_options, only_check, out_of_memory, unread, wrote}
 use Rattle.command_line.specs.declared.auditing.AuditFault.TheVariants as log
 use Rattle.command_line.specs.declared.fault.ScriptFault.TheVariants as script
@@ -172,10 +177,17 @@ nothing_replayed kind.Plain t (World events) written h k = nothing_ended _ writt
 nothing_replayed kind.Subnet t (Raw events) written h k = nothing_ended _ written h.written k
 nothing_replayed kind.Subnet t (World events) written h k = nothing_ended _ written h.written k
 
+nothing_among : (carrier : CarrierKind) (t : MixedFields) (events : List MixedWorldEvent) (written : Option (List ℕ)) →
+    MixedReplaysOver carrier t false (detail_of false) events (Some []) written → Keeps written (Some []) → ⊥
+nothing_among kind.Plain t events written h k = nothing_ended _ written h.written k
+nothing_among kind.Subnet t events written h k = nothing_ended _ written h.written k
+
+nothing_ran : (written : Option (List ℕ)) → RanEither false (detail_of false) (Some []) written → Keeps written (Some []) → ⊥
+nothing_ran written (inl h) k = nothing_replayed h.network.carrier h.network h.events written h.replayed k
+nothing_ran written (inr h) k = nothing_among h.network.network.carrier h.network h.events written h.replayed k
+
 pub no_output : EndsTask None (Some no_options) (wrote []) (Ok did.Written) → ⊥
-no_output (Ok done, written, inl (is, kept), ends) =
-    let ran : Ran false (detail_of false) (Some []) written = ends.replayed.0 in
-    nothing_replayed ran.network.carrier ran.network ran.events written ran.replayed kept
+no_output (Ok done, written, inl (is, kept), ends) = nothing_ran written ends.replayed.0 kept
 no_output (Err f, written, inl (is, kept), ends) = cc
 no_output (ended, written, inr (is, other), ends) = cc
 

@@ -1,12 +1,14 @@
 pub mod Audits
 pub mod Carriers
 pub mod Described
+pub mod Either
 pub mod Events
 pub mod Faults
 pub mod Input
 pub mod Joins
 pub mod Lived
 pub mod Logs
+pub mod Mixed
 pub mod Options
 pub mod Parser
 pub mod Printed

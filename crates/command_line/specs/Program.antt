@@ -3,12 +3,12 @@ use Rattle.std.specs.Prelude.{◌≡◌, ◌≢◌, ◌⊎◌, ◌↔◌, ℕ, B
 use Rattle.std.specs.Io.KnownBytes.{Appends, IsAtEnd, Keeps}
 use Rattle.command_line.specs.declared.verdict.Verdict.{Verdict}
 use Rattle.command_line.specs.Audits.{Audited, AuditsLog, IsAuditFault, IsSomeLog, audit_text, status_at, status_said}
+use Rattle.command_line.specs.Either.{IsEitherFault, IsEitherInput, RanEither, RanEitherInPart, ReplaysEither, StopsEither}
 use Rattle.command_line.specs.Faults.{script_text, status_of}
 use Rattle.command_line.specs.Input.{IsInputFault, IsSomeInput}
 use Rattle.command_line.specs.Logs.{Logged, LogsInput}
 use Rattle.command_line.specs.Options.{detail_of, options_of, task_of}
 use Rattle.command_line.specs.Reading.{ReadsAll, ReadsFirst}
-use Rattle.command_line.specs.Replayed.{Ran, RanInPart, ReplaysInput, StopsInput}
 use Rattle.command_line.specs.Traced.{TraceStops, Traced, TracedInPart, TracesInput}
 use Rattle.command_line.specs.declared.about.TheConstants.{HELP, VERSION}
 use Rattle.command_line.specs.declared.auditing.AuditFault.{AuditFault}
@@ -58,19 +58,19 @@ sides input left unread before after = record { input = input; left = left; unre
 abbrev pub Replayed : Bool → Options → Sides → Type 0
 Replayed true options s = Appends s.before s.after (codes "ok\n")
 Replayed false options s =
-    Ran options.book (detail_of options.texts) s.before s.after
-    × IfSome s.input (λ octets. ReplaysInput options.book (detail_of options.texts) octets s.before s.after)
+    RanEither options.book (detail_of options.texts) s.before s.after
+    × IfSome s.input (λ octets. ReplaysEither options.book (detail_of options.texts) octets s.before s.after)
 
 -- with these options an input is replayed, or only read; or its first fault is given, and where memory runs out the first part is written. Unless a read
 -- fails or memory runs out, all is read, up to an octet more than an input may have; so it is with the log and the trace
 pub record EndsReplay (options : Options) (s : Sides) (r : Result (Unit {0}) ScriptFault) : Type 0 where
   pub replayed : OnOk r (Replayed options.check options s)
-  pub read : s.unread ≡ false → IfSome s.input (λ octets. MatchResult r (λ _. IsSomeInput octets) (IsInputFault octets))
+  pub read : s.unread ≡ false → IfSome s.input (λ octets. MatchResult r (λ _. IsEitherInput octets) (IsEitherFault octets))
   pub options_read : IfErr r (λ f. f ≢ script.BadOptions)
   pub reads : ReadsFirst s.input s.left
   pub reads_all : r ≢ Err script.CannotRead → r ≢ Err script.OutOfMemory → ReadsAll s.input s.left
-  pub ran_in_part : r ≡ Err script.OutOfMemory → Keeps s.before s.after ⊎ RanInPart (detail_of options.texts) s.before s.after
-  pub first_part : r ≡ Err script.OutOfMemory → IfSome s.input (λ octets. Keeps s.before s.after ⊎ StopsInput (detail_of options.texts) octets s.before s.after)
+  pub ran_in_part : r ≡ Err script.OutOfMemory → Keeps s.before s.after ⊎ RanEitherInPart (detail_of options.texts) s.before s.after
+  pub first_part : r ≡ Err script.OutOfMemory → IfSome s.input (λ octets. Keeps s.before s.after ⊎ StopsEither (detail_of options.texts) octets s.before s.after)
   -- an input that is only read has no first part
   pub nothing : options.check ≡ true → r ≡ Err script.OutOfMemory → Keeps s.before s.after
 

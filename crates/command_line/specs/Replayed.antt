@@ -1,5 +1,5 @@
 -- What the simulator writes.
-use Rattle.std.specs.Prelude.{◌≡◌, ℕ, Bool, true, false, List, [], ◌++◌, reverse, Option, IfSome, codes}
+use Rattle.std.specs.Prelude.{◌≡◌, ℕ, Bool, true, false, List, [], ◌++◌, reverse, Option, codes}
 use Rattle.std.specs.Io.KnownBytes.{Appends}
 use Rattle.headline.specs.Promise.{KeepsPromise}
 use Rattle.interface.specs.Mailboxes.{IsRun}
@@ -25,7 +25,6 @@ use Rattle.subnet.specs.Working.{subnet_calls}
 use Rattle.command_line.specs.Carriers.{plain_of, subnet_of}
 use Rattle.command_line.specs.Events.{Asked, Raw, World}
 use Rattle.command_line.specs.Input.{IsInput}
-use Rattle.command_line.specs.Stopping.{NothingOr}
 
 -- ---- a network without host programs
 
@@ -127,10 +126,6 @@ pub record StopsInput (detail : Detail) (octets : List ℕ) (before after : Opti
   pub events : Asked
   pub input : IsInput octets network events
   pub stopped : EndsOn network detail events before after
-
--- nothing is written, or this much of a reader's octets, where these are known
-abbrev pub StopsKnown : Detail → Option (List ℕ) → Option (List ℕ) → Option (List ℕ) → Type 0
-StopsKnown detail known before after = IfSome known (λ octets. NothingOr (StopsInput detail octets) before after)
 
 -- ---- for any reader. Which script and which topology it was, `ReplaysInput` and `StopsInput` say
 

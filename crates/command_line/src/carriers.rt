@@ -147,7 +147,11 @@ fn replay_world<C: Carrier, W: Output>(
 /// Writes these lives, where the book is asked for, and a last line `end`.
 ///
 /// Errors: `WriteFailed`.
-fn write_lives<W: Output>(lives: &[Life], book: bool, writer: &mut W) -> Result<(), WriteFailed>
+pub(crate) fn write_lives<W: Output>(
+    lives: &[Life],
+    book: bool,
+    writer: &mut W,
+) -> Result<(), WriteFailed>
     requires { W.failed writer.old ≡ false }
     ensures written { OnOk result (Appends (W.contents writer.old) (W.contents writer.new) (book_text book lives.now ++ codes "end\n")) }
     ensures failed { TellsFailure result (W.failed writer.new) }

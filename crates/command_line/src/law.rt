@@ -1,16 +1,12 @@
 //! What the simulator promises, as laws over its definitions. The functions here do nothing: their clauses
 //! are the laws.
 
-ghost use Rattle.std.specs.Prelude.{◌≡◌, ◌==◌, ◌↔◌, ◌++◌, ◌+◌, ℕ, Bool, true, false, List, [], ◌∷◌, reverse};
+ghost use Rattle.std.specs.Prelude.{◌≡◌, ◌↔◌, ◌++◌, ◌+◌, ℕ, Bool, true, false, List, [], ◌∷◌, reverse};
 ghost use Rattle.std.specs.Prelude.{Ok, Err, Option, Some, None, codes};
 ghost use Rattle.book_judge.specs.Fates.{AreSuited};
 ghost use Rattle.book_judge.specs.Lives.{AreMade};
 ghost use Rattle.book_judge.specs.Runs.{IsSomeRun};
 ghost use Rattle.book_log.specs.Log as log;
-ghost use Rattle.host_services.specs.declared.report.Reported.{Reported};
-ghost use Rattle.leader1822.specs.Boxes.{Boxes, plain_calls};
-ghost use Rattle.interface.specs.Host.{Host};
-ghost use Rattle.interface.specs.Mailboxes.{IsRun};
 ghost use Rattle.interface.specs.Messages.{SafeMessages};
 ghost use Rattle.interface.specs.declared.crossing.Crossing.TheVariants as crossing;
 ghost use Rattle.interface.specs.declared.message.HostMessage.{HostMessage};
@@ -21,21 +17,19 @@ ghost use Rattle.net_sim.specs.declared.auditing.findings.Finding.TheVariants as
 ghost use Rattle.net_sim.specs.declared.auditing.said.Audit.TheVariants as audit;
 ghost use Rattle.promise.specs.Fates.{ClosesWhole};
 ghost use Rattle.promise.specs.Formed.{FormedBook};
-ghost use Rattle.promise.specs.Notices.{FormedNotices};
-ghost use Rattle.promise.specs.Safe.{SafeBook, SafeGrants, SafePartners};
+ghost use Rattle.promise.specs.Safe.{SafeGrants, SafePartners};
 ghost use Rattle.promise.specs.declared.life.Amount.{Amount};
 ghost use Rattle.promise.specs.declared.life.Life.{Life};
 ghost use Rattle.replay.specs.declared.print.Detail.{Detail};
-ghost use Rattle.world_replay.specs.Output as lines;
-ghost use Rattle.world_replay.specs.Output.{Shown, crossings_of, notices_of};
 ghost use Rattle.command_line.specs.Audits.{IsKeptLog, IsSafeLog, KeepsEnds, SaysKept, SaysOf, kept, word_text};
 ghost use Rattle.command_line.specs.Events.{is_raw};
+ghost use Rattle.command_line.specs.Laws.{FirstPart, OneBook, OneOutput, OneReplay, WorkedLines, WorkedLives};
 ghost use Rattle.command_line.specs.Lived.{AreLived};
 ghost use Rattle.command_line.specs.Logs.{Logged, LogsInput};
-ghost use Rattle.command_line.specs.Printed.{AreOneBook, PrintsBook, PrintsPart};
+ghost use Rattle.command_line.specs.Printed.{PrintsBook, PrintsPart};
 ghost use Rattle.command_line.specs.Program.{Closes, EndsTask, Sides};
 ghost use Rattle.command_line.specs.Recorded.{PrintsTrace};
-ghost use Rattle.command_line.specs.Replayed.{Ran, RanInPart, ReplaysInput, StopsInput, WorldShowsFrom};
+ghost use Rattle.command_line.specs.Replayed.{Ran, RanInPart};
 ghost use Rattle.command_line.specs.Traced.{TraceStops, TracesInput};
 ghost use Rattle.command_line.specs.Worked.{here, life_one, there, told_one, took_one};
 ghost use Rattle.command_line.specs.WorkedSides.{Never, NotSaid, matched_past, starts};
@@ -46,12 +40,6 @@ ghost use Rattle.command_line.specs.declared.options.Task.TheVariants as task;
 ghost use Rattle.command_line.specs.declared.program.Done.TheVariants as did;
 ghost use Rattle.command_line.specs.declared.program.ProgramFault.TheVariants as fault;
 ghost use Rattle.command_line.specs.declared.verdict.Verdict.{Verdict};
-ghost use Rattle.command_line.specs.Laws.FirstPart.{FirstPart};
-ghost use Rattle.command_line.specs.Laws.OneOutput.{OneOutput};
-ghost use Rattle.command_line.specs.Laws.OneReplay.{OneReplayLog, OneReplayOptions, OneReplayTrace};
-ghost use Rattle.command_line.specs.Laws.OneBook.{OneBookJoined};
-ghost use Rattle.command_line.specs.Laws.WorkedLines.{WorkedLinesNoLife, WorkedLinesNotPrinted, WorkedLinesNothingIn};
-ghost use Rattle.command_line.specs.Laws.WorkedLives.{WorkedLivesWithoutTheLast};
 
 /// The input determines the output, with the book and without it, with texts and without them. It asks for one list of events over the carrier of one
 /// topology, and neither plain mailboxes nor a subnet leave their replay a choice, without host programs or with them.
@@ -78,9 +66,7 @@ pub fn one_log()
 /// The outputs of one input are of one replay. Whether the book and texts are asked for only decides how much of it is printed; and the log is that of the
 /// crossings and the lives that are printed. The lines of a plain output are those that its trace has as printed, in turn.
 pub fn one_replay()
-    ensures options { OneReplayOptions }
-    ensures log { OneReplayLog }
-    ensures trace { OneReplayTrace }
+    ensures { OneReplay }
 {}
 
 /// Outputs that a trace does not have.
@@ -102,34 +88,12 @@ pub fn printed_books()
 
 /// What it means that lines and lives are one book: all that was promised holds of what the lines show.
 pub fn one_book()
-    ensures formed { (raw : Bool) (shown : List Shown) (lives : List Life) → AreOneBook raw shown lives → FormedBook (reverse (crossings_of shown)) lives }
-    ensures told { (shown : List Shown) (lives : List Life) → AreOneBook false shown lives → FormedNotices (reverse (crossings_of shown)) (notices_of shown) }
-    ensures safe { (raw : Bool) (shown : List Shown) (lives : List Life) → AreOneBook raw shown lives → (handed : List (List Bool)) × SafeBook (reverse (crossings_of shown)) lives handed }
-    ensures joined { OneBookJoined }
-    ensures run { (raw : Bool) (shown : List Shown) (lives : List Life) → AreOneBook raw shown lives → (hosts : List Host) × IsRun hosts (reverse (crossings_of shown)) }
-    ensures lived { (raw : Bool) (shown : List Shown) (lives : List Life) → AreOneBook raw shown lives → AreLived (reverse (crossings_of shown)) (notices_of shown) lives }
+    ensures { OneBook }
 {}
 
 /// Lines that no book has.
 pub fn worked_lines()
-    // a message that comes in and never went out
-    ensures never_out { (raw : Bool) (m : HostMessage) (lives : List Life) → AreOneBook raw (lines.Crossed (crossing.In m) ∷ []) lives → ⊥ }
-
-    ensures nothing_in { WorkedLinesNothingIn }
-
-    ensures no_life { WorkedLinesNoLife }
-
-    // a life without a notice
-    ensures no_notice { (raw : Bool) (life : Life) (lives : List Life) → AreOneBook raw [] (life ∷ lives) → ⊥ }
-
-    // data that went out without a notice, where hosts have programs
-    ensures no_programs { (m : HostMessage) → (m.flow.link.0 == 0) ≡ false → AreOneBook false (lines.Crossed (crossing.Out m) ∷ []) [] → ⊥ }
-
-    // and beside a report of a service, in any network
-    ensures no_services { (raw : Bool) (m : HostMessage) (r : Reported) → (m.flow.link.0 == 0) ≡ false → AreOneBook raw (lines.Crossed (crossing.Out m) ∷ lines.Said r ∷ []) [] → ⊥ }
-
-    ensures not_printed { WorkedLinesNotPrinted }
-    ensures not_in_part { (raw : Bool) (detail : Detail) (before after : Option (List ℕ)) (m : HostMessage) (p : PrintsPart raw detail before after) → p.shown ≡ lines.Crossed (crossing.In m) ∷ [] → ⊥ }
+    ensures { WorkedLines }
 {}
 
 /// The lives that crossings and notices make: of an end where one message arrived.
@@ -259,8 +223,5 @@ pub fn worked_verdicts()
 
 /// Lives that no replay shows.
 pub fn worked_lives()
-    // those of another book: where nothing happened there are none
-    ensures another_book { (opening : Boxes) (life : Life) (lives : List Life) (shows : List Shown) → WorldShowsFrom plain_calls opening [] (life ∷ lives) shows → ⊥ }
-
-    ensures without_the_last { WorkedLivesWithoutTheLast }
+    ensures { WorkedLives }
 {}

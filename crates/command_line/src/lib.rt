@@ -22,6 +22,7 @@ mod input;
 mod judging;
 pub mod law;
 mod logging;
+mod mixed;
 mod options;
 mod program;
 mod simulator;

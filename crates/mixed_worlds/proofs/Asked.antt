@@ -1,7 +1,17 @@
 -- Both requests of a life of a host that runs the program crossed at its stamps, and what is reported of data has just
 -- crossed, whatever its peer sends.
-use Rattle.mixed_worlds.proofs.Common.{◌≡◌, inl, inr, ℕ, ◌*◌, ◌<◌, Bool, true, false, if◌then◌else◌, zero, suc, List, [], ◌∷◌, ◌++◌, take, drop, length, Option, Some, None, refl, ap, sym, subst, ◌∙◌, arith, map, Contains, drop-append_seam, Host, same_host, Flow, Answer, Crossing, HostMessage, same_host-true, or_false, header_bits, is_receive_socket, is_send_socket, Command, Legal, Order, orders_of, has_cls, is_ending, PairState, Parcel, Entry, Notice, CrossedAt, data_by, HasCrossed, coming, going, control_flow, accepted, NcpState, opening_state, pair_with, AreInOrder, served, message_for, next_in, offered, answer_leaves, message_leaves, next_pair, offer_leaves, pair_range, offer_read, Asked, Crossed, Moment, places, program, crossings_of, host_in, notices_by, places_same, Begins, Each, Ends, Goes, Hears, IsOther, MayTell, Quiet, Rules, each_weaker, message_keeps, offer_keeps, request_told, IsMixed, Orders, Says, older, ordered, says, ReportsData, IsReadBack, even_odd, send_odd}
-use Rattle.world_keeps_lives.proofs.lemmas.{Done}
+use Rattle.mixed_worlds.proofs.Common.{◌≡◌, inl, inr, ℕ, ◌*◌, ◌<◌, Bool, true, false, if◌then◌else◌, zero, suc, List}
+use Rattle.mixed_worlds.proofs.Common.{[], ◌∷◌, ◌++◌, take, drop, length, Option, Some, None, refl, ap, sym, subst, ◌∙◌}
+use Rattle.mixed_worlds.proofs.Common.{arith, map, Contains, drop-append_seam, Host, Flow, Answer, Crossing}
+use Rattle.mixed_worlds.proofs.Common.{HostMessage, or_false, header_bits, is_receive_socket, is_send_socket, Command}
+use Rattle.mixed_worlds.proofs.Common.{Legal, Order, orders_of, has_cls, is_ending, PairState, Parcel, Entry, Notice}
+use Rattle.mixed_worlds.proofs.Common.{CrossedAt, data_by, HasCrossed, coming, going, control_flow, accepted, pair_with}
+use Rattle.mixed_worlds.proofs.Common.{AreInOrder, message_for, next_in, offered, next_pair, pair_range, offer_read}
+use Rattle.mixed_worlds.proofs.Common.{Asked, Crossed, Moment, places, program, crossings_of, host_in, notices_by}
+use Rattle.mixed_worlds.proofs.Common.{places_same, Begins, Each, Ends, Goes, Hears, IsOther, MayTell, Quiet, Rules}
+use Rattle.mixed_worlds.proofs.Common.{each_weaker, message_keeps, offer_keeps, request_told, IsMixed, Orders, Says}
+use Rattle.mixed_worlds.proofs.Common.{older, ordered, ReportsData, IsReadBack, even_odd, send_odd}
+use Rattle.world_keeps_lives.proofs.lemmas.{Done, answer_keeps}
 use Rattle.std.proofs.Common.{slice_index_or}
 use Rattle.std.proofs.lemmas.Bool.{eqb-true}
 use Rattle.interface.specs.declared.crossing.Crossing.TheVariants as crossing
@@ -10,8 +20,7 @@ use Rattle.ncp_control.specs.declared.command.Command.TheVariants as command
 use Rattle.host_pairs.specs.Parcels as parcel
 use Rattle.host_pairs.specs.declared.notice.Notice.TheVariants as notice
 use Rattle.promise.specs.Formed.{request}
-use Rattle.world_keeps_lives.proofs.lemmas.{answer_keeps}
-use Rattle.world_keeps_lives.proofs.lemmas.{request_keeps}
+use Rattle.mixed_worlds.proofs.EndMoments.{Moved, control_is, moved_ends, own_out}
 use Rattle.mixed_worlds.proofs.Sockets.{fit}
 
 -- ---- requests as commands
@@ -37,13 +46,6 @@ read_at [] c i less is = absurd (omega (arith, less))
 read_at (d ∷ cs) c zero less is = (0, omega arith, ap Legal is)
 read_at (d ∷ cs) c (suc i) less is = let rest : Contains (map Legal cs) (Legal c) = read_at cs c i
     (omega (arith, less)) is in (suc rest.0, omega (arith, rest.1), rest.2)
-
-pub control_is : (f : Flow) (x y : Host) → x ≡ f.source → y ≡ f.destination → f.link.0 ≡ 0 → f ≡ control_flow x y
-control_is f x y s d l =
-    ap (λ (n : ℕ). two f.source f.destination n) l ∙ ap (λ (h : Host). two h f.destination 0) (sym s)
-    ∙ ap (λ (h : Host). two x h 0) (sym d) where
-      two : Host → Host → ℕ → Flow
-      two a b n = record { source = a; destination = b; link = record { 0 = n } }
 
 -- ---- ends
 
@@ -346,88 +348,29 @@ module _ (orders : Orders) (strange : Host → Bool) (hosts : List Host) (a : Ho
 
 -- ---- all moments
 
-pub if_ends : (P : Entry → Type 0) (p : Host) (b : Bool) (t old : NcpState) → (b ≡ true → Ends P p t) → Ends P p old
-    → Ends P p (if b then t else old)
-if_ends P p true t old now k = now refl
-if_ends P p false t old now k = k
-
 module _ (orders : Orders) (strange : Host → Bool) (hosts : List Host) (a : Host) (off : strange a ≡ false) where
-  -- what goes out of this host is what it says
-  pub own_out : (m : HostMessage) (moments : List Moment) → IsMixed strange hosts (Crossed (crossing.Out m) ∷ moments)
-      → a ≡ m.flow.source → Says (program a moments) m
-  own_out m moments mixed from =
-      subst (λ (y : Host). Says (program y moments) m) (sym from)
-      (says (program m.flow.source moments) m (mixed.happen.0 (subst (λ (y : Host). strange y ≡ false) from off)))
-
   pub placed : (moments : List Moment) → IsMixed strange hosts moments → (p : Host)
       → Ends (Placed a p (crossings_of moments)) p (program a moments)
   placed [] mixed p = tt
-  placed (Asked g r ∷ moments) mixed p =
-      let old : Ends (Placed a p (crossings_of moments)) p (program a moments) = placed moments
-      (older orders strange hosts (Asked g r) moments mixed) p in
-      if_ends (Placed a p (crossings_of moments)) p (same_host a g) (served (program a moments) r) (program a moments)
-      (λ e. request_keeps (Placed a p (crossings_of moments)) (Tells a p (crossings_of moments) (Asked g r)) p
-      (rules a p (crossings_of moments) (Asked g r)) (begins a p (crossings_of moments)) (program a moments) r old) old
-  placed (Crossed c ∷ moments) mixed p = by c mixed
-      (each_weaker (Placed a p (crossings_of moments)) (Placed a p (c ∷ crossings_of moments))
-      (pair_with p (program a moments).peers).entries (placed_still a p c (crossings_of moments))
-      (placed moments below p)) where
-        below : IsMixed strange hosts moments
-        below = older orders strange hosts (Crossed c) moments mixed
+  placed (x ∷ moments) mixed p =
+      moved_ends orders strange hosts a off p moments (Placed a p (crossings_of (x ∷ moments)))
+      (placed_quiet a p (crossings_of (x ∷ moments))) x mixed (moved x)
+      (grown x (placed moments (older orders strange hosts x moments mixed) p)) where
+        grown : (y : Moment) → Ends (Placed a p (crossings_of moments)) p (program a moments)
+            → Ends (Placed a p (crossings_of (y ∷ moments))) p (program a moments)
+        grown (Asked g r) old = old
+        grown (Crossed c) old = each_weaker (Placed a p (crossings_of moments)) (Placed a p (c ∷ crossings_of moments))
+            (pair_with p (program a moments).peers).entries (placed_still a p c (crossings_of moments)) old
 
-        by : (c : Crossing) → IsMixed strange hosts (Crossed c ∷ moments)
-            → Ends (Placed a p (c ∷ crossings_of moments)) p (program a moments)
-            → Ends (Placed a p (c ∷ crossings_of moments)) p (program a (Crossed c ∷ moments))
-        by (crossing.Out m) mixed old = if_ends _ p (same_host a m.flow.source)
-            (offered (program a moments) (places moments)).0 (program a moments) here old where
-              here : same_host a m.flow.source ≡ true
-                  → Ends (Placed a p (crossing.Out m ∷ crossings_of moments)) p
-                  (offered (program a moments) (places moments)).0
-              here e = at (same_host p out.peer.host) refl where
-                from : a ≡ m.flow.source
-                from = same_host-true a m.flow.source e
-
-                out : Says (program a moments) m
-                out = own_out m moments mixed from
-
-                at : (b : Bool) → same_host p out.peer.host ≡ b
-                    → Ends (Placed a p (crossing.Out m ∷ crossings_of moments)) p
-                    (offered (program a moments) (places moments)).0
-                at true f = (out_done orders strange hosts a off moments below m from out p
-                    (sym (same_host-true p out.peer.host f)) old).ends
-                at false f =
-                    subst
-                    (λ (q : PairState). Each (Placed a p (crossing.Out m ∷ crossings_of moments)) q.entries)
-                    (sym (offer_leaves (program a moments) (places moments) out.peer out.parcel p out.next f)) old
-        by (crossing.In m) mixed old = if_ends _ p (same_host a m.flow.destination)
-            (accepted (program a moments) (inbound.Message m) (places moments)).0 (program a moments) here old where
-              here : same_host a m.flow.destination ≡ true
-                  → Ends (Placed a p (crossing.In m ∷ crossings_of moments)) p
-                  (accepted (program a moments) (inbound.Message m) (places moments)).0
-              here e = at (same_host p m.flow.source) refl where
-                at : (b : Bool) → same_host p m.flow.source ≡ b
-                    → Ends (Placed a p (crossing.In m ∷ crossings_of moments)) p
-                    (accepted (program a moments) (inbound.Message m) (places moments)).0
-                at true f = (in_done orders strange hosts a off moments below m p
-                    (same_host-true a m.flow.destination e) (sym (same_host-true p m.flow.source f)) old).ends
-                at false f =
-                    subst
-                    (λ (q : PairState). Each (Placed a p (crossing.In m ∷ crossings_of moments)) q.entries)
-                    (sym (message_leaves (program a moments) m (places moments) p f)) old
-        by (crossing.Answer kind f) mixed old = if_ends _ p (same_host a f.source)
-            (accepted (program a moments) (inbound.Answer kind f) (places moments)).0 (program a moments)
-            (λ e. at (same_host p f.destination) refl) old where
-              at : (b : Bool) → same_host p f.destination ≡ b
-                  → Ends (Placed a p (crossing.Answer kind f ∷ crossings_of moments)) p
-                  (accepted (program a moments) (inbound.Answer kind f) (places moments)).0
-              at true g = (answer_done orders strange hosts a off moments below kind f p
-                  (sym (same_host-true p f.destination g)) old).ends
-              at false g =
-                  subst
-                  (λ (q : PairState). Each (Placed a p (crossing.Answer kind f ∷ crossings_of moments)) q.entries)
-                  (sym (answer_leaves (program a moments) kind f (places moments) p g)) old
-        by (crossing.Down g) mixed old = if_ends _ p (same_host a g) (opening_state a) (program a moments) (λ e. tt) old
-        by (crossing.Up g) mixed old = if_ends _ p (same_host a g) (opening_state a) (program a moments) (λ e. tt) old
+        moved : (y : Moment)
+            → Moved orders strange hosts a off p moments (Placed a p (crossings_of (y ∷ moments))) y
+        moved (Crossed (crossing.Out m)) = λ flow n reads.
+            goes a p (crossing.Out m ∷ crossings_of moments) m (places moments) n
+            (pair_with p (program a moments).peers).queue flow (inl (refl, places_same moments)) reads
+        moved (Crossed (crossing.In m)) = λ flow.
+            hears a p (crossing.In m ∷ crossings_of moments) m (places moments) flow (inl (refl, places_same moments))
+        moved (Asked g r) = begins a p (crossings_of moments)
+        moved (Crossed c) = tt
 
 -- ---- what a host is notified of at a moment
 

@@ -12,7 +12,8 @@ use Rattle.promise.specs.Formed.{AreData}
 use Rattle.world_keeps_lives.proofs.lemmas.{answer_keeps}
 use Rattle.world_keeps_lives.proofs.lemmas.{live_end}
 use Rattle.mixed_worlds.specs.Toward.{HasData}
-use Rattle.mixed_worlds.proofs.Asked.{Linked, Placed, linked_still, own_out, placed, rts_is}
+use Rattle.mixed_worlds.proofs.Asked.{Linked, Placed, linked_still, placed, rts_is}
+use Rattle.mixed_worlds.proofs.EndMoments.{own_out}
 use Rattle.mixed_worlds.proofs.AskedLives.{IsOwn, all_own}
 use Rattle.mixed_worlds.proofs.Bound.{Bound, stays_bound}
 use Rattle.mixed_worlds.proofs.Carried.{Counted, IsCalm, IsNew, ItsEnd, Known, below_all, its_end, kept_each, known_all}

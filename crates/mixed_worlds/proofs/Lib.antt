@@ -12,6 +12,7 @@ pub mod RealBooks
 pub mod Settled
 pub mod RealAmong
 pub mod Joined
+pub mod EndMoments
 pub mod Asked
 pub mod AskedLives
 pub mod Handed

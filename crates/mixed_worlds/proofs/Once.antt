@@ -3,10 +3,10 @@ use Rattle.mixed_worlds.proofs.Common.{◌≡◌, ◌⊎◌, inl, inr, ℕ, ◌<
 use Rattle.mixed_worlds.proofs.Common.{if◌then◌else◌, List, [], ◌∷◌, ◌++◌, map, filter, find, Option, Some, None}
 use Rattle.mixed_worlds.proofs.Common.{is_some, refl, ap, sym, subst, ◌∙◌, Host, Command, DeskState, desk_told}
 use Rattle.mixed_worlds.proofs.Common.{listener_on, listens_on, is_ending, changed_at, changed_first, entry_at, is_at}
-use Rattle.mixed_worlds.proofs.Common.{opening_by, opening_notices, Entry, Notice, append-nil, append_assoc}
-use Rattle.mixed_worlds.proofs.Common.{All-append, All-cons, All-filter, All-head, All-map, All-nil, All-tail}
-use Rattle.mixed_worlds.proofs.Common.{All-weaker, End, Mark, changed, entry_joined, matched, Listener, Stand}
-use Rattle.mixed_worlds.proofs.Common.{Standing, at, standing, found_at, find_passes}
+use Rattle.mixed_worlds.proofs.Common.{opening_by, opening_notices, Entry, Notice, append-nil, append_assoc, All-append}
+use Rattle.mixed_worlds.proofs.Common.{All-cons, All-filter, All-head, All-map, All-nil, All-tail, All-weaker, End}
+use Rattle.mixed_worlds.proofs.Common.{Mark, changed, entry_joined, matched, Listener, Stand, Standing, at, standing}
+use Rattle.mixed_worlds.proofs.Common.{found_at, find_passes}
 use Rattle.host_pairs.specs.Desk.{without_listener}
 use Rattle.std.proofs.Common.{true}
 use Rattle.host_pairs.proofs.lemmas.{both}

@@ -4,24 +4,23 @@ use Rattle.mixed_worlds.proofs.Common.{List, [], ◌∷◌, ◌++◌, filter, ta
 use Rattle.mixed_worlds.proofs.Common.{sym, subst, ◌∙◌, arith, eq-eqb, Host, Command, DeskState, desk_of, desk_told}
 use Rattle.mixed_worlds.proofs.Common.{swept, is_ending, changed_at, changed_first, ending, entry_at, is_at, is_over}
 use Rattle.mixed_worlds.proofs.Common.{opening_by, opening_notices, PairState, Parcel, asked_at, bits_gone, cls_sent}
-use Rattle.mixed_worlds.proofs.Common.{command_gone, commands_gone, may_send_on, pair_after, parcel_gone, Entry}
-use Rattle.mixed_worlds.proofs.Common.{Notice, NcpState, pair_with, next_in, offered_by, next_pair, Peer, AreInOrder}
-use Rattle.mixed_worlds.proofs.Common.{HasSome, both, append-nil, append_assoc, All-append, All-cons, All-filter}
-use Rattle.mixed_worlds.proofs.Common.{All-nil, All-weaker, flat_map, End, Ask, Close, Mark, changed, Listener, Stand}
-use Rattle.mixed_worlds.proofs.Common.{Standing, at, standing, mark_of, marks, found_at, none_at, put, find_passes}
+use Rattle.mixed_worlds.proofs.Common.{command_gone, commands_gone, may_send_on, pair_after, parcel_gone, Entry, Notice}
+use Rattle.mixed_worlds.proofs.Common.{NcpState, pair_with, next_in, offered_by, next_pair, Peer, AreInOrder, HasSome}
+use Rattle.mixed_worlds.proofs.Common.{both, append-nil, append_assoc, All-append, All-cons, All-filter, All-nil}
+use Rattle.mixed_worlds.proofs.Common.{All-weaker, flat_map, End, Ask, Close, Mark, changed, Listener, Stand, Standing}
+use Rattle.mixed_worlds.proofs.Common.{at, standing, mark_of, marks, found_at, none_at, put, find_passes}
 use Rattle.std.proofs.lemmas.Bool.{eqb-true}
 use Rattle.std.proofs.lemmas.List.{take-append-drop}
 use Rattle.std.specs.Prelude.{All}
 use Rattle.ncp_control.specs.declared.command.Command.TheVariants as command
 use Rattle.host_pairs.specs.Parcels as parcel
-use Rattle.host_pairs.specs.Parcels.{link_of}
-use Rattle.host_pairs.specs.Parcels.{request_gone}
+use Rattle.host_pairs.specs.Parcels.{link_of, request_gone}
 use Rattle.host_pairs.specs.declared.notice.Notice.TheVariants as notice
 use Rattle.host_keeps_pairing.proofs.lemmas.{Found, heads, marks_append, one_gone}
 use Rattle.sockets.specs.Sending.{offered}
 use Rattle.mixed_worlds.proofs.Asked.{one_place}
-use Rattle.mixed_worlds.proofs.Once.{AreApart, Differ, IsBoth, IsDone, Opening, all_here, apart_more, at_two}
-use Rattle.mixed_worlds.proofs.Once.{both_same, changed_found, done_same, found_all, lone_by, none_opened, openings}
+use Rattle.mixed_worlds.proofs.Once.{AreApart, Differ, IsBoth, IsDone, Opening, all_here, apart_more, at_two, both_same}
+use Rattle.mixed_worlds.proofs.Once.{changed_found, done_same, found_all, lone_by, none_opened, openings}
 use Rattle.mixed_worlds.proofs.Once.{openings_append}
 use Rattle.mixed_worlds.proofs.Steps.{IsSame, desk_with, ended_none}
 use Rattle.mixed_worlds.proofs.Waiting.{all_changed}

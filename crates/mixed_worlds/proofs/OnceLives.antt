@@ -1,36 +1,32 @@
 -- No two lives have the same own request, nor the same one of their partner, whatever peers send.
 use Rattle.mixed_worlds.proofs.Common.{◌≡◌, inl, inr, ℕ, ◌<◌, Bool, true, false, if◌then◌else◌, List, [], ◌∷◌, ◌++◌}
-use Rattle.mixed_worlds.proofs.Common.{length, map, take, Some, None, is_some, refl, ap, sym, subst, ◌∙◌, arith}
-use Rattle.mixed_worlds.proofs.Common.{eq-eqb, Contains, Host, same_host, Flow, Answer, Crossing, HostMessage}
-use Rattle.mixed_worlds.proofs.Common.{same_host-true, same_host-refl, Command, Order, orders_of, is_mine_on}
-use Rattle.mixed_worlds.proofs.Common.{PairState, Parcel, Entry, Notice, CrossedAt, control_flow, AreTwo, Life}
-use Rattle.mixed_worlds.proofs.Common.{accepted, NcpState, opening_state, pair_with, served, offered, answer_leaves}
-use Rattle.mixed_worlds.proofs.Common.{message_leaves, offer_leaves, pair_range, Request, Kept, all_told, book_told}
-use Rattle.mixed_worlds.proofs.Common.{carried, changed_when, life_ended, lives_asked, lives_at, lives_between}
-use Rattle.mixed_worlds.proofs.Common.{lives_crossed, lives_on, lives_told, lives_with, new_life, returned, where_it}
-use Rattle.mixed_worlds.proofs.Common.{Asked, Crossed, Moment, places, program, crossings_of, host_in, kept_by}
-use Rattle.mixed_worlds.proofs.Common.{notices_by, places_same, Begins, Each, each_in, each_weaker, Ends, Goes, Hears}
-use Rattle.mixed_worlds.proofs.Common.{MayTell, Quiet, Rules, message_keeps, offer_keeps, each_of, mine_on, IsMixed}
-use Rattle.mixed_worlds.proofs.Common.{Orders, Says, older, ordered, crossed_only, mixed_kept, append-nil}
-use Rattle.mixed_worlds.proofs.Common.{append_assoc, All-append, All-cons, All-head, All-nil, All-tail, All-weaker}
-use Rattle.mixed_worlds.proofs.Common.{listens_on, is_ready}
+use Rattle.mixed_worlds.proofs.Common.{length, map, Some, None, is_some, refl, ap, sym, subst, ◌∙◌, arith, eq-eqb}
+use Rattle.mixed_worlds.proofs.Common.{Contains, Host, same_host, Flow, Answer, Crossing, HostMessage, same_host-refl}
+use Rattle.mixed_worlds.proofs.Common.{Command, Order, orders_of, is_mine_on, Entry, Notice, CrossedAt, control_flow}
+use Rattle.mixed_worlds.proofs.Common.{AreTwo, Life, accepted, NcpState, pair_with, offered, Request, Kept, all_told}
+use Rattle.mixed_worlds.proofs.Common.{book_told, carried, changed_when, life_ended, lives_asked, lives_at}
+use Rattle.mixed_worlds.proofs.Common.{lives_between, lives_crossed, lives_on, lives_told, lives_with, new_life}
+use Rattle.mixed_worlds.proofs.Common.{returned, where_it, Asked, Crossed, Moment, places, program, crossings_of}
+use Rattle.mixed_worlds.proofs.Common.{host_in, kept_by, notices_by, places_same, Begins, Each, each_in, each_weaker}
+use Rattle.mixed_worlds.proofs.Common.{Ends, Goes, Hears, Quiet, each_of, mine_on, IsMixed, Orders, Says, older}
+use Rattle.mixed_worlds.proofs.Common.{ordered, crossed_only, mixed_kept, append-nil, append_assoc, All-append}
+use Rattle.mixed_worlds.proofs.Common.{All-cons, All-head, All-nil, All-tail, All-weaker, listens_on, is_ready, Name}
 use Rattle.net_sim.specs.Book.{granted}
 use Rattle.std.proofs.lemmas.List.{map-append}
 use Rattle.std.specs.Prelude.{All}
 use Rattle.interface.specs.declared.crossing.Crossing.TheVariants as crossing
 use Rattle.interface.specs.declared.crossing.Inbound.TheVariants as inbound
-use Rattle.host_pairs.specs.Parcels as parcel
 use Rattle.host_pairs.specs.declared.notice.Notice.TheVariants as notice
 use Rattle.sockets.specs.Requests.{served_notices}
 use Rattle.sockets.specs.declared.request.Request.TheVariants as request
-use Rattle.promise.specs.Safe.{Name, own_request}
-use Rattle.world_keeps_lives.proofs.lemmas.{answer_keeps, request_keeps}
+use Rattle.promise.specs.Safe.{own_request}
 use Rattle.mixed_worlds.specs.Toward.{taken_request}
-use Rattle.mixed_worlds.proofs.Asked.{if_ends, one_place, own_out}
+use Rattle.mixed_worlds.proofs.Asked.{one_place}
+use Rattle.mixed_worlds.proofs.EndMoments.{Moved, moved_ends, own_out}
 use Rattle.mixed_worlds.proofs.AskedLives.{IsOwn, all_own}
 use Rattle.mixed_worlds.proofs.Carried.{below_all, nobody_passes}
-use Rattle.mixed_worlds.proofs.Once.{AreApart, Differ, IsBoth, IsDone, IsOnce, IsSilent, Opening, done_both}
-use Rattle.mixed_worlds.proofs.Once.{once_steps, opening_in, openings}
+use Rattle.mixed_worlds.proofs.Once.{AreApart, Differ, IsBoth, IsDone, IsOnce, IsSilent, Opening, done_both, once_steps}
+use Rattle.mixed_worlds.proofs.Once.{opening_in, openings}
 use Rattle.mixed_worlds.proofs.OnceGone.{IsOnceGone, offer_once}
 use Rattle.mixed_worlds.proofs.Sockets.{fit, held}
 use Rattle.mixed_worlds.proofs.Steps.{answer_step, desk_with, message_step}
@@ -129,9 +125,6 @@ both_all P Q R (x ∷ xs) k a b = All-cons R x xs (k x (All-head P x xs a) (All-
 
 -- ---- an end that has one of the requests of an opening has both, and keeps them
 
-abbrev Free : Notice → Type 0
-Free n = Unit {0}
-
 module _ (n : Opening) where
   done_quiet : (e f : Entry) → Quiet e f → IsDone n e → IsDone n f
   done_quiet e f q k own foreign mine = (
@@ -141,14 +134,6 @@ module _ (n : Opening) where
     old : f.own ≡ n.own → f.foreign ≡ n.foreign → f.mine ≡ true
         → (e.asked ≡ Some n.asked → is_some e.partner ≡ true) × (e.partner ≡ Some n.partner → is_some e.asked ≡ true)
     old o g m = k (sym q.own ∙ o) (sym q.foreign ∙ g) (sym q.mine ∙ m)
-
-  done_rules : (p : Host) → Rules (IsDone n) Free p
-  done_rules p = record {
-    quiet = done_quiet;
-    others = λ x o. tt;
-    opens = λ e a b i asked partner goes. tt;
-    returns = λ e messages bits i o. tt;
-  }
 
   done_begins : Begins (IsDone n)
   done_begins = record {
@@ -185,71 +170,13 @@ module _ (orders : Orders) (strange : Host → Bool) (hosts : List Host) (a : Ho
   stays_done : (y : Moment) (moments : List Moment) → IsMixed strange hosts (y ∷ moments)
       → n.asked < places moments → n.partner < places moments
       → Ends (IsDone n) p (program a moments) → Ends (IsDone n) p (program a (y ∷ moments))
-  stays_done (Asked g r) moments mixed own partner old =
-      if_ends (IsDone n) p (same_host a g) (served (program a moments) r) (program a moments)
-      (λ e. request_keeps (IsDone n) Free p (done_rules n p) (done_begins n) (program a moments) r old) old
-  stays_done (Crossed (crossing.Down g)) moments mixed own partner old =
-      if_ends (IsDone n) p (same_host a g) (opening_state a) (program a moments) (λ e. tt) old
-  stays_done (Crossed (crossing.Up g)) moments mixed own partner old =
-      if_ends (IsDone n) p (same_host a g) (opening_state a) (program a moments) (λ e. tt) old
-  stays_done (Crossed (crossing.Answer kind f)) moments mixed own partner old =
-      if_ends (IsDone n) p (same_host a f.source)
-      (accepted (program a moments) (inbound.Answer kind f) (places moments)).0 (program a moments)
-      (λ e. at (same_host p f.destination) refl) old where
-        at : (b : Bool) → same_host p f.destination ≡ b
-            → Ends (IsDone n) p (accepted (program a moments) (inbound.Answer kind f) (places moments)).0
-        at true g = (answer_keeps (IsDone n) Free p (done_rules n p) (program a moments) kind f (places moments)
-            (sym (same_host-true p f.destination g)) old).ends
-        at false g =
-            subst (λ (q : PairState). Each (IsDone n) q.entries)
-            (sym (answer_leaves (program a moments) kind f (places moments) p g)) old
-  stays_done (Crossed (crossing.In m)) moments mixed own partner old =
-      if_ends (IsDone n) p (same_host a m.flow.destination)
-      (accepted (program a moments) (inbound.Message m) (places moments)).0 (program a moments)
-      (λ e. at (same_host p m.flow.source) refl) old where
-        at : (b : Bool) → same_host p m.flow.source ≡ b
-            → Ends (IsDone n) p (accepted (program a moments) (inbound.Message m) (places moments)).0
-        at true g =
-            (message_keeps (IsDone n) Free p (done_rules n p) (program a moments) m (places moments)
-            (sym (same_host-true p m.flow.source g)) (
-              (λ zero. done_hears n (places moments) own partner (orders_of m.text)),
-              (λ away e k found opened read. tt),
-            ) old).ends
-        at false g =
-            subst (λ (q : PairState). Each (IsDone n) q.entries)
-            (sym (message_leaves (program a moments) m (places moments) p g)) old
-  stays_done (Crossed (crossing.Out m)) moments mixed own partner old =
-      if_ends (IsDone n) p (same_host a m.flow.source) (offered (program a moments) (places moments)).0
-      (program a moments) here old where
-        below : IsMixed strange hosts moments
-        below = older orders strange hosts (Crossed (crossing.Out m)) moments mixed
-
-        here : same_host a m.flow.source ≡ true
-            → Ends (IsDone n) p (offered (program a moments) (places moments)).0
-        here e = at (same_host p out.peer.host) refl where
-          out : Says (program a moments) m
-          out = own_out orders strange hosts a off m moments mixed (same_host-true a m.flow.source e)
-
-          may : (z : Parcel)
-              → MayTell (IsDone n) Free p (done_rules n p) (places moments) z (pair_with p (program a moments).peers)
-          may parcel.Reset = tt
-          may parcel.Reply = tt
-          may (parcel.Commands count) = done_goes n (places moments) own partner
-              (take count (pair_with p (program a moments).peers).queue)
-          may (parcel.Bytes e size count) = tt
-
-          at : (b : Bool) → same_host p out.peer.host ≡ b
-              → Ends (IsDone n) p (offered (program a moments) (places moments)).0
-          at true g =
-              (offer_keeps (IsDone n) Free p (done_rules n p) (program a moments) (places moments) out.peer
-              out.parcel (ordered orders strange hosts a moments off below) out.next
-              (sym (same_host-true p out.peer.host g))
-              (pair_range p (program a moments).peers
-              (fit orders strange hosts a off moments below).ranged.pairs).commands
-              (may out.parcel) old).ends
-          at false g =
-              subst (λ (q : PairState). Each (IsDone n) q.entries)
-              (sym (offer_leaves (program a moments) (places moments) out.peer out.parcel p out.next g)) old
+  stays_done y moments mixed own partner old =
+      moved_ends orders strange hosts a off p moments (IsDone n) (done_quiet n) y mixed (by y) old where
+        by : (y : Moment) → Moved orders strange hosts a off p moments (IsDone n) y
+        by (Crossed (crossing.Out m)) = λ flow count reads. done_goes n (places moments) own partner _
+        by (Crossed (crossing.In m)) = λ flow. done_hears n (places moments) own partner (orders_of m.text)
+        by (Asked g r) = done_begins n
+        by (Crossed c) = tt
 
 -- ---- what is kept from one moment to the next
 

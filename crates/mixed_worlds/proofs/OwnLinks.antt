@@ -2,25 +2,22 @@
 use Rattle.mixed_worlds.proofs.Common.{◌≡◌, inl, inr, ℕ, Bool, true, false, if◌then◌else◌, List, [], ◌∷◌, map, take}
 use Rattle.mixed_worlds.proofs.Common.{Option, Some, None, refl, ap, sym, subst, ◌∙◌, Contains, Host, same_host}
 use Rattle.mixed_worlds.proofs.Common.{Crossing, HostMessage, same_host-true, is_receive_socket, Command, Legal, Order}
-use Rattle.mixed_worlds.proofs.Common.{orders_of, PairState, Parcel, Entry, Notice, CrossedAt, HasCrossed, going}
-use Rattle.mixed_worlds.proofs.Common.{control_flow, accepted, NcpState, opening_state, pair_with, served, message_for}
-use Rattle.mixed_worlds.proofs.Common.{next_in, offered, answer_leaves, message_leaves, next_pair, offer_leaves}
-use Rattle.mixed_worlds.proofs.Common.{pair_range, offer_read, Asked, Crossed, Moment, places, program, crossings_of}
-use Rattle.mixed_worlds.proofs.Common.{places_same, Begins, Each, Ends, Goes, Hears, MayTell, Quiet, Rules}
-use Rattle.mixed_worlds.proofs.Common.{each_weaker, message_keeps, offer_keeps, IsMixed, Orders, Says, older, ordered}
-use Rattle.mixed_worlds.proofs.Common.{All-contains, All-head, All-nil, All-tail, IsReadBack, even_odd}
+use Rattle.mixed_worlds.proofs.Common.{orders_of, Entry, CrossedAt, HasCrossed, going, control_flow, accepted, NcpState}
+use Rattle.mixed_worlds.proofs.Common.{opening_state, pair_with, served, offered, message_leaves, Asked, Crossed}
+use Rattle.mixed_worlds.proofs.Common.{Moment, places, program, crossings_of, places_same, Begins, Each, Ends, Goes}
+use Rattle.mixed_worlds.proofs.Common.{Hears, Quiet, each_weaker, IsMixed, Orders, Says, older, ordered, All-contains}
+use Rattle.mixed_worlds.proofs.Common.{All-head, All-nil, All-tail, even_odd}
 use Rattle.std.proofs.lemmas.List.Elements.{All-take}
 use Rattle.std.specs.Prelude.{All}
 use Rattle.interface.specs.declared.crossing.Crossing.TheVariants as crossing
 use Rattle.interface.specs.declared.crossing.Inbound.TheVariants as inbound
 use Rattle.ncp_control.specs.declared.command.Command.TheVariants as command
-use Rattle.host_pairs.specs.Parcels as parcel
-use Rattle.world_keeps_lives.proofs.lemmas.{answer_keeps, request_keeps}
-use Rattle.mixed_worlds.proofs.Asked.{control_is, if_ends, one_place, own_out, read_at}
+use Rattle.mixed_worlds.proofs.Asked.{one_place, read_at}
+use Rattle.mixed_worlds.proofs.EndMoments.{Moved, moved_ends, own_out}
 use Rattle.mixed_worlds.proofs.Sockets.{fit, own_request}
 use Rattle.mixed_worlds.proofs.Steps.{message_step}
-use Rattle.mixed_worlds.proofs.Waiting.{AreSound, DeskFits, Fits, PairFits, answer_fits, keeps_fit}
-use Rattle.mixed_worlds.proofs.Waiting.{offer_fits, request_fits, steps}
+use Rattle.mixed_worlds.proofs.Waiting.{AreSound, DeskFits, Fits, PairFits, answer_fits, keeps_fit, offer_fits}
+use Rattle.mixed_worlds.proofs.Waiting.{request_fits, steps}
 
 -- ---- what waits, at each moment
 
@@ -77,9 +74,6 @@ module _ (orders : Orders) (strange : Host → Bool) (hosts : List Host) (a : Ho
 
 -- ---- the RTS that went out
 
-abbrev Free : Notice → Type 0
-Free n = Unit {0}
-
 module _ (h p : Host) (log : List Crossing) where
   -- an RTS for two sockets went out, and names this link
   pub record Said (own foreign a : ℕ) (link : Option ℕ) : Type 0 where
@@ -109,14 +103,6 @@ module _ (h p : Host) (log : List Crossing) where
     refused = λ own foreign stamp. (λ even a is. absurd (let clash : None ≡ Some a = is in cc));
   }
 
-  rules : Rules HasSaid Free p
-  rules = record {
-    quiet = said_quiet;
-    others = λ n o. tt;
-    opens = λ e a b i asked partner goes. tt;
-    returns = λ e messages bits i o. tt;
-  }
-
   hears : (stamp : ℕ) (os : List Order) → Hears HasSaid stamp os
   hears stamp os = record {
     begins = begins;
@@ -129,16 +115,11 @@ module _ (h p : Host) (log : List Crossing) where
   abbrev Going : List Command → Entry → Type 0
   Going queue e = HasSaid e × All (Fits e) queue
 
-  going_rules : (queue : List Command) → Rules (Going queue) Free p
-  going_rules queue = record {
-    quiet = λ e f q i. (
-      said_quiet e f q i.0,
-      keeps_fit e f queue (record { own = q.own; foreign = q.foreign; link = λ even. q.link }) i.1,
-    );
-    others = λ n o. tt;
-    opens = λ e a b i asked partner goes. tt;
-    returns = λ e messages bits i o. tt;
-  }
+  going_quiet : (queue : List Command) (e f : Entry) → Quiet e f → Going queue e → Going queue f
+  going_quiet queue e f q i = (
+    said_quiet e f q i.0,
+    keeps_fit e f queue (record { own = q.own; foreign = q.foreign; link = λ even. q.link }) i.1,
+  )
 
   goes : (m : HostMessage) (stamp n : ℕ) (queue : List Command) → m.flow ≡ control_flow h p
       → CrossedAt stamp (going m) log → orders_of m.text ≡ map Legal (take n queue)
@@ -188,118 +169,45 @@ each_beside P Q es all each = each_pair es each all where
   each_pair (x ∷ xs) k h = ((k.0, All-head Q x xs h), each_pair xs k.1 (All-tail Q x xs h))
 
 module _ (orders : Orders) (strange : Host → Bool) (hosts : List Host) (a : Host) (off : strange a ≡ false) where
-  -- its own message goes out
-  out_said : (m : HostMessage) (moments : List Moment) (p : Host) → IsMixed strange hosts moments
-      → (out : Says (program a moments) m) → a ≡ m.flow.source → out.peer.host ≡ p
-      → Ends (HasSaid a p (crossing.Out m ∷ crossings_of moments)) p (program a moments)
-      → Ends (HasSaid a p (crossing.Out m ∷ crossings_of moments)) p (offered (program a moments) (places moments)).0
-  out_said m moments p below out from to old =
-      each_weaker (Going a p log queue) (HasSaid a p log)
-      (pair_with p (offered (program a moments) (places moments)).0.peers).entries (λ e i. i.0)
-      (offer_keeps (Going a p log queue) Free p (going_rules a p log queue) (program a moments) (places moments)
-      out.peer out.parcel (ordered orders strange hosts a moments off below) out.next to
-      (pair_range p (program a moments).peers (fit orders strange hosts a off moments below).ranged.pairs).commands
-      (may out.parcel out.next out.message)
-      (each_beside (HasSaid a p log) (λ e. All (Fits e) queue) (pair_with p (program a moments).peers).entries
-      (fitting orders strange hosts a off moments below p) old)).ends where
-        log : List Crossing
-        log = crossing.Out m ∷ crossings_of moments
-
-        queue : List Command
-        queue = (pair_with p (program a moments).peers).queue
-
-        may : (x : Parcel) → next_in (program a moments).peers ≡ Some (out.peer, x)
-            → message_for (program a moments).own out.peer x ≡ m
-            → MayTell (Going a p log queue) Free p (going_rules a p log queue) (places moments) x
-            (pair_with p (program a moments).peers)
-        may parcel.Reset next is = tt
-        may parcel.Reply next is = tt
-        may (parcel.Bytes e size count) next is = tt
-        may (parcel.Commands count) next is =
-            let same : pair_with p (program a moments).peers ≡ out.peer.pair = subst
-            (λ (y : Host). pair_with y (program a moments).peers ≡ out.peer.pair) to
-            (next_pair (program a moments).peers out.peer (parcel.Commands count)
-            (ordered orders strange hosts a moments off below) next) in
-            let back : IsReadBack out.peer.pair (parcel.Commands count) = offer_read (program a moments) out.peer
-            (parcel.Commands count) (fit orders strange hosts a off moments below).ranged next in
-            let reads : orders_of m.text ≡ map Legal (take count (pair_with p (program a moments).peers).queue) =
-            ap (λ (y : HostMessage). orders_of y.text) (sym is) ∙ back
-            ∙ ap (λ (q : PairState). map Legal (take count q.queue)) (sym same) in
-            goes a p (crossing.Out m ∷ crossings_of moments) m (places moments) count
-            (pair_with p (program a moments).peers).queue
-            (control_is m.flow a p from (sym to ∙ ap (λ (y : HostMessage). y.flow.destination) out.message)
-            (sym (ap (λ (y : HostMessage). y.flow.link.0) is)))
-            (inl (refl, places_same moments)) reads
-
   pub said : (moments : List Moment) → IsMixed strange hosts moments → (p : Host)
       → Ends (HasSaid a p (crossings_of moments)) p (program a moments)
   said [] mixed p = tt
-  said (Asked g r ∷ moments) mixed p =
-      let old : Ends (HasSaid a p (crossings_of moments)) p (program a moments) = said moments
-      (older orders strange hosts (Asked g r) moments mixed) p in
-      if_ends (HasSaid a p (crossings_of moments)) p (same_host a g) (served (program a moments) r) (program a moments)
-      (λ e. request_keeps (HasSaid a p (crossings_of moments)) Free p (rules a p (crossings_of moments))
-      (begins a p (crossings_of moments)) (program a moments) r old) old
-  said (Crossed c ∷ moments) mixed p = by c mixed
-      (each_weaker (HasSaid a p (crossings_of moments)) (HasSaid a p (c ∷ crossings_of moments))
-      (pair_with p (program a moments).peers).entries
-      (λ e i even b is. said_still a p c (crossings_of moments) e.own e.foreign b e.link (i even b is))
-      (said moments below p)) where
-        below : IsMixed strange hosts moments
-        below = older orders strange hosts (Crossed c) moments mixed
+  said (x ∷ moments) mixed p = by x mixed (said moments (older orders strange hosts x moments mixed) p) where
+    below : IsMixed strange hosts moments
+    below = older orders strange hosts x moments mixed
 
-        by : (c : Crossing) → IsMixed strange hosts (Crossed c ∷ moments)
-            → Ends (HasSaid a p (c ∷ crossings_of moments)) p (program a moments)
-            → Ends (HasSaid a p (c ∷ crossings_of moments)) p (program a (Crossed c ∷ moments))
-        by (crossing.Out m) mixed old = if_ends _ p (same_host a m.flow.source)
-            (offered (program a moments) (places moments)).0 (program a moments) here old where
-              here : same_host a m.flow.source ≡ true
-                  → Ends (HasSaid a p (crossing.Out m ∷ crossings_of moments)) p
-                  (offered (program a moments) (places moments)).0
-              here e = at (same_host p out.peer.host) refl where
-                from : a ≡ m.flow.source
-                from = same_host-true a m.flow.source e
+    queue : List Command
+    queue = (pair_with p (program a moments).peers).queue
 
-                out : Says (program a moments) m
-                out = own_out orders strange hosts a off m moments mixed from
+    grown : (y : Moment) → Ends (HasSaid a p (crossings_of moments)) p (program a moments)
+        → Ends (HasSaid a p (crossings_of (y ∷ moments))) p (program a moments)
+    grown (Asked g r) old = old
+    grown (Crossed c) old = each_weaker (HasSaid a p (crossings_of moments)) (HasSaid a p (c ∷ crossings_of moments))
+        (pair_with p (program a moments).peers).entries
+        (λ e i even b is. said_still a p c (crossings_of moments) e.own e.foreign b e.link (i even b is)) old
 
-                at : (b : Bool) → same_host p out.peer.host ≡ b
-                    → Ends (HasSaid a p (crossing.Out m ∷ crossings_of moments)) p
-                    (offered (program a moments) (places moments)).0
-                at true f = out_said m moments p below out from (sym (same_host-true p out.peer.host f)) old
-                at false f =
-                    subst
-                    (λ (q : PairState). Each (HasSaid a p (crossing.Out m ∷ crossings_of moments)) q.entries)
-                    (sym (offer_leaves (program a moments) (places moments) out.peer out.parcel p out.next f)) old
-        by (crossing.In m) mixed old = if_ends _ p (same_host a m.flow.destination)
-            (accepted (program a moments) (inbound.Message m) (places moments)).0 (program a moments)
-            (λ e. at (same_host p m.flow.source) refl) old where
-              at : (b : Bool) → same_host p m.flow.source ≡ b
-                  → Ends (HasSaid a p (crossing.In m ∷ crossings_of moments)) p
-                  (accepted (program a moments) (inbound.Message m) (places moments)).0
-              at true f =
-                  (message_keeps (HasSaid a p (crossing.In m ∷ crossings_of moments)) Free p
-                  (rules a p (crossing.In m ∷ crossings_of moments)) (program a moments) m (places moments)
-                  (sym (same_host-true p m.flow.source f)) (
-                    (λ zero. hears a p (crossing.In m ∷ crossings_of moments) (places moments) (orders_of m.text)),
-                    (λ away e k found opened read. tt),
-                  ) old).ends
-              at false f =
-                  subst (λ (q : PairState). Each (HasSaid a p (crossing.In m ∷ crossings_of moments)) q.entries)
-                  (sym (message_leaves (program a moments) m (places moments) p f)) old
-        by (crossing.Answer kind f) mixed old = if_ends _ p (same_host a f.source)
-            (accepted (program a moments) (inbound.Answer kind f) (places moments)).0 (program a moments)
-            (λ e. at (same_host p f.destination) refl) old where
-              at : (b : Bool) → same_host p f.destination ≡ b
-                  → Ends (HasSaid a p (crossing.Answer kind f ∷ crossings_of moments)) p
-                  (accepted (program a moments) (inbound.Answer kind f) (places moments)).0
-              at true g =
-                  (answer_keeps (HasSaid a p (crossing.Answer kind f ∷ crossings_of moments)) Free p
-                  (rules a p (crossing.Answer kind f ∷ crossings_of moments)) (program a moments) kind f
-                  (places moments) (sym (same_host-true p f.destination g)) old).ends
-              at false g =
-                  subst
-                  (λ (q : PairState). Each (HasSaid a p (crossing.Answer kind f ∷ crossings_of moments)) q.entries)
-                  (sym (answer_leaves (program a moments) kind f (places moments) p g)) old
-        by (crossing.Down g) mixed old = if_ends _ p (same_host a g) (opening_state a) (program a moments) (λ e. tt) old
-        by (crossing.Up g) mixed old = if_ends _ p (same_host a g) (opening_state a) (program a moments) (λ e. tt) old
+    moved_so : (y : Moment) → IsMixed strange hosts (y ∷ moments)
+        → Moved orders strange hosts a off p moments (HasSaid a p (crossings_of (y ∷ moments))) y
+        → Ends (HasSaid a p (crossings_of moments)) p (program a moments)
+        → Ends (HasSaid a p (crossings_of (y ∷ moments))) p (program a (y ∷ moments))
+    moved_so y mixed moved old =
+        moved_ends orders strange hosts a off p moments (HasSaid a p (crossings_of (y ∷ moments)))
+        (said_quiet a p (crossings_of (y ∷ moments))) y mixed moved (grown y old)
+
+    by : (y : Moment) → IsMixed strange hosts (y ∷ moments)
+        → Ends (HasSaid a p (crossings_of moments)) p (program a moments)
+        → Ends (HasSaid a p (crossings_of (y ∷ moments))) p (program a (y ∷ moments))
+    by (Crossed (crossing.Out m)) mixed old =
+        each_weaker (Going a p log queue) (HasSaid a p log)
+        (pair_with p (program a (Crossed (crossing.Out m) ∷ moments)).peers).entries (λ e i. i.0)
+        (moved_ends orders strange hosts a off p moments (Going a p log queue) (going_quiet a p log queue)
+        (Crossed (crossing.Out m)) mixed
+        (λ flow n reads. goes a p log m (places moments) n queue flow (inl (refl, places_same moments)) reads)
+        (each_beside (HasSaid a p log) (λ e. All (Fits e) queue) (pair_with p (program a moments).peers).entries
+        (fitting orders strange hosts a off moments below p) (grown (Crossed (crossing.Out m)) old))) where
+          log : List Crossing
+          log = crossing.Out m ∷ crossings_of moments
+    by (Crossed (crossing.In m)) mixed old = moved_so (Crossed (crossing.In m)) mixed
+        (λ flow. hears a p (crossing.In m ∷ crossings_of moments) (places moments) (orders_of m.text)) old
+    by (Asked g r) mixed old = moved_so (Asked g r) mixed (begins a p (crossings_of moments)) old
+    by (Crossed c) mixed old = moved_so (Crossed c) mixed tt old

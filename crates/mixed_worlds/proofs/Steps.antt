@@ -15,7 +15,8 @@ use Rattle.mixed_worlds.proofs.Common.{spelling, DataHeader, Ending, Open, Uncon
 use Rattle.mixed_worlds.proofs.Common.{changed, cls_taken_by, desk_taken, entry_joined, faulted, matched, matched_once}
 use Rattle.mixed_worlds.proofs.Common.{rts_taken_by, str_taken_by, Listener, Stand, Standing, marks, none_at, put}
 use Rattle.mixed_worlds.proofs.Common.{send_odd}
-use Rattle.host_pairs.specs.Commands.{answered_on}
+use Rattle.host_pairs.specs.Commands.{answered_on, Found, all_taken, at_end, gvb_taken, interrupted, receiver_on}
+use Rattle.host_pairs.specs.Commands.{ret_taken, rts_heard, sender_on, str_heard, str_linked}
 use Rattle.std.proofs.lemmas.Bool.{eqb-true}
 use Rattle.bit_messages.specs.Octets.{octets_of}
 use Rattle.interface.specs.declared.crossing.Answer.TheVariants as answer
@@ -25,17 +26,11 @@ use Rattle.ncp_control.specs.declared.phase.Phase.{Phase}
 use Rattle.ncp_control.specs.declared.command.Command.TheVariants as command
 use Rattle.ncp_control.specs.declared.phase.Phase.TheVariants as phase
 use Rattle.host_pairs.specs.Commands as commands
-use Rattle.host_pairs.specs.Commands.{Found, all_taken}
-use Rattle.host_pairs.specs.Commands.{at_end}
-use Rattle.host_pairs.specs.Commands.{gvb_taken, interrupted, receiver_on, ret_taken}
-use Rattle.host_pairs.specs.Commands.{rts_heard, sender_on, str_heard, str_linked}
 use Rattle.host_pairs.specs.Control.{NOT_CONNECTED}
 use Rattle.host_pairs.specs.Data.{spent}
-use Rattle.host_pairs.specs.Entries.{closed_when, cls_of}
-use Rattle.host_pairs.specs.Entries.{is_busy, must_close}
-use Rattle.host_pairs.specs.Entries.{refused_end}
-use Rattle.host_pairs.specs.Turn.{answered_turn, failed, failed_by, freed, is_gone}
-use Rattle.host_pairs.specs.Turn.{reply_notices, reset_notices, settled_turn}
+use Rattle.host_pairs.specs.Entries.{closed_when, cls_of, is_busy, must_close, refused_end}
+use Rattle.host_pairs.specs.Turn.{answered_turn, failed, failed_by, freed, is_gone, reply_notices, reset_notices}
+use Rattle.host_pairs.specs.Turn.{settled_turn}
 use Rattle.host_pairs.specs.declared.notice.Notice.TheVariants as notice
 use Rattle.sockets.specs.Accepting.{accepted}
 use Rattle.host_keeps_ranges.specs.Ranges.{AreOrders, IsOrder}

@@ -26,8 +26,7 @@ use Rattle.sockets.specs.Requests.{at_owner, closed_socket, is_taken, is_used, r
 use Rattle.sockets.specs.declared.request.Request.TheVariants as request
 use Rattle.sockets.proofs.lemmas.{not_first, others_stay}
 use Rattle.sockets.specs.Sending.{offered}
-use Rattle.mixed_worlds.proofs.Steps.{AreMute, IsMute, IsSame, Steps, answer_step, no_words}
-use Rattle.mixed_worlds.proofs.Steps.{settles, sweeps}
+use Rattle.mixed_worlds.proofs.Steps.{AreMute, IsMute, IsSame, Steps, answer_step, no_words, settles, sweeps}
 
 -- ---- what waits of an end
 

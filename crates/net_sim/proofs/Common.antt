@@ -1,7 +1,7 @@
 -- The names that several files of these proofs take from elsewhere, passed on from one place.
 pub use Rattle.bit_messages.specs.Octets.{bits_of, octets_of}
 pub use Rattle.host_pairs.proofs.lemmas.{one_found}
-pub use Rattle.host_pairs.specs.Asked.{closed_end, commanded, interrupt_of, receiver_requested, requested, with_end, with_more_bits}
+pub use Rattle.host_pairs.specs.Asked.{closed_end, commanded, receiver_requested, requested}
 pub use Rattle.host_pairs.specs.Commands.{desk_taken}
 pub use Rattle.host_pairs.specs.Control.{Legal, Order, Wrong, error, orders_of}
 pub use Rattle.host_pairs.specs.Data.{data_taken}
@@ -92,7 +92,6 @@ pub use Rattle.std.proofs.lemmas.Bool.{cases_lt, eqb-true}
 pub use Rattle.std.proofs.lemmas.Grind.{reverse_onto}
 pub use Rattle.std.proofs.lemmas.List.{append-nil, drop_more, length-map, length-reverse, map-append, nil_from_length, reverse-append, take-append-drop, take_all, take_more}
 pub use Rattle.std.proofs.lemmas.List.Elements.{All-cons, All-head, All-nil, All-push, All-tail, All-weaker}
-pub use Rattle.std.proofs.lemmas.List.Folds.{list_all_more}
 pub use Rattle.std.specs.Bool.{MatchBool}
 pub use Rattle.std.specs.List.{Contains, flat_map, fold, list_all, list_any}
 pub use Rattle.std.specs.Option.{option_or}

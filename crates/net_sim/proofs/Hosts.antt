@@ -6,6 +6,7 @@ pub mod Calming
 pub mod Doing
 pub mod Ends
 pub mod Mute
+pub mod Parts
 pub mod Resting
 pub mod SeatLemmas
 pub mod Seats

@@ -152,6 +152,7 @@ fn write_deeds(
 /// Asks the program in a seat for something, which it refuses or serves. Returns its notices.
 fn asked_of(seat: &mut Seat, request: &Request) -> Result<Vec<Notice>, WorldFault>
     requires live { IfSome seat.old.program (λ p. p.spent ≡ false) }
+    ensures host { seat.new.host ≡ seat.old.host }
     ensures refused { OfProgram seat.old (λ s. (f : NcpFault) → refusal s request.now ≡ Some f → (result ≡ Err (world.Program f)) × (seat.new ≡ seat.old)) }
     ensures served { OfProgram seat.old (λ s. refusal s request.now ≡ None → MatchResult result (λ notices. ServedIn seat.old s request.now seat.new notices.items) IsNoMemory) }
 {
@@ -203,6 +204,8 @@ impl ServiceSeat {
         request: &Request,
         notices: Vec<Notice>,
     ) -> Result<(), AllocError>
+        ensures host { self.new.host ≡ self.old.host }
+        ensures seat { seat.new.host ≡ seat.old.host }
         ensures done { OnOk result (OfProgram seat.old (λ s. Settles self.old seat.old (s, notices.items) book.old (asked self.old.host request.now book.old) seat.new self.new book.new)) }
         ensures kept { OnErr result (book.new ≡ book.old) }
     {
@@ -226,6 +229,8 @@ impl ServiceSeat {
         request: &Request,
     ) -> Result<(), WorldFault>
         requires live { IfSome seat.old.program (λ p. p.spent ≡ false) }
+        ensures host { self.new.host ≡ self.old.host }
+        ensures seat { seat.new.host ≡ seat.old.host }
         ensures refused { OfProgram seat.old (λ s. (f : NcpFault) → refusal s request.now ≡ Some f → RefusedIn f result self.old seat.old book.old seat.new self.new book.new) }
         ensures served { OfProgram seat.old (λ s. refusal s request.now ≡ None → SettlesAsked self.old seat.old s request.now book.old result seat.new self.new book.new) }
     {

@@ -2,7 +2,7 @@
 
 ghost use Rattle.std.specs.Prelude.{◌≡◌};
 ghost use Rattle.net_sim.specs.Carriers.{shown};
-ghost use Rattle.net_sim.specs.Inside.Parts.{IsOnce, AreLive, hosts_of, hosts_served, world_after, world_of};
+ghost use Rattle.net_sim.specs.Inside.Parts.{AreLive, world_after, world_of};
 ghost use Rattle.net_sim.specs.Whole.{IsNamed};
 ghost use Rattle.net_sim.specs.World.{EventGives, Net, Quiet, Offer, Take, Ask, Server, User, Typed};
 
@@ -50,9 +50,7 @@ pub(crate) fn offer<C: Carrier>(
     likely: usize,
     host: HostAddr,
 ) -> Result<(), WorldFault>
-    requires once { IsOnce (hosts_of hosts.old.seats.items) }
-    requires live { AreLive hosts.old.seats.items }
-    requires order { hosts_served hosts.old.services.items ≡ hosts_of hosts.old.seats.items }
+    requires live { AreLive hosts.old.seats }
     ensures { EventGives (shown C.calls) (world_of carrier.old hosts.old) (Offer host) result (world_after carrier.new hosts.new result) }
 {
     let at = hosts.up_near(likely, host)?;
@@ -73,9 +71,7 @@ pub(crate) fn take<C: Carrier>(
     likely: usize,
     host: HostAddr,
 ) -> Result<(), WorldFault>
-    requires once { IsOnce (hosts_of hosts.old.seats.items) }
-    requires live { AreLive hosts.old.seats.items }
-    requires order { hosts_served hosts.old.services.items ≡ hosts_of hosts.old.seats.items }
+    requires live { AreLive hosts.old.seats }
     ensures { EventGives (shown C.calls) (world_of carrier.old hosts.old) (Take host) result (world_after carrier.new hosts.new result) }
 {
     let at = hosts.up_near(likely, host)?;
@@ -94,9 +90,7 @@ pub(crate) fn ask<C: Carrier>(
     host: HostAddr,
     request: &Request,
 ) -> Result<(), WorldFault>
-    requires once { IsOnce (hosts_of hosts.old.seats.items) }
-    requires live { AreLive hosts.old.seats.items }
-    requires order { hosts_served hosts.old.services.items ≡ hosts_of hosts.old.seats.items }
+    requires live { AreLive hosts.old.seats }
     ensures { EventGives (shown C.calls) (world_of carrier.old hosts.old) (Ask host request.now) result (world_after carrier.new hosts.new result) }
 {
     // for the proof only: the carrier is asked nothing else here, and `log` says what it shows, which stays the same
@@ -113,9 +107,7 @@ pub(crate) fn begin_server<C: Carrier>(
     listen: u32,
     base: u32,
 ) -> Result<(), WorldFault>
-    requires once { IsOnce (hosts_of hosts.old.seats.items) }
-    requires live { AreLive hosts.old.seats.items }
-    requires order { hosts_served hosts.old.services.items ≡ hosts_of hosts.old.seats.items }
+    requires live { AreLive hosts.old.seats }
     ensures { EventGives (shown C.calls) (world_of carrier.old hosts.old) (Server host listen base) result (world_after carrier.new hosts.new result) }
 {
     // for the proof only, as in `ask`
@@ -133,9 +125,7 @@ pub(crate) fn begin_user<C: Carrier>(
     listen: u32,
     own: u32,
 ) -> Result<(), WorldFault>
-    requires once { IsOnce (hosts_of hosts.old.seats.items) }
-    requires live { AreLive hosts.old.seats.items }
-    requires order { hosts_served hosts.old.services.items ≡ hosts_of hosts.old.seats.items }
+    requires live { AreLive hosts.old.seats }
     ensures { EventGives (shown C.calls) (world_of carrier.old hosts.old) (User host peer listen own) result (world_after carrier.new hosts.new result) }
 {
     // for the proof only, as in `ask`
@@ -151,9 +141,7 @@ pub(crate) fn type_line<C: Carrier>(
     host: HostAddr,
     line: &TypedLine,
 ) -> Result<(), WorldFault>
-    requires once { IsOnce (hosts_of hosts.old.seats.items) }
-    requires live { AreLive hosts.old.seats.items }
-    requires order { hosts_served hosts.old.services.items ≡ hosts_of hosts.old.seats.items }
+    requires live { AreLive hosts.old.seats }
     ensures { EventGives (shown C.calls) (world_of carrier.old hosts.old) (Typed host line.now) result (world_after carrier.new hosts.new result) }
 {
     // for the proof only, as in `ask`
@@ -168,20 +156,18 @@ pub(crate) fn follow<C: Carrier>(
     hosts: &mut Hosts,
     event: &Event,
 ) -> Result<(), WorldFault>
-    requires once { IsOnce (hosts_of hosts.old.seats.items) }
-    requires live { AreLive hosts.old.seats.items }
-    requires order { hosts_served hosts.old.services.items ≡ hosts_of hosts.old.seats.items }
+    requires live { AreLive hosts.old.seats }
     ensures { EventGives (shown C.calls) (world_of carrier.old hosts.old) event.now result (world_after carrier.new hosts.new result) }
 {
     match event {
         Event::Net(event) => happen(carrier, hosts, *event),
         Event::Quiet => pass(carrier, hosts),
         Event::Offer(host) => {
-            let likely = likely_place(&hosts.seats, *host);
+            let likely = likely_place(hosts.seats(), *host);
             offer(carrier, hosts, likely, *host)
         }
         Event::Take(host) => {
-            let likely = likely_place(&hosts.seats, *host);
+            let likely = likely_place(hosts.seats(), *host);
             take(carrier, hosts, likely, *host)
         }
         Event::Ask(host, request) => ask(carrier, hosts, *host, request),

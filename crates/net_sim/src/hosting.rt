@@ -156,6 +156,8 @@ impl ServiceSeat {
         news: &[Crossing],
         notices: Vec<Notice>,
     ) -> Result<(), AllocError>
+        ensures host { self.new.host ≡ self.old.host }
+        ensures seat { seat.new.host ≡ seat.old.host }
         ensures done { OnOk result (OfProgram seat.old (λ s. SettlesNews news.now self.old seat.old (s, notices.items) book.old seat.new self.new book.new)) }
         ensures kept { OnErr result (book.new ≡ book.old) }
     {
@@ -183,6 +185,8 @@ impl ServiceSeat {
         inbound: Inbound,
     ) -> Result<(), AllocError>
         requires live { IfSome seat.old.program (λ p. p.spent ≡ false) }
+        ensures host { self.new.host ≡ self.old.host }
+        ensures seat { seat.new.host ≡ seat.old.host }
         ensures done { OnOk result (OfProgram seat.old (λ s. SettlesNews news.now self.old seat.old (accepted s inbound (length book.old.book.crossings)) book.old seat.new self.new book.new)) }
         ensures kept { OnErr result (book.new ≡ book.old) }
     {
@@ -204,6 +208,8 @@ impl ServiceSeat {
         news: &[Crossing],
     ) -> Result<(), AllocError>
         requires live { IfSome seat.old.program (λ p. p.spent ≡ false) }
+        ensures host { self.new.host ≡ self.old.host }
+        ensures seat { seat.new.host ≡ seat.old.host }
         ensures done { OnOk result (OfProgram seat.old (λ s. SettlesNews news.now self.old seat.old (offered s (length book.old.book.crossings)) book.old seat.new self.new book.new)) }
         ensures kept { OnErr result (book.new ≡ book.old) }
     {

@@ -13,7 +13,7 @@ use crate::WorldFault;
 use crate::book::Book;
 use crate::mixed::{MixedEvent, MixedFault, StrangersFault};
 use crate::parts::Hosts;
-use crate::seat::{Seat, ServiceSeat, opening_seats, opening_services};
+use crate::seat::{Seat, ServiceSeat};
 use crate::strangers::{absent_in, answer_of, programs_of, stops_mixed, strangers_of};
 use crate::world::are_addresses;
 use crate::world_core::WorldCore;
@@ -76,15 +76,8 @@ impl<C: Carrier> MixedWorld<C> {
     {
         let strangers = strangers_of(alloc, carrier.hosts(), named)?;
         let programs = programs_of(alloc, carrier.hosts(), &strangers)?;
-        let seats = opening_seats(alloc, &programs)?;
-        let services = opening_services(alloc, &programs)?;
+        let hosts = Hosts::new(alloc, &programs)?;
         are_addresses(carrier.hosts());
-        let hosts = Hosts {
-            seats,
-            services,
-            book: Book::new(alloc),
-            alloc,
-        };
         Ok(MixedWorld {
             core: WorldCore::of_parts(carrier, hosts),
             strangers,

@@ -5,7 +5,7 @@ ghost use Rattle.interface.specs.Host.{is_host};
 ghost use Rattle.net_sim.specs.Carriers.{shown};
 ghost use Rattle.net_sim.specs.Inside.Mixed as inside;
 ghost use Rattle.net_sim.specs.Inside.Mixed.{mixed_after, mixed_of};
-ghost use Rattle.net_sim.specs.Inside.Parts.{IsOnce, AreLive, hosts_of, hosts_served, world_after, world_of};
+ghost use Rattle.net_sim.specs.Inside.Parts.{AreLive, world_after, world_of};
 ghost use Rattle.net_sim.specs.Laws.Worlds.{IsNamedMixed};
 ghost use Rattle.net_sim.specs.MixedWorlds as mixed;
 ghost use Rattle.net_sim.specs.World.{Take};
@@ -160,7 +160,7 @@ fn say<C: Carrier>(
     }
     // for the proof only: the carrier is asked nothing else here, and `log` says what it shows, which stays the same
     let _ = carrier.log();
-    if has_seat(&hosts.seats, source) {
+    if has_seat(hosts.seats(), source) {
         return Err(MixedFault::HasProgram);
     }
     Err(MixedFault::World(WorldFault::Carrier(CarrierFault::NoSuch)))
@@ -173,16 +173,14 @@ fn take<C: Carrier>(
     strangers: &[HostAddr],
     host: HostAddr,
 ) -> Result<(), MixedFault>
-    requires once { IsOnce (hosts_of hosts.old.seats.items) }
-    requires live { AreLive hosts.old.seats.items }
-    requires order { hosts_served hosts.old.services.items ≡ hosts_of hosts.old.seats.items }
+    requires live { AreLive hosts.old.seats }
     ensures { AnyGives (shown C.calls) (mixed_of carrier.old hosts.old strangers.now) (Take host) result (mixed_after carrier.new hosts.new strangers.now result) }
 {
     if is_among(strangers, host) {
         let done = fetch(carrier, hosts, host);
         return answer_of(done);
     }
-    let likely = likely_place(&hosts.seats, host);
+    let likely = likely_place(hosts.seats(), host);
     let done = events::take(carrier, hosts, likely, host);
     answer_of(done)
 }
@@ -194,9 +192,7 @@ fn ask<C: Carrier>(
     strangers: &[HostAddr],
     event: &Event,
 ) -> Result<(), MixedFault>
-    requires once { IsOnce (hosts_of hosts.old.seats.items) }
-    requires live { AreLive hosts.old.seats.items }
-    requires order { hosts_served hosts.old.services.items ≡ hosts_of hosts.old.seats.items }
+    requires live { AreLive hosts.old.seats }
     ensures { AskedGives (shown C.calls) (mixed_of carrier.old hosts.old strangers.now) event.now result (mixed_after carrier.new hosts.new strangers.now result) }
 {
     if asks_stranger(strangers, event) {
@@ -215,9 +211,7 @@ fn happen<C: Carrier>(
     strangers: &[HostAddr],
     event: &Event,
 ) -> Result<(), MixedFault>
-    requires once { IsOnce (hosts_of hosts.old.seats.items) }
-    requires live { AreLive hosts.old.seats.items }
-    requires order { hosts_served hosts.old.services.items ≡ hosts_of hosts.old.seats.items }
+    requires live { AreLive hosts.old.seats }
     ensures { AnyGives (shown C.calls) (mixed_of carrier.old hosts.old strangers.now) event.now result (mixed_after carrier.new hosts.new strangers.now result) }
 {
     match event {
@@ -239,9 +233,7 @@ pub(crate) fn follow_mixed<C: Carrier>(
     strangers: &[HostAddr],
     event: MixedEvent,
 ) -> Result<(), MixedFault>
-    requires once { IsOnce (hosts_of hosts.old.seats.items) }
-    requires live { AreLive hosts.old.seats.items }
-    requires order { hosts_served hosts.old.services.items ≡ hosts_of hosts.old.seats.items }
+    requires live { AreLive hosts.old.seats }
     ensures { MixedEventGives (shown C.calls) (mixed_of carrier.old hosts.old strangers.now) event result (mixed_after carrier.new hosts.new strangers.now result) }
 {
     match event {

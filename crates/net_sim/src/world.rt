@@ -13,7 +13,7 @@ ghost use Rattle.promise.specs.Fates.{AreFated};
 
 use crate::book::Book;
 use crate::parts::Hosts;
-use crate::seat::{Seat, ServiceSeat, opening_seats, opening_services};
+use crate::seat::{Seat, ServiceSeat};
 use crate::world_core::{WorldCore, stops};
 use crate::{Event, WorldFault};
 use interface::{Carrier, CarrierFault, HostAddr};
@@ -52,15 +52,8 @@ impl<C: Carrier> World<C> {
         requires running { (C.calls.seen carrier).stopped ≡ false }
         ensures { IfOk result (λ w. w ≡ opening_world (shown C.calls) carrier) }
     {
-        let seats = opening_seats(alloc, carrier.hosts())?;
-        let services = opening_services(alloc, carrier.hosts())?;
+        let hosts = Hosts::new(alloc, carrier.hosts())?;
         are_addresses(carrier.hosts());
-        let hosts = Hosts {
-            seats,
-            services,
-            book: Book::new(alloc),
-            alloc,
-        };
         Ok(World {
             core: WorldCore::of_parts(carrier, hosts),
         })

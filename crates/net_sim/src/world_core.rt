@@ -64,7 +64,7 @@ impl<C: Carrier> WorldCore<C> {
     pub(crate) fn book(&self) -> &Book
         ensures { result.now ≡ self.now.kept }
     {
-        &self.hosts.book
+        self.hosts.book()
     }
 
     /// Returns the carrier.
@@ -78,7 +78,7 @@ impl<C: Carrier> WorldCore<C> {
     pub(crate) fn services(&self) -> &[ServiceSeat]
         ensures { result.now ≡ self.now.services }
     {
-        &self.hosts.services
+        self.hosts.services()
     }
 
     /// Returns the hosts with their programs, in the carrier's order.
@@ -86,7 +86,7 @@ impl<C: Carrier> WorldCore<C> {
         ensures value { result.now ≡ self.now.seats }
         ensures once { self.now.stopped ≡ false → IsOnce (hosts_of self.now.seats) }
     {
-        &self.hosts.seats
+        self.hosts.seats()
     }
 
     /// Returns whether running out of memory has stopped it.

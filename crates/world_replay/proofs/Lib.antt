@@ -6,6 +6,7 @@ mod CalmEvents
 mod Counting
 pub mod Driven
 mod Driving
+pub mod Gained
 pub mod Grown
 pub mod ByKind
 pub mod Mixed

@@ -1,15 +1,15 @@
 -- One event of a world's script, and what it shows.
-use Rattle.world_replay.proofs.Common.{◌≡◌, ℕ, ◌+◌, true, false, List, [], ◌∷◌, ◌++◌, drop, length, reverse, Option, Result, Ok, Err, refl, ap, sym, subst, ◌∙◌, arith, append-nil, length-append, length-reverse, reverse-append, reverse-reverse, Appends, Kept, shown, CalmGives, StepGives, WorldState, stops, Event, Calls, WorldFault, HappensOnce, ShowsFront, grown_more, in_turn_once, AreSettled, WorldEvent, Gains, Writes, notices_of, output, reports_of, shown_in_turn, told_in_turn, HappensInCalm, Replays, Detail, gained, calm_keeps}
+use Rattle.world_replay.proofs.Common.{◌≡◌, ℕ, ◌+◌, true, false, List, ◌++◌, drop, length, reverse, Option, Result, refl, ap, sym, subst, ◌∙◌, arith, length-append, length-reverse, reverse-append, reverse-reverse, Appends, Kept, shown, CalmGives, StepGives, WorldState, stops, Event, Calls, WorldFault, HappensOnce, ShowsFront, in_turn_once, AreSettled, WorldEvent, Gains, Writes, output, shown_in_turn, told_in_turn, HappensInCalm, Replays, Detail, gained, calm_keeps}
 use Rattle.world_replay.specs.Replay.{StopsIn}
 use Rattle.std.proofs.lemmas.List.{append_assoc, append_cancel_left, append_cancel_right, drop_at}
 use Rattle.replay.proofs.lemmas.{ends_front}
 use Rattle.replay.specs.Settled.{Grows}
 use Rattle.world_script.specs.declared.event.WorldEvent.TheVariants as event
 use Rattle.world_replay.specs.Gains.{news}
-use Rattle.world_replay.specs.Output.{Shown, crossings_of, shown_refusal}
+use Rattle.world_replay.specs.Output.{Shown, shown_refusal}
 use Rattle.world_replay.specs.Replay.{EndsIn, EventGives, Happens}
 use Rattle.world_replay.proofs.Grown.{Grew, begins, gains_none, grew_more, grew_none, step_gains, step_grows, step_kept}
-use Rattle.world_replay.proofs.News.{crossings_in_turn, crossings_of-append, news_later, notices_in_turn, notices_of-append, reports_in_turn, reports_of-append, told_begin, told_later, told_want}
+use Rattle.world_replay.proofs.News.{news_later, told_begin, told_later, told_want}
 use Rattle.world_replay.proofs.Steady.{Steady, steady_calm, step_once}
 
 -- ---- one event
@@ -95,64 +95,6 @@ stops_front {C} calls settled old (event.Calm rounds) new other part whole h k =
       whole_is ∙ ap (λ xs. xs ++ shown_refusal k.outcome) (gained_more old.kept new.kept other.kept mine later) ∙ append_assoc (gained mine.gains) (gained later.gains) (shown_refusal k.outcome)
           ∙ ap (λ xs. xs ++ (gained later.gains ++ shown_refusal k.outcome)) (sym part_is),
     )
-
--- ---- what is shown has all that the book gained
-
--- lines have the crossings, the notices and the reports that a book gained, and no others
-pub record HaveGains (old new : Kept) (shown : List Shown) : Type 0 where
-  pub crossed : new.book.crossings ≡ reverse (crossings_of shown) ++ old.book.crossings
-  pub told : new.book.notices ≡ old.book.notices ++ notices_of shown
-  pub said : new.book.reports ≡ old.book.reports ++ reports_of shown
-
-nothing_gained : (k : Kept) → HaveGains k k []
-nothing_gained k = record { crossed = refl; told = sym (append-nil k.book.notices); said = sym (append-nil k.book.reports) }
-
-refusal_gained : (k : Kept) (r : Result (Unit {0}) WorldFault) → HaveGains k k (shown_refusal r)
-refusal_gained k (Ok done) = nothing_gained k
-refusal_gained k (Err f) = record { crossed = refl; told = sym (append-nil k.book.notices); said = sym (append-nil k.book.reports) }
-
-pub news_gained : (old new : Kept) (g : Gains old new) → HaveGains old new (gained g)
-news_gained old new g =
-    let crossings : ℕ = length old.book.crossings in
-    let notices : ℕ = length old.book.notices in
-    record {
-      crossed = g.crossed ∙ ap (λ cs. reverse cs ++ old.book.crossings) (sym (crossings_in_turn crossings notices g.crossings g.notices g.reports));
-      told = g.told ∙ ap (λ ts. old.book.notices ++ ts) (sym (notices_in_turn crossings notices g.crossings g.notices g.reports));
-      said = g.said ∙ ap (λ rs. old.book.reports ++ rs) (sym (reports_in_turn crossings notices g.crossings g.notices g.reports));
-    }
-
-both_gained : (old mid new : Kept) (first rest : List Shown) → HaveGains old mid first → HaveGains mid new rest
-    → HaveGains old new (first ++ rest)
-both_gained old mid new first rest h k = record {
-  crossed = grown_more old.book.crossings mid.book.crossings new.book.crossings (crossings_of first) (crossings_of rest) h.crossed k.crossed
-      ∙ ap (λ cs. reverse cs ++ old.book.crossings) (sym (crossings_of-append first rest));
-  told = k.told ∙ ap (λ ts. ts ++ notices_of rest) h.told ∙ append_assoc old.book.notices (notices_of first) (notices_of rest)
-      ∙ ap (λ ts. old.book.notices ++ ts) (sym (notices_of-append first rest));
-  said = k.said ∙ ap (λ rs. rs ++ reports_of rest) h.said ∙ append_assoc old.book.reports (reports_of first) (reports_of rest)
-      ∙ ap (λ rs. old.book.reports ++ rs) (sym (reports_of-append first rest));
-}
-
-happens_show : {C : Type 0} (calls : Calls C) (old : WorldState C) (e : WorldEvent) (new : WorldState C)
-    (shown : List Shown) → Happens calls old e new shown → HaveGains old.kept new.kept shown
-happens_show calls old e new shown h =
-    subst (HaveGains old.kept new.kept) (sym h.lines)
-    (both_gained old.kept new.kept new.kept (gained h.gains) (shown_refusal h.outcome) (news_gained old.kept new.kept h.gains) (refusal_gained new.kept h.outcome))
-
-pub replays_show : {C : Type 0} (calls : Calls C) (old : WorldState C) (events : List WorldEvent) (new : WorldState C)
-    (shown : List Shown) → Replays calls old events new shown → HaveGains old.kept new.kept shown
-replays_show {C} calls old [] new shown h =
-    subst (λ (w : WorldState C). HaveGains old.kept w.kept shown) (sym h.0) (subst (HaveGains old.kept old.kept) (sym h.1) (nothing_gained old.kept))
-replays_show calls old (e ∷ events) new shown (mid, first, rest, happens, more, whole) =
-    subst (HaveGains old.kept new.kept) (sym whole)
-    (both_gained old.kept mid.kept new.kept first rest (happens_show calls old e mid first happens) (replays_show calls mid events new rest more))
-
-pub stops_show : {C : Type 0} (calls : Calls C) (old : WorldState C) (events : List WorldEvent) (new : WorldState C)
-    (shown : List Shown) → EndsIn calls (StopsIn calls) old events new shown
-    → HaveGains old.kept new.kept shown
-stops_show calls old events new shown h =
-    subst (HaveGains old.kept new.kept) (sym h.lines)
-    (both_gained old.kept h.mid.kept new.kept h.front h.own (replays_show calls old h.done h.mid h.front h.before)
-    (subst (HaveGains h.mid.kept new.kept) (sym h.goes.lines) (news_gained h.mid.kept new.kept h.goes.gains)))
 
 -- ---- printing an event
 

@@ -2,6 +2,7 @@
 pub use Rattle.world_replay.proofs.Accounts
 pub use Rattle.world_replay.proofs.CalmRounds
 pub use Rattle.world_replay.proofs.Driven
+pub use Rattle.world_replay.proofs.Gained
 pub use Rattle.world_replay.proofs.Grown.{at_seat, if_stopped, one_crossed}
 pub use Rattle.world_replay.proofs.News
 pub use Rattle.world_replay.proofs.Replays

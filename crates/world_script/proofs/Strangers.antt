@@ -30,31 +30,11 @@ out_unmarked = unmarked_where 32 (codes "out") refl
 
 asked_first : (r : Request) → codes "out" ≢ verb_text (verb_of r)
 asked_first (request.Contact peer) e = absurd (cc)
-asked_first (request.Echo peer octet) e = absurd (cc)
-asked_first (request.Listen socket size) e = absurd (cc)
-asked_first (request.OpenSend peer own foreign size) e = absurd (cc)
-asked_first (request.OpenReceive peer own foreign) e = absurd (cc)
-asked_first (request.Send socket bits) e = absurd (cc)
-asked_first (request.Grant socket messages bits) e = absurd (cc)
-asked_first (request.AskBack socket messages bits) e = absurd (cc)
-asked_first (request.Interrupt socket) e = absurd (cc)
-asked_first (request.Close socket) e = absurd (cc)
+asked_first r e = absurd (cc)
 
 net_first : (e : NetEvent) → codes "out" ≢ first (world.Happen (event.Net e))
-net_first (net.Deliver line way frame) e = absurd (cc)
-net_first (net.Drop line way frame) e = absurd (cc)
-net_first (net.Resend imp) e = absurd (cc)
-net_first (net.Route imp) e = absurd (cc)
-net_first (net.EndDown imp line) e = absurd (cc)
-net_first (net.EndUp imp line) e = absurd (cc)
-net_first (net.ImpDown imp) e = absurd (cc)
-net_first (net.ImpUp imp) e = absurd (cc)
-net_first (net.HostDown h) e = absurd (cc)
-net_first (net.HostUp h) e = absurd (cc)
-net_first (net.GiveUp f) e = absurd (cc)
-net_first (net.Forget at from) e = absurd (cc)
-net_first (net.Abandon f) e = absurd (cc)
 net_first (net.Ask f) e = false≢true (ap (λ (word : List ℕ). bytes_eq word (codes "ask")) e)
+net_first d e = absurd (cc)
 
 -- no line of any world begins with a stranger's word
 other_first : (x : WorldEvent) → codes "out" ≢ first x

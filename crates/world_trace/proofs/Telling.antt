@@ -16,7 +16,8 @@ use Rattle.replay.specs.declared.events.ReplayFault.TheVariants as fault
 use Rattle.replay.specs.declared.print.Detail.TheVariants.{Sizes}
 use Rattle.topology.specs.Topology.{TopologyFields}
 use Rattle.world_replay.specs.Output.{Shown, Writes, crossings_of, output}
-use Rattle.world_replay.proofs.lemmas.Replays.{HaveGains, gains_once, news_gained, same_news}
+use Rattle.world_replay.proofs.lemmas.Gained.{HaveGains, news_gained}
+use Rattle.world_replay.proofs.lemmas.Replays.{gains_once, same_news}
 use Rattle.world_replay.specs.Gains.{Gains}
 use Rattle.world_replay.specs.Replay.{EndsIn, EventGives, Happens, MayStep, Replays}
 use Rattle.world_script.specs.declared.event.WorldEvent.TheVariants as world

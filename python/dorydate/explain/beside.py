@@ -46,7 +46,7 @@ def said(network: Topology, events: Sequence[Happened]) -> list[Said]:
     model: Inside | None = Inside(network)
     every: list[Said] = []
     for event in events:
-        found = found_of(model, event, network.raw) if model else None
+        found = found_of(model, event, network) if model else None
         if model is None or found is None:
             model = None
             every.append(Said.nothing(event.printed))
@@ -59,10 +59,10 @@ def said(network: Topology, events: Sequence[Happened]) -> list[Said]:
     return every
 
 
-def found_of(model: Inside, event: Happened, raw: bool) -> Told | None:
+def found_of(model: Inside, event: Happened, network: Topology) -> Told | None:
     """What the model says of an event; None where it prints other lines than the program did, or can't follow."""
     try:
-        found = model.happen(read_event(" ".join(event.words), raw))
+        found = model.happen(read_event(" ".join(event.words), network.raw, bool(network.foreign)))
     except TooLong:
         print(f"explain: from line {event.number} on there are too many rounds for the independent model; nothing is said of the inside there", file=sys.stderr)
         return None

@@ -9,13 +9,12 @@ from collections.abc import Mapping, Sequence
 from typing import Any
 
 from dorydate.given import Input, shown
-from dorydate.network import MOST_IMPS, MOST_LINES
+from dorydate.network import MOST_IMPS, MOST_LINES, TOPOLOGIES, wrong_with_numbers
 from dorydate.program import MOST_OCTETS
 from dorydate.sentences.table import TABLE, filled, pattern, sentences
 from dorydate.toml import Beyond, Fault, document_of, line_in_table, line_of_key, line_of_table
 from dorydate.where import here
 
-TOPOLOGIES = sentences("topologies")
 EVENTS = "|".join([*sentences("forms"), *sentences("forms of programs")])
 MARKERS = [(pattern(it.replace("{events}", EVENTS)), *names) for it, *names in TABLE["rules of markers"]]
 RANGES: dict[str, dict[str, tuple[int, int]]] = {"imp": {}, "line": {}}
@@ -97,7 +96,8 @@ def wrong_with_network(document: Table, lines: Sequence[str]) -> Fault | None:
         return Fault(None, TOPOLOGIES["imps"])
     if not is_tables(joined):
         return Fault(None, TOPOLOGIES["lines"])
-    return wrong_with_imps(imps, lines) or wrong_with_lines(joined, [imp["id"] for imp in imps], lines)
+    found = wrong_with_imps(imps, lines) or wrong_with_lines(joined, [imp["id"] for imp in imps], lines)
+    return found or wrong_with_strangers(imps, document.get("raw", False), lines)
 
 
 def wrong_with_imps(imps: Sequence[Table], lines: Sequence[str]) -> Fault | None:
@@ -134,6 +134,18 @@ def wrong_with_lines(joined: Sequence[Table], numbers: list[int], lines: Sequenc
     return None
 
 
+def wrong_with_strangers(imps: Sequence[Table], raw: bool, lines: Sequence[str]) -> Fault | None:
+    """The same of the strangers that IMPs name; None where none names any."""
+    named = [(place, imp) for place, imp in enumerate(imps) if "foreign" in imp]
+    for place, imp in named:
+        if why := "foreign raw" if raw else wrong_with_numbers(imp["foreign"], imp["hosts"]):
+            holes = {"imp": imp["id"], "hosts": imp["hosts"]}
+            return Fault(line_in_table(lines, "imp", place, "foreign"), filled(TOPOLOGIES[why], holes))
+    if named and not any(imp["foreign"] for _, imp in named):
+        return Fault(line_in_table(lines, "imp", named[0][0], "foreign"), TOPOLOGIES["foreign none"])
+    return None
+
+
 def is_tables(value: object) -> bool:
     return isinstance(value, list) and all(isinstance(it, dict) for it in value)
 
@@ -144,7 +156,7 @@ def wrong_with_table(name: str, place: int, table: Table, lines: Sequence[str]) 
     if displaced := [it for it in table if it in ("raw", "carrier")]:
         why = filled(TOPOLOGIES["displaced"], key=displaced[0], table=name)
         return Fault(line_in_table(lines, name, place, displaced[0]), why)
-    if {*table} != {*ranges}:
+    if {*table} - ({"foreign"} if name == "imp" else set()) != {*ranges}:
         found = ", ".join(table) or "none"
         why = filled(TOPOLOGIES["keys"], table=name, keys=" and ".join(ranges), found=found)
         return Fault(line_of_table(lines, name, place), why)

@@ -17,7 +17,9 @@ SHOWN = 14  # characters of a site's name that are shown
 
 def of_model(network: Network) -> Topology:
     """A network as the independent model has it."""
-    return Topology(network.carrier, network.raw, [(it.number, it.hosts) for it in network.imps], [(it.a, it.b) for it in network.lines])
+    imps = [(it.number, it.hosts) for it in network.imps]
+    foreign = [(it.number, [*it.foreign]) for it in network.imps if it.foreign]
+    return Topology(network.carrier, network.raw, imps, [(it.a, it.b) for it in network.lines], foreign or None)
 
 
 def names_of(network: Network) -> dict[int, str]:
@@ -34,6 +36,12 @@ def network_by(given: Input) -> Network | None:
         return Network.read(given.topology().decode())
     except ValueError:
         return None
+
+
+def has_strangers(given: Input) -> bool:
+    """Whether the topology names strangers, which send what a raw network's script sends."""
+    network = network_by(given)
+    return network is not None and any(it.foreign for it in network.imps)
 
 
 def is_raw(given: Input) -> bool:

@@ -6,11 +6,12 @@ faster than `copy.deepcopy`, which makes all crossings and packets anew.
 
 from __future__ import annotations
 
+from collections import Counter
 from collections.abc import Callable
 from typing import Any, TypeVar, cast
 
 T = TypeVar("T")
-PLAIN = (int, str, bytes, bool)
+PLAIN = (int, str, bytes, bool, frozenset)
 
 
 def forked(it: T) -> T:
@@ -34,8 +35,8 @@ class Fork:
 
     def made(self, it: Any) -> None:
         """Copies a value that may hold itself."""
-        kinds: dict[type, Callable[[Any], Any]] = {list: self.of_list, dict: self.of_dict, set: set, tuple: lambda them: tuple(map(self.of, them))}
-        make = kinds.get(type(it))
+        kinds: dict[type, Callable[[Any], Any]] = {list: self.of_list, dict: self.of_dict, set: set, Counter: Counter}
+        make = self.of_tuple if type(it) is tuple else kinds.get(type(it))
         if make:
             self.copies[id(it)] = make(it)
             return
@@ -45,6 +46,10 @@ class Fork:
     def of_list(self, them: list[Any]) -> list[Any]:
         """The copy of a list, whose elements are all of one kind, or None."""
         return them.copy() if them and them[0] is not None and never_changes(them[0]) else [*map(self.of, them)]
+
+    def of_tuple(self, them: tuple[Any, ...]) -> tuple[Any, ...]:
+        """The copy of a tuple."""
+        return tuple(map(self.of, them))
 
     def of_dict(self, them: dict[Any, Any]) -> dict[Any, Any]:
         """The copy of a table, whose keys never change."""

@@ -14,6 +14,7 @@ from dorydate.model.boxes import Boxes
 from dorydate.model.crossings import Carrier, Crossing, Passed
 from dorydate.model.packets import MOST_IMPS
 from dorydate.model.script import EVERYTHING, BadLine, read_line
+from dorydate.model.strangers import MixedWorld
 from dorydate.model.subnet import Subnet
 from dorydate.model.topology import Topology
 from dorydate.model.world import World
@@ -28,7 +29,7 @@ def network_is_good(network: Topology, runs: Collection[str] = ()) -> bool:
 
     A line is its two ends, and whatever further numbers its table has. A network that isn't raw can be run where the program
     runs `worlds`."""
-    carrier, raw, imps, lines = network
+    carrier, raw, imps, lines, foreign = network
     numbers = [number for number, _ in imps]
     if any(len(line) != 2 for line in lines):
         return False
@@ -42,19 +43,30 @@ def network_is_good(network: Topology, runs: Collection[str] = ()) -> bool:
         and all(len({*line}) == 2 and {*line} <= {*numbers} for line in lines)
         and len({frozenset(line) for line in lines}) == len(lines)
         and all(count <= 5 for count in ends.values())
+        and (foreign is None or not raw and strangers_are_good(network))
     )
+
+
+def strangers_are_good(network: Topology) -> bool:
+    """Whether each IMP that names strangers names its own hosts, each once and rising, and there is one at least."""
+    hosts = dict(network.imps)
+    named = network.foreign or []
+    rising = all(numbers == sorted({*numbers} & {*range(hosts[imp])}) for imp, numbers in named)
+    return rising and network.strangers() != []
 
 
 def opened_carrier(network: Topology) -> Carrier:
     """The carrier of a network, at its opening."""
-    carrier, _, imps, lines = network
+    carrier, _, imps, lines, _ = network
     return Boxes(imps) if carrier == "plain" else Subnet(imps, lines)
 
 
 def opened(network: Topology) -> Place:
     """A carrier or a world at its opening, as the network names it."""
     carrier = opened_carrier(network)
-    return carrier if network[1] else World(carrier)
+    if strangers := network.strangers():
+        return MixedWorld(carrier, strangers, takes=False)
+    return carrier if network.raw else World(carrier)
 
 
 def log_of(place: Place) -> list[Crossing]:
@@ -71,7 +83,7 @@ def expected(options: Sequence[str], network: Topology, lines: Iterable[str], ru
     events = []
     for number, line in enumerate(lines, 1):
         try:
-            events.append(read_line(line, network[1], runs))
+            events.append(read_line(line, network.raw, runs, strangers=bool(network.foreign)))
         except BadLine:
             return 2, "", f"arpasim: bad script line {number}\n"
     if "--check" in options:

@@ -83,8 +83,8 @@ def read_text(count: str, octets: str) -> Bits:
     return bits_of(bytes.fromhex(octets))[:bits]
 
 
-def read_line(line: str, raw: bool = True, runs: Collection[str] = EVERYTHING) -> Event | None:
-    """The event that a line asks for, None for a line that is passed over."""
+def read_line(line: str, raw: bool = True, runs: Collection[str] = EVERYTHING, strangers: bool = False) -> Event | None:
+    """The event that a line asks for, None for a line that is passed over. Strangers send as a raw network's script does."""
     if line == "" or line[0] == "#":
         return None
     if found := OF_HOST.fullmatch(line):
@@ -95,12 +95,12 @@ def read_line(line: str, raw: bool = True, runs: Collection[str] = EVERYTHING) -
         return found[1], read_number(found[2]), found[3], read_number(found[4])
     if found := OF_IMP.fullmatch(line) or OF_END.fullmatch(line) or OF_IMPS.fullmatch(line) or CALM.fullmatch(line):
         return found[1], *(read_number(word) for word in found.groups()[1:])
-    return read_raw_line(line) if raw else read_world_line(line, runs)
+    return read_raw_line(line) if raw or strangers and line.startswith("out ") else read_world_line(line, runs)
 
 
-def read_event(line: str, raw: bool = True) -> Event:
+def read_event(line: str, raw: bool = True, strangers: bool = False) -> Event:
     """The event of a line that has one."""
-    event = read_line(line, raw)
+    event = read_line(line, raw, strangers=strangers)
     if event is None:
         raise BadLine
     return event

@@ -81,7 +81,6 @@ class MixedWorld(EndingWorld):
         if kind == "out" and parts[0].source in self.hosts and parts[0].source not in self.strangers:
             raise Refused("HasProgram")
         if kind in ("offer", "server", "user", "type") and parts[0] in self.strangers:
-            self.program(parts[0])
             raise Refused("NoProgram")
         before = len(self.carrier.log)
         super().step(kind, *parts)
@@ -108,9 +107,9 @@ class MixedWorld(EndingWorld):
         super().tell(host, notices)
 
     def request(self, host: HostName, kind: str, *parts: Any) -> list[str]:
-        program = self.program(host)
         if host in self.strangers:
             raise Refused("NoProgram")
+        program = self.program(host)
         peer: HostName | None = parts[0] if kind in ABOUT_PEER else None
         if kind not in ABOUT_PEER and kind != "listen" and parts[0] not in program.listening:
             owner = program.mine(parts[0])

@@ -225,7 +225,7 @@ def traced(place: Carrier, lines: Iterable[str]) -> Iterator[Object]:
 
 def opening(network: Topology, place: Carrier) -> Object:
     """The first record of a trace: the network, and all its parts at its opening."""
-    carrier, raw, imps, lines = network
+    carrier, raw, imps, lines, _ = network
     return {
         "trace": FORMAT,
         "carrier": carrier,

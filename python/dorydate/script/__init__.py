@@ -6,7 +6,7 @@ is spelled as its line; the one undoes the other.
 
 from dorydate.script.event import EVENTS, Event
 from dorydate.script.file import EXPECTED, Entry, Script, octets_of
-from dorydate.script.lines import IN_THE_NETWORK, RAW, WORLD, read_event
+from dorydate.script.lines import IN_THE_NETWORK, RAW, WORLD, not_here, read_event, words_in
 from dorydate.script.of_network import Abandon, Ask, Calm, Deliver, Drop, EndDown, EndUp, Forget, GiveUp, HostDown, HostUp, ImpDown, ImpUp, Out, Resend, Route, Take
 from dorydate.script.of_programs import AskBack, Close, Contact, Echo, Grant, Interrupt, Listen, Offer, OpenReceive, OpenSend, Send, Server, Type, User
 from dorydate.script.values import MOST_BITS, MOST_NUMBER, BadLine, Flow, Text, host_of, whole
@@ -57,7 +57,9 @@ __all__ = [
     "User",
     "WORLD",
     "host_of",
+    "not_here",
     "octets_of",
     "read_event",
     "whole",
+    "words_in",
 ]

@@ -102,7 +102,7 @@ class Script:
                 comments.append(line[1:].strip())
             elif line:
                 try:
-                    entries.append(Entry(read_event(line, network.raw), tuple(comments), None, number))
+                    entries.append(Entry(read_event(line, network), tuple(comments), None, number))
                 except (BadLine, BadNetwork) as why:
                     raise BadLine(f"line {number}, `{short(line)}`: {why}") from None
                 comments = []

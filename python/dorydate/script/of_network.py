@@ -13,7 +13,7 @@ from dorydate.script.values import MOST_BITS, BadLine, Flow, Text, way_of
 @event("out")
 @dataclass(frozen=True)
 class Out(Event):
-    """A host hands its IMP a message. Only raw scripts have it."""
+    """A host hands its IMP a message: any host of a raw network, and a stranger."""
 
     flow: Flow = a_flow()
     text: Text = a_text()

@@ -217,7 +217,9 @@ export const TABLE = {
 "BadSize": "The byte size is 0, or the bits are not a whole number of bytes of the connection's size.",
 "Closing": "The connection is being closed.",
 "NoLink": "All thirty links from this peer are in use.",
-"OverGrant": "What is granted and still open would pass 65535 messages or 4294967295 bits."
+"OverGrant": "What is granted and still open would pass 65535 messages or 4294967295 bits.",
+"NoProgram": "The host is a stranger and runs no program that could be asked: `out` says what it sends, and `take` when it takes.",
+"HasProgram": "The host runs a program, which says itself what goes out. Only for a stranger does the script say that."
 },
 "network": {
 "NoSuch": "The network has no such host, IMP or end of a line, no frame is live at that place of the line, or there are no pieces to throw away.",
@@ -438,7 +440,13 @@ export const TABLE = {
 "five lines": "IMP {number} has more than five lines.",
 "displaced": "`{key}` comes after `[[{table}]]`, so it is a key of that table. Put it before the first `[[`.",
 "keys": "A table `[[{table}]]` has exactly the keys {keys}; here it has {found}.",
-"number": "`{key}` of `[[{table}]]` is a whole number from {least} to {most}."
+"number": "`{key}` of `[[{table}]]` is a whole number from {least} to {most}.",
+"foreign list": "`foreign` is a list of whole numbers, as in `foreign = [1]`: those of the IMP's hosts that are strangers.",
+"foreign host": "`foreign` of IMP {imp} names a host that it hasn't: it has {hosts}, numbered from 0.",
+"foreign twice": "`foreign` of IMP {imp} names a host twice.",
+"foreign order": "`foreign` of IMP {imp} is by rising number.",
+"foreign raw": "In a network with `raw = true` no host runs a program, so there are no strangers among programs: leave out `foreign`, or `raw`.",
+"foreign none": "No `foreign` names a host. Without strangers leave the key out."
 },
 "commands": ["NOP 1", "RTS 10", "STR 10", "CLS 9", "ALL 8", "GVB 4", "RET 8", "INR 2", "INS 2", "ECO 2", "ERP 2", "ERR 12", "RST 1", "RRP 1"],
 "texts": {

@@ -28,6 +28,7 @@ from concurrent.futures import ProcessPoolExecutor, ThreadPoolExecutor
 from dorydate.model.audit import PARTS
 from dorydate.model.chance.books import of_world, small
 from dorydate.model.chance.breaking import WAYS
+from dorydate.model.inputs import BAD_TOPOLOGY
 from dorydate.model.log import book_of, ends_log, read_log, spelled_log
 from dorydate.model.misread_logs import MISREADINGS
 from dorydate.model.verdict import Judge, ended, ends_audit, says
@@ -141,7 +142,8 @@ def owed_log(octets: bytes) -> End:
         return without
     lines = octets.decode("latin-1").split("\n")
     marker = lines.index("%")
-    return ends_log(network_of("\n".join(lines[:marker])), lines[marker + 1 :])
+    network = network_of("\n".join(lines[:marker]))
+    return BAD_TOPOLOGY if network.foreign else ends_log(network, lines[marker + 1 :])  # there are no logs of strangers yet
 
 
 def logged(case: Case) -> tuple[str | None, int]:

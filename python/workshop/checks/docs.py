@@ -48,7 +48,7 @@ from workshop.parts import ROOT
 MOST_REACHING = 0  # imports into another crate's proofs/ beside lemmas
 MOST_DEAD = 50  # declarations of proofs/ that nothing leads to that is proved; `python3 python dead` names them
 MOST_ENTRIES = 40  # of a folder of proofs/
-MOST_NAMED = 10
+MOST_NAMED = 0
 DECLARED = re.compile(
     r"\bimpl(?:<[^>]*>)? +(?:\w+::)*(\w+)"
     r"|\b(?:fn|struct|enum|trait|const|ensures|requires|ghost|abbrev pub|record|data|pub(?= «?\w+»? :)) +«?(\w+)"

@@ -68,6 +68,7 @@ BAD_LINES_OF_WORLDS = [
 ]
 
 GOOD = b'carrier = "plain"\nraw = true\n[[imp]]\nid = 1\nhosts = 1\n'
+NAMED = b'carrier = "plain"\n[[imp]]\nid = 1\nhosts = 2\n'
 # what is before the script, and words of the cause that is meant
 BAD_TOPOLOGIES = [
     (GOOD, "No line is exactly `%`"),
@@ -108,6 +109,18 @@ BAD_TOPOLOGIES = [
     (GOOD + b"[[imp]]\nid = 2\nhosts = 1\n" + b"[[line]]\na = 1\nb = 2\n" * 30_000 + b"%\n", "Line 12 of the file:\n  [[line]]\nTwo lines join the IMPs 1 and 2."),
     (b"out 0/1 0/2 5 8 FF\nin 0/1 0/2 5 8 FF\nend\n", "This is a log and not an input. `./explain --audit < FILE`"),
     (b"down 0/1\nend\n", "This is a log and not an input."),
+    (
+        NAMED + b"foreign = [2]\n%\n",
+        "Line 5 of the file:\n  foreign = [2]\n`foreign` of IMP 1 names a host that it hasn't: it has 2, numbered from 0.",
+    ),
+    (NAMED + b"foreign = [1, 1]\n%\n", "`foreign` of IMP 1 names a host twice."),
+    (NAMED + b"foreign = [1, 0]\n%\n", "`foreign` of IMP 1 is by rising number."),
+    (NAMED + b"foreign = []\n%\n", "No `foreign` names a host."),
+    (NAMED + b"foreign = 1\n%\n", "`foreign` is a list of whole numbers"),
+    (
+        GOOD + b"foreign = [0]\n%\n",
+        "Line 6 of the file:\n  foreign = [0]\nIn a network with `raw = true` no host runs a program",
+    ),
 ]
 
 # the line of logs/two-octets that is changed (0 for one put before its first), what is there then, and words of the cause

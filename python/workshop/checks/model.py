@@ -11,7 +11,8 @@ plainest spelling.
 Networks with host programs are tried as far as the program runs them, which it is asked first: their scripts are made event by
 event, by looking at what the model has come to (python/dorydate/model/chance/worlds.py), and it is counted what they came to. So are scripts of raw
 networks in which IMPs ask what became of their messages (python/dorydate/model/chance/questions.py). Of these the log is compared too, since two answers
-are printed alike. `./check model asking RUNS` tries only these, this many.
+are printed alike. And so are scripts of networks with strangers (python/dorydate/model/chance/strangers.py).
+`./check model asking RUNS` tries only those with questions, this many.
 
 It takes the proved program, or where ./build has not made that the one that was built without proofs. With `--try`, and perhaps the folder of another clone of the repository, it
 takes the program that `rt try` builds without proofs, and fewer inputs, since that one is slow.
@@ -32,6 +33,7 @@ from typing import Protocol
 
 from dorydate.model.chance.inputs import Given, changed, some_input
 from dorydate.model.chance.questions import Counting, Questions
+from dorydate.model.chance.strangers import mixed_script
 from dorydate.model.log import ends_log
 from dorydate.model.topology import Topology, spelled_input
 from dorydate.model.runs import End, expected
@@ -43,6 +45,7 @@ Run = tuple[list[str], bytes]  # options and an input
 PLAIN_AND_LOG: tuple[list[str], list[str]] = [], ["--log"]
 INPUTS = 3000
 WORLDS = 1500
+MIXED = 500
 ASKING = 500
 
 # ---- random inputs
@@ -59,6 +62,21 @@ def some_world_input(seed: int, runs: Sequence[str]) -> Given:
         lines[place] = changed(chance, lines[place]) if chance.random() < 0.6 else chance.choice(others)
     options: list[list[str]] = [[], ["--book"], ["--texts", "--book"]]
     return chance.choice(options), network, lines
+
+
+def some_mixed_input(seed: int) -> Given:
+    """Options, a network with strangers, and the lines of a script that was made by looking at the model."""
+    network, script, world = mixed_script(seed)
+    imps = sorted({it.imp for it in world.strangers})
+    foreign = [(imp, sorted(it.number for it in world.strangers if it.imp == imp)) for imp in imps]
+    chance, lines = random.Random(f"mixed {seed}"), script.lines
+    if chance.random() < 0.3:
+        source, to = (f"{chance.randrange(hosts)}/{imp}" for imp, hosts in chance.choices(network.imps, k=2))
+        others = [f"out {source} {to} 5 8 41", f"listen {source} 16 8", f"server {source} 7 100", f"offer {source}"]
+        other = chance.choice(others)
+        lines[chance.randrange(len(lines))] = changed(chance, other) if chance.random() < 0.2 else other
+    options: list[list[str]] = [[], ["--book"], ["--texts", "--book"]]
+    return chance.choice(options), network._replace(foreign=foreign), lines
 
 
 def some_questions(seed: int, seen: Counter[str]) -> tuple[Topology, list[str]]:
@@ -169,6 +187,9 @@ def main() -> int:
     if came_to is None:
         return 1
     print("check model: worlds came to", ", ".join(f"{count} {name}" for name, count in sorted(came_to.items())))
+    mixed = [some_mixed_input(seed) for seed in range(MIXED if not is_tried else MIXED // 10)]
+    if compare(program, mixed, runs) is None:
+        return 1
     return compare_asking(program, ASKING if not is_tried else ASKING // 10, runs)
 
 

@@ -20,7 +20,7 @@ import tempfile
 from workshop.parts import ROOT, any_program
 
 PACKAGE = f"{ROOT}/python"
-SOURCES = ("dorydate", "workshop", "tests", "__main__.py")
+SOURCES = ("dorydate", "workshop", "tests", "__main__.py", "../examples/ncp.py")
 SEARCHES = {"taken-and-incomplete": 8, "half-open": 9, "resets-in-step": 6, "lost-at-a-close": 13, "noted-before-it-comes": 8, "refused-before-it-comes": 9}  # events at most, a last calm included
 SCHEDULES = 1_000  # whose logs are audited
 

@@ -63,9 +63,9 @@ def events_of(name: str) -> bytes:
     """What the program reads for an input, whose IMPs are in a row and have a host each."""
     with open(f"{ROOT}/{name}", "rb") as file:
         topology, script = file.read().split(b"\n%\n", 1)
-    carrier, raw, imps, _ = network_in(topology)
-    assert imps == [(number, 1) for number in range(1, len(imps) + 1)]
-    return f"{'raw' if raw else 'world'} {carrier} {len(imps)}\n".encode() + script
+    network = network_in(topology)
+    assert network.imps == [(number, 1) for number in range(1, len(network.imps) + 1)] and not network.foreign
+    return f"{'raw' if network.raw else 'world'} {network.carrier} {len(network.imps)}\n".encode() + script
 
 
 def check(program: str, before: str, room: str, name: str, threads: ThreadPoolExecutor) -> int:

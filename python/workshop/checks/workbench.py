@@ -77,9 +77,9 @@ def node() -> str | None:
 
 def states_of(text: bytes) -> list[dict[str, dict[str, Any] | None]] | None:
     """The parts of a subnet, and the programs of its hosts, after each event of an input, by the independent model; None for plain
-    mailboxes and long calms."""
+    mailboxes, for long calms, and among strangers, where the page doesn't know what programs hold."""
     network, lines = input_of(text)
-    if network.carrier == "plain" or is_long(network, lines):
+    if network.carrier == "plain" or network.strangers() or is_long(network, lines):
         return None
     place = opened(of_model(network))
     subnet = getattr(place, "carrier", place)
@@ -104,9 +104,10 @@ def is_long(network: Network, lines: list[str]) -> bool:
 
 
 def waits_of(text: bytes) -> list[list[str]] | None:
-    """What waits after each event of an input, by ./explain, in one order; None where sites have names or calms are long."""
+    """What waits after each event of an input, by ./explain, in one order; None where sites have names or calms are long, and
+    among strangers."""
     network, lines = input_of(text)
-    if is_long(network, lines) or any(it.name for it in network.imps):
+    if network.strangers() or is_long(network, lines) or any(it.name for it in network.imps):
         return None
     place = opened(of_model(network))
     carrier = place.carrier if isinstance(place, World) else place
@@ -136,7 +137,7 @@ def told_of_deeds() -> dict[str, dict[str, str]]:
         network = Network.read(head)
         lines = script.split("\n")
         rounds = sum(int(it.split(" ")[1]) for it in lines if it.startswith("calm "))
-        if network.raw or any(it.name for it in network.imps) or rounds > MOST_ROUNDS:
+        if network.raw or network.strangers() or any(it.name for it in network.imps) or rounds > MOST_ROUNDS:
             continue
         goes = Inside(of_model(network))
         for number, line in enumerate(lines, 1):
@@ -205,7 +206,7 @@ def lines_by_chance(count: int) -> list[tuple[str, bool, str]]:
 # lines that are put into topologies at random
 WRITTEN = (
     "raw = 1|carrier = \"Plain\"|imps = 3|[[imp]]|[[line]]|id = 1|id = 64|hosts = 5|hosts = true|a = 2|b = 2|b = 0|c = 1"
-    "|take 0/1|line = 3|% |in 0/1 0/2 5 0 -"
+    "|take 0/1|line = 3|% |in 0/1 0/2 5 0 -|foreign = [0]|foreign = [2, 1]|foreign = []|foreign = 1|foreign = [0, 0]"
 ).split("|")
 
 

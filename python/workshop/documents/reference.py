@@ -22,6 +22,7 @@ net.calm(2)  # each IMP knows the way to the other
 pair = Network.joined("UCLA-SRI")
 world = Replay(pair)
 world.session("UCLA", "SRI")
+mixed = Network.joined("UCLA-MINE", foreign=["MINE"])  # MINE runs another program
 """
 HEAD = f"""<!-- made by python/workshop/documents/reference.py: ./check docs --write -->
 # The package in Python: reference
@@ -33,7 +34,10 @@ from dorydate import *
 
 {BEGINNING}```
 """
-NAMES = "Network Host Imp Line Replay Deed Step State Script Event Flow Text Program BadNetwork BadLine Stopped NoProgram".split()  # in the page's order
+NAMES = [  # in the page's order
+    *("Network", "Host", "Imp", "Line", "Replay", "Stranger", "Deed", "Step", "State", "Script", "Event", "Flow", "Text"),
+    *("Program", "BadNetwork", "BadLine", "Stopped", "NoProgram"),
+]
 CALLER = {"Replay": "net"}  # the name of an instance in a signature; of others their own in small letters
 
 

@@ -132,6 +132,7 @@ LINES = (
     ("The first network, and its first message", "red"),
     ("A grown network", "red"),
     ("Lessons of services", "purple"),
+    ("Lessons among strangers", "red"),
 )
 
 

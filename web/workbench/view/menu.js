@@ -89,7 +89,9 @@ export class Menu {
     key(event) {
         const buttons = /** @type {HTMLElement[]} */ ([...this.element.querySelectorAll("button")]);
         const at = buttons.indexOf(/** @type {HTMLElement} */ (document.activeElement));
+        const isTyped = event.target instanceof HTMLInputElement || event.target instanceof HTMLSelectElement;
         if (event.key === "Escape") this.close(true);
+        else if (isTyped) return event.stopPropagation();
         else if (event.key === "ArrowDown") buttons[(at + 1) % buttons.length].focus();
         else if (event.key === "ArrowUp") buttons[(at + buttons.length - 1) % buttons.length].focus();
         else if (event.key === "Home") buttons[0].focus();

@@ -340,6 +340,8 @@ export class Panes {
             this.intro,
             network.raw
                 ? "Hosts, and messages without an answer."
+                : network.strangers.length
+                ? "Hosts, and messages without an answer. What programs hold isn't known in a network with strangers."
                 : "Hosts, and what their programs and services hold. What this step changed is framed.",
         );
         keep(
@@ -351,7 +353,8 @@ export class Panes {
                 const [title, told, groups] = element.children;
                 const name = hostName(network, host);
                 say(title, `${capital(name)}${name === `host ${host}` ? "" : ` (${host})`}`);
-                say(told, [state.isUp(host) ? "up" : "down", ...openWords(network, talk, host)].join(" · "));
+                const runs = network.strangers.includes(host) ? ["a stranger, which runs no program"] : [];
+                say(told, [state.isUp(host) ? "up" : "down", ...runs, ...openWords(network, talk, host)].join(" · "));
                 const were = before && earlier ? groupsOf(before, earlier, host) : null;
                 keep(
                     groups,

@@ -4,6 +4,7 @@ import { choicesFor, partTitle } from "../choices.js";
 import { stopAt } from "../stops.js";
 import { h, say } from "./dom.js";
 import { Menu } from "./menu.js";
+import { sendingBox } from "./sending.js";
 
 /** @typedef {import("../app.js").Workbench} Workbench */
 /** @typedef {import("../choices.js").Part} Part */
@@ -66,17 +67,37 @@ export class Taps {
         const { history, position, talk } = this.bench;
         if (!history || !talk) return;
         const state = history.at(position);
-        const items = choicesFor(state, talk.goTo(position), part).map(({ words, lines }) => ({
+        const items = choicesFor(state, talk.goTo(position), part).map(({ words, lines, asks }) => ({
             words,
             lines,
             act: () => {
-                if (lines.length) void this.bench.change(lines, words);
+                if (asks && part.kind === "host") this.askWhat(part.host, element);
+                else if (lines.length) void this.bench.change(lines, words);
                 else if (part.kind === "imp") this.bench.choose(part.imp);
             },
         }));
         const packet = part.kind === "frame" ? state.line(part.line)[part.way][part.place]?.packet : null;
         if (packet) items.push({ words: "Follow its message", lines: [], act: () => this.bench.follow(packet.flow) });
         this.menu.open(element, partTitle(state, part), items, this.note());
+    }
+
+    /**
+     * Asks what a stranger sends.
+     *
+     * @param {string} host
+     * @param {Element} element
+     */
+    askWhat(host, element) {
+        const { history, position } = this.bench;
+        if (!history) return;
+        const box = sendingBox(history.network, host, (line, words) => {
+            this.menu.close(true);
+            void this.bench.change([line], words);
+        });
+        const title = `${partTitle(history.at(position), { kind: "host", host })} sends`;
+        this.menu.open(element, title, [], h("div", {}, this.note(), box));
+        box.querySelector("input[type=text]")?.dispatchEvent(new Event("input", { bubbles: true }));
+        /** @type {HTMLElement | null} */ (box.querySelector("#send-words"))?.focus();
     }
 
     /** Where lines are added, and a switch for what becomes of the lines that follow. */

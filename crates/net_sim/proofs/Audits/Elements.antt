@@ -1,24 +1,9 @@
 -- Tests of each and of some element of a list, and two of its elements.
-use Rattle.net_sim.proofs.Common.{◌≡◌, ℕ, zero, suc, ◌<◌, ◌≤◌, Bool, true, false, ◌&&◌, ◌||◌, not, List, [], ◌∷◌, ◌++◌, length, take, refl, ap, sym, subst, arith, inl, inr, ◌⊎◌, Some, list_all, list_any, Contains, and_true}
+use Rattle.net_sim.proofs.Common.{◌≡◌, ℕ, zero, suc, ◌<◌, ◌≤◌, Bool, true, false, ◌||◌, not, List, [], ◌∷◌, ◌++◌, length, take, refl, ap, sym, subst, arith, inl, inr, ◌⊎◌, Some, list_all, list_any, Contains, and_true}
+use Rattle.std.proofs.lemmas.Bool.{and_from, or_cases, or_left, or_right}
 use Rattle.std.specs.List.{slice_get, slice_index_or}
 
 -- ---- chains of tests
-
-pub and_is : (a b : Bool) → a ≡ true → b ≡ true → (a && b) ≡ true
-and_is true b e f = f
-and_is false b e f = e
-
-pub or_cases : (a b : Bool) → (a || b) ≡ true → (a ≡ true) ⊎ (b ≡ true)
-or_cases true b h = inl refl
-or_cases false b h = inr h
-
-pub or_left : (a b : Bool) → a ≡ true → (a || b) ≡ true
-or_left true b e = refl
-or_left false b e = absurd (cc)
-
-pub or_right : (a b : Bool) → b ≡ true → (a || b) ≡ true
-or_right true b e = refl
-or_right false b e = e
 
 -- a test that is asked only where another holds
 pub when_true : (a b : Bool) → (not a || b) ≡ true → a ≡ true → b ≡ true
@@ -40,18 +25,6 @@ not_is false f = refl
 pub false_not : (a : Bool) → a ≡ false → a ≡ true → ⊥
 false_not true h e = absurd (cc)
 false_not false h e = absurd (cc)
-
-pub is_false : (a : Bool) → (a ≡ true → ⊥) → a ≡ false
-is_false true f = absurd (f refl)
-is_false false f = refl
-
-pub and_false : (a b : Bool) → b ≡ false → (a && b) ≡ false
-and_false true b e = e
-and_false false b e = refl
-
-pub and_gone : (a b : Bool) → a ≡ false → (a && b) ≡ false
-and_gone true b e = absurd (cc)
-and_gone false b e = refl
 
 -- none of three
 pub none_of : (a b c : Bool) → not (a || b || c) ≡ true → (a ≡ true → ⊥) × (b ≡ true → ⊥) × (c ≡ true → ⊥)
@@ -96,7 +69,7 @@ all_at {X} test (y ∷ xs) h x c =
 
 pub all_from : {X : Type 0} (test : X → Bool) (xs : List X) → ((x : X) → Contains xs x → test x ≡ true) → list_all test xs ≡ true
 all_from test [] f = refl
-all_from test (y ∷ xs) f = and_is (test y) (list_all test xs) (f y (contains_head y xs)) (all_from test xs (λ x c. f x (contains_tail y xs x c)))
+all_from test (y ∷ xs) f = and_from (test y) (list_all test xs) (f y (contains_head y xs)) (all_from test xs (λ x c. f x (contains_tail y xs x c)))
 
 pub any_at : {X : Type 0} (test : X → Bool) (xs : List X) → list_any test xs ≡ true → (x : X) × Contains xs x × (test x ≡ true)
 any_at test [] h = absurd (cc)
@@ -117,14 +90,14 @@ any_from {X} test (y ∷ xs) x c e = elim (contains_cases y xs x c) [
 pub all_take : {X : Type 0} (test : X → Bool) (n : ℕ) (xs : List X) → list_all test xs ≡ true → list_all test (take n xs) ≡ true
 all_take test zero xs h = refl
 all_take test (suc n) [] h = refl
-all_take test (suc n) (x ∷ xs) h = let t = and_true (test x) (list_all test xs) h in and_is (test x) (list_all test (take n xs)) t.0 (all_take test n xs t.1)
+all_take test (suc n) (x ∷ xs) h = let t = and_true (test x) (list_all test xs) h in and_from (test x) (list_all test (take n xs)) t.0 (all_take test n xs t.1)
 
 pub all_fewer : {X : Type 0} (test : X → Bool) (m n : ℕ) (xs : List X) → m ≤ n → list_all test (take n xs) ≡ true → list_all test (take m xs) ≡ true
 all_fewer test zero n xs le h = refl
 all_fewer test (suc m) zero xs le h = absurd (omega arith)
 all_fewer test (suc m) (suc n) [] le h = refl
 all_fewer test (suc m) (suc n) (x ∷ xs) le h =
-    let t = and_true (test x) (list_all test (take n xs)) h in and_is (test x) (list_all test (take m xs)) t.0 (all_fewer test m n xs (omega arith) t.1)
+    let t = and_true (test x) (list_all test (take n xs)) h in and_from (test x) (list_all test (take m xs)) t.0 (all_fewer test m n xs (omega arith) t.1)
 
 pub contains_take : {X : Type 0} (n : ℕ) (xs : List X) (x : X) → Contains (take n xs) x → Contains xs x
 contains_take zero xs x c = absurd (contains_none x c)

@@ -3,7 +3,8 @@ use Rattle.net_sim.proofs.Common.{◌≡◌, ℕ, ◌+◌, true, ◌&&◌, List,
 use Rattle.std.specs.Prelude.{nat_le}
 use Rattle.std.proofs.lemmas.Bool.{leb-true, le-leb}
 use Rattle.net_sim.specs.Inside.Audit.{asked_at, is_granted, may_send}
-use Rattle.net_sim.proofs.Audits.Elements.{and_is, when_true, when_is, all_at, all_from}
+use Rattle.std.proofs.lemmas.Bool.{and_from}
+use Rattle.net_sim.proofs.Audits.Elements.{when_true, when_is, all_at, all_from}
 use Rattle.net_sim.proofs.Audits.Streams.{match_true, match_is}
 
 granted_true : (x : Life) (count size : ℕ) → is_granted x count size ≡ true → IsGranted x count size
@@ -13,7 +14,7 @@ granted_true x count size h =
 
 granted_is : (x : Life) (count size : ℕ) → IsGranted x count size → is_granted x count size ≡ true
 granted_is x count size g =
-    and_is (nat_le (count + x.returned.messages) x.granted.messages) (nat_le (size + x.returned.bits) x.granted.bits)
+    and_from (nat_le (count + x.returned.messages) x.granted.messages) (nat_le (size + x.returned.bits) x.granted.bits)
     (le-leb (count + x.returned.messages) x.granted.messages g.messages) (le-leb (size + x.returned.bits) x.granted.bits g.bits)
 
 -- the two parts of what a receiving life granted
@@ -38,7 +39,7 @@ granted_holds log lives some s =
     (λ x c.
     when_is (receives x) (is_granted x x.messages (length x.bits) && list_all (may_send log (asked_at log x) x) lives)
     (λ r.
-    and_is (is_granted x x.messages (length x.bits)) (list_all (may_send log (asked_at log x) x) lives)
+    and_from (is_granted x x.messages (length x.bits)) (list_all (may_send log (asked_at log x) x) lives)
     (granted_is x x.messages (length x.bits) (s.taken x c r))
     (all_from (may_send log (asked_at log x) x) lives
     (λ y d.

@@ -3,7 +3,8 @@ use Rattle.net_sim.proofs.Common.{◌≡◌, Bool, true, false, List, refl, subs
 use Rattle.net_sim.specs.Inside.Audit.{answered_by, judged}
 use Rattle.net_sim.specs.declared.auditing.said.Audit.TheVariants as audit
 use Rattle.net_sim.specs.declared.auditing.said.Part.TheVariants as part
-use Rattle.net_sim.proofs.Audits.Elements.{false_not, is_false}
+use Rattle.std.proofs.lemmas.Bool.{false_from_ne_true}
+use Rattle.net_sim.proofs.Audits.Elements.{false_not}
 use Rattle.net_sim.proofs.Audits.Grants.{grants_decide}
 use Rattle.net_sim.proofs.Audits.Messages.{messages_decide}
 use Rattle.net_sim.proofs.Audits.Partners.{partners_decide}
@@ -35,28 +36,28 @@ told log lives handed true true true true true ef em ep es eg =
 -- only one answer says what is so
 only : (log : List Crossing) (lives : List Life) (handed : List (List Bool)) (said : Audit) → Says said log lives handed → judged log lives handed ≡ said
 only log lives handed audit.Malformed w =
-    let f : is_well_formed log lives handed ≡ false = is_false (is_well_formed log lives handed) (λ t. w ((stamps_decide log lives handed).0 t)) in rw f refl
+    let f : is_well_formed log lives handed ≡ false = false_from_ne_true (is_well_formed log lives handed) (λ t. w ((stamps_decide log lives handed).0 t)) in rw f refl
 only log lives handed (audit.Broken part.Messages) w =
     let f : is_well_formed log lives handed ≡ true = (stamps_decide log lives handed).1 w.0 in
-    let m : messages_hold log ≡ false = is_false (messages_hold log) (λ t. w.2 ((messages_decide log).0 t)) in
+    let m : messages_hold log ≡ false = false_from_ne_true (messages_hold log) (λ t. w.2 ((messages_decide log).0 t)) in
     rw (f, m) refl
 only log lives handed (audit.Broken part.Partners) w =
     let f : is_well_formed log lives handed ≡ true = (stamps_decide log lives handed).1 w.0 in
     let m : messages_hold log ≡ true = (messages_decide log).1 w.1 in
-    let p : partners_hold log lives ≡ false = is_false (partners_hold log lives) (λ t. w.2 ((partners_decide log lives w.0.stamped).0 t)) in
+    let p : partners_hold log lives ≡ false = false_from_ne_true (partners_hold log lives) (λ t. w.2 ((partners_decide log lives w.0.stamped).0 t)) in
     rw (f, m, p) refl
 only log lives handed (audit.Broken part.Streams) w =
     let f : is_well_formed log lives handed ≡ true = (stamps_decide log lives handed).1 w.0 in
     let m : messages_hold log ≡ true = (messages_decide log).1 w.1.0 in
     let p : partners_hold log lives ≡ true = (partners_decide log lives w.0.stamped).1 w.1.1 in
-    let s : streams_hold log lives handed ≡ false = is_false (streams_hold log lives handed) (λ t. w.2 ((streams_decide log lives handed w.1.1).0 t)) in
+    let s : streams_hold log lives handed ≡ false = false_from_ne_true (streams_hold log lives handed) (λ t. w.2 ((streams_decide log lives handed w.1.1).0 t)) in
     rw (f, m, p, s) refl
 only log lives handed (audit.Broken part.Grants) w =
     let f : is_well_formed log lives handed ≡ true = (stamps_decide log lives handed).1 w.0 in
     let m : messages_hold log ≡ true = (messages_decide log).1 w.1.0 in
     let p : partners_hold log lives ≡ true = (partners_decide log lives w.0.stamped).1 w.1.1 in
     let s : streams_hold log lives handed ≡ true = (streams_decide log lives handed w.1.1).1 w.1.2 in
-    let g : grants_hold log lives ≡ false = is_false (grants_hold log lives) (λ t. w.2 ((grants_decide log lives).0 t)) in
+    let g : grants_hold log lives ≡ false = false_from_ne_true (grants_hold log lives) (λ t. w.2 ((grants_decide log lives).0 t)) in
     rw (f, m, p, s, g) refl
 only log lives handed audit.Kept w =
     let f : is_well_formed log lives handed ≡ true = (stamps_decide log lives handed).1 w.0 in

@@ -6,7 +6,8 @@ use Rattle.interface.specs.declared.crossing.Answer.TheVariants as answer
 use Rattle.interface.specs.declared.crossing.Crossing.TheVariants as crossing
 use Rattle.interface.proofs.lemmas.{same_flow-refl}
 use Rattle.net_sim.specs.Inside.Audit.{is_fresh, was_taken, answer_holds, crossing_holds, Found}
-use Rattle.net_sim.proofs.Audits.Elements.{and_is, is_false, false_not}
+use Rattle.std.proofs.lemmas.Bool.{and_from, false_from_ne_true}
+use Rattle.net_sim.proofs.Audits.Elements.{false_not}
 use Rattle.net_sim.proofs.Audits.Requests.{before_inside}
 use Rattle.net_sim.proofs.Audits.Searches.{none_found}
 use Rattle.net_sim.proofs.Audits.Steps.{same_bits-true, same_bits-is, reverse_more}
@@ -265,7 +266,7 @@ needs c log s = refl
 
 holds : (log : List Crossing) → SafeMessages log → messages_hold log ≡ true
 holds [] s = refl
-holds (c ∷ log) s = and_is (crossing_holds c log) (messages_hold log) (needs c log s) (holds log (below c log s))
+holds (c ∷ log) s = and_from (crossing_holds c log) (messages_hold log) (needs c log s) (holds log (below c log s))
 
 -- the test of messages is true exactly where they are safe
 pub messages_decide : (log : List Crossing) → (messages_hold log ≡ true → SafeMessages log) × (SafeMessages log → messages_hold log ≡ true)
@@ -280,7 +281,7 @@ crossing_stops log i x lt at e h =
     let more : reverse (take (i + 1) log) ≡ x ∷ reverse (take i log) = reverse_more log i x lt ∙ ap (λ (z : Crossing). z ∷ reverse (take i log)) (sym at) in (
       lt,
       h,
-      is_false (messages_hold (reverse (take (i + 1) log)))
+      false_from_ne_true (messages_hold (reverse (take (i + 1) log)))
           (λ t.
           (let here : messages_hold (x ∷ reverse (take i log)) ≡ true = subst (λ (z : List Crossing). messages_hold z ≡ true) more t in
           false_not (crossing_holds x (reverse (take i log))) e (and_true (crossing_holds x (reverse (take i log))) (messages_hold (reverse (take i log))) here).0)),

@@ -7,7 +7,8 @@ use Rattle.std.proofs.lemmas.List.Elements.{Contains-append_left, Contains-appen
 use Rattle.std.proofs.lemmas.List.Folds.{list_all-append}
 use Rattle.interface.specs.declared.crossing.Crossing.TheVariants as crossing
 use Rattle.net_sim.specs.Inside.Audit.{asked_at, are_mates, differ, is_one_way, are_at_odds, Found}
-use Rattle.net_sim.proofs.Audits.Elements.{all_at, all_fewer, all_from, false_not, and_is, contains_cases, contains_head, contains_none, contains_split, contains_take, is_false, none_of, not_is, or_cases}
+use Rattle.std.proofs.lemmas.Bool.{and_from, false_from_ne_true, or_cases}
+use Rattle.net_sim.proofs.Audits.Elements.{all_at, all_fewer, all_from, false_not, contains_cases, contains_head, contains_none, contains_split, contains_take, none_of, not_is}
 use Rattle.net_sim.proofs.Audits.Requests.{WentAt, asked_is, asked_true, asked_went, crossed_one, named_is, named_some, own_is, own_true, place_is, place_true, same_host-is, some_named}
 
 -- ---- two lives
@@ -62,7 +63,7 @@ may_two log lives h x y (front, between, rest, e) =
 all_may : (log : List Crossing) (lives : List Life) → ((x y : Life) → AreTwo lives x y → may_both log x y ≡ true) → partners_hold log lives ≡ true
 all_may log [] f = refl
 all_may log (x ∷ lives) f =
-    and_is (list_all (may_both log x) lives) (partners_hold log lives) (all_from (may_both log x) lives (λ y c. f x y (two_first x lives y c)))
+    and_from (list_all (may_both log x) lives) (partners_hold log lives) (all_from (may_both log x) lives (λ y c. f x y (two_first x lives y c)))
     (all_may log lives (λ a b t. f a b (two_later x lives a b t)))
 
 -- ---- the hosts of two lives one of which has the other's request
@@ -78,9 +79,9 @@ asks_hosts log x y s e =
 
 mates_is : (x y : Life) → x.foreign ≡ y.socket → x.socket ≡ y.foreign → x.peer ≡ y.host → y.peer ≡ x.host → are_mates x y ≡ true
 mates_is x y f s p q =
-    and_is (x.foreign == y.socket && x.socket == y.foreign && same_host x.peer y.host) (same_host y.peer x.host)
-    (and_is (x.foreign == y.socket && x.socket == y.foreign) (same_host x.peer y.host)
-    (and_is (x.foreign == y.socket) (x.socket == y.foreign) (eq-eqb x.foreign y.socket f) (eq-eqb x.socket y.foreign s)) (same_host-is x.peer y.host p))
+    and_from (x.foreign == y.socket && x.socket == y.foreign && same_host x.peer y.host) (same_host y.peer x.host)
+    (and_from (x.foreign == y.socket && x.socket == y.foreign) (same_host x.peer y.host)
+    (and_from (x.foreign == y.socket) (x.socket == y.foreign) (eq-eqb x.foreign y.socket f) (eq-eqb x.socket y.foreign s)) (same_host-is x.peer y.host p))
     (same_host-is y.peer x.host q)
 
 mates_sockets : (x y : Life) → are_mates x y ≡ true → (x.foreign ≡ y.socket) × (x.socket ≡ y.foreign)
@@ -119,7 +120,7 @@ safe log lives stamped h =
     let apart : (x y : Life) → AreTwo lives x y → (same_own x y ≡ true → ⊥) × (same_asked log (asked_at log y) x y ≡ true → ⊥) × (is_one_way log (asked_at log y) x y ≡ true → ⊥) =
     λ x y two. none_of (same_own x y) (same_asked log (asked_at log y) x y) (is_one_way log (asked_at log y) x y) (may_two log lives h x y two) in
     let same : (x y : Life) → AreTwo lives x y → are_mates x y ≡ true → differ (is_place y.own_stamp (asked_at log x)) (is_place x.own_stamp (asked_at log y)) ≡ true → ⊥ =
-    λ x y two mates d. (apart x y two).2 (and_is (are_mates x y) (differ (is_place y.own_stamp (asked_at log x)) (is_place x.own_stamp (asked_at log y))) mates d) in
+    λ x y two mates d. (apart x y two).2 (and_from (are_mates x y) (differ (is_place y.own_stamp (asked_at log x)) (is_place x.own_stamp (asked_at log y))) mates d) in
     let forth : (x y : Life) → AreTwo lives x y → partner_request log x ≡ Some (own_request y) → partner_request log y ≡ Some (own_request x) =
     λ x y two e.
     (let n = named_some x (asked_at log x) (own_request y) e in
@@ -191,7 +192,7 @@ peace_decides log lives y stamped here = (
               | inr n ↦ absurd (contains_none z n)
             ]
       ])
-      (and_is (may_both log x y && true) (true && true) (and_is (may_both log x y) true (all_at (λ z. may_both log z y) lives h x c) refl) refl),
+      (and_from (may_both log x y && true) (true && true) (and_from (may_both log x y) true (all_at (λ z. may_both log z y) lives h x c) refl) refl),
   λ p.
       all_from (λ x. may_both log x y) lives
       (λ x c. (and_true (may_both log x y) true (and_true (may_both log x y && true) (true && true) (holds log (x ∷ y ∷ []) (p x c))).0).0),
@@ -230,15 +231,15 @@ last_true log [] y h k = refl
 last_true log (x ∷ lives) y h k =
     let t = and_true (list_all (may_both log x) lives) (partners_hold log lives) h in
     let u = and_true (may_both log x y) (list_all (λ z. may_both log z y) lives) k in
-    and_is (list_all (may_both log x) (lives ++ y ∷ [])) (partners_hold log (lives ++ y ∷ []))
-    (list_all-append (may_both log x) lives (y ∷ []) ∙ and_is (list_all (may_both log x) lives) (may_both log x y && true) t.0 (and_is (may_both log x y) true u.0 refl))
+    and_from (list_all (may_both log x) (lives ++ y ∷ [])) (partners_hold log (lives ++ y ∷ []))
+    (list_all-append (may_both log x) lives (y ∷ []) ∙ and_from (list_all (may_both log x) lives) (may_both log x y && true) t.0 (and_from (may_both log x y) true u.0 refl))
     (last_true log lives y t.1 u.1)
 
 last_back : (log : List Crossing) (lives : List Life) (y : Life) → partners_hold log (lives ++ y ∷ []) ≡ true → list_all (λ x. may_both log x y) lives ≡ true
 last_back log [] y h = refl
 last_back log (x ∷ lives) y h =
     let t = and_true (list_all (may_both log x) (lives ++ y ∷ [])) (partners_hold log (lives ++ y ∷ [])) h in
-    and_is (may_both log x y) (list_all (λ z. may_both log z y) lives) (all_at (may_both log x) (lives ++ y ∷ []) t.0 y (Contains-append_right lives (y ∷ []) y (contains_head y [])))
+    and_from (may_both log x y) (list_all (λ z. may_both log z y) lives) (all_at (may_both log x) (lives ++ y ∷ []) t.0 y (Contains-append_right lives (y ∷ []) y (contains_head y [])))
     (last_back log lives y t.1)
 
 pub partners_more : (log : List Crossing) (lives : List Life) (i : ℕ) (y : Life) → i < length lives → y ≡ get_or lives i y → partners_hold log (take i lives) ≡ true
@@ -251,18 +252,18 @@ pub partners_end : (log : List Crossing) (lives : List Life) (i : ℕ) (y : Life
     → partners_hold log (take (i + 1) lives) ≡ false
 partners_end log lives i y lt at k =
     let more : take (i + 1) lives ≡ take i lives ++ y ∷ [] = take_more lives i y lt ∙ ap (λ (z : Life). take i lives ++ z ∷ []) (sym at) in
-    is_false (partners_hold log (take (i + 1) lives))
+    false_from_ne_true (partners_hold log (take (i + 1) lives))
     (λ t. (let back : list_all (λ x. may_both log x y) (take i lives) ≡ true = last_back log (take i lives) y (subst (λ (zs : List Life). partners_hold log zs ≡ true) more t) in cc))
 
 pub two_found : (log : List Crossing) (lives : List Life) (second first : ℕ) (y : Life) → second < length lives → y ≡ get_or lives second y → partners_hold log (take second lives) ≡ true
     → Found (λ n. list_all (λ x. may_both log x y) (take n lives)) second (Some first) → FoundTwo log lives (Some (first, second))
 two_found log lives second first y lt at h f =
     let odds : list_all (λ x. may_both log x y) (take second lives) ≡ false =
-    is_false (list_all (λ x. may_both log x y) (take second lives))
+    false_from_ne_true (list_all (λ x. may_both log x y) (take second lives))
     (λ t. false_not (list_all (λ x. may_both log x y) (take (first + 1) lives)) f.2 (all_fewer (λ x. may_both log x y) (first + 1) second lives (omega (arith, f.0)) t)) in
     ((lt, h, partners_end log lives second y lt at odds), (y, slice_get_read lives (length lives) second y refl lt at, f))
 
 -- nothing is found exactly where the test is true
 pub none_two : (log : List Crossing) (lives : List Life) (r : Option (ℕ × ℕ)) → FoundTwo log lives r → is_none r ≡ partners_hold log lives
 none_two log lives None h = sym h
-none_two log lives (Some at) h = sym (is_false (partners_hold log lives) (λ t. false_not (partners_hold log (take (at.1 + 1) lives)) h.0.2 (partners_take log (at.1 + 1) lives t)))
+none_two log lives (Some at) h = sym (false_from_ne_true (partners_hold log lives) (λ t. false_not (partners_hold log (take (at.1 + 1) lives)) h.0.2 (partners_take log (at.1 + 1) lives t)))

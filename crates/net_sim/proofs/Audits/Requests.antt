@@ -7,7 +7,7 @@ use Rattle.interface.specs.declared.crossing.Crossing.TheVariants as crossing
 use Rattle.interface.proofs.lemmas.{same_host-true}
 use Rattle.net_sim.specs.Inside.Audit.{asked_at, same_place, same_ends}
 use Rattle.promise.specs.Safe.{named}
-use Rattle.net_sim.proofs.Audits.Elements.{and_is}
+use Rattle.std.proofs.lemmas.Bool.{and_from}
 
 -- ---- the log before a place, read from its end
 
@@ -114,15 +114,15 @@ asks log x y h =
 pub asks_is : (log : List Crossing) (x y : Life) → partner_request log x ≡ Some (own_request y) → is_asked (asked_at log x) x y ≡ true
 asks_is log x y h =
     let t = named_some x (asked_at log x) (own_request y) h in
-    and_is (x.foreign == y.socket && x.socket == y.foreign) (is_place y.own_stamp (asked_at log x))
-    (and_is (x.foreign == y.socket) (x.socket == y.foreign) (eq-eqb x.foreign y.socket t.1) (eq-eqb x.socket y.foreign t.2))
+    and_from (x.foreign == y.socket && x.socket == y.foreign) (is_place y.own_stamp (asked_at log x))
+    (and_from (x.foreign == y.socket) (x.socket == y.foreign) (eq-eqb x.foreign y.socket t.1) (eq-eqb x.socket y.foreign t.2))
     (place_is y.own_stamp (asked_at log x) t.0)
 
 -- whether two own requests are one
 pub own_is : (x y : Life) → own_request x ≡ own_request y → same_own x y ≡ true
 own_is x y e =
-    and_is (x.own_stamp == y.own_stamp && x.socket == y.socket) (x.foreign == y.foreign)
-    (and_is (x.own_stamp == y.own_stamp) (x.socket == y.socket) (eq-eqb x.own_stamp y.own_stamp (ap (λ (n : Name). n.place) e)) (eq-eqb x.socket y.socket (ap (λ (n : Name). n.own) e)))
+    and_from (x.own_stamp == y.own_stamp && x.socket == y.socket) (x.foreign == y.foreign)
+    (and_from (x.own_stamp == y.own_stamp) (x.socket == y.socket) (eq-eqb x.own_stamp y.own_stamp (ap (λ (n : Name). n.place) e)) (eq-eqb x.socket y.socket (ap (λ (n : Name). n.own) e)))
     (eq-eqb x.foreign y.foreign (ap (λ (n : Name). n.foreign) e))
 
 pub own_true : (x y : Life) → same_own x y ≡ true → own_request x ≡ own_request y
@@ -145,9 +145,9 @@ places_is a b p e f =
 
 ends_is : (x y : Life) → x.socket ≡ y.socket → x.foreign ≡ y.foreign → x.host ≡ y.host → x.peer ≡ y.peer → same_ends x y ≡ true
 ends_is x y s f h p =
-    and_is (x.socket == y.socket && x.foreign == y.foreign && same_host x.host y.host) (same_host x.peer y.peer)
-    (and_is (x.socket == y.socket && x.foreign == y.foreign) (same_host x.host y.host)
-    (and_is (x.socket == y.socket) (x.foreign == y.foreign) (eq-eqb x.socket y.socket s) (eq-eqb x.foreign y.foreign f)) (same_host-is x.host y.host h))
+    and_from (x.socket == y.socket && x.foreign == y.foreign && same_host x.host y.host) (same_host x.peer y.peer)
+    (and_from (x.socket == y.socket && x.foreign == y.foreign) (same_host x.host y.host)
+    (and_from (x.socket == y.socket) (x.foreign == y.foreign) (eq-eqb x.socket y.socket s) (eq-eqb x.foreign y.foreign f)) (same_host-is x.host y.host h))
     (same_host-is x.peer y.peer p)
 
 pub asked_is : (log : List Crossing) (x y : Life) (name : Name) → partner_request log x ≡ Some name → partner_request log y ≡ Some name → same_asked log (asked_at log y) x y ≡ true
@@ -155,7 +155,7 @@ asked_is log x y name h k =
     let t = named_some x (asked_at log x) name h in
     let u = named_some y (asked_at log y) name k in
     let hosts = same_hosts log x y name.place t.0 u.0 in
-    and_is (same_ends x y) (same_place (asked_at log x) (asked_at log y))
+    and_from (same_ends x y) (same_place (asked_at log x) (asked_at log y))
     (ends_is x y (t.2 ∙ sym u.2) (t.1 ∙ sym u.1) hosts.0 hosts.1) (places_is (asked_at log x) (asked_at log y) name.place t.0 u.0)
 
 pub asked_true : (log : List Crossing) (x y : Life) → same_asked log (asked_at log y) x y ≡ true
@@ -183,5 +183,5 @@ partner_true log x y h =
 
 pub partner_is : (log : List Crossing) (x y : Life) → x.peer ≡ y.host → y.peer ≡ x.host → partner_request log y ≡ Some (own_request x) → is_partner log x y ≡ true
 partner_is log x y p q a =
-    and_is (same_host x.peer y.host && same_host y.peer x.host) (is_asked (asked_at log y) y x)
-    (and_is (same_host x.peer y.host) (same_host y.peer x.host) (same_host-is x.peer y.host p) (same_host-is y.peer x.host q)) (asks_is log y x a)
+    and_from (same_host x.peer y.host && same_host y.peer x.host) (is_asked (asked_at log y) y x)
+    (and_from (same_host x.peer y.host) (same_host y.peer x.host) (same_host-is x.peer y.host p) (same_host-is y.peer x.host q)) (asks_is log y x a)

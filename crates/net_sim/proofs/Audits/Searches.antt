@@ -1,9 +1,10 @@
 -- What searches find: how many of the first entries are well.
-use Rattle.net_sim.proofs.Common.{◌≡◌, ℕ, ◌+◌, ◌<◌, Bool, true, false, not, List, length, take, get_or, refl, sym, subst, ◌∙◌, arith, Option, Some, None, is_none, list_all, take_all, list_all_more}
+use Rattle.net_sim.proofs.Common.{◌≡◌, ℕ, ◌+◌, Bool, true, false, not, List, length, take, refl, sym, subst, ◌∙◌, arith, Option, Some, None, is_none, list_all, take_all}
 use Rattle.std.specs.Prelude.{is_some}
 use Rattle.net_sim.specs.Findings.{EndsAt}
 use Rattle.net_sim.specs.Inside.Audit.{Found}
-use Rattle.net_sim.proofs.Audits.Elements.{all_take, and_false, false_not, is_false}
+use Rattle.std.proofs.lemmas.Bool.{false_from_ne_true}
+use Rattle.net_sim.proofs.Audits.Elements.{all_take, false_not}
 
 -- ---- whether there is nothing to find
 
@@ -15,7 +16,7 @@ told_none (Some x) false e = refl
 
 pub none_found : (hold : ℕ → Bool) (count : ℕ) (r : Option ℕ) (all : Bool) → Found hold count r → hold count ≡ all → ((n : ℕ) → all ≡ true → hold n ≡ true) → is_none r ≡ all
 none_found hold count None all h e keeps = sym h ∙ e
-none_found hold count (Some place) all h e keeps = sym (is_false all (λ t. false_not (hold (place + 1)) h.2 (keeps (place + 1) t)))
+none_found hold count (Some place) all h e keeps = sym (false_from_ne_true all (λ t. false_not (hold (place + 1)) h.2 (keeps (place + 1) t)))
 
 pub none_of_list : {X : Type 0} (test : X → Bool) (xs : List X) (r : Option ℕ) → Found (λ n. list_all test (take n xs)) (length xs) r → is_none r ≡ list_all test xs
 none_of_list {X} test xs r h =

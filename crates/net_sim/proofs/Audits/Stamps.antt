@@ -7,7 +7,8 @@ use Rattle.interface.specs.declared.crossing.Crossing.TheVariants as crossing
 use Rattle.net_sim.specs.Audit.{Passes}
 use Rattle.promise.specs.Formed.{going, coming}
 use Rattle.net_sim.specs.Inside.Audit.{asked_at, is_there, crossed_at, is_out, is_in}
-use Rattle.net_sim.proofs.Audits.Elements.{and_is, all_at, all_from, is_false}
+use Rattle.std.proofs.lemmas.Bool.{and_from, false_from_ne_true}
+use Rattle.net_sim.proofs.Audits.Elements.{all_at, all_from}
 use Rattle.net_sim.proofs.Audits.Messages.{same_yes}
 use Rattle.net_sim.proofs.Audits.Requests.{crossed_below}
 
@@ -23,7 +24,7 @@ crossed_from p c [] h = absurd (cc)
 crossed_from p c (d ∷ log) h = crossed_true p c d log (p == length log) refl h (crossed_from p c log)
 
 not_length : (p n : ℕ) → p < n → (p == n) ≡ false
-not_length p n l = is_false (p == n) (λ t. (let e : p ≡ n = eqb-true p n t in omega arith))
+not_length p n l = false_from_ne_true (p == n) (λ t. (let e : p ≡ n = eqb-true p n t in omega arith))
 
 pub crossed_is : (p : ℕ) (c : Crossing) (log : List Crossing) → CrossedAt p c log → crossed_at p log ≡ Some c
 crossed_is p c [] h = absurd h
@@ -39,7 +40,7 @@ at_here (c ∷ newer) older x p e =
 pub at_past : (p : ℕ) (log : List Crossing) → length log ≤ p → crossed_at p log ≡ None
 at_past p [] h = refl
 at_past p (c ∷ log) h =
-    let n : (p == length log) ≡ false = is_false (p == length log) (λ t. (let e : p ≡ length log = eqb-true p (length log) t in omega arith)) in
+    let n : (p == length log) ≡ false = false_from_ne_true (p == length log) (λ t. (let e : p ≡ length log = eqb-true p (length log) t in omega arith)) in
     rw n (at_past p log (omega arith))
 
 -- the crossing at a place of a list that is read from its end
@@ -105,8 +106,8 @@ stamped_true log x h =
 
 stamped_is : (log : List Crossing) (x : Life) → IsStamped log x → is_stamped log x ≡ true
 stamped_is log x s =
-    and_is (is_out (control_flow x.host x.peer) (crossed_at x.own_stamp log) && is_in (control_flow x.peer x.host) (crossed_at x.partner_stamp log)) (is_there (asked_at log x))
-    (and_is (is_out (control_flow x.host x.peer) (crossed_at x.own_stamp log)) (is_in (control_flow x.peer x.host) (crossed_at x.partner_stamp log))
+    and_from (is_out (control_flow x.host x.peer) (crossed_at x.own_stamp log) && is_in (control_flow x.peer x.host) (crossed_at x.partner_stamp log)) (is_there (asked_at log x))
+    (and_from (is_out (control_flow x.host x.peer) (crossed_at x.own_stamp log)) (is_in (control_flow x.peer x.host) (crossed_at x.partner_stamp log))
     (out_is (control_flow x.host x.peer) x.own_stamp log s.own) (in_is (control_flow x.peer x.host) x.partner_stamp log s.partner))
     (some_there (asked_at log x) s.asked)
 
@@ -117,7 +118,7 @@ formed log lives handed h =
 
 holds : (log : List Crossing) (lives : List Life) (handed : List (List Bool)) → IsWellFormed log lives handed → is_well_formed log lives handed ≡ true
 holds log lives handed w =
-    and_is (length lives == length handed) (list_all (is_stamped log) lives) (eq-eqb (length lives) (length handed) w.counts)
+    and_from (length lives == length handed) (list_all (is_stamped log) lives) (eq-eqb (length lives) (length handed) w.counts)
     (all_from (is_stamped log) lives (λ x c. stamped_is log x (w.stamped x c)))
 
 -- the test of some lives is true exactly where their stamps name messages

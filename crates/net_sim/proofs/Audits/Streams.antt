@@ -1,10 +1,12 @@
 -- The test of streams is true exactly where they are safe, in a log with safe partners.
-use Rattle.net_sim.proofs.Common.{◌≡◌, ℕ, zero, suc, add-one, ◌+◌, ◌<◌, ◌≤◌, Bool, true, false, ◌&&◌, ◌||◌, ◌==◌, not, List, [], ◌∷◌, ◌++◌, length, take, drop, get_or, refl, ap, sym, subst, ◌∙◌, arith, inl, inr, Option, Some, None, eq-eqb, list_all, list_any, is_none, take_all, list_all_more, AreFed, AreUnmatched, eqb-true, cases_lt, Crossing, and_true, Life, is_asked, is_partner, is_match, same_bit, is_prefix, is_source, is_unmatched, some_fed, streams_hold, Name, SafePartners, SafeStreams, Match, Source, own_request, partner_request, receives, sends}
+use Rattle.net_sim.proofs.Common.{◌≡◌, ℕ, zero, suc, add-one, ◌+◌, ◌<◌, ◌≤◌, Bool, true, false, ◌&&◌, ◌||◌, ◌==◌, not, List, [], ◌∷◌, ◌++◌, length, take, drop, get_or, refl, ap, sym, subst, ◌∙◌, arith, inl, inr, Option, Some, None, eq-eqb, list_all, list_any, is_none, take_all, AreFed, AreUnmatched, eqb-true, cases_lt, Crossing, and_true, Life, is_asked, is_partner, is_match, same_bit, is_prefix, is_source, is_unmatched, some_fed, streams_hold, Name, SafePartners, SafeStreams, Match, Source, own_request, partner_request, receives, sends}
+use Rattle.std.proofs.lemmas.List.Folds.{list_all_more}
 use Rattle.std.proofs.Common.{ap₂}
 use Rattle.std.specs.List.{slice_get}
 use Rattle.net_sim.specs.Inside.Audit.{asked_at, same_found, is_fed, is_handed, handed_at, are_handed, Found}
 use Rattle.promise.specs.Safe.{IsPrefix, AreHanded}
-use Rattle.net_sim.proofs.Audits.Elements.{and_false, and_is, or_cases, or_right, when_true, when_is, not_is, not_true, all_at, all_from, all_take, any_at, any_from, is_false}
+use Rattle.std.proofs.lemmas.Bool.{and_from, and_right, false_from_ne_true, or_cases, or_right}
+use Rattle.net_sim.proofs.Audits.Elements.{when_true, when_is, not_is, not_true, all_at, all_from, all_take, any_at, any_from}
 use Rattle.net_sim.proofs.Audits.Searches.{none_found}
 use Rattle.net_sim.proofs.Audits.Requests.{asks, asks_is, asked_sockets, partner_true, partner_is}
 use Rattle.net_sim.proofs.Audits.Steps.{same_bit-true, same_bit-refl}
@@ -29,8 +31,8 @@ match_true log x y h =
 
 pub match_is : (log : List Crossing) (x y : Life) → Match log x y → is_match log (asked_at log x) x y ≡ true
 match_is log x y m =
-    and_is (receives x && sends y && is_asked (asked_at log x) x y) (is_partner log x y)
-    (and_is (receives x && sends y) (is_asked (asked_at log x) x y) (and_is (receives x) (sends y) m.receiving m.sending) (asks_is log x y m.asked))
+    and_from (receives x && sends y && is_asked (asked_at log x) x y) (is_partner log x y)
+    (and_from (receives x && sends y) (is_asked (asked_at log x) x y) (and_from (receives x) (sends y) m.receiving m.sending) (asks_is log x y m.asked))
     (partner_is log x y m.peers.0 m.peers.1 m.answered)
 
 -- ---- prefixes
@@ -46,7 +48,7 @@ front_true (x ∷ xs) (y ∷ ys) h =
 
 front_append : (xs rest : List Bool) → is_prefix xs (xs ++ rest) ≡ true
 front_append [] rest = refl
-front_append (x ∷ xs) rest = and_is (same_bit x x) (is_prefix xs (xs ++ rest)) (same_bit-refl x) (front_append xs rest)
+front_append (x ∷ xs) rest = and_from (same_bit x x) (is_prefix xs (xs ++ rest)) (same_bit-refl x) (front_append xs rest)
 
 pub front_is : (xs ys : List Bool) → IsPrefix xs ys → is_prefix xs ys ≡ true
 front_is xs ys (rest, e) = let P : List Bool → Type 0 = λ z. is_prefix xs z ≡ true in subst P e (front_append xs rest)
@@ -102,7 +104,7 @@ handed_is [] [] h = refl
 handed_is [] (b ∷ handed) h = absurd (cc)
 handed_is (x ∷ lives) [] h = absurd h
 handed_is (x ∷ lives) (b ∷ handed) (f, rest) =
-    and_is (is_handed x b) (are_handed lives handed) (when_is (sends x) (is_prefix x.bits b) (λ s. front_is x.bits b (f s))) (handed_is lives handed rest)
+    and_from (is_handed x b) (are_handed lives handed) (when_is (sends x) (is_prefix x.bits b) (λ s. front_is x.bits b (f s))) (handed_is lives handed rest)
 
 -- as many lists as lives
 handed_length : (lives : List Life) (handed : List (List Bool)) → are_handed lives handed ≡ true → length lives ≡ length handed
@@ -112,7 +114,7 @@ handed_length (x ∷ lives) [] h = absurd (cc)
 handed_length (x ∷ lives) (b ∷ handed) h = let t = handed_length lives handed (and_true (is_handed x b) (are_handed lives handed) h).1 in omega arith
 
 pub handed_apart : (lives : List Life) (handed : List (List Bool)) (m n : ℕ) → m ≡ length lives → n ≡ length handed → (m ≡ n → ⊥) → false ≡ are_handed lives handed
-handed_apart lives handed m n p q apart = sym (is_false (are_handed lives handed) (λ t. apart (p ∙ handed_length lives handed t ∙ sym q)))
+handed_apart lives handed m n p q apart = sym (false_from_ne_true (are_handed lives handed) (λ t. apart (p ∙ handed_length lives handed t ∙ sym q)))
 
 -- ---- sources
 
@@ -134,7 +136,7 @@ fed_true log lives x h r n =
 fed_by : (log : List Crossing) (lives : List Life) (x : Life) → Source log lives x → list_any (is_source log (asked_at log x) x) lives ≡ true
 fed_by log lives x s =
     any_from (is_source log (asked_at log x) x) lives s.sender s.there
-    (and_is (is_match log (asked_at log x) x s.sender) (is_prefix x.bits s.sender.bits) (match_is log x s.sender s.matches) (front_is x.bits s.sender.bits s.front))
+    (and_from (is_match log (asked_at log x) x s.sender) (is_prefix x.bits s.sender.bits) (match_is log x s.sender s.matches) (front_is x.bits s.sender.bits s.front))
 
 fed_is : (log : List Crossing) (lives : List Life) (x : Life) → (receives x ≡ true → (x.bits ≡ [] → ⊥) → Source log lives x)
     → (r : Bool) → receives x ≡ r → (e : Bool) → (length x.bits == 0) ≡ e → is_fed log lives x ≡ true
@@ -157,7 +159,7 @@ fed_from log lives some handed h =
 
 fed_holds : (log : List Crossing) (lives some : List Life) (handed : List (List Bool)) → AreFed log lives some handed → (list_all (is_fed log lives) some && are_handed some handed) ≡ true
 fed_holds log lives some handed s =
-    and_is (list_all (is_fed log lives) some) (are_handed some handed)
+    and_from (list_all (is_fed log lives) some) (are_handed some handed)
     (all_from (is_fed log lives) some (λ x c. fed_is log lives x (s.source x c) (receives x) refl (length x.bits == 0) refl))
     (handed_is some handed s.sent)
 
@@ -190,15 +192,11 @@ handed_take (suc n) [] [] h = refl
 handed_take (suc n) [] (b ∷ handed) h = absurd (cc)
 handed_take (suc n) (x ∷ lives) [] h = absurd (cc)
 handed_take (suc n) (x ∷ lives) (b ∷ handed) h =
-    let t = and_true (is_handed x b) (are_handed lives handed) h in and_is (is_handed x b) (are_handed (take n lives) (take n handed)) t.0 (handed_take n lives handed t.1)
+    let t = and_true (is_handed x b) (are_handed lives handed) h in and_from (is_handed x b) (are_handed (take n lives) (take n handed)) t.0 (handed_take n lives handed t.1)
 
-and_right : (a : Bool) → (a && true) ≡ a
-and_right true = refl
-and_right false = refl
-
-and_none : (a : Bool) → (a && false) ≡ false
-and_none true = refl
-and_none false = refl
+and_yes : (a : Bool) → (a && true) ≡ a
+and_yes true = refl
+and_yes false = refl
 
 and_both : (a b c : Bool) → (a && (b && c)) ≡ (a && b && c)
 and_both true b c = refl
@@ -207,8 +205,8 @@ and_both false b c = refl
 handed_next : (lives : List Life) (handed : List (List Bool)) (i : ℕ) (x : Life) → i < length lives → x ≡ get_or lives i x
     → are_handed (take (suc i) lives) (take (suc i) handed) ≡ (are_handed (take i lives) (take i handed) && handed_at x (slice_get handed i))
 handed_next [] handed i x lt e = absurd (omega arith)
-handed_next (y ∷ lives) [] i x lt e = sym (and_none (are_handed (take i (y ∷ lives)) (take i [])))
-handed_next (y ∷ lives) (b ∷ handed) zero x lt e = and_right (is_handed y b) ∙ ap (λ (z : Life). is_handed z b) (sym e)
+handed_next (y ∷ lives) [] i x lt e = sym (and_right (are_handed (take i (y ∷ lives)) (take i [])) false refl)
+handed_next (y ∷ lives) (b ∷ handed) zero x lt e = and_yes (is_handed y b) ∙ ap (λ (z : Life). is_handed z b) (sym e)
 handed_next (y ∷ lives) (b ∷ handed) (suc i) x lt e =
     ap (λ (r : Bool). is_handed y b && r) (handed_next lives handed i x (omega arith) e)
     ∙ and_both (is_handed y b) (are_handed (take i lives) (take i handed)) (handed_at x (slice_get handed i))
@@ -225,7 +223,7 @@ fed_next log lives handed i x lt e h =
 
 pub fed_more : (log : List Crossing) (lives : List Life) (handed : List (List Bool)) (i : ℕ) (x : Life) (a b : Bool) → i < length lives → x ≡ get_or lives i x → a ≡ is_fed log lives x
     → b ≡ handed_at x (slice_get handed i) → a ≡ true → b ≡ true → some_fed log lives handed i ≡ true → some_fed log lives handed (i + 1) ≡ true
-fed_more log lives handed i x a b lt e p q s t h = fed_next log lives handed i x lt e h ∙ and_is (is_fed log lives x) (handed_at x (slice_get handed i)) (sym p ∙ s) (sym q ∙ t)
+fed_more log lives handed i x a b lt e p q s t h = fed_next log lives handed i x lt e h ∙ and_from (is_fed log lives x) (handed_at x (slice_get handed i)) (sym p ∙ s) (sym q ∙ t)
 
 pub fed_stops : (log : List Crossing) (lives : List Life) (handed : List (List Bool)) (i : ℕ) (x : Life) → i < length lives → x ≡ get_or lives i x
     → (is_fed log lives x && handed_at x (slice_get handed i)) ≡ false → some_fed log lives handed i ≡ true → Found (some_fed log lives handed) (length lives) (Some i)
@@ -239,11 +237,11 @@ none_unfed log lives handed r e h =
     (ap₂ (λ (xs : List Life) (hs : List (List Bool)). list_all (is_fed log lives) xs && are_handed xs hs) (take_all (length lives) lives (omega arith)) (take_all (length lives) handed (omega (arith, e))))
     (λ n t.
     (let u = and_true (list_all (is_fed log lives) lives) (are_handed lives handed) t in
-    and_is (list_all (is_fed log lives) (take n lives)) (are_handed (take n lives) (take n handed)) (all_take (is_fed log lives) n lives u.0) (handed_take n lives handed u.1)))
+    and_from (list_all (is_fed log lives) (take n lives)) (are_handed (take n lives) (take n handed)) (all_take (is_fed log lives) n lives u.0) (handed_take n lives handed u.1)))
 
 pub none_apart : (log : List Crossing) (lives : List Life) (handed : List (List Bool)) → (length lives ≡ length handed → ⊥) → (length lives == length handed) ≡ streams_hold log lives handed
 none_apart log lives handed apart =
-    is_false (length lives == length handed) (λ t. apart (eqb-true (length lives) (length handed) t)) ∙ sym (and_false (list_all (is_fed log lives) lives) (are_handed lives handed) (sym (handed_apart lives handed (length lives) (length handed) refl refl apart)))
+    false_from_ne_true (length lives == length handed) (λ t. apart (eqb-true (length lives) (length handed) t)) ∙ sym (and_right (list_all (is_fed log lives) lives) (are_handed lives handed) (sym (handed_apart lives handed (length lives) (length handed) refl refl apart)))
 
 -- ---- the life that one matches
 

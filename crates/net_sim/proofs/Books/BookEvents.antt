@@ -1,5 +1,5 @@
 -- What resets see of a book is what they see of its moments.
-use Rattle.net_sim.proofs.Common.{◌≡◌, inl, inr, ℕ, ◌+◌, ◌<◌, ◌≤◌, Bool, true, false, ◌==◌, if◌then◌else◌, List, [], ◌∷◌, ◌++◌, length, refl, ap, sym, subst, ◌∙◌, arith, eq-eqb, append-nil, eqb-true, Host, same_flow, Crossing, Request, Box, WaitsWith, Fits, boxes, posted, Contact, In, Idle, part_of, place, Pair, pair_moved, pair, Needs, Allowed, Called, contacts_asked, event_of, event_by, Moment, Crossed, Asked, events_of, places, contacts_of, crossings_of, events_in}
+use Rattle.net_sim.proofs.Common.{◌≡◌, inl, inr, ℕ, ◌+◌, ◌<◌, ◌≤◌, Bool, true, false, ◌==◌, if◌then◌else◌, List, [], ◌∷◌, ◌++◌, length, refl, ap, sym, subst, ◌∙◌, arith, eq-eqb, append-nil, eqb-true, Host, Crossing, Request, Box, WaitsWith, Fits, boxes, posted, Contact, In, Idle, part_of, place, Pair, pair_moved, pair, Needs, Allowed, Called, contacts_asked, event_of, event_by, Moment, Crossed, Asked, events_of, places, contacts_of, crossings_of, events_in}
 use Rattle.std.proofs.lemmas.List.{append_assoc}
 use Rattle.interface.specs.Mailboxes as mail
 use Rattle.reset_law.specs.Boxes.{post_of}

@@ -1,5 +1,5 @@
 -- What the core of a world keeps is enough for its next event, whichever of its hosts are strangers.
-use Rattle.net_sim.proofs.Common.{◌≡◌, Bool, true, false, not, List, [], ◌∷◌, refl, ap, sym, subst, ◌∙◌, Calls, Seen, InOrder, Host, is_host, Kept, shown, AreLive, IsHeld, IsOnce, IsNamed, hosts_of, hosts_served, running, world_ended, WorldState, WorldFault, Seat, ServiceSeat, EventGives, StepGives}
+use Rattle.net_sim.proofs.Common.{◌≡◌, Bool, true, false, List, [], ◌∷◌, refl, sym, subst, ◌∙◌, Calls, Seen, InOrder, Host, is_host, Kept, shown, AreLive, IsHeld, IsOnce, IsNamed, running, world_ended, WorldState, WorldFault, Seat, ServiceSeat, EventGives, StepGives}
 use Rattle.std.proofs.Common.{Result}
 use Rattle.std.specs.List.{filter}
 use Rattle.interface.specs.Mailboxes.{IsRun}
@@ -7,7 +7,7 @@ use Rattle.net_sim.specs.Inside.Core.{IsSomeWorld}
 use Rattle.net_sim.specs.Inside.Mixed.{IsHeldAmong}
 use Rattle.net_sim.specs.MixedWorlds.{IsLawfulAmong, IsWholeAmong, MixedState, strange_in, with_programs}
 use Rattle.net_sim.specs.World.{Event}
-use Rattle.net_sim.proofs.Books.Held.{event_steps, hosts_seated, once_in_order, seats_live}
+use Rattle.net_sim.proofs.Books.Held.{event_steps, seats_live}
 use Rattle.net_sim.proofs.Books.Mixed as mixed
 use Rattle.net_sim.proofs.Books.Nobody.{lawful_among}
 use Rattle.net_sim.proofs.Books.Whole.{some_hosts}
@@ -20,37 +20,21 @@ not_some test hosts h away = by (is_host (filter test hosts) h) refl where
   by true e = absurd (let no : true ≡ false = sym (some_hosts test hosts h e) ∙ away in cc)
   by false e = e
 
-some_once : (test : Host → Bool) (hosts : List Host) → IsOnce hosts → IsOnce (filter test hosts)
+pub some_once : (test : Host → Bool) (hosts : List Host) → IsOnce hosts → IsOnce (filter test hosts)
 some_once test [] once = tt
 some_once test (g ∷ hosts) once = by (some_once test hosts once.1) (test g) refl where
   by : IsOnce (filter test hosts) → (b : Bool) → test g ≡ b → IsOnce (filter test (g ∷ hosts))
   by rest true e = rw e ((λ h same. not_some test hosts h (once.0 h same)), rest)
   by rest false e = rw e rest
 
--- ---- the seats
+-- ---- no program is spent
 
-module _ {C : Type 0} (seen : C → Seen) (w : WorldState C) (some : IsSomeWorld seen w) (on : w.stopped ≡ false) where
-  abbrev hosts : List Host
-  hosts = (seen w.carrier).hosts
-
-  abbrev seated : List Host
-  seated = with_programs some.strange hosts
-
-  abbrev whole : IsWholeAmong some.strange seen hosts w
-  whole = some.lawful.whole
-
-  seated_are : hosts_of w.seats ≡ seated
-  seated_are = ap (λ (ss : List Seat). hosts_of ss) (whole.seats on) ∙ hosts_seated hosts seated whole.moments
-
-  pub core_once : IsOnce (hosts_of w.seats)
-  core_once = subst IsOnce (sym seated_are) (some_once (λ h. not (some.strange h)) hosts (once_in_order hosts some.ordered))
-
-  pub core_live : AreLive w.seats
-  core_live = subst AreLive (sym (whole.seats on)) (seats_live hosts seated whole.moments)
-
-  -- the services are in the order of the seats
-  pub core_order : hosts_served w.services ≡ hosts_of w.seats
-  core_order = (whole.services on).order ∙ sym seated_are
+pub core_live : {C : Type 0} (seen : C → Seen) (w : WorldState C) → IsSomeWorld seen w → w.stopped ≡ false
+    → (seats : List Seat) → seats ≡ w.seats → AreLive seats
+core_live seen w some on seats is =
+    let whole : IsWholeAmong some.strange seen (seen w.carrier).hosts w = some.lawful.whole in
+    let seated : List Host = with_programs some.strange (seen w.carrier).hosts in
+    subst AreLive (sym (is ∙ whole.seats on)) (seats_live (seen w.carrier).hosts seated whole.moments)
 
 -- ---- which worlds are so
 

@@ -1,5 +1,5 @@
 -- Notices that report the messages of a small log, and notices that don't.
-use Rattle.net_sim.proofs.Common.{◌≡◌, inl, inr, ℕ, ◌+◌, ◌≤◌, Bool, true, false, List, [], ◌∷◌, length, refl, ap, sym, subst, ◌∙◌, arith, Contains, Host, Crossing, HostMessage, is_receive_socket, Legal, Order, orders_of, Notice, first, second, third, CrossedAt, given_log, moved, taken_log, eight, eight_zeros, eight_sent, rts, str}
+use Rattle.net_sim.proofs.Common.{◌≡◌, inl, inr, ℕ, ◌+◌, ◌≤◌, Bool, true, false, List, [], ◌∷◌, length, refl, ap, sym, subst, ◌∙◌, arith, Crossing, HostMessage, is_receive_socket, Legal, Order, orders_of, Notice, first, second, third, CrossedAt, given_log, moved, taken_log, eight, eight_zeros, eight_sent, rts, str}
 use Rattle.interface.specs.declared.crossing.Crossing.TheVariants as crossing
 use Rattle.ncp_control.specs.declared.command.Command.TheVariants as command
 use Rattle.host_pairs.specs.declared.notice.Notice.TheVariants as notice

@@ -81,7 +81,7 @@ pub one_order : (b : Bool) (x : ServicesState) (s : ServiceSeat) → (with_servi
 one_order true x s = refl
 one_order false x s = refl
 
-same_order : (h : Host) (x : ServicesState) (all : List ServiceSeat) → map (λ (s : ServiceSeat). s.host) (serviced h x all) ≡ map (λ (s : ServiceSeat). s.host) all
+pub same_order : (h : Host) (x : ServicesState) (all : List ServiceSeat) → map (λ (s : ServiceSeat). s.host) (serviced h x all) ≡ map (λ (s : ServiceSeat). s.host) all
 same_order h x [] = refl
 same_order h x (s ∷ all) =
     ap (λ (g : Host). g ∷ map (λ (y : ServiceSeat). y.host) (serviced h x all)) (one_order (same_host h s.host) x s) ∙ ap (λ (hs : List Host). s.host ∷ hs) (same_order h x all)

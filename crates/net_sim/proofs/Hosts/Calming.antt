@@ -77,7 +77,7 @@ here (x ∷ seats) (suc place) lt = let h : Here seats place = here seats place 
 
 -- one event that doesn't stop all
 
-memory_stops : (f : WorldFault) → wants_memory f ≡ true → stops (Err f) ≡ true
+pub memory_stops : (f : WorldFault) → wants_memory f ≡ true → stops (Err f) ≡ true
 memory_stops (Carrier f) is = rw is refl
 memory_stops (Program f) is = is
 
@@ -90,7 +90,7 @@ or_left true b h = absurd (cc)
 or_left false b h = refl
 
 -- how many crossings a book shows
-pub shown_count : (k b : Kept) (xs : List Crossing) → b ≡ k → xs ≡ reverse b.book.crossings → length xs ≡ length k.book.crossings
+shown_count : (k b : Kept) (xs : List Crossing) → b ≡ k → xs ≡ reverse b.book.crossings → length xs ≡ length k.book.crossings
 shown_count k b xs same is = ap (λ (cs : List Crossing). length cs) is ∙ length-reverse b.book.crossings ∙ ap (λ (x : Kept). length x.book.crossings) same
 
 module _ {C : Type 0} (calls : Calls C) where
@@ -199,7 +199,7 @@ module _ {C : Type 0} (calls : Calls C) where
       → (r : Answer) (new : WorldState C) → Repeats calls e (suc (total - (count + 1))) now r new → Repeats calls e total begin r new
   one_left e total count begin now lt so r new h = let fewer : suc (total - (count + 1)) ≡ total - count = omega (arith, lt) in so r new (subst (λ (n : ℕ). Repeats calls e n now r new) fewer h)
 
-  pub one_repeated : (e : Event) (total count : ℕ) (begin old mid : WorldState C) (answer : Answer) → count < total → Repeated e total count begin old → StepGives calls old e answer mid → stops answer ≡ false
+  one_repeated : (e : Event) (total count : ℕ) (begin old mid : WorldState C) (answer : Answer) → count < total → Repeated e total count begin old → StepGives calls old e answer mid → stops answer ≡ false
       → length old.kept.book.crossings < length mid.kept.book.crossings → Repeated e total (count + 1) begin mid
   one_repeated e total count begin old mid answer lt so step on grew r new h =
       let more : nat_lt (length old.kept.book.crossings) (length mid.kept.book.crossings) ≡ true = lt-ltb (length old.kept.book.crossings) (length mid.kept.book.crossings) grew in
@@ -210,6 +210,17 @@ module _ {C : Type 0} (calls : Calls C) where
   none_repeated e total count begin old mid answer lt so step on same =
       let no : nat_lt (length old.kept.book.crossings) (length mid.kept.book.crossings) ≡ false = le-ltb (length old.kept.book.crossings) (length mid.kept.book.crossings) same in
       one_left e total count begin old lt so (Ok tt) mid (answer, mid, step, rw (on, no) (refl, refl))
+
+  -- by the counts of what is shown before and after
+  module _ (e : Event) (total count : ℕ) (begin old mid : WorldState C) (answer : Answer) (lt : count < total)
+      (so : Repeated e total count begin old) (step : StepGives calls old e answer mid) (on : stops answer ≡ false)
+      (b d : Kept) (xs ys : List Crossing) (before : b ≡ old.kept) (was : xs ≡ reverse b.book.crossings)
+      (after : d ≡ mid.kept) (is : ys ≡ reverse d.book.crossings) where
+    pub one_shown : length xs < length ys → Repeated e total (count + 1) begin mid
+    one_shown grew = one_repeated e total count begin old mid answer lt so step on (omega (arith, shown_count old.kept b xs before was, shown_count mid.kept d ys after is, grew))
+
+    pub none_shown : length ys ≤ length xs → Repeats calls e total begin (Ok tt) mid
+    none_shown same = none_repeated e total count begin old mid answer lt so step on (omega (arith, shown_count old.kept b xs before was, shown_count mid.kept d ys after is, same))
 
   pub stop_repeated : (e : Event) (total count : ℕ) (begin old mid : WorldState C) (answer : Answer) → count < total → Repeated e total count begin old → StepGives calls old e answer mid → stops answer ≡ true
       → Repeats calls e total begin answer mid

@@ -2,7 +2,7 @@
 use Rattle.net_sim.proofs.Common.{◌≡◌, Bool, true, false, List, Ok, Err, refl, ap, sym, subst, ◌∙◌, MatchBool, Calls, Host, is_host, HostMessage, WorldState, WorldFault, StepGives}
 use Rattle.std.proofs.Common.{Result}
 use Rattle.net_sim.specs.Inside.Mixed.{mixed_after, mixed_of, mixed_runs_out}
-use Rattle.net_sim.specs.Inside.Parts.{Hosts, runs_out, world_after, world_of, world_of_hosts}
+use Rattle.net_sim.specs.Inside.Parts.{HostsState, runs_out, world_after, world_of, world_of_hosts}
 use Rattle.net_sim.specs.MixedWorlds.{AnyGives, AskedGives, FetchGives, MixedFault, MixedState, NoProgram, OfWorld, OutGives, RefusesMixed, asked_at, is_strange, mixed_answer}
 use Rattle.net_sim.specs.World.{Event, Take}
 
@@ -25,7 +25,7 @@ same_end : (a : Answer) → runs_out a ≡ mixed_runs_out (mixed_answer a)
 same_end (Ok done) = refl
 same_end (Err f) = refl
 
-module _ {C : Type 0} (calls : Calls C) (xs : List Host) (c0 c1 : C) (h0 h1 : Hosts) (a : Answer) (r : Mixed) (is : r ≡ mixed_answer a) where
+module _ {C : Type 0} (calls : Calls C) (xs : List Host) (c0 c1 : C) (h0 h1 : HostsState) (a : Answer) (r : Mixed) (is : r ≡ mixed_answer a) where
   abbrev old : MixedState C
   old = mixed_of c0 h0 xs
 

@@ -1,5 +1,5 @@
 -- What a user asks for, what comes in and a program that starts are, for each peer, steps of the law of resets.
-use Rattle.net_sim.proofs.Common.{◌≡◌, ℕ, Bool, true, false, ◌==◌, if◌then◌else◌, List, [], ◌∷◌, ◌++◌, Option, Some, None, refl, ap, sym, subst, ◌∙◌, cond, Host, same_host, Flow, Answer, HostMessage, same_host-refl, Command, accepted_message, accepted_answer, message_taken, answered_turn, is_busy, is_receiving, is_mine_on, sending_end, receiving_end, free_link, PairState, NcpState, opening_state, pair_with, with_pair, owner_of, desk_of, listens_on, settled, at_owner, closed_socket, requested, receiver_requested, with_end, with_more_bits, commanded, interrupt_of, closed_end, Entry, Peer, Request, pair_changed, when, part_of, Pair, pair_moved, has_control, message_on, event_of, event_by, Agrees, IsApart, IsQueued}
+use Rattle.net_sim.proofs.Common.{◌≡◌, ℕ, Bool, true, false, ◌==◌, if◌then◌else◌, List, [], ◌∷◌, ◌++◌, Option, Some, None, refl, ap, sym, subst, ◌∙◌, cond, Host, same_host, Flow, Answer, HostMessage, same_host-refl, Command, accepted_message, accepted_answer, message_taken, answered_turn, is_busy, is_receiving, is_mine_on, sending_end, receiving_end, free_link, PairState, NcpState, opening_state, pair_with, with_pair, owner_of, desk_of, listens_on, settled, at_owner, closed_socket, requested, receiver_requested, commanded, closed_end, Entry, Peer, Request, pair_changed, when, part_of, Pair, pair_moved, has_control, message_on, event_of, event_by, Agrees, IsApart, IsQueued}
 use Rattle.std.proofs.Common.{is_some}
 use Rattle.interface.specs.declared.crossing.Crossing.TheVariants as crossing
 use Rattle.interface.specs.declared.crossing.Inbound.TheVariants as inbound
@@ -9,7 +9,7 @@ use Rattle.sockets.specs.Accepting.{accepted, turn_of}
 use Rattle.host_pairs.specs.Commands.{granted}
 use Rattle.host_pairs.specs.Entries.{called_off}
 use Rattle.sockets.specs.Requests.{served}
-use Rattle.host_pairs.specs.Asked.{contacted}
+use Rattle.host_pairs.specs.Asked.{contacted, interrupt_of, with_end, with_more_bits}
 use Rattle.host_pairs.specs.Parcels.{link_of}
 use Rattle.sockets.specs.declared.request.Request.TheVariants as request
 use Rattle.sockets.proofs.lemmas.{others_stay}

@@ -1,17 +1,15 @@
 -- Each call of a host's program keeps its peers in order of their address octets.
-use Rattle.net_sim.proofs.Common.{◌≡◌, ℕ, Bool, true, false, List, [], ◌∷◌, find, Option, Some, None, refl, ap, sym, subst, Host, IsAddress, same_host, Flow, Answer, HostMessage, accepted_message, accepted_answer, message_taken, answered_turn, is_busy, is_mine_on, sending_end, free_link, PairState, NcpState, pair_with, with_pair, owner_of, desk_of, listens_on, AreInOrder, at_owner, closed_socket, requested, receiver_requested, with_end, with_more_bits, commanded, interrupt_of, closed_end, Parcel, next_of, pair_after, parcel_gone, next_in, offered_by, Entry, Peer, Request, IsAddressed}
+use Rattle.net_sim.proofs.Common.{◌≡◌, ℕ, Bool, true, false, List, [], ◌∷◌, find, Option, Some, None, refl, ap, sym, subst, Host, IsAddress, same_host, Flow, Answer, HostMessage, accepted_message, accepted_answer, message_taken, answered_turn, is_busy, is_mine_on, sending_end, free_link, PairState, NcpState, pair_with, with_pair, owner_of, desk_of, listens_on, AreInOrder, at_owner, closed_socket, requested, receiver_requested, commanded, closed_end, Parcel, next_of, pair_after, parcel_gone, next_in, offered_by, Entry, Peer, Request, IsAddressed}
 use Rattle.interface.specs.Host.{address_octet}
 use Rattle.interface.specs.declared.crossing.Inbound.TheVariants as inbound
 use Rattle.interface.proofs.lemmas.{same_host-true}
 use Rattle.ncp_control.specs.declared.command.Command.TheVariants as command
 use Rattle.sockets.specs.Accepting.{accepted, turn_of}
-use Rattle.host_pairs.specs.Commands.{granted}
 use Rattle.host_pairs.specs.Pair.{is_opening}
 use Rattle.sockets.specs.Pairs.{placed, without_peer}
 use Rattle.sockets.specs.Peers.{StandAbove}
 use Rattle.sockets.specs.Requests.{served}
 use Rattle.host_pairs.specs.Asked.{contacted}
-use Rattle.host_pairs.specs.Parcels.{link_of}
 use Rattle.sockets.specs.Sending.{offered}
 use Rattle.sockets.specs.declared.request.Request.TheVariants as request
 use Rattle.sockets.proofs.lemmas.{order_placed, order_removed}
@@ -119,9 +117,6 @@ request_order s (request.OpenSend peer own foreign size) a o =
     order_with peer (requested (sending_end own foreign size) (command.Str own foreign size) (pair_with peer s.peers)) s.peers a o
 request_order s (request.OpenReceive peer own foreign) a o =
     order_with peer (receiver_requested own foreign (free_link (pair_with peer s.peers).entries) (pair_with peer s.peers)) s.peers a o
-request_order s (request.Send socket bits) a o = at_order s socket (λ e. with_end socket (with_more_bits bits)) o
-request_order s (request.Grant socket messages bits) a o = at_order s socket (λ e q. commanded (command.All (link_of e.link) messages bits) (with_end socket (granted messages bits) q)) o
-request_order s (request.AskBack socket messages bits) a o = at_order s socket (λ e. commanded (command.Gvb (link_of e.link) messages bits)) o
-request_order s (request.Interrupt socket) a o = at_order s socket (λ e. commanded (interrupt_of e)) o
 request_order s (request.Close socket) a o = close_order s socket o (listens_on socket s.listening) refl
 request_order s (request.Echo peer octet) a o = order_with peer (commanded (command.Eco octet) (pair_with peer s.peers)) s.peers a o
+request_order s r a o = at_order s _ _ o

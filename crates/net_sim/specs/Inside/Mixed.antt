@@ -2,7 +2,7 @@
 use Rattle.std.specs.Prelude.{Bool, false, List, Result, Ok, Err}
 use Rattle.interface.specs.Calls.{Seen, InOrder}
 use Rattle.interface.specs.Host.{Host}
-use Rattle.net_sim.specs.Inside.Parts.{Hosts, world_of, world_of_hosts}
+use Rattle.net_sim.specs.Inside.Parts.{HostsState, world_of, world_of_hosts}
 use Rattle.net_sim.specs.MixedWorlds.{IsLawfulAmong, MixedFault, MixedState, World, NoProgram, HasProgram, strange_in}
 use Rattle.net_sim.specs.World.{WorldState, wants_memory}
 
@@ -17,13 +17,13 @@ abbrev pub mixed_with : {C : Type 0} → WorldState C → List Host → MixedSta
 mixed_with w strangers = record { world = w; strangers = strangers }
 
 -- of a carrier, hosts and strangers: as it is, while it runs, and after an event with this answer
-abbrev pub mixed_of_hosts : {C : Type 0} → C → Hosts → List Host → Bool → MixedState C
+abbrev pub mixed_of_hosts : {C : Type 0} → C → HostsState → List Host → Bool → MixedState C
 mixed_of_hosts c h strangers stopped = record { world = world_of_hosts c h stopped; strangers = strangers }
 
-abbrev pub mixed_of : {C : Type 0} → C → Hosts → List Host → MixedState C
+abbrev pub mixed_of : {C : Type 0} → C → HostsState → List Host → MixedState C
 mixed_of c h strangers = record { world = world_of c h; strangers = strangers }
 
-abbrev pub mixed_after : {C : Type 0} → C → Hosts → List Host → Result (Unit {0}) MixedFault → MixedState C
+abbrev pub mixed_after : {C : Type 0} → C → HostsState → List Host → Result (Unit {0}) MixedFault → MixedState C
 mixed_after c h strangers r = mixed_of_hosts c h strangers (mixed_runs_out r)
 
 -- its hosts are in order, and it is lawful

@@ -4,8 +4,8 @@ use Rattle.interface.specs.Host.{Host, same_host, is_host}
 use Rattle.interface.specs.declared.message.HostMessage.{HostMessage}
 use Rattle.interface.specs.declared.carrier.CarrierFault.TheVariants as fault
 use Rattle.host_services.specs.Services.{ServicesState, ServiceDeskState, opening_desk}
-use Rattle.net_sim.specs.Book.{Kept, all_crossed, all_told, asked}
-use Rattle.net_sim.specs.World.{WorldState, WorldFault, Carrier, Program, Seat, ServiceSeat, seat_of, seated, services_of, serviced, done_by, turn_of, wants_memory}
+use Rattle.net_sim.specs.Book.{Kept, all_crossed, all_told, asked, opening_kept}
+use Rattle.net_sim.specs.World.{WorldState, WorldFault, Carrier, Program, Seat, ServiceSeat, opening_seats, opening_services, seat_of, seated, services_of, serviced, done_by, turn_of, wants_memory}
 use Rattle.host_services.specs.TypedLines.{line_bits}
 use Rattle.interface.specs.declared.crossing.Crossing.{Crossing}
 use Rattle.host_pairs.specs.declared.notice.Notice.{Notice}
@@ -16,7 +16,12 @@ use Rattle.sockets.specs.declared.fault.NcpFault.{NcpFault}
 use Rattle.sockets.specs.declared.fault.NcpFault.TheVariants as problem
 use Rattle.sockets.specs.declared.request.Request.{Request}
 use Rattle.sockets.specs.declared.request.Request.TheVariants as requests
-pub use Rattle.net_sim.specs.declared.parts.Hosts.{Hosts}
+
+-- a seat and the services of each host, and the book
+pub record HostsState : Type 0 where
+  pub seats : List Seat
+  pub services : List ServiceSeat
+  pub book : Kept
 
 abbrev pub runs_out : Result (Unit {0}) WorldFault → Bool
 runs_out (Ok done) = false
@@ -29,14 +34,14 @@ abbrev pub world_ended : {C : Type 0} → C → List Seat → List ServiceSeat �
 world_ended c seats services k r = record { carrier = c; seats = seats; services = services; kept = k; stopped = runs_out r }
 
 -- a world of a carrier and hosts: as it is, while it runs, and after an event with this answer
-abbrev pub world_of_hosts : {C : Type 0} → C → Hosts → Bool → WorldState C
-world_of_hosts c h stopped = record { carrier = c; seats = h.seats.items; services = h.services.items; kept = h.book; stopped = stopped }
+abbrev pub world_of_hosts : {C : Type 0} → C → HostsState → Bool → WorldState C
+world_of_hosts c h stopped = record { carrier = c; seats = h.seats; services = h.services; kept = h.book; stopped = stopped }
 
-abbrev pub world_of : {C : Type 0} → C → Hosts → WorldState C
-world_of c h = running c h.seats.items h.services.items h.book
+abbrev pub world_of : {C : Type 0} → C → HostsState → WorldState C
+world_of c h = running c h.seats h.services h.book
 
-abbrev pub world_after : {C : Type 0} → C → Hosts → Result (Unit {0}) WorldFault → WorldState C
-world_after c h r = world_ended c h.seats.items h.services.items h.book r
+abbrev pub world_after : {C : Type 0} → C → HostsState → Result (Unit {0}) WorldFault → WorldState C
+world_after c h r = world_ended c h.seats h.services h.book r
 
 -- each host has one seat
 abbrev pub IsOnce : List Host → Type 0
@@ -72,6 +77,19 @@ pub record Serves (h : Host) (place : ℕ) (services : ServicesState) (all : Lis
 abbrev pub hosts_served : List ServiceSeat → List Host
 hosts_served all = map (λ s. s.host) all
 
+-- each host has one seat, and its services are in the place of that
+pub record AreHosts (seats : List Seat) (services : List ServiceSeat) : Type 0 where
+  pub once : IsOnce (hosts_of seats)
+  pub order : hosts_served services ≡ hosts_of seats
+
+-- a host's program runs here, and its services are in the place of its seat
+abbrev pub IsUpAt : Host → ℕ → HostsState → Type 0
+IsUpAt h at hosts = (s : NcpState) × (Sits h at s hosts.seats × Serves h at (services_of h hosts.services) hosts.services)
+
+-- hosts that have just come up
+abbrev pub opening_hosts : List Host → HostsState
+opening_hosts hosts = record { seats = opening_seats hosts; services = opening_services hosts; book = opening_kept }
+
 -- the services of a host had their turns, which left this of them and of the host; and that is written down
 pub record IsDone (h : Host) (t : ServicesState × ServiceDeskState) (before : Kept) (program : NcpState) (after : ServicesState) (kept : Kept) : Type 0 where
   pub program_is : program ≡ t.1.program
@@ -97,35 +115,35 @@ SaysNext s r = MatchResult r (λ message. message ≡ next_out s) (λ f. (is_som
 -- ---- the hosts of a world before a call at one of them, and after it
 
 -- of the host whose program runs here, and its services, this is so
-abbrev pub OfHostAt : ℕ → Hosts → (Host → NcpState → ServicesState → Type 0) → Type 0
-OfHostAt at hosts P = (h : Host) (s : NcpState) (x : ServicesState) → Sits h at s hosts.seats.items → Serves h at x hosts.services.items → P h s x
+abbrev pub OfHostAt : ℕ → HostsState → (Host → NcpState → ServicesState → Type 0) → Type 0
+OfHostAt at hosts P = (h : Host) (s : NcpState) (x : ServicesState) → Sits h at s hosts.seats → Serves h at x hosts.services → P h s x
 
 -- after a host's program made this of the call, with what was kept by then, its services had their turns
-abbrev pub AreTended : Host → ServicesState → NcpState × List Notice → Kept → Hosts → Hosts → Type 0
-AreTended h x turn k old new = AreDone h (turn_of h (length old.book.book.notices) x turn) old.seats.items old.services.items (all_told h turn.1 k) new.seats.items new.services.items new.book
+abbrev pub AreTended : Host → ServicesState → NcpState × List Notice → Kept → HostsState → HostsState → Type 0
+AreTended h x turn k old new = AreDone h (turn_of h (length old.book.book.notices) x turn) old.seats old.services (all_told h turn.1 k) new.seats new.services new.book
 
 -- a request of a host's user was served
-abbrev pub AreServed : Host → NcpState → ServicesState → Request → Hosts → Hosts → Type 0
+abbrev pub AreServed : Host → NcpState → ServicesState → Request → HostsState → HostsState → Type 0
 AreServed h s x r old new = AreTended h x (served s r, served_notices s r) (asked h r old.book) old new
 
 -- a server or a user has begun on a host
-abbrev pub AreBegun : Host → ServicesState × ServiceDeskState → Hosts → Hosts → Type 0
-AreBegun h t old new = AreDone h t old.seats.items old.services.items old.book new.seats.items new.services.items new.book
+abbrev pub AreBegun : Host → ServicesState × ServiceDeskState → HostsState → HostsState → Type 0
+AreBegun h t old new = AreDone h t old.seats old.services old.book new.seats new.services new.book
 
 -- the call was refused like this, and nothing changed
-abbrev pub AreRefused : NcpFault → Result (Unit {0}) WorldFault → Hosts → Hosts → Type 0
-AreRefused f r old new = (r ≡ Err (Program f)) × ((new.seats.items ≡ old.seats.items) × ((new.services.items ≡ old.services.items) × (new.book ≡ old.book)))
+abbrev pub AreRefused : NcpFault → Result (Unit {0}) WorldFault → HostsState → HostsState → Type 0
+AreRefused f r old new = (r ≡ Err (Program f)) × ((new.seats ≡ old.seats) × ((new.services ≡ old.services) × (new.book ≡ old.book)))
 
 -- memory ran out
 abbrev pub IsNoMemory : WorldFault → Type 0
 IsNoMemory f = f ≡ Program problem.OutOfMemory
 
 -- memory ran out, and nothing was written down
-abbrev pub LacksMemory : Hosts → Hosts → WorldFault → Type 0
+abbrev pub LacksMemory : HostsState → HostsState → WorldFault → Type 0
 LacksMemory old new f = IsNoMemory f × (new.book ≡ old.book)
 
 -- a request that isn't refused is served, or memory runs out
-abbrev pub AreAnswered : Host → NcpState → ServicesState → Request → Result (Unit {0}) WorldFault → Hosts → Hosts → Type 0
+abbrev pub AreAnswered : Host → NcpState → ServicesState → Request → Result (Unit {0}) WorldFault → HostsState → HostsState → Type 0
 AreAnswered h s x request r old new = MatchResult r (λ _. AreServed h s x request old new) (LacksMemory old new)
 
 -- what is sent at a socket for a line
@@ -133,7 +151,7 @@ abbrev pub line_sent : ℕ → List ℕ → Request
 line_sent socket line = requests.Send socket (line_bits line)
 
 -- this crossed, oldest first
-abbrev pub crossed_by : List Crossing → Hosts → Kept
+abbrev pub crossed_by : List Crossing → HostsState → Kept
 crossed_by news h = all_crossed (reverse news) h.book
 
 -- ---- a host's seat and its services before a call at them, and after it

@@ -43,7 +43,7 @@ class Lacking:
 
     def opened(self, network: Topology, numbers: Numbers = NUMBERS) -> Place:
         """The network at its opening."""
-        kind, raw, imps, lines = network
+        kind, raw, imps, lines, _ = network
         carrier: Carrier = Overtaken(imps) if kind == "plain" else self.subnet(imps, lines, numbers)
         return carrier if raw else self.world(carrier, self.host)
 

@@ -2,7 +2,7 @@ use Rattle.command_line.proofs.Common.{◌≡◌, ◌⊎◌, OnOk, rules, subst,
 use Rattle.subnet.specs.Calls.{Kept}
 use Rattle.topology.specs.declared.network.CarrierKind.TheVariants as kind
 use Rattle.command_line.specs.Replayed.{EndsFrom}
-use Rattle.command_line.proofs.Written.{over_all, over_part}
+use Rattle.command_line.proofs.Replayed.Written.{over_all, over_part}
 use Rattle.command_line.proofs.carriers.replay_on.Goals as goal
 
 pub returns-in_ok-subnet-in-Subnet-clause-stopped : goal.returns-in_ok-subnet-in-Subnet-clause-stopped

@@ -1,6 +1,6 @@
 use Rattle.command_line.proofs.Common.{Err, ap, Calls}
 use Rattle.command_line.proofs.Faults.{told_memory, told_write}
-use Rattle.command_line.proofs.Written.{writes_all, writes_part}
+use Rattle.command_line.proofs.Replayed.Written.{writes_all, writes_part}
 use Rattle.command_line.proofs.carriers.replay_raw.Goals as goal
 
 pub returns-in-Ok-clause-replayed : goal.returns-in-Ok-clause-replayed

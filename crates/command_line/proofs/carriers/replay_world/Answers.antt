@@ -1,7 +1,7 @@
 use Rattle.command_line.proofs.Common.{Err, ap, inr, ◌∙◌, Calls, given}
 use Rattle.net_sim.specs.Book.{Kept}
 use Rattle.command_line.proofs.Faults.{told_memory, told_write}
-use Rattle.command_line.proofs.Written.{world_writes_all, world_writes_part}
+use Rattle.command_line.proofs.Replayed.Written.{world_writes_all, world_writes_part}
 use Rattle.command_line.proofs.carriers.replay_world.Goals as goal
 
 pub returns-in-Ok-clause-replayed : goal.returns-in-Ok-clause-replayed

@@ -1,7 +1,7 @@
 use Rattle.command_line.proofs.Common.{◌≡◌, OnOk, rules, subst, subnet_calls, asked_of, LogsFrom}
 use Rattle.subnet.specs.Calls.{Kept}
 use Rattle.topology.specs.declared.network.CarrierKind.TheVariants as kind
-use Rattle.command_line.proofs.Written.{logged_over}
+use Rattle.command_line.proofs.Replayed.Written.{logged_over}
 use Rattle.command_line.proofs.logging.log_on.Goals as goal
 
 pub returns-in_ok-subnet-in-Subnet-clause-logged : goal.returns-in_ok-subnet-in-Subnet-clause-logged

@@ -1,6 +1,5 @@
-use Rattle.mixed_worlds.proofs.Common.{◌≡◌, List, [], ◌∷◌, ◌++◌, refl, ap, sym, ◌∙◌, arith, Life, new_life}
-use Rattle.mixed_worlds.proofs.Common.{second, sending_life, third}
-use Rattle.promise.specs.Safe.{AreTwo, Name}
+use Rattle.mixed_worlds.proofs.Common.{◌≡◌, List, [], ◌∷◌, ◌++◌, refl, ap, sym, ◌∙◌, arith, Life, new_life, second}
+use Rattle.mixed_worlds.proofs.Common.{third, sending_life, AreTwo, Name}
 use Rattle.mixed_worlds.specs.Worked.{receiving_life}
 use Rattle.mixed_worlds.proofs.law.worked_once.Goals as goal
 

@@ -1,17 +1,9 @@
-use Rattle.net_sim.proofs.Common.{Serves, services_of}
-use Rattle.net_sim.proofs.Hosts.Serving.{serves}
+use Rattle.net_sim.proofs.Common.{services_of}
 use Rattle.net_sim.proofs.Hosts.Ends.{user_ends}
 use Rattle.net_sim.proofs.events.begin_user.Goals as goal
-
-pub user_at-requires-clause-services : goal.user_at-requires-clause-services
-user_at-requires-clause-services g c =
-    let sits = c.in_ok-at.ensures in
-    let here : Serves c.args.host c.in_ok-at.at (services_of c.args.host c.args.hosts.now.services.items) c.args.hosts.now.services.items = serves c.args.host c.in_ok-at.at sits.0 c.args.hosts.now.seats.items c.args.hosts.now.services.items c.requires.once c.requires.order sits.1 in
-    here.within
 
 pub returns : goal.returns
 returns g c =
     let sits = c.in_ok-at.ensures in
-    let here : Serves c.args.host c.in_ok-at.at (services_of c.args.host c.args.hosts.now.services.items) c.args.hosts.now.services.items = serves c.args.host c.in_ok-at.at sits.0 c.args.hosts.now.seats.items c.args.hosts.now.services.items c.requires.once c.requires.order sits.1 in
-    user_ends c.args.host c.args.peer c.args.listen c.args.own c.in_ok-at.at sits.0 c.args.carrier.now c.args.hosts.now.seats.items c.user_at.new.self.seats.items c.args.hosts.now.services.items c.user_at.new.self.services.items c.args.hosts.now.book c.user_at.new.self.book c.user_at.result
-    sits.1 (c.user_at.ensures.done c.args.host sits.0 (services_of c.args.host c.args.hosts.now.services.items) sits.1 here) c.user_at.ensures.kept
+    user_ends c.args.host c.args.peer c.args.listen c.args.own c.in_ok-at.at sits.0 c.args.carrier.now c.args.hosts.now.seats c.user_at.new.self.seats c.args.hosts.now.services c.user_at.new.self.services c.args.hosts.now.book c.user_at.new.self.book c.user_at.result
+    sits.1.0 (c.user_at.ensures.done c.args.host sits.0 (services_of c.args.host c.args.hosts.now.services) sits.1.0 sits.1.1) c.user_at.ensures.kept

@@ -8,4 +8,4 @@ pub returns-then-is_among : goal.returns-then-is_among
 returns-then-is_among g c =
     let calls : Calls g.row.C.Denot = shown g.C.Carrier.calls in
     says_strange calls c.args.strangers.now c.args.carrier.now c.go_out-done.new.carrier c.args.hosts.now c.go_out-done.new.hosts c.go_out-done.result c.answer_of.result c.answer_of.ensures c.args.message
-    (if has_seat c.args.message.flow.source c.args.hosts.now.seats.items then HasProgram else World (Carrier fault.NoSuch)) (search rules) c.go_out-done.ensures
+    (if has_seat c.args.message.flow.source c.args.hosts.now.seats then HasProgram else World (Carrier fault.NoSuch)) (search rules) c.go_out-done.ensures

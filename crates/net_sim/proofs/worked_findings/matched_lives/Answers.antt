@@ -1,4 +1,4 @@
-use Rattle.net_sim.proofs.Common.{◌≡◌, true, false, List, [], ◌∷◌, Some, refl, ap, ◌∙◌, arith, Crossing, Life}
+use Rattle.net_sim.proofs.Common.{◌≡◌, true, false, List, [], ◌∷◌, refl, ap, ◌∙◌, arith, Crossing, Life}
 use Rattle.net_sim.proofs.Common.{AreUnmatched, Match, receives, crossings, giver, taker}
 use Rattle.std.proofs.lemmas.Option.{same_Some}
 use Rattle.net_sim.specs.Findings.{WithMatch}

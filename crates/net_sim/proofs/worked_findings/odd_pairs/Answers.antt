@@ -1,4 +1,4 @@
-use Rattle.net_sim.proofs.Common.{◌≡◌, [], ◌∷◌, Some, refl, subst, arith, Life, SafePartners, AreAtPeace}
+use Rattle.net_sim.proofs.Common.{[], ◌∷◌, refl, subst, arith, Life, SafePartners, AreAtPeace}
 use Rattle.net_sim.proofs.Common.{crossings, giver, taker}
 use Rattle.std.proofs.lemmas.Option.{same_Some}
 use Rattle.net_sim.specs.Findings.{ShowsTwo}

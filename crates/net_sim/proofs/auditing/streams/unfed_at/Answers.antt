@@ -1,7 +1,7 @@
 use Rattle.std.proofs.Common.{reverse, sym, ◌∙◌}
 use Rattle.std.specs.List.{slice_get}
 use Rattle.net_sim.specs.Inside.Audit.{handed_at, is_fed}
-use Rattle.net_sim.proofs.Audits.Elements.{and_false, and_gone}
+use Rattle.std.proofs.lemmas.Bool.{and_left, and_right}
 use Rattle.net_sim.proofs.Audits.Streams.{fed_more, fed_stops}
 use Rattle.net_sim.proofs.auditing.streams.unfed_at.Goals.{then-not-is_fed-via-then-not-is_fed, then-not-is_fed-via-else-not-is_fed+then-not-is_handed_at}
 use Rattle.net_sim.proofs.auditing.streams.unfed_at.Goals as goal
@@ -12,8 +12,8 @@ returns-then-not-is_fed c =
     let handed = handed_at c.index-lives-place.result (slice_get c.args.handed.now c.loop-place.place) in
     fed_stops (reverse c.args.log.now) c.args.lives.now c.args.handed.now c.loop-place.place c.index-lives-place.result c.loop-place-test.true c.index-lives-place.is
     (elim c.then-not-is_fed.branch [
-      | then-not-is_fed-via-then-not-is_fed w ↦ and_gone fed handed (sym c.is_fed.ensures ∙ w.if-not-is_fed.true)
-      | then-not-is_fed-via-else-not-is_fed+then-not-is_handed_at w ↦ and_false fed handed (sym w.is_handed_at.ensures ∙ w.if-not-is_handed_at.true)
+      | then-not-is_fed-via-then-not-is_fed w ↦ and_left fed handed (sym c.is_fed.ensures ∙ w.if-not-is_fed.true)
+      | then-not-is_fed-via-else-not-is_fed+then-not-is_handed_at w ↦ and_right fed handed (sym w.is_handed_at.ensures ∙ w.if-not-is_handed_at.true)
     ])
     c.loop-place.invariant
 

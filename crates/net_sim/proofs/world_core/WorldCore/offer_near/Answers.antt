@@ -1,31 +1,17 @@
-use Rattle.net_sim.proofs.Common.{rules, ◌≡◌, List, sym, subst, ap, ◌∙◌, shown, AreLive, IsOnce, world_ended, hosts_of, hosts_served, running, runs_out, EventGives, ServiceSeat, Seat, Offer, Calls}
+use Rattle.net_sim.proofs.Common.{rules, ◌≡◌, shown, world_ended, running, runs_out, EventGives, Offer, Calls}
 use Rattle.net_sim.specs.Inside.Core.{IsSomeWorld}
-use Rattle.net_sim.proofs.Books.SomeWorld.{core_live, core_once, core_order, followed_some}
+use Rattle.net_sim.proofs.Books.SomeWorld.{core_live, followed_some}
 use Rattle.net_sim.proofs.world_core.WorldCore.offer_near.Goals as goal
 
-pub offer-sent-requires-clause-once : goal.offer-sent-requires-clause-once
-offer-sent-requires-clause-once g c =
-    let some : IsSomeWorld g.C.Carrier.calls.seen c.args.self.now = search rules in
-    let seats : c.self.inside.hosts.seats.items ≡ c.args.self.now.seats = search rules in
-    subst (λ (s : List Seat). IsOnce (hosts_of s)) (sym seats) (core_once g.C.Carrier.calls.seen c.args.self.now some (search rules))
-
-pub offer-sent-requires-clause-live : goal.offer-sent-requires-clause-live
-offer-sent-requires-clause-live g c =
-    let some : IsSomeWorld g.C.Carrier.calls.seen c.args.self.now = search rules in
-    let seats : c.self.inside.hosts.seats.items ≡ c.args.self.now.seats = search rules in
-    subst AreLive (sym seats) (core_live g.C.Carrier.calls.seen c.args.self.now some (search rules))
-
-pub offer-sent-requires-clause-order : goal.offer-sent-requires-clause-order
-offer-sent-requires-clause-order g c =
-    let some : IsSomeWorld g.C.Carrier.calls.seen c.args.self.now = search rules in
-    let seats : c.self.inside.hosts.seats.items ≡ c.args.self.now.seats = search rules in
-    let services : c.self.inside.hosts.services.items ≡ c.args.self.now.services = search rules in
-    ap (λ (s : List ServiceSeat). hosts_served s) services ∙ core_order g.C.Carrier.calls.seen c.args.self.now some (search rules) ∙ ap (λ (s : List Seat). hosts_of s) (sym seats)
+pub offer-sent-requires : goal.offer-sent-requires
+offer-sent-requires g c = record {
+  live = core_live g.C.Carrier.calls.seen c.args.self.now (search rules) (search rules) c.self.inside.hosts.seats (search rules);
+}
 
 pub invariant_of-self : goal.invariant_of-self
 invariant_of-self g c =
     let calls : Calls g.row.C.Denot = g.C.Carrier.calls in
     let some : IsSomeWorld g.C.Carrier.calls.seen c.args.self.now = search rules in
     let stop : c.runs_out-self-inside.result ≡ runs_out c.offer-sent.result = search rules in
-    let gives : EventGives (shown calls) (running c.args.self.now.carrier c.args.self.now.seats c.args.self.now.services c.args.self.now.kept) (Offer c.args.host) c.offer-sent.result (world_ended c.offer-sent.new.carrier c.offer-sent.new.hosts.seats.items c.offer-sent.new.hosts.services.items c.offer-sent.new.hosts.book c.offer-sent.result) = search rules in
-    rw stop (followed_some calls (Offer c.args.host) c.args.self.now c.offer-sent.new.carrier c.offer-sent.new.hosts.seats.items c.offer-sent.new.hosts.services.items c.offer-sent.new.hosts.book c.offer-sent.result some tt (search rules) gives c.log.ensures.run)
+    let gives : EventGives (shown calls) (running c.args.self.now.carrier c.args.self.now.seats c.args.self.now.services c.args.self.now.kept) (Offer c.args.host) c.offer-sent.result (world_ended c.offer-sent.new.carrier c.offer-sent.new.hosts.seats c.offer-sent.new.hosts.services c.offer-sent.new.hosts.book c.offer-sent.result) = search rules in
+    rw stop (followed_some calls (Offer c.args.host) c.args.self.now c.offer-sent.new.carrier c.offer-sent.new.hosts.seats c.offer-sent.new.hosts.services c.offer-sent.new.hosts.book c.offer-sent.result some tt (search rules) gives c.log.ensures.run)

@@ -1,47 +1,29 @@
-use Rattle.net_sim.proofs.Common.{rules, ◌≡◌, List, sym, subst, ap, ◌∙◌, shown, AreLive, IsOnce, hosts_of, hosts_served, ServiceSeat, Seat, Calls}
-use Rattle.net_sim.specs.Inside.Core.{IsSomeWorld}
+use Rattle.net_sim.proofs.Common.{rules, ◌≡◌, shown, Calls}
 use Rattle.net_sim.specs.Inside.Mixed.{mixed_runs_out, mixed_with}
 use Rattle.net_sim.specs.MixedWorlds.{MixedEventGives, MixedState}
 use Rattle.net_sim.proofs.Books.HeldMixed.{followed_mixed, mixed_ended, on_now}
-use Rattle.net_sim.proofs.Books.SomeWorld.{among_some, core_live, core_once, core_order}
+use Rattle.net_sim.proofs.Books.SomeWorld.{among_some, core_live}
 use Rattle.net_sim.proofs.world_core.WorldCore.step_among.Goals as goal
 
-pub follow_mixed-done-requires-clause-once : goal.follow_mixed-done-requires-clause-once
-follow_mixed-done-requires-clause-once g c =
-    let some : IsSomeWorld g.C.Carrier.calls.seen c.args.self.now = search rules in
-    let seats : c.self.inside.hosts.seats.items ≡ c.args.self.now.seats = search rules in
-    subst (λ (s : List Seat). IsOnce (hosts_of s)) (sym seats)
-    (core_once g.C.Carrier.calls.seen c.args.self.now some (search rules))
-
-pub follow_mixed-done-requires-clause-live : goal.follow_mixed-done-requires-clause-live
-follow_mixed-done-requires-clause-live g c =
-    let some : IsSomeWorld g.C.Carrier.calls.seen c.args.self.now = search rules in
-    let seats : c.self.inside.hosts.seats.items ≡ c.args.self.now.seats = search rules in
-    subst AreLive (sym seats) (core_live g.C.Carrier.calls.seen c.args.self.now some (search rules))
-
-pub follow_mixed-done-requires-clause-order : goal.follow_mixed-done-requires-clause-order
-follow_mixed-done-requires-clause-order g c =
-    let some : IsSomeWorld g.C.Carrier.calls.seen c.args.self.now = search rules in
-    let seats : c.self.inside.hosts.seats.items ≡ c.args.self.now.seats = search rules in
-    let services : c.self.inside.hosts.services.items ≡ c.args.self.now.services = search rules in
-    ap (λ (s : List ServiceSeat). hosts_served s) services
-    ∙ core_order g.C.Carrier.calls.seen c.args.self.now some (search rules)
-    ∙ ap (λ (s : List Seat). hosts_of s) (sym seats)
+pub follow_mixed-done-requires : goal.follow_mixed-done-requires
+follow_mixed-done-requires g c = record {
+  live = core_live g.C.Carrier.calls.seen c.args.self.now (search rules) (search rules) c.self.inside.hosts.seats (search rules);
+}
 
 pub invariant_of-self : goal.invariant_of-self
 invariant_of-self g c =
     let calls : Calls g.row.C.Denot = g.C.Carrier.calls in
     let old : MixedState g.row.C.Denot = mixed_with c.args.self.now c.args.strangers.now in
-    let new : MixedState g.row.C.Denot = mixed_ended c.follow_mixed-done.new.carrier c.follow_mixed-done.new.hosts.seats.items c.follow_mixed-done.new.hosts.services.items c.follow_mixed-done.new.hosts.book c.args.strangers.now c.follow_mixed-done.result in
+    let new : MixedState g.row.C.Denot = mixed_ended c.follow_mixed-done.new.carrier c.follow_mixed-done.new.hosts.seats c.follow_mixed-done.new.hosts.services c.follow_mixed-done.new.hosts.book c.args.strangers.now c.follow_mixed-done.result in
     let stop : c.runs_out_mixed-self-inside.result ≡ mixed_runs_out c.follow_mixed-done.result = search rules in
     let gives : MixedEventGives (shown calls) (on_now old) c.args.event c.follow_mixed-done.result new = search rules in
-    rw stop (among_some calls.seen new (followed_mixed calls c.args.event old c.follow_mixed-done.new.carrier c.follow_mixed-done.new.hosts.seats.items c.follow_mixed-done.new.hosts.services.items c.follow_mixed-done.new.hosts.book c.follow_mixed-done.result c.requires c.is_named_mixed.ensures (search rules) gives c.log.ensures.run))
+    rw stop (among_some calls.seen new (followed_mixed calls c.args.event old c.follow_mixed-done.new.carrier c.follow_mixed-done.new.hosts.seats c.follow_mixed-done.new.hosts.services c.follow_mixed-done.new.hosts.book c.follow_mixed-done.result c.requires c.is_named_mixed.ensures (search rules) gives c.log.ensures.run))
 
 pub returns-clause-held : goal.returns-clause-held
 returns-clause-held g c =
     let calls : Calls g.row.C.Denot = g.C.Carrier.calls in
     let old : MixedState g.row.C.Denot = mixed_with c.args.self.now c.args.strangers.now in
-    let new : MixedState g.row.C.Denot = mixed_ended c.follow_mixed-done.new.carrier c.follow_mixed-done.new.hosts.seats.items c.follow_mixed-done.new.hosts.services.items c.follow_mixed-done.new.hosts.book c.args.strangers.now c.follow_mixed-done.result in
+    let new : MixedState g.row.C.Denot = mixed_ended c.follow_mixed-done.new.carrier c.follow_mixed-done.new.hosts.seats c.follow_mixed-done.new.hosts.services c.follow_mixed-done.new.hosts.book c.args.strangers.now c.follow_mixed-done.result in
     let stop : c.runs_out_mixed-self-inside.result ≡ mixed_runs_out c.follow_mixed-done.result = search rules in
     let gives : MixedEventGives (shown calls) (on_now old) c.args.event c.follow_mixed-done.result new = search rules in
-    rw stop (followed_mixed calls c.args.event old c.follow_mixed-done.new.carrier c.follow_mixed-done.new.hosts.seats.items c.follow_mixed-done.new.hosts.services.items c.follow_mixed-done.new.hosts.book c.follow_mixed-done.result c.requires c.is_named_mixed.ensures (search rules) gives c.log.ensures.run)
+    rw stop (followed_mixed calls c.args.event old c.follow_mixed-done.new.carrier c.follow_mixed-done.new.hosts.seats c.follow_mixed-done.new.hosts.services c.follow_mixed-done.new.hosts.book c.follow_mixed-done.result c.requires c.is_named_mixed.ensures (search rules) gives c.log.ensures.run)

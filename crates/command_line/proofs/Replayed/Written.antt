@@ -1,15 +1,20 @@
 -- A replay over the carrier of a topology continues, and ends.
-use Rattle.command_line.proofs.Common.{◌≡◌, ◌⊎◌, inl, inr, ℕ, Bool, List, [], ◌++◌, Option, Some, None, Result, IfSome, OnOk, codes, ap, sym, subst, ◌∙◌, Appends, Keeps, KeepsPromise, IsRun, SafeMessages, shown, WorldState, opening_world, Life, Writes, crossings_of, output, Calls, Detail, on_ok, RawEvent, TopologyFields, CarrierKind, WorldEvent, IsInput, LogsOn, LogsOver, Ran, RanInPart, ReplaysInput, ReplaysOn, ReplaysOver, ShowsBook, ShowsFrom, StopsFrom, StopsInput, WorldShowsFrom, WorldStopsFrom, book_text, ScriptFault}
+use Rattle.command_line.proofs.Common.{◌≡◌, ◌⊎◌, inl, inr, ℕ, Bool, List, [], ◌++◌, Option, Result, OnOk, codes, ap}
+use Rattle.command_line.proofs.Common.{sym, subst, ◌∙◌, Appends, Keeps, KeepsPromise, IsRun, SafeMessages, shown}
+use Rattle.command_line.proofs.Common.{WorldState, opening_world, Life, Writes, crossings_of, output, Calls, Detail}
+use Rattle.command_line.proofs.Common.{RawEvent, TopologyFields, CarrierKind, WorldEvent, LogsOn, LogsOver, ReplaysOn}
+use Rattle.command_line.proofs.Common.{ReplaysOver, ShowsBook, ShowsFrom, StopsFrom, WorldShowsFrom, WorldStopsFrom}
+use Rattle.command_line.proofs.Common.{book_text, appends_more, WritesWorld}
 use Rattle.std.proofs.Common.{reverse}
 use Rattle.std.proofs.lemmas.List.{append-nil}
-use Rattle.net_sim.specs.Book.{opening_kept}
+use Rattle.net_sim.specs.Book.{Kept, opening_kept}
 use Rattle.replay.specs.Replay.{EndsIn, Replays, StopsIn}
-use Rattle.replay.proofs.lemmas.{appends_more, replays_show, stops_show}
+use Rattle.replay.proofs.lemmas.{replays_show, stops_show}
 use Rattle.world_replay.specs.Output as lines
 use Rattle.world_replay.specs.Replay as worlds
-use Rattle.world_replay.proofs.lemmas.Replays as world
+use Rattle.world_replay.proofs.lemmas.Gained as world
 use Rattle.command_line.specs.Events.{Asked}
-use Rattle.command_line.specs.Replayed.{EndsOn, EndsOver, WritesAll, WritesWorld}
+use Rattle.command_line.specs.Replayed.{EndsOn, EndsOver, WritesAll}
 
 -- ---- without host programs
 
@@ -46,7 +51,7 @@ writes_part calls opening last events detail a b empty h safe run = record {
 -- ---- with host programs
 
 -- what a book has gained since its opening is all that it has
-shows_book : {C : Type 0} (last : WorldState C) (shows : List lines.Shown) → world.HaveGains opening_kept last.kept shows → ShowsBook last.kept.book shows
+pub shows_book : (last : Kept) (shows : List lines.Shown) → world.HaveGains opening_kept last shows → ShowsBook last.book shows
 shows_book last shows h = record { crossed = h.crossed ∙ append-nil (reverse (lines.crossings_of shows)); told = h.told; said = h.said }
 
 pub world_writes_all : {C : Type 0} (calls : Calls C) (carrier : C) (opening last : WorldState C) (events : List WorldEvent) (lives : List Life) (book : Bool) (detail : Detail) (a b c : Option (List ℕ)) → opening ≡ opening_world (shown calls) carrier
@@ -61,7 +66,7 @@ world_writes_all {C} calls carrier opening last events lives book detail a b c i
       shows = record {
         last = last;
         replayed = from;
-        booked = shows_book last h.shown (world.replays_show (shown calls) (opening_world (shown calls) carrier) events last h.shown from);
+        booked = shows_book last.kept h.shown (world.replays_show (worlds.world_kind (shown calls)) world.refusal_gained (opening_world (shown calls) carrier) events last h.shown from);
         left = left;
         promise = promise;
       };
@@ -79,7 +84,7 @@ world_writes_part {C} calls carrier opening last events detail a b is h promise 
       is_shown = record {
         last = last;
         stopped = from;
-        booked = shows_book last h.shown (world.stops_show (shown calls) (opening_world (shown calls) carrier) events last h.shown from);
+        booked = shows_book last.kept h.shown (world.stops_show (worlds.world_kind (shown calls)) world.refusal_gained (opening_world (shown calls) carrier) events last h.shown from);
         promise = promise;
       };
       written = h.written;
@@ -96,29 +101,3 @@ over_all carrier network book detail events a b r is h = subst (λ (k : CarrierK
 
 pub logged_over : {A E : Type 0} (carrier : CarrierKind) (network : TopologyFields) (events : Asked) (a b : Option (List ℕ)) (r : Result A E) → network.carrier ≡ carrier → OnOk r (LogsOver carrier network events a b) → OnOk r (LogsOn network events a b)
 logged_over carrier network events a b r is h = subst (λ (k : CarrierKind). OnOk r (LogsOver k network events a b)) (sym is) h
-
--- ---- of known octets
-
-by_known : (known : Option (List ℕ)) (octets : List ℕ) (network : TopologyFields) (book : Bool) (detail : Detail) (events : Asked) (a b : Option (List ℕ)) → IfSome known (λ k. octets ≡ k) → IsInput octets network events → ReplaysOn network book detail events a b
-    → IfSome known (λ k. ReplaysInput book detail k a b)
-by_known None octets network book detail events a b same read h = tt
-by_known (Some k) octets network book detail events a b same read h = record { network = network; events = events; input = subst (λ o. IsInput o network events) same read; replayed = h }
-
-pub known_replayed : (known : Option (List ℕ)) (octets : List ℕ) (network : TopologyFields) (book : Bool) (detail : Detail) (events : Asked) (r : Result (Unit {0}) ScriptFault) (a b : Option (List ℕ)) → IfSome known (λ k. octets ≡ k)
-    → IsInput octets network events → OnOk r (ReplaysOn network book detail events a b) → OnOk r (IfSome known (λ k. ReplaysInput book detail k a b))
-known_replayed known octets network book detail events r a b same read h = on_ok r (by_known known octets network book detail events a b same read) h
-
-pub known_stopped : (known : Option (List ℕ)) (octets : List ℕ) (network : TopologyFields) (detail : Detail) (events : Asked) (a b : Option (List ℕ)) → IfSome known (λ k. octets ≡ k) → IsInput octets network events
-    → (Keeps a b ⊎ EndsOn network detail events a b) → IfSome known (λ k. Keeps a b ⊎ StopsInput detail k a b)
-known_stopped None octets network detail events a b same read h = tt
-known_stopped (Some k) octets network detail events a b same read (inl kept) = inl kept
-known_stopped (Some k) octets network detail events a b same read (inr h) = inr (record { network = network; events = events; input = subst (λ o. IsInput o network events) same read; stopped = h })
-
--- ---- of any octets
-
-pub ran : (network : TopologyFields) (book : Bool) (detail : Detail) (events : Asked) (a b : Option (List ℕ)) → ReplaysOn network book detail events a b → Ran book detail a b
-ran network book detail events a b h = record { network = network; events = events; replayed = h }
-
-pub ran_in_part : (network : TopologyFields) (detail : Detail) (events : Asked) (a b : Option (List ℕ)) → (Keeps a b ⊎ EndsOn network detail events a b) → Keeps a b ⊎ RanInPart detail a b
-ran_in_part network detail events a b (inl kept) = inl kept
-ran_in_part network detail events a b (inr h) = inr (record { network = network; events = events; stopped = h })

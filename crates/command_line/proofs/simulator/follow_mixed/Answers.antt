@@ -1,0 +1,33 @@
+use Rattle.std.proofs.Common.{◌≡◌, Err, rules}
+use Rattle.command_line.proofs.Replayed.Either.{mixed_read, mixed_replayed, mixed_stopped}
+use Rattle.command_line.proofs.Faults.{unwritten, write_fault}
+use Rattle.command_line.proofs.simulator.follow_mixed.Goals as goal
+
+pub returns-clause-read : goal.returns-clause-read
+returns-clause-read g c = mixed_read c.args.octets.now c.replay_mixed_on.result
+    (c.in_ok-network.field-0.network, c.in_ok-network.field-0.events.items, c.in_ok-network.ensures.read)
+    c.replay_mixed_on.ensures.fault
+
+pub returns-clause-replayed : goal.returns-clause-replayed
+returns-clause-replayed g c = λ off.
+    mixed_replayed c.args.octets.now c.in_ok-network.field-0.network c.in_ok-network.field-0.events.items c.args.book
+    c.args.detail c.replay_mixed_on.result
+    (g.W.Output.contents c.args.writer.now) (g.W.Output.contents c.replay_mixed_on.new.writer)
+    c.in_ok-network.ensures.read c.replay_mixed_on.ensures.replayed
+
+pub returns-clause-stopped : goal.returns-clause-stopped
+returns-clause-stopped g c = λ e.
+    mixed_stopped c.args.octets.now c.in_ok-network.field-0.network c.in_ok-network.field-0.events.items c.args.detail
+    (g.W.Output.contents c.args.writer.now) (g.W.Output.contents c.replay_mixed_on.new.writer)
+    c.in_ok-network.ensures.read (c.replay_mixed_on.ensures.stopped e)
+
+pub returns-then-check-clause-read : goal.returns-then-check-clause-read
+returns-then-check-clause-read g c = mixed_read c.args.octets.now c.write_ok.result
+    (c.in_ok-network.field-0.network, c.in_ok-network.field-0.events.items, c.in_ok-network.ensures.read)
+    (write_fault c.write_ok.result c.write_ok.ensures.fault)
+
+pub returns-in_err-network-clause-failed : goal.returns-in_err-network-clause-failed
+returns-in_err-network-clause-failed g c =
+    let same : c.from_residual.result ≡ Err c.in_err-network.field-0.0 = search rules in
+    unwritten c.from_residual.result c.in_err-network.field-0.0 (g.W.Output.failed c.args.writer.now) same
+    c.in_err-network.ensures.read_only c.requires.writes

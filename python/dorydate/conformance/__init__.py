@@ -1,0 +1,14 @@
+"""Dialogues with a host's program that somebody else wrote, and what a right one may answer in each.
+
+    python -m dorydate.conformance python3 examples/ncp.py
+
+The program runs on a stranger's host of a proved subnet, beside a host with the proved program and a second stranger,
+and hears and answers lines (dorydate.coupling). What is right is what docs/hosts.md says; where the Host/Host Protocol
+leaves a program free, as to answer an error or to be silent, either is.
+"""
+
+from dorydate.conformance.dialogues import DIALOGUES
+from dorydate.conformance.steps import Dialogue, Step
+from dorydate.conformance.trial import Finding, Trial, tried
+
+__all__ = ["DIALOGUES", "Dialogue", "Finding", "Step", "Trial", "tried"]
