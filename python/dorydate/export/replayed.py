@@ -96,9 +96,10 @@ class Replayed:
 
 
 def replayed(script: Script, program: Program | None = None, with_trace: bool = False) -> Replayed:
-    """The replay of a script. What crossed is worded as in the log, which keeps `nottaken` apart from `incomplete`."""
+    """The replay of a script. What crossed is worded as in the log, which keeps `nottaken` apart from `incomplete`; in a
+    network with strangers, which has no log yet, as it is printed."""
     program = program or found()
-    log = output(program, script, "--log")
+    log = output(program, script, "--texts" if script.network.strangers() else "--log")
     crossings = iter([it for it in log if it.split(" ")[0] in CROSSINGS])
     events = []
     for second, (entry, printed) in enumerate(zip(script.entries, attributed(program, script.network, script.events))):
@@ -112,6 +113,8 @@ def replayed(script: Script, program: Program | None = None, with_trace: bool = 
 
 def traced(program: Program, script: Script) -> str:
     """The trace of a script, empty where the program has none of such a network."""
+    if script.network.strangers():
+        return ""
     ran = program.run(script.octets(), "--trace")
     if ran.status and "no trace" not in ran.said:
         raise Stopped(f"the program says: {ran.said.strip()} (status {ran.status})")
