@@ -6,13 +6,12 @@ import os
 import sys
 from collections.abc import Callable
 from importlib import import_module
-from pathlib import Path
 
 from dorydate import ending
 from dorydate.by_node import ByNode
 from dorydate.program import NoProgram
 from dorydate.released import PAGE, is_released, note, octets_of
-from dorydate.where import ROOT, found, repository
+from dorydate.where import ROOT, examples_folder, found
 
 LONGER = {it: f"dorydate.{it}.command" for it in ("conformance", "explain", "explore", "export")}  # each has a `main`
 USAGE = """usage: dorydate explain [--chart | --page | --audit | --expect ..] < INPUT   says what each line does, and why
@@ -28,11 +27,6 @@ USAGE = """usage: dorydate explain [--chart | --page | --audit | --expect ..] < 
 
 class Refused(Exception):
     """Why a command does nothing."""
-
-
-def examples_folder() -> Path:
-    """Where the examples are: in the clone, or in the package."""
-    return ROOT / "examples" if repository() else Path(__file__).with_name("examples")
 
 
 def examples(words: list[str]) -> None:

@@ -26,6 +26,11 @@ def repository() -> Path | None:
     return ROOT if (ROOT / "tools" / "program").is_file() else None
 
 
+def examples_folder() -> Path:
+    """Where the examples are: in the clone, or in the package."""
+    return ROOT / "examples" if repository() else Path(__file__).with_name("examples")
+
+
 def command(name: str) -> str:
     """How a command of this project is called here: in a clone `./explain`, and where pip installed it `dorydate explain`."""
     if repository():

@@ -50,6 +50,11 @@ def examples() -> Files:
     return {it: (read_octets(f"{ROOT}/examples/{it}"), 0o644) for it in names}
 
 
+def programs() -> Files:
+    """The programs of hosts among the examples, which the tutorial runs."""
+    return {it: (read_octets(f"{ROOT}/examples/{it}"), 0o644) for it in sorted(os.listdir(f"{ROOT}/examples")) if it.endswith(".py")}
+
+
 def below(folder: str, files: Files) -> Files:
     return {f"{folder}/{path}": it for path, it in files.items()}
 
@@ -95,7 +100,7 @@ def wheel(release: Release, folder: str) -> str:
             for name in names:
                 os.chmod(f"{place}/{name}", 0o644)
         write(f"{room}/dorydate/release", {**of_module(release), "arpasim": (release.native, 0o755)})
-        write(f"{room}/dorydate/examples", examples())
+        write(f"{room}/dorydate/examples", {**examples(), **programs()})
         write(room, licences())
         build = "import sys; from setuptools import build_meta; build_meta.build_wheel(sys.argv[1])"
         env = {**os.environ, "SOURCE_DATE_EPOCH": str(EPOCH), "PYTHONDONTWRITEBYTECODE": "1"}
