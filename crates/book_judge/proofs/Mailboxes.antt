@@ -5,6 +5,7 @@ use Rattle.std.proofs.Common.{nat_le, slice_get}
 use Rattle.std.proofs.Math.Seq.{get_or-append_seam}
 use Rattle.std.proofs.lemmas.Bool.Decides.{leb_tells}
 use Rattle.std.specs.FinMap as fin
+use Rattle.std.proofs.lemmas.Bool.{or_right, not_from_false}
 use Rattle.interface.specs.Mailboxes.{Box, Waiting, Taken, WaitsWith, fetched, box_of, is_up, up_after_crossing, IsRun}
 use Rattle.interface.specs.declared.crossing.Answer.TheVariants as answer
 use Rattle.interface.specs.declared.crossing.Crossing.TheVariants as crossing
@@ -78,10 +79,6 @@ hosts_of (c ∷ log) = host_of c ∷ hosts_of log
 abbrev AreHosts : List Host → List Crossing → Type 0
 AreHosts hosts [] = Unit {0}
 AreHosts hosts (c ∷ log) = (is_host hosts (host_of c) ≡ true) × AreHosts hosts log
-
-or_right : (a b : Bool) → b ≡ true → (a || b) ≡ true
-or_right true b e = refl
-or_right false b e = e
 
 one_more : (h : Host) (hosts : List Host) (log : List Crossing) → AreHosts hosts log → AreHosts (h ∷ hosts) log
 one_more h hosts [] a = tt
@@ -411,10 +408,6 @@ waits_tells whole text (Taken place kept) out = (λ u. absurd (cc), λ e. absurd
 boxed : (test : Held → Bool) (P : Type 0) (h : Held) (box : Box) → h ≡ noted box → Tells (test (noted box)) P → Tells (test h) P
 boxed test P h box e t = let F : Held → Type 0 = λ x. Tells (test x) P in subst F (sym e) t
 
-is_false : (b : Bool) → b ≡ false → not b ≡ true
-is_false true e = absurd (cc)
-is_false false e = refl
-
 is_not : (b : Bool) → not b ≡ true → b ≡ false
 is_not true e = absurd (cc)
 is_not false e = refl
@@ -431,7 +424,7 @@ finds_tells s whole log rest w a (crossing.Answer kind f) =
     and_tells (tests.is_up s f.source) (is_on f.source log) (tests.fits_answer kind (held_in s f)) (Fits kind (box_of f log)) (a.up f.source)
     (boxed (λ x. tests.fits_answer kind x) (Fits kind (box_of f log)) (held_in s f) (box_of f log) (a.box f) (fits_tells kind (box_of f log)))
 finds_tells s whole log rest w a (crossing.Down h) = (λ u. sym (a.up h) ∙ u, λ e. a.up h ∙ e)
-finds_tells s whole log rest w a (crossing.Up h) = (λ u. sym (a.up h) ∙ is_not (tests.is_up s h) u, λ e. is_false (tests.is_up s h) (a.up h ∙ e))
+finds_tells s whole log rest w a (crossing.Up h) = (λ u. sym (a.up h) ∙ is_not (tests.is_up s h) u, λ e. not_from_false (tests.is_up s h) (a.up h ∙ e))
 
 -- ---- the search
 

@@ -4,7 +4,7 @@ use Rattle.std.specs.List.{list_any, remove}
 use Rattle.std.specs.Ordering.{nat_cmp, is_eq}
 use Rattle.std.specs.declared.cmp.Ordering.{Ordering}
 use Rattle.std.specs.declared.cmp.Ordering.TheVariants.{Less, Equal, Greater}
-use Rattle.std.proofs.lemmas.Bool.{eqb-true}
+use Rattle.std.proofs.lemmas.Bool.{eqb-true, not_from_false}
 use Rattle.host_pairs.specs.Entries.{changed_first, is_at}
 use Rattle.host_pairs.specs.Inside.Held.{none_but}
 use Rattle.host_pairs.specs.Inside.Index.{Ascend, AreFound, AreIndexed, AreKept, AscendFrom, end_key, key_of, number_in}
@@ -12,7 +12,7 @@ use Rattle.host_pairs.specs.declared.index.Places.{Places}
 use Rattle.host_pairs.specs.declared.index.Places.TheVariants as places
 use Rattle.host_pairs.specs.declared.entry.Entry.{Entry}
 use Rattle.host_pairs.specs.declared.index.Index.{Index}
-use Rattle.host_pairs.proofs.OpeningLemmas.{both, is_none}
+use Rattle.host_pairs.proofs.OpeningLemmas.{both}
 
 -- ---- numbers as a map compares them
 
@@ -110,7 +110,7 @@ only_at found own foreign n low next at d [] [] is lt read up h = refl
 only_at found own foreign n low next at d [] (e ∷ es) is lt read up h = absurd (h)
 only_at found own foreign n low next at d (m ∷ ns) [] is lt read up h = absurd (h)
 only_at found own foreign n low next zero d (m ∷ ns) (e ∷ es) is lt read up h =
-    is_none _ (later found own foreign n (suc m) next ns es is (omega (arith, read)) up.1 h.1)
+    not_from_false _ (later found own foreign n (suc m) next ns es is (omega (arith, read)) up.1 h.1)
 only_at found own foreign n low next (suc at) d (m ∷ ns) (e ∷ es) is lt read up h =
     let above : suc m ≤ slice_index_or ns at d = from_low (suc m) ns next at d up.1 (omega (arith, lt)) in
     let first : is_at own foreign e ≡ false = not_at own foreign e (λ same. absurd (let e : m ≡ n = some_is m n (sym h.0 ∙ ap found same ∙ is) in omega (arith, e, above, read))) in
@@ -119,7 +119,7 @@ only_at found own foreign n low next (suc at) d (m ∷ ns) (e ∷ es) is lt read
 -- ---- what the index answers
 
 pub nowhere : (x : Index) (own foreign : ℕ) (es : List Entry) → number_in x (key_of own foreign) ≡ None → AreIndexed x es → not (list_any (is_at own foreign) es) ≡ true
-nowhere x own foreign es none h = is_none _ (absent (number_in x) own foreign _ es none h.found)
+nowhere x own foreign es none h = not_from_false _ (absent (number_in x) own foreign _ es none h.found)
 
 pub only_there : (x : Index) (own foreign n at : ℕ) (es : List Entry) → number_in x (key_of own foreign) ≡ Some n → at < length x.numbers.items → slice_index_or x.numbers.items at 0 ≡ n → AreIndexed x es
     → none_but (is_at own foreign) at es ≡ true

@@ -1,4 +1,5 @@
 -- What goes out of a pair, and when it may.
+pub use Rattle.std.proofs.lemmas.Option.{same_Some as some_is}
 use Rattle.std.proofs.Common.{◌≡◌, ℕ, ◌*◌, ◌/◌, ◌<◌, ◌≤◌, ◌==◌, ◌&&◌, Bool, true, false, not, min, nat_lt, List, [], ◌∷◌, length, find, filter, Option, Some, None, is_some, refl, ap, sym, subst, ◌∙◌, arith, zero, suc}
 use Rattle.std.proofs.Math.Nat.{min-le_left, min-le_right, mul-div-le, mul-le-mul_left, zero-div}
 use Rattle.std.proofs.lemmas.Bool.{eqb-true, ltb-true}
@@ -120,9 +121,6 @@ pub on_its_link : (busy : List ℕ) (link : ℕ) (e : Entry) → (link_of e.link
 on_its_link busy link e = and_turned (link_of e.link == link) (may_send busy e)
 
 -- ---- data
-
-pub some_is : {A : Type 0} (x y : A) → Some x ≡ Some y → x ≡ y
-some_is x y e = cc
 
 find_step : {A : Type 0} (test : A → Bool) (x y : A) (ys : List A) → (b : Bool) → test y ≡ b → find test (y ∷ ys) ≡ Some x → (find test ys ≡ Some x → test x ≡ true) → test x ≡ true
 find_step {A} test x y ys true e h rest = let r : Some y ≡ Some x = rw e at h in sym (ap test (some_is y x r)) ∙ e

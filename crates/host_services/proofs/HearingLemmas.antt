@@ -1,6 +1,7 @@
 -- What does nothing to a service.
 use Rattle.std.proofs.Common.{◌≡◌, ℕ, ◌+◌, ◌==◌, ◌&&◌, ◌||◌, Bool, true, false, if◌then◌else◌, List, [], Option, Some, None, is_some, is_none, refl, ap, sym, ◌∙◌, arith}
 use Rattle.std.specs.Option.{option_or}
+use Rattle.std.proofs.lemmas.Bool.{or_parts}
 use Rattle.interface.specs.Host.{Host}
 use Rattle.host_pairs.specs.declared.notice.Notice.{Notice}
 use Rattle.host_pairs.specs.declared.notice.Notice.TheVariants as notice
@@ -23,10 +24,6 @@ use Rattle.host_services.specs.declared.hearing.Subject.TheVariants as subject
 use Rattle.host_services.specs.declared.service.Service.TheVariants as service
 
 -- ---- truth values
-
-pub neither : (a b : Bool) → (a || b) ≡ false → (a ≡ false) × (b ≡ false)
-neither true b e = absurd (cc)
-neither false b e = (refl, e)
 
 or_false : (b : Bool) → (b || false) ≡ b
 or_false true = refl
@@ -205,10 +202,10 @@ by_server n s d true both over is away = rw (server_over s n over) refl
 by_server n s d false true over is away = absurd (no_truth (sym (all_by (subject_of n)) ∙ away))
 by_server n s d false false over is away =
     let reset : (is_reset (subject_of n) ≡ false) × ((is_about s.listen (subject_of n) || (is_about s.receive (subject_of n) || is_about s.send (subject_of n))) ≡ false) =
-    neither (is_reset (subject_of n)) (is_about s.listen (subject_of n) || (is_about s.receive (subject_of n) || is_about s.send (subject_of n))) (sym (begins_by s.listen s.receive s.send (subject_of n)) ∙ away) in
+    or_parts (is_reset (subject_of n)) (is_about s.listen (subject_of n) || (is_about s.receive (subject_of n) || is_about s.send (subject_of n))) (sym (begins_by s.listen s.receive s.send (subject_of n)) ∙ away) in
     let listen : (is_about s.listen (subject_of n) ≡ false) × ((is_about s.receive (subject_of n) || is_about s.send (subject_of n)) ≡ false) =
-    neither (is_about s.listen (subject_of n)) (is_about s.receive (subject_of n) || is_about s.send (subject_of n)) reset.1 in
-    let ends : (is_about s.receive (subject_of n) ≡ false) × (is_about s.send (subject_of n) ≡ false) = neither (is_about s.receive (subject_of n)) (is_about s.send (subject_of n)) listen.1 in
+    or_parts (is_about s.listen (subject_of n)) (is_about s.receive (subject_of n) || is_about s.send (subject_of n)) reset.1 in
+    let ends : (is_about s.receive (subject_of n) ≡ false) × (is_about s.send (subject_of n) ≡ false) = or_parts (is_about s.receive (subject_of n)) (is_about s.send (subject_of n)) listen.1 in
     rw (server_passed s n over is reset.0 listen.0 ends.0 ends.1) refl
 
 by_user : (n : Notice) (s : UserState) (d : ServiceDeskState) (over both : Bool) → s.over ≡ over → (s.receiving && s.sending) ≡ both
@@ -217,18 +214,18 @@ by_user n s d true both over is away = rw (user_over s n over) refl
 by_user n s d false true over is away = absurd (no_truth (sym (all_by (subject_of n)) ∙ away))
 by_user n s d false false over is away =
     let reset : (is_reset (subject_of n) ≡ false) × ((is_about s.own (subject_of n) || (is_about s.receive (subject_of n) || is_about s.send (subject_of n))) ≡ false) =
-    neither (is_reset (subject_of n)) (is_about s.own (subject_of n) || (is_about s.receive (subject_of n) || is_about s.send (subject_of n))) (sym (begins_by s.own s.receive s.send (subject_of n)) ∙ away) in
+    or_parts (is_reset (subject_of n)) (is_about s.own (subject_of n) || (is_about s.receive (subject_of n) || is_about s.send (subject_of n))) (sym (begins_by s.own s.receive s.send (subject_of n)) ∙ away) in
     let own : (is_about s.own (subject_of n) ≡ false) × ((is_about s.receive (subject_of n) || is_about s.send (subject_of n)) ≡ false) =
-    neither (is_about s.own (subject_of n)) (is_about s.receive (subject_of n) || is_about s.send (subject_of n)) reset.1 in
-    let ends : (is_about s.receive (subject_of n) ≡ false) × (is_about s.send (subject_of n) ≡ false) = neither (is_about s.receive (subject_of n)) (is_about s.send (subject_of n)) own.1 in
+    or_parts (is_about s.own (subject_of n)) (is_about s.receive (subject_of n) || is_about s.send (subject_of n)) reset.1 in
+    let ends : (is_about s.receive (subject_of n) ≡ false) × (is_about s.send (subject_of n) ≡ false) = or_parts (is_about s.receive (subject_of n)) (is_about s.send (subject_of n)) own.1 in
     rw (user_passed s n over is reset.0 own.0 ends.0 ends.1) refl
 
 pub deaf : (n : Notice) (s : Service) (d : ServiceDeskState) → hears (ear_of s) (subject_of n) ≡ false → heard_by n s d ≡ (s, d)
 deaf n (service.Server s) d away = by_server n s d s.over (is_some s.receiving && is_some s.sending) refl refl away
 deaf n (service.User s) d away = by_user n s d s.over (s.receiving && s.sending) refl refl away
 deaf n (service.Echo s) d away =
-    let ends : (is_about s.receive (subject_of n) ≡ false) × (is_about s.send (subject_of n) ≡ false) = neither (is_about s.receive (subject_of n)) (is_about s.send (subject_of n)) (sym (ends_by s.receive s.send (subject_of n)) ∙ away) in
+    let ends : (is_about s.receive (subject_of n) ≡ false) × (is_about s.send (subject_of n) ≡ false) = or_parts (is_about s.receive (subject_of n)) (is_about s.send (subject_of n)) (sym (ends_by s.receive s.send (subject_of n)) ∙ away) in
     quiet_echo n s d (arrived_elsewhere s.receive n ends.0) (nothing_closed s.receive s.send n ends.0 ends.1)
 deaf n (service.Terminal s) d away =
-    let ends : (is_about s.receive (subject_of n) ≡ false) × (is_about s.send (subject_of n) ≡ false) = neither (is_about s.receive (subject_of n)) (is_about s.send (subject_of n)) (sym (ends_by s.receive s.send (subject_of n)) ∙ away) in
+    let ends : (is_about s.receive (subject_of n) ≡ false) × (is_about s.send (subject_of n) ≡ false) = or_parts (is_about s.receive (subject_of n)) (is_about s.send (subject_of n)) (sym (ends_by s.receive s.send (subject_of n)) ∙ away) in
     quiet_terminal n s d (arrived_elsewhere s.receive n ends.0) (nothing_closed s.receive s.send n ends.0 ends.1)

@@ -1,4 +1,6 @@
 -- Tests of hosts and flows, and chains of tests.
+pub use Rattle.std.proofs.lemmas.Bool.{or_parts as or_false}
+pub use Rattle.std.proofs.lemmas.Bool.{and_parts as and_true}
 use Rattle.std.proofs.Common.{arith, Bor, option_copied, slice_get, ◌≡◌, ℕ, Bool, true, false, not, ◌&&◌, ◌||◌, List, Option, Some, None, refl, ap, sym, subst, ◌∙◌, inl, inr, ◌⊎◌, ◌==◌, if◌then◌else◌, eq-eqb}
 use Rattle.std.proofs.lemmas.Bool.{eqb-true}
 use Rattle.std.proofs.lemmas.Option.{slice_get-get_or, slice_get_past}
@@ -17,18 +19,6 @@ guard false e rest h = (refl, h)
 pub not_false : (b : Bool) → not b ≡ false → b ≡ true
 not_false true h = refl
 not_false false h = absurd (cc)
-
-pub and_true : (a b : Bool) → (a && b) ≡ true → (a ≡ true) × (b ≡ true)
-and_true true b h = (refl, h)
-and_true false b h = absurd (cc)
-
-pub or_false : (a b : Bool) → (a || b) ≡ false → (a ≡ false) × (b ≡ false)
-or_false true b h = absurd (cc)
-or_false false b h = (refl, h)
-
-pub or_true : (a b : Bool) → (a || b) ≡ true → (a ≡ true) ⊎ (b ≡ true)
-or_true true b h = inl refl
-or_true false b h = inr h
 
 pub or_nothing : (a : Bool) → (a || false) ≡ a
 or_nothing true = refl

@@ -1,6 +1,7 @@
 -- Plain boxes rest while their map by flow is empty.
 use Rattle.std.proofs.Common.{◌≡◌, inl, inr, Bool, true, false, ◌||◌, List, [], ◌∷◌, Option, Some, None, is_some, Ok, Err, refl, ap, sym, ◌∙◌}
 use Rattle.std.specs.FinMap.{empty, get, get-empty}
+use Rattle.std.proofs.lemmas.Bool.{or_right, or_left}
 use Rattle.interface.specs.Host.{Host, is_host}
 use Rattle.interface.specs.Flow.{flow_cmp}
 use Rattle.interface.specs.Rest.{Rests, TakesNothing}
@@ -14,14 +15,6 @@ use Rattle.interface.specs.declared.message.HostMessage.{HostMessage}
 use Rattle.interface.proofs.lemmas.{same_flow-refl, same_host-true}
 use Rattle.leader1822.proofs.Waiting.{has_any}
 use Rattle.leader1822.proofs.Index.{some_pending}
-
-or_some : (a b : Bool) → a ≡ true → (a || b) ≡ true
-or_some true b e = refl
-or_some false b e = absurd (cc)
-
-or_last : (a b : Bool) → b ≡ true → (a || b) ≡ true
-or_last true b e = refl
-or_last false b e = e
 
 -- of a flow that isn't in the map nothing waits
 none_of : (c : Held) (f : Flow) → IsIndexed c → c.flows ≡ empty → (has_any (texts_for c.boxes f) || has_any (kinds_for c.boxes f)) ≡ true → ⊥
@@ -37,7 +30,7 @@ no_message c h (m ∷ q) i none to is =
     let there : f.destination ≡ h = sym (same_host-true h f.destination to.0) in
     let waits : has_any (texts_of f (m ∷ q)) ≡ true = rw (same_flow-refl f) refl in
     let text : has_any (texts_for c.boxes f) ≡ true = ap (λ (x : Host). has_any (texts_of f (for_host c.boxes.messages x))) there ∙ ap (λ (ms : List HostMessage). has_any (texts_of f ms)) is ∙ waits in
-    absurd (none_of c f i none (or_some (has_any (texts_for c.boxes f)) (has_any (kinds_for c.boxes f)) text))
+    absurd (none_of c f i none (or_left (has_any (texts_for c.boxes f)) (has_any (kinds_for c.boxes f)) text))
 
 no_answer : (c : Held) (h : Host) (q : List WaitingAnswer) → IsIndexed c → c.flows ≡ empty → AreToldTo h q → for_host c.boxes.answers h ≡ q → first_of_list q ≡ None
 no_answer c h [] i none to is = refl
@@ -46,7 +39,7 @@ no_answer c h (a ∷ q) i none to is =
     let there : f.source ≡ h = sym (same_host-true h f.source to.0) in
     let waits : has_any (kinds_of f (a ∷ q)) ≡ true = rw (same_flow-refl f) refl in
     let kind : has_any (kinds_for c.boxes f) ≡ true = ap (λ (x : Host). has_any (kinds_of f (for_host c.boxes.answers x))) there ∙ ap (λ (xs : List WaitingAnswer). has_any (kinds_of f xs)) is ∙ waits in
-    absurd (none_of c f i none (or_last (has_any (texts_for c.boxes f)) (has_any (kinds_for c.boxes f)) kind))
+    absurd (none_of c f i none (or_right (has_any (texts_for c.boxes f)) (has_any (kinds_for c.boxes f)) kind))
 
 -- where the map is empty, nothing waits for any host
 pub none_waits : (c : Held) (h : Host) → IsKept c → c.boxes.stopped ≡ false → c.flows ≡ empty → next_for c.boxes h ≡ None

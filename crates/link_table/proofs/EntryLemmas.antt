@@ -9,16 +9,13 @@ use Rattle.std.specs.Cmp.{eq_by_cmp_equiv}
 use Rattle.std.specs.FinMap.{entries, entries_sorted, get, get-entries, from_entries, from_sorted, get-from_entries, get-from_sorted, entries-from_sorted, same_map}
 use Rattle.std.specs.FinMap.Entries.{find, below_all, is_sorted}
 use Rattle.std.specs.Map.{keys_of}
+use Rattle.std.proofs.lemmas.Bool.{and_from}
 use Rattle.interface.specs.Host.{Host, same_host}
 use Rattle.interface.specs.declared.address.Flow.{Flow}
 use Rattle.link_table.specs.Keys.{flow_cmp}
 use Rattle.link_table.specs.Flows.{Sources, outstanding_in, has_outstanding, has_outstanding_to}
 use Rattle.link_table.specs.declared.source.Standing.{Standing}
 use Rattle.interface.proofs.lemmas.{exact_flows, flows_total, or_false}
-
-both : (a b : Bool) → a ≡ true → b ≡ true → (a && b) ≡ true
-both true b e f = f
-both false b e f = absurd (cc)
 
 first_of : (a b : Bool) → (a && b) ≡ true → a ≡ true
 first_of true b e = refl
@@ -32,12 +29,12 @@ second_of false b e = absurd (cc)
 
 rises : {V : Type 0} (f : Flow) (es : List (Flow × V)) → AllByRecursion (λ g. flow_cmp f g ≡ Less) (keys_of es) → below_all flow_cmp f es ≡ true
 rises f [] h = refl
-rises f (e ∷ es) h = both (is_lt (flow_cmp f e.0)) (below_all flow_cmp f es) (ap is_lt h.0) (rises f es h.1)
+rises f (e ∷ es) h = and_from (is_lt (flow_cmp f e.0)) (below_all flow_cmp f es) (ap is_lt h.0) (rises f es h.1)
 
 sorted_from : {V : Type 0} (es : List (Flow × V)) → IsStrictlySortedBy flow_cmp (keys_of es) → is_sorted flow_cmp es ≡ true
 unfolding IsStrictlySortedBy
 sorted_from [] h = refl
-sorted_from (e ∷ es) h = both (below_all flow_cmp e.0 es) (is_sorted flow_cmp es) (rises e.0 es h.0) (sorted_from es h.1)
+sorted_from (e ∷ es) h = and_from (below_all flow_cmp e.0 es) (is_sorted flow_cmp es) (rises e.0 es h.0) (sorted_from es h.1)
 
 known : (b : Bool) → T b → b ≡ true
 known true t = refl

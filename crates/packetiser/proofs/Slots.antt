@@ -8,7 +8,7 @@ use Rattle.std.proofs.lemmas.List.Elements.{All-cons, All-nil, All-head, All-tai
 use Rattle.std.proofs.lemmas.Grind.{flat_map-append}
 use Rattle.std.proofs.lemmas.List.Folds.{find_at}
 use Rattle.std.proofs.lemmas.List.Sums.{passes_at_first}
-use Rattle.std.proofs.lemmas.Option.{slice_get_read, same_Some}
+use Rattle.std.proofs.lemmas.Option.{slice_get_read, same_Some, none-some}
 use Rattle.interface.specs.Flow.{same_flow, flow_before}
 use Rattle.interface.proofs.lemmas.{flow_before_else, flow_before_trans, same_flow-true}
 use Rattle.interface.specs.declared.address.Flow.{Flow}
@@ -45,21 +45,18 @@ pub record IsAt {X : Type 0} (p : X → Bool) (xs : List X) (at : ℕ) : Type 0 
   pub within : at < length xs
   pub any : list_any p xs ≡ true
 
-pub none_some : {X : Type 0} (x : X) → None ≡ Some x → ⊥
-none_some x h = cc
-
 pub position_some : {X : Type 0} (p : X → Bool) (xs : List X) (at : ℕ) → position p xs ≡ Some at → IsAt p xs at
 position_some p xs at h = elim (cases_Bool (nat_lt (position_or_len p xs) (length xs))) [
   | inl e ↦ (
       let first : position_or_len p xs ≡ at = same_Some (position_or_len p xs) at (rw e at h) in
       let lt : position_or_len p xs < length xs = grind (arith, nat_tests, e) in
       record { first = first; within = omega arith; any = any_within p xs ∙ e })
-  | inr e ↦ absurd (none_some at (rw e at h))
+  | inr e ↦ absurd (none-some at (rw e at h))
 ]
 
 pub position_none : {X : Type 0} (p : X → Bool) (xs : List X) → position p xs ≡ None → list_any p xs ≡ false
 position_none p xs h = elim (cases_Bool (nat_lt (position_or_len p xs) (length xs))) [
-  | inl e ↦ absurd (none_some (position_or_len p xs) (sym (rw e at h)))
+  | inl e ↦ absurd (none-some (position_or_len p xs) (sym (rw e at h)))
   | inr e ↦ any_within p xs ∙ e
 ]
 

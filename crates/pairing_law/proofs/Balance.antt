@@ -1,6 +1,7 @@
 -- What one host said and heard of a connection, and its end of it: they fit one another. And what comes next from the peer fits
 -- the end.
 use Rattle.std.proofs.Common.{◌≡◌, ◌⊎◌, ℕ, ◌+◌, ◌<◌, ◌≤◌, Bool, true, false, not, ◌&&◌, ◌||◌, List, [], ◌∷◌, Option, Some, None, is_some, refl, ap, sym, subst, ◌∙◌, inl, inr, if◌then◌else◌, eq-or-lt_of_le, arith}
+use Rattle.std.proofs.lemmas.Bool.{and_parts}
 use Rattle.pairing_law.specs.Marks.{Mark, Ask, Close, closes, Asks, IsOlder}
 use Rattle.pairing_law.specs.Ends.{End, nothing, is_begun, MayGo, gone, fits, mark_taken}
 use Rattle.pairing_law.proofs.Words.{asks_said, closes_said, asks_before, Grows, asks_apart}
@@ -223,10 +224,6 @@ heard_last s t e b closed quiet =
     let heard : closes t + 1 ≡ b.now + 1 = (let h : closes t ≡ b.now + count e.taken = b.heard in omega (arith, h, zero_taken)) in
     next_of s (Close ∷ t) b.now said heard b.single b.within b.within_heard b.grounds
 
-pub and_both : (x y : Bool) → (x && y) ≡ true → (x ≡ true) × (y ≡ true)
-and_both true y e = (refl, e)
-and_both false y e = absurd (cc)
-
 not_false : (x : Bool) → not x ≡ true → x ≡ false
 not_false true e = absurd (cc)
 not_false false e = refl
@@ -236,13 +233,13 @@ not_some (Some p) e = absurd (cc)
 not_some None e = refl
 
 pub fits_ask : (p : ℕ) (e : End) → fits (Ask p) e ≡ true → (e.partner ≡ None) × (e.taken ≡ false)
-fits_ask p e f = let h : (not (is_some e.partner) ≡ true) × (not e.taken ≡ true) = and_both (not (is_some e.partner)) (not e.taken) f in (not_some e.partner h.0, not_false e.taken h.1)
+fits_ask p e f = let h : (not (is_some e.partner) ≡ true) × (not e.taken ≡ true) = and_parts (not (is_some e.partner)) (not e.taken) f in (not_some e.partner h.0, not_false e.taken h.1)
 
 pub balanced_hears : (m : Mark) (s t : List Mark) (e : End) → fits m e ≡ true → Balanced s t e → Balanced s (m ∷ t) (mark_taken m e)
 balanced_hears (Ask p) s t e f b = let h : (e.partner ≡ None) × (e.taken ≡ false) = fits_ask p e f in heard_ask p s t e b h.0 h.1
 balanced_hears Close s t e f b = by e.gone refl where
   quiet : e.taken ≡ false
-  quiet = not_false e.taken (and_both (is_begun e) (not e.taken) f).1
+  quiet = not_false e.taken (and_parts (is_begun e) (not e.taken) f).1
 
   by : (v : Bool) → e.gone ≡ v → Balanced s (Close ∷ t) (if v then nothing else record e { taken = true })
   by true h = heard_last s t e b h quiet

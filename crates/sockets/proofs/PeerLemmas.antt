@@ -3,7 +3,7 @@ use Rattle.std.proofs.Common.{◌≡◌, ℕ, ◌<◌, ◌≤◌, ◌-◌, ◌++
 use Rattle.std.specs.List.{count_by}
 use Rattle.std.proofs.lemmas.List.Sums.{length-filter, count_by-le-length}
 use Rattle.std.specs.List.Sorted.{IsPartitionPoint, IsPartitionedBy}
-use Rattle.std.proofs.lemmas.Bool.{eqb-true, ltb-true, ltb-false}
+use Rattle.std.proofs.lemmas.Bool.{eqb-true, ltb-true, ltb-false, and_parts}
 use Rattle.interface.specs.Host.{Host, IsAddress, same_host, address_octet}
 use Rattle.interface.proofs.lemmas.{same_host-refl}
 use Rattle.std.specs.declared.alloc.AllocError.{AllocError}
@@ -21,16 +21,12 @@ use Rattle.sockets.specs.declared.peer.Peer.{Peer}
 
 -- ---- hosts
 
-and_both : (a b : Bool) → (a && b) ≡ true → (a ≡ true) × (b ≡ true)
-and_both true b h = (refl, h)
-and_both false b h = absurd (cc)
-
 abbrev host_of : ℕ → ℕ → Host
 host_of i j = record { imp = i; host = j }
 
 pub same_host-true : (g h : Host) → same_host g h ≡ true → g ≡ h
 same_host-true g h e =
-    let t : (g.imp == h.imp) ≡ true × (g.host == h.host) ≡ true = and_both (g.imp == h.imp) (g.host == h.host) e in
+    let t : (g.imp == h.imp) ≡ true × (g.host == h.host) ≡ true = and_parts (g.imp == h.imp) (g.host == h.host) e in
     ap (λ (i : ℕ). host_of i g.host) (eqb-true g.imp h.imp t.0) ∙ ap (λ (j : ℕ). host_of h.imp j) (eqb-true g.host h.host t.1)
 
 pub same_octet : (g h : Host) → same_host g h ≡ true → address_octet g ≡ address_octet h

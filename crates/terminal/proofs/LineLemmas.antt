@@ -6,6 +6,7 @@ use Rattle.std.proofs.Math.Seq.{take-append_seam}
 use Rattle.std.proofs.lemmas.Grind.{flat_map-append, fold-append}
 use Rattle.std.proofs.lemmas.List.Folds.{list_any-append}
 use Rattle.std.specs.List.{flat_map, fold, list_all, list_any}
+use Rattle.std.proofs.lemmas.Bool.{and_parts}
 use Rattle.terminal.specs.Lines.{AreLines, Heard, ends_line, has_end, hear, lines_heard, is_printable, spelled}
 
 -- ---- the octet before an end
@@ -199,15 +200,11 @@ only_reading octets lines rest are = ap (λ (z : List ℕ). fold hear (the_heard
 not_return : (x : ℕ) → is_printable x ≡ true → (x == 13) ≡ false
 not_return x printable = grind (arith, nat_tests)
 
-both_true : (a b : Bool) → (a && b) ≡ true → (a ≡ true) × (b ≡ true)
-both_true true b e = (refl, e)
-both_true false b e = absurd (grind arith)
-
 typed_open : (text : List ℕ) → list_all is_printable text ≡ true → has_end text ≡ false
 typed_open [] all = refl
 typed_open (x ∷ []) all = refl
 typed_open (x ∷ y ∷ ys) all =
-    let both : (is_printable x ≡ true) × (list_all is_printable (y ∷ ys) ≡ true) = both_true (is_printable x) (list_all is_printable (y ∷ ys)) all in
+    let both : (is_printable x ≡ true) × (list_all is_printable (y ∷ ys) ≡ true) = and_parts (is_printable x) (list_all is_printable (y ∷ ys)) all in
     let here : (x == 13) ≡ false = not_return x both.0 in
     rw here (typed_open (y ∷ ys) both.1)
 

@@ -1,6 +1,6 @@
 -- One queue changes, and no other does.
 use Rattle.std.proofs.Common.{◌≡◌, ◌≢◌, ℕ, ◌==◌, ◌&&◌, Bool, true, false, List, [], ◌∷◌, ◌++◌, Option, Some, None, unwrap_or, cond, if◌then◌else◌, refl, sym, ap, subst, ◌∙◌, eq-eqb}
-use Rattle.std.proofs.lemmas.Bool.{eqb-true, false≢true}
+use Rattle.std.proofs.lemmas.Bool.{eqb-true, false≢true, and_parts}
 use Rattle.std.proofs.lemmas.Cmp.{on_total, then_total}
 use Rattle.std.proofs.lemmas.List.Elements.{All-append, All-cons, All-nil, All-same, All-tail}
 use Rattle.std.proofs.lemmas.Map.Lookups.{CmpEqualImpliesEq, exact_pairs, exact_unsigned}
@@ -16,13 +16,9 @@ use Rattle.trace.specs.Kept.{AreQueues}
 
 -- ---- hosts
 
-pub split_and : (a b : Bool) → (a && b) ≡ true → (a ≡ true) × (b ≡ true)
-split_and true b h = (refl, h)
-split_and false b h = absurd (cc)
-
 pub host_is : (g h : Host) → same_host g h ≡ true → g ≡ h
 host_is g h e =
-    let t = split_and (g.imp == h.imp) (g.host == h.host) e in
+    let t = and_parts (g.imp == h.imp) (g.host == h.host) e in
     let imp : g.imp ≡ h.imp = eqb-true g.imp h.imp t.0 in
     let host : g.host ≡ h.host = eqb-true g.host h.host t.1 in
     λ i. record { imp = imp i; host = host i }

@@ -5,7 +5,7 @@ use Rattle.std.specs.List.{AllByRecursion, range_with_len, list_all}
 use Rattle.std.proofs.Common.{◌≡◌, ℕ, ◌+◌, ◌-◌, ◌<◌, ◌≤◌, zero, suc, Bool, true, false, List, [], ◌∷◌, ◌++◌, length, map, take, set, slice_get, nat_lt, ◌==◌, ◌||◌, ◌&&◌, count_by, Option, Some, None, refl, ap, sym, subst, ◌∙◌, arith}
 use Rattle.std.proofs.lemmas.List.{set-get_or, length-map}
 use Rattle.std.proofs.lemmas.List.Sums.{sum_by-cons}
-use Rattle.std.proofs.lemmas.Bool.{eqb-true}
+use Rattle.std.proofs.lemmas.Bool.{eqb-true, and_parts}
 use Rattle.std.proofs.lemmas.Bool.Decides.{nat_tests}
 use Rattle.interface.specs.declared.event.Direction.{Direction}
 use Rattle.interface.specs.declared.event.Direction.TheVariants as way
@@ -492,16 +492,12 @@ settled_rests n settled =
 
 -- ---- what the code finds out
 
-and_true : (a b : Bool) → (a && b) ≡ true → (a ≡ true) × (b ≡ true)
-and_true true b both = (refl, both)
-and_true false b both = absurd cc
-
 no_length : (frames : List Frame) → (length frames == 0) ≡ true → frames ≡ []
 no_length frames none = empty_of frames (eqb-true (length frames) 0 none)
 
 silent_on : (d : Direction) (w : Wire) → is_silent w ≡ true → frames_on d w ≡ []
-silent_on way.Forward w silent = no_length w.forward (and_true (length w.forward == 0) (length w.back == 0) silent).0
-silent_on way.Back w silent = no_length w.back (and_true (length w.forward == 0) (length w.back == 0) silent).1
+silent_on way.Forward w silent = no_length w.forward (and_parts (length w.forward == 0) (length w.back == 0) silent).0
+silent_on way.Back w silent = no_length w.back (and_parts (length w.forward == 0) (length w.back == 0) silent).1
 
 waiting_of : (o : Option State) → waits_at o ≡ true → IfSome o (λ s. pump [] s ≡ ignored s)
 waiting_of None none = tt
@@ -509,13 +505,13 @@ waiting_of (Some s) all = only_rests s all
 
 silent_at : (lines : List Wire) (l : ℕ) (d : Direction) → list_all is_silent lines ≡ true → frames_on d (wire_at lines l) ≡ []
 silent_at [] l d all = no_frames d
-silent_at (w ∷ ws) zero d all = silent_on d w (and_true (is_silent w) (list_all is_silent ws) all).0
-silent_at (w ∷ ws) (suc l) d all = silent_at ws l d (and_true (is_silent w) (list_all is_silent ws) all).1
+silent_at (w ∷ ws) zero d all = silent_on d w (and_parts (is_silent w) (list_all is_silent ws) all).0
+silent_at (w ∷ ws) (suc l) d all = silent_at ws l d (and_parts (is_silent w) (list_all is_silent ws) all).1
 
 waiting_at : (imps : List (Option State)) (i : ℕ) → list_all waits_at imps ≡ true → IfSome (imp_at imps i) (λ s. pump [] s ≡ ignored s)
 waiting_at [] i all = tt
-waiting_at (o ∷ imps) zero all = waiting_of o (and_true (waits_at o) (list_all waits_at imps) all).0
-waiting_at (o ∷ imps) (suc i) all = waiting_at imps i (and_true (waits_at o) (list_all waits_at imps) all).1
+waiting_at (o ∷ imps) zero all = waiting_of o (and_parts (waits_at o) (list_all waits_at imps) all).0
+waiting_at (o ∷ imps) (suc i) all = waiting_at imps i (and_parts (waits_at o) (list_all waits_at imps) all).1
 
 pub round_rests : (n : Net) → list_all is_silent n.lines ≡ true → list_all waits_at n.imps ≡ true → ((l : ℕ) (d : Direction) → l < length n.lines → IsStillOn n l d) → quiet_round n ≡ n
 round_rests n silent none still = settled_rests n record { empty = λ l d. silent_at n.lines l d silent; waits = λ i. waiting_at n.imps i none; still = still }
