@@ -15,6 +15,7 @@ use Rattle.book_judge.specs.Inside.{to_itself, mark_in, held_in, fresh}
 use Rattle.book_judge.specs.declared.mail.Held.TheVariants as held
 use Rattle.book_judge.specs.declared.mail.Mark.{Mark}
 use Rattle.book_judge.proofs.Crossed.SameText.{same_text-is, same_text-true}
+use Rattle.book_judge.proofs.Ends.Keys.{is_equal}
 
 -- ---- a run without hosts
 
@@ -103,11 +104,6 @@ pub free_run : (log : List Crossing) → IsSomeRun log → IsFree log
 free_run log r = free_of_run r.0 log r.1
 
 -- ---- maps
-
-is_equal : (o : Ordering) → is_eq o ≡ true → o ≡ Equal
-is_equal Less e = absurd (cc)
-is_equal Equal e = refl
-is_equal Greater e = absurd (cc)
 
 alike : (f g : Flow) → eq_by_cmp flow_cmp f g ≡ same_flow f g
 alike f g = both_ways (eq_by_cmp flow_cmp f g) (same_flow f g)

@@ -279,7 +279,7 @@ log_ends b valid =
     subst (All (Lacks 10)) (sym (lines_are b))
     (All-map (Lacks 10) line_text (all_told b) (All-weaker IsLine (λ l. Lacks 10 (line_text l)) (λ l is. line_ends l is) (all_told b) (all_told_are b valid)))
 
-front_of : {X : Type 0} (P : X → Type 0) (xs ys : List X) → All P (xs ++ ys) → All P xs
+pub front_of : {X : Type 0} (P : X → Type 0) (xs ys : List X) → All P (xs ++ ys) → All P xs
 front_of P [] ys h = All-nil P
 front_of P (x ∷ xs) ys h = All-cons P x xs (All-head P x (xs ++ ys) h) (front_of P xs ys (All-tail P x (xs ++ ys) h))
 

@@ -13,6 +13,7 @@ use Rattle.ncp_control.specs.Command.{spelling}
 use Rattle.host_keeps_streams.specs.Said.{returned_on, returned_in}
 use Rattle.host_keeps_streams.proofs.Lists.{find_passes, none_is, first_is, missed, unlike, Here, here}
 use Rattle.host_keeps_streams.proofs.Receivers.{closed_found, open_found}
+use Rattle.host_keeps_streams.proofs.Opening.{and_no}
 
 open_bool : (a x y : Bool) → (a && not y && not x) ≡ (a && not (x || y))
 open_bool true true true = refl
@@ -25,10 +26,6 @@ pub open_same : (c : ℕ) (e : Entry) (s : Sender) → IsSender c e s → sender
 open_same c e s h =
     ap (λ (v : Bool). v && not s.shut && not (s.closed c)) h.opened ∙ ap (λ (v : Bool). has_opened e && not v && not (s.closed c)) h.shut
     ∙ ap (λ (v : Bool). has_opened e && not e.partner_closed && not v) h.closed ∙ open_bool (has_opened e) (has_cls e.closing) e.partner_closed
-
-and_no : (v : Bool) → (v && false) ≡ false
-and_no true = refl
-and_no false = refl
 
 -- an end whose CLS waits to go out, or has gone out, isn't open, nor is one that leaves
 closed_shut : (e : Entry) → has_cls e.closing ≡ true → is_open e ≡ false

@@ -15,6 +15,7 @@ use Rattle.interface.specs.declared.message.HostMessage.{HostMessage}
 use Rattle.interface.proofs.lemmas.{same_flow-refl, same_host-true}
 use Rattle.leader1822.proofs.Waiting.{has_any}
 use Rattle.leader1822.proofs.Index.{some_pending}
+use Rattle.leader1822.proofs.SoundCalls.{none_first}
 
 -- of a flow that isn't in the map nothing waits
 none_of : (c : Held) (f : Flow) → IsIndexed c → c.flows ≡ empty → (has_any (texts_for c.boxes f) || has_any (kinds_for c.boxes f)) ≡ true → ⊥
@@ -63,11 +64,6 @@ boxes_rest b goes none = record {
   takings = λ h. taking b h goes (none h);
 }
 
--- and each message of a host that is up was answered
-first_none : {A : Type 0} (xs : List A) → first_of_list xs ≡ None → xs ≡ []
-first_none [] e = refl
-first_none (x ∷ xs) e = absurd (cc)
-
 pub all_answered : (b : Boxes) → Matches b → ((h : Host) → next_for b h ≡ None) → AllAnswered b
 all_answered b m none f up =
     elim ((m.flows f).told (sym (m.up f.source) ∙ up) (ap (texts_of f) (messages f.destination))) [
@@ -75,7 +71,7 @@ all_answered b m none f up =
       | inr one ↦ absurd (let no : one.0 ∷ [] ≡ [] = sym one.1 ∙ ap (kinds_of f) (answers f.source) in cc)
     ] where
       by : (h : Host) → (a : Option WaitingAnswer) (o : Option HostMessage) → first_of_list (for_host b.answers h) ≡ a → first_of_list (for_host b.messages h) ≡ o → answer_first a o ≡ None → (for_host b.answers h ≡ []) × (for_host b.messages h ≡ [])
-      by h None None e g n = (first_none (for_host b.answers h) e, first_none (for_host b.messages h) g)
+      by h None None e g n = (none_first (for_host b.answers h) e, none_first (for_host b.messages h) g)
       by h (Some a) o e g n = absurd (cc)
       by h None (Some x) e g n = absurd (cc)
 

@@ -54,7 +54,7 @@ entries_again es h =
 
 -- ---- what a map has at the flow of an entry
 
-is_equal : (o : Ordering) → is_eq o ≡ true → o ≡ Equal
+pub is_equal : (o : Ordering) → is_eq o ≡ true → o ≡ Equal
 is_equal Less e = absurd (cc)
 is_equal Equal e = refl
 is_equal Greater e = absurd (cc)
@@ -119,7 +119,7 @@ none_found {V} test (e ∷ es) f v none at = by (eq_by_cmp flow_cmp f e.0) refl 
 
 -- ---- a host, or an IMP, with an outstanding message
 
-nothing : {V : Type 0} (o : Option V) → is_some o ≡ false → o ≡ None
+pub nothing : {V : Type 0} (o : Option V) → is_some o ≡ false → o ≡ None
 nothing None e = refl
 nothing (Some v) e = absurd (cc)
 

@@ -188,7 +188,7 @@ not_up : (t up : Bool) → (if t then true else up) ≡ false → (t ≡ false) 
 not_up true up e = absurd (cc)
 not_up false up e = (refl, e)
 
-up_and_down : (up : Bool) → up ≡ true → up ≡ false → ⊥
+pub up_and_down : (up : Bool) → up ≡ true → up ≡ false → ⊥
 up_and_down up e f = let both : true ≡ false = sym e ∙ f in absurd (cc)
 
 pub down_pair : (hosts : List Host) (events : List Event) → IsRun hosts events → (a b : Host) → is_up hosts a events ≡ false → pair a b events ≡ opening_pair

@@ -16,7 +16,7 @@ use Rattle.sockets.specs.declared.owned.Owned.{Owned}
 use Rattle.sockets.specs.declared.owned.Owned.TheVariants as owned
 use Rattle.sockets.specs.declared.peer.Peer.{Peer}
 
-and_no : (b : Bool) → (b && false) ≡ false
+pub and_no : (b : Bool) → (b && false) ≡ false
 and_no true = refl
 and_no false = refl
 

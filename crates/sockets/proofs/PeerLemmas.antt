@@ -18,6 +18,7 @@ use Rattle.sockets.specs.Pairs.{NcpState, owner_of, pair_in, pair_with, placed, 
 use Rattle.sockets.specs.Requests.{at_owner}
 use Rattle.sockets.specs.Peers.{AreInOrder, IsMissing, StandAbove, StandsAt}
 use Rattle.sockets.specs.declared.peer.Peer.{Peer}
+use Rattle.sockets.proofs.OwnedLemmas.{and_no}
 
 -- ---- hosts
 
@@ -345,18 +346,14 @@ more_commands : (c : Command) (cs : List Command) → (length (cs ++ c ∷ []) =
 more_commands c [] = refl
 more_commands c (d ∷ cs) = not_none (length (cs ++ c ∷ [])) (suc (length (cs ++ c ∷ [])) == 0) refl
 
-and_last : (b : Bool) → (b && false) ≡ false
-and_last true = refl
-and_last false = refl
-
 pub command_stays : (c : Command) (q : PairState) → is_opening (commanded c q) ≡ false
-command_stays c q = rw (more_commands c q.queue) (and_last _)
+command_stays c q = rw (more_commands c q.queue) (and_no _)
 
 pub request_stays : (e : Entry) (c : Command) (q : PairState) → is_opening (requested e c q) ≡ false
-request_stays e c q = rw (more_commands c q.queue) (and_last _)
+request_stays e c q = rw (more_commands c q.queue) (and_no _)
 
 pub grant_stays : (s messages bits : ℕ) (c : Command) (q : PairState) → is_opening (commanded c (with_end s (granted messages bits) q)) ≡ false
-grant_stays s messages bits c q = rw (more_commands c q.queue) (and_last _)
+grant_stays s messages bits c q = rw (more_commands c q.queue) (and_no _)
 
 -- ---- bits that wait where the pair is
 

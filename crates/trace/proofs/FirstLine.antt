@@ -121,7 +121,7 @@ unfolding raw_in
 raw_again true = refl
 raw_again false = refl
 
-plain_all : (t : List ℕ) → list_all is_plain t ≡ true → All (λ c. is_plain c ≡ true) t
+pub plain_all : (t : List ℕ) → list_all is_plain t ≡ true → All (λ c. is_plain c ≡ true) t
 plain_all [] h = All-nil (λ c. is_plain c ≡ true)
 plain_all (c ∷ t) h = by (λ k. plain_all t k) (is_plain c) refl h where
   by : (list_all is_plain t ≡ true → All (λ x. is_plain x ≡ true) t) → (b : Bool) → is_plain c ≡ b → list_all is_plain (c ∷ t) ≡ true → All (λ x. is_plain x ≡ true) (c ∷ t)

@@ -93,7 +93,7 @@ module _ (moments : List Moment) where
 abbrev IsShut : ℕ → ℕ → Entry → Type 0
 IsShut k n e = e.own ≡ k → e.asked ≡ Some n → has_cls e.closing ≡ true
 
-same_stamp : (m n : ℕ) → Some m ≡ Some n → m ≡ n
+pub same_stamp : (m n : ℕ) → Some m ≡ Some n → m ≡ n
 same_stamp m n e = cc
 
 shut_rules : (k n : ℕ) (p : Host) → Rules (IsShut k n) Nothing p

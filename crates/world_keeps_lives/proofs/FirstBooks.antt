@@ -19,6 +19,7 @@ use Rattle.world_keeps_lives.proofs.Laws.{live}
 use Rattle.world_keeps_lives.proofs.Linked.{AreAfter, AreApart, Linked, LinkedBook}
 use Rattle.world_keeps_lives.proofs.Walk.Rules.{Each, MayTell, each_in, each_of, found_in}
 use Rattle.world_keeps_lives.proofs.Stamps.{stamped}
+use Rattle.world_keeps_lives.proofs.Drained.{same_stamp}
 
 -- ---- what is on no link of a life
 
@@ -55,14 +56,11 @@ sends_on_flow x link kind = ap (λ (b : Bool). if b then record { source = x.pee
 takes_on_flow : (x : Life) (link : ℕ) → receives x ≡ true → flow_of x link ≡ record { source = x.peer; destination = x.host; link = record { 0 = link } }
 takes_on_flow x link kind = ap (λ (b : Bool). if b then record { source = x.peer; destination = x.host; link = record { 0 = link } } else record { source = x.host; destination = x.peer; link = record { 0 = link } }) kind
 
-some_link : (o : Option ℕ) → is_some o ≡ true → o ≡ Some (link_of o)
+pub some_link : (o : Option ℕ) → is_some o ≡ true → o ≡ Some (link_of o)
 some_link None e = absurd (let both : false ≡ true = e in cc)
 some_link (Some l) e = refl
 
-same_link : (l k : ℕ) → Some l ≡ Some k → l ≡ k
-same_link l k e = cc
-
-same_out : (m n : HostMessage) → crossing.Out m ≡ crossing.Out n → m ≡ n
+pub same_out : (m n : HostMessage) → crossing.Out m ≡ crossing.Out n → m ≡ n
 same_out m n e = cc
 
 no_out : {A : Type 0} (m n : HostMessage) → crossing.In m ≡ crossing.Out n → A
@@ -146,7 +144,7 @@ module _ (hosts : List Host) (given : Together hosts) where
         on_flow : (x : Life) (link : ℕ) → x.host ≡ m.flow.source → x.peer ≡ m.flow.destination → x.socket ≡ e.own → e.link ≡ Some link → (receives x ≡ false) × (m.flow ≡ flow_of x link)
         on_flow x link host peer socket its =
             let kind : receives x ≡ false = ap is_receive_socket socket ∙ may.1.sends in
-            (kind, flow_two m.flow x.host x.peer link host peer (sym (same_link link m.flow.link.0 (sym its ∙ linked))) ∙ sym (sends_on_flow x link kind))
+            (kind, flow_two m.flow x.host x.peer link host peer (sym (same_stamp link m.flow.link.0 (sym its ∙ linked))) ∙ sym (sends_on_flow x link kind))
 
         hit : (x : Life) (link : ℕ) → x.host ≡ m.flow.source → x.peer ≡ m.flow.destination → x.socket ≡ e.own → e.link ≡ Some link
             → (text_of (receives x) (flow_of x link) (crossing.Out m) ≡ m.text ∷ []) × (data_in (receives x) m.text ≡ Some (take (size * count) e.bits))
@@ -351,7 +349,7 @@ module _ (hosts : List Host) (given : Together hosts) where
         from p here t (inl w) goes o link linked =
             let i : AtEnd (y ∷ ms) p = at_end hosts given (y ∷ ms) late p here t goes in
             let same : i.end ≡ o.end = is_end hosts given (y ∷ ms) late p.life o i.end i.there i.mine i.own in
-            let on : p.link ≡ link = same_link p.link link (sym i.link ∙ ap (λ (e : Entry). e.link) same ∙ linked) in
+            let on : p.link ≡ link = same_stamp p.link link (sym i.link ∙ ap (λ (e : Entry). e.link) same ∙ linked) in
             let also : w.one.life.ended ≡ false = w.goes goes in
             let k : AtEnd ms w.one = at_end hosts given ms l w.one w.there w.tracked also in
             let v : HasOpenEnd (program w.one.life.host ms) w.one.life = live hosts ms l.0 l.1 l.2 w.one.life w.there also in

@@ -16,7 +16,7 @@ use Rattle.world_keeps_lives.proofs.Walk.Rules.{Each, each_append, each_in, each
 use Rattle.world_keeps_lives.proofs.Stamps.{HasLife, Now}
 use Rattle.world_keeps_lives.proofs.Texts.{IsFull, before_all, before_here, before_still, first_more, first_still, full_more, take_whole, texts_none, texts_same}
 
-off_not : (b : Bool) → not b ≡ true → b ≡ false
+pub off_not : (b : Bool) → not b ≡ true → b ≡ false
 off_not true e = absurd (let both : false ≡ true = e in cc)
 off_not false e = refl
 

@@ -7,6 +7,7 @@ use Rattle.ncp_control.specs.declared.command.Command.TheVariants as command
 use Rattle.promise.specs.Formed.{named_by, named_of}
 use Rattle.world_keeps_lives.proofs.Grounds.{crossed_below}
 use Rattle.world_keeps_lives.proofs.Walk.Rules.{first_of, later_of}
+use Rattle.world_keeps_lives.proofs.Firsts.{off_not}
 
 -- ---- one command
 
@@ -31,10 +32,6 @@ named_again own foreign n = by (is_receive_socket own) refl where
 if_some : (n k : ℕ) (v : Bool) → (if v then Some n else None) ≡ Some k → (v ≡ true) × (n ≡ k)
 if_some n k true e = (refl, (let same : n ≡ k = cc in same))
 if_some n k false e = absurd (let none : None ≡ Some k = e in cc)
-
-off_not : (b : Bool) → not b ≡ true → b ≡ false
-off_not true e = absurd (let none : false ≡ true = e in cc)
-off_not false e = refl
 
 pub named_is : (own foreign k : ℕ) (c : Command) → named_by own foreign c ≡ Some k → c ≡ request own foreign k
 named_is own foreign k (command.Rts a b n) e =

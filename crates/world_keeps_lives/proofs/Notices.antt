@@ -12,6 +12,8 @@ use Rattle.world_keeps_lives.proofs.Desks.{IsAnOpen, open_mine, open_parts}
 use Rattle.world_keeps_lives.proofs.Walk.Rules.{Each, each_in, each_of, each_weaker, found_in}
 use Rattle.world_keeps_lives.proofs.Grounds.{Grounded, IsAnswered, IsAsked, Tells, goes_of, grounds}
 use Rattle.world_keeps_lives.proofs.DataTold.{TakesIf, answer_told, asking_told, bytes_told, control_told, message_takes, offer_told}
+use Rattle.world_keeps_lives.proofs.Drained.{same_stamp}
+use Rattle.world_keeps_lives.proofs.FirstBooks.{some_link}
 
 -- ---- lists of notices
 
@@ -98,9 +100,6 @@ some_is : (o : Option ℕ) → is_some o ≡ true → (n : ℕ) × (o ≡ Some n
 some_is None e = absurd (cc)
 some_is (Some n) e = (n, refl)
 
-one_link : (a b : ℕ) → Some a ≡ Some b → a ≡ b
-one_link a b e = cc
-
 linked : (h p : Host) (log : List Crossing) (e : Entry) (link : ℕ) → Grounded h p log e → is_open e ≡ true → e.link ≡ Some link → HasLink h p e.own link log
 linked h p log e link g opened is = by (is_receive_socket e.own) refl where
   parts : IsAnOpen e
@@ -128,7 +127,7 @@ linked h p log e link g opened is = by (is_receive_socket e.own) refl where
     own_stamp = a.0;
     partner_stamp = b.0;
     own = subst (λ (t : Bool). HasCrossed going h p a.0 (request e.own e.foreign (if t then link else partner.named)) log) (sym r)
-        (subst (λ (n : ℕ). HasCrossed going h p a.0 (request e.own e.foreign n) log) (one_link own.named link (sym (own.link r) ∙ is)) own.crossed);
+        (subst (λ (n : ℕ). HasCrossed going h p a.0 (request e.own e.foreign n) log) (same_stamp own.named link (sym (own.link r) ∙ is)) own.crossed);
     partner = subst (λ (t : Bool). HasCrossed coming p h b.0 (request e.foreign e.own (if t then partner.named else link)) log) (sym r) partner.crossed;
   }
   by false r = record {
@@ -138,16 +137,12 @@ linked h p log e link g opened is = by (is_receive_socket e.own) refl where
     partner_stamp = b.0;
     own = subst (λ (t : Bool). HasCrossed going h p a.0 (request e.own e.foreign (if t then link else own.named)) log) (sym r) own.crossed;
     partner = subst (λ (t : Bool). HasCrossed coming p h b.0 (request e.foreign e.own (if t then own.named else link)) log) (sym r)
-        (subst (λ (n : ℕ). HasCrossed coming p h b.0 (request e.foreign e.own n) log) (one_link partner.named link (sym (partner.link r) ∙ is)) partner.crossed);
+        (subst (λ (n : ℕ). HasCrossed coming p h b.0 (request e.foreign e.own n) log) (same_stamp partner.named link (sym (partner.link r) ∙ is)) partner.crossed);
   }
 
 link_is : (link : ℕ) (o : Option ℕ) → is_link link o ≡ true → o ≡ Some link
 link_is link None e = absurd (cc)
 link_is link (Some l) e = ap (λ (n : ℕ). Some n) (eqb-true l link e)
-
-some_link : (o : Option ℕ) → is_some o ≡ true → o ≡ Some (link_of o)
-some_link None e = absurd (cc)
-some_link (Some l) e = refl
 
 -- ---- all moments
 

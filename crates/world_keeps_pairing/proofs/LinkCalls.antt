@@ -18,7 +18,7 @@ use Rattle.sockets.specs.declared.request.Request.TheVariants as request
 use Rattle.sockets.proofs.lemmas.{not_first, others_stay}
 use Rattle.host_keeps_pairing.proofs.lemmas.{peer_here}
 use Rattle.world_keeps_pairing.proofs.Claims.{Claim}
-use Rattle.world_keeps_pairing.proofs.LinkDesks.{linked_settled, receiver_joined}
+use Rattle.world_keeps_pairing.proofs.LinkDesks.{linked_settled, receiver_joined, off_link}
 use Rattle.world_keeps_pairing.proofs.LinkTurns.{send_odd}
 use Rattle.world_keeps_pairing.proofs.Local.{IsQuiet, Links, all_claims, claim_of, claims_join, links_changed, links_joined}
 
@@ -41,10 +41,6 @@ not_off false e = absurd (let no : true ≡ false = e in cc)
 none_is : (o : Option Entry) → is_some o ≡ false → o ≡ None
 none_is None e = refl
 none_is (Some x) e = absurd (let no : true ≡ false = e in cc)
-
-off_link : (b : Bool) → (b && false) ≡ true → ⊥
-off_link true e = absurd (let no : false ≡ true = e in cc)
-off_link false e = absurd (let no : false ≡ true = e in cc)
 
 module _ (said taken : List Claim) where
   -- a command that is no RTS is queued

@@ -26,7 +26,7 @@ cls_claims : (es : List Entry) (claims : List Claim) → all_claims (map cls_of 
 cls_claims [] claims = refl
 cls_claims (e ∷ es) claims = cls_claims es claims
 
-off_link : (b : Bool) → (b && false) ≡ true → ⊥
+pub off_link : (b : Bool) → (b && false) ≡ true → ⊥
 off_link true e = absurd (let both : false ≡ true = e in cc)
 off_link false e = absurd (let both : false ≡ true = e in cc)
 
@@ -37,7 +37,7 @@ find_some test (y ∷ xs) x e = by (test y) refl (λ k. find_some test xs x k) w
   by true t rest = let same : Some y ≡ Some x = rw t at e in let is : y ≡ x = cc in ap test (sym is) ∙ t
   by false t rest = rest (rw t at e)
 
-not_true : (b : Bool) → not b ≡ true → b ≡ false
+pub not_true : (b : Bool) → not b ≡ true → b ≡ false
 not_true true e = absurd (let both : false ≡ true = e in cc)
 not_true false e = refl
 

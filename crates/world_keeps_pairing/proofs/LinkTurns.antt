@@ -10,7 +10,7 @@ use Rattle.host_keeps_pairing.proofs.lemmas.{Found, at_append, found_at, one_ord
 use Rattle.pairing_law.proofs.lemmas.{unused}
 use Rattle.pairing_law.proofs.lemmas.Seen as words
 use Rattle.world_keeps_pairing.proofs.Claims.{Claim, heard_claims, last_link, partner_among}
-use Rattle.world_keeps_pairing.proofs.LinkDesks.{Linked, linked_other, linked_wrong, rts_linked}
+use Rattle.world_keeps_pairing.proofs.LinkDesks.{Linked, linked_other, linked_wrong, rts_linked, not_true}
 use Rattle.world_keeps_pairing.proofs.Local.{AllOff, Each, Links, One, SendsBy, all_claims}
 use Rattle.world_keeps_pairing.proofs.Marks.{IsPair, order_at}
 use Rattle.world_keeps_pairing.proofs.Moves.{hears_end, sender_fits}
@@ -30,10 +30,6 @@ send_odd n e = by (is_receive_socket n) refl where
   by : (b : Bool) → is_receive_socket n ≡ b → b ≡ false
   by true f = absurd (let a : n % 2 ≡ 0 = eqb-true (n % 2) 0 f in let c : n % 2 ≡ 1 = eqb-true (n % 2) 1 e in omega (arith, a, c))
   by false f = refl
-
-not_true : (b : Bool) → not b ≡ true → b ≡ false
-not_true true e = absurd (let both : false ≡ true = e in cc)
-not_true false e = refl
 
 -- ---- one end of two sockets
 

@@ -183,7 +183,7 @@ more_cases (z ∷ xs) x y c = elim (contains_cases z (xs ++ x ∷ []) y c) [
 ]
 
 -- one life more
-more_is : (lives : List Life) (place : ℕ) (x : Life) → place < length lives → x ≡ get_or lives place x
+pub more_is : (lives : List Life) (place : ℕ) (x : Life) → place < length lives → x ≡ get_or lives place x
     → take (place + 1) lives ≡ take place lives ++ x ∷ []
 more_is lives place x lt at = take_more lives place x lt ∙ ap (λ (z : Life). take place lives ++ z ∷ []) (sym at)
 

@@ -85,7 +85,7 @@ lines_kept k [] l i v same = refl
 lines_kept k (w ∷ ws) zero i v same = ap (λ (b : Bool). if b then k ∷ lines_from (k + 1) ws i else lines_from (k + 1) ws i) (ends_alike i v w same)
 lines_kept k (w ∷ ws) (suc l) i v same = ap (λ (ls : List ℕ). if ends_at i w then k ∷ ls else ls) (lines_kept (k + 1) ws l i v same)
 
-counted : (i : ℕ) (w : Wire) (ws : List Wire) → count_by (ends_at i) (w ∷ ws) ≡ (if ends_at i w then 1 else 0) + count_by (ends_at i) ws
+pub counted : (i : ℕ) (w : Wire) (ws : List Wire) → count_by (ends_at i) (w ∷ ws) ≡ (if ends_at i w then 1 else 0) + count_by (ends_at i) ws
 counted i w ws = sum_by-cons (λ (x : Wire). if ends_at i x then 1 else 0) w ws
 
 port_kept : (lines : List Wire) (l i n : ℕ) (v : Wire) → SameEnds v (wire_at lines l) → port_of (set lines l v) i n ≡ port_of lines i n

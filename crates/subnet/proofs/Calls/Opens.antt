@@ -10,9 +10,6 @@ use Rattle.subnet.specs.Opening.{Ends, empty_wire, opened_imp, opened_from}
 use Rattle.subnet.specs.Inside.Calling.{IsLive, AreLive}
 use Rattle.subnet.proofs.Calls.Starts as starts
 
-pub all_ports : (lines : List Wire) (i : ℕ) → port_of lines i (length lines) ≡ count_by (ends_at i) lines
-all_ports = starts.all_ports
-
 pub places_opened : (i : ℕ) (sites : List (Option ℕ)) (ports : ℕ → ℕ) → length (opened_from i sites ports) ≡ length sites
 places_opened i [] ports = refl
 places_opened i (site ∷ sites) ports = ap suc (places_opened (i + 1) sites ports)

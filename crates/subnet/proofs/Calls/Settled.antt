@@ -27,6 +27,8 @@ use Rattle.subnet.proofs.Calls.Resending.{all_resent}
 use Rattle.subnet.proofs.Calls.Resting.{rests_at}
 use Rattle.subnet.proofs.Calls.Stuck.{only_rests}
 use Rattle.subnet.proofs.Calls.Telling.{all_from, all_told, put_both}
+use Rattle.subnet.proofs.Calls.Carries.{no_frame_in}
+use Rattle.subnet.proofs.Calls.Joining.{counted}
 
 -- ---- lines without their frames
 
@@ -54,9 +56,6 @@ wire_emptied (w ∷ ws) (suc l) = wire_emptied ws l
 far_emptied : (d : Direction) (w : Wire) → far_end d (emptied w) ≡ far_end d w
 far_emptied way.Forward w = refl
 far_emptied way.Back w = refl
-
-counted : (i : ℕ) (w : Wire) (ws : List Wire) → count_by (ends_at i) (w ∷ ws) ≡ (if ends_at i w then 1 else 0) + count_by (ends_at i) ws
-counted i w ws = sum_by-cons (λ (x : Wire). if ends_at i x then 1 else 0) w ws
 
 port_emptied : (lines : List Wire) (i l : ℕ) → port_of (map emptied lines) i l ≡ port_of lines i l
 port_emptied [] i l = refl
@@ -390,12 +389,8 @@ fewer_on : (d : Direction) (w : Wire) (count : ℕ) → length (frames_on d w) �
 fewer_on way.Forward w count is = fewer_frames w.forward count is
 fewer_on way.Back w count is = fewer_frames w.back count is
 
-no_frames : (d : Direction) → frames_on d no_wire ≡ []
-no_frames way.Forward = refl
-no_frames way.Back = refl
-
 fewer : (lines : List Wire) (l : ℕ) (d : Direction) (count : ℕ) → length (frames_on d (wire_at lines l)) ≡ suc count → length (frames_on d (wire_at (set lines l (dropping d 0 (wire_at lines l))) l)) ≡ count
-fewer [] l d count is = absurd (omega (arith, is, ap (λ (frames : List Frame). length frames) (no_frames d)))
+fewer [] l d count is = absurd (omega (arith, is, ap (λ (frames : List Frame). length frames) (no_frame_in d)))
 fewer (w ∷ ws) zero d count is = fewer_on d w count is
 fewer (w ∷ ws) (suc l) d count is = fewer ws l d count is
 
@@ -504,7 +499,7 @@ waiting_of None none = tt
 waiting_of (Some s) all = only_rests s all
 
 silent_at : (lines : List Wire) (l : ℕ) (d : Direction) → list_all is_silent lines ≡ true → frames_on d (wire_at lines l) ≡ []
-silent_at [] l d all = no_frames d
+silent_at [] l d all = no_frame_in d
 silent_at (w ∷ ws) zero d all = silent_on d w (and_parts (is_silent w) (list_all is_silent ws) all).0
 silent_at (w ∷ ws) (suc l) d all = silent_at ws l d (and_parts (is_silent w) (list_all is_silent ws) all).1
 
