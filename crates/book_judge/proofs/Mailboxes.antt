@@ -9,7 +9,7 @@ use Rattle.std.proofs.lemmas.Bool.{or_right, not_from_false}
 use Rattle.interface.specs.Mailboxes.{Box, Waiting, Taken, WaitsWith, fetched, box_of, is_up, up_after_crossing, IsRun}
 use Rattle.interface.specs.declared.crossing.Answer.TheVariants as answer
 use Rattle.interface.specs.declared.crossing.Crossing.TheVariants as crossing
-use Rattle.interface.proofs.lemmas.{exact_flows, flows_total, run_below}
+use Rattle.interface.proofs.lemmas.{exact_flows, flows_total, run_below, not_true}
 use Rattle.book_judge.specs.Inside as tests
 use Rattle.book_judge.specs.Inside.{to_itself, mark_in, held_in, fresh}
 use Rattle.book_judge.specs.declared.mail.Held.TheVariants as held
@@ -404,10 +404,6 @@ waits_tells whole text (Taken place kept) out = (λ u. absurd (cc), λ e. absurd
 boxed : (test : Held → Bool) (P : Type 0) (h : Held) (box : Box) → h ≡ noted box → Tells (test (noted box)) P → Tells (test h) P
 boxed test P h box e t = let F : Held → Type 0 = λ x. Tells (test x) P in subst F (sym e) t
 
-is_not : (b : Bool) → not b ≡ true → b ≡ false
-is_not true e = absurd (cc)
-is_not false e = refl
-
 finds_tells : (s : Mail) (whole log rest : List Crossing) → whole ≡ reverse log ++ rest → Agrees s log → (c : Crossing) → Tells (tests.finds s whole c) (FindsIn c log)
 finds_tells s whole log rest w a (crossing.Out m) =
     and_tells (tests.is_up s m.flow.source) (is_on m.flow.source log) (tests.is_empty (held_in s m.flow)) (box_of m.flow log ≡ Empty) (a.up m.flow.source)
@@ -420,7 +416,7 @@ finds_tells s whole log rest w a (crossing.Answer kind f) =
     and_tells (tests.is_up s f.source) (is_on f.source log) (tests.fits_answer kind (held_in s f)) (Fits kind (box_of f log)) (a.up f.source)
     (boxed (λ x. tests.fits_answer kind x) (Fits kind (box_of f log)) (held_in s f) (box_of f log) (a.box f) (fits_tells kind (box_of f log)))
 finds_tells s whole log rest w a (crossing.Down h) = (λ u. sym (a.up h) ∙ u, λ e. a.up h ∙ e)
-finds_tells s whole log rest w a (crossing.Up h) = (λ u. sym (a.up h) ∙ is_not (tests.is_up s h) u, λ e. not_from_false (tests.is_up s h) (a.up h ∙ e))
+finds_tells s whole log rest w a (crossing.Up h) = (λ u. sym (a.up h) ∙ not_true (tests.is_up s h) u, λ e. not_from_false (tests.is_up s h) (a.up h ∙ e))
 
 -- ---- the search
 

@@ -1,11 +1,9 @@
 -- A list of ends of which one is changed, as far as those on a link go.
+pub use Rattle.interface.proofs.lemmas.{unlike}
 use Rattle.host_keeps_streams.proofs.Common.{◌≡◌, ℕ, Bool, not, ◌&&◌, ◌==◌, List, [], ◌∷◌, ◌++◌, map, filter, find, Option, Some, None, refl, ap, sym, ◌∙◌, append-nil, filter-append, eqb-true, list_any, changed_first, is_link, is_receiving, receives_on, sends_on, Entry, both, not_is}
 use Rattle.std.proofs.Common.{true, false}
 use Rattle.std.proofs.lemmas.Bool.{and_left, and_right}
 use Rattle.host_pairs.proofs.lemmas.{some_is}
-
-pub unlike : (b : Bool) → b ≡ true → b ≡ false → ⊥
-unlike b e f = let same : true ≡ false = sym e ∙ f in absurd (cc)
 
 -- ---- what is found
 

@@ -20,6 +20,7 @@ use Rattle.host_pairs.proofs.IndexLemmas.{KeepsKey, kept_changed, kept_mapped, k
 use Rattle.host_pairs.proofs.OpeningLemmas.{both, not_is}
 use Rattle.host_pairs.proofs.ParcelLemmas.{no_turn}
 use Rattle.host_pairs.specs.Parcels.{bits_gone, may_send}
+use Rattle.interface.proofs.lemmas.{not_false}
 
 -- ---- a change that gives no end the mark
 
@@ -576,15 +577,11 @@ swept_held gone index fewer due over bits due' bits' ends all held is indexed cl
 pub without_bits : (busy : List ℕ) (e : Entry) → has_bits e ≡ false → may_send busy e ≡ false
 without_bits busy e h = no_turn busy e (rw h refl)
 
-is_true : (b : Bool) → not b ≡ false → b ≡ true
-is_true true h = refl
-is_true false h = absurd (cc)
-
 bits_kept : (count : ℕ) (bits : List Bool) → not (length bits == 0) ≡ false → not (length (drop count bits) == 0) ≡ false
 bits_kept zero bits h = h
 bits_kept (suc count) [] h = refl
 bits_kept (suc count) (b ∷ bits) h =
-    let none : length (b ∷ bits) ≡ 0 = eqb-true (length (b ∷ bits)) 0 (is_true _ h) in
+    let none : length (b ∷ bits) ≡ 0 = eqb-true (length (b ∷ bits)) 0 (not_false _ h) in
     absurd (omega (arith, none))
 
 sent_kept : (count : ℕ) → Keeps has_bits (bits_gone count)

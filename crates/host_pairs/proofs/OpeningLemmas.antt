@@ -1,4 +1,5 @@
 -- A pair in its initial state.
+pub use Rattle.interface.proofs.lemmas.{not_true as not_is}
 pub use Rattle.std.proofs.lemmas.Bool.{and_parts as both}
 use Rattle.std.proofs.Common.{◌≡◌, ℕ, Bool, true, false, ◌&&◌, ◌||◌, ◌==◌, not, List, [], ◌∷◌, length, refl, ap, ◌∙◌, arith}
 use Rattle.std.proofs.lemmas.Bool.{eqb-true}
@@ -21,10 +22,6 @@ closed_is phase.Want e = absurd (cc)
 closed_is (phase.Gone early) e = absurd (cc)
 closed_is phase.Heard e = absurd (cc)
 closed_is phase.Ready e = absurd (cc)
-
-pub not_is : (b : Bool) → not b ≡ true → b ≡ false
-not_is true e = absurd (cc)
-not_is false e = refl
 
 abbrev pair_of : Phase → Bool → List ℕ → List Entry → List Command → PairState
 pair_of p o b e q = record { phase = p; owed = o; busy = b; entries = e; queue = q }

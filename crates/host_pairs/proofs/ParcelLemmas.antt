@@ -15,6 +15,7 @@ use Rattle.host_pairs.specs.declared.entry.Entry.{Entry}
 use Rattle.ncp_control.specs.declared.phase.Phase.{Phase}
 use Rattle.ncp_control.specs.declared.phase.Phase.TheVariants as phase
 use Rattle.host_pairs.proofs.OpeningLemmas.{none_of, both, not_is}
+use Rattle.interface.proofs.lemmas.{and_none, and_turned}
 
 want_is : (p : Phase) → is_want p ≡ true → p ≡ phase.Want
 want_is phase.Closed e = absurd (cc)
@@ -83,13 +84,9 @@ none_sendable e z (Some size) =
     let bytes : length e.bits / size ≡ 0 = rw z (zero-div size) in
     omega (arith, bytes, (sendable_at e.allocation size (length e.bits / size) (e.allocation.messages == 0) refl).0)
 
-and_no : (b : Bool) → (b && false) ≡ false
-and_no true = refl
-and_no false = refl
-
 nothing_waits : (busy : List ℕ) (e : Entry) → length e.bits ≡ 0 → may_send busy e ≡ false
 nothing_waits busy e z =
-    rw (none_sendable e z e.size) (and_no (not (is_receiving e) && is_open e && is_some e.link && is_answered busy e.link))
+    rw (none_sendable e z e.size) (and_none (not (is_receiving e) && is_open e && is_some e.link && is_answered busy e.link))
 
 -- nor does one without a message left
 none_granted : (e : Entry) → (e.allocation.messages == 0) ≡ true → (size : Option ℕ) → sendable_by size e ≡ 0
@@ -98,7 +95,7 @@ none_granted e z (Some size) = rw z refl
 
 nothing_granted : (busy : List ℕ) (e : Entry) → (e.allocation.messages == 0) ≡ true → may_send busy e ≡ false
 nothing_granted busy e z =
-    rw (none_granted e z e.size) (and_no (not (is_receiving e) && is_open e && is_some e.link && is_answered busy e.link))
+    rw (none_granted e z e.size) (and_none (not (is_receiving e) && is_open e && is_some e.link && is_answered busy e.link))
 
 no_turn_by : (busy : List ℕ) (e : Entry) → (waits granted : Bool) → (length e.bits == 0) ≡ waits → (e.allocation.messages == 0) ≡ granted
     → (not waits && not granted) ≡ false → may_send busy e ≡ false
@@ -110,12 +107,6 @@ pub no_turn : (busy : List ℕ) (e : Entry) → (not (length e.bits == 0) && not
 no_turn busy e h = no_turn_by busy e (length e.bits == 0) (e.allocation.messages == 0) refl refl h
 
 -- ---- the link of an end
-
-pub and_turned : (a b : Bool) → (a && b) ≡ (b && a)
-and_turned true true = refl
-and_turned true false = refl
-and_turned false true = refl
-and_turned false false = refl
 
 pub on_its_link : (busy : List ℕ) (link : ℕ) (e : Entry) → (link_of e.link == link && may_send busy e) ≡ may_send_on busy link e
 on_its_link busy link e = and_turned (link_of e.link == link) (may_send busy e)

@@ -22,16 +22,9 @@ use Rattle.host_services.specs.declared.hearing.Ear.TheVariants as ear
 use Rattle.host_services.specs.declared.hearing.Subject.{Subject}
 use Rattle.host_services.specs.declared.hearing.Subject.TheVariants as subject
 use Rattle.host_services.specs.declared.service.Service.TheVariants as service
+use Rattle.interface.proofs.lemmas.{and_none, or_nothing}
 
 -- ---- truth values
-
-or_false : (b : Bool) → (b || false) ≡ b
-or_false true = refl
-or_false false = refl
-
-and_false : (b : Bool) → (b && false) ≡ false
-and_false true = refl
-and_false false = refl
 
 -- ---- what a notice is about
 
@@ -99,7 +92,7 @@ no_verdict s (Some r) (Some t) few = absurd (cc)
 no_server_failure : (s : ServerState) (n : Notice) → is_reset (subject_of n) ≡ false → is_about s.listen (subject_of n) ≡ false → is_about s.receive (subject_of n) ≡ false → is_about s.send (subject_of n) ≡ false
     → server_failure s n ≡ None
 no_server_failure s n reset listen receive send =
-    let refused : server_refused s n ≡ false = rw (not_ended s.receive n receive, not_ended s.send n send, not_ended s.listen n listen) (and_false (is_none s.user)) in
+    let refused : server_refused s n ≡ false = rw (not_ended s.receive n receive, not_ended s.send n send, not_ended s.listen n listen) (and_none (is_none s.user)) in
     let gone : server_reset s n ≡ false = rw (not_reset_of s.user n reset, not_reset_of s.receiving n reset, not_reset_of s.sending n reset) refl in
     rw (refused, gone) refl
 
@@ -108,7 +101,7 @@ nobody_met s n listen receive send =
     rw (not_opened s.listen n listen, not_opened s.receive n receive, not_opened s.send n send, or_none s.user, or_none s.receiving, or_none s.sending) refl
 
 nothing_said : (s : ServerState) (n : Notice) → is_about s.listen (subject_of n) ≡ false → server_says s n ≡ []
-nothing_said s n listen = rw (not_opened s.listen n listen, and_false (is_none s.user)) refl
+nothing_said s n listen = rw (not_opened s.listen n listen, and_none (is_none s.user)) refl
 
 none_judged : (s : ServerState) → s.over ≡ false → (is_some s.receiving && is_some s.sending) ≡ false → server_judged s [] ≡ passed s
 none_judged s over few = rw (no_verdict s s.receiving s.sending few, sym over) refl
@@ -150,7 +143,7 @@ no_bits s n own = rw (not_arrived s.own n own) refl
 
 none_met : (s : UserState) (n : Notice) (base : ℕ) → is_about s.receive (subject_of n) ≡ false → is_about s.send (subject_of n) ≡ false → user_met s base n ≡ s
 none_met s n base receive send =
-    rw (not_first_opened s.receive s.peer (base + 1) n receive, not_first_opened s.send s.peer base n send, or_false s.receiving, or_false s.sending) refl
+    rw (not_first_opened s.receive s.peer (base + 1) n receive, not_first_opened s.send s.peer base n send, or_nothing s.receiving, or_nothing s.sending) refl
 
 by_stage : (opened : Bool) (s : UserState) (n : Notice) → is_about s.own (subject_of n) ≡ false
     → (if opened then user_heard s (notices.arrived_on s.own n) else user_opened s n) ≡ passed s

@@ -20,10 +20,7 @@ use Rattle.imp_node.specs.State.{State, ImpTurn, number, port_at}
 use Rattle.imp_node.specs.Turns.{from_line_grows}
 use Rattle.imp_node.proofs.Arrivals.{from_line_fresh}
 use Rattle.imp_node.proofs.Pumping.{passed}
-
-not_true : (b : Bool) → not b ≡ true → b ≡ false
-not_true true e = cc
-not_true false e = refl
+use Rattle.interface.proofs.lemmas.{not_true}
 
 untrue : false ≡ true → ⊥
 untrue e = cc

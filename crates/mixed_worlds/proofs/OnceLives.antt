@@ -17,6 +17,7 @@ use Rattle.mixed_worlds.proofs.Common.{listens_on, is_ready}
 use Rattle.net_sim.specs.Book.{granted}
 use Rattle.std.proofs.lemmas.List.{map-append}
 use Rattle.std.specs.Prelude.{All}
+use Rattle.std.proofs.lemmas.Option.{same_Some}
 use Rattle.interface.specs.declared.crossing.Crossing.TheVariants as crossing
 use Rattle.interface.specs.declared.crossing.Inbound.TheVariants as inbound
 use Rattle.host_pairs.specs.Parcels as parcel
@@ -26,7 +27,7 @@ use Rattle.sockets.specs.declared.request.Request.TheVariants as request
 use Rattle.promise.specs.Safe.{Name, own_request}
 use Rattle.world_keeps_lives.proofs.lemmas.{answer_keeps, request_keeps}
 use Rattle.mixed_worlds.specs.Toward.{taken_request}
-use Rattle.mixed_worlds.proofs.Asked.{if_ends, one_place, own_out}
+use Rattle.mixed_worlds.proofs.Asked.{if_ends, own_out}
 use Rattle.mixed_worlds.proofs.AskedLives.{IsOwn, all_own}
 use Rattle.mixed_worlds.proofs.Carried.{below_all, nobody_passes}
 use Rattle.mixed_worlds.proofs.Once.{AreApart, Differ, IsBoth, IsDone, IsOnce, IsSilent, Opening, done_both}
@@ -161,11 +162,11 @@ module _ (n : Opening) where
 
   module _ (stamp : ℕ) (own : n.asked < stamp) (partner : n.partner < stamp) where
     later_own : {A : Type 0} → Some stamp ≡ Some n.asked → A
-    later_own e = absurd (let same : stamp ≡ n.asked = one_place stamp n.asked e in omega (arith, own, same))
+    later_own e = absurd (let same : stamp ≡ n.asked = same_Some stamp n.asked e in omega (arith, own, same))
 
     later_partner : {A : Type 0} → Some stamp ≡ Some n.partner → A
     later_partner e = absurd
-        (let same : stamp ≡ n.partner = one_place stamp n.partner e in omega (arith, partner, same))
+        (let same : stamp ≡ n.partner = same_Some stamp n.partner e in omega (arith, partner, same))
 
     done_hears : (orders : List Order) → Hears (IsDone n) stamp orders
     done_hears orders = record {

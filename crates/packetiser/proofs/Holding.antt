@@ -22,7 +22,8 @@ use Rattle.packetiser.specs.declared.reassembly.Outcome.{Outcome}
 use Rattle.packetiser.specs.declared.reassembly.Outcome.TheVariants as outcome
 use Rattle.packetiser.specs.declared.reassembly.Added.{Added}
 use Rattle.packetiser.specs.declared.reassembly.Added.TheVariants as answer
-use Rattle.packetiser.proofs.Slots.{All_with_piece, kept_sound, kept_packets, kept_table, without_table, and_first, and_second}
+use Rattle.packetiser.proofs.Slots.{All_with_piece, kept_sound, kept_packets, kept_table, without_table}
+use Rattle.interface.proofs.lemmas.{and_first, and_second}
 
 -- ---- a property of all that is held
 

@@ -6,7 +6,7 @@ use Rattle.std.proofs.lemmas.Bool.Decides.{nat_tests}
 use Rattle.std.proofs.lemmas.List.{take-append-drop, drop-drop, drop_all, length-map, nil_from_length}
 use Rattle.std.proofs.lemmas.List.Elements.{All-cons, All-nil, All-head, All-tail, All-weaker, All-filter, All-map}
 use Rattle.interface.specs.Flow.{same_flow, flow_before}
-use Rattle.interface.proofs.lemmas.{same_flow-refl, same_flow-true}
+use Rattle.interface.proofs.lemmas.{same_flow-refl, same_flow-true, and_first, and_second}
 use Rattle.interface.specs.declared.address.Flow.{Flow}
 use Rattle.packetiser.specs.PacketFields.{PacketFields, flow_of}
 use Rattle.packetiser.specs.Pieces.{piece_count, piece, piece_packet, places, packets_of, CarriesPieceOf}
@@ -15,7 +15,6 @@ use Rattle.packetiser.specs.Rejoining.{came, all_came, pieces_of, Holds, answer_
 use Rattle.packetiser.specs.declared.reassembly.Outcome.{Outcome}
 use Rattle.packetiser.specs.declared.reassembly.Outcome.TheVariants as outcome
 use Rattle.packetiser.specs.declared.reassembly.Added.TheVariants as answer
-use Rattle.packetiser.proofs.Slots.{and_first, and_second}
 
 -- ---- pieces of one body, joined
 

@@ -4,7 +4,7 @@ use Rattle.std.proofs.lemmas.Bool.{eqb-true, false_from_ne_true, or_left, and_ca
 use Rattle.interface.specs.Host.{Host, same_host}
 use Rattle.interface.specs.declared.crossing.Answer.{Answer}
 use Rattle.interface.specs.declared.crossing.Answer.TheVariants as answer
-use Rattle.interface.proofs.lemmas.{and_true}
+use Rattle.interface.proofs.lemmas.{and_true, not_true, and_turned}
 use Rattle.ncp_control.specs.Phases.{reply_phase, failed_phase}
 use Rattle.ncp_control.specs.declared.phase.Phase.{Phase}
 use Rattle.ncp_control.specs.declared.phase.Phase.TheVariants.{Closed, Want, Gone, Heard, Ready}
@@ -70,10 +70,6 @@ became_quiet hosts (Down x) events r v w here before there = absurd (before (sti
 became_quiet hosts (Up x) events r v w here before there = absurd (before (still_ready (same_host v x) Begin (place events) (pair v w events) (monitor v w events) tt here).0)
 became_quiet hosts Idle events r v w here before there = absurd (before here)
 
-not_true : (b : Bool) → not b ≡ true → b ≡ false
-not_true true e = absurd (cc)
-not_true false e = refl
-
 pub unready_phase : (ph : Phase) → is_ready ph ≡ false → ph ≢ Ready
 unready_phase ph e same = contradicts (is_ready ph) (phase_ready ph same) e
 
@@ -92,19 +88,13 @@ begin_quiet hosts e events r a b begun =
 
 -- ---- tests of stays
 
-swap : (s t : Bool) → (s && t) ≡ (t && s)
-swap true true = refl
-swap true false = refl
-swap false true = refl
-swap false false = refl
-
 pub begins_either : (a b : Host) (e : Event) (events : List Event) → begins a b e events ≡ begins b a e events
 begins_either a b e events =
-    ap (λ (j : Bool). j && not (joint a b events)) (swap (ready a b (e ∷ events)) (ready b a (e ∷ events)))
-    ∙ ap (λ (j : Bool). joint b a (e ∷ events) && not j) (swap (ready a b events) (ready b a events))
+    ap (λ (j : Bool). j && not (joint a b events)) (and_turned (ready a b (e ∷ events)) (ready b a (e ∷ events)))
+    ∙ ap (λ (j : Bool). joint b a (e ∷ events) && not j) (and_turned (ready a b events) (ready b a events))
 
 pub joint_either : (a b : Host) (events : List Event) → joint a b events ≡ true → joint b a events ≡ true
-joint_either a b events together = sym (swap (ready a b events) (ready b a events)) ∙ together
+joint_either a b events together = sym (and_turned (ready a b events) (ready b a events)) ∙ together
 
 pub stays_on : (t r k s : Bool) → r ≡ true → k ≡ false → s ≡ true → (t || (r && not k && s)) ≡ true
 stays_on true r k s e f g = refl

@@ -15,10 +15,7 @@ use Rattle.sockets.specs.Pairs.{owner_of, pair_with, placed, with_pair, without_
 use Rattle.sockets.specs.declared.owned.Owned.{Owned}
 use Rattle.sockets.specs.declared.owned.Owned.TheVariants as owned
 use Rattle.sockets.specs.declared.peer.Peer.{Peer}
-
-pub and_no : (b : Bool) → (b && false) ≡ false
-and_no true = refl
-and_no false = refl
+use Rattle.interface.proofs.lemmas.{and_none}
 
 -- a number that is greater than the greatest one is none of them
 pub beyond_all : (numbers : BTreeSet ℕ) (last n : ℕ) → IsUpperBound nat_cmp numbers last → last < n → contains nat_cmp numbers n ≡ false
@@ -30,7 +27,7 @@ no_mine : (s : ℕ) (es : List Entry) → has_own s es ≡ false → find (is_mi
 no_mine s [] h = refl
 no_mine s (e ∷ es) h =
     let t : (e.own == s) ≡ false × has_own s es ≡ false = or_parts (e.own == s) (has_own s es) h in
-    rw (t.0, and_no e.mine) (no_mine s es t.1)
+    rw (t.0, and_none e.mine) (no_mine s es t.1)
 
 no_at : (s f : ℕ) (es : List Entry) → has_own s es ≡ false → entry_at s f es ≡ None
 no_at s f [] h = refl

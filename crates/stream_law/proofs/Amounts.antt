@@ -1,4 +1,5 @@
 -- Amounts of messages and of bits, by connection.
+pub use Rattle.std.proofs.lemmas.Option.{same_Some as some_is}
 use Rattle.std.proofs.Common.{◌≡◌, ◌≢◌, ◌⊎◌, ℕ, ◌+◌, ◌-◌, ◌<◌, ◌≤◌, ◌==◌, ◌&&◌, not, Bool, true, false, List, [], ◌∷◌, ◌++◌, length, Option, Some, None, refl, ap, sym, subst, ◌∙◌, inl, inr, if◌then◌else◌, eq-eqb, nat_lt, nat_le, arith}
 use Rattle.std.proofs.lemmas.Bool.{eqb-true, leb-true, ltb-true, false_from_ne_true, and_parts}
 use Rattle.std.proofs.Math.Nat.{min-le_left, min-eq_left}
@@ -18,10 +19,6 @@ unlike a e f = let same : true ≡ false = sym e ∙ f in absurd (cc)
 value : Option ℕ → ℕ
 value None = 0
 value (Some c) = c
-
-pub some_is : (c d : ℕ) → Some c ≡ Some d → c ≡ d
-unfolding value
-some_is c d e = ap value e
 
 -- ---- by connection
 

@@ -24,6 +24,7 @@ use Rattle.trace.specs.Elements.{elements_of, events_of}
 use Rattle.trace.proofs.Calms.{IsTaking, elementary, rounds_are}
 use Rattle.trace.proofs.Each.{Left, left_of}
 use Rattle.trace.proofs.Queues.{no_queues, queues_more, queues_rest, queues_with}
+use Rattle.interface.proofs.lemmas.{not_false}
 
 -- ---- what is waiting, after each step
 
@@ -34,10 +35,6 @@ running_there hosts down h e = (and_parts (is_host hosts h) (not (is_host down h
 past_first : (b : Bool) (f : CarrierFault) (more : Option CarrierFault) → (if b then Some f else more) ≡ None → (b ≡ false) × (more ≡ None)
 past_first true f more h = absurd (cc)
 past_first false f more h = (refl, h)
-
-not_false : (b : Bool) → not b ≡ false → b ≡ true
-not_false true h = refl
-not_false false h = absurd (cc)
 
 offer_there : (old : Boxes) (f : Flow) → offer_refusal old f ≡ None → is_host old.hosts f.source ≡ true
 offer_there old f none = not_false (is_host old.hosts f.source) (past_first (not (is_host old.hosts f.source)) fault.NoSuch _ (past_first old.stopped fault.Stopped _ none).1).0

@@ -20,7 +20,8 @@ use Rattle.trace.specs.Parts.{Part, Down, Waiting, IsPart, SamePart, is_named, i
 use Rattle.replay.proofs.lemmas.{happens_shows}
 use Rattle.trace.proofs.Each.{Left, left_of}
 use Rattle.trace.proofs.Going.{crossings_are}
-use Rattle.trace.proofs.Queues.{for_other, host_is, queued_other}
+use Rattle.trace.proofs.Queues.{for_other, queued_other}
+use Rattle.interface.proofs.lemmas.{same_host-true}
 
 -- ---- what is not named
 
@@ -41,7 +42,7 @@ host_named test h (g ∷ hosts) there passes = by (λ t. host_named test h hosts
 
     by : (is_host hosts h ≡ true → is_named (Waiting h) (map (λ k. Waiting k) (filter test hosts)) ≡ true) → (b : Bool) → same_host h g ≡ b → (c : Bool) → test g ≡ c → is_named (Waiting h) (map (λ g. Waiting g) (filter test (g ∷ hosts))) ≡ true
     by more true e true t = rw t (rw e refl)
-    by more true e false t = absurd (false≢true (sym t ∙ ap test (sym (host_is h g e)) ∙ passes))
+    by more true e false t = absurd (false≢true (sym t ∙ ap test (sym (same_host-true h g e)) ∙ passes))
     by more false e true t = rw t (rw e (more (rest_there e)))
     by more false e false t = rw t (more (rest_there e))
 

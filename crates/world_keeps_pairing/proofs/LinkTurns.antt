@@ -10,11 +10,12 @@ use Rattle.host_keeps_pairing.proofs.lemmas.{Found, at_append, found_at, one_ord
 use Rattle.pairing_law.proofs.lemmas.{unused}
 use Rattle.pairing_law.proofs.lemmas.Seen as words
 use Rattle.world_keeps_pairing.proofs.Claims.{Claim, heard_claims, last_link, partner_among}
-use Rattle.world_keeps_pairing.proofs.LinkDesks.{Linked, linked_other, linked_wrong, rts_linked, not_true}
+use Rattle.world_keeps_pairing.proofs.LinkDesks.{Linked, linked_other, linked_wrong, rts_linked}
 use Rattle.world_keeps_pairing.proofs.Local.{AllOff, Each, Links, One, SendsBy, all_claims}
 use Rattle.world_keeps_pairing.proofs.Marks.{IsPair, order_at}
 use Rattle.world_keeps_pairing.proofs.Moves.{hears_end, sender_fits}
 use Rattle.world_keeps_pairing.proofs.Sides.{sender_hears}
+use Rattle.interface.proofs.lemmas.{not_true}
 
 -- ---- sockets
 

@@ -1,4 +1,5 @@
 -- The order of keys, and the map that a list of entries by key makes.
+pub use Rattle.interface.proofs.lemmas.{is_equal}
 use Rattle.book_judge.proofs.Common.{◌≡◌, ℕ, Bool, true, false, ◌&&◌, ◌==◌, List, [], ◌∷◌, Some, refl, ap, sym, subst, ◌∙◌, cond, if◌then◌else◌, lookup, is_at, eq_by_cmp, is_eq, nat_cmp, eq_by_cmp_equiv, nat_cmp_total, Ordering, Equal, Greater, Less, FinMap, find, from_entries, get, get-from_entries, get-insert, insert, same_map, and_from, eqb-true, false≢true, exact_unsigned, Host, same_host, and_true, both_ways, same_host-refl, same_host-true, Key, same_bit, key_cmp, same_key}
 use Rattle.std.specs.Ordering.{bool_cmp, ordering_then}
 use Rattle.std.specs.Cmp.{IsTotalOrder, bool_cmp_total}
@@ -101,11 +102,6 @@ same_key-refl k =
     (and_from _ (same_host k.host k.host)
     (and_from (same_bit k.comes k.comes) (k.place == k.place) (same_bit-refl k.comes) (eq-eqb k.place k.place refl))
     (same_host-refl k.host)) (same_host-refl k.peer)) (eq-eqb k.own k.own refl)) (eq-eqb k.foreign k.foreign refl)
-
-pub is_equal : (o : Ordering) → is_eq o ≡ true → o ≡ Equal
-is_equal Less e = absurd (cc)
-is_equal Equal e = refl
-is_equal Greater e = absurd (cc)
 
 alike_keys : (a b : Key) → eq_by_cmp key_cmp a b ≡ same_key a b
 alike_keys a b = both_ways (eq_by_cmp key_cmp a b) (same_key a b)

@@ -8,13 +8,6 @@ use Rattle.subnet.specs.Alive.{packets_on, carries}
 use Rattle.subnet.specs.Net.{Wire}
 use Rattle.subnet.specs.Inside.Seeking.{packet_is, frame_has}
 
--- the number may be compared before the flow
-pub number_first : (a b : Bool) → (a && b) ≡ (b && a)
-number_first true true = refl
-number_first true false = refl
-number_first false true = refl
-number_first false false = refl
-
 -- nothing is under way where no frame is
 pub none_under_way : (q : Sought) (frames : List Frame) → length frames ≡ 0 → list_any (frame_has q) frames ≡ false
 none_under_way q [] none = refl
