@@ -1,6 +1,10 @@
 -- Small documents, for the worked rows. A table's members are in the order of their keys.
-use Rattle.std.specs.Prelude.{ℕ, List, [], ◌∷◌, codes, pos, true}
+use Rattle.std.specs.Prelude.{ℕ, List, [], ◌∷◌, Option, codes, pos, false, true}
+use Rattle.interface.specs.Host.{Host}
 use Rattle.toml.specs.Data.{Data, Items, no_items, item, no_members, member, integer, array, table, string, boolean}
+use Rattle.topology.specs.Mixed.{MixedFields}
+use Rattle.topology.specs.Topology.{TopologyFields, topology_of}
+use Rattle.topology.specs.declared.network.CarrierKind.TheVariants as kind
 use Rattle.topology.specs.declared.network.ImpHosts.{ImpHosts}
 use Rattle.topology.specs.declared.network.LineEnds.{LineEnds}
 
@@ -26,6 +30,10 @@ two_imps = item (imp_table 2 1) (item (imp_table 1 2) no_items)
 abbrev pub one_imp : ℕ → ℕ → Items
 one_imp id hosts = item (imp_table id hosts) no_items
 
+-- what a document describes that lists this IMP alone
+abbrev pub alone : ℕ → ℕ → Option TopologyFields
+alone id hosts = topology_of (document (one_imp id hosts) no_items)
+
 abbrev pub one_line : ℕ → ℕ → Items
 one_line a b = item (line_table a b) no_items
 
@@ -49,3 +57,14 @@ abbrev pub naming : ℕ → ℕ → List ℕ → Items
 naming id hosts numbers =
     item (table (member (codes "foreign") (array (items_of numbers))
     (member (codes "hosts") (integer (pos hosts)) (member (codes "id") (integer (pos id)) no_members)))) no_items
+
+-- what documents with strangers describe: these hosts of an IMP, and a subnet of IMP 2, of whose two hosts the second is one
+abbrev pub strangers_of : ℕ → List ℕ → List Host
+strangers_of imp [] = []
+strangers_of imp (n ∷ numbers) = record { imp = imp; host = n } ∷ strangers_of imp numbers
+
+abbrev pub lone_imp : TopologyFields
+lone_imp = record { carrier = kind.Subnet; raw = false; imps = imp_hosts 2 2 ∷ []; lines = [] }
+
+abbrev pub one_stranger : MixedFields
+one_stranger = record { network = lone_imp; strangers = strangers_of 2 (1 ∷ []) }

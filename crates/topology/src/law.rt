@@ -5,7 +5,7 @@ ghost use Rattle.std.specs.Prelude.{◌≡◌, ◌≤◌, length, true, false, S
 ghost use Rattle.toml.specs.Data.{no_items, item, no_members, member, integer, array, table, string, boolean};
 ghost use Rattle.interface.specs.Host.{Host, is_host};
 ghost use Rattle.topology.specs.declared.network.CarrierKind.TheVariants as kind;
-ghost use Rattle.topology.specs.Examples.{document, naming, raw_document, imp_table, line_table, two_imps, one_imp, one_line, imp_hosts, line, five_lines};
+ghost use Rattle.topology.specs.Examples.{document, naming, raw_document, imp_table, line_table, two_imps, alone, one_line, imp_hosts, line, five_lines, one_stranger, strangers_of};
 ghost use Rattle.topology.specs.Topology.{AreSites, TopologyFields, most_network_lines, IsTopology, hosts_from, hosts_of, has_host, has_ports, imp_of, sites_of, topology_of};
 ghost use Rattle.topology.specs.Mixed.{MixedFields, mixed_of};
 ghost use Rattle.topology.specs.Laws.{WorkedSites};
@@ -36,7 +36,7 @@ pub fn worked_documents()
     // IMPs by rising number, lines as they are listed; without their keys the carrier is a subnet, and there are host programs
     ensures subnet { topology_of (document two_imps (one_line 2 1)) ≡ Some (record { carrier = kind.Subnet; raw = false; imps = imp_hosts 1 2 ∷ imp_hosts 2 1 ∷ []; lines = line 2 1 ∷ [] }) }
     ensures plain { topology_of (raw_document (codes "plain") two_imps) ≡ Some (record { carrier = kind.Plain; raw = true; imps = imp_hosts 1 2 ∷ imp_hosts 2 1 ∷ []; lines = [] }) }
-    ensures no_lines { topology_of (document (one_imp 63 0) no_items) ≡ Some (record { carrier = kind.Subnet; raw = false; imps = imp_hosts 63 0 ∷ []; lines = [] }) }
+    ensures no_lines { alone 63 0 ≡ Some (record { carrier = kind.Subnet; raw = false; imps = imp_hosts 63 0 ∷ []; lines = [] }) }
 
     // another carrier, another key, no IMP, the key of the IMPs missing
     ensures carrier { topology_of (raw_document (codes "Plain") two_imps) ≡ None }
@@ -44,10 +44,10 @@ pub fn worked_documents()
     ensures no_imp { (topology_of (document no_items no_items) ≡ None) × (topology_of (table (member (codes "raw") (boolean true) no_members)) ≡ None) }
 
     // numbers of IMPs: 0, 64, 257, one that is negative, and one that occurs twice; five hosts
-    ensures numbers { (topology_of (document (one_imp 0 1) no_items) ≡ None) × (topology_of (document (one_imp 64 1) no_items) ≡ None) × (topology_of (document (one_imp 257 1) no_items) ≡ None) }
+    ensures numbers { (alone 0 1 ≡ None) × (alone 64 1 ≡ None) × (alone 257 1 ≡ None) }
     ensures negative { imp_of (table (member (codes "hosts") (integer (pos 1)) (member (codes "id") (integer (negsuc 0)) no_members))) ≡ None }
     ensures twice { topology_of (document (item (imp_table 1 1) (item (imp_table 1 2) no_items)) no_items) ≡ None }
-    ensures five_hosts { topology_of (document (one_imp 1 5) no_items) ≡ None }
+    ensures five_hosts { alone 1 5 ≡ None }
 
     // a third key of an IMP, or a missing one
     ensures third_key { imp_of (table (member (codes "hosts") (integer (pos 1)) (member (codes "id") (integer (pos 1)) (member (codes "name") (string []) no_members)))) ≡ None }
@@ -66,8 +66,8 @@ pub fn worked_documents()
 #[tactic(auto, unfolding(crate::specs::Topology::numbered_below, crate::specs::Topology::hosts_below))]
 pub fn worked_strangers()
     // the second of two hosts, and hosts 0 and 2 of three
-    ensures one { mixed_of (document (naming 2 2 (1 ∷ [])) no_items) ≡ Some (record { network = record { carrier = kind.Subnet; raw = false; imps = imp_hosts 2 2 ∷ []; lines = [] }; strangers = record { imp = 2; host = 1 } ∷ [] }) }
-    ensures two { option_map (λ (m : MixedFields). m.strangers) (mixed_of (document (naming 1 3 (0 ∷ 2 ∷ [])) no_items)) ≡ Some (record { imp = 1; host = 0 } ∷ record { imp = 1; host = 2 } ∷ []) }
+    ensures one { mixed_of (document (naming 2 2 (1 ∷ [])) no_items) ≡ Some one_stranger }
+    ensures two { option_map (λ (m : MixedFields). m.strangers) (mixed_of (document (naming 1 3 (0 ∷ 2 ∷ [])) no_items)) ≡ Some (strangers_of 1 (0 ∷ 2 ∷ [])) }
 
     // a number of no host, one that is there twice, and one that is out of order
     ensures no_host { mixed_of (document (naming 2 2 (2 ∷ [])) no_items) ≡ None }
