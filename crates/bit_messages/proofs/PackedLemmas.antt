@@ -13,6 +13,7 @@ use Rattle.std.proofs.lemmas.Bool.{cases_lt}
 use Rattle.std.proofs.lemmas.Grind.{flat_map-append, get_or_default_zero}
 use Rattle.bit_messages.specs.Octets.{octet_bits, bits_of, octets_of, spare_bits}
 use Rattle.bit_messages.specs.Packed.{IsPacked, Packs}
+use Rattle.bit_messages.specs.Store.{octets_for}
 use Rattle.bit_messages.specs.Body.{body, filling, has_mark, text_of}
 use Rattle.bit_messages.proofs.BodyLemmas.{HasZerosFrom, IsMarkedAt, marked_at, IsSplit, IsStripped, split_text, stripped_padded, unmarked_behind}
 use Rattle.bit_messages.proofs.OctetLemmas.{length-bits_of, octets_again, octets_below, bits_again, first_bits, HasFirstBits}
@@ -405,6 +406,30 @@ pad_keeps octets marked new count units text k p is covered few =
       size = omega (arith, k.size, covered, few, length-append text (true ∷ replicate (filling (length text)) false), length-replicate (filling (length text)) false);
       packs = record { zeros = 0; same = bits ∙ sym (append-nil (body text)); few = omega arith };
     }
+
+-- octets that keep bits are as many as these need
+pub octets_needed : (octets : List ℕ) (count : ℕ) → IsPacked octets count → octets_for count ≡ length octets
+octets_needed octets count h =
+    let total : 8 * length octets ≡ count + h.packs.zeros = packs_size octets (take count (bits_of octets)) h.packs ∙ ap (λ (n : ℕ). n + h.packs.zeros) (length-kept octets count h) in
+    omega (arith, total, h.packs.few)
+
+-- the same number in other words
+pub keeps_as : (octets : List ℕ) (count same : ℕ) (bits : List Bool) → same ≡ count → Keeps octets count bits → Keeps octets same bits
+keeps_as octets count same bits e k = record { size = e ∙ k.size; packs = k.packs }
+
+-- once the mark is put, at most one octet is missing
+pub pad_room : (octets marked : List ℕ) (count units : ℕ) (text : List Bool) → Keeps octets count text → Packs marked (take count (bits_of octets) ++ true ∷ [])
+    → count + 1 ≤ 16 * units → 16 * units < count + 17 → (length marked ≤ 2 * units) × (2 * units ≤ length marked + 1)
+pad_room octets marked count units text k p covered few =
+    let P : List Bool → Type 0 = λ v. Packs marked (v ++ true ∷ []) in
+    let m : Packs marked (text ++ true ∷ []) = subst P (keeps_view octets count text k) p in
+    let size : 8 * length marked ≡ length text + 1 + m.zeros = packs_size marked (text ++ true ∷ []) m ∙ ap (λ (n : ℕ). n + m.zeros) (length-append text (true ∷ [])) in
+    (omega (arith, size, k.size, covered, m.few), omega (arith, size, k.size, few, m.few))
+
+-- a part with octets has bits
+pub some_part : (part : List ℕ) (bits : List Bool) (n : ℕ) → Packs part (take (8 * n) bits) → 0 < length part → 0 < n
+some_part part bits zero p some = absurd (omega (arith, packs_size part [] p, p.few, some))
+some_part part bits (suc n) p some = omega arith
 
 -- what is before the mark of a list that is kept
 pub record IsMarked (mark : ℕ) (bits : List Bool) : Type 0 where
