@@ -1,7 +1,7 @@
--- Octets and how many bits they keep, and where they lie: in the value itself while they are few.
+-- Octets of which a number of bits is used.
 use Rattle.std.specs.Prelude.{ℕ, ◌+◌, ◌/◌, List}
 
--- octets, of which only so many bits are used
+-- octets and how many bits they keep
 pub record Stored : Type 0 where
   pub octets : List ℕ
   pub len : ℕ
@@ -9,6 +9,6 @@ pub record Stored : Type 0 where
 abbrev pub stored : List ℕ → ℕ → Stored
 stored octets len = record { octets = octets; len = len }
 
--- so many octets take this many bits
+-- how many octets this many bits need
 abbrev pub octets_for : ℕ → ℕ
 octets_for len = (len + 7) / 8

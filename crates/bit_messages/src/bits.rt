@@ -8,7 +8,7 @@ ghost use Rattle.bit_messages.specs.Packed.{IsPacked};
 ghost use Rattle.bit_messages.specs.declared.fault.BitFault.TheVariants as fault;
 
 use crate::BitFault;
-use crate::octets::{are_octets, bit_in, copied, fill, last_one, part, put, put_bit};
+use crate::octets::{are_octets, bit_in, copied, last_one, part, put, put_bit, put_mark};
 use crate::store::Octets;
 use std::alloc::{AllocError, Global};
 use std::marker::Model;
@@ -173,9 +173,7 @@ impl Bits {
             return Err(BitFault::TooLong);
         }
         let mut octets = self.octets.copied(alloc)?;
-        put_bit(&mut octets, true)?;
-        let units = (len + 1).div_ceil(BODY_UNIT);
-        fill(&mut octets, BODY_UNIT * units)?;
+        put_mark(&mut octets, BODY_UNIT - len % BODY_UNIT)?;
         Ok(Bits { octets })
     }
 

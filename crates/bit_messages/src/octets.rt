@@ -160,17 +160,18 @@ pub(crate) fn put_bit(octets: &mut Octets, bit: bool) -> Result<(), AllocError>
     put(octets, &[octet_with(bit)], 1)
 }
 
-/// Puts a zero after octets where one is missing to the octets of this many bits.
-pub(crate) fn fill(octets: &mut Octets, len: usize) -> Result<(), AllocError>
-    requires least { length octets.old.octets ≤ octets_for len }
-    requires most { octets_for len ≤ length octets.old.octets + 1 }
-    ensures octets { OnOk result (octets.new.octets ≡ take (octets_for len) octets.old.octets ++ replicate (octets_for len - length octets.old.octets) 0) }
-    ensures len { OnOk result (octets.new.len ≡ len) }
+/// Puts a 1 and zeros after the bits of `octets`, which are `count` bits together.
+pub(crate) fn put_mark(octets: &mut Octets, count: usize) -> Result<(), AllocError>
+    requires packed { IsPacked octets.old.octets octets.old.len }
+    requires some { 0 < count }
+    requires few { count ≤ 16 }
+    ensures ok { OnOk result (Packs octets.new.octets (take octets.old.len (bits_of octets.old.octets) ++ true ∷ replicate (count - 1) false)) }
+    ensures len { OnOk result (octets.new.len ≡ octets.old.len + count) }
 {
-    if octets.as_slice().len() == len.div_ceil(8) {
-        return octets.append(&[], len);
+    if count > 8 {
+        return put(octets, &[128, 0], count);
     }
-    octets.append(&[0], len)
+    put(octets, &[128], count)
 }
 
 /// Returns the octet that begins with this bit and has zeros after it.

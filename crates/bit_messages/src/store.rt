@@ -68,7 +68,7 @@ impl Few {
         &self.all[..(self.len as usize).div_ceil(8)]
     }
 
-    /// Puts octets after the others, which then keep so many bits, or changes nothing if there is no room.
+    /// Puts octets after the others, which then keep `len` bits, or changes nothing if there is no room.
     fn append(&mut self, more: &[u8], len: usize) -> bool
         requires { octets_for len ≡ length self.old.octets + length more.now }
         ensures done { OnTrue result (self.new ≡ stored (self.old.octets ++ more.now) len) }
@@ -130,7 +130,7 @@ pub(crate) fn joined(alloc: Global, octets: &[u8], more: &[u8]) -> Result<Vec<u8
     Ok(all)
 }
 
-/// Returns how many bits there are, if memory of their own may keep so many.
+/// Returns a number of bits, if memory of their own can keep that many.
 fn len_apart(len: usize) -> Result<u32, AllocError>
     ensures { IfOk result (λ short. short ≡ len) }
 {
@@ -202,7 +202,7 @@ impl Octets {
         }
     }
 
-    /// Returns these octets, which keep so many bits.
+    /// Returns these octets, which keep `len` bits.
     pub(crate) fn from_slice(alloc: Global, octets: &[u8], len: usize) -> Result<Octets, AllocError>
         requires { octets_for len ≡ length octets.now }
         ensures octets { IfOk result (λ copy. copy.octets ≡ octets.now) }
@@ -256,7 +256,7 @@ impl Octets {
         }
     }
 
-    /// Puts octets after the others, which then keep so many bits, or changes nothing if memory runs out.
+    /// Puts octets after the others, which then keep `len` bits, or changes nothing if memory runs out.
     pub(crate) fn append(&mut self, more: &[u8], len: usize) -> Result<(), AllocError>
         requires { octets_for len ≡ length self.old.octets + length more.now }
         ensures octets { OnOk result (self.new.octets ≡ self.old.octets ++ more.now) }

@@ -1,13 +1,12 @@
 use Rattle.std.proofs.Common.{◌≡◌, ◌+◌, ◌*◌, ◌≤◌, ◌<◌, ◌∙◌, sym, subst, arith, All, List, ℕ, false, nat_lt, length, refl, drop, ap}
 use Rattle.std.proofs.lemmas.Bool.{le-ltb}
 use Rattle.bit_messages.specs.Octets.{bits_of}
-use Rattle.bit_messages.proofs.PackedLemmas.{keeps, Keeps, keeps_along, part_octets, some_part}
+use Rattle.bit_messages.proofs.PackedLemmas.{keeps, Keeps, KeepsIn, keeps_along, part_octets, some_part}
 use Rattle.bit_messages.proofs.bits.Bits.octets_at.Goals as goal
 
 pub returns-clause-decided : goal.returns-clause-decided
 returns-clause-decided c =
-    let k : Keeps c.self.inside.octets.octets c.self.inside.octets.len c.args.self.now =
-    keeps _ _ _ c.self.invariant c.self.view_is in
+    let k : KeepsIn c.self.inside.octets c.args.self.now = keeps _ _ _ c.self.invariant c.self.view_is in
     let o : Keeps c.as_slice.result.now c.self.inside.octets.len c.args.self.now = keeps_along c.self.inside.octets.octets c.as_slice.result.now c.self.inside.octets.len c.args.self.now (sym c.as_slice.ensures) k in
     let within : c.args.from + 8 * c.args.n ≤ length c.args.self.now = omega (arith, c.len.ensures, c.if-from-len.false, c.len-else-from-len.ensures, c.if-n-len.false) in
     let enough : nat_lt (length c.args.self.now) (c.args.from + 8 * c.args.n) ≡ false = le-ltb (length c.args.self.now) (c.args.from + 8 * c.args.n) within in
