@@ -3,7 +3,7 @@ use Rattle.bit_messages.specs.Octets.{bits_of}
 use Rattle.bit_messages.specs.Store.{octets_for}
 use Rattle.bit_messages.proofs.octets.shifted.Given as goal
 
--- the octets at the front are those of the shifted bits
+-- the first octets are those of the shifted bits
 abbrev pub invariant-loop-i : goal.invariant-loop-i
 invariant-loop-i l = record {
   bits : bits_of (take l.i l.part.octets) ≡ take (8 * l.i) (drop l.by (bits_of l.octets ++ replicate 8 false));
