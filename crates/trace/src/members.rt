@@ -47,7 +47,8 @@ impl Members {
         Ok(self.texts.push(text)?)
     }
 
-    /// Returns how much room the next text gets at first: a quarter more than the text before it has, which is mostly of the same kind.
+    /// Returns how much room the next text gets at first: a quarter more than the text before it has, which is mostly
+    /// of the same kind.
     fn room(&self) -> usize {
         match self.texts.last() {
             Some(text) => text.len().saturating_add(text.len() / 4),
