@@ -1,6 +1,11 @@
 -- The members of an object are printed one after the other.
 use Rattle.subnet_trace.proofs.Common.{◌≡◌, ℕ, List, [], ◌∷◌, ◌++◌, codes, Option, subst, Appends, Appends-trans, member, object, quoted, five, three}
+use Rattle.std.proofs.Common.{◌∙◌, Bool, None, Some, ap, drop, false, is_some, map, refl, true}
+use Rattle.std.specs.List.{flat_map}
 use Rattle.std.proofs.lemmas.List.{append_assoc}
+use Rattle.packetiser.specs.PacketFields.{PacketFields}
+use Rattle.subnet_trace.specs.Texts.{channel_text}
+use Rattle.trace.specs.Texts.{array, further}
 
 -- ---- packets and messages
 
@@ -39,6 +44,25 @@ message_printed source destination link number count octets a b c d p1 p2 p3 =
     subst (Appends a d) whole (three (message_front source destination link number count) octets (codes "}") a b c d p1 p2 p3)
 
 -- ---- channels, hosts and ends of lines
+
+-- a channel without a packet is free
+pub free_text : (bit : Bool) (packet : Option PacketFields) → is_some packet ≡ false → channel_text (record { bit = bit; packet = None }) ≡ channel_text (record { bit = bit; packet = packet })
+free_text bit None e = refl
+free_text bit (Some packet) e = absurd (let both : true ≡ false = e in cc)
+
+-- texts that each come after a comma, and the end, follow another one
+after_commas : {X : Type 0} (text : X → List ℕ) (xs : List X) → flat_map (λ x. x) (map (λ x. codes "," ++ text x) xs) ++ codes "]" ≡ further (codes "]") (map text xs)
+after_commas text [] = refl
+after_commas text (x ∷ xs) =
+    let rest : List ℕ = flat_map (λ x. x) (map (λ x. codes "," ++ text x) xs) in
+    ap (λ (v : List ℕ). codes "," ++ v) (append_assoc (text x) rest (codes "]") ∙ ap (λ (v : List ℕ). text x ++ v) (after_commas text xs))
+
+-- without the first comma they are the items of an array
+pub commas_array : {X : Type 0} (text : X → List ℕ) (xs : List X) → codes "[" ++ (drop 1 (flat_map (λ x. x) (map (λ x. codes "," ++ text x) xs)) ++ codes "]") ≡ array (map text xs)
+commas_array text [] = refl
+commas_array text (x ∷ xs) =
+    let rest : List ℕ = flat_map (λ x. x) (map (λ x. codes "," ++ text x) xs) in
+    ap (λ (v : List ℕ). codes "[" ++ v) (append_assoc (text x) rest (codes "]") ∙ ap (λ (v : List ℕ). text x ++ v) (after_commas text xs))
 
 pub channel_printed : (bit packet : List ℕ) (a b c d : Option (List ℕ)) → Appends a b (codes "{\"bit\":" ++ (bit ++ codes ",\"packet\":")) → Appends b c packet → Appends c d (codes "}")
     → Appends a d (object (member (codes "bit") bit ∷ member (codes "packet") packet ∷ []))

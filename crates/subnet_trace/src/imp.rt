@@ -1,22 +1,23 @@
 //! What an IMP keeps, printed.
 
-ghost use Rattle.std.specs.Prelude.{◌≡◌, None, OnOk, Some, false, map};
+ghost use Rattle.std.specs.Prelude.{◌≡◌, ◌++◌, IfSome, None, OnOk, Some, codes, false, map};
 ghost use Rattle.std.specs.Io.KnownBytes.{Appends};
 ghost use Rattle.replay.specs.Failing.{TellsFailure};
 ghost use Rattle.subnet_trace.specs.Printing.{begun_text, held_text};
 ghost use Rattle.subnet_trace.specs.Texts.{channel_text, heard_text, host_object, imp_text, packet_text, port_object};
 ghost use Rattle.subnet_trace.specs.Texts.{slot_text, told_text};
 ghost use Rattle.subnet_trace.specs.Texts.{whole_text};
+ghost use Rattle.trace.specs.Texts.{array, bool_text};
 
 use crate::lists::{All, Held};
-use crate::packets::{digit, digits, print_vector};
+use crate::packets::{digit, digit_octet, digits, print_vector};
 use crate::ways::{Ways, print_concluded, print_heard};
-use imp_channel::Channel;
+use imp_channel::{CHANNELS, Channel};
 use imp_node::{Host, Imp, Message, Port, Told};
 use packetiser::Reassembly;
 use replay::{Output, WriteFailed};
 use routing::Vector;
-use trace::json::{Listed, bool_word, print_array};
+use trace::json::{Listed, print_array};
 use trace::{print_answer, print_octets};
 
 impl Held for Message {
@@ -74,12 +75,22 @@ impl Listed for Answers<'_> {
     }
 }
 
+/// Returns what is printed of a host before its messages.
+fn host_front(up: bool) -> &'static str
+    ensures { result.now ≡ codes "{\"up\":" ++ (bool_text up ++ codes ",\"messages\":") }
+{
+    if up {
+        "{\"up\":true,\"messages\":"
+    } else {
+        "{\"up\":false,\"messages\":"
+    }
+}
+
 impl Held for Host {
     ghost text = { host_object };
 
     fn print<W: Output>(&self, writer: &mut W) -> Result<(), WriteFailed> {
-        let up = bool_word(self.is_up());
-        write!(writer, "{{\"up\":{up},\"messages\":")?;
+        writer.write_all(host_front(self.is_up()).as_bytes())?;
         print_array(&Messages(self), writer)?;
         writer.write_all(b",\"answers\":")?;
         print_array(&Answers(self), writer)?;
@@ -108,13 +119,74 @@ impl Held for Channel {
     }
 }
 
+/// Returns a comma and the text of a free channel, by its bit.
+fn free_octets(bit: bool) -> [u8; 10]
+    ensures { result ≡ codes "," ++ channel_text (record { bit = bit; packet = None }) }
+{
+    [
+        b',',
+        b'{',
+        b'"',
+        b'b',
+        b'i',
+        b't',
+        b'"',
+        b':',
+        digit_octet(bit),
+        b'}',
+    ]
+}
+
+/// Returns the texts of the channels of a line, each after a comma, if all of them are free.
+fn all_free(channels: &[Channel]) -> Option<[[u8; 10]; CHANNELS]>
+    ensures { IfSome result (λ texts. texts ≡ map (λ c. codes "," ++ channel_text c) channels.now) }
+{
+    if channels.len() != CHANNELS {
+        return None;
+    }
+    let mut texts = [[0; 10]; CHANNELS];
+    for place in 0..CHANNELS {
+        let channel = &channels[place];
+        if channel.packet.is_some() {
+            return None;
+        }
+        texts[place] = free_octets(channel.bit);
+    }
+    Some(texts)
+}
+
+/// Prints the channels of a line. If all are free, as they nearly always are, they are printed by one call.
+fn print_channels<W: Output>(channels: &[Channel], writer: &mut W) -> Result<(), WriteFailed>
+    requires { W.failed writer.old ≡ false }
+    ensures written { OnOk result (Appends (W.contents writer.old) (W.contents writer.new) (array (map channel_text channels.now))) }
+    ensures failed { TellsFailure result (W.failed writer.new) }
+{
+    let Some(texts) = all_free(channels) else {
+        return print_array(&All(channels), writer);
+    };
+    let (_, items) = texts.as_flattened().split_at(1);
+    writer.write_all(b"[")?;
+    writer.write_all(items)?;
+    writer.write_all(b"]")
+}
+
+/// Returns what is printed of an end of a line before its channels.
+fn port_front(up: bool) -> &'static str
+    ensures { result.now ≡ codes "{\"up\":" ++ (bool_text up ++ codes ",\"sending\":") }
+{
+    if up {
+        "{\"up\":true,\"sending\":"
+    } else {
+        "{\"up\":false,\"sending\":"
+    }
+}
+
 impl Held for Port {
     ghost text = { port_object };
 
     fn print<W: Output>(&self, writer: &mut W) -> Result<(), WriteFailed> {
-        let up = bool_word(self.up);
-        write!(writer, "{{\"up\":{up},\"sending\":")?;
-        print_array(&All(self.line.channels()), writer)?;
+        writer.write_all(port_front(self.up).as_bytes())?;
+        print_channels(self.line.channels(), writer)?;
         writer.write_all(b",\"expected\":\"")?;
         writer.write_all(&digits(self.line.expected()))?;
         writer.write_all(b"\"}")

@@ -39,7 +39,7 @@ pub(crate) fn digit(bit: bool) -> &'static str
 }
 
 /// Returns a bit as the octet of a digit.
-fn digit_octet(bit: bool) -> u8
+pub(crate) fn digit_octet(bit: bool) -> u8
     ensures { result ∷ [] ≡ bit_text bit }
 {
     if bit { b'1' } else { b'0' }

@@ -42,8 +42,18 @@ impl Members {
     pub fn push<T: Item>(&mut self, alloc: Global, item: &T) -> Result<(), AllocError>
         ensures { OnOk result (self.new ≡ self.old ++ T.text item.now ∷ []) }
     {
-        let text = text_of(alloc, item)?;
+        let room = Vec::with_capacity(alloc, self.room())?;
+        let text = text_after(room, item)?;
         Ok(self.texts.push(text)?)
+    }
+
+    /// Returns how much room the next text gets at first: a quarter more than the text before it has, which is mostly
+    /// of the same kind.
+    fn room(&self) -> usize {
+        match self.texts.last() {
+            Some(text) => text.len().saturating_add(text.len() / 4),
+            None => ROOM,
+        }
     }
 
     /// Puts the text of an item, if it may have changed, in the place of the member at a place. Adds it to an object of
