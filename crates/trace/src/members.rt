@@ -12,6 +12,9 @@ use std::marker::Model;
 /// How many octets a text has room for at first: most need no more.
 const ROOM: usize = 1_024;
 
+/// The least room that a text gets at first.
+const LEAST: usize = 128;
+
 /// The members of a JSON object, each as its text.
 #[derive(Clone, Drop)]
 pub struct Members {
@@ -48,10 +51,10 @@ impl Members {
     }
 
     /// Returns how much room the next text gets at first: a quarter more than the text before it has, which is mostly
-    /// of the same kind.
+    /// of the same kind, and never very little.
     fn room(&self) -> usize {
         match self.texts.last() {
-            Some(text) => text.len().saturating_add(text.len() / 4),
+            Some(text) => text.len().saturating_add(text.len() / 4).max(LEAST),
             None => ROOM,
         }
     }
