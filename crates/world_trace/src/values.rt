@@ -176,6 +176,17 @@ impl fmt::Display for HexString<'_> {
     }
 }
 
+impl Json for HostAddr {
+    ghost use Rattle.interface.specs.Printed.{host_text};
+
+    ghost text = { λ host. quoted (host_text host) };
+
+    fn show<W: fmt::Write>(&self, f: &mut Formatter<W>) -> fmt::Result {
+        let name = Name(self);
+        write!(f, "{name}")
+    }
+}
+
 /// A host as a string.
 #[derive(Drop)]
 pub(crate) struct Name<'a>(pub &'a HostAddr);
