@@ -4,7 +4,7 @@ ghost use Rattle.std.specs.Prelude.{◌≡◌, List};
 ghost use Rattle.interface.specs.Host.{Host, is_host};
 ghost use Rattle.net_sim.specs.Carriers.{shown};
 ghost use Rattle.net_sim.specs.World.{StepGives, WorldState};
-ghost use Rattle.world_replay.specs.Steps.{untaken};
+ghost use Rattle.world_replay.specs.Steps.{as_absent, untaken};
 
 use interface::{Carrier, CarrierFault, HostAddr};
 use net_sim::{Book, Event, MixedEvent, MixedFault, MixedWorld, World, WorldFault};
@@ -88,7 +88,15 @@ fn step_among_programs<C: Carrier>(
     // for the proof only: no stranger has a seat
     let _book = world.book();
     let event = untaken(world.strangers(), event);
-    match world.step(MixedEvent::Any(event)) {
+    let outcome = world.step(MixedEvent::Any(event));
+    answer_of(outcome)
+}
+
+/// Returns an answer, and for the refusal of what a stranger isn't asked for that of a host that isn't there.
+fn answer_of(outcome: Result<(), MixedFault>) -> Result<(), WorldFault>
+    ensures { result ≡ as_absent outcome }
+{
+    match outcome {
         Ok(()) => Ok(()),
         Err(MixedFault::World(fault)) => Err(fault),
         Err(MixedFault::NoProgram | MixedFault::HasProgram) => {
