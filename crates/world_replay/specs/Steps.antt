@@ -22,7 +22,8 @@ use Rattle.world_replay.specs.Output.{Shown, Writes, mixed_refusal, output, show
 
 -- an event goes so, and this answer shows the same refusal, and says as well whether memory has run out
 abbrev pub Tells : {S E : Type 0} → Kind S E → S → E → Result (Unit {0}) MixedFault → S → Type 0
-Tells kind old e told new = (outcome : kind.Answer) × kind.gives old e outcome new × (mixed_stops told ≡ kind.stops outcome) × (kind.refusal outcome ≡ mixed_refusal told)
+Tells kind old e told new = (outcome : kind.Answer) × kind.gives old e outcome new
+    × (mixed_stops told ≡ kind.stops outcome) × (kind.refusal outcome ≡ mixed_refusal told)
 
 pub record IsReplayable {S E : Type 0} (kind : Kind S E) : Type 0 where
   -- the calm of this many rounds has these, and no other event has
@@ -38,11 +39,14 @@ pub record IsReplayable {S E : Type 0} (kind : Kind S E) : Type 0 where
       → Gains (kind.kept old) (kind.kept new)
   -- rounds and then further ones are one calm, and so are their lines
   pub more :
-      (n k : ℕ) (old mid new : S) (r q : kind.Answer) → kind.gives old (kind.calm (suc n)) r mid → kind.stops r ≡ false → kind.gives mid (kind.calm (suc k)) q new
+      (n k : ℕ) (old mid new : S) (r q : kind.Answer) → kind.gives old (kind.calm (suc n)) r mid → kind.stops r ≡ false
+      → kind.gives mid (kind.calm (suc k)) q new
       → kind.gives old (kind.calm (suc n + suc k)) q new
   pub shows :
-      (n k : ℕ) (old mid new : S) (r q : kind.Answer) → kind.gives old (kind.calm n) r mid → kind.gives mid (kind.calm k) q new
-      → (g : Gains (kind.kept old) (kind.kept mid)) (h : Gains (kind.kept mid) (kind.kept new)) (all : Gains (kind.kept old) (kind.kept new)) → gained all ≡ gained g ++ gained h
+      (n k : ℕ) (old mid new : S) (r q : kind.Answer) → kind.gives old (kind.calm n) r mid
+      → kind.gives mid (kind.calm k) q new
+      → (g : Gains (kind.kept old) (kind.kept mid)) (h : Gains (kind.kept mid) (kind.kept new))
+      (all : Gains (kind.kept old) (kind.kept new)) → gained all ≡ gained g ++ gained h
   -- a round in which memory runs out ends any longer calm
   pub ends : (k : ℕ) (old new : S) (r : kind.Answer) → kind.gives old (kind.calm 1) r new → kind.stops r ≡ true
       → kind.gives old (kind.calm (suc k)) r new
@@ -52,21 +56,25 @@ pub record IsReplayable {S E : Type 0} (kind : Kind S E) : Type 0 where
 abbrev pub EventEnds : {S E : Type 0} → Kind S E → Detail → S → E → Result (Unit {0}) ReplayFault → S
     → Option (List ℕ) → Option (List ℕ) → Type 0
 EventEnds kind detail old e (Ok done) new before after = Writes detail (HappensBy kind old e new) before after
-EventEnds kind detail old e (Err fault.OutOfMemory) new before after = Writes detail (StopsBy kind old e new) before after
-EventEnds kind detail old e (Err fault.CannotWrite) new before after = (shown : List Shown) × MayDoBy kind old e new shown
+EventEnds kind detail old e (Err fault.OutOfMemory) new before after = Writes detail (StopsBy kind old e new) before
+    after
+EventEnds kind detail old e (Err fault.CannotWrite) new before after = (shown : List Shown)
+    × MayDoBy kind old e new shown
 
 -- of one that is printed at once
 abbrev pub OneEnds : {S E : Type 0} → Kind S E → Detail → S → E → Result (Unit {0}) ReplayFault → S → Option (List ℕ)
     → Option (List ℕ) → Type 0
 OneEnds kind detail old e (Ok done) new before after = Writes detail (HappensBy kind old e new) before after
 OneEnds kind detail old e (Err fault.OutOfMemory) new before after = Writes detail (StopsBy kind old e new) before after
-OneEnds kind detail old e (Err fault.CannotWrite) new before after = (outcome : kind.Answer) × kind.gives old e outcome new
+OneEnds kind detail old e (Err fault.CannotWrite) new before after = (outcome : kind.Answer)
+    × kind.gives old e outcome new
 
 -- ---- printing
 
 -- these news are written, with the crossings before them: what is shown of more news continues from there, with the crossings that
 -- are left
-pub record Fronts (detail : Detail) (before : ℕ) (crossings : List Crossing) (news : List Shown) (later : ℕ) (left : List Crossing) (a b : Option (List ℕ)) : Type 0 where
+pub record Fronts (detail : Detail) (before : ℕ) (crossings : List Crossing) (news : List Shown) (later : ℕ)
+    (left : List Crossing) (a b : Option (List ℕ)) : Type 0 where
   pub shown : List Shown
   pub whole : (more : List Shown)
       → shown_in_turn before crossings (news ++ more) ≡ shown ++ shown_in_turn later left more
