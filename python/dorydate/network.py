@@ -263,10 +263,10 @@ def written(imp: Imp) -> str:
     return f"[[imp]]\nid = {imp.number}{f' # {imp.name}{imp.more}' if imp.name else ''}\nhosts = {imp.hosts}{strangers}"
 
 
-def imp_of(number: int, hosts: int, foreign: Iterable[int], comment: str) -> Imp:
-    """An IMP, by the comment after its number."""
+def imp_of(table: Mapping[str, Any], comment: str) -> Imp:
+    """An IMP, by its table and the comment after its number."""
     name = Site.read(comment).name
-    return Imp(number, hosts, name, comment[len(name) :], tuple(foreign))
+    return Imp(table["id"], table["hosts"], name, comment[len(name) :], tuple(table.get("foreign", ())))
 
 
 def check(network: Network) -> None:
@@ -284,7 +284,7 @@ def check(network: Network) -> None:
         if numbers.count(imp.number) > 1:
             raise BadNetwork(f"two IMPs have the number {imp.number}")
         if [*imp.foreign] != sorted({*imp.foreign} & {*range(imp.hosts)}) or network.raw and imp.foreign:
-            raise BadNetwork(f"the strangers of {imp} are numbers of its hosts, each once and rising, in a network with host programs")
+            raise BadNetwork(f"the strangers of {imp} are hosts of it, each once and rising, in a network with host programs")
         if not imp.name.isprintable():
             raise BadNetwork("a site's name has one line of characters that can be printed")
     check_lines(network.lines, numbers)
@@ -328,18 +328,20 @@ def read(text: str) -> Network:
     if not isinstance(raw, bool) or not isinstance(carrier, str):
         raise BadNetwork("`raw` is true or false, and `carrier` is \"plain\" or \"subnet\"")
     comments = {int(number): printable(comment) for number, comment in NAME.findall(text)}
-    imps = tuple(imp_of(it["id"], it["hosts"], it.get("foreign", ()), comments.get(it["id"], "")) for it in tables(document, "imp"))
+    imps = tuple(imp_of(it, comments.get(it["id"], "")) for it in tables(document, "imp"))
     return Network(imps, tuple(Line(it["a"], it["b"]) for it in tables(document, "line")), raw, carrier)
 
 
 def tables(document: Mapping[str, Any], name: str) -> list[dict[str, Any]]:
     """The tables of a name, each of which has just its keys, with whole numbers. An IMP may list its strangers, too."""
     found = document.get(name, [])
-    if not isinstance(found, list) or not all(isinstance(it, dict) and {*it} - OPTIONAL[name] == KEYS[name] for it in found):
+    is_list = isinstance(found, list) and all(isinstance(it, dict) for it in found)
+    if not is_list or not all({*it} - OPTIONAL[name] == KEYS[name] for it in found):
         raise BadNetwork(f"a table [[{name}]] has exactly the keys {' and '.join(sorted(KEYS[name]))}")
-    numbers = [value for it in found for key, value in it.items() if key not in OPTIONAL[name]]
     listed = [it["foreign"] for it in found if "foreign" in it]
-    if not all(type(value) is int for value in numbers) or not all(isinstance(it, list) and all(type(value) is int for value in it) for it in listed):
+    numbers = [value for it in found for key, value in it.items() if key not in OPTIONAL[name]]
+    numbers += [value for it in listed if isinstance(it, list) for value in it]
+    if not all(type(value) is int for value in numbers) or not all(isinstance(it, list) for it in listed):
         raise BadNetwork("numbers of IMPs, hosts and ends of lines are whole")
     return found
 

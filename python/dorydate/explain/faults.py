@@ -34,7 +34,8 @@ def diagnose(given: Input, said: str, raw: bool) -> str:
     if found := re.search(r"bad script line (\d+)", said):
         number = (given.marker or 0) + 1 + int(found[1])
         line = given.lines[number - 1]
-        why = wrong_with_line(line, raw or line.startswith(b"out ") and has_strangers(given)) or "No cause was found. docs/program.md has the forms of script lines."
+        as_raw = raw or line.startswith(b"out ") and has_strangers(given)
+        why = wrong_with_line(line, as_raw) or "No cause was found. docs/program.md has the forms of script lines."
         return f"Script line {found[1]} is line {number} of the file:\n  {shown(line)}\n{why}\nNothing was run: one bad line stops the whole script."
     if "bad topology" in said:
         why = wrong_with_topology(given) or "No cause was found. docs/program.md has the form of topologies."

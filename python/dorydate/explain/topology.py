@@ -17,8 +17,9 @@ SHOWN = 14  # characters of a site's name that are shown
 
 def of_model(network: Network) -> Topology:
     """A network as the independent model has it."""
-    imps, lines = [(it.number, it.hosts) for it in network.imps], [(it.a, it.b) for it in network.lines]
-    return Topology(network.carrier, network.raw, imps, lines, [(it.number, [*it.foreign]) for it in network.imps if it.foreign] or None)
+    imps = [(it.number, it.hosts) for it in network.imps]
+    foreign = [(it.number, [*it.foreign]) for it in network.imps if it.foreign]
+    return Topology(network.carrier, network.raw, imps, [(it.a, it.b) for it in network.lines], foreign or None)
 
 
 def names_of(network: Network) -> dict[int, str]:

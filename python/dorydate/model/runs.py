@@ -50,7 +50,8 @@ def network_is_good(network: Topology, runs: Collection[str] = ()) -> bool:
 def strangers_are_good(network: Topology) -> bool:
     """Whether each IMP that names strangers names its own hosts, each once and rising, and there is one at least."""
     hosts = dict(network.imps)
-    rising = all(numbers == sorted({*numbers}) and {*numbers} <= {*range(hosts[imp])} for imp, numbers in network.foreign or [])
+    named = network.foreign or []
+    rising = all(numbers == sorted({*numbers} & {*range(hosts[imp])}) for imp, numbers in named)
     return rising and network.strangers() != []
 
 

@@ -84,7 +84,7 @@ def read_text(count: str, octets: str) -> Bits:
 
 
 def read_line(line: str, raw: bool = True, runs: Collection[str] = EVERYTHING, strangers: bool = False) -> Event | None:
-    """The event that a line asks for, None for a line that is passed over. Where there are strangers they send what a raw network's script sends."""
+    """The event that a line asks for, None for a line that is passed over. Strangers send as a raw network's script does."""
     if line == "" or line[0] == "#":
         return None
     if found := OF_HOST.fullmatch(line):

@@ -9,7 +9,7 @@ from dorydate.model.names import HostName
 
 
 class Topology(NamedTuple):
-    """A network: its carrier, `plain` or `subnet`; whether its script is raw; IMPs with the number of their hosts; lines; and strangers."""
+    """A network: its carrier, `plain` or `subnet`; whether its script is raw; IMPs with their hosts; lines; strangers."""
 
     carrier: str
     raw: bool
@@ -34,7 +34,8 @@ def network_of(text: str) -> Topology:
             tables[-1][1][key] = value.strip('"')
     imps = [(int(table["id"]), int(table["hosts"])) for name, table in tables if name == "[[imp]]"]
     lines: list[tuple[int, ...]] = [(int(table["a"]), int(table["b"])) for name, table in tables if name == "[[line]]"]
-    foreign = [(int(table["id"]), numbers_of(table["foreign"])) for name, table in tables if name == "[[imp]]" and "foreign" in table]
+    named = [table for name, table in tables if name == "[[imp]]" and "foreign" in table]
+    foreign = [(int(table["id"]), numbers_of(table["foreign"])) for table in named]
     return Topology(top.get("carrier", "subnet"), top.get("raw", "false") == "true", imps, lines, foreign or None)
 
 

@@ -1,4 +1,4 @@
-use Rattle.command_line.proofs.Common.{refl, asked_of}
+use Rattle.command_line.proofs.Common.{List, subst, asked_of, IsInputFault, ScriptFault}
 use Rattle.command_line.proofs.Replayed.Either.{either_read, either_replayed, either_stopped, follow_fault, plain_fault}
 use Rattle.command_line.proofs.Replayed.Either.{plain_read, plain_replayed, plain_stopped}
 use Rattle.command_line.proofs.Faults.{unwritten, write_fault}
@@ -23,8 +23,8 @@ returns-in-Ok-clause-stopped g c = λ e.
     (g.W.Output.contents c.args.writer.now) (g.W.Output.contents c.replay_on.new.writer) c.in-Ok.ensures.read
     (c.replay_on.ensures.stopped e)
 
-pub returns-then-check-in-Ok-clause-read : goal.returns-then-check-in-Ok-clause-read
-returns-then-check-in-Ok-clause-read g c = plain_read c.args.octets.now c.write_ok.result
+pub returns-then-check-clause-read : goal.returns-then-check-clause-read
+returns-then-check-clause-read g c = plain_read c.args.octets.now c.write_ok.result
     (c.in-Ok.field-0.network, asked_of c.in-Ok.field-0.events, c.in-Ok.ensures.read)
     (write_fault c.write_ok.result c.write_ok.ensures.fault)
 
@@ -32,7 +32,9 @@ returns-then-check-in-Ok-clause-read g c = plain_read c.args.octets.now c.write_
 
 pub returns-in-Err-BadTopology-clause-read : goal.returns-in-Err-BadTopology-clause-read
 returns-in-Err-BadTopology-clause-read g c = either_read c.args.octets.now c.follow_mixed.result
-    c.in-Err-BadTopology.ensures.fault c.follow_mixed.ensures.read
+    (subst (λ (f : ScriptFault). IsInputFault c.args.octets.now f) c.in-Err-BadTopology.field-0-is
+    c.in-Err-BadTopology.ensures.fault)
+    c.follow_mixed.ensures.read
 
 pub returns-in-Err-BadTopology-clause-replayed : goal.returns-in-Err-BadTopology-clause-replayed
 returns-in-Err-BadTopology-clause-replayed g c = λ off.
