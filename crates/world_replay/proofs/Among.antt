@@ -48,9 +48,11 @@ module _ {C : Type 0} (calls : Calls C) where
 
   in_world : (e : Event) (old : MixedState C) (r : Result (Unit {0}) MixedFault) (new : MixedState C)
       → OfWorld (StepGives calls old.world e) old r new → TurnsAs old e r new
-  in_world e old r new (q, gives, is, same) =
-      (subst (λ (a : Result (Unit {0}) WorldFault). StepGives calls old.world e a new.world)
-      (sym (ap as_absent is ∙ answered q)) gives, same)
+  in_world e old r new (q, gives, is, same) = (
+    subst (λ (a : Result (Unit {0}) WorldFault). StepGives calls old.world e a new.world)
+        (sym (ap as_absent is ∙ answered q)) gives,
+    same,
+  )
 
   -- an event at a host without a seat is refused
   unseated : (Gives : NcpState → Type 0) (o : Option Seat) (old : WorldState C) (r : Result (Unit {0}) WorldFault)
@@ -84,15 +86,15 @@ module _ {C : Type 0} (calls : Calls C) where
       → AskedGives calls old e r new → TurnsAs old e r new
   asked e old r new runs gives g =
       on_either (is_strange (strange_in old) (asked_at e)) (λ s n. refused e old r new runs (gives s) n)
-          (λ s t. in_world e old r new t) g
+      (λ s t. in_world e old r new t) g
 
   taken : (h : Host) (old : MixedState C) (r : Result (Unit {0}) MixedFault) (new : MixedState C)
       → old.world.stopped ≡ false → Unseated old → (b : Bool) → strange_in old h ≡ b
       → AnyGives calls old (taken_or_offered b h) r new → TurnsAs old (Take h) r new
   taken h old r new runs none true s g =
       on_either (strange_in old h)
-          (λ t n. refused (Take h) old r new runs
-          (λ x. unseated _ (seat_of h old.world.seats) old.world (as_absent r) new.world (none h t) x) n)
+      (λ t n. refused (Take h) old r new runs
+      (λ x. unseated _ (seat_of h old.world.seats) old.world (as_absent r) new.world (none h t) x) n)
       (λ t x. absurd (false≢true (sym t ∙ s))) g
   taken h old r new runs none false s g =
       on_either (strange_in old h) (λ t x. absurd (false≢true (sym s ∙ t))) (λ t x. in_world (Take h) old r new x) g

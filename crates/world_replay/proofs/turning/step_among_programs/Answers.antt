@@ -12,7 +12,7 @@ returns g c =
     c.untaken-event.ensures ∙ ap (λ (hosts : List Host). untaken hosts c.args.event) c.strangers.ensures in
     let went : TurnsAs calls c.args.world.now c.args.event c.step-outcome.result c.step-outcome.new.self =
     turns calls _ _ c.args.event c.args.world.now c.step-outcome.result c.step-outcome.new.self
-        c.book-book.ensures.lawful
+    c.book-book.ensures.lawful
     (subst (λ (e : Event). MixedStepGives calls c.args.world.now (Any e) c.step-outcome.result c.step-outcome.new.self)
     is c.step-outcome.ensures) in
     record {
