@@ -20,6 +20,7 @@ mod Resting
 mod Running
 mod States
 mod Stays
+mod Strangers
 mod SubnetStates
 mod Telling
 mod Turns

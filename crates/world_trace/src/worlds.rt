@@ -8,6 +8,7 @@ ghost use Rattle.net_sim.specs.World.{WorldState};
 ghost use Rattle.replay.specs.Failing.{TellsCannotWrite};
 ghost use Rattle.replay.specs.InTurn.{Happening};
 ghost use Rattle.replay.specs.declared.print.Detail.TheVariants.{Sizes};
+ghost use Rattle.trace.specs.declared.element.Spot.{Spot};
 ghost use Rattle.world_replay.specs.Output.{Writes};
 ghost use Rattle.world_replay.specs.Replay.{HappensInCalm, MayStep, StopsIn};
 ghost use Rattle.world_script.specs.declared.event.WorldEvent.TheVariants as world_event;
