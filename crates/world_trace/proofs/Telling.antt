@@ -283,10 +283,15 @@ next_at passed left later e is =
 
 -- ---- after the first line
 
+pub after_line : (line : List ℕ) (AreLines : List (List ℕ) → Type 0) (a b c : Option (List ℕ))
+    → Appends a b (ended_line line) → WritesTrace AreLines b c
+    → WritesTrace (λ lines. (others : List (List ℕ)) × (lines ≡ line ∷ others) × AreLines others) a c
+after_line line AreLines a b c first h = record {
+  shown = line ∷ h.shown;
+  is_shown = (h.shown, refl, h.is_shown);
+  written = appends_more a b c (ended_line line) (text_of (λ line. line) h.shown) first h.written;
+}
+
 pub after_opening : {C : Type 0} (members : C → AllParts) (t : TopologyFields) (opening : WorldState C) (AreLines : List (List ℕ) → Type 0) (a b c : Option (List ℕ)) → Appends a b (ended_line (opening_text t (state_of members opening))) → WritesTrace AreLines b c
     → WritesTrace (AfterOpening members t opening AreLines) a c
-after_opening members t opening AreLines a b c first h = record {
-  shown = opening_text t (state_of members opening) ∷ h.shown;
-  is_shown = (h.shown, refl, h.is_shown);
-  written = appends_more a b c (ended_line (opening_text t (state_of members opening))) (text_of (λ line. line) h.shown) first h.written;
-}
+after_opening members t opening AreLines a b c first h = after_line (opening_text t (state_of members opening)) AreLines a b c first h

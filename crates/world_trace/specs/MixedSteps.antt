@@ -1,21 +1,20 @@
 -- What the contracts of private functions say of worlds with strangers. No public clause cites this file.
 use Rattle.std.specs.Prelude.{◌≡◌, ℕ, ◌≤◌, true, false, if◌then◌else◌, List, [], ◌∷◌, ◌++◌, Option, None, Result, codes, length, map}
 use Rattle.interface.specs.Calls.{Calls}
-use Rattle.interface.specs.Printed.{host_text}
 use Rattle.net_sim.specs.MixedWorlds.{MixedState}
 use Rattle.net_sim.specs.declared.mixed.MixedEvent.{MixedEvent}
 use Rattle.net_sim.specs.declared.mixed.MixedEvent.TheVariants.{Any, Out}
 use Rattle.replay.specs.declared.events.ReplayFault.{ReplayFault}
 use Rattle.replay.specs.declared.print.Detail.TheVariants.{Sizes}
 use Rattle.trace.specs.Changes.{members_of}
-use Rattle.trace.specs.Texts.{array, object, quoted}
+use Rattle.trace.specs.Texts.{array, object}
 use Rattle.trace.specs.declared.all_parts.AllParts.{AllParts}
 use Rattle.trace.specs.declared.element.Spot.{Spot}
 use Rattle.world_replay.specs.Kinds.{HappensBy, mixed_kind}
 use Rattle.world_replay.specs.Output.{Shown, output}
 use Rattle.world_script.specs.declared.event.MixedWorldEvent.{MixedWorldEvent}
 use Rattle.world_script.specs.declared.event.MixedWorldEvent.TheVariants as mixed
-use Rattle.world_trace.specs.MixedTraces.{MayTellMixed, MixedEndsAt, StopsMixed, TellsMixed, TellsMixedAt, mixed_text}
+use Rattle.world_trace.specs.MixedTraces.{MayTellMixed, MixedEndsAt, StopsMixed, TellsMixed, TellsMixedAt, mixed_text, stranger_text}
 use Rattle.world_trace.specs.Steps.{AreChanges, EndsAs, at_one, is_of_network}
 use Rattle.world_trace.specs.Texts.{seat_member, services_member}
 use Rattle.world_trace.specs.Traces.{MayTell, StopsOne}
@@ -32,7 +31,7 @@ foreign_text programs services strangers =
 
 abbrev pub mixed_end : {C : Type 0} → (C → AllParts) → MixedState C → List ℕ
 mixed_end members s =
-    object (members_of (members s.world.carrier)) ++ foreign_text (map seat_member s.world.seats) (map services_member s.world.services) (map (λ h. quoted (host_text h)) s.strangers)
+    object (members_of (members s.world.carrier)) ++ foreign_text (map seat_member s.world.seats) (map services_member s.world.services) (map stranger_text s.strangers)
 
 -- ---- an event that is no calm
 

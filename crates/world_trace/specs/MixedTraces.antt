@@ -34,8 +34,11 @@ mixed_text (Any e) = event_text (world.Happen e)
 mixed_text (Out m) = mixed_spelling (mixed.Happen (Out m))
 
 -- the strangers, as a member of the first line
+abbrev pub stranger_text : Host → List ℕ
+stranger_text h = quoted (host_text h)
+
 abbrev pub foreign_member : List Host → List ℕ
-foreign_member strangers = member (codes "foreign") (array (map (λ h. quoted (host_text h)) strangers))
+foreign_member strangers = member (codes "foreign") (array (map stranger_text strangers))
 
 -- the first line: as without strangers, and then who they are
 abbrev pub mixed_opening : {C : Type 0} → (C → AllParts) → TopologyFields → MixedState C → List ℕ

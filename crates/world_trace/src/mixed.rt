@@ -1,15 +1,14 @@
 //! Tracing the events of a world some of whose hosts are strangers.
 
-ghost use Rattle.std.specs.Prelude.{◌≡◌, ◌⊎◌, ◌++◌, [], Err, IfErr, IfOk, IfSome, OnOk, codes, false};
+ghost use Rattle.std.specs.Prelude.{◌≡◌, ◌⊎◌, [], Err, IfErr, IfOk, IfSome, OnOk, false, map};
 ghost use Rattle.std.specs.Io.KnownBytes.{Appends};
 ghost use Rattle.net_sim.specs.Carriers.{shown};
 ghost use Rattle.replay.specs.Failing.{TellsCannotWrite, TellsFailure};
 ghost use Rattle.script.specs.Input.{ended_line};
-ghost use Rattle.script.specs.Spelling.{message_text};
-ghost use Rattle.world_script.specs.declared.event.MixedWorldEvent.TheVariants as mixed_event;
-ghost use Rattle.world_trace.specs.MixedSteps.{HasPassedMixed, MixedEnds, MixedEventEnds, ShowsMixed, mixed_end, mixed_reach};
-ghost use Rattle.world_trace.specs.MixedTraces.{MixedTraceFails, StopsMixed, WritesMixed, WritesMixedPart, mixed_opening, mixed_text};
+ghost use Rattle.world_trace.specs.MixedSteps.{HasPassedMixed, MixedEnds, MixedEventEnds, ShowsMixed, foreign_text, mixed_end, mixed_reach};
+ghost use Rattle.world_trace.specs.MixedTraces.{MixedTraceFails, StopsMixed, WritesMixed, WritesMixedPart, mixed_opening, mixed_text, stranger_text};
 ghost use Rattle.world_trace.specs.Steps.{AreTextsOf};
+ghost use Rattle.world_trace.specs.Texts.{seat_member, services_member};
 
 use crate::calm::trace_calm;
 use crate::line::{Passed, print_line};
@@ -72,6 +71,23 @@ fn print_opening<C: Inspect, W: Output>(
     print_state(world, writer)
 }
 
+/// Prints the programs and the services of the hosts after other members, the strangers, and the end of the line.
+fn print_hosts<C: Inspect, W: Output>(
+    world: &MixedWorld<C>,
+    writer: &mut W,
+) -> Result<(), WriteFailed>
+    requires { W.failed writer.old ≡ false }
+    ensures written { OnOk result (Appends (W.contents writer.old) (W.contents writer.new) (foreign_text (map seat_member world.now.world.seats) (map services_member world.now.world.services) (map stranger_text world.now.strangers))) }
+    ensures failed { TellsFailure result (W.failed writer.new) }
+{
+    let (programs, services) = (Object(world.seats()), Object(world.services()));
+    let foreign = Array(world.strangers());
+    write!(
+        writer,
+        ",\"programs\":{programs},\"services\":{services},\"foreign\":{foreign}}}\n"
+    )
+}
+
 /// Prints the state of a world after other members, its strangers, and the end of the line.
 fn print_state<C: Inspect, W: Output>(
     world: &MixedWorld<C>,
@@ -82,12 +98,7 @@ fn print_state<C: Inspect, W: Output>(
     ensures failed { TellsFailure result (W.failed writer.new) }
 {
     world.carrier().print_whole(writer)?;
-    let (programs, services) = (Object(world.seats()), Object(world.services()));
-    let foreign = Array(world.strangers());
-    write!(
-        writer,
-        ",\"programs\":{programs},\"services\":{services},\"foreign\":{foreign}}}\n"
-    )
+    print_hosts(world, writer)
 }
 
 /// Traces one event, which is at this spot of a script. The texts of the state may be known.

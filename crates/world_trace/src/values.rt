@@ -177,9 +177,9 @@ impl fmt::Display for HexString<'_> {
 }
 
 impl Json for HostAddr {
-    ghost use Rattle.interface.specs.Printed.{host_text};
+    ghost use Rattle.world_trace.specs.MixedTraces.{stranger_text};
 
-    ghost text = { λ host. quoted (host_text host) };
+    ghost text = { stranger_text };
 
     fn show<W: fmt::Write>(&self, f: &mut Formatter<W>) -> fmt::Result {
         let name = Name(self);
