@@ -1,8 +1,9 @@
 -- Events of a world with strangers have their lines.
-use Rattle.world_trace.proofs.Common.{◌≡◌, inl, inr, ℕ, Bool, true, false, List, [], ◌∷◌, Option, Some, None, Result, Ok, Err, ap, refl, sym, subst, ◌∙◌, false≢true, if◌then◌else◌, Appends, Calls, Event, Host, Quiet, Take, ReplayFault, Spot, WorldFault, WorldState, crossing_of, ended_line, is_of_network, shown, stops, text_of, EventEnds, AllParts}
+use Rattle.world_trace.proofs.Common.{◌≡◌, inl, inr, ℕ, Bool, true, false, List, [], ◌∷◌, Option, Some, None, Result, Ok, Err, ap, refl, sym, subst, ◌∙◌, false≢true, if◌then◌else◌, Appends, Calls, Event, Host, Seat, ServiceSeat, Quiet, Take, ReplayFault, Spot, WorldFault, WorldState, crossing_of, ended_line, is_of_network, shown, stops, text_of, EventEnds, AllParts}
 use Rattle.std.specs.Bool.{MatchBool}
 use Rattle.interface.specs.declared.carrier.CarrierFault.{CarrierFault}
 use Rattle.interface.specs.declared.crossing.Inbound.{Inbound}
+use Rattle.interface.specs.declared.crossing.Inbound.TheVariants as inbound
 use Rattle.interface.specs.declared.message.HostMessage.{HostMessage}
 use Rattle.net_sim.specs.MixedWorlds.{AnyGives, AskedGives, FetchEnds, FetchGives, MixedState, MixedStepGives, OfWorld, OutEnds, OutGives, RefusesMixed, SaysGives, asked_at, is_strange, mixed_answer, mixed_stops, strange_in}
 use Rattle.net_sim.specs.MixedWorlds as mixed_world
@@ -100,28 +101,34 @@ module _ {C : Type 0} (own : Calls C) where
 
   unmoved : (o : Option Host) (f : MixedFault) (old : MixedState C) (r : Result (Unit {0}) MixedFault)
       (new : MixedState C) → RefusesMixed f old r new → AtOthers own o old.world new.world
-  unmoved o f old r new no = same_others own o old.world new.world (ap (λ (s : MixedState C). s.world) no.1)
+  unmoved o f old r new n = same_others own o old.world new.world (ap (λ (s : MixedState C). s.world) n.1)
 
   -- only the carrier and what is kept are other
-  carried : (o : Option Host) (old done new : WorldState C) → done.seats ≡ old.seats → done.services ≡ old.services
-      → new ≡ done → AtOthers own o old new
-  carried o old done new seats services is =
-      hosts_same own o old new (ap (λ (w : WorldState C). w.seats) is ∙ seats) (ap (λ (w : WorldState C). w.services) is ∙ services)
+  carried : (o : Option Host) (old new : WorldState C) → new.seats ≡ old.seats → new.services ≡ old.services
+      → AtOthers own o old new
+  carried o old new seats services = hosts_same own o old new seats services
+
+  abbrev seats_of : WorldState C → List Seat
+  seats_of w = w.seats
+
+  abbrev served_in : WorldState C → List ServiceSeat
+  served_in w = w.services
 
   fetched : (o : Option Host) (answer : Result (Option Inbound) CarrierFault) (c : C) (old : WorldState C)
       (q : Result (Unit {0}) WorldFault) (new : WorldState C) → stops q ≡ false → FetchEnds answer c old q new
       → AtOthers own o old new
-  fetched o (Ok None) c old q new on ends = carried o old _ new refl refl ends.1
-  fetched o (Ok (Some i)) c old q new on (inl d) = carried o old _ new refl refl d.1
+  fetched o (Ok None) c old q new on ends = carried o old new (ap seats_of ends.1) (ap served_in ends.1)
+  fetched o (Ok (Some (inbound.Message m))) c old q new on (inl d) = carried o old new (ap seats_of d.1) (ap served_in d.1)
+  fetched o (Ok (Some (inbound.Answer a f))) c old q new on (inl d) = carried o old new (ap seats_of d.1) (ap served_in d.1)
   fetched o (Ok (Some i)) c old q new on (inr h) = halts_not own (AtOthers own o old new) c old new q on h
-  fetched o (Err e) c old q new on ends = carried o old _ new refl refl ends.1
+  fetched o (Err e) c old q new on ends = carried o old new (ap seats_of ends.1) (ap served_in ends.1)
 
   said : (o : Option Host) (m : HostMessage) (answer : Result (Unit {0}) CarrierFault) (c : C) (old : WorldState C)
       (q : Result (Unit {0}) WorldFault) (new : WorldState C) → stops q ≡ false → OutEnds m answer c old q new
       → AtOthers own o old new
-  said o m (Ok done) c old q new on (inl d) = carried o old _ new refl refl d.1
+  said o m (Ok done) c old q new on (inl d) = carried o old new (ap seats_of d.1) (ap served_in d.1)
   said o m (Ok done) c old q new on (inr h) = halts_not own (AtOthers own o old new) c old new q on h
-  said o m (Err e) c old q new on ends = carried o old _ new refl refl ends.1
+  said o m (Err e) c old q new on ends = carried o old new (ap seats_of ends.1) (ap served_in ends.1)
 
   stepped : (e : Event) (old : MixedState C) (r : Result (Unit {0}) MixedFault) (new : MixedState C)
       → is_of_network e ≡ false → mixed_stops r ≡ false → OfWorld (StepGives (shown own) old.world e) old r new
