@@ -1,11 +1,17 @@
 -- Events of a world with strangers have their lines.
-use Rattle.world_trace.proofs.Common.{◌≡◌, inl, inr, ℕ, Bool, true, false, List, [], ◌∷◌, Option, Some, None, Result, Ok, Err, ap, refl, sym, subst, ◌∙◌, false≢true, if◌then◌else◌, Appends, Calls, Event, Host, Seat, ServiceSeat, Quiet, Take, ReplayFault, Spot, WorldFault, WorldState, crossing_of, ended_line, is_of_network, shown, stops, text_of, EventEnds, AllParts}
+use Rattle.world_trace.proofs.Common.{◌≡◌, inl, inr, ℕ, Bool, true, false, List, [], ◌∷◌, Option, Some, None, Result}
+use Rattle.world_trace.proofs.Common.{Ok, Err, ap, refl, sym, subst, ◌∙◌, false≢true, if◌then◌else◌, Appends, Calls}
+use Rattle.world_trace.proofs.Common.{Event, Host, Seat, ServiceSeat, Quiet, Take, ReplayFault, Spot, WorldFault}
+use Rattle.world_trace.proofs.Common.{WorldState, crossing_of, ended_line, is_of_network, shown, stops, text_of}
+use Rattle.world_trace.proofs.Common.{EventEnds, AllParts}
 use Rattle.std.specs.Bool.{MatchBool}
 use Rattle.interface.specs.declared.carrier.CarrierFault.{CarrierFault}
 use Rattle.interface.specs.declared.crossing.Inbound.{Inbound}
 use Rattle.interface.specs.declared.crossing.Inbound.TheVariants as inbound
 use Rattle.interface.specs.declared.message.HostMessage.{HostMessage}
-use Rattle.net_sim.specs.MixedWorlds.{AnyGives, AskedGives, FetchEnds, FetchGives, MixedState, MixedStepGives, OfWorld, OutEnds, OutGives, RefusesMixed, SaysGives, asked_at, is_strange, mixed_answer, mixed_stops, strange_in}
+use Rattle.net_sim.specs.MixedWorlds.{AnyGives, AskedGives, FetchEnds, FetchGives, MixedState, MixedStepGives, OfWorld}
+use Rattle.net_sim.specs.MixedWorlds.{OutEnds, OutGives, RefusesMixed, SaysGives, asked_at, is_strange, mixed_answer}
+use Rattle.net_sim.specs.MixedWorlds.{mixed_stops, strange_in}
 use Rattle.net_sim.specs.MixedWorlds as mixed_world
 use Rattle.net_sim.specs.declared.mixed.MixedEvent.{MixedEvent}
 use Rattle.net_sim.specs.declared.mixed.MixedEvent.TheVariants.{Any, Out}
@@ -13,7 +19,8 @@ use Rattle.net_sim.specs.declared.mixed.MixedFault.{MixedFault}
 use Rattle.net_sim.specs.World.{StepGives}
 use Rattle.replay.specs.declared.events.ReplayFault.TheVariants as fault
 use Rattle.replay.specs.declared.print.Detail.TheVariants.{Sizes}
-use Rattle.world_replay.specs.Kinds.{BreaksOffBy, HappensBy, MayDoBy, MixedEventGives, ReplaysBy, RunsOutBy, StopsBy, mixed_kind}
+use Rattle.world_replay.specs.Kinds.{BreaksOffBy, HappensBy, MayDoBy, MixedEventGives, ReplaysBy, RunsOutBy, StopsBy}
+use Rattle.world_replay.specs.Kinds.{mixed_kind}
 use Rattle.world_replay.specs.Output.{Shown, Writes, output}
 use Rattle.world_script.specs.declared.event.MixedWorldEvent.{MixedWorldEvent}
 use Rattle.world_script.specs.declared.event.MixedWorldEvent.TheVariants as mixed
@@ -39,17 +46,28 @@ shows_mixed calls old new e written h =
 
 -- whichever fault ended it
 pub ended_mixed : {C : Type 0} (calls : Calls C) (old new : MixedState C) (e : MixedEvent) (f : ReplayFault)
-    → (failed_by f ≡ Err fault.OutOfMemory → (lines : List Shown) × RunsOutBy (mixed_kind calls) old (mixed.Happen e ∷ []) new lines)
-    → (failed_by f ≡ Err fault.CannotWrite → (lines : List Shown) × BreaksOffBy (mixed_kind calls) old (mixed.Happen e ∷ []) new lines)
+    → (failed_by f ≡ Err fault.OutOfMemory → (lines : List Shown)
+    × RunsOutBy (mixed_kind calls) old (mixed.Happen e ∷ []) new lines)
+    → (failed_by f ≡ Err fault.CannotWrite → (lines : List Shown)
+    × BreaksOffBy (mixed_kind calls) old (mixed.Happen e ∷ []) new lines)
     → StopsMixed calls old e new []
 ended_mixed calls old new e fault.OutOfMemory memory failed =
     let w = memory refl in
-    let (own, stopped) = last_one (HappensBy (mixed_kind calls)) (StopsBy (mixed_kind calls)) old new (mixed.Happen e) w.0 w.1 in
+    let (own, stopped) = last_one (HappensBy (mixed_kind calls)) (StopsBy (mixed_kind calls)) old new (mixed.Happen e)
+    w.0 w.1 in
     inr (refl, (stopped.outcome, stopped.gives))
 ended_mixed calls old new e fault.CannotWrite memory failed =
     let w = failed refl in
-    let (own, may) = last_one (HappensBy (mixed_kind calls)) (MayDoBy (mixed_kind calls)) old new (mixed.Happen e) w.0 w.1 in
-    inr (refl, (may.outcome, subst (λ (x : MixedWorldEvent). MixedEventGives calls old x may.outcome new) may.begins may.gives))
+    let (own, may) = last_one (HappensBy (mixed_kind calls)) (MayDoBy (mixed_kind calls)) old new (mixed.Happen e) w.0
+    w.1 in
+    inr (
+      refl,
+      (
+        may.outcome,
+        subst (λ (x : MixedWorldEvent). MixedEventGives calls old x may.outcome new) may.begins
+            may.gives,
+      ),
+    )
 
 -- ---- its line
 
@@ -59,11 +77,13 @@ pub tells_mixed : {C : Type 0} (calls : Calls C) (members : C → AllParts) (spo
     → MixedEnds calls members spot old e (Ok tt) new a b
 tells_mixed calls members spot old new e p a b h written =
     let (lines, happens, says) = h.shows in
-    one_line (line_of spot 0 (mixed_text e) happens.gains.crossings (output Sizes lines) (change_of members old.world new.world))
+    one_line (line_of spot 0 (mixed_text e) happens.gains.crossings (output Sizes lines)
+    (change_of members old.world new.world))
     (TellsMixed calls members spot old e new) a b (lines, happens, refl)
     (subst (λ (line : List ℕ). Appends a b (ended_line line))
     (line_by members spot 0 old.world new.world (mixed_text e) p.event.items p.printed.items p.changes.parts.items
-    p.changes.programs.items p.changes.services.items p.crossed lines happens.gains h.event says h.crossed h.changes) written)
+    p.changes.programs.items p.changes.services.items p.crossed lines happens.gains h.event says h.crossed h.changes)
+    written)
 
 -- ---- an event of a script
 
@@ -118,8 +138,10 @@ module _ {C : Type 0} (own : Calls C) where
       (q : Result (Unit {0}) WorldFault) (new : WorldState C) → stops q ≡ false → FetchEnds answer c old q new
       → AtOthers own o old new
   fetched o (Ok None) c old q new on ends = carried o old new (ap seats_of ends.1) (ap served_in ends.1)
-  fetched o (Ok (Some (inbound.Message m))) c old q new on (inl d) = carried o old new (ap seats_of d.1) (ap served_in d.1)
-  fetched o (Ok (Some (inbound.Answer a f))) c old q new on (inl d) = carried o old new (ap seats_of d.1) (ap served_in d.1)
+  fetched o (Ok (Some (inbound.Message m))) c old q new on (inl d) = carried o old new (ap seats_of d.1)
+      (ap served_in d.1)
+  fetched o (Ok (Some (inbound.Answer a f))) c old q new on (inl d) = carried o old new (ap seats_of d.1)
+      (ap served_in d.1)
   fetched o (Ok (Some i)) c old q new on (inr h) = halts_not own (AtOthers own o old new) c old new q on h
   fetched o (Err e) c old q new on ends = carried o old new (ap seats_of ends.1) (ap served_in ends.1)
 
@@ -165,9 +187,12 @@ module _ {C : Type 0} (own : Calls C) where
       → AtOthers own o old.world new.world
   reaches (Any e) o old r new at on g = by (is_of_network e) refl where
     by : (b : Bool) → is_of_network e ≡ b → AtOthers own o old.world new.world
-    by true is = absurd (let no : reach.All ≡ reach.At o = sym (ap (λ (b : Bool). if b then reach.All else reach.At (at_one e)) is) ∙ at in cc)
+    by true is =
+        absurd (let no : reach.All ≡ reach.At o =
+        sym (ap (λ (b : Bool). if b then reach.All else reach.At (at_one e)) is) ∙ at in cc)
     by false is =
-        let here : reach.At (at_one e) ≡ reach.At o = sym (ap (λ (b : Bool). if b then reach.All else reach.At (at_one e)) is) ∙ at in
+        let here : reach.At (at_one e) ≡ reach.At o =
+        sym (ap (λ (b : Bool). if b then reach.All else reach.At (at_one e)) is) ∙ at in
         let same : at_one e ≡ o = cc in
         subst (λ (x : Option Host). AtOthers own x old.world new.world) same (any_others e old r new is on g)
   reaches (Out m) o old r new at on g =

@@ -50,7 +50,8 @@ mixed_opening members t s = opening_text t (state_of members s.world ++ foreign_
 abbrev pub TellsMixed : {C : Type 0} → Calls C → (C → AllParts) → Spot → Happening (MixedState C) MixedEvent (List ℕ)
 TellsMixed calls members spot old e new lines =
     (shown : List Shown) × (h : HappensBy (mixed_kind calls) old (mixed.Happen e) new shown)
-    × (lines ≡ line_of spot 0 (mixed_text e) h.gains.crossings (output Sizes shown) (change_of members old.world new.world) ∷ [])
+    × (lines ≡ line_of spot 0 (mixed_text e) h.gains.crossings (output Sizes shown)
+    (change_of members old.world new.world) ∷ [])
 
 -- it is processed, whatever comes of it, and has no line
 abbrev pub MayTellMixed : {C : Type 0} → Calls C → Happening (MixedState C) MixedEvent (List ℕ)
@@ -62,13 +63,15 @@ abbrev pub StopsMixed : {C : Type 0} → Calls C → Happening (MixedState C) Mi
 StopsMixed calls old e new lines = ((lines ≡ []) × (new ≡ old)) ⊎ MayTellMixed calls old e new lines
 
 -- a calm is that of the hosts with programs: strangers have no turn, and stay strangers
-abbrev pub TellsMixedAt : {C : Type 0} → Calls C → (C → AllParts) → Spot → Happening (MixedState C) MixedWorldEvent (List ℕ)
+abbrev pub TellsMixedAt : {C : Type 0} → Calls C → (C → AllParts) → Spot
+    → Happening (MixedState C) MixedWorldEvent (List ℕ)
 TellsMixedAt calls members spot old (mixed.Happen e) new lines = TellsMixed calls members spot old e new lines
 TellsMixedAt calls members spot old (mixed.Calm rounds) new lines =
     TellsAt calls members spot old.world (world.Calm rounds) new.world lines × (new.strangers ≡ old.strangers)
 
 -- the events of a calm before one had their lines, and that one went as is said. So did an event that is no calm
-abbrev pub MixedEndsAt : {C : Type 0} → Calls C → (C → AllParts) → Happening (WorldState C) Event (List ℕ) → Happening (MixedState C) MixedEvent (List ℕ) → Spot → Happening (MixedState C) MixedWorldEvent (List ℕ)
+abbrev pub MixedEndsAt : {C : Type 0} → Calls C → (C → AllParts) → Happening (WorldState C) Event (List ℕ)
+    → Happening (MixedState C) MixedEvent (List ℕ) → Spot → Happening (MixedState C) MixedWorldEvent (List ℕ)
 MixedEndsAt calls members Goes GoesMixed spot old (mixed.Happen e) new lines = GoesMixed old e new lines
 MixedEndsAt calls members Goes GoesMixed spot old (mixed.Calm rounds) new lines =
     EndsAt calls members Goes spot old.world (world.Calm rounds) new.world lines × (new.strangers ≡ old.strangers)
@@ -79,29 +82,44 @@ AtSpot Tells old e new lines = Tells e.0 old e.1 new lines
 
 -- ---- all events, numbered from 1, each of which comes after the number of its line in a script
 
-abbrev pub TracesMixed : {C : Type 0} → Calls C → (C → AllParts) → MixedState C → List (ℕ × MixedWorldEvent) → MixedState C → List (List ℕ) → Type 0
-TracesMixed calls members old events new lines = InTurn (AtSpot (TellsMixedAt calls members)) old (numbered_from 1 events) new lines
+abbrev pub TracesMixed : {C : Type 0} → Calls C → (C → AllParts) → MixedState C → List (ℕ × MixedWorldEvent)
+    → MixedState C → List (List ℕ) → Type 0
+TracesMixed calls members old events new lines = InTurn (AtSpot (TellsMixedAt calls members)) old
+    (numbered_from 1 events) new lines
 
-abbrev pub MixedTraceEnds : {C : Type 0} → Calls C → (C → AllParts) → Happening (WorldState C) Event (List ℕ) → Happening (MixedState C) MixedEvent (List ℕ) → MixedState C → List (ℕ × MixedWorldEvent) → MixedState C → List (List ℕ) → Type 0
+abbrev pub MixedTraceEnds : {C : Type 0} → Calls C → (C → AllParts) → Happening (WorldState C) Event (List ℕ)
+    → Happening (MixedState C) MixedEvent (List ℕ) → MixedState C → List (ℕ × MixedWorldEvent) → MixedState C
+    → List (List ℕ) → Type 0
 MixedTraceEnds calls members Goes GoesMixed old events new lines =
-    EndsInTurn (AtSpot (TellsMixedAt calls members)) (AtSpot (MixedEndsAt calls members Goes GoesMixed)) old (numbered_from 1 events) new lines
+    EndsInTurn (AtSpot (TellsMixedAt calls members)) (AtSpot (MixedEndsAt calls members Goes GoesMixed)) old
+    (numbered_from 1 events) new lines
 
 -- memory ran out in one of the events, or for its line; a write failed for the line of one of them
-abbrev pub MixedTraceStops : {C : Type 0} → Calls C → (C → AllParts) → MixedState C → List (ℕ × MixedWorldEvent) → MixedState C → List (List ℕ) → Type 0
-MixedTraceStops calls members old events new lines = MixedTraceEnds calls members (StopsOne calls) (StopsMixed calls) old events new lines
+abbrev pub MixedTraceStops : {C : Type 0} → Calls C → (C → AllParts) → MixedState C → List (ℕ × MixedWorldEvent)
+    → MixedState C → List (List ℕ) → Type 0
+MixedTraceStops calls members old events new lines = MixedTraceEnds calls members (StopsOne calls) (StopsMixed calls)
+    old events new lines
 
-abbrev pub MixedTraceFails : {C : Type 0} → Calls C → (C → AllParts) → MixedState C → List (ℕ × MixedWorldEvent) → MixedState C → Type 0
-MixedTraceFails calls members old events new = (others : List (List ℕ)) × MixedTraceEnds calls members (MayTell calls) (MayTellMixed calls) old events new others
+abbrev pub MixedTraceFails : {C : Type 0} → Calls C → (C → AllParts) → MixedState C → List (ℕ × MixedWorldEvent)
+    → MixedState C → Type 0
+MixedTraceFails calls members old events new = (others : List (List ℕ))
+    × MixedTraceEnds calls members (MayTell calls) (MayTellMixed calls) old events new others
 
 -- ---- writing
 
 -- the first line is written, and then these
-abbrev pub AfterMixedOpening : {C : Type 0} → (C → AllParts) → TopologyFields → MixedState C → (List (List ℕ) → Type 0) → List (List ℕ) → Type 0
-AfterMixedOpening members t opening AreLines lines = (others : List (List ℕ)) × (lines ≡ mixed_opening members t opening ∷ others) × AreLines others
+abbrev pub AfterMixedOpening : {C : Type 0} → (C → AllParts) → TopologyFields → MixedState C → (List (List ℕ) → Type 0)
+    → List (List ℕ) → Type 0
+AfterMixedOpening members t opening AreLines lines = (others : List (List ℕ))
+    × (lines ≡ mixed_opening members t opening ∷ others) × AreLines others
 
-abbrev pub WritesMixed : {C : Type 0} → Calls C → (C → AllParts) → TopologyFields → MixedState C → List (ℕ × MixedWorldEvent) → MixedState C → Option (List ℕ) → Option (List ℕ) → Type 0
-WritesMixed calls members t old events new before after = WritesTrace (AfterMixedOpening members t old (TracesMixed calls members old events new)) before after
+abbrev pub WritesMixed : {C : Type 0} → Calls C → (C → AllParts) → TopologyFields → MixedState C
+    → List (ℕ × MixedWorldEvent) → MixedState C → Option (List ℕ) → Option (List ℕ) → Type 0
+WritesMixed calls members t old events new before after = WritesTrace
+    (AfterMixedOpening members t old (TracesMixed calls members old events new)) before after
 
 -- memory ran out in one of the events, or for its line: those before it have theirs
-abbrev pub WritesMixedPart : {C : Type 0} → Calls C → (C → AllParts) → TopologyFields → MixedState C → List (ℕ × MixedWorldEvent) → MixedState C → Option (List ℕ) → Option (List ℕ) → Type 0
-WritesMixedPart calls members t old events new before after = WritesTrace (AfterMixedOpening members t old (MixedTraceStops calls members old events new)) before after
+abbrev pub WritesMixedPart : {C : Type 0} → Calls C → (C → AllParts) → TopologyFields → MixedState C
+    → List (ℕ × MixedWorldEvent) → MixedState C → Option (List ℕ) → Option (List ℕ) → Type 0
+WritesMixedPart calls members t old events new before after = WritesTrace
+    (AfterMixedOpening members t old (MixedTraceStops calls members old events new)) before after

@@ -8,7 +8,8 @@ abbrev pub invariant-loop-line : goal.invariant-loop-line
 invariant-loop-line g l =
     let left = l.line-iterator.rest.items in
     (l.passed + length left ≡ length l.fn.events.items)
-    × SoFar (AtSpot g.T.Scripted.tells) l.fn.world (numbered_from 1 l.fn.events.items) (numbered_from (l.passed + 1) left) l.world
+    × SoFar (AtSpot g.T.Scripted.tells) l.fn.world (numbered_from 1 l.fn.events.items)
+    (numbered_from (l.passed + 1) left) l.world
     (g.W.Output.contents l.fn.writer) (g.W.Output.contents l.writer)
     × (g.W.Output.failed l.writer ≡ false)
     × IfSome l.known (AreTextsOf g.C.Inspect.inside.members (g.T.Traced.state l.world))
