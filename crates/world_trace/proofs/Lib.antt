@@ -6,6 +6,7 @@ mod CommandTexts
 mod Ends
 mod Failures
 mod Fields
+mod Beside
 mod Blocks
 mod Unspent
 mod Lines

@@ -26,6 +26,7 @@ mod values;
 pub mod worked;
 pub mod worked_lasting;
 pub mod worked_networks;
+pub mod worked_strangers;
 mod worlds;
 
 pub use lasting::{lasts, says_all};
