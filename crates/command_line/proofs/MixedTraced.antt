@@ -1,5 +1,5 @@
 -- What `--trace` writes among strangers, and of an input of either kind.
-use Rattle.command_line.proofs.Common.{◌≡◌, ◌⊎◌, inl, inr, ℕ, List, Option, Result, Ok, Err, IfErr, MatchResult, OnOk, ap, refl, subst, sym, ◌∙◌, Calls, Host, Keeps, text_of, parted_once, CarrierKind, IsInputFault, IsReplayFault, IsScriptOf, IsScripted, ScriptFault, TopologyFields, TracesOn, on_ok, subnet_of}
+use Rattle.command_line.proofs.Common.{◌≡◌, ◌⊎◌, inl, inr, ℕ, List, Option, Result, Ok, Err, IfErr, MatchResult, OnOk, ap, refl, subst, sym, ◌∙◌, Calls, Host, Keeps, text_of, asking_from, parted_once, CarrierKind, IsInputFault, IsReplayFault, IsScriptOf, IsScripted, ScriptFault, TopologyFields, TracesOn, on_ok, subnet_of}
 use Rattle.std.proofs.Common.{length}
 use Rattle.net_sim.specs.MixedWorlds.{MixedState, opening_mixed}
 use Rattle.subnet.specs.Calls.{Kept}
@@ -44,7 +44,7 @@ pub mixed_fit : (octets script : List ℕ) (network : MixedFields) (events : Lis
     → IsMixedInput octets network events → IsScriptOf octets script → length (event_lines script) ≡ length events
 mixed_fit octets script network events input parted =
     let same = parted_once octets parted.document script input.document input.script parted.parted input.parted in
-    ap (λ ls. length (event_lines ls)) same.scripts ∙ as_many mixed_spelling IsMixedEvent events _ input.asked
+    ap (λ ls. length (asking_from 1 ls)) same.scripts ∙ as_many mixed_spelling IsMixedEvent events _ input.asked
 
 pub mixed_traced : (octets lines : List ℕ) (network : MixedFields) (events : List MixedWorldEvent)
     (r : Result (Unit {0}) ScriptFault) (a b : Option (List ℕ)) → IsMixedScripted octets network lines events

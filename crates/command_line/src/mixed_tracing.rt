@@ -101,6 +101,8 @@ fn trace_mixed_on<W: Output>(
     ensures failed { (result ≡ Err ScriptFault.CannotWrite) ↔ (W.failed writer.new ≡ true) }
     ensures flushed { OnOk result (W.flushed writer.new ≡ true) }
 {
+    // for the proof only: strangers are hosts of the network
+    network.strangers();
     let events = beside_lines(alloc, lines, events)?;
     match network.network().carrier() {
         CarrierKind::Plain => {
