@@ -58,7 +58,7 @@ pub unread_either : (known : Option (List ℕ)) (r : Result (Unit {0}) ScriptFau
 unread_either None r f failed is read long told whole = tt
 unread_either (Some k) r f failed is read long told whole =
     subst (λ q. MatchResult q (λ done. IsEitherInput k) (IsEitherFault k)) (sym is)
-        (unread_known k f failed read long told whole)
+    (unread_known k f failed read long told whole)
 
 -- ---- without strangers
 

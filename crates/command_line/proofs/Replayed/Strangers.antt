@@ -49,8 +49,8 @@ pub strangers_there : (t : MixedFields) (hosts named : List Host) → hosts ≡ 
     → AreHosts t → absent_in hosts named ≡ None
 strangers_there t hosts named at same there =
     subst (λ (hs : List Host). absent_in hs named ≡ None) (sym at)
-        (subst (λ (ns : List Host). absent_in (hosts_of t.network) ns ≡ None) (sym same)
-        (all_there (hosts_of t.network) t.strangers there))
+    (subst (λ (ns : List Host). absent_in (hosts_of t.network) ns ≡ None) (sym same)
+    (all_there (hosts_of t.network) t.strangers there))
 
 -- ---- what is written
 
@@ -64,7 +64,7 @@ pub mixed_writes_all : {C : Type 0} (calls : Calls C) (strangers : List Host) (c
     → WritesWorld book detail (MixedShowsFrom calls strangers carrier events) a c
 mixed_writes_all {C} calls strangers carrier opening last events lives book detail a b c is h among toward left end =
     let from : ReplaysBy (mixed_kind (shown calls)) (opening_mixed (shown calls) carrier strangers) events last
-        h.shown =
+    h.shown =
     subst (λ (w : MixedState C). ReplaysBy (mixed_kind (shown calls)) w events last h.shown) is h.is_shown in
     record {
       shown = h.shown;
@@ -91,7 +91,7 @@ pub mixed_writes_part : {C : Type 0} (calls : Calls C) (strangers : List Host) (
     → lines.Writes detail (MixedStopsFrom calls strangers carrier events) a b
 mixed_writes_part {C} calls strangers carrier opening last events detail a b is h among toward =
     let from : RunsOutBy (mixed_kind (shown calls)) (opening_mixed (shown calls) carrier strangers) events last
-        h.shown =
+    h.shown =
     subst (λ (w : MixedState C). RunsOutBy (mixed_kind (shown calls)) w events last h.shown) is h.is_shown in
     record {
       shown = h.shown;
@@ -134,8 +134,8 @@ pub subnet_part : (t : MixedFields) (k : Kept) (named : List Host) (detail : Det
     → Keeps a b ⊎ MixedEndsOn t detail events a b
 subnet_part t k named detail events a b is at same h =
     mixed_over_part kind.Subnet t detail events a b is
-        (subnet_named t k named
-        (λ hosts x. Keeps a b ⊎ lines.Writes detail (MixedStopsFrom subnet_calls hosts x events) a b) at same h)
+    (subnet_named t k named
+    (λ hosts x. Keeps a b ⊎ lines.Writes detail (MixedStopsFrom subnet_calls hosts x events) a b) at same h)
 
 pub subnet_all : {A E : Type 0} (t : MixedFields) (k : Kept) (named : List Host) (book : Bool) (detail : Detail)
     (events : List MixedWorldEvent) (a b : Option (List ℕ)) (r : Result A E) → t.network.carrier ≡ kind.Subnet
@@ -144,5 +144,5 @@ pub subnet_all : {A E : Type 0} (t : MixedFields) (k : Kept) (named : List Host)
     → OnOk r (MixedReplaysOn t book detail events a b)
 subnet_all t k named book detail events a b r is at same h =
     mixed_over_all kind.Subnet t book detail events a b r is
-        (subnet_named t k named
-        (λ hosts x. OnOk r (WritesWorld book detail (MixedShowsFrom subnet_calls hosts x events) a b)) at same h)
+    (subnet_named t k named
+    (λ hosts x. OnOk r (WritesWorld book detail (MixedShowsFrom subnet_calls hosts x events) a b)) at same h)

@@ -8,7 +8,7 @@ pub returns-in-Ok-outcome-clause-replayed : goal.returns-in-Ok-outcome-clause-re
 returns-in-Ok-outcome-clause-replayed g c =
     let calls : Calls g.row.C.Denot = g.C.Carrier.calls in
     mixed_writes_all calls c.args.strangers.now c.args.carrier c.in-Ok.world c.replay_mixed_events-outcome.new.world
-        c.args.events.items c.lives.result.now c.args.book c.args.detail
+    c.args.events.items c.lives.result.now c.args.book c.args.detail
     (g.W.Output.contents c.args.writer.now) (g.W.Output.contents c.replay_mixed_events-outcome.new.writer)
     (g.W.Output.contents c.write_lives.new.writer)
     c.in-Ok.ensures.1 (rw c.in-Ok-outcome.is at c.replay_mixed_events-outcome.ensures.replayed)
@@ -20,8 +20,8 @@ pub returns-clause-stopped : goal.returns-clause-stopped
 returns-clause-stopped g c = λ e.
     let calls : Calls g.row.C.Denot = g.C.Carrier.calls in
     inr (mixed_writes_part calls c.args.strangers.now c.args.carrier c.in-Ok.world
-        c.replay_mixed_events-outcome.new.world c.args.events.items c.args.detail
-        (g.W.Output.contents c.args.writer.now) (g.W.Output.contents c.replay_mixed_events-outcome.new.writer)
+    c.replay_mixed_events-outcome.new.world c.args.events.items c.args.detail
+    (g.W.Output.contents c.args.writer.now) (g.W.Output.contents c.replay_mixed_events-outcome.new.writer)
     c.in-Ok.ensures.1
     (c.replay_mixed_events-outcome.ensures.memory
     (c.in-Err.is ∙ ap Err (told_memory c.in-Err.fault c.from.result c.from.ensures e))) c.book_among-kept.ensures.among

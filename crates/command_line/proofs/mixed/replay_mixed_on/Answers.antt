@@ -25,7 +25,7 @@ pub returns-in_ok-carrier-in-Subnet-clause-replayed : goal.returns-in_ok-carrier
 returns-in_ok-carrier-in-Subnet-clause-replayed g c =
     let is : c.args.topology.now.network.carrier ≡ kind.Subnet = search rules in
     subnet_all c.args.topology.now c.in_ok-carrier-in-Subnet.carrier c.strangers-strangers.result.now c.args.book
-        c.args.detail c.args.events.items
+    c.args.detail c.args.events.items
     (g.W.Output.contents c.args.writer.now) (g.W.Output.contents c.replay_mixed-in-Subnet.new.writer)
     c.replay_mixed-in-Subnet.result is
     (c.in_ok-carrier-in-Subnet.ensures ∙ ap subnet_of c.network-network.ensures) c.strangers-strangers.ensures.all
@@ -35,7 +35,7 @@ pub returns-in_ok-carrier-in-Subnet-clause-stopped : goal.returns-in_ok-carrier-
 returns-in_ok-carrier-in-Subnet-clause-stopped g c = λ e.
     let is : c.args.topology.now.network.carrier ≡ kind.Subnet = search rules in
     subnet_part c.args.topology.now c.in_ok-carrier-in-Subnet.carrier c.strangers-strangers.result.now c.args.detail
-        c.args.events.items
+    c.args.events.items
     (g.W.Output.contents c.args.writer.now) (g.W.Output.contents c.replay_mixed-in-Subnet.new.writer) is
     (c.in_ok-carrier-in-Subnet.ensures ∙ ap subnet_of c.network-network.ensures) c.strangers-strangers.ensures.all
     (c.replay_mixed-in-Subnet.ensures.stopped e)

@@ -13,7 +13,7 @@ returns-in-Ok-clause-read g c = plain_read c.args.octets.now c.replay_on.result
 pub returns-in-Ok-clause-replayed : goal.returns-in-Ok-clause-replayed
 returns-in-Ok-clause-replayed g c = λ off.
     plain_replayed c.args.octets.now c.in-Ok.field-0.network (asked_of c.in-Ok.field-0.events) c.args.book c.args.detail
-        c.replay_on.result
+    c.replay_on.result
     (g.W.Output.contents c.args.writer.now) (g.W.Output.contents c.replay_on.new.writer) c.in-Ok.ensures.read
     c.replay_on.ensures.replayed
 
@@ -39,13 +39,13 @@ returns-in-Err-BadTopology-clause-read g c = either_read c.args.octets.now c.fol
 pub returns-in-Err-BadTopology-clause-replayed : goal.returns-in-Err-BadTopology-clause-replayed
 returns-in-Err-BadTopology-clause-replayed g c = λ off.
     either_replayed c.args.octets.now c.args.book c.args.detail c.follow_mixed.result
-        (g.W.Output.contents c.args.writer.now) (g.W.Output.contents c.follow_mixed.new.writer)
-        (c.follow_mixed.ensures.replayed off)
+    (g.W.Output.contents c.args.writer.now) (g.W.Output.contents c.follow_mixed.new.writer)
+    (c.follow_mixed.ensures.replayed off)
 
 pub returns-in-Err-BadTopology-clause-stopped : goal.returns-in-Err-BadTopology-clause-stopped
 returns-in-Err-BadTopology-clause-stopped g c = λ e.
     either_stopped c.args.octets.now c.args.detail (g.W.Output.contents c.args.writer.now)
-        (g.W.Output.contents c.follow_mixed.new.writer) (c.follow_mixed.ensures.stopped e)
+    (g.W.Output.contents c.follow_mixed.new.writer) (c.follow_mixed.ensures.stopped e)
 
 pub returns-in-Err-BadTopology-clause-fault : goal.returns-in-Err-BadTopology-clause-fault
 returns-in-Err-BadTopology-clause-fault g c = follow_fault c.args.octets.now c.follow_mixed.result

@@ -11,7 +11,7 @@ returns-clause-read g c = mixed_read c.args.octets.now c.replay_mixed_on.result
 pub returns-clause-replayed : goal.returns-clause-replayed
 returns-clause-replayed g c = λ off.
     mixed_replayed c.args.octets.now c.in_ok-network.field-0.network c.in_ok-network.field-0.events.items c.args.book
-        c.args.detail c.replay_mixed_on.result
+    c.args.detail c.replay_mixed_on.result
     (g.W.Output.contents c.args.writer.now) (g.W.Output.contents c.replay_mixed_on.new.writer)
     c.in_ok-network.ensures.read c.replay_mixed_on.ensures.replayed
 
@@ -30,4 +30,4 @@ pub returns-in_err-network-clause-failed : goal.returns-in_err-network-clause-fa
 returns-in_err-network-clause-failed g c =
     let same : c.from_residual.result ≡ Err c.in_err-network.field-0.0 = search rules in
     unwritten c.from_residual.result c.in_err-network.field-0.0 (g.W.Output.failed c.args.writer.now) same
-        c.in_err-network.ensures.read_only c.requires.writes
+    c.in_err-network.ensures.read_only c.requires.writes

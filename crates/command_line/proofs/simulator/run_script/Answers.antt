@@ -7,8 +7,8 @@ use Rattle.command_line.proofs.simulator.run_script.Goals as goal
 pub returns-clause-ran : goal.returns-clause-ran
 returns-clause-ran g c = λ off.
     on_ok c.follow.result
-        (ran_either c.args.book c.args.detail c.deref.result.now (g.W.Output.contents c.args.writer.now)
-        (g.W.Output.contents c.follow.new.writer)) (c.follow.ensures.replayed off)
+    (ran_either c.args.book c.args.detail c.deref.result.now (g.W.Output.contents c.args.writer.now)
+    (g.W.Output.contents c.follow.new.writer)) (c.follow.ensures.replayed off)
 
 pub returns-clause-replayed : goal.returns-clause-replayed
 returns-clause-replayed g c = λ off.
@@ -24,20 +24,20 @@ returns-clause-replayed g c = λ off.
 pub returns-clause-read : goal.returns-clause-read
 returns-clause-read g c = λ whole.
     at_known (λ k. MatchResult c.follow.result (λ done. IsEitherInput k) (IsEitherFault k))
-        (g.R.Source.remaining c.args.reader.now) c.in_ok-octets.octets.items c.in_ok-octets.ensures.whole
+    (g.R.Source.remaining c.args.reader.now) c.in_ok-octets.octets.items c.in_ok-octets.ensures.whole
     (subst (λ (o : List ℕ). MatchResult c.follow.result (λ done. IsEitherInput o) (IsEitherFault o))
     c.deref.ensures.value c.follow.ensures.read)
 
 pub returns-clause-ran_in_part : goal.returns-clause-ran_in_part
 returns-clause-ran_in_part g c = λ e.
     part_either c.args.detail c.deref.result.now (g.W.Output.contents c.args.writer.now)
-        (g.W.Output.contents c.follow.new.writer) (c.follow.ensures.stopped e)
+    (g.W.Output.contents c.follow.new.writer) (c.follow.ensures.stopped e)
 
 pub returns-clause-first_part : goal.returns-clause-first_part
 returns-clause-first_part g c = λ e.
     at_known (λ k. NothingOr (StopsEither c.args.detail k) (g.W.Output.contents c.args.writer.now)
-        (g.W.Output.contents c.follow.new.writer)) (g.R.Source.remaining c.args.reader.now) c.in_ok-octets.octets.items
-        c.in_ok-octets.ensures.whole
+    (g.W.Output.contents c.follow.new.writer)) (g.R.Source.remaining c.args.reader.now) c.in_ok-octets.octets.items
+    c.in_ok-octets.ensures.whole
     (subst (λ (o : List ℕ). NothingOr (StopsEither c.args.detail o) (g.W.Output.contents c.args.writer.now)
     (g.W.Output.contents c.follow.new.writer)) c.deref.ensures.value (c.follow.ensures.stopped e))
 
@@ -45,6 +45,6 @@ pub returns-in_err-octets-clause-read : goal.returns-in_err-octets-clause-read
 returns-in_err-octets-clause-read g c = λ whole.
     let same : c.from_residual.result ≡ Err c.in_err-octets.field-0.0 = search rules in
     unread_either (g.R.Source.remaining c.args.reader.now) c.from_residual.result c.in_err-octets.field-0.0
-        (g.R.Source.failed c.read_octets.new.reader) same
+    (g.R.Source.failed c.read_octets.new.reader) same
     c.in_err-octets.ensures.fault (λ e. c.in_err-octets.ensures.too_long (ap Err e))
     (λ e. c.in_err-octets.ensures.failed.0 (ap Err e)) whole
