@@ -2,6 +2,7 @@
 pub mod Reached
 pub mod Suited
 pub mod Contacts
+pub mod Unclosed
 pub mod Together
 pub mod Noted
 pub mod Keys
@@ -9,3 +10,4 @@ pub mod Owed
 pub mod Changed
 pub mod Begun
 pub mod Ahead
+pub mod Opens

@@ -1,13 +1,16 @@
--- A life whose host stops, a second life of a host with its peer, and one with another: words for worked examples.
+-- A life whose host stops, second lives of a host with its peer, and one with another: words for worked examples.
 use Rattle.std.specs.Prelude.{List, [], ◌∷◌}
 use Rattle.interface.specs.Host.{Host}
 use Rattle.interface.specs.declared.crossing.Crossing.{Crossing}
 use Rattle.interface.specs.declared.crossing.Crossing.TheVariants as crossing
 use Rattle.net_sim.specs.Timeline.{crossings_of}
+use Rattle.interface.specs.declared.message.HostMessage.{HostMessage}
 use Rattle.net_sim.specs.WorkedMoments.{bits_sent, eight_sent, rts, str}
+use Rattle.net_sim.specs.WorkedResets.{rst}
+use Rattle.host_pairs.specs.Control.{control_text}
 use Rattle.promise.specs.Safe.{control_flow}
 use Rattle.promise.specs.declared.life.Life.{Life}
-use Rattle.world_keeps_lives.specs.WorkedFormed.{sent_log, took}
+use Rattle.world_keeps_lives.specs.WorkedFormed.{close_taken, sent_log, took}
 
 -- eight bits come in for its host after that has stopped
 abbrev pub stopped_log : List Crossing
@@ -37,3 +40,35 @@ third_log =
 
 abbrev pub took_from_third : Life
 took_from_third = record took_nothing { peer = third; own_stamp = 17; partner_stamp = 18 }
+
+-- ---- after a stop, or both CLS
+
+abbrev pub down_log : List Crossing
+down_log = crossing.Down took.host ∷ sent_log
+
+abbrev pub third_down_log : List Crossing
+third_down_log = crossing.Down took.host ∷ third_log
+
+-- the first host's CLS goes out at place 17, and the second's comes in at place 18
+abbrev pub close_back : HostMessage
+close_back = record {
+  flow = control_flow took.peer took.host;
+  text = control_text (3 ∷ 0 ∷ 0 ∷ 0 ∷ 33 ∷ 0 ∷ 0 ∷ 0 ∷ 16 ∷ []);
+}
+
+abbrev pub closed_log : List Crossing
+closed_log = crossing.In close_back ∷ crossing.Out close_taken ∷ sent_log
+
+-- then the same is asked and answered again
+abbrev pub again_log : List Crossing
+again_log = crossing.In str ∷ crossing.Out rts ∷ closed_log
+
+abbrev pub took_again : Life
+took_again = record took_nothing { own_stamp = 19; partner_stamp = 20 }
+
+-- after an RST of the first host
+abbrev pub reset_log : List Crossing
+reset_log = crossing.In str ∷ crossing.Out rts ∷ crossing.Out (rst took.host took.peer) ∷ closed_log
+
+abbrev pub took_after : Life
+took_after = record took_nothing { own_stamp = 20; partner_stamp = 21 }

@@ -18,13 +18,12 @@ mod contacts;
 mod deeds;
 mod key_map;
 
-use crate::flow_map::FlowMap;
 use begins::{Ahead, Known, Reached, ahead_of, key, known_by};
-use changes::{Change, changes_of};
-use contacts::{agrees, note};
+use changes::{Change, but_closes, changes_of};
+use contacts::{Said, agrees, note};
 use deeds::deeds_of;
 use interface::Crossing;
-use key_map::Key;
+use key_map::{Key, KeyMap};
 use net_sim::Life;
 use promise::Fate;
 use std::alloc::{AllocError, Global};
@@ -79,25 +78,6 @@ fn suits_known(known: Option<Known>, fate: Fate) -> bool
     }
 }
 
-/// Returns whether a contact has reset a life with this fate; `None` where it doesn't continue by what crossed.
-fn reset_at(reached: Reached, fate: Fate) -> Option<bool>
-    ensures { (at : ℕ → ℕ) → result ≡ contact.reset_at (begun.stage_of at reached) fate }
-{
-    match reached {
-        Reached::Going { .. } => Some(fate == Fate::Reset),
-        _ => None,
-    }
-}
-
-/// Returns the same by what is known of a life.
-fn reset_known(known: Option<Known>, fate: Option<Fate>) -> Option<bool>
-    ensures { (at : ℕ → ℕ) → result ≡ contact.reset_begun (option_map (pace_at at) known) fate }
-{
-    let known = known?;
-    let fate = fate?;
-    reset_at(known.reached, fate)
-}
-
 /// Returns the request of a life that its host takes, or the one that it sends.
 fn asked(life: &Life, comes: bool) -> Key
     ensures { result ≡ begun.ask_key life.now comes }
@@ -123,19 +103,53 @@ fn place_of(changes: &[Change], rest: usize) -> usize
     changes[changes.len() - rest].place
 }
 
-/// Returns how much had crossed when a life was over of which this is known; all of as much, where it continues.
-fn end_by(all: usize, changes: &[Change], known: Option<Known>) -> usize
-    ensures { result ≡ tests.end_by all (option_map (pace_at (begun.place_at changes.now)) known) }
+/// Returns how much had crossed when a life was over that is this far; all of as much, where it continues.
+fn over_at(all: usize, changes: &[Change], reached: Reached) -> usize
+    ensures { result ≡ left.over_at all (begun.stage_of (begun.place_at changes.now) reached) }
 {
-    let Some(known) = known else {
-        return all;
-    };
-    match known.reached {
+    match reached {
         Reached::Going { .. } => all,
         Reached::Dropped { rest } => place_of(changes, rest),
         Reached::Stopped { rest } => place_of(changes, rest),
         Reached::Closed { rest, .. } => place_of(changes, rest),
     }
+}
+
+/// Returns the same by what is known of a life.
+fn end_by(all: usize, changes: &[Change], known: Option<Known>) -> usize
+    ensures { result ≡ tests.end_by all (option_map (pace_at (begun.place_at changes.now)) known) }
+{
+    match known {
+        Some(known) => over_at(all, changes, known.reached),
+        None => all,
+    }
+}
+
+/// Returns whether a contact has reset a life that is `reset` and this far: nothing that crossed has.
+fn was_contacted(reached: Reached) -> bool
+    ensures { (at : ℕ → ℕ) → result ≡ left.was_contacted (begun.stage_of at reached) }
+{
+    !matches!(reached, Reached::Dropped { .. })
+}
+
+/// Returns what is said of a life whose connections are cut there, and of which this is known.
+fn said_by(
+    all: usize,
+    cut: usize,
+    changes: &[Change],
+    known: Option<Known>,
+    fate: Option<Fate>,
+) -> Option<Said>
+    ensures { result ≡ contact.said_begun all cut (option_map (pace_at (begun.place_at changes.now)) known) fate }
+{
+    let fate = fate?;
+    let known = known?;
+    let reset = fate == Fate::Reset;
+    if reset && !was_contacted(known.reached) {
+        return None;
+    }
+    let end = over_at(all, changes, known.reached);
+    Some(Said { reset, cut, end })
 }
 
 impl Courses {
@@ -166,11 +180,25 @@ impl Courses {
         }
     }
 
-    /// Returns whether a contact has reset a life, if it has a fate and continues by deeds.
-    fn reset(&self, life: &Life, fate: Option<Fate>) -> Option<bool>
-        ensures { (deeds : List Deed) → AreCourses deeds self.now → result ≡ contact.reset_after deeds life.now fate }
+    /// Returns whether a contact has reset a life, where its connections are cut, and where it is over; `None` where
+    /// what crossed has reset it, it hasn't begun, or it has no fate.
+    fn said(&self, cuts: &Courses, all: usize, life: &Life, fate: Option<Fate>) -> Option<Said>
+        ensures { (deeds : List Deed) → AreCourses deeds self.now → AreCourses (contact.but_closes deeds) cuts.now → result ≡ contact.said_after all deeds life.now fate }
     {
-        reset_known(self.known(life), fate)
+        let cut = cuts.end(all, life);
+        said_by(all, cut, &self.changes, self.known(life), fate)
+    }
+
+    /// Returns what changes lives but CLS, and what comes first of that: with these a life is over where its connections
+    /// are cut.
+    ///
+    /// Errors: `AllocError`.
+    fn cuts(&self, alloc: Global) -> Result<Courses, AllocError>
+        ensures { (deeds : List Deed) → AreCourses deeds self.now → IfOk result (λ cuts. AreCourses (contact.but_closes deeds) cuts) }
+    {
+        let changes = but_closes(alloc, &self.changes)?;
+        let ahead = ahead_of(alloc, &changes)?;
+        Ok(Courses { changes, ahead })
     }
 }
 
@@ -204,8 +232,9 @@ pub(crate) fn courses_of(alloc: Global, log: &[Crossing]) -> Result<Courses, All
 /// its connections are dropped (by an RST, by an RRP that isn't owed, or by a message to its peer that fails), its host
 /// stops, or both CLS have crossed (NIC 8246, RTS, STR, CLS, RST and RRP). Where its own CLS is the first of these, a
 /// user of its host has closed it. A contact of its host doesn't cross, so one that has begun may have been reset:
-/// but not where its own CLS went out last, since after a contact an RST goes out first. So of the lives of one host
-/// with one peer that continue by what crossed, a contact has reset all or none.
+/// but not where its own CLS went out last, since after a contact an RST goes out first. That, a reset or a stop cuts all
+/// connections of a host with a peer. So of its lives with one peer that begin between the same two cuts, none that isn't
+/// `reset` is over after one that a contact reset, or with it.
 ///
 /// Errors: `AllocError`.
 pub fn unsuited_at(
@@ -217,14 +246,15 @@ pub fn unsuited_at(
     ensures { IfOk result (λ found. MatchOption found (AreSuited (reverse log.now) lives.now fates.now) (λ place. UnsuitedAt (reverse log.now) lives.now fates.now place)) }
 {
     let courses = courses_of(alloc, log)?;
-    let mut resets = FlowMap::new(alloc);
+    let cuts = courses.cuts(alloc)?;
+    let mut ends = KeyMap::new(alloc);
     for (place, life) in lives.iter().enumerate() {
         let fate = fate_at(fates, place);
-        let reset = courses.reset(life, fate);
-        if !courses.suits(life, fate) || !agrees(&resets, life, reset) {
+        let said = courses.said(&cuts, log.len(), life, fate);
+        if !courses.suits(life, fate) || !agrees(&ends, life, said) {
             return Ok(Some(place));
         }
-        note(&mut resets, life, reset)?;
+        note(&mut ends, life, said)?;
     }
     Ok(None)
 }

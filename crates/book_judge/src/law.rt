@@ -14,7 +14,8 @@ ghost use Rattle.net_sim.specs.declared.auditing.findings.Finding.TheVariants as
 ghost use Rattle.net_sim.specs.Findings.{ShowsLife};
 ghost use Rattle.net_sim.specs.Worked.{eight, four};
 ghost use Rattle.net_sim.specs.WorkedMoments.{rts, str};
-ghost use Rattle.book_judge.specs.WorkedLives.{late_answer, stopped_log, third_log, took_from_third, took_nothing, unasked};
+ghost use Rattle.book_judge.specs.WorkedLives.{again_log, down_log, late_answer, reset_log, stopped_log, third_down_log, third_log};
+ghost use Rattle.book_judge.specs.WorkedLives.{took_after, took_again, took_from_third, took_nothing, unasked};
 ghost use Rattle.promise.specs.Ends.{CanBeLeft, Closed, Dropped, Going, Over, Stopped};
 ghost use Rattle.promise.specs.Fates.{ClosesWhole};
 ghost use Rattle.promise.specs.Formed.{FormedBook};
@@ -112,7 +113,7 @@ pub fn worked_fates()
     ensures contacts { (log : List Crossing) (lives : List Life) (fates : List Fate) → CanBeLeft log lives fates → AreSuited log lives fates }
 {}
 
-/// Lives that continue by what crossed, and contacts, each of which resets all lives of its host with the peer.
+/// Lives that nothing that crossed has reset, and contacts, each of which resets all lives of its host with the peer.
 pub fn worked_contacts()
     // of two lives of one host with one peer a contact resets both, and none of the peer's
     ensures both { AreSuited sent_log (took ∷ took_nothing ∷ []) (fate.Reset ∷ fate.Reset ∷ []) }
@@ -130,6 +131,18 @@ pub fn worked_contacts()
 
     // a life that hasn't begun continues with none
     ensures unasked { AreSuited sent_log (took ∷ unasked ∷ []) (fate.Reset ∷ fate.Open ∷ []) }
+
+    // where their host stops, a contact before that has reset both, and none with another peer
+    ensures both_down { AreSuited down_log (took ∷ took_nothing ∷ []) (fate.Reset ∷ fate.Reset ∷ []) }
+    ensures not_one_down { AreSuited down_log (took ∷ took_nothing ∷ []) (fate.Reset ∷ fate.Stopped ∷ []) → ⊥ }
+    ensures other_down { AreSuited third_down_log (took ∷ took_from_third ∷ []) (fate.Reset ∷ fate.Stopped ∷ []) }
+
+    // a contact before the partner's CLS resets what begins after that; not where an RST comes first
+    ensures not_later { AreSuited again_log (took ∷ took_again ∷ []) (fate.Reset ∷ fate.Open ∷ []) → ⊥ }
+    ensures after_reset { AreSuited reset_log (took ∷ took_after ∷ []) (fate.Reset ∷ fate.Open ∷ []) }
+
+    // and one that is over when the contact comes needn't be `reset`
+    ensures over { AreSuited again_log (took ∷ took_again ∷ []) (fate.Closed ∷ fate.Reset ∷ []) }
 {}
 
 /// Lives of small logs, the newest crossing first.

@@ -17,7 +17,7 @@ use Rattle.promise.specs.Ends.{Asking, Closed, Dropped, Going, Over, Stage, Stop
 use Rattle.promise.specs.Fates.{IsBeside}
 use Rattle.promise.specs.declared.life.Fate.TheVariants as fate
 use Rattle.topology.specs.declared.network.CarrierKind.TheVariants as kind
-use Rattle.book_judge.specs.Fates.{ContinueTogether, IsSuited, suits}
+use Rattle.book_judge.specs.Fates.{Outlasts, IsSuited, suits}
 use Rattle.book_judge.proofs.lemmas.{made_twice, made_with}
 use Rattle.command_line.specs.Audits.{IsKeptLog, SaysKept}
 use Rattle.command_line.specs.Events.{Asked}
@@ -114,7 +114,7 @@ suited_logged log lives fates all = record { each = each; contact = contact } wh
       }
 
   contact : (x y : Life) (f : Fate) → IsBeside x fate.Reset lives (map logged_fate fates)
-      → IsBeside y f lives (map logged_fate fates) → ContinueTogether log x y → f ≡ fate.Reset
+      → IsBeside y f lives (map logged_fate fates) → Outlasts log x y → f ≡ fate.Reset
   contact x y f h i both =
       let b = logged_beside x fate.Reset lives fates h in
       let c = logged_beside y f lives fates i in

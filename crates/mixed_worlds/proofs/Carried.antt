@@ -1,5 +1,5 @@
 -- The bits of each life are those of messages on one link, in their order, whatever its peer sends.
-use Rattle.mixed_worlds.proofs.Common.{◌≡◌, ◌⊎◌, inl, inr, ℕ, ◌<◌, ◌==◌, Bool, true, false, if◌then◌else◌, List, [], ◌∷◌, ◌++◌, filter, length, Option, refl, ap, sym, subst, ◌∙◌, arith, Contains, Host, same_host, Flow, Crossing, same_host-true, is_mine_on, Entry, Notice, both, CrossedAt, flow_of, receives, sends, Life, NcpState, pair_with, Request, Kept, all_told, book_told, changed_when, life_ended, lives_asked, lives_at, lives_between, lives_crossed, lives_on, lives_told, lives_with, new_life, returned, where_it, HasOpenEnd, Each, each_in, AreOf}
+use Rattle.mixed_worlds.proofs.Common.{Some, ◌≡◌, ◌⊎◌, inl, inr, ℕ, ◌<◌, ◌==◌, Bool, true, false, if◌then◌else◌, List, [], ◌∷◌, ◌++◌, filter, length, Option, refl, ap, subst, ◌∙◌, arith, Contains, Host, same_host, Flow, Crossing, same_host-true, is_mine_on, Entry, Notice, both, CrossedAt, flow_of, receives, sends, Life, NcpState, pair_with, Request, Kept, all_told, book_told, changed_when, life_ended, lives_asked, lives_at, lives_between, lives_crossed, lives_on, lives_told, lives_with, new_life, returned, where_it, HasOpenEnd, Each, each_in, AreOf}
 use Rattle.net_sim.specs.Book.{granted}
 use Rattle.std.proofs.lemmas.Bool.{eqb-true}
 use Rattle.interface.specs.declared.crossing.Crossing.TheVariants as crossing
@@ -9,6 +9,8 @@ use Rattle.sockets.specs.declared.request.Request.TheVariants as request
 use Rattle.mixed_worlds.proofs.Asked.{Linked}
 use Rattle.mixed_worlds.proofs.Bound.{Bound}
 use Rattle.mixed_worlds.proofs.OwnLinks.{Said}
+use Rattle.mixed_worlds.proofs.Granted.{AreWithin, HasRoom, IsNew}
+use Rattle.mixed_worlds.proofs.Rooms.{nobody_passes, one_passes}
 
 -- ---- places
 
@@ -25,39 +27,6 @@ none_of comes f a b (c ∷ log) = inl (none_of comes f a b log)
 
 -- ---- ends
 
-none_passes : (test : Entry → Bool) (x : Entry) (es : List Entry) → filter test es ≡ []
-    → Each (λ (e : Entry). test e ≡ true → e ≡ x) es
-none_passes test x [] none = tt
-none_passes test x (e ∷ es) none = by (test e) refl none (none_passes test x es) where
-  by : (b : Bool) → test e ≡ b → (if b then e ∷ filter test es else filter test es) ≡ []
-      → (filter test es ≡ [] → Each (λ (y : Entry). test y ≡ true → y ≡ x) es)
-      → Each (λ (y : Entry). test y ≡ true → y ≡ x) (e ∷ es)
-  by true t k rest = absurd (cc)
-  by false t k rest = ((λ u. absurd (let clash : true ≡ false = sym u ∙ t in cc)), rest k)
-
-pub one_passes : (test : Entry → Bool) (x : Entry) (es : List Entry) → filter test es ≡ x ∷ []
-    → Each (λ (e : Entry). test e ≡ true → e ≡ x) es
-one_passes test x [] one = tt
-one_passes test x (e ∷ es) one = by (test e) refl one (one_passes test x es) where
-  by : (b : Bool) → test e ≡ b → (if b then e ∷ filter test es else filter test es) ≡ x ∷ []
-      → (filter test es ≡ x ∷ [] → Each (λ (y : Entry). test y ≡ true → y ≡ x) es)
-      → Each (λ (y : Entry). test y ≡ true → y ≡ x) (e ∷ es)
-  by true t k rest =
-      let same : e ≡ x = cc in
-      let none : filter test es ≡ [] = cc in
-      ((λ u. same), none_passes test x es none)
-  by false t k rest = ((λ u. absurd (let clash : true ≡ false = sym u ∙ t in cc)), rest k)
-
-pub nobody_passes : (test : Entry → Bool) (es : List Entry) → filter test es ≡ []
-    → Each (λ (e : Entry). test e ≡ true → ⊥) es
-nobody_passes test [] none = tt
-nobody_passes test (e ∷ es) none = by (test e) refl none (nobody_passes test es) where
-  by : (b : Bool) → test e ≡ b → (if b then e ∷ filter test es else filter test es) ≡ []
-      → (filter test es ≡ [] → Each (λ (y : Entry). test y ≡ true → ⊥) es)
-      → Each (λ (y : Entry). test y ≡ true → ⊥) (e ∷ es)
-  by true t k rest = absurd (cc)
-  by false t k rest = ((λ u. absurd (let clash : true ≡ false = sym u ∙ t in cc)), rest k)
-
 -- what is so of all ends is so of those that pass a test
 pub kept_each : (P : Entry → Type 0) (test : Entry → Bool) (es : List Entry) → Each P es
     → Each (λ (e : Entry). (test e ≡ true) × P e) (filter test es)
@@ -72,6 +41,9 @@ kept_each P test (e ∷ es) all = by (test e) refl (kept_each P test es all.1) w
 pub record ItsEnd (y : Life) (link : Option ℕ) (p : Host) (e : Entry) : Type 0 where
   pub peer : p ≡ y.peer
   pub linked : e.link ≡ link
+  pub asked : e.asked ≡ Some y.own_stamp
+  pub partner : e.partner ≡ Some y.partner_stamp
+  pub mine : e.mine ≡ true
 
 pub its_end : (s : NcpState) (y : Life) (link : Option ℕ) (p : Host) (e : Entry)
     → Contains (pair_with p s.peers).entries e → is_mine_on y.socket e ≡ true → HasOpenEnd s y
@@ -94,6 +66,9 @@ its_end s y link p e there mine o bound = by (same_host p y.peer) refl where
         linked = each_in (Bound y link) (pair_with y.peer s.peers).entries e here bound parts.0
             (eqb-true e.own y.socket parts.1) (ap (λ (z : Entry). z.asked) is ∙ o.own)
             (ap (λ (z : Entry). z.partner) is ∙ o.partner);
+        asked = ap (λ (z : Entry). z.asked) is ∙ o.own;
+        partner = ap (λ (z : Entry). z.partner) is ∙ o.partner;
+        mine = parts.0;
       }
 
 -- ---- what is known of a life
@@ -104,9 +79,8 @@ pub record Counted (log : List Crossing) (s : NcpState) (x : Life) : Type 0 wher
   pub bound : x.ended ≡ false → Each (Bound x link) (pair_with x.peer s.peers).entries
   pub named : sends x ≡ true → Linked x.host x.peer log x.socket x.foreign x.partner_stamp link
   pub itself : receives x ≡ true → Said x.host x.peer log x.socket x.foreign x.own_stamp link
-
-abbrev pub IsNew : Life → Type 0
-IsNew x = (x.messages ≡ 0) × (x.bits ≡ [])
+  pub room : sends x ≡ true → x.ended ≡ false → HasRoom x log (length log) s
+  pub within : sends x ≡ true → AreWithin x (link_of link) log
 
 -- a life that has just begun, or one that is as it was
 abbrev pub Known : (Host → NcpState) → List Crossing → Life → Type 0
@@ -142,17 +116,33 @@ module _ (programs : Host → NcpState) (log : List Crossing) where
     bound = λ e. absurd (let clash : true ≡ false = e in cc);
     named = c.named;
     itself = c.itself;
+    room = λ sending e. absurd (let clash : true ≡ false = e in cc);
+    within = c.within;
   })
 
   gave_back : (messages bits : ℕ) (x : Life) → Known programs log x → Known programs log (returned messages bits x)
   gave_back messages bits x (inl i) = inl i
-  gave_back messages bits x (inr c) = inr (record
-      { link = c.link; messages = c.messages; bound = c.bound; named = c.named; itself = c.itself })
+  gave_back messages bits x (inr c) = inr (record {
+    link = c.link;
+    messages = c.messages;
+    bound = c.bound;
+    named = c.named;
+    itself = c.itself;
+    room = c.room;
+    within = c.within;
+  })
 
   gave : (messages bits : ℕ) (x : Life) → Known programs log x → Known programs log (granted messages bits x)
   gave messages bits x (inl i) = inl i
-  gave messages bits x (inr c) = inr (record
-      { link = c.link; messages = c.messages; bound = c.bound; named = c.named; itself = c.itself })
+  gave messages bits x (inr c) = inr (record {
+    link = c.link;
+    messages = c.messages;
+    bound = c.bound;
+    named = c.named;
+    itself = c.itself;
+    room = c.room;
+    within = c.within;
+  })
 
   known_told : (h : Host) (n : Notice) (lives : List Life) → IsCalm n → Each (Known programs log) lives
       → Each (Known programs log) (lives_told h n lives)

@@ -16,8 +16,12 @@ use Rattle.mixed_worlds.proofs.Asked.{Linked, Placed, linked_still, placed, rts_
 use Rattle.mixed_worlds.proofs.EndMoments.{own_out}
 use Rattle.mixed_worlds.proofs.AskedLives.{IsOwn, all_own}
 use Rattle.mixed_worlds.proofs.Bound.{Bound, stays_bound}
-use Rattle.mixed_worlds.proofs.Carried.{Counted, IsCalm, IsNew, ItsEnd, Known, below_all, its_end, kept_each, known_all}
-use Rattle.mixed_worlds.proofs.Carried.{known_asked, known_crossed, none_of, one_passes}
+use Rattle.mixed_worlds.proofs.Carried.{Counted, IsCalm, ItsEnd, Known, below_all, its_end, kept_each, known_all}
+use Rattle.mixed_worlds.proofs.Carried.{known_asked, known_crossed, none_of}
+use Rattle.mixed_worlds.proofs.Granted.{AreWithin, HasRoom, IsNew, always, no_less, sent, spent, stays}
+use Rattle.mixed_worlds.proofs.Rooms.{AtMost, link_is, one_passes}
+use Rattle.mixed_worlds.specs.Toward.{granted_to}
+use Rattle.mixed_worlds.proofs.Common.{arith, find, is_some}
 use Rattle.mixed_worlds.proofs.DataNotices.{TakesIf, bytes_told, message_takes}
 use Rattle.mixed_worlds.proofs.OwnLinks.{HasSaid, Said, said, said_still}
 use Rattle.mixed_worlds.proofs.Sockets.{fit, held}
@@ -54,10 +58,6 @@ flow_two f x y l s d e =
     ∙ ap (λ (h : Host). two x h l) (sym d) where
       two : Host → Host → ℕ → Flow
       two a b n = record { source = a; destination = b; link = record { 0 = n } }
-
-link_is : (link : ℕ) (o : Option ℕ) → is_link link o ≡ true → o ≡ Some link
-link_is link None e = absurd (cc)
-link_is link (Some l) e = ap (λ (n : ℕ). Some n) (eqb-true l link e)
 
 goes_on : (b : Bool) → not b ≡ true → b ≡ false
 goes_on true e = absurd (let clash : false ≡ true = e in cc)
@@ -114,6 +114,13 @@ module _ (orders : Orders) (strange : Host → Bool) (hosts : List Host) where
       x.own_stamp link w
   said_on (Asked g r) moments x link w = w
 
+  -- of a life that sends there is room for what its end has left, and for a message more that it sent
+  abbrev Grows : List Moment → Crossing → List Bool → Life → Option ℕ → Type 0
+  Grows moments c bits x link = sends x ≡ true
+      → HasRoom (carried bits x) (crossings_of (Crossed c ∷ moments)) (length (crossings_of (Crossed c ∷ moments)))
+      (program x.host (Crossed c ∷ moments))
+      × AreWithin (carried bits x) (link_of link) (crossings_of (Crossed c ∷ moments))
+
   module _ (moments : List Moment) (x : Life) (own : IsOwn strange (crossings_of moments) x) where
     own_before : x.own_stamp < length (crossings_of moments)
     own_before = below_all x.own_stamp _ (crossings_of moments) own.own.crossed.crossed
@@ -129,6 +136,33 @@ module _ (orders : Orders) (strange : Host → Bool) (hosts : List Host) where
         (subst (λ (n : ℕ). x.own_stamp < n) (sym (places_same moments)) own_before)
         (subst (λ (n : ℕ). x.partner_stamp < n) (sym (places_same moments)) partner_before) old
 
+    by_length : (z : Life) (ms : List Moment) → HasRoom z (crossings_of ms) (places ms) (program z.host ms)
+        → HasRoom z (crossings_of ms) (length (crossings_of ms)) (program z.host ms)
+    by_length z ms h = subst (λ (n : ℕ). HasRoom z (crossings_of ms) n (program z.host ms)) (places_same ms) h
+
+    -- there is room still
+    room_on : (s : sends x ≡ true) (y : Moment) → IsMixed strange hosts (y ∷ moments)
+        → HasRoom x (crossings_of moments) (places moments) (program x.host moments)
+        → HasRoom x (crossings_of (y ∷ moments)) (places (y ∷ moments)) (program x.host (y ∷ moments))
+    room_on s y mixed old =
+        stays orders strange hosts x own.plain s moments
+        (λ e. absurd (let p : places moments ≡ length (crossings_of moments) = places_same moments in
+        omega (arith, own_before, e, p)))
+        (λ e. absurd (let p : places moments ≡ length (crossings_of moments) = places_same moments in
+        omega (arith, partner_before, e, p))) old y mixed
+
+    by_places : HasRoom x (crossings_of moments) (length (crossings_of moments)) (program x.host moments)
+        → HasRoom x (crossings_of moments) (places moments) (program x.host moments)
+    by_places h = subst (λ (n : ℕ). HasRoom x (crossings_of moments) n (program x.host moments))
+        (sym (places_same moments)) h
+
+    still_within : (y : Moment) (l : ℕ) → AreWithin x l (crossings_of moments)
+        → AreWithin x l (crossings_of (y ∷ moments))
+    still_within y l w =
+        let more : AtMost (granted_to x l (crossings_of moments)) (granted_to x l (crossings_of (y ∷ moments))) =
+        no_less x y moments l in
+        (omega (arith, w.0, more.0), omega (arith, w.1, more.1))
+
     still : (y : Moment) → IsMixed strange hosts (y ∷ moments)
         → Counted (crossings_of moments) (program x.host moments) x
         → Counted (crossings_of (y ∷ moments)) (program x.host (y ∷ moments)) x
@@ -139,19 +173,23 @@ module _ (orders : Orders) (strange : Host → Bool) (hosts : List Host) where
       bound = λ goes. still_bound c.link y mixed (c.bound goes);
       named = λ s. link_on y moments x c.link (c.named s);
       itself = λ r. said_on y moments x c.link (c.itself r);
+      room = λ s goes. by_length x (y ∷ moments) (room_on s y mixed (by_places (c.room s goes)));
+      within = λ s. still_within y (link_of c.link) (c.within s);
     }
 
     -- a message more
     one_message : (c : Crossing) (bits : List Bool) (known : Counted (crossings_of moments) (program x.host moments) x)
         → IsMixed strange hosts (Crossed c ∷ moments) → x.ended ≡ false
-        → HasData (receives x) (flow_of x (link_of known.link)) c bits
+        → HasData (receives x) (flow_of x (link_of known.link)) c bits → Grows moments c bits x known.link
         → Counted (crossings_of (Crossed c ∷ moments)) (program x.host (Crossed c ∷ moments)) (carried bits x)
-    one_message c bits known mixed goes has = record {
+    one_message c bits known mixed goes has grows = record {
       link = known.link;
       messages = inr (x.messages, x.bits, bits, refl, refl, has, own_before, partner_before, known.messages);
       bound = λ over. still_bound known.link (Crossed c) mixed (known.bound goes);
       named = λ s. link_on (Crossed c) moments x known.link (known.named s);
       itself = λ r. said_on (Crossed c) moments x known.link (known.itself r);
+      room = λ s over. (grows s).0;
+      within = λ s. (grows s).1;
     }
 
     live : IsMixed strange hosts moments → Contains (mixed_kept strange moments).book.lives x → x.ended ≡ false
@@ -275,7 +313,7 @@ module _ (orders : Orders) (strange : Host → Bool) (hosts : List Host) where
         → IsMixed strange hosts (Crossed c ∷ moments)
         →
         ((x : Life) (g : Given x) → IsThere h socket x
-        → HasData (receives x) (flow_of x (link_of g.counts.link)) c bits)
+        → HasData (receives x) (flow_of x (link_of g.counts.link)) c bits × Grows moments c bits x g.counts.link)
         → Each (Known (λ h. program h (Crossed c ∷ moments)) (crossings_of (Crossed c ∷ moments)))
         (where_it (lives_at h socket) (carried bits) (mixed_kept strange moments).book.lives)
     data_moment h c socket bits mixed has = all (mixed_kept strange moments).book.lives all_given where
@@ -284,7 +322,7 @@ module _ (orders : Orders) (strange : Host → Bool) (hosts : List Host) where
           (changed_when b (carried bits) x)
       one x g true e =
           let i : IsThere h socket x = is_there h socket x e in
-          inr (one_message moments x g.own c bits g.counts mixed i.goes (has x g i))
+          inr (one_message moments x g.own c bits g.counts mixed i.goes (has x g i).0 (has x g i).1)
       one x g false e = inr (still moments x g.own (Crossed c) mixed g.counts)
 
       all : (xs : List Life) → Each Given xs
@@ -325,11 +363,14 @@ module _ (orders : Orders) (strange : Host → Bool) (hosts : List Host) where
           has : (x : Life) (g : Given x) → IsThere m.flow.destination t.end.own x
               → HasData (receives x) (flow_of x (link_of g.counts.link)) (crossing.In m)
               (data_of (data_bits t.header) m.text)
-          has x g i =
-              in_data moments below x g.own g.there g.counts m (data_of (data_bits t.header) m.text) t.end i.host
-              (subst (λ (h : Host). Contains (pair_with m.flow.source (program h moments).peers).entries t.end) i.host
-              among) t.opened on.0 (link_is m.flow.link.0 t.end.link on.1) i.socket_is i.goes
-              (ap (data_by m.text) t.read)
+              × Grows moments (crossing.In m) (data_of (data_bits t.header) m.text) x g.counts.link
+          has x g i = (
+            in_data moments below x g.own g.there g.counts m (data_of (data_bits t.header) m.text) t.end i.host
+                (subst (λ (h : Host). Contains (pair_with m.flow.source (program h moments).peers).entries t.end) i.host
+                among) t.opened on.0 (link_is m.flow.link.0 t.end.link on.1) i.socket_is i.goes
+                (ap (data_by m.text) t.read),
+            λ s. absurd (even_odd x.socket (ap is_receive_socket i.socket_is ∙ on.0) s),
+          )
 
     comes_in : (m : HostMessage) → IsMixed strange hosts (Crossed (crossing.In m) ∷ moments)
         → Each (Known (λ h. program h (Crossed (crossing.In m) ∷ moments))
@@ -417,13 +458,52 @@ module _ (orders : Orders) (strange : Host → Bool) (hosts : List Host) where
                 (sym four)
                 ∙ drop-append_seam (header_bits (record { size = size; count = count })) (take (size * count) e.bits)
 
+            its_link : (o : Option ℕ) → e.link ≡ o → is_some o ≡ true → e.link ≡ Some (link_of e.link)
+            its_link None f some = absurd (let clash : false ≡ true = some in cc)
+            its_link (Some l) f some = f ∙ ap (λ (n : Option ℕ). Some (link_of n)) (sym f)
+
+            grows : (x : Life) (g : Given x) → IsThere m.flow.source e.own x
+                → Grows moments (crossing.Out m) (take (size * count) e.bits) x g.counts.link
+            grows x g i s =
+                let here : Contains (pair_with m.flow.destination (program x.host moments).peers).entries e = subst
+                (λ (h : Host). Contains (pair_with m.flow.destination (program h moments).peers).entries e) i.host
+                among in
+                let its : ItsEnd x g.counts.link m.flow.destination e = end_of_life moments below x g.own g.there
+                g.counts m.flow.destination e here may.1.is_opened i.socket_is i.goes in
+                let old : HasRoom x (crossings_of moments) (places moments) (program x.host moments) = by_places moments
+                x g.own (g.counts.room s i.goes) in
+                let same : HasRoom x (crossings_of (Crossed (crossing.Out m) ∷ moments))
+                (places (Crossed (crossing.Out m) ∷ moments)) (program x.host (Crossed (crossing.Out m) ∷ moments)) =
+                room_on moments x g.own s (Crossed (crossing.Out m)) mixed old in
+                let says : next_in (program x.host moments).peers ≡ Some (out.peer, parcel.Bytes e size count) = subst
+                (λ (h : Host). next_in (program h moments).peers ≡ Some (out.peer, parcel.Bytes e size count)) i.host
+                next in
+                let found : find (may_send_on out.peer.pair.busy (link_of e.link)) out.peer.pair.entries ≡ Some e =
+                senders.next_is out.peer.pair e size count parcel_next in
+                let there : Contains (pair_with x.peer (program x.host moments).peers).entries e = subst
+                (λ (h : Host). Contains (pair_with h (program x.host moments).peers).entries e) its.peer here in (
+                  by_length moments x g.own (carried (take (size * count) e.bits) x)
+                      (Crossed (crossing.Out m) ∷ moments)
+                      (spent orders strange hosts x g.own.plain s moments m mixed old same i.host out.peer e size count
+                      says found (to ∙ its.peer) there may.1 its.mine (sym i.socket_is) its.asked its.partner),
+                  subst (λ (l : ℕ). AreWithin (carried (take (size * count) e.bits) x) l
+                      (crossings_of (Crossed (crossing.Out m) ∷ moments))) (ap link_of its.linked)
+                      (sent orders strange hosts x g.own.plain s moments m mixed old same i.host out.peer e size count
+                      says found (to ∙ its.peer) there may.1 its.mine (sym i.socket_is) its.asked its.partner
+                      (link_of e.link) (its_link e.link refl may.1.linked)),
+                )
+
             has : (x : Life) (g : Given x) → IsThere m.flow.source e.own x
                 → HasData (receives x) (flow_of x (link_of g.counts.link)) (crossing.Out m) (take (size * count) e.bits)
-            has x g i =
-                out_data moments below x g.own g.there g.counts m (take (size * count) e.bits) e i.host
-                (subst
-                (λ (h : Host). Contains (pair_with m.flow.destination (program h moments).peers).entries e) i.host
-                among) may.1.is_opened may.1.sends (ap (λ (y : HostMessage). y.flow.link.0) is) i.socket_is i.goes text
+                × Grows moments (crossing.Out m) (take (size * count) e.bits) x g.counts.link
+            has x g i = (
+              out_data moments below x g.own g.there g.counts m (take (size * count) e.bits) e i.host
+                  (subst
+                  (λ (h : Host). Contains (pair_with m.flow.destination (program h moments).peers).entries e) i.host
+                  among) may.1.is_opened may.1.sends (ap (λ (y : HostMessage). y.flow.link.0) is) i.socket_is i.goes
+                  text,
+              grows x g i,
+            )
 
       goes_out : After (notices_by (Crossed (crossing.Out m)) moments)
       goes_out = by out.parcel out.next out.message where
@@ -523,6 +603,10 @@ module _ (orders : Orders) (strange : Host → Bool) (hosts : List Host) where
             (crossings_of moments) 0 bits) (sym new.1)
             (none_of (receives x) (flow_of x link) x.own_stamp x.partner_stamp (crossings_of moments)))
 
+        unsent : (x : Life) (l : ℕ) → IsNew x → AreWithin x l (crossings_of moments)
+        unsent x l new = let z : length x.bits ≡ 0 = ap (λ (bs : List Bool). length bs) new.1 in
+            (omega (arith, new.0), omega (arith, z))
+
         begun : (x : Life) → IsOwn strange (crossings_of moments) x
             → Contains (mixed_kept strange moments).book.lives x → IsNew x → (b : Bool) → x.ended ≡ b
             → Counted (crossings_of moments) (program x.host moments) x
@@ -536,6 +620,8 @@ module _ (orders : Orders) (strange : Host → Bool) (hosts : List Host) where
                 bound = λ goes. absurd (let clash : true ≡ false = sym over ∙ goes in cc);
                 named = λ k. w.1;
                 itself = λ r. absurd (even_odd x.socket r s);
+                room = λ k goes. absurd (let clash : true ≡ false = sym over ∙ goes in cc);
+                within = λ k. unsent x (link_of w.0) new;
               }
           by false s = record {
             link = Some own.own.named;
@@ -549,6 +635,8 @@ module _ (orders : Orders) (strange : Host → Bool) (hosts : List Host) where
                   (λ (c : Command). HasCrossed going x.host x.peer x.own_stamp c (crossings_of moments))
                   (rts_is x.socket x.foreign own.own.named r) own.own.crossed;
             };
+            room = λ k goes. absurd (let clash : true ≡ false = sym over ∙ goes in cc);
+            within = λ k. unsent x own.own.named new;
           }
         begun x own there new false goes =
             let o : HasOpenEnd (program x.host moments) x = live moments x own mixed there goes in
@@ -563,6 +651,9 @@ module _ (orders : Orders) (strange : Host → Bool) (hosts : List Host) where
                   o.one);
               named = λ s. end_linked moments mixed x own o s;
               itself = λ r. end_said moments mixed x own o r;
+              room = λ s on. by_length moments x own x moments
+                  (always orders strange hosts x own.plain s new moments mixed);
+              within = λ s. unsent x (link_of o.end.link) new;
             }
 
         one : (x : Life) → IsOwn strange (crossings_of moments) x
@@ -600,6 +691,7 @@ module _ (orders : Orders) (strange : Host → Bool) (hosts : List Host) where
         messages = c.messages;
         named = λ s. (let w : IsLinked moments x c.link = c.named s in
             subst (IsNamed (crossings_of moments) x) (sym (ap link_of w.is)) w.crossed);
+        within = λ s. record { messages = (c.within s).0; bits = (c.within s).1 };
         itself = λ r. (let w : IsSaid moments x c.link = c.itself r in
             subst (NamesItself (crossings_of moments) x) (sym (ap link_of w.is)) w.crossed);
       }

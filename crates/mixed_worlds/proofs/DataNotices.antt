@@ -1,8 +1,10 @@
 -- What is reported of data that come in, and that go out.
-use Rattle.mixed_worlds.proofs.Common.{◌≡◌, ◌⊎◌, inl, inr, ℕ, ◌*◌, ◌==◌, Bool, true, false, if◌then◌else◌, List, [], ◌∷◌, ◌++◌, find, take, Option, Some, None, refl, ap, sym, subst, ◌∙◌, same_host, HostMessage, data_bits, header_of, is_ready, ERRONEOUS, data_of, data_taken, arrived, arrived_if, data_found, is_acceptable, text_faulted, DeskState, desk_of, is_ending, is_open, receives_on, Parcel, TurnState, if_ready, message_taken, with_desk, Entry, Notice, after_turn, turn_of, NcpState, pair_with, next_in, offered_by, Peer, DataHeader, Ending, Open, Unconnected}
+use Rattle.mixed_worlds.proofs.Common.{Host, PairState, bits_gone, changed_first, may_send_on, pair_after, parcel_gone}
+use Rattle.mixed_worlds.proofs.Common.{put, ◌≡◌, ◌⊎◌, inl, inr, ℕ, ◌*◌, ◌==◌, Bool, true, false, if◌then◌else◌, List, [], ◌∷◌, ◌++◌, find, take, Option, Some, None, refl, ap, sym, subst, ◌∙◌, same_host, HostMessage, data_bits, header_of, is_ready, ERRONEOUS, data_of, data_taken, arrived, arrived_if, data_found, is_acceptable, text_faulted, DeskState, desk_of, is_ending, is_open, receives_on, Parcel, TurnState, if_ready, message_taken, with_desk, Entry, Notice, after_turn, turn_of, NcpState, pair_with, next_in, offered_by, Peer, DataHeader, Ending, Open, Unconnected}
 use Rattle.interface.specs.declared.crossing.Inbound.TheVariants as inbound
 use Rattle.host_pairs.specs.Commands as commands
 use Rattle.host_pairs.specs.Parcels as parcel
+use Rattle.host_pairs.specs.Parcels.{link_of}
 use Rattle.host_pairs.specs.declared.notice.Notice.TheVariants as notice
 use Rattle.sockets.specs.Accepting.{accepted}
 use Rattle.sockets.specs.Sending.{offered}
@@ -84,3 +86,19 @@ pub bytes_told : (s : NcpState) (stamp : ℕ) (g : Peer) (e : Entry) (size count
     → (offered s stamp).1 ≡ notice.Sent e.own (take (size * count) e.bits) ∷ []
 unfolding offered
 bytes_told s stamp g e size count next = ap (λ (o : Option (Peer × Parcel)). (offered_by s stamp o).1) next
+
+-- what is left of the ends with a peer where bytes go out to it
+pub bytes_left : (s : NcpState) (stamp : ℕ) (g : Peer) (e : Entry) (size count : ℕ) (p : Host) → g.host ≡ p
+    → next_in s.peers ≡ Some (g, parcel.Bytes e size count)
+    → (pair_with p (offered s stamp).0.peers).entries
+    ≡ changed_first (may_send_on g.pair.busy (link_of e.link)) (bits_gone (size * count)) g.pair.entries
+unfolding offered
+bytes_left s stamp g e size count p to next =
+    subst
+    (λ (h : Host). (pair_with h (offered_by s stamp (next_in s.peers)).0.peers).entries
+    ≡ changed_first (may_send_on g.pair.busy (link_of e.link)) (bits_gone (size * count)) g.pair.entries) to
+    (ap (λ (o : Option (Peer × Parcel)). (pair_with g.host (offered_by s stamp o).0.peers).entries) next
+    ∙ ap (λ (q : PairState). q.entries)
+    (put g.host
+    (pair_after (parcel.Bytes e size count) g.pair
+    (parcel_gone g.host stamp g.pair.busy (parcel.Bytes e size count) (desk_of g.pair s.listening))) s.peers))

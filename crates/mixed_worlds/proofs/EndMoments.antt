@@ -1,17 +1,18 @@
 -- What holds of each end that a host's program has with a peer holds after the next moment, whatever that peer sends.
-use Rattle.mixed_worlds.proofs.Common.{◌≡◌, ℕ, Bool, true, false, if◌then◌else◌, List, ◌∷◌, map, take, Some, refl, ap}
-use Rattle.mixed_worlds.proofs.Common.{sym, subst, ◌∙◌, Host, same_host, Flow, HostMessage, same_host-true, Command}
+use Rattle.mixed_worlds.proofs.Common.{◌≡◌, ◌==◌, ℕ, Bool, true, false, if◌then◌else◌, List, ◌∷◌, map, take, Some}
+use Rattle.mixed_worlds.proofs.Common.{refl, ap, sym, subst, ◌∙◌, Host, same_host, Flow, HostMessage, same_host-true, Command}
 use Rattle.mixed_worlds.proofs.Common.{Legal, orders_of, PairState, Parcel, Entry, Notice, control_flow, accepted}
 use Rattle.mixed_worlds.proofs.Common.{NcpState, opening_state, pair_with, served, message_for, next_in, offered}
 use Rattle.mixed_worlds.proofs.Common.{answer_leaves, message_leaves, next_pair, offer_leaves, pair_range, offer_read}
 use Rattle.mixed_worlds.proofs.Common.{Asked, Crossed, Moment, places, program, Begins, Each, Ends, Goes, Hears}
-use Rattle.mixed_worlds.proofs.Common.{MayTell, Quiet, Rules, message_keeps, offer_keeps, IsMixed, Orders, Says, older}
+use Rattle.mixed_worlds.proofs.Common.{Quiet, Rules, message_keeps, IsMixed, Orders, Says, older}
 use Rattle.mixed_worlds.proofs.Common.{ordered, says, IsReadBack}
 use Rattle.std.proofs.lemmas.Bool.{eqb-true}
 use Rattle.interface.specs.declared.crossing.Crossing.TheVariants as crossing
 use Rattle.interface.specs.declared.crossing.Inbound.TheVariants as inbound
 use Rattle.host_pairs.specs.Parcels as parcel
-use Rattle.world_keeps_lives.proofs.lemmas.{answer_keeps, request_keeps}
+use Rattle.world_keeps_lives.proofs.lemmas.{GoesAll, Leaves, MayGrant, MaySay, Starts, answer_passes, goes_all}
+use Rattle.world_keeps_lives.proofs.lemmas.{leaves, may_grant, message_passes, offer_passes, request_passes, starts}
 use Rattle.mixed_worlds.proofs.Sockets.{fit}
 
 pub control_is : (f : Flow) (x y : Host) → x ≡ f.source → y ≡ f.destination → f.link.0 ≡ 0 → f ≡ control_flow x y
@@ -27,7 +28,7 @@ if_ends P p true t old now k = now refl
 if_ends P p false t old now k = k
 
 -- of ends only, and of no notice
-abbrev Free : Notice → Type 0
+abbrev pub Free : Notice → Type 0
 Free n = Unit {0}
 
 free : (P : Entry → Type 0) (p : Host) → ((e f : Entry) → Quiet e f → P e → P f) → Rules P Free p
@@ -51,18 +52,19 @@ module _ (orders : Orders) (strange : Host → Bool) (hosts : List Host) (a : Ho
     abbrev queue : List Command
     queue = (pair_with p (program a moments).peers).queue
 
-    -- what it takes that this holds of ends after a moment: that it holds of those that begin there, and of those whose
-    -- requests are taken there, or said
-    abbrev pub Moved : (Entry → Type 0) → Moment → Type 0
-    Moved P (Crossed (crossing.Out m)) = m.flow ≡ control_flow a p → (n : ℕ)
-        → orders_of m.text ≡ map Legal (take n queue) → Goes P (places moments) (take n queue)
-    Moved P (Crossed (crossing.In m)) = m.flow ≡ control_flow p a → Hears P (places moments) (orders_of m.text)
-    Moved P (Asked g r) = Begins P
-    Moved P x = Unit {0}
+    -- what it takes that this holds of ends after a moment, leaf by leaf: that it holds of those that begin there, of
+    -- those whose requests are said there, and of all after a control message of the peer
+    abbrev pub Moves : (Entry → Type 0) → Moment → Type 0
+    Moves P (Crossed (crossing.Out m)) = m.flow ≡ control_flow a p → (n : ℕ)
+        → orders_of m.text ≡ map Legal (take n queue) → GoesAll P (places moments) (take n queue)
+    Moves P (Crossed (crossing.In m)) = m.flow ≡ control_flow p a
+        → Ends P p (accepted (program a moments) (inbound.Message m) (places moments)).0
+    Moves P (Asked g r) = same_host a g ≡ true → Starts P × MayGrant P r
+    Moves P x = Unit {0}
 
-    module _ (P : Entry → Type 0) (quiet : (e f : Entry) → Quiet e f → P e → P f) where
+    module _ (P : Entry → Type 0) (walk : Leaves P Free p) where
       out : (m : HostMessage) → IsMixed strange hosts (Crossed (crossing.Out m) ∷ moments)
-          → Moved P (Crossed (crossing.Out m)) → Ends P p (program a moments) → a ≡ m.flow.source
+          → Moves P (Crossed (crossing.Out m)) → Ends P p (program a moments) → a ≡ m.flow.source
           → Ends P p (offered (program a moments) (places moments)).0
       out m mixed moved old from = at (same_host p o.peer.host) refl where
         below : IsMixed strange hosts moments
@@ -73,7 +75,7 @@ module _ (orders : Orders) (strange : Host → Bool) (hosts : List Host) (a : Ho
 
         may : (x : Parcel) → o.peer.host ≡ p → next_in (program a moments).peers ≡ Some (o.peer, x)
             → message_for (program a moments).own o.peer x ≡ m
-            → MayTell P Free p (free P p quiet) (places moments) x (pair_with p (program a moments).peers)
+            → MaySay P Free p walk (places moments) x (pair_with p (program a moments).peers)
         may parcel.Reset to next is = tt
         may parcel.Reply to next is = tt
         may (parcel.Bytes e size count) to next is = tt
@@ -93,48 +95,73 @@ module _ (orders : Orders) (strange : Host → Bool) (hosts : List Host) (a : Ho
         at : (b : Bool) → same_host p o.peer.host ≡ b → Ends P p (offered (program a moments) (places moments)).0
         at true f =
             let to : o.peer.host ≡ p = sym (same_host-true p o.peer.host f) in
-            (offer_keeps P Free p (free P p quiet) (program a moments) (places moments) o.peer o.parcel
+            (offer_passes P Free p walk (program a moments) (places moments) o.peer o.parcel
             (ordered orders strange hosts a moments off below) o.next to
-            (pair_range p (program a moments).peers (fit orders strange hosts a off moments below).ranged.pairs).commands
-            (may o.parcel to o.next o.message) old).ends
+            (pair_range p (program a moments).peers
+            (fit orders strange hosts a off moments below).ranged.pairs).commands (may o.parcel to o.next o.message) old).ends
         at false f = subst (λ (q : PairState). Each P q.entries)
             (sym (offer_leaves (program a moments) (places moments) o.peer o.parcel p o.next f)) old
 
-      comes : (m : HostMessage) → Moved P (Crossed (crossing.In m)) → Ends P p (program a moments)
+      comes : (m : HostMessage) → Moves P (Crossed (crossing.In m)) → Ends P p (program a moments)
           → a ≡ m.flow.destination → Ends P p (accepted (program a moments) (inbound.Message m) (places moments)).0
       comes m moved old to = at (same_host p m.flow.source) refl where
+        on_link : p ≡ m.flow.source → (b : Bool) → (m.flow.link.0 == 0) ≡ b
+            → Ends P p (accepted (program a moments) (inbound.Message m) (places moments)).0
+        on_link from true here = moved (control_is m.flow p a from to (eqb-true m.flow.link.0 0 here))
+        on_link from false away =
+            (message_passes P Free p walk (program a moments) m (places moments) (sym from) (
+              λ here. absurd (let clash : true ≡ false = sym here ∙ away in cc),
+              λ other e k found opened read. tt,
+            ) old).ends
+
         at : (b : Bool) → same_host p m.flow.source ≡ b
             → Ends P p (accepted (program a moments) (inbound.Message m) (places moments)).0
-        at true f =
-            let from : p ≡ m.flow.source = same_host-true p m.flow.source f in
-            (message_keeps P Free p (free P p quiet) (program a moments) m (places moments) (sym from) (
-              λ zero. moved (control_is m.flow p a from to (eqb-true m.flow.link.0 0 zero)),
-              λ away e k found opened read. tt,
-            ) old).ends
+        at true f = on_link (same_host-true p m.flow.source f) (m.flow.link.0 == 0) refl
         at false f = subst (λ (q : PairState). Each P q.entries)
             (sym (message_leaves (program a moments) m (places moments) p f)) old
 
-      pub moved_ends : (x : Moment) → IsMixed strange hosts (x ∷ moments) → Moved P x → Ends P p (program a moments)
+      pub moves_ends : (x : Moment) → IsMixed strange hosts (x ∷ moments) → Moves P x → Ends P p (program a moments)
           → Ends P p (program a (x ∷ moments))
-      moved_ends (Crossed (crossing.Out m)) mixed moved old = if_ends P p (same_host a m.flow.source)
+      moves_ends (Crossed (crossing.Out m)) mixed moved old = if_ends P p (same_host a m.flow.source)
           (offered (program a moments) (places moments)).0 (program a moments)
           (λ e. out m mixed moved old (same_host-true a m.flow.source e)) old
-      moved_ends (Crossed (crossing.In m)) mixed moved old = if_ends P p (same_host a m.flow.destination)
+      moves_ends (Crossed (crossing.In m)) mixed moved old = if_ends P p (same_host a m.flow.destination)
           (accepted (program a moments) (inbound.Message m) (places moments)).0 (program a moments)
           (λ e. comes m moved old (same_host-true a m.flow.destination e)) old
-      moved_ends (Crossed (crossing.Answer kind f)) mixed moved old = if_ends P p (same_host a f.source)
+      moves_ends (Crossed (crossing.Answer kind f)) mixed moved old = if_ends P p (same_host a f.source)
           (accepted (program a moments) (inbound.Answer kind f) (places moments)).0 (program a moments)
           (λ e. at (same_host p f.destination) refl) old where
             at : (b : Bool) → same_host p f.destination ≡ b
                 → Ends P p (accepted (program a moments) (inbound.Answer kind f) (places moments)).0
-            at true g = (answer_keeps P Free p (free P p quiet) (program a moments) kind f (places moments)
+            at true g = (answer_passes P Free p walk (program a moments) kind f (places moments)
                 (sym (same_host-true p f.destination g)) old).ends
             at false g = subst (λ (q : PairState). Each P q.entries)
                 (sym (answer_leaves (program a moments) kind f (places moments) p g)) old
-      moved_ends (Crossed (crossing.Down g)) mixed moved old = if_ends P p (same_host a g) (opening_state a)
+      moves_ends (Crossed (crossing.Down g)) mixed moved old = if_ends P p (same_host a g) (opening_state a)
           (program a moments) (λ e. tt) old
-      moved_ends (Crossed (crossing.Up g)) mixed moved old = if_ends P p (same_host a g) (opening_state a)
+      moves_ends (Crossed (crossing.Up g)) mixed moved old = if_ends P p (same_host a g) (opening_state a)
           (program a moments) (λ e. tt) old
-      moved_ends (Asked g r) mixed begins old = if_ends P p (same_host a g) (served (program a moments) r)
+      moves_ends (Asked g r) mixed asked old = if_ends P p (same_host a g) (served (program a moments) r)
           (program a moments)
-          (λ e. request_keeps P Free p (free P p quiet) begins (program a moments) r old) old
+          (λ e. request_passes P Free p walk (asked e).0 (program a moments) r (asked e).1 old) old
+
+    -- the same, by rules that take all changes alike that name no request
+    abbrev pub Moved : (Entry → Type 0) → Moment → Type 0
+    Moved P (Crossed (crossing.Out m)) = m.flow ≡ control_flow a p → (n : ℕ)
+        → orders_of m.text ≡ map Legal (take n queue) → Goes P (places moments) (take n queue)
+    Moved P (Crossed (crossing.In m)) = m.flow ≡ control_flow p a → Hears P (places moments) (orders_of m.text)
+    Moved P (Asked g r) = Begins P
+    Moved P x = Unit {0}
+
+    module _ (P : Entry → Type 0) (quiet : (e f : Entry) → Quiet e f → P e → P f) where
+      pub moved_ends : (x : Moment) → IsMixed strange hosts (x ∷ moments) → Moved P x → Ends P p (program a moments)
+          → Ends P p (program a (x ∷ moments))
+      moved_ends x mixed moved old = moves_ends P (leaves P Free p (free P p quiet)) x mixed (by x moved) old where
+        by : (x : Moment) → Moved P x → Moves P x
+        by (Crossed (crossing.Out m)) moved = λ flow n reads.
+            goes_all P Free p (free P p quiet) (places moments) (take n queue) (moved flow n reads)
+        by (Crossed (crossing.In m)) moved = λ flow.
+            (message_keeps P Free p (free P p quiet) (program a moments) m (places moments)
+            (ap (λ (f : Flow). f.source) flow) (λ here. moved flow, λ away e k found opened read. tt) old).ends
+        by (Asked g r) begins = λ own. (starts P begins, may_grant P Free p (free P p quiet) r)
+        by (Crossed c) moved = tt

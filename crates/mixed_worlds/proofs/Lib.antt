@@ -13,6 +13,7 @@ pub mod Settled
 pub mod RealAmong
 pub mod Joined
 pub mod EndMoments
+pub mod Rooms
 pub mod Asked
 pub mod AskedLives
 pub mod Handed
@@ -20,8 +21,9 @@ pub mod Steps
 pub mod Waiting
 pub mod OwnLinks
 pub mod Bound
-pub mod Carried
 pub mod DataNotices
+pub mod Granted
+pub mod Carried
 pub mod CarriedLives
 pub mod Once
 pub mod OnceGone

@@ -24,7 +24,8 @@ use Rattle.mixed_worlds.specs.Toward.{taken_request}
 use Rattle.mixed_worlds.proofs.Asked.{one_place}
 use Rattle.mixed_worlds.proofs.EndMoments.{Moved, moved_ends, own_out}
 use Rattle.mixed_worlds.proofs.AskedLives.{IsOwn, all_own}
-use Rattle.mixed_worlds.proofs.Carried.{below_all, nobody_passes}
+use Rattle.mixed_worlds.proofs.Carried.{below_all}
+use Rattle.mixed_worlds.proofs.Rooms.{nobody_passes}
 use Rattle.mixed_worlds.proofs.Once.{AreApart, Differ, IsBoth, IsDone, IsOnce, IsSilent, Opening, done_both, once_steps}
 use Rattle.mixed_worlds.proofs.Once.{opening_in, openings}
 use Rattle.mixed_worlds.proofs.OnceGone.{IsOnceGone, offer_once}

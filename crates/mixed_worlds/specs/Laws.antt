@@ -135,7 +135,8 @@ pub record Toward : Type 0 where
   pub once :
       (strange : Host → Bool) (hosts : List Host) (moments : List Moment) → IsMixed strange hosts moments →
       AreOnce (mixed_kept strange moments).book.lives
-  -- and its bits are those of messages on one link, in their order
+  -- and its bits are those of messages on one link, in their order. If it sends, they are within what the peer's ALLs
+  -- name there
   pub carried :
       (strange : Host → Bool) (hosts : List Host) (moments : List Moment) → IsMixed strange hosts moments → (x : Life) →
       Contains (mixed_kept strange moments).book.lives x → IsCarried (crossings_of moments) x
@@ -176,7 +177,8 @@ pub record KeepsToward {C : Type 0} (strange : Host → Bool) (w : WorldState C)
   -- no two lives have the same own request, nor the same one of their partner
   pub once : AreOnce w.kept.book.lives
   -- its bits are those of as many messages as it counts, on one link, after both requests and in their order. An RTS
-  -- names this link: its peer's where it sends, and its own where it receives
+  -- names this link: its peer's where it sends, and its own where it receives. What it sent is within what the ALLs
+  -- there name that its host took from the peer
   pub carried : (x : Life) → Contains w.kept.book.lives x → IsCarried w.kept.book.crossings x
   -- what was sent is a prefix of what was handed over
   pub handed :

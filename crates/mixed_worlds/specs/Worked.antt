@@ -1,13 +1,15 @@
 -- Small networks with a stranger, `third`: words for worked examples.
-use Rattle.std.specs.Prelude.{ℕ, List, [], ◌∷◌}
+use Rattle.std.specs.Prelude.{ℕ, List, [], ◌∷◌, ◌++◌}
+use Rattle.interface.specs.Host.{Host}
 use Rattle.host_pairs.specs.declared.notice.Notice.TheVariants as notice
 use Rattle.interface.specs.declared.crossing.Answer.TheVariants as answer
 use Rattle.interface.specs.declared.crossing.Crossing.{Crossing}
 use Rattle.interface.specs.declared.crossing.Crossing.TheVariants as crossing
 use Rattle.interface.specs.declared.message.HostMessage.{HostMessage}
 use Rattle.promise.specs.declared.book.Told.{Told}
+use Rattle.promise.specs.declared.life.Amount.{Amount}
 use Rattle.promise.specs.declared.life.Life.{Life}
-use Rattle.sockets.specs.Worked.{RTS, STR, control, first, message, on_link, second, third}
+use Rattle.sockets.specs.Worked.{ALL, RTS, STR, control, first, message, on_link, second, third}
 use Rattle.sockets.specs.declared.request.Request.TheVariants as request
 use Rattle.net_sim.specs.Book.{carried, granted, new_life}
 use Rattle.net_sim.specs.Story.{Asked, Crossed, Moment}
@@ -68,6 +70,27 @@ odd_life = carried eight granting_life
 -- the life of the second host's end that sends to the stranger. The stranger's RTS for it names link 2
 abbrev pub sending_life : Life
 sending_life = new_life second 33 third 16 8 7
+
+-- the second host asks the stranger for a connection from its socket 33. The stranger's RTS for it names link 2, and
+-- beside it an ALL names two messages and 16 bits there
+abbrev pub granted_beside : List Crossing
+granted_beside = crossing.In (control third second (RTS 16 33 2 ++ ALL 2 2 16)) ∷ crossing.Out
+    (control second third (STR 33 16 8)) ∷ []
+
+-- its life, which has both requests by then
+abbrev pub asking_life : Life
+asking_life = new_life second 33 third 16 0 1
+
+-- an ALL of one message and eight bits on link 2
+abbrev pub one_more : Host → HostMessage
+one_more from = control from second (ALL 2 1 8)
+
+-- and its octets as data on that link
+abbrev pub one_as_data : HostMessage
+one_as_data = record { flow = on_link third second 2; text = (one_more third).text }
+
+abbrev pub amount : ℕ → ℕ → Amount
+amount messages bits = record { messages = messages; bits = bits }
 
 -- a life between the other two hosts
 abbrev pub plain_life : Life

@@ -16,7 +16,8 @@ use net_sim::{Book, MixedWorld};
 ///   finished initial connection pairs the right four sockets.
 /// - `toward`: `KeepsToward`, of each such host toward all others, strangers too. Both requests of a life crossed, and are
 ///   no other life's; its bits are those of messages on one link, which one of the two names; what was sent is a prefix
-///   of what was handed over; and what was taken is within what was granted.
+///   of what was handed over, and within what the peer's ALLs name on that link; and what was taken is within what was
+///   granted.
 ///
 /// Nothing is promised to arrive, and of a stranger nothing at all.
 pub fn book_among<C: Carrier>(world: &MixedWorld<C>) -> &Book

@@ -16,9 +16,11 @@ ghost use Rattle.masked_worlds.specs.Mixed.{AreMixed};
 ghost use Rattle.masked_worlds.specs.Worked.{is_third, listener_taken, three};
 ghost use Rattle.promise.specs.Formed.{IsFormed};
 ghost use Rattle.mixed_worlds.specs.Book.{beside_among, lives_among, mixed_kept};
-ghost use Rattle.mixed_worlds.specs.Toward.{AreOf, AreOnce, HasAsked, IsCarried, IsNamed, NamesItself, ReportsData};
+ghost use Rattle.mixed_worlds.specs.Toward.{AreOf, AreOnce, HasAsked, IsCarried, IsNamed, IsWithin, NamesItself};
+ghost use Rattle.mixed_worlds.specs.Toward.{ReportsData, granted_to};
 ghost use Rattle.mixed_worlds.specs.Told.{ToldAmong, told_among};
 ghost use Rattle.mixed_worlds.specs.Worked.{both_in, contacts, eight_bits, eight_taken, eight_told, granting_life};
+ghost use Rattle.mixed_worlds.specs.Worked.{amount, asking_life, granted_beside, one_as_data, one_more};
 ghost use Rattle.mixed_worlds.specs.Worked.{odd_life, odd_size, sending_life};
 ghost use Rattle.mixed_worlds.specs.Worked.{plain_bits, plain_life, receiving_life};
 ghost use Rattle.mixed_worlds.specs.Worked.{stranger_contacted, stranger_granted, stranger_opened};
@@ -114,6 +116,27 @@ pub fn worked_links()
     // no other link, and nothing that goes out names one
     ensures other { IsNamed (crossings_of stranger_opened) sending_life 3 → ⊥ }
     ensures turned { IsNamed (crossings_of stranger_opened) (new_life second 33 third 16 7 8) 2 → ⊥ }
+{}
+
+/// What a life that sends may send: as much as its peer's ALLs name on its link, from the partner's request on.
+pub fn worked_within()
+    // an ALL beside the partner's request counts, and all together
+    ensures beside { granted_to asking_life 2 granted_beside ≡ amount 2 16 }
+    ensures sum { granted_to asking_life 2 (crossing.In (one_more third) ∷ granted_beside) ≡ amount 3 24 }
+
+    // none on another link, before the partner's request, or before the own one went out; none from another peer, none
+    // that hasn't come in, and nothing in data
+    ensures other { granted_to asking_life 3 granted_beside ≡ amount 0 0 }
+    ensures early { granted_to (new_life second 33 third 16 0 2) 2 granted_beside ≡ amount 0 0 }
+    ensures unasked { granted_to (new_life second 33 third 16 1 1) 2 granted_beside ≡ amount 0 0 }
+    ensures peer { granted_to asking_life 2 (crossing.In (one_more first) ∷ granted_beside) ≡ amount 2 16 }
+    ensures going { granted_to asking_life 2 (crossing.Out (one_more third) ∷ granted_beside) ≡ amount 2 16 }
+    ensures data { granted_to asking_life 2 (crossing.In one_as_data ∷ granted_beside) ≡ amount 2 16 }
+
+    // so two messages of 16 bits are within it, and not one message or one bit more
+    ensures within { IsWithin granted_beside (record asking_life { messages = 2; bits = replicate 16 true }) 2 }
+    ensures messages { IsWithin granted_beside (record asking_life { messages = 3 }) 2 → ⊥ }
+    ensures bits { IsWithin granted_beside (record asking_life { bits = replicate 17 true }) 2 → ⊥ }
 {}
 
 /// No two lives have the same own request, in the message at their own stamp for their two sockets, nor the same one of

@@ -5,7 +5,7 @@
 //! are the lives of that timeline (`lives`). The real book is safe among them, over all that crossed (`safe`). Toward
 //! a stranger less is promised, whatever that sends ([`law::toward`]): of each socket there is one end with one peer;
 //! the requests of a life crossed, and its bits are those of messages on one link; and no host takes more than it
-//! granted. That anything arrives nobody promises.
+//! granted, or sends more than the ALLs of its peer name. That anything arrives nobody promises.
 //!
 //! A program gets the book of such a world by [`book_among`], which ensures what is promised of it. There is no other
 //! code: the laws are the contracts of functions that do nothing.

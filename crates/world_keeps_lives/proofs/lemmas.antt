@@ -18,15 +18,16 @@ pub use Rattle.world_keeps_lives.proofs.Moments.{held, idle_if, opening_holds, u
 pub use Rattle.world_keeps_lives.proofs.Named.{NamedAt, Names, found_at, named_again, named_is, named_there, names_of, some_named, way_of}
 pub use Rattle.world_keeps_lives.proofs.Notices.{world_told}
 pub use Rattle.world_keeps_lives.proofs.Owners.{owner_found}
-pub use Rattle.world_keeps_lives.proofs.Walk.ByRules.{Done, Ends, answer_keeps, message_keeps}
-pub use Rattle.world_keeps_lives.proofs.Walk.ByRules.{offer_keeps, request_keeps, request_told}
+pub use Rattle.world_keeps_lives.proofs.Walk.ByRules.{Done, Ends, answer_keeps, goes_all, leaves, may_grant, message_keeps}
+pub use Rattle.world_keeps_lives.proofs.Walk.ByRules.{offer_keeps, request_keeps, request_told, starts}
 pub use Rattle.world_keeps_lives.proofs.Walk.Rules.{Begins, Each, Goes, Hears, IsOther, MayTell, Quiet}
-pub use Rattle.world_keeps_lives.proofs.Walk.Rules.{Rules, each_in, each_of, each_weaker, found_in}
+pub use Rattle.world_keeps_lives.proofs.Walk.Rules.{Rules, each_first, each_in, each_of, each_weaker, first_of, found_in, quiet_off, quiet_sent}
 pub use Rattle.world_keeps_lives.proofs.Rows.{none_there}
 pub use Rattle.world_keeps_lives.proofs.Steps.{called_less, closed_less, good_queued, heard_less, sent_less}
 pub use Rattle.world_keeps_lives.proofs.Takes.{G, good_data, good_taken}
 pub use Rattle.world_keeps_lives.proofs.Texts.{texts_none, texts_one, texts_same}
 pub use Rattle.world_keeps_lives.proofs.Turns.{GoodTurn, good_ready, good_reset}
 pub use Rattle.world_keeps_lives.proofs.Unopened.{IsNoOpening, unopened}
-pub use Rattle.world_keeps_lives.proofs.Walk.Leaves.{GoesAll, HearsAll, IsUnended, Leaves, MaySay, Plain, off_unsent}
-pub use Rattle.world_keeps_lives.proofs.Walk.Calls.{message_passes, offer_passes}
+pub use Rattle.world_keeps_lives.proofs.Walk.Leaves.{GoesAll, HearsAll, IsNoMore, IsUnended, Leaves, MaySay, Plain}
+pub use Rattle.world_keeps_lives.proofs.Walk.Leaves.{Starts, no_more, off_unsent, turn_order}
+pub use Rattle.world_keeps_lives.proofs.Walk.Calls.{MayGrant, answer_passes, message_passes, offer_passes, request_passes, turn_passes}

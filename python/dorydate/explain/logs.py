@@ -400,15 +400,42 @@ def why_fates(book: Book, numbers: list[int]) -> str:
 
 def why_contact(book: Book, place: int) -> str:
     """With which earlier life one disagrees on a contact of their host, which would have reset both."""
-    life, earlier = book.lives[place], book.lives[:place]
-    others = [it for it in fates.together(book.log, earlier, life) if (it.fate == "reset") != (life.fate == "reset")]
-    if not others:
+    known = [fates.begun(book.log, it) for it in book.lives[: place + 1]]
+    begun = known[-1]
+    other = begun and fates.at_odds([*filter(None, known[:-1])], begun)
+    if begun is None or other is None:
         return "No cause was found."
-    host, peer, other = spell_host(life.host), spell_host(life.peer), earlier.index(others[0])
-    line = f"Line {len(book.log) + other + 1} says `{others[0].fate}`, and this one `{life.fate}`."
-    both = f"Both are lives of {host} with {peer} that have begun, and nothing that crossed has ended either."
+    life, number = begun.life, len(book.log) + 1 + known.index(other)
+    host, peer = spell_host(life.host), spell_host(life.peer)
+    line = f"Line {number} says `{other.life.fate}`, and this one `{life.fate}`."
     why = f"A contact drops all connections with {peer}, and the RST that then goes out first ends what begins later."
-    return f"{line} {both} {why} So both are `reset`, or neither is."
+    if begun.over.by is None and other.over.by is None:
+        both = f"Both are lives of {host} with {peer} that have begun, and nothing that crossed has ended either."
+        return f"{line} {both} {why} So both are `reset`, or neither is."
+    reset, spared = (begun, other) if life.fate == "reset" else (other, begun)
+    which, rest = ("this one", f"line {number}") if reset is begun else (f"line {number}", "this one")
+    both = f"Both are lives of {host} with {peer}"
+    between = f"{both}, and neither a reset nor a stop of {host} came between where they begin."
+    contact = f"Nothing that crossed has reset {which}, so a contact did{before_end(reset)}."
+    return f"{line} {between} {contact} {why} So {rest} is `reset`, too: {why_spared(spared)}"
+
+
+def before_end(begun: fates.Begun) -> str:
+    """Before what a contact came that reset a life, in words."""
+    last = begun.over.last
+    if begun.over.by is None or last is None:
+        return ""
+    host, line = spell_host(begun.life.host), f"line {last.place + 1}"
+    stop, cls = f" before {host} stopped in {line}", f" before its partner's CLS came in, in {line}"
+    return stop if begun.over.by == "stopped" else cls
+
+
+def why_spared(begun: fates.Begun) -> str:
+    """That a life wasn't over before a contact, in words."""
+    last = begun.over.last
+    if begun.over.by is None or last is None:
+        return "nothing that crossed has ended it."
+    return f"it wasn't over before line {last.place + 1}."
 
 
 def why_early(life: Life, deed: Deed) -> str:

@@ -5,6 +5,7 @@ It was written from docs/audit.md, in another language and another form than the
 
 from __future__ import annotations
 
+import math
 from collections.abc import Hashable, Iterator, Sequence
 from typing import NamedTuple
 
@@ -48,6 +49,14 @@ class Over(NamedTuple):
         return f"closed {self.closed[0]}" if self.by == "closed" else self.by
 
 
+class Begun(NamedTuple):
+    """A life that has begun: how it is over, and how many cuts of its host with its peer came before it began."""
+
+    life: Life
+    over: Over
+    stretch: int
+
+
 class Fates:
     """Says of lives how they are over. `misread_logs` has readings that are wrong in one place each."""
 
@@ -79,18 +88,59 @@ class Fates:
         return over is None or (over.early is None and life.fate in self.leaves[over.left()])
 
     def first_strange(self, log: Sequence[Crossing], lives: Sequence[Life]) -> int | None:
-        """The place, counted from 1, of the first life that doesn't suit what crossed, or of which a contact would have
-        reset an earlier one as well, but only one of the two is `reset`; None where there is none."""
-        words: dict[Hashable, set[bool]] = {}
+        """The place, counted from 1, of the first life that doesn't suit what crossed, or that disagrees with an
+        earlier one on a contact; None where there is none."""
+        earlier: list[Begun] = []
         for place, life in enumerate(lives, 1):
             if not self.suits(log, life):
                 return place
-            if self.continues(log, life):
-                said = words.setdefault(self.reset_with(life), set())
-                said.add(life.fate == "reset")
-                if len(said) > 1:
+            begun = self.begun(log, life)
+            if begun is not None:
+                if self.at_odds(earlier, begun):
                     return place
+                earlier.append(begun)
         return None
+
+    def begun(self, log: Sequence[Crossing], life: Life) -> Begun | None:
+        """What becomes of a life that has begun; None of another."""
+        over = self.over(log, life)
+        return None if over is None else Begun(life, over, self.stretch(log, life))
+
+    def at_odds(self, earlier: Sequence[Begun], begun: Begun) -> Begun | None:
+        """The first of some lives with which one disagrees on a contact, None where there is none."""
+        return next((it for it in earlier if self.outlasts(it, begun) or self.outlasts(begun, it)), None)
+
+    def outlasts(self, one: Begun, other: Begun) -> bool:
+        """Whether a contact reset one of two lives that begin between the same two cuts, and the other, which isn't
+        `reset`, is over after it, or with it."""
+        alike = self.reset_with(one.life) == self.reset_with(other.life) and one.stretch == other.stretch
+        is_spared = self.was_contacted(one) and other.life.fate != "reset"
+        return alike and is_spared and self.end(one) <= self.end(other)
+
+    def was_contacted(self, begun: Begun) -> bool:
+        """Whether a contact reset a life: it is `reset`, and nothing that crossed dropped its connections."""
+        return begun.life.fate == "reset" and begun.over.by != "reset"
+
+    def end(self, begun: Begun) -> float:
+        """The place at which a life is over, and one after all where it continues."""
+        return begun.over.last.place if begun.over.by and begun.over.last else math.inf
+
+    def stretch(self, log: Sequence[Crossing], life: Life) -> int:
+        """How many times the connections of its host with its peer are cut before a life begins."""
+        asked: set[str] = set()
+        cuts, owes = 0, False
+        for deed in self.deeds(log, life):
+            word, way = deed.what.split()
+            cuts += self.is_cut(self.cut(word, way, owes))
+            owes = self.owes(word, way, owes)
+            asked |= {way} if word == "asks" else set()
+            if len(asked) == len(WAYS):
+                break
+        return cuts
+
+    def is_cut(self, by: str | None) -> bool:
+        """Whether what ends lives so cuts all connections of the host with the peer."""
+        return by is not None
 
     def continues(self, log: Sequence[Crossing], life: Life) -> bool:
         """Whether a life has begun, and nothing that crossed has ended it."""
@@ -163,4 +213,5 @@ class Fates:
 
 
 RIGHT_FATES = Fates()
-over, together = RIGHT_FATES.over, RIGHT_FATES.together
+over, together, first_strange = RIGHT_FATES.over, RIGHT_FATES.together, RIGHT_FATES.first_strange
+begun, at_odds = RIGHT_FATES.begun, RIGHT_FATES.at_odds

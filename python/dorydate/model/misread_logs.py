@@ -11,7 +11,7 @@ from dorydate.model.bits import Bits, octets
 from dorydate.model.book import Fate, Life
 from dorydate.model.commands import CLS, HEADER, LENGTHS, RTS, STR
 from dorydate.model.crossings import Answered, Crossing, Turned
-from dorydate.model.fates import LEAVES, Fates, Over
+from dorydate.model.fates import LEAVES, Begun, Fates, Over
 from dorydate.model.firsts import Data, Firsts, Placed, on_link
 from dorydate.model.log import BadLog, Book, LogReader
 from dorydate.model.mailboxes import Mailboxes
@@ -735,7 +735,7 @@ class NothingBefore(Judge):
 
 
 class EachByItself(Fates):
-    def continues(self, log: Sequence[Crossing], life: Life) -> bool:
+    def outlasts(self, one: Begun, other: Begun) -> bool:
         return False
 
 
@@ -768,14 +768,113 @@ class ResetsThePeers(Judge):
 
 
 class OverToo(Fates):
-    def continues(self, log: Sequence[Crossing], life: Life) -> bool:
-        return self.over(log, life) is not None
+    def end(self, begun: Begun) -> float:
+        return 0
 
 
 class ResetsWhatIsOver(Judge):
     """A contact resets lives that are over."""
 
     fates = OverToo
+
+
+class OfThoseThatContinue(Fates):
+    def was_contacted(self, begun: Begun) -> bool:
+        return super().was_contacted(begun) and begun.over.by is None
+
+
+class ResetsOnlyWhatContinues(Judge):
+    """A contact before a stop, or before the partner's CLS, resets one life of several."""
+
+    fates = OfThoseThatContinue
+
+
+class StopsReset(Fates):
+    def was_contacted(self, begun: Begun) -> bool:
+        return super().was_contacted(begun) and begun.over.by != "stopped"
+
+
+class ResetByStops(Judge):
+    """A stop drops connections: it may reset one life and stop another."""
+
+    fates = StopsReset
+
+
+class ClsResets(Fates):
+    def was_contacted(self, begun: Begun) -> bool:
+        return super().was_contacted(begun) and begun.over.by != "closed"
+
+
+class ResetByCls(Judge):
+    """The partner's CLS may reset a life whose own came first."""
+
+    fates = ClsResets
+
+
+class DropsAreContacts(Fates):
+    def was_contacted(self, begun: Begun) -> bool:
+        return begun.life.fate == "reset"
+
+
+class EveryResetIsAContact(Judge):
+    """A life that was reset by what crossed was so by a contact."""
+
+    fates = DropsAreContacts
+
+
+class AnyStretch(Fates):
+    def stretch(self, log: Sequence[Crossing], life: Life) -> int:
+        return 0
+
+
+class ResetsAcrossCuts(Judge):
+    """A contact resets lives that begin after a cut, too."""
+
+    fates = AnyStretch
+
+
+class NoStopBetween(Fates):
+    def is_cut(self, by: str | None) -> bool:
+        return by == "reset"
+
+
+class StopsCutNothing(Judge):
+    """A stop isn't a cut."""
+
+    fates = NoStopBetween
+
+
+class NoResetBetween(Fates):
+    def is_cut(self, by: str | None) -> bool:
+        return by == "stopped"
+
+
+class ResetsCutNothing(Judge):
+    """A reset isn't a cut."""
+
+    fates = NoResetBetween
+
+
+class NotTogether(Fates):
+    def outlasts(self, one: Begun, other: Begun) -> bool:
+        return super().outlasts(one, other) and (self.end(one) != self.end(other) or one.over.by is None)
+
+
+class OverWithIt(Judge):
+    """What is over with a life that a contact reset may be over otherwise."""
+
+    fates = NotTogether
+
+
+class OnlyTogether(Fates):
+    def outlasts(self, one: Begun, other: Begun) -> bool:
+        return super().outlasts(one, other) and self.end(one) == self.end(other)
+
+
+class LaterIsSpared(Judge):
+    """Only what is over with a life that a contact reset is reset by it."""
+
+    fates = OnlyTogether
 
 
 class CountsOn(Judge):
@@ -834,7 +933,9 @@ JUDGES: list[type[Judge]] = [
     NoFates, OpenIsBelieved, ResetsCross, AlwaysClosed, StopsEndNothing, PeersStopEnds, RstTakenResetsNothing,
     RstSentResetsNothing, RrpTakenResets, OwedRrpResets, RrpResetsNothing, OwedAfterStop, FailuresResetNothing,
     FailsWhileOwed, OneClsEnds, AnyClsCounts, EndedThoughClosedFirst, ResetBeforeItsCls, LastClsFirst, BeginsAnyhow,
-    NothingBefore, ResetOfOne, ResetsAllOfTheHost, ResetsThePeers, ResetsWhatIsOver, CountsOn,
+    NothingBefore, ResetOfOne, ResetsAllOfTheHost, ResetsThePeers, ResetsWhatIsOver, ResetsOnlyWhatContinues,
+    ResetByStops, ResetByCls, EveryResetIsAContact, ResetsAcrossCuts, StopsCutNothing, ResetsCutNothing, OverWithIt,
+    LaterIsSpared, CountsOn,
     NeverSafe, SafeByItsEnds, SafeByFates, SafeByCloses, SafeAndKept,
 ]  # fmt: skip
 

@@ -1,15 +1,22 @@
-"""Checks one crate over libraries that were proved before on this machine (seconds to minutes): tools/check-one CRATE [WORDS FOR THE CHECKER ..]
+"""Checks one crate over libraries that were proved before on this machine (seconds to minutes):
+tools/check-one CRATE [--from CLONE] [WORDS FOR THE CHECKER ..]
 
-After an `rt ci`, plain `rt check` in a fresh clone proves each crate below anew. Here the crate is checked over the libraries that
-`rt ci` keeps beside the kit: of each crate below the newest whose definitions and clauses are those of this clone. Where there is none, it is named; `rt ci` with its name makes it. What a check finds is kept in out/one/, and the
-next one begins with it.
+After an `rt ci`, plain `rt check` in a fresh clone proves each crate below anew. Here the crate is checked over the
+libraries that `rt ci` keeps beside the kit: of each crate below the newest whose definitions and clauses are those of
+this clone. Where there is none, it is named; `rt ci` with its name makes it. What a check finds is kept in out/one/,
+and the next one begins with it.
 
-The words go to the checker: `--only PATH` for one function and the lemma files that its proof cites, `--allow-holes`, `--jobs N`. No
-verdict rests on such a check: the gate is `rt ci`.
+Kit 13b keeps nothing beside it. There `--from CLONE` takes the libraries that an `rt ci` left in another clone, while
+it still runs, too: of each crate whose sources are those of this clone, with all below it. The others are read from
+their sources, so `--only` should name what is to be checked.
+
+The words go to the checker: `--only PATH` for one function and the lemma files that its proof cites, `--allow-holes`,
+`--jobs N`. No verdict rests on such a check: the gate is `rt ci`.
 """
 
 from __future__ import annotations
 
+import graphlib
 import hashlib
 import json
 import os
@@ -91,8 +98,8 @@ def sum_of(path: str) -> str:
         return hashlib.sha256(file.read()).hexdigest()
 
 
-def files_of(folder: str, parts: tuple[str, ...], ending: str) -> Iterator[str]:
-    """The files of some parts of a crate, by their paths."""
+def files_of(folder: str, parts: tuple[str, ...], ending: str | tuple[str, ...]) -> Iterator[str]:
+    """The files of some parts of a crate that end so, by their paths."""
     for part in parts:
         for at, _, names in os.walk(f"{folder}/{part}"):
             yield from (f"{at}/{it}" for it in names if it.endswith(ending))
@@ -111,6 +118,8 @@ def libraries_of(crate: str) -> list[Library]:
 
 def chosen(needed: list[str]) -> dict[str, Library]:
     """A library for each of these crates, of which each comes after those below it; ends where one is lacking."""
+    if not os.path.isdir(store()):
+        sys.exit("check-one: this kit keeps no libraries; --from CLONE takes those that `rt ci` left in a clone")
     found: dict[str, Library] = {}
     for crate in needed:
         fitting = (it for it in libraries_of(crate) if it.is_of_sources())
@@ -121,12 +130,39 @@ def chosen(needed: list[str]) -> dict[str, Library]:
     return found
 
 
+def left_in(clone: str, lines: dict[str, list[str]], needed: list[str]) -> dict[str, str]:
+    """The folders of the libraries that an `rt ci` left in a clone, of the crates that are the same here with all below
+    them. Each of `needed` comes after those below it."""
+    if not os.path.exists(f"{clone}/crates.txt"):
+        sys.exit(f"check-one: {clone} is no clone of this repository")
+    found: dict[str, str] = {}
+    for crate in needed:
+        folder = f"{clone}/crates/{crate}/out/rlib"
+        below = [it for it in lines[crate] if it in lines]
+        is_there = os.path.exists(f"{folder}/{crate}.rlib/format") and all(it in found for it in below)
+        if is_there and sources_of(clone, crate) == sources_of(ROOT, crate):
+            found[crate] = folder
+    return found
+
+
+def sources_of(clone: str, crate: str) -> dict[str, str]:
+    """The sum of each source of a crate."""
+    own = f"{clone}/crates/{crate}"
+    paths = files_of(own, ("src", "specs", "proofs"), (".rt", ".antt"))
+    return {os.path.relpath(path, own): sum_of(path) for path in paths}
+
+
 def command(crate: str, lines: dict[str, list[str]], built: dict[str, str], kept: str, words: list[str]) -> list[str]:
-    """The check that `rt ci` makes of a crate, with a place where what it finds is kept."""
-    direct = {it: f"{built[it]}/{it}.rlib" if it in built else f"{kit()}/rlibs/{it}.rlib" for it in [*lines[crate], "std"]}
+    """The check that `rt ci` makes of a crate, with a place where what it finds is kept. What isn't built below it is
+    read from its sources."""
+    read = [it for it in below_first(lines, crate) if it != crate and it not in built]
+    used = sorted({below for it in [crate, *read] for below in [*lines[it], "std"]} - {*read})
+    direct = {it: f"{built[it]}/{it}.rlib" if it in built else f"{kit()}/rlibs/{it}.rlib" for it in used}
     top = "main" if os.path.exists(f"{ROOT}/crates/{crate}/src/main.rt") else "lib"
     found = [f"{kit()}/bin/rattle", "check", "--crate-name", crate, f"src/{top}.rt"]
     found += [word for it, path in direct.items() for word in ("--extern", f"{it}={path}")]
+    for it in read:
+        found += ["--lib", f"{it}:{','.join([*lines[it], 'std'])}={ROOT}/crates/{it}/src/lib.rt"]
     found += [word for it in [f"{kit()}/rlibs", *built.values()] for word in ("-L", f"dependency={it}")]
     found += ["--antt-project", f"{kit()}/rattle/logic/antt-project.json", "--logic-built", f"{kit()}/logic_built"]
     return [*found, "--links", f"{crate}=", *([] if "--jobs" in words else ["--jobs", "1"]), "--incremental", kept, *words]
@@ -141,18 +177,29 @@ def main() -> int:
     if crate not in lines:
         sys.exit(f"check-one: crates.txt has no crate {crate}")
     room = f"{ROOT}/out/one"
-    found = chosen([it for it in below_first(lines, crate) if it != crate])
-    built = {}
+    needed = [it for it in below_first(lines, crate) if it != crate]
+    if "--from" in words:
+        at = words.index("--from")
+        built = left_in(os.path.abspath("".join(words[at + 1 : at + 2])), lines, needed)
+        del words[at : at + 2]
+    else:
+        built = put_into(room, chosen(needed))
+    os.makedirs(room, exist_ok=True)
+    words = command(crate, lines, built, f"{room}/kept-{crate}", words)
+    return subprocess.run(words, cwd=f"{ROOT}/crates/{crate}", stdin=subprocess.DEVNULL, check=False).returncode
+
+
+def put_into(room: str, found: dict[str, Library]) -> dict[str, str]:
+    """Puts libraries into folders of their own, where they aren't yet. Gives these."""
+    built = {name: f"{room}/{os.path.basename(library.folder)}" for name, library in found.items()}
     for name, library in found.items():
-        built[name] = f"{room}/{os.path.basename(library.folder)}"
         if not os.path.isdir(built[name]):
             library.put(f"{built[name]}.new")
             os.rename(f"{built[name]}.new", built[name])
-    ran = subprocess.run(command(crate, lines, built, f"{room}/kept-{crate}", words), cwd=f"{ROOT}/crates/{crate}", stdin=subprocess.DEVNULL, check=False)
-    return ran.returncode
+    return built
 
 
 def below_first(lines: dict[str, list[str]], crate: str) -> list[str]:
-    """A crate and those that it uses, each after those below it."""
-    order = [name for name in lines if name in crates_below(lines, crate)]
-    return order
+    """A crate and those of the repository that it uses, each after those below it."""
+    below = {it: [low for low in lines[it] if low in lines] for it in crates_below(lines, crate)}
+    return [*graphlib.TopologicalSorter(below).static_order()]

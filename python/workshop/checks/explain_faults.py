@@ -168,6 +168,19 @@ def contacted(one: str, other: str) -> list[tuple[int, bytes, bytes, str, str]]:
     return [(10, b"open 4849", more, f"malformed line 12\n{FATES_11}", words)]
 
 
+TOOK = b"life 0/1 16 0/2 33 0 4 receive 1 16 1 100 0 0 open 4849"
+
+
+def stopped(one: str, other: str, which: str, rest: str) -> list[tuple[int, bytes, bytes, str, str]]:
+    """Their host stops, and of the two lives one is `reset`."""
+    second = TOOK.replace(b"1 16 1 100 0 0 open 4849", f"0 0 1 100 0 0 {other} -".encode())
+    lives = TOOK.replace(b"open", one.encode()), second
+    words = f"Nothing that crossed has reset {which}, so a contact did before 0/1 stopped in line 10."
+    spared = f"So {rest} is `reset`, too: it wasn't over before line 10."
+    verdict = "malformed line 13\nbroken fates line 12"
+    return [(10, TOOK, b"down 0/1\n" + b"\n".join(lives), verdict, it) for it in (words, spared)]
+
+
 # what is changed in a line of that log, the verdict, and words of what is said of the two lines
 BROKEN_LOGS = [
     (10, b"4849", b"4848", "broken lives line 10\nbroken streams lines 10 11", "Line 10 took what line 11 didn't send: at octet 2 what was taken has 48, and what was sent has 49."),
@@ -200,6 +213,8 @@ BROKEN_LOGS = [
     (9, b"answer", b"down 0/2\nanswer", "broken run line 10\nbroken fates line 12", "0/2, stopped in line 9. It would"),
     *contacted("open", "reset"),
     *contacted("reset", "open"),
+    *stopped("reset", "stopped", "line 11", "this one"),
+    *stopped("stopped", "reset", "this one", "line 11"),
     (10, b"open", b"closed", SAFE_10, "2 lives made of them. Only how lives end is otherwise than this program promises."),
     (11, b"3 1 send", b"3 1 send", "kept", "The book is safe: 9 crossings, a run of the mailboxes, and 2 lives made of them."),
     # lives of the messages that crossed

@@ -163,11 +163,11 @@ def late(crossed: str, receiver: str, sender: str, named: int) -> tuple[str, str
     return f"{crossings}{lives}{ALL_TAKEN}end\n", wanted
 
 
-def contacted(words: str, named: int, between: str = "", peer: str = "0/2") -> tuple[str, str]:
-    """The short log, then a second connection of host 0/1, with 0/2 or another, its four lives with these fates, and
-    which of them is named."""
+def contacted(words: str, named: int, between: str = "", peer: str = "0/2", after: str = "") -> tuple[str, str]:
+    """The short log, then a second connection of host 0/1, with 0/2 or another, and what crosses after that, its four
+    lives with these fates, and which of them is named."""
     first = f"{ASKS}{OFFERS}{DATA}{between}"
-    crossings = first + f"{asks(RTS_6)}{OFFERS}".replace("0/2", peer)
+    crossings = first + f"{asks(RTS_6)}{OFFERS}".replace("0/2", peer) + after
     at = first.count(LINE_FEED)
     lives = [
         *(RECEIVER, SENDER),
@@ -179,7 +179,10 @@ def contacted(words: str, named: int, between: str = "", peer: str = "0/2") -> t
     return f"{crossings}{said}{ALL_TAKEN}{LIST}{LIST}end\n", wanted
 
 
-# the fates of the receiver and the sender of each connection, and which of them is named; what crosses between the two
+OWN_CLS, CLS_TAKEN = control("0/1", "0/2", CLS), control("0/2", "0/1", CLS_BACK)
+CLOSED_FIRST, STOPS, RESTARTS = OWN_CLS + CLS_TAKEN, "down 0/1\n", "down 0/1\nup 0/1\n"
+# the fates of the receiver and the sender of each connection, and which of them is named; what crosses between the two,
+# with whom the second is, and what crosses after them
 CONTACTED = [
     contacted("open open open open", 0),
     # a contact resets all lives of its host with the peer, and none of the peer's
@@ -200,6 +203,23 @@ CONTACTED = [
     contacted("open stopped open open", 0, "down 0/2\nup 0/2\n"),
     contacted("open reset open open", 0, "down 0/2\nup 0/2\n"),
     contacted("reset stopped open open", 3, "down 0/2\nup 0/2\n"),
+    # a contact before a stop resets all that the stop would have ended, not what was over before, or begins later
+    contacted("reset open reset open", 0, after=STOPS),
+    contacted("stopped open stopped open", 0, after=STOPS),
+    contacted("reset open stopped open", 3, after=STOPS),
+    contacted("stopped open reset open", 3, after=STOPS),
+    contacted("reset open stopped open", 0, peer="0/3", after=STOPS),
+    contacted("closed ended reset open", 0, CLOSED_FIRST, after=STOPS),
+    contacted("reset open open open", 0, RESTARTS),
+    contacted("reset open stopped open", 0, RESTARTS, after=STOPS),
+    # so does one before a partner's CLS; what begins after it comes after an RST or a stop
+    contacted("reset ended open open", 3, CLOSED_FIRST),
+    contacted("reset ended stopped open", 3, CLOSED_FIRST, after=STOPS),
+    contacted("reset ended open open", 0, CLOSED_FIRST + RST),
+    contacted("reset ended open open", 0, CLOSED_FIRST + RESTARTS),
+    contacted("reset ended open open", 0, CLOSED_FIRST, peer="0/3"),
+    # what an RST resets no contact did, and another may be over by a CLS of the same text
+    contacted("closed ended reset reset", 0, OWN_CLS, after=control("0/2", "0/1", f"{CLS_BACK}0C")),
 ]
 
 

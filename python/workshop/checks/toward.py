@@ -61,10 +61,11 @@ def is_carried(log: Log, life: Life) -> bool:
 
 
 def is_allowed(log: Log, life: Life) -> bool:
-    """Whether what a sending life sent is within what the ALLs on its link name, since the first of its requests."""
+    """Whether what a sending life sent is within what the ALLs on its link name, after its own request, and in the
+    message with its partner's or after it."""
     for link in FIRSTS.links(log, life):
         messages, bits = 0, 0
-        for crossing in log[min(life.own, life.partner) + 1 :]:
+        for crossing in log[max(life.own + 1, life.partner) :]:
             if isinstance(crossing, Passed) and crossing[:2] == ("in", Flow(life.peer, life.host, CONTROL)):
                 for command in FIRSTS.commands(crossing.text):
                     if command[0] == ALL and command[1] == link:

@@ -78,7 +78,7 @@ alike_after x (d ∷ deeds) s t h =
     alike_after x deeds (step x d s) (step x d t)
     (alike_if _ (acts x d.place d.act s) s (acts x d.place d.act t) t (alike_acts x d.place d.act s t h) h)
 
-alike_crosses : (x : Life) (place : ℕ) (c : Crossing) (s t : Course) → Alike s t
+pub alike_crosses : (x : Life) (place : ℕ) (c : Crossing) (s t : Course) → Alike s t
     → Alike (crosses x place c s) (crosses x place c t)
 alike_crosses x place c s t h =
     subst (λ (k : Course). Alike k (crosses x place c t)) (one_crossing x place c s)
@@ -96,7 +96,7 @@ over_closed true place c n = refl
 over_closed false place c n = refl
 
 -- what is over stays so
-over_acts : (x : Life) (place : ℕ) (a : Act) (k : Course) (c : Cause) (n : ℕ) → k.stage ≡ Over c n
+pub over_acts : (x : Life) (place : ℕ) (a : Act) (k : Course) (c : Cause) (n : ℕ) → k.stage ≡ Over c n
     → (acts x place a k).stage ≡ Over c n
 over_acts x place (act.Asks comes own foreign) k c n e = by (is_of x comes own foreign && place == stamp x comes) where
   by : (b : Bool) → (if b then record k { stage = asked comes k.stage } else k).stage ≡ Over c n
@@ -119,7 +119,7 @@ over_acts x place act.Stops k c n e = ap (cut Stopped place) e
 over_acts x place act.Starts k c n e = e
 
 -- what was early stays so
-early_acts : (x : Life) (place : ℕ) (a : Act) (k : Course) → k.early ≡ true → (acts x place a k).early ≡ true
+pub early_acts : (x : Life) (place : ℕ) (a : Act) (k : Course) → k.early ≡ true → (acts x place a k).early ≡ true
 early_acts x place (act.Asks comes own foreign) k e = by (is_of x comes own foreign && place == stamp x comes) where
   by : (b : Bool) → (if b then record k { stage = asked comes k.stage } else k).early ≡ true
   by true = e
@@ -146,7 +146,7 @@ not_half (Asking o p) e = absurd (false≢true e)
 not_half (Going o p) e = refl
 not_half (Over c n) e = refl
 
-begun_asked : (comes : Bool) (s : Stage) → is_begun s ≡ true → is_begun (asked comes s) ≡ true
+pub begun_asked : (comes : Bool) (s : Stage) → is_begun s ≡ true → is_begun (asked comes s) ≡ true
 begun_asked comes (Asking o p) e = absurd (false≢true e)
 begun_asked true (Going o p) e = refl
 begun_asked false (Going o p) e = refl
@@ -162,12 +162,12 @@ begun_closed false place (Going o false) e = refl
 begun_closed true place (Over c n) e = refl
 begun_closed false place (Over c n) e = refl
 
-begun_cut : (c : Cause) (place : ℕ) (s : Stage) → is_begun s ≡ true → is_begun (cut c place s) ≡ true
+pub begun_cut : (c : Cause) (place : ℕ) (s : Stage) → is_begun s ≡ true → is_begun (cut c place s) ≡ true
 begun_cut c place (Asking o p) e = absurd (false≢true e)
 begun_cut c place (Going o p) e = refl
 begun_cut c place (Over d n) e = refl
 
-abbrev Begun : Bool → Course → Type 0
+abbrev pub Begun : Bool → Course → Type 0
 Begun v k = (is_begun k.stage ≡ true) × (k.early ≡ v)
 
 begun_ended : (change : Stage → Stage) (v : Bool) (k : Course)
@@ -177,7 +177,7 @@ begun_ended change v k keeps h = (
   ap (λ (w : Bool). k.early || w) (not_half k.stage h.0) ∙ or-false k.early ∙ h.1,
 )
 
-begun_acts : (x : Life) (place : ℕ) (a : Act) (v : Bool) (k : Course) → Begun v k → Begun v (acts x place a k)
+pub begun_acts : (x : Life) (place : ℕ) (a : Act) (v : Bool) (k : Course) → Begun v k → Begun v (acts x place a k)
 begun_acts x place (act.Asks comes own foreign) v k h = by (is_of x comes own foreign && place == stamp x comes) where
   by : (b : Bool) → Begun v (if b then record k { stage = asked comes k.stage } else k)
   by true = (begun_asked comes k.stage h.0, h.1)
@@ -208,7 +208,7 @@ kept_after x P keeps (d ∷ deeds) k h = kept_after x P keeps deeds (step x d k)
   by true = keeps d.place d.act k h
   by false = h
 
-kept_crosses : (x : Life) (P : Course → Type 0)
+pub kept_crosses : (x : Life) (P : Course → Type 0)
     → ((place : ℕ) (a : Act) (k : Course) → P k → P (acts x place a k)) → (place : ℕ) (c : Crossing) (k : Course) → P k
     → P (crosses x place c k)
 kept_crosses x P keeps place c k h =
@@ -223,7 +223,7 @@ owes_after x (d ∷ deeds) s t e = owes_after x deeds (step x d s) (step x d t) 
       owes_acts x d.place d.act s ∙ ap (owes_by d.act) e ∙ sym (owes_acts x d.place d.act t)
   by false = e
 
-owes_crosses : (x : Life) (place : ℕ) (c : Crossing) (s t : Course) → s.owes ≡ t.owes
+pub owes_crosses : (x : Life) (place : ℕ) (c : Crossing) (s t : Course) → s.owes ≡ t.owes
     → (crosses x place c s).owes ≡ (crosses x place c t).owes
 owes_crosses x place c s t e =
     ap (λ (k : Course). k.owes) (sym (one_crossing x place c s)) ∙ owes_after x (deeds_at place c) s t e
@@ -349,13 +349,13 @@ module _ (x : Life) (place m : ℕ) (less : m ≤ place) where
 -- ---- any crossing
 
 -- what a contact is followed by, if it is of a message to a life's peer
-abbrev Follows : List Called → List Crossing → Crossing → Type 0
+abbrev pub Follows : List Called → List Crossing → Crossing → Type 0
 Follows contacts log (crossing.Out n) =
     contacts_now contacts n.flow.source n.flow.destination log ≡ true
     → (n.flow.link.0 ≡ 0) × (orders_of n.text ≡ Legal command.Rst ∷ [])
 Follows contacts log c = Unit {0}
 
-follows : (contacts : List Called) (c : Crossing) (log : List Crossing) → AreContacts contacts (c ∷ log)
+pub follows : (contacts : List Called) (c : Crossing) (log : List Crossing) → AreContacts contacts (c ∷ log)
     → Follows contacts log c × AreContacts contacts log
 follows contacts (crossing.Out n) log h = h
 follows contacts (crossing.In n) log h = (tt, h)

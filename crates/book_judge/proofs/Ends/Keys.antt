@@ -104,7 +104,7 @@ same_key-true a b e =
     let f : a.foreign ≡ b.foreign = sym (eqb-true b.foreign a.foreign foreign.1) in
     λ i. record { place = p i; host = h i; peer = q i; comes = w i; own = o i; foreign = f i }
 
-same_key-refl : (k : Key) → same_key k k ≡ true
+pub same_key-refl : (k : Key) → same_key k k ≡ true
 same_key-refl k =
     and_from _ (k.foreign == k.foreign) (and_from _ (k.own == k.own) (and_from _ (same_host k.peer k.peer)
     (and_from _ (same_host k.host k.host)

@@ -91,7 +91,7 @@ pub before_last : (n : ℕ) (d : Deed) (o next : Owed) → next ≡ owed_once (n
     → AreBefore (n + 1) next
 before_last n d o next e b = subst (λ (p : Owed). AreBefore (n + 1) p) (sym e) (before_by n d.host d.peer d.act o b)
 
-same_if : (b x : Bool) → x ≡ (if b then x else x)
+pub same_if : (b x : Bool) → x ≡ (if b then x else x)
 same_if true x = refl
 same_if false x = refl
 

@@ -8,7 +8,7 @@ use Rattle.book_judge.specs.Inside.Deeds.{act_of, with_act}
 
 -- ---- one deed after another
 
-after_append : (x : Life) (deeds more : List Deed) (k : Course)
+pub after_append : (x : Life) (deeds more : List Deed) (k : Course)
     → after x (deeds ++ more) k ≡ after x more (after x deeds k)
 after_append x [] more k = refl
 after_append x (d ∷ deeds) more k = after_append x deeds more (step x d k)

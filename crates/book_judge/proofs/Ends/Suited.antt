@@ -184,5 +184,5 @@ all_suited log lives fates place past all =
 pub suited_alone : (x : Life) (f : Fate) → AreSuited [] (x ∷ []) (f ∷ [])
 suited_alone x f = record {
   each = λ y g b. record { begins = λ e. absurd (false≢true e); fate = refl };
-  contact = λ y z g b c both. absurd (false≢true both.one);
+  contact = λ y z g b c both. absurd (false≢true both.contact);
 }

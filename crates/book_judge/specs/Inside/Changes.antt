@@ -64,6 +64,14 @@ abbrev pub with_turn : Deed → Option Turn → List Change → List Change
 with_turn d None changes = changes
 with_turn d (Some t) changes = record { place = d.place; host = d.host; peer = d.peer; turn = t } ∷ changes
 
+-- without CLS
+abbrev pub is_open : Turn → Bool
+is_open (turn.Closes comes own foreign) = false
+is_open t = true
+
+abbrev pub opens : Change → Bool
+opens c = is_open c.turn
+
 -- of deeds, the oldest first, where RRP are owed at first
 abbrev pub changes_in : (Host → Host → Bool) → List Deed → List Change
 changes_in owes [] = []

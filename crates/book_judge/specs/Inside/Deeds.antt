@@ -8,11 +8,11 @@ use Rattle.interface.specs.declared.message.HostMessage.{HostMessage}
 use Rattle.ncp_control.specs.declared.command.Command.{Command}
 use Rattle.ncp_control.specs.declared.command.Command.TheVariants as command
 use Rattle.host_pairs.specs.Control.{Legal, Order, Wrong, orders_of, orders_within}
-use Rattle.promise.specs.Ends.{Asking, Course, Dropped, Over, Stage, Stopped, cut, ended_by, fails, own_asked}
+use Rattle.promise.specs.Ends.{Asking, Course, Dropped, Stage, Stopped, cut, ended_by, fails, own_asked}
 use Rattle.promise.specs.Ends.{own_closed, partner_asked, partner_closed}
 use Rattle.promise.specs.declared.life.Fate.{Fate}
 use Rattle.promise.specs.declared.life.Life.{Life}
-use Rattle.book_judge.specs.Fates.{suits}
+use Rattle.book_judge.specs.Fates.{over_at, suits}
 use Rattle.book_judge.specs.declared.fates.deeds.Act.{Act}
 use Rattle.book_judge.specs.declared.fates.deeds.Act.TheVariants as act
 use Rattle.book_judge.specs.declared.fates.deeds.Deed.{Deed}
@@ -156,10 +156,6 @@ suits_after deeds x None = true
 suits_after deeds x (Some f) = suits_begun (begun_of (pace_of (after x deeds opening))) f
 
 -- how much had crossed when it was over; and all of as much, where it isn't
-abbrev pub over_at : ℕ → Stage → ℕ
-over_at all (Over cause place) = place
-over_at all s = all
-
 abbrev pub end_by : ℕ → Option Pace → ℕ
 end_by all None = all
 end_by all (Some p) = over_at all p.0

@@ -1,6 +1,7 @@
 //! What changes lives: each deed after which some are over, or are asked for.
 
 ghost use Rattle.std.specs.Prelude.{◌≡◌, ◌++◌, ◌∷◌, [], IfOk, OnOk};
+ghost use Rattle.std.specs.List.{filter};
 ghost use Rattle.book_judge.specs.Inside.Changes as tests;
 
 use super::deeds::{Act, Deed};
@@ -149,4 +150,26 @@ pub(super) fn changes_of(alloc: Global, deeds: &[Deed]) -> Result<Vec<Change>, A
         owed.note(place + 1, deed)?;
     }
     Ok(changes)
+}
+
+/// Returns whether a change is another than a CLS.
+fn opens(change: &Change) -> bool
+    ensures { result ≡ tests.opens change.now }
+{
+    !matches!(change.turn, Turn::Closes { .. })
+}
+
+/// Returns all changes but CLS.
+///
+/// Errors: `AllocError`.
+pub(super) fn but_closes(alloc: Global, changes: &[Change]) -> Result<Vec<Change>, AllocError>
+    ensures { IfOk result (λ rest. rest.items ≡ filter tests.opens changes.now) }
+{
+    let mut rest = Vec::new(alloc);
+    for change in changes {
+        if opens(change) {
+            rest.push(*change)?;
+        }
+    }
+    Ok(rest)
 }

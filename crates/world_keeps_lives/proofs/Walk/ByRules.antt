@@ -1,17 +1,22 @@
 -- What holds of each end that a host's program has with a peer, through each of its calls, by rules that take all changes alike that name no request.
 use Rattle.world_keeps_lives.proofs.Common.{◌≡◌, ℕ, ◌==◌, true, false, List, find, Some, Host, Flow, Answer, HostMessage, data_bits, header_of, DataHeader, closed_by_partner, is_open, receives_on, cls_sent, Parcel, orders_of, Order, data_of, PairState, Entry, Notice, Command, AreCommands, NcpState, pair_with, AreInOrder, next_in, Peer, Request, accepted, served, served_notices, offered}
 use Rattle.interface.specs.declared.crossing.Inbound.TheVariants as inbound
+use Rattle.host_pairs.specs.Commands.{granted}
 use Rattle.host_pairs.specs.Parcels as parcel
 use Rattle.host_pairs.specs.declared.notice.Notice.TheVariants as notice
+use Rattle.sockets.specs.declared.request.Request.TheVariants as request
 use Rattle.world_keeps_lives.proofs.Walk.Rules.{Begins, Each, Goes, Hears, MayTell, Rules, quiet_off, quiet_sent}
-use Rattle.world_keeps_lives.proofs.Walk.Leaves.{GoesAll, HearsAll, Leaves, MaySay, Starts}
-use Rattle.world_keeps_lives.proofs.Walk.Calls.{Passed, answer_passes, message_passes, offer_passes, request_passes, request_reports}
+use Rattle.world_keeps_lives.proofs.Walk.Leaves.{GoesAll, HearsAll, Leaves, MaySay, Starts, quiet_bits}
+use Rattle.world_keeps_lives.proofs.Walk.Calls.{MayGrant, Passed, answer_passes, message_passes, offer_passes, request_passes, request_reports}
 pub use Rattle.world_keeps_lives.proofs.Walk.Calls.{Ends}
 
 -- ---- the rules at each leaf
 
-starts : (P : Entry → Type 0) → Begins P → Starts P
-starts P begins = record { fresh = λ e mine asked partner unclosed. begins.fresh e mine asked partner; refused = begins.refused }
+pub starts : (P : Entry → Type 0) → Begins P → Starts P
+starts P begins = record {
+  fresh = λ e mine asked partner unclosed none. begins.fresh e mine asked partner;
+  refused = begins.refused;
+}
 
 module _ (P : Entry → Type 0) (N : Notice → Type 0) (p : Host) (rules : Rules P N p) where
   pub leaves : Leaves P N p
@@ -26,12 +31,13 @@ module _ (P : Entry → Type 0) (N : Notice → Type 0) (p : Host) (rules : Rule
   hears_all : (stamp : ℕ) (orders : List Order) → Hears P stamp orders → HearsAll P stamp orders
   hears_all stamp orders h = record {
     begins = starts P h.begins;
-    rts = h.rts;
-    str = h.str;
+    rts = λ own foreign link e there even odd o f none. h.rts own foreign link e there even odd o f;
+    str = λ own foreign size e there odd even o f none. h.str own foreign size e there odd even o f;
     cls = λ e k. rules.quiet e (closed_by_partner e) (quiet_off e) k;
+    all = λ link messages bits e there sends k. rules.quiet e (granted messages bits e) (quiet_bits e _ _) k;
   }
 
-  goes_all : (stamp : ℕ) (cs : List Command) → Goes P stamp cs → GoesAll P stamp cs
+  pub goes_all : (stamp : ℕ) (cs : List Command) → Goes P stamp cs → GoesAll P stamp cs
   goes_all stamp cs g = record { rts = g.rts; str = g.str; cls = λ e k. rules.quiet e (cls_sent e) (quiet_sent e) k }
 
   may_say : (stamp : ℕ) (x : Parcel) (q : PairState) → MayTell P N p rules stamp x q → MaySay P N p leaves stamp x q
@@ -46,8 +52,13 @@ module _ (P : Entry → Type 0) (N : Notice → Type 0) (p : Host) (rules : Rule
   abbrev pub Done : NcpState × List Notice → Type 0
   Done turn = Passed P N p leaves turn
 
+  pub may_grant : (r : Request) → MayGrant P r
+  may_grant (request.Grant socket messages bits) = λ e own h.
+      rules.quiet e (granted messages bits e) (quiet_bits e _ _) h
+  may_grant r = tt
+
   pub request_keeps : Begins P → (s : NcpState) (r : Request) → Ends P p s → Ends P p (served s r)
-  request_keeps begins s r h = request_passes P N p leaves (starts P begins) s r h
+  request_keeps begins s r h = request_passes P N p leaves (starts P begins) s r (may_grant r) h
 
   pub request_told : (s : NcpState) (r : Request) → Each N (served_notices s r)
   request_told s r = request_reports P N p leaves s r

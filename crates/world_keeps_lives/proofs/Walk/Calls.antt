@@ -1,5 +1,6 @@
 -- The walk of Leaves.antt over each call of a host's program.
 use Rattle.world_keeps_lives.proofs.Common.{◌≡◌, ℕ, ◌==◌, Bool, true, false, if◌then◌else◌, List, [], ◌∷◌, find, Option, Some, None, refl, sym, subst, Host, same_host, Flow, Answer, HostMessage, same_host-refl, same_host-true, data_bits, header_of, DataHeader, closed_end, commanded, contacted, interrupt_of, receiver_requested, requested, with_end, with_more_bits, orders_of, data_of, data_taken, desk_of, listens_on, free_link, is_busy, is_open, receives_on, sending_end, PairState, Parcel, pair_after, parcel_gone, is_ready, TurnState, answered_turn, message_taken, Entry, Notice, AreCommands, text_good, after_turn, turn_of, NcpState, owner_of, pair_with, AreInOrder, at_owner, closed_socket, next_in, offered_by, Peer, Request, next_pair}
+use Rattle.world_keeps_lives.proofs.Common.{both, eqb-true}
 use Rattle.interface.specs.declared.crossing.Inbound.TheVariants as inbound
 use Rattle.ncp_control.specs.declared.command.Command.TheVariants as command
 use Rattle.host_pairs.specs.Commands.{granted}
@@ -13,7 +14,7 @@ use Rattle.sockets.specs.Sending.{offered}
 use Rattle.sockets.specs.declared.request.Request.TheVariants as request
 use Rattle.sockets.proofs.lemmas.{others_stay}
 use Rattle.world_keeps_lives.proofs.Walk.Rules.{Each}
-use Rattle.world_keeps_lives.proofs.Walk.Leaves.{GoodTurn, HearsAll, Leaves, MaySay, Starts, asked_by, asked_closed, asked_new, asked_receiver, good_data, good_parcel, plain_bits, turn_all, turn_answered, turn_ready}
+use Rattle.world_keeps_lives.proofs.Walk.Leaves.{GoodTurn, HearsAll, Leaves, MaySay, Starts, no_more, asked_by, asked_closed, asked_new, asked_receiver, good_data, good_parcel, plain_bits, turn_all, turn_answered, turn_ready}
 
 -- the ends with a peer
 abbrev pub Ends : (Entry → Type 0) → Host → NcpState → Type 0
@@ -24,6 +25,11 @@ kept P g h q peers p work = by (same_host h g) refl where
   by : (b : Bool) → same_host h g ≡ b → P (pair_with h (with_pair g q peers))
   by true e = peer_here P g h q peers e (work (subst (λ (x : Host). P (pair_with x peers)) (same_host-true h g e) p))
   by false e = subst P (sym (others_stay g h q peers e)) p
+
+-- what a user's grant changes is an end on the socket
+abbrev pub MayGrant : (Entry → Type 0) → Request → Type 0
+MayGrant P (request.Grant socket messages bits) = (e : Entry) → e.own ≡ socket → P e → P (granted messages bits e)
+MayGrant P r = Unit {0}
 
 module _ (P : Entry → Type 0) (N : Notice → Type 0) (p : Host) (leaves : Leaves P N p) where
   abbrev Of : PairState → Type 0
@@ -39,25 +45,25 @@ module _ (P : Entry → Type 0) (N : Notice → Type 0) (p : Host) (leaves : Lea
   close_keeps s socket h true e = rw e h
   close_keeps s socket h false e = rw e (owner_keeps s (owner_of socket s.peers) (λ y. closed_end socket) (λ y q. asked_closed P N p leaves socket q) h)
 
-  pub request_passes : Starts P → (s : NcpState) (r : Request) → Ends P p s → Ends P p (served s r)
+  pub request_passes : Starts P → (s : NcpState) (r : Request) → MayGrant P r → Ends P p s → Ends P p (served s r)
   unfolding served
-  request_passes begins s (request.Contact peer) h = kept (λ (q : PairState). Each P q.entries) peer p (contacted (pair_with peer s.peers)) s.peers h (λ k. tt)
-  request_passes begins s (request.Listen socket size) h = h
-  request_passes begins s (request.OpenSend peer own foreign size) h =
+  request_passes begins s (request.Contact peer) may h = kept (λ (q : PairState). Each P q.entries) peer p (contacted (pair_with peer s.peers)) s.peers h (λ k. tt)
+  request_passes begins s (request.Listen socket size) may h = h
+  request_passes begins s (request.OpenSend peer own foreign size) may h =
       kept (λ (q : PairState). Each P q.entries) peer p (requested (sending_end own foreign size) (command.Str own foreign size) (pair_with peer s.peers)) s.peers h
-      (λ k. asked_new P N p leaves begins (sending_end own foreign size) (command.Str own foreign size) (pair_with peer s.peers) refl refl refl refl k)
-  request_passes begins s (request.OpenReceive peer own foreign) h =
+      (λ k. asked_new P N p leaves begins (sending_end own foreign size) (command.Str own foreign size) (pair_with peer s.peers) refl refl refl refl refl k)
+  request_passes begins s (request.OpenReceive peer own foreign) may h =
       kept (λ (q : PairState). Each P q.entries) peer p (receiver_requested own foreign (free_link (pair_with peer s.peers).entries) (pair_with peer s.peers)) s.peers h
       (λ k. asked_receiver P N p leaves begins own foreign (free_link (pair_with peer s.peers).entries) (pair_with peer s.peers) k)
-  request_passes begins s (request.Send socket bits) h =
-      owner_keeps s (owner_of socket s.peers) (λ e. with_end socket (with_more_bits bits)) (λ e q. asked_by P N p leaves socket (with_more_bits bits) q (λ y. plain_bits y _ _)) h
-  request_passes begins s (request.Grant socket messages bits) h =
+  request_passes begins s (request.Send socket bits) may h =
+      owner_keeps s (owner_of socket s.peers) (λ e. with_end socket (with_more_bits bits)) (λ e q. asked_by P N p leaves socket (with_more_bits bits) q (λ y t i. leaves.plain y (with_more_bits bits y) (plain_bits y _ _ (no_more y.allocation)) i)) h
+  request_passes begins s (request.Grant socket messages bits) may h =
       owner_keeps s (owner_of socket s.peers) (λ e q. commanded (command.All (link_of e.link) messages bits) (with_end socket (granted messages bits) q))
-      (λ e q. asked_by P N p leaves socket (granted messages bits) q (λ y. plain_bits y _ _)) h
-  request_passes begins s (request.AskBack socket messages bits) h = owner_keeps s (owner_of socket s.peers) (λ e. commanded (command.Gvb (link_of e.link) messages bits)) (λ e q k. k) h
-  request_passes begins s (request.Interrupt socket) h = owner_keeps s (owner_of socket s.peers) (λ e. commanded (interrupt_of e)) (λ e q k. k) h
-  request_passes begins s (request.Close socket) h = close_keeps s socket h (listens_on socket s.listening) refl
-  request_passes begins s (request.Echo peer octet) h = kept (λ (q : PairState). Each P q.entries) peer p (commanded (command.Eco octet) (pair_with peer s.peers)) s.peers h (λ k. k)
+      (λ e q. asked_by P N p leaves socket (granted messages bits) q (λ y t i. may y (eqb-true y.own socket (both y.mine (y.own == socket) t).1) i)) h
+  request_passes begins s (request.AskBack socket messages bits) may h = owner_keeps s (owner_of socket s.peers) (λ e. commanded (command.Gvb (link_of e.link) messages bits)) (λ e q k. k) h
+  request_passes begins s (request.Interrupt socket) may h = owner_keeps s (owner_of socket s.peers) (λ e. commanded (interrupt_of e)) (λ e q k. k) h
+  request_passes begins s (request.Close socket) may h = close_keeps s socket h (listens_on socket s.listening) refl
+  request_passes begins s (request.Echo peer octet) may h = kept (λ (q : PairState). Each P q.entries) peer p (commanded (command.Eco octet) (pair_with peer s.peers)) s.peers h (λ k. k)
 
   pub request_reports : (s : NcpState) (r : Request) → Each N (served_notices s r)
   unfolding served_notices
@@ -94,18 +100,24 @@ module _ (P : Entry → Type 0) (N : Notice → Type 0) (p : Host) (leaves : Lea
         rw e (turn_ready P N p leaves (data_taken m.flow.link.0 m.text) (turn_of s p)
         (λ k. good_data P N p leaves m.flow.link.0 m.text (desk_of (pair_with p s.peers) s.listening) (may.1 e) k) (own_turn s h))
 
-  pub message_passes : (s : NcpState) (m : HostMessage) (stamp : ℕ) → m.flow.source ≡ p → MayHear s m stamp → Ends P p s → Passed (accepted s (inbound.Message m) stamp)
+  -- what was taken of a message is what becomes of the call
+  pub turn_passes : (s : NcpState) (m : HostMessage) (stamp : ℕ) → m.flow.source ≡ p → Ends P p s
+      → GoodTurn P N p leaves (message_taken p stamp m.flow.link.0 m.text (turn_of s p))
+      → Passed (accepted s (inbound.Message m) stamp)
   unfolding accepted
-  message_passes s m stamp from may h = by (same_host s.own m.flow.destination) refl where
+  turn_passes s m stamp from h k = by (same_host s.own m.flow.destination) refl where
     t : TurnState
     t = message_taken p stamp m.flow.link.0 m.text (turn_of s p)
 
     done : Passed (after_turn s p t)
-    done = let k : GoodTurn P N p leaves (message_taken p stamp m.flow.link.0 m.text (turn_of s p)) = taken s m stamp may h in record { ends = here t.pair s.peers k.ends; told = k.told }
+    done = record { ends = here t.pair s.peers k.ends; told = k.told }
 
     by : (b : Bool) → same_host s.own m.flow.destination ≡ b → Passed (accepted_message s m stamp)
     by true e = rw e (subst (λ (g : Host). Passed (after_turn s g (message_taken g stamp m.flow.link.0 m.text (turn_of s g)))) (sym from) done)
     by false e = rw e (record { ends = h; told = tt })
+
+  pub message_passes : (s : NcpState) (m : HostMessage) (stamp : ℕ) → m.flow.source ≡ p → MayHear s m stamp → Ends P p s → Passed (accepted s (inbound.Message m) stamp)
+  message_passes s m stamp from may h = turn_passes s m stamp from h (taken s m stamp may h)
 
   pub answer_passes : (s : NcpState) (kind : Answer) (f : Flow) (stamp : ℕ) → f.destination ≡ p → Ends P p s → Passed (accepted s (inbound.Answer kind f) stamp)
   unfolding accepted

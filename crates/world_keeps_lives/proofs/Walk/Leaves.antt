@@ -1,6 +1,9 @@
 -- One walk over all that a host does with a peer, for a predicate on its ends and one on what it reports: what has to be shown at each leaf, and that each call
 -- keeps it then.
 use Rattle.world_keeps_lives.proofs.Common.{Allocation, ◌≡◌, ℕ, zero, suc, ◌*◌, Bool, false, not, ◌||◌, if◌then◌else◌, List, [], ◌∷◌, ◌++◌, filter, find, take, Option, Some, None, is_some, refl, Contains, list_any, flat_map, Host, Answer, IsCommand, spelling, data_bits, header_of, is_receive_socket, is_send_socket, Command, DataHeader, Ending, Open, Unconnected, asked_on_link, asked_with_size, at_end, changed, cls_taken_by, gvb_taken, interrupted, matched_once, receiver_on, ret_taken, rts_heard, rts_taken, rts_taken_by, sender_on, str_heard, str_linked, str_taken_by, desk_taken, ERRONEOUS, Legal, NOT_CONNECTED, NO_SOCKET, Order, Wrong, error, closed_end, receiver_requested, requested, with_end, arrived, arrived_if, data_found, data_of, data_taken, is_acceptable, spent, text_faulted, DeskState, command_queued, desk_of, desk_told, listener_on, settled, swept, called_off, changed_first, close_due, closed_by_partner, closed_when, ending, entry_at, free_link, is_at, is_ending, is_mine_on, is_open, is_over, must_close, opening_by, opening_notices, receives_on, receiving_end, refused_end, sending_end, sends_on, PairState, Parcel, asked_at, bits_gone, cls_sent, command_gone, commands_gone, may_send_on, pair_after, parcel_gone, is_ready, TurnState, answered_turn, closed, command_taken, failed, failed_by, freed, if_ready, is_gone, order_taken, orders_taken, reply_notices, reset_notices, settled_turn, with_desk, Closing, Entry, Listener, Notice, Phase, AreCommands, AreOrders, IsOrder, true}
+use Rattle.std.specs.Prelude.{◌≤◌, ◌-◌}
+use Rattle.std.proofs.Common.{ap, arith, sym, ◌∙◌}
+use Rattle.ncp_control.specs.Allocation as counters
 use Rattle.host_pairs.specs.Entries.{is_sent}
 use Rattle.bit_messages.specs.Octets.{octets_of}
 use Rattle.interface.specs.declared.crossing.Answer.TheVariants as answer
@@ -12,26 +15,56 @@ use Rattle.host_pairs.specs.Parcels.{link_of}
 use Rattle.host_pairs.specs.declared.entry.Closing.TheVariants as closing
 use Rattle.host_pairs.specs.declared.notice.Notice.TheVariants as notice
 use Rattle.ncp_control.specs.declared.phase.Phase.TheVariants as phase
-use Rattle.world_keeps_lives.proofs.Walk.Rules.{Each, IsOther, Quiet, due_still, each_append, each_changed, each_filter, each_map, each_of, found_in, quiet_when, sockets_of}
+use Rattle.world_keeps_lives.proofs.Walk.Rules.{Each, IsOther, Quiet, due_still, each_append, each_changed, each_filter, each_first, each_map, each_of, found_in, quiet_when, sockets_of}
 
 -- ---- what has to be shown, leaf by leaf
 
--- a change that names no request and says and hears no CLS
+-- counters with no more in them
+pub record IsNoMore (a b : Allocation) : Type 0 where
+  pub messages : b.messages ≤ a.messages
+  pub bits : b.bits ≤ a.bits
+
+pub no_more : (a : Allocation) → IsNoMore a a
+no_more a = record { messages = omega arith; bits = omega arith }
+
+-- a change that names no request, says and hears no CLS and grants nothing
 pub record Plain (e f : Entry) : Type 0 where
   pub quiet : Quiet e f
+  pub allocation : IsNoMore e.allocation f.allocation
   pub unsent : is_sent e.closing ≡ false → is_sent f.closing ≡ false
   pub unheard : e.partner_closed ≡ false → f.partner_closed ≡ false
 
-pub plain_bits : (e : Entry) (bits : List Bool) (allocation : Allocation) → Plain e (record e { bits = bits; allocation = allocation })
-plain_bits e bits allocation = record {
-  quiet = record { own = refl; foreign = refl; mine = refl; asked = refl; partner = refl; link = refl; closing = λ c. c; off = λ c. c };
+pub quiet_bits : (e : Entry) (bits : List Bool) (allocation : Allocation)
+    → Quiet e (record e { bits = bits; allocation = allocation })
+quiet_bits e bits allocation = record {
+  own = refl;
+  foreign = refl;
+  mine = refl;
+  asked = refl;
+  partner = refl;
+  link = refl;
+  closing = λ c. c;
+  off = λ c. c;
+}
+
+pub plain_bits : (e : Entry) (bits : List Bool) (allocation : Allocation) → IsNoMore e.allocation allocation
+    → Plain e (record e { bits = bits; allocation = allocation })
+plain_bits e bits allocation less = record {
+  quiet = quiet_bits e bits allocation;
+  allocation = less;
   unsent = λ u. u;
   unheard = λ u. u;
 }
 
+-- counters that lose something
+pub plain_lost : (e : Entry) (bits : List Bool) (m n : ℕ)
+    → Plain e (record e
+    { bits = bits; allocation = record { messages = e.allocation.messages - m; bits = e.allocation.bits - n } })
+plain_lost e bits m n = plain_bits e bits _ (record { messages = omega arith; bits = omega arith })
+
 plain_when : (b : Bool) (e : Entry) → Plain e (closed_when b e)
-plain_when true e = record { quiet = quiet_when true e; unsent = λ u. refl; unheard = λ u. u }
-plain_when false e = record { quiet = quiet_when false e; unsent = λ u. u; unheard = λ u. u }
+plain_when true e = record { quiet = quiet_when true e; allocation = no_more e.allocation; unsent = λ u. refl; unheard = λ u. u }
+plain_when false e = record { quiet = quiet_when false e; allocation = no_more e.allocation; unsent = λ u. u; unheard = λ u. u }
 
 due_unsent : (c : Closing) → is_sent c ≡ false → is_sent (close_due c) ≡ false
 due_unsent closing.No u = refl
@@ -40,6 +73,7 @@ due_unsent c u = u
 plain_due : (e : Entry) → Plain e (called_off e)
 plain_due e = record {
   quiet = record { own = refl; foreign = refl; mine = refl; asked = refl; partner = refl; link = refl; closing = λ c. due_still e.closing c; off = λ c. c };
+  allocation = no_more e.allocation;
   unsent = due_unsent e.closing;
   unheard = λ u. u;
 }
@@ -62,15 +96,22 @@ pub record Leaves (P : Entry → Type 0) (N : Notice → Type 0) (peer : Host) :
 
 -- where ends begin
 pub record Starts (P : Entry → Type 0) : Type 0 where
-  pub fresh : (e : Entry) → e.mine ≡ true → e.asked ≡ None → e.partner ≡ None → e.closing ≡ closing.No → P e
+  pub fresh : (e : Entry) → e.mine ≡ true → e.asked ≡ None → e.partner ≡ None → e.closing ≡ closing.No
+      → e.allocation ≡ counters.nothing → P e
   pub refused : (own foreign stamp : ℕ) → P (refused_end own foreign stamp)
 
--- what it hears at this place
+-- what it hears at this place. A request is taken for an end that has none of its partner yet
 pub record HearsAll (P : Entry → Type 0) (stamp : ℕ) (orders : List Order) : Type 0 where
   pub begins : Starts P
-  pub rts : (own foreign link : ℕ) (e : Entry) → Contains orders (Legal (command.Rts foreign own link)) → is_receive_socket foreign ≡ true → is_send_socket own ≡ true → e.own ≡ own → e.foreign ≡ foreign → P e → P (asked_on_link stamp link e)
-  pub str : (own foreign size : ℕ) (e : Entry) → Contains orders (Legal (command.Str foreign own size)) → is_send_socket foreign ≡ true → is_receive_socket own ≡ true → e.own ≡ own → e.foreign ≡ foreign → P e → P (asked_with_size stamp size e)
+  pub rts : (own foreign link : ℕ) (e : Entry) → Contains orders (Legal (command.Rts foreign own link))
+      → is_receive_socket foreign ≡ true → is_send_socket own ≡ true → e.own ≡ own → e.foreign ≡ foreign
+      → e.partner ≡ None → P e → P (asked_on_link stamp link e)
+  pub str : (own foreign size : ℕ) (e : Entry) → Contains orders (Legal (command.Str foreign own size))
+      → is_send_socket foreign ≡ true → is_receive_socket own ≡ true → e.own ≡ own → e.foreign ≡ foreign
+      → e.partner ≡ None → P e → P (asked_with_size stamp size e)
   pub cls : (e : Entry) → P e → P (closed_by_partner e)
+  pub all : (link messages bits : ℕ) (e : Entry) → Contains orders (Legal (command.All link messages bits))
+      → sends_on link e ≡ true → P e → P (commands.granted messages bits e)
 
 -- what it says at this place
 pub record GoesAll (P : Entry → Type 0) (stamp : ℕ) (cs : List Command) : Type 0 where
@@ -132,10 +173,15 @@ module _ (P : Entry → Type 0) (N : Notice → Type 0) (peer : Host) (leaves : 
   found_told (Some e) k = opening_told e e.asked e.partner (k e refl) refl refl
 
   -- a request is there now, and an opening is reported by it
-  pub good_opening : (own foreign : ℕ) (change : Entry → Entry) (d : DeskState) → ((e : Entry) → is_at own foreign e ≡ true → P e → P (change e)) → Good d
+  pub good_opening : (own foreign : ℕ) (change : Entry → Entry) (d : DeskState)
+      → ((e : Entry) → entry_at own foreign d.entries ≡ Some e → is_at own foreign e ≡ true → P e → P (change e))
+      → Good d
       → Good (desk_told (opening_notices peer (entry_at own foreign (changed_first (is_at own foreign) change d.entries))) (changed (is_at own foreign) change d))
   good_opening own foreign change d k h =
-      let now : Good (changed (is_at own foreign) change d) = good_changed (is_at own foreign) change d k h in
+      let now : Good (changed (is_at own foreign) change d) = record {
+        ends = each_first P P (is_at own foreign) change d.entries (λ e i. i) k h.ends;
+        told = h.told;
+      } in
       good_told (opening_notices peer (entry_at own foreign (changed_first (is_at own foreign) change d.entries))) (changed (is_at own foreign) change d)
       (found_told (entry_at own foreign (changed_first (is_at own foreign) change d.entries)) (λ e f. found_in P (is_at own foreign) (changed_first (is_at own foreign) change d.entries) e f now.ends)) now
 
@@ -147,9 +193,23 @@ module _ (P : Entry → Type 0) (N : Notice → Type 0) (peer : Host) (leaves : 
   good_refused : Starts P → (own foreign stamp : ℕ) (d : DeskState) → Good d → Good (commands.refused own foreign stamp d)
   good_refused begins own foreign stamp d h = record { ends = each_append P d.entries (refused_end own foreign stamp ∷ []) h.ends (begins.refused own foreign stamp, tt); told = h.told }
 
-  good_matched : (own foreign : ℕ) (c : Command) (e : Entry) (change : Entry → Entry) (d : DeskState) → ((e : Entry) → is_at own foreign e ≡ true → P e → P (change e)) → Good d → Good (matched_once peer own foreign c e change d)
-  good_matched own foreign c e change d k h =
-      good_if (is_some e.partner) (commands.faulted ERRONEOUS c d) (commands.matched peer own foreign change d) (good_fault ERRONEOUS c d h) (good_opening own foreign change d k h)
+  none_is : (o : Option ℕ) → is_some o ≡ false → o ≡ None
+  none_is None e = refl
+  none_is (Some n) e = absurd (let no : true ≡ false = e in cc)
+
+  good_matched : (own foreign : ℕ) (c : Command) (e : Entry) (change : Entry → Entry) (d : DeskState)
+      → entry_at own foreign d.entries ≡ Some e
+      → ((x : Entry) → is_at own foreign x ≡ true → x.partner ≡ None → P x → P (change x)) → Good d
+      → Good (matched_once peer own foreign c e change d)
+  good_matched own foreign c e change d found k h = by (is_some e.partner) refl where
+    by : (b : Bool) → is_some e.partner ≡ b
+        → Good (if b then commands.faulted ERRONEOUS c d else commands.matched peer own foreign change d)
+    by true i = good_fault ERRONEOUS c d h
+    by false i = good_opening own foreign change d
+        (λ x f t j.
+        (let same : Some e ≡ Some x = sym found ∙ f in
+        let is : e ≡ x = cc in
+        k x t (ap (λ (y : Entry). y.partner) (sym is) ∙ none_is e.partner i) j)) h
 
   good_at : (c : Command) (change : Entry → DeskState → DeskState) (f : Found) (d : DeskState) → ((e : Entry) → Good (change e d)) → Good d → Good (at_end c change f d)
   good_at c change Unconnected d k h = good_fault NOT_CONNECTED c d h
@@ -193,25 +253,27 @@ module _ (P : Entry → Type 0) (N : Notice → Type 0) (peer : Host) (leaves : 
     good_rts_heard : (own foreign link : ℕ) (l : Option Listener) (d : DeskState) → Contains orders (Legal (command.Rts foreign own link)) → is_receive_socket foreign ≡ true → is_send_socket own ≡ true → Good d → Good (rts_heard own foreign link stamp l d)
     good_rts_heard own foreign link None d there even odd h = good_refused hears.begins own foreign stamp d h
     good_rts_heard own foreign link (Some l) d there even odd h = record {
-      ends = each_append P d.entries (asked_on_link stamp link (sending_end own foreign l.size) ∷ []) h.ends (hears.rts own foreign link (sending_end own foreign l.size) there even odd refl refl (hears.begins.fresh (sending_end own foreign l.size) refl refl refl refl), tt);
+      ends = each_append P d.entries (asked_on_link stamp link (sending_end own foreign l.size) ∷ []) h.ends (hears.rts own foreign link (sending_end own foreign l.size) there even odd refl refl refl (hears.begins.fresh (sending_end own foreign l.size) refl refl refl refl refl), tt);
       told = h.told;
     }
 
-    good_rts_by : (own foreign link : ℕ) (o : Option Entry) (d : DeskState) → Contains orders (Legal (command.Rts foreign own link)) → is_receive_socket foreign ≡ true → is_send_socket own ≡ true → Good d → Good (rts_taken_by peer own foreign link stamp o d)
-    good_rts_by own foreign link None d there even odd h = good_rts_heard own foreign link (listener_on own d.listening) d there even odd h
-    good_rts_by own foreign link (Some e) d there even odd h =
-        good_matched own foreign (command.Rts foreign own link) e (asked_on_link stamp link) d
-        (λ x t i. hears.rts own foreign link x there even odd (sockets_of own foreign x t).0 (sockets_of own foreign x t).1 i) h
+    good_rts_by : (own foreign link : ℕ) (o : Option Entry) (d : DeskState) → entry_at own foreign d.entries ≡ o
+        → Contains orders (Legal (command.Rts foreign own link)) → is_receive_socket foreign ≡ true
+        → is_send_socket own ≡ true → Good d → Good (rts_taken_by peer own foreign link stamp o d)
+    good_rts_by own foreign link None d f there even odd h = good_rts_heard own foreign link (listener_on own d.listening) d there even odd h
+    good_rts_by own foreign link (Some e) d f there even odd h =
+        good_matched own foreign (command.Rts foreign own link) e (asked_on_link stamp link) d f
+        (λ x t none i. hears.rts own foreign link x there even odd (sockets_of own foreign x t).0 (sockets_of own foreign x t).1 none i) h
 
     good_rts : (own foreign link : ℕ) (d : DeskState) → Contains orders (Legal (command.Rts foreign own link)) → is_receive_socket foreign ≡ true → is_send_socket own ≡ true → Good d → Good (rts_taken peer own foreign link stamp d)
     good_rts own foreign link d there even odd h =
         good_if (list_any (sends_on link) d.entries) (commands.faulted ERRONEOUS (command.Rts foreign own link) d) (rts_taken_by peer own foreign link stamp (entry_at own foreign d.entries) d)
-        (good_fault ERRONEOUS (command.Rts foreign own link) d h) (good_rts_by own foreign link (entry_at own foreign d.entries) d there even odd h)
+        (good_fault ERRONEOUS (command.Rts foreign own link) d h) (good_rts_by own foreign link (entry_at own foreign d.entries) d refl there even odd h)
 
     good_str_linked : (own foreign size : ℕ) (l : Option ℕ) (d : DeskState) → Contains orders (Legal (command.Str foreign own size)) → is_send_socket foreign ≡ true → is_receive_socket own ≡ true → Good d → Good (str_linked own foreign size stamp l d)
     good_str_linked own foreign size None d there odd even h = good_refused hears.begins own foreign stamp d h
     good_str_linked own foreign size (Some link) d there odd even h = record {
-      ends = each_append P d.entries (asked_with_size stamp size (receiving_end own foreign link) ∷ []) h.ends (hears.str own foreign size (receiving_end own foreign link) there odd even refl refl (hears.begins.fresh (receiving_end own foreign link) refl refl refl refl), tt);
+      ends = each_append P d.entries (asked_with_size stamp size (receiving_end own foreign link) ∷ []) h.ends (hears.str own foreign size (receiving_end own foreign link) there odd even refl refl refl (hears.begins.fresh (receiving_end own foreign link) refl refl refl refl refl), tt);
       told = h.told;
     }
 
@@ -219,15 +281,17 @@ module _ (P : Entry → Type 0) (N : Notice → Type 0) (peer : Host) (leaves : 
     good_str_heard own foreign size None d there odd even h = good_refused hears.begins own foreign stamp d h
     good_str_heard own foreign size (Some l) d there odd even h = good_str_linked own foreign size (free_link d.entries) d there odd even h
 
-    good_str_by : (own foreign size : ℕ) (o : Option Entry) (d : DeskState) → Contains orders (Legal (command.Str foreign own size)) → is_send_socket foreign ≡ true → is_receive_socket own ≡ true → Good d → Good (str_taken_by peer own foreign size stamp o d)
-    good_str_by own foreign size None d there odd even h = good_str_heard own foreign size (listener_on own d.listening) d there odd even h
-    good_str_by own foreign size (Some e) d there odd even h =
-        good_matched own foreign (command.Str foreign own size) e (asked_with_size stamp size) d
-        (λ x t i. hears.str own foreign size x there odd even (sockets_of own foreign x t).0 (sockets_of own foreign x t).1 i) h
+    good_str_by : (own foreign size : ℕ) (o : Option Entry) (d : DeskState) → entry_at own foreign d.entries ≡ o
+        → Contains orders (Legal (command.Str foreign own size)) → is_send_socket foreign ≡ true
+        → is_receive_socket own ≡ true → Good d → Good (str_taken_by peer own foreign size stamp o d)
+    good_str_by own foreign size None d f there odd even h = good_str_heard own foreign size (listener_on own d.listening) d there odd even h
+    good_str_by own foreign size (Some e) d f there odd even h =
+        good_matched own foreign (command.Str foreign own size) e (asked_with_size stamp size) d f
+        (λ x t none i. hears.str own foreign size x there odd even (sockets_of own foreign x t).0 (sockets_of own foreign x t).1 none i) h
 
     good_ret : (link messages bits : ℕ) (e : Entry) (d : DeskState) → P e → is_open e ≡ true → Good d → Good (ret_taken link messages bits e d)
     good_ret link messages bits e d i o h =
-        good_if _ _ _ (good_told _ (changed (receives_on link) (commands.returned messages bits) d) (leaves.returns e messages bits i o, tt) (good_plain (receives_on link) (commands.returned messages bits) d (λ x. plain_bits x _ _) h))
+        good_if _ _ _ (good_told _ (changed (receives_on link) (commands.returned messages bits) d) (leaves.returns e messages bits i o, tt) (good_plain (receives_on link) (commands.returned messages bits) d (λ x. plain_lost x _ _ _) h))
         (good_fault ERRONEOUS (command.Ret link messages bits) d h)
 
     -- only an open end is given something back
@@ -241,13 +305,13 @@ module _ (P : Entry → Type 0) (N : Notice → Type 0) (peer : Host) (leaves : 
 
     good_taken : (busy : List ℕ) (c : Command) (d : DeskState) → IsOrder (Legal c) → Contains orders (Legal c) → Good d → Good (desk_taken peer busy stamp c d)
     good_taken busy (command.Rts receive send link) d ok there h = good_rts send receive link d there ok.1 ok.3 h
-    good_taken busy (command.Str send receive size) d ok there h = good_str_by receive send size (entry_at receive send d.entries) d there ok.1 ok.3 h
+    good_taken busy (command.Str send receive size) d ok there h = good_str_by receive send size (entry_at receive send d.entries) d refl there ok.1 ok.3 h
     good_taken busy (command.Cls mine yours) d ok there h = good_cls busy yours mine (entry_at yours mine d.entries) d h
     good_taken busy (command.All link messages bits) d ok there h =
-        good_at (command.All link messages bits) (all_taken link messages bits) (sender_on link d) d (λ e. good_plain (sends_on link) (commands.granted messages bits) d (λ x. plain_bits x _ _) h) h
+        good_at (command.All link messages bits) (all_taken link messages bits) (sender_on link d) d (λ e. good_changed (sends_on link) (commands.granted messages bits) d (λ x t i. hears.all link messages bits x there t i) h) h
     good_taken busy (command.Gvb link messages bits) d ok there h =
         good_at (command.Gvb link messages bits) (gvb_taken link messages bits) (sender_on link d) d
-        (λ e. good_queued _ (changed (sends_on link) (commands.given_back messages bits) d) (good_plain (sends_on link) (commands.given_back messages bits) d (λ x. plain_bits x _ _) h)) h
+        (λ e. good_queued _ (changed (sends_on link) (commands.given_back messages bits) d) (good_plain (sends_on link) (commands.given_back messages bits) d (λ x. plain_lost x _ _ _) h)) h
     good_taken busy (command.Ret link messages bits) d ok there h = ret_found link messages bits d (find (receives_on link) d.entries) refl h
     good_taken busy (command.Inr link) d ok there h = good_at (command.Inr link) interrupted (sender_on link d) d (λ e. good_told _ d (leaves.others _ tt tt, tt) h) h
     good_taken busy (command.Ins link) d ok there h = good_at (command.Ins link) interrupted (receiver_on link d) d (λ e. good_told _ d (leaves.others _ tt tt, tt) h) h
@@ -261,7 +325,8 @@ module _ (P : Entry → Type 0) (N : Notice → Type 0) (peer : Host) (leaves : 
     turn_command command.Rrp t ok there h = record { ends = h.ends; told = each_append N t.notices _ h.told (reply_told t.pair.phase) }
     turn_command c t ok there h = turn_ready (desk_taken peer t.pair.busy stamp c) t (λ k. good_taken t.pair.busy c (desk_of t.pair t.listening) ok there k) h
 
-    turn_order : (o : Order) (t : TurnState) → IsOrder o → Contains orders o → GoodTurn t → GoodTurn (order_taken peer stamp o t)
+    -- one order
+    pub turn_order : (o : Order) (t : TurnState) → IsOrder o → Contains orders o → GoodTurn t → GoodTurn (order_taken peer stamp o t)
     turn_order (Legal c) t ok there h = turn_command c t ok there h
     turn_order (Wrong code octets) t ok there h = turn_ready (command_queued (error code octets)) t (λ k. good_queued (error code octets) (desk_of t.pair t.listening) k) h
 
@@ -277,8 +342,8 @@ module _ (P : Entry → Type 0) (N : Notice → Type 0) (peer : Host) (leaves : 
 
   module _ (stamp : ℕ) (cs : List Command) (goes : GoesAll P stamp cs) where
     good_gone : (c : Command) (d : DeskState) → IsCommand c → Contains cs c → Good d → Good (command_gone peer stamp c d)
-    good_gone (command.Rts receive send link) d ok there h = good_opening receive send (asked_at stamp) d (λ x t i. goes.rts receive send link x there ok.1 (sockets_of receive send x t).0 (sockets_of receive send x t).1 i) h
-    good_gone (command.Str send receive size) d ok there h = good_opening send receive (asked_at stamp) d (λ x t i. goes.str send receive size x there ok.1 (sockets_of send receive x t).0 (sockets_of send receive x t).1 i) h
+    good_gone (command.Rts receive send link) d ok there h = good_opening receive send (asked_at stamp) d (λ x f t i. goes.rts receive send link x there ok.1 (sockets_of receive send x t).0 (sockets_of receive send x t).1 i) h
+    good_gone (command.Str send receive size) d ok there h = good_opening send receive (asked_at stamp) d (λ x f t i. goes.str send receive size x there ok.1 (sockets_of send receive x t).0 (sockets_of send receive x t).1 i) h
     good_gone (command.Cls own foreign) d ok there h =
         good_swept (changed (is_at own foreign) cls_sent d) (good_changed (is_at own foreign) cls_sent d (λ e t i. goes.cls e i) h)
     good_gone c d ok there h = h
@@ -311,7 +376,7 @@ module _ (P : Entry → Type 0) (N : Notice → Type 0) (peer : Host) (leaves : 
       (gone.ends, gone.told)
   good_parcel stamp (parcel.Bytes e size count) q listening may ok h = (
     each_changed P (may_send_on q.busy (link_of e.link)) (bits_gone (size * count)) q.entries
-        (λ x t i. leaves.plain x (bits_gone (size * count) x) (plain_bits x _ _) i) h,
+        (λ x t i. leaves.plain x (bits_gone (size * count) x) (plain_lost x _ _ _) i) h,
     (may, tt),
   )
 
@@ -322,7 +387,7 @@ module _ (P : Entry → Type 0) (N : Notice → Type 0) (peer : Host) (leaves : 
   good_arrived link e text (Some header) d k h =
       good_if (is_acceptable e header) (arrived link e (data_bits header) text d) (text_faulted ERRONEOUS text d)
       (good_told (notice.Arrived e.own (data_of (data_bits header) text) ∷ []) (changed (receives_on link) (spent (data_bits header)) d) (k header refl, tt)
-      (good_plain (receives_on link) (spent (data_bits header)) d (λ x. plain_bits x _ _) h))
+      (good_plain (receives_on link) (spent (data_bits header)) d (λ x. plain_lost x _ _ _) h))
       (good_queued (error ERRONEOUS (octets_of text)) d h)
 
   pub good_data : (link : ℕ) (text : List Bool) (d : DeskState) → ((e : Entry) (k : DataHeader) → find (receives_on link) d.entries ≡ Some e → is_open e ≡ true → header_of text ≡ Some k → N (notice.Arrived e.own (data_of (data_bits k) text))) → Good d → Good (data_taken link text d)
@@ -362,17 +427,20 @@ module _ (P : Entry → Type 0) (N : Notice → Type 0) (peer : Host) (leaves : 
 
   -- ---- what a user asks for
 
-  pub asked_by : (socket : ℕ) (change : Entry → Entry) (q : PairState) → ((e : Entry) → Plain e (change e)) → Each P q.entries → Each P (with_end socket change q).entries
-  asked_by socket change q k h = each_changed P (is_mine_on socket) change q.entries (λ e t i. leaves.plain e (change e) (k e) i) h
+  pub asked_by : (socket : ℕ) (change : Entry → Entry) (q : PairState)
+      → ((e : Entry) → is_mine_on socket e ≡ true → P e → P (change e)) → Each P q.entries
+      → Each P (with_end socket change q).entries
+  asked_by socket change q k h = each_changed P (is_mine_on socket) change q.entries k h
 
   pub asked_closed : (socket : ℕ) (q : PairState) → Each P q.entries → Each P (closed_end socket q).entries
   asked_closed socket q h =
-      let off : Each P (with_end socket called_off q).entries = asked_by socket called_off q plain_due h in
+      let off : Each P (with_end socket called_off q).entries = asked_by socket called_off q (λ e t i. leaves.plain e (called_off e) (plain_due e) i) h in
       (good_settled q.busy (desk_of (with_end socket called_off q) []) (record { ends = off; told = tt })).ends
 
-  pub asked_new : Starts P → (e : Entry) (c : Command) (q : PairState) → e.mine ≡ true → e.asked ≡ None → e.partner ≡ None → e.closing ≡ closing.No → Each P q.entries → Each P (requested e c q).entries
-  asked_new begins e c q mine asked partner unclosed h = each_append P q.entries (e ∷ []) h (begins.fresh e mine asked partner unclosed, tt)
+  pub asked_new : Starts P → (e : Entry) (c : Command) (q : PairState) → e.mine ≡ true → e.asked ≡ None → e.partner ≡ None → e.closing ≡ closing.No
+      → e.allocation ≡ counters.nothing → Each P q.entries → Each P (requested e c q).entries
+  asked_new begins e c q mine asked partner unclosed none h = each_append P q.entries (e ∷ []) h (begins.fresh e mine asked partner unclosed none, tt)
 
   pub asked_receiver : Starts P → (own foreign : ℕ) (link : Option ℕ) (q : PairState) → Each P q.entries → Each P (receiver_requested own foreign link q).entries
   asked_receiver begins own foreign None q h = h
-  asked_receiver begins own foreign (Some link) q h = asked_new begins (receiving_end own foreign link) (command.Rts own foreign link) q refl refl refl refl h
+  asked_receiver begins own foreign (Some link) q h = asked_new begins (receiving_end own foreign link) (command.Rts own foreign link) q refl refl refl refl refl h

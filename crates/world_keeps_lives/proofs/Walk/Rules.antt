@@ -31,12 +31,24 @@ each_filter Q test (x ∷ xs) h = by (test x) refl (each_filter Q test xs h.1) w
   by true t rest = rw t (h.0, rest)
   by false t rest = rw t rest
 
+-- the first that passes is changed: what holds of it before gives what holds after, and so it is for the others
+pub each_first : {A : Type 0} (Q R : A → Type 0) (test : A → Bool) (change : A → A) (xs : List A)
+    → ((x : A) → Q x → R x)
+    → ((x : A) → find test xs ≡ Some x → test x ≡ true → Q x → R (change x))
+    → Each Q xs → Each R (changed_first test change xs)
+each_first Q R test change [] stays k h = tt
+each_first {A} Q R test change (x ∷ xs) stays k h =
+    by (test x) refl k (λ l. each_first Q R test change xs stays l h.1) where
+      by : (b : Bool) → test x ≡ b
+          → ((y : A) → (if b then Some x else find test xs) ≡ Some y → test y ≡ true → Q y → R (change y))
+          → (((y : A) → find test xs ≡ Some y → test y ≡ true → Q y → R (change y))
+          → Each R (changed_first test change xs))
+          → Each R (if b then change x ∷ xs else x ∷ changed_first test change xs)
+      by true t l rest = (l x refl t h.0, each_weaker Q R xs stays h.1)
+      by false t l rest = (stays x h.0, rest l)
+
 pub each_changed : {A : Type 0} (Q : A → Type 0) (test : A → Bool) (change : A → A) (xs : List A) → ((x : A) → test x ≡ true → Q x → Q (change x)) → Each Q xs → Each Q (changed_first test change xs)
-each_changed Q test change [] k h = tt
-each_changed Q test change (x ∷ xs) k h = by (test x) refl (each_changed Q test change xs k h.1) where
-  by : (b : Bool) → test x ≡ b → Each Q (changed_first test change xs) → Each Q (if b then change x ∷ xs else x ∷ changed_first test change xs)
-  by true t rest = (k x t h.0, h.1)
-  by false t rest = (h.0, rest)
+each_changed Q test change xs k h = each_first Q Q test change xs (λ x i. i) (λ x f t i. k x t i) h
 
 pub each_at : {A : Type 0} (Q : A → Type 0) (xs : List A) (x : A) (i : ℕ) → i < length xs → slice_index_or xs i x ≡ x → Each Q xs → Q x
 each_at Q [] x i less is h = absurd (omega (arith, less))

@@ -53,10 +53,11 @@ module _ (p : Host) (own foreign : ℕ) where
 
     hears : (stamp : ℕ) (orders : List Order) → HearsAll (IsOff g sent over_sent still_unsent) stamp orders
     hears stamp orders = record {
-      begins = record { fresh = λ e mine asked partner unclosed at is there. ap is_sent unclosed; refused = λ o f s at is there. refl };
-      rts = λ o f link e there even odd same too off. off;
-      str = λ o f size e there odd even same too off. off;
+      begins = record { fresh = λ e mine asked partner unclosed none at is there. ap is_sent unclosed; refused = λ o f s at is there. refl };
+      rts = λ o f link e there even odd same too none off. off;
+      str = λ o f size e there odd even same too none off. off;
       cls = λ e off at is there. off_unsent e (off at is there);
+      all = λ link messages bits e there on off. off;
     }
 
   pub heard_lasts : (s : NcpState) (m : HostMessage) (stamp : ℕ) → ((e : Entry) → Among e (pair_with p s.peers).entries → e.own ≡ own → e.foreign ≡ foreign → is_sent e.closing ≡ false) → Each IsNoEnding (accepted s (inbound.Message m) stamp).1

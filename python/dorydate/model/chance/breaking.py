@@ -13,7 +13,7 @@ from dorydate.model.audit import CONTROL, match
 from dorydate.model.bits import Bits
 from dorydate.model.book import Fate, Life
 from dorydate.model.crossings import Answer, Answered, Crossing, Passed, Turned
-from dorydate.model.fates import LEAVES, over, together
+from dorydate.model.fates import LEAVES, RIGHT_FATES, first_strange, over, together
 from dorydate.model.log import Book
 from dorydate.model.names import Flow, HostName
 
@@ -452,6 +452,24 @@ def reset_alone(chance: Random, book: Book) -> None:
     life.fate = "open" if life.fate == "reset" else "reset"
 
 
+def is_odd(book: Book, life: Life, fate: Fate) -> bool:
+    """Whether a life may have a fate by itself, but not beside the others."""
+    other = replace(life, fate=fate)
+    return RIGHT_FATES.suits(book.log, other) and is_strange(book, life, fate)
+
+
+def is_strange(book: Book, life: Life, fate: Fate) -> bool:
+    """Whether lives can't be over so where one of them has this fate."""
+    return first_strange(book.log, [replace(it, fate=fate) if it is life else it for it in book.lives]) is not None
+
+
+@way("a contact before a stop or a CLS resets one of several lives")
+def reset_before(chance: Random, book: Book) -> None:
+    ends = {id(it): over(book.log, it) for it in book.lives}
+    may = [it for it in book.lives if (end := ends[id(it)]) is not None and end.by is not None and it.fate != "reset"]
+    chance.choice([it for it in may if is_odd(book, it, "reset")]).fate = "reset"
+
+
 # ---- changes that break nothing: what they change is not promised
 
 
@@ -464,9 +482,8 @@ def ended_otherwise(chance: Random, book: Book) -> None:
     life = a_life(chance, book)
     ended_by = over(book.log, life)
     may = LEAVES[ended_by.left()] if ended_by else {*FATES}
-    if together(book.log, book.lives, life):
-        may = {it for it in may if (it == "reset") == (life.fate == "reset")}
-    life.fate = chance.choice([it for it in FATES if it in may and (it != "ended" or sends(life))])
+    left = [it for it in FATES if it in may and (it != "ended" or sends(life))]
+    life.fate = chance.choice([it for it in left if not is_strange(book, life, it)])
 
 
 def handed_more(chance: Random, book: Book) -> None:

@@ -1,6 +1,7 @@
-use Rattle.book_judge.proofs.Common.{Bool, Option, arith, ap, reverse, sym, take, ◌∙◌, deeds_in}
+use Rattle.book_judge.proofs.Common.{Option, arith, ap, reverse, sym, take, ◌∙◌, deeds_in}
 use Rattle.book_judge.specs.Inside.Contacts.{agrees, noted}
-use Rattle.book_judge.proofs.Ends.Noted.{disagrees, seen_more, seen_none, seen_suit, unsuited_by}
+use Rattle.book_judge.specs.declared.fates.contacts.Said.{Said}
+use Rattle.book_judge.proofs.Ends.Noted.{disagrees, said_turned, seen_more, seen_none, seen_suit, unsuited_by}
 use Rattle.book_judge.proofs.Ends.Suited.{all_suited}
 use Rattle.book_judge.proofs.fates.unsuited_at.Goals as goal
 use Rattle.book_judge.proofs.fates.unsuited_at.Goals.{then-not-suits-via-then-not-suits, then-not-suits-via-else-not-suits+then-not-agrees}
@@ -11,37 +12,41 @@ returns-then-not-suits c = elim c.then-not-suits.branch [
       unsuited_by (reverse c.args.log.now) c.args.lives.now c.args.fates.now c.loop-place.place
       c.index-lives-place.result c.fate_at-fate.result
       (record { less = c.loop-place-test.true; life = c.index-lives-place.is; said = c.fate_at-fate.ensures })
-      c.loop-place.resets
+      c.loop-place.ends
       (sym (c.suits.ensures (deeds_in (reverse c.args.log.now)) c.in_ok-courses.ensures) ∙ w.if-not-suits.true)
       c.loop-place.invariant
   | then-not-suits-via-else-not-suits+then-not-agrees w ↦
       disagrees (reverse c.args.log.now) c.args.lives.now c.args.fates.now c.loop-place.place
       c.index-lives-place.result c.fate_at-fate.result
       (record { less = c.loop-place-test.true; life = c.index-lives-place.is; said = c.fate_at-fate.ensures })
-      c.loop-place.resets
-      (ap (agrees c.loop-place.resets c.index-lives-place.result)
-      (sym (c.reset-reset.ensures (deeds_in (reverse c.args.log.now)) c.in_ok-courses.ensures)) ∙ sym w.agrees.ensures
-      ∙ w.if-not-agrees.true)
+      c.loop-place.ends
+      (ap (agrees c.loop-place.ends c.index-lives-place.result) (said_turned c.args.log.now
+      c.index-lives-place.result c.fate_at-fate.result c.said-said.result
+      (c.said-said.ensures (deeds_in (reverse c.args.log.now)) c.in_ok-courses.ensures
+      (c.in_ok-cuts.ensures (deeds_in (reverse c.args.log.now)) c.in_ok-courses.ensures))) ∙ sym w.agrees.ensures ∙ w.if-not-agrees.true)
       c.loop-place.invariant
 ]
 
 pub loop-place-init : goal.loop-place-init
 loop-place-init c =
-    seen_none (reverse c.args.log.now) c.args.fates.now c.new-resets.result c.new-resets.ensures
+    seen_none (reverse c.args.log.now) c.args.fates.now c.new-ends.result c.new-ends.ensures
 
 pub loop-place-preserved : goal.loop-place-preserved
 loop-place-preserved c =
     seen_more (reverse c.args.log.now) c.args.lives.now c.args.fates.now c.loop-place.place
     c.index-lives-place.result c.fate_at-fate.result
     (record { less = c.loop-place-test.true; life = c.index-lives-place.is; said = c.fate_at-fate.ensures })
-    c.loop-place.resets c.note.new.resets
+    c.loop-place.ends c.note.new.ends
     (sym (c.suits.ensures (deeds_in (reverse c.args.log.now)) c.in_ok-courses.ensures) ∙ c.if-not-suits.false)
-    (ap (agrees c.loop-place.resets c.index-lives-place.result)
-    (sym (c.reset-reset.ensures (deeds_in (reverse c.args.log.now)) c.in_ok-courses.ensures)) ∙ sym c.agrees.ensures
-    ∙ c.if-not-agrees.false)
+    (ap (agrees c.loop-place.ends c.index-lives-place.result) (said_turned c.args.log.now
+    c.index-lives-place.result c.fate_at-fate.result c.said-said.result
+    (c.said-said.ensures (deeds_in (reverse c.args.log.now)) c.in_ok-courses.ensures
+    (c.in_ok-cuts.ensures (deeds_in (reverse c.args.log.now)) c.in_ok-courses.ensures))) ∙ sym c.agrees.ensures ∙ c.if-not-agrees.false)
     (c.in_ok-note.ensures
-    ∙ ap (λ (r : Option Bool). noted c.index-lives-place.result r c.loop-place.resets)
-    (c.reset-reset.ensures (deeds_in (reverse c.args.log.now)) c.in_ok-courses.ensures))
+    ∙ ap (λ (r : Option Said). noted c.index-lives-place.result r c.loop-place.ends) (sym (said_turned c.args.log.now
+    c.index-lives-place.result c.fate_at-fate.result c.said-said.result
+    (c.said-said.ensures (deeds_in (reverse c.args.log.now)) c.in_ok-courses.ensures
+    (c.in_ok-cuts.ensures (deeds_in (reverse c.args.log.now)) c.in_ok-courses.ensures)))))
     c.loop-place.invariant
 
 pub returns : goal.returns
@@ -49,4 +54,4 @@ returns c =
     all_suited (reverse c.args.log.now) c.args.lives.now c.args.fates.now c.loop-place.place
     (omega (arith, c.loop-place-test.false))
     (seen_suit (reverse c.args.log.now) (take c.loop-place.place c.args.lives.now) c.args.fates.now
-    c.loop-place.resets c.loop-place.invariant)
+    c.loop-place.ends c.loop-place.invariant)

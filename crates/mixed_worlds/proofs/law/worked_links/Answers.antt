@@ -26,6 +26,7 @@ returns-clause-carried c = record {
   link = 2;
   messages = none_of false (on_link second third 2) 8 7 log;
   named = λ s. named;
+  within = λ s. record { messages = omega arith; bits = omega arith };
   itself = λ r. absurd (let clash : false ≡ true = r in cc);
 }
 

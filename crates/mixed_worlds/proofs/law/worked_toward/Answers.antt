@@ -150,6 +150,7 @@ returns-clause-carried c = record {
     none_of true (on_link third second 2) 8 7 (crossings_of eight_waits),
   );
   named = λ s. absurd (let clash : false ≡ true = s in cc);
+  within = λ s. absurd (let clash : false ≡ true = s in cc);
   itself = λ r. own_rts;
 }
 
