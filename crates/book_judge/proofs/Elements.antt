@@ -2,13 +2,10 @@
 use Rattle.book_judge.proofs.Common.{◌≡◌, ℕ, zero, suc, ◌+◌, ◌<◌, ◌≤◌, Bool, true, false, not, ◌&&◌, List, [], ◌∷◌, ◌++◌, length, take, get_or, Some, MatchBool, refl, ap, sym, subst, ◌∙◌, inl, inr, arith, Contains, cases_lt, get_or_from_slice_get, slice_get_within, AreTwo, Life}
 use Rattle.std.proofs.lemmas.List.{append_assoc}
 use Rattle.std.specs.List.{slice_get}
-use Rattle.book_judge.proofs.Named.{contains_cases, contains_none}
+use Rattle.book_judge.proofs.Named.{contains_cases}
+use Rattle.interface.proofs.lemmas.{contains_none}
 
 -- ---- tests
-
-pub both_is : (a b : Bool) → a ≡ true → b ≡ true → (a && b) ≡ true
-both_is true b e f = f
-both_is false b e f = e
 
 pub not_is : (a : Bool) → (a ≡ true → ⊥) → not a ≡ true
 not_is true f = absurd (f refl)
@@ -17,10 +14,6 @@ not_is false f = refl
 pub not_true : (a : Bool) → not a ≡ true → a ≡ true → ⊥
 not_true true h e = absurd (cc)
 not_true false h e = absurd (cc)
-
-pub is_false : (a : Bool) → (a ≡ true → ⊥) → a ≡ false
-is_false true f = absurd (f refl)
-is_false false f = refl
 
 pub false_not : (a : Bool) → a ≡ false → a ≡ true → ⊥
 false_not true h e = absurd (cc)

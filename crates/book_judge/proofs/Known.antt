@@ -4,9 +4,10 @@ use Rattle.book_judge.specs.Inside.Asked.{key}
 use Rattle.std.proofs.Common.{eq-eqb}
 use Rattle.std.specs.List.{slice_get}
 use Rattle.std.specs.FinMap as map
+use Rattle.std.proofs.lemmas.Bool.{and_from}
 use Rattle.book_judge.specs.Inside.Partners.{AreKnown, alike, apart_of, are_apart, is_mate, is_new, is_none_at, mate_of}
 use Rattle.book_judge.proofs.Asked.{below_cases}
-use Rattle.book_judge.proofs.Elements.{both_is, not_is, not_true}
+use Rattle.book_judge.proofs.Elements.{not_is, not_true}
 use Rattle.book_judge.proofs.Placed.{has_more}
 
 -- ---- names
@@ -21,8 +22,8 @@ same_true a b h =
 
 pub same_is : (a b : Name) → a ≡ b → same_name a b ≡ true
 same_is a b e =
-    both_is (a.place == b.place && a.own == b.own) (a.foreign == b.foreign)
-    (both_is (a.place == b.place) (a.own == b.own) (eq-eqb a.place b.place (ap (λ (n : Name). n.place) e)) (eq-eqb a.own b.own (ap (λ (n : Name). n.own) e)))
+    and_from (a.place == b.place && a.own == b.own) (a.foreign == b.foreign)
+    (and_from (a.place == b.place) (a.own == b.own) (eq-eqb a.place b.place (ap (λ (n : Name). n.place) e)) (eq-eqb a.own b.own (ap (λ (n : Name). n.own) e)))
     (eq-eqb a.foreign b.foreign (ap (λ (n : Name). n.foreign) e))
 
 -- ---- two lives
@@ -61,8 +62,8 @@ apart_true a x b y h =
 
 pub apart_is : (a : Name) (x : Life) (b : Name) (y : Life) → Apart a x b y → are_apart a x b y ≡ true
 apart_is a x b y h =
-    both_is (not (same_name (own_request x) (own_request y)) && not (same_name a b)) (alike (same_name a (own_request y)) (same_name b (own_request x)))
-    (both_is (not (same_name (own_request x) (own_request y))) (not (same_name a b))
+    and_from (not (same_name (own_request x) (own_request y)) && not (same_name a b)) (alike (same_name a (own_request y)) (same_name b (own_request x)))
+    (and_from (not (same_name (own_request x) (own_request y))) (not (same_name a b))
     (not_is (same_name (own_request x) (own_request y)) (λ e. h.own (same_true (own_request x) (own_request y) e)))
     (not_is (same_name a b) (λ e. h.partner (same_true a b e))))
     (alike_is (same_name a (own_request y)) (same_name b (own_request x))

@@ -5,15 +5,17 @@ use Rattle.std.proofs.Common.{nat_le, slice_get}
 use Rattle.std.proofs.Math.Seq.{get_or-append_seam}
 use Rattle.std.proofs.lemmas.Bool.Decides.{leb_tells}
 use Rattle.std.specs.FinMap as fin
+use Rattle.std.proofs.lemmas.Bool.{or_right, not_from_false}
 use Rattle.interface.specs.Mailboxes.{Box, Waiting, Taken, WaitsWith, fetched, box_of, is_up, up_after_crossing, IsRun}
 use Rattle.interface.specs.declared.crossing.Answer.TheVariants as answer
 use Rattle.interface.specs.declared.crossing.Crossing.TheVariants as crossing
-use Rattle.interface.proofs.lemmas.{exact_flows, flows_total, run_below}
+use Rattle.interface.proofs.lemmas.{exact_flows, flows_total, run_below, not_true}
 use Rattle.book_judge.specs.Inside as tests
 use Rattle.book_judge.specs.Inside.{to_itself, mark_in, held_in, fresh}
 use Rattle.book_judge.specs.declared.mail.Held.TheVariants as held
 use Rattle.book_judge.specs.declared.mail.Mark.{Mark}
 use Rattle.book_judge.proofs.Crossed.SameText.{same_text-is, same_text-true}
+use Rattle.book_judge.proofs.Ends.Keys.{is_equal}
 
 -- ---- a run without hosts
 
@@ -79,10 +81,6 @@ abbrev AreHosts : List Host → List Crossing → Type 0
 AreHosts hosts [] = Unit {0}
 AreHosts hosts (c ∷ log) = (is_host hosts (host_of c) ≡ true) × AreHosts hosts log
 
-or_right : (a b : Bool) → b ≡ true → (a || b) ≡ true
-or_right true b e = refl
-or_right false b e = e
-
 one_more : (h : Host) (hosts : List Host) (log : List Crossing) → AreHosts hosts log → AreHosts (h ∷ hosts) log
 one_more h hosts [] a = tt
 one_more h hosts (c ∷ log) a = (or_right (same_host (host_of c) h) (is_host hosts (host_of c)) a.0, one_more h hosts log a.1)
@@ -106,11 +104,6 @@ pub free_run : (log : List Crossing) → IsSomeRun log → IsFree log
 free_run log r = free_of_run r.0 log r.1
 
 -- ---- maps
-
-is_equal : (o : Ordering) → is_eq o ≡ true → o ≡ Equal
-is_equal Less e = absurd (cc)
-is_equal Equal e = refl
-is_equal Greater e = absurd (cc)
 
 alike : (f g : Flow) → eq_by_cmp flow_cmp f g ≡ same_flow f g
 alike f g = both_ways (eq_by_cmp flow_cmp f g) (same_flow f g)
@@ -411,14 +404,6 @@ waits_tells whole text (Taken place kept) out = (λ u. absurd (cc), λ e. absurd
 boxed : (test : Held → Bool) (P : Type 0) (h : Held) (box : Box) → h ≡ noted box → Tells (test (noted box)) P → Tells (test h) P
 boxed test P h box e t = let F : Held → Type 0 = λ x. Tells (test x) P in subst F (sym e) t
 
-is_false : (b : Bool) → b ≡ false → not b ≡ true
-is_false true e = absurd (cc)
-is_false false e = refl
-
-is_not : (b : Bool) → not b ≡ true → b ≡ false
-is_not true e = absurd (cc)
-is_not false e = refl
-
 finds_tells : (s : Mail) (whole log rest : List Crossing) → whole ≡ reverse log ++ rest → Agrees s log → (c : Crossing) → Tells (tests.finds s whole c) (FindsIn c log)
 finds_tells s whole log rest w a (crossing.Out m) =
     and_tells (tests.is_up s m.flow.source) (is_on m.flow.source log) (tests.is_empty (held_in s m.flow)) (box_of m.flow log ≡ Empty) (a.up m.flow.source)
@@ -431,7 +416,7 @@ finds_tells s whole log rest w a (crossing.Answer kind f) =
     and_tells (tests.is_up s f.source) (is_on f.source log) (tests.fits_answer kind (held_in s f)) (Fits kind (box_of f log)) (a.up f.source)
     (boxed (λ x. tests.fits_answer kind x) (Fits kind (box_of f log)) (held_in s f) (box_of f log) (a.box f) (fits_tells kind (box_of f log)))
 finds_tells s whole log rest w a (crossing.Down h) = (λ u. sym (a.up h) ∙ u, λ e. a.up h ∙ e)
-finds_tells s whole log rest w a (crossing.Up h) = (λ u. sym (a.up h) ∙ is_not (tests.is_up s h) u, λ e. is_false (tests.is_up s h) (a.up h ∙ e))
+finds_tells s whole log rest w a (crossing.Up h) = (λ u. sym (a.up h) ∙ not_true (tests.is_up s h) u, λ e. not_from_false (tests.is_up s h) (a.up h ∙ e))
 
 -- ---- the search
 

@@ -6,15 +6,6 @@ use Rattle.std.specs.Option.{option_or}
 
 -- ---- elements
 
-pub contains_none : {X : Type 0} (x : X) → Contains [] x → ⊥
-contains_none x (k, h, e) = omega arith
-
-pub contains_head : {X : Type 0} (x : X) (xs : List X) → Contains (x ∷ xs) x
-contains_head x xs = (0, omega arith, refl)
-
-pub contains_tail : {X : Type 0} (x : X) (xs : List X) (y : X) → Contains xs y → Contains (x ∷ xs) y
-contains_tail x xs y (k, h, e) = (suc k, omega arith, e)
-
 cases_at : {X : Type 0} (y : X) (xs : List X) (x : X) (k : ℕ) → k < length (y ∷ xs) → slice_index_or (y ∷ xs) k x ≡ x
     → (y ≡ x) ⊎ Contains xs x
 cases_at y xs x zero h e = inl e

@@ -3,7 +3,7 @@ use Rattle.book_judge.proofs.Common.{◌≡◌, ℕ, zero, suc, ◌+◌, ◌-◌
 use Rattle.std.specs.List.{slice_get}
 use Rattle.std.specs.Prelude.{IfOk, nat_le}
 use Rattle.std.specs.declared.alloc.AllocError.{AllocError}
-use Rattle.std.proofs.lemmas.Bool.{leb-true}
+use Rattle.std.proofs.lemmas.Bool.{leb-true, and_from, false_from_ne_true, true_from_ne_false}
 use Rattle.interface.specs.declared.crossing.Crossing.TheVariants as crossing
 use Rattle.net_sim.specs.Audit.{IsWellFormed}
 use Rattle.net_sim.specs.Findings.{AreAtPeace, AreFed, AreUnmatched, HaveGranted, ShowsTwo, first_fed, first_granted}
@@ -12,7 +12,7 @@ use Rattle.promise.specs.Safe.{IsGranted, SafeGrants, SafePartners, Source}
 use Rattle.book_judge.specs.Broken.{IsBroken}
 use Rattle.book_judge.specs.declared.broken.Broken.{Broken}
 use Rattle.book_judge.specs.Inside.Chains.{fits_of}
-use Rattle.book_judge.proofs.Elements.{AreAt, both_is, contains_place, false_not, get_take, get_took, is_false, place_contains, places_two, read_at, two_places}
+use Rattle.book_judge.proofs.Elements.{AreAt, contains_place, false_not, get_take, get_took, place_contains, places_two, read_at, two_places}
 use Rattle.book_judge.proofs.Known.{Apart, apart_is, apart_there, apart_true, same_is, same_true}
 
 -- ---- the partner's request of a life
@@ -256,10 +256,10 @@ fits_match log a x b y e f h =
 
 pub match_fits : (log : List Crossing) (a : Name) (x : Life) (b : Name) (y : Life) → partner_request log x ≡ Some a → partner_request log y ≡ Some b → Match log x y → fits a x b y ≡ true
 match_fits log a x b y e f m =
-    both_is (receives x && sends y && same_host x.peer y.host && same_host y.peer x.host && same_name a (own_request y)) (same_name b (own_request x))
-    (both_is (receives x && sends y && same_host x.peer y.host && same_host y.peer x.host) (same_name a (own_request y))
-    (both_is (receives x && sends y && same_host x.peer y.host) (same_host y.peer x.host)
-    (both_is (receives x && sends y) (same_host x.peer y.host) (both_is (receives x) (sends y) m.receiving m.sending) (host_is x.peer y.host m.peers.0))
+    and_from (receives x && sends y && same_host x.peer y.host && same_host y.peer x.host && same_name a (own_request y)) (same_name b (own_request x))
+    (and_from (receives x && sends y && same_host x.peer y.host && same_host y.peer x.host) (same_name a (own_request y))
+    (and_from (receives x && sends y && same_host x.peer y.host) (same_host y.peer x.host)
+    (and_from (receives x && sends y) (same_host x.peer y.host) (and_from (receives x) (sends y) m.receiving m.sending) (host_is x.peer y.host m.peers.0))
     (host_is y.peer x.host m.peers.1))
     (same_is a (own_request y) (one_some (partner_request log x) a (own_request y) e m.asked)))
     (same_is b (own_request x) (one_some (partner_request log y) b (own_request x) f m.answered))
@@ -294,7 +294,7 @@ with_some names lives log a x p other are e f found =
     let same : c.0 ≡ a = one_some (slice_get names p) c.0 a c.1 e in
     let asks : partner_request log x ≡ Some a = c.2 ∙ ap (λ (m : Name). Some m) same in (
       unmatched names lives log a x other are asks found.1,
-      λ none. found.2 (is_false (fits_at a x names lives other) (λ h.
+      λ none. found.2 (false_from_ne_true (fits_at a x names lives other) (λ h.
           (let y = read_at lives other found.0 in
           let b = asked_of names lives log other y.0 are y.1 in
           none y.0 (place_contains (take (other + 1) lives) other y.0 (get_take (other + 1) lives other y.0 (omega arith) y.1))
@@ -370,12 +370,8 @@ granted_true x count size h =
 
 granted_is : (x : Life) (count size : ℕ) → IsGranted x count size → is_granted x count size ≡ true
 granted_is x count size g =
-    both_is (nat_le (count + x.returned.messages) x.granted.messages) (nat_le (size + x.returned.bits) x.granted.bits)
+    and_from (nat_le (count + x.returned.messages) x.granted.messages) (nat_le (size + x.returned.bits) x.granted.bits)
     (le-leb (count + x.returned.messages) x.granted.messages g.messages) (le-leb (size + x.returned.bits) x.granted.bits g.bits)
-
-true_or : (b : Bool) → (b ≡ false → ⊥) → b ≡ true
-true_or true f = refl
-true_or false f = absurd (f refl)
 
 pub granted_first : (names : List Name) (lives : List Life) (log : List Crossing) (n : ℕ) → AreNamed (length lives) names lives log
     → ((i : ℕ) → i < n → GrantedAt names lives i) → HaveGranted log lives (take n lives)
@@ -391,7 +387,7 @@ granted_first names lives log n are all = record {
       let a = asked_of names lives log t.0 x are i.1 in
       let j = contains_place lives y d in
       let b = asked_of names lives log j.0 y are j.1 in
-      granted_true x y.messages (length y.bits) (true_or (is_granted x y.messages (length y.bits)) (λ e.
+      granted_true x y.messages (length y.bits) (true_from_ne_false (is_granted x y.messages (length y.bits)) (λ e.
       (all t.0 i.0 a.0 x a.1 i.1 m.receiving).1 j.0 (b.0, y, b.1, j.1, match_fits log a.0 x b.0 y a.2 b.2 m, e))));
 }
 

@@ -1,5 +1,6 @@
 -- The map that a list of places by key makes.
 use Rattle.book_judge.proofs.Common.{◌≡◌, ℕ, ◌+◌, Bool, true, false, List, [], ◌∷◌, ◌⊎◌, inl, inr, Option, Some, refl, ap, sym, subst, ◌∙◌, cond, arith, eq_by_cmp, nat_cmp, is_eq, eq_by_cmp_equiv, nat_cmp_total, get-insert, FinMap, find, from_entries, get, insert, same_map, get-from_entries, Ordering, Less, Equal, Greater, HasPlace, lookup, is_at, exact_unsigned}
+use Rattle.book_judge.proofs.Ends.Keys.{is_equal as order_equal}
 
 -- what a list of entries has at a key
 abbrev pub place_in : List (ℕ × ℕ) → ℕ → Option ℕ
@@ -21,11 +22,6 @@ place_set es ds k v h = same_map nat_cmp_total exact_unsigned _ _ (λ q.
     ∙ sym (get-insert nat_cmp_total (from_entries es) k v q ∙ ap (cond (eq_by_cmp nat_cmp q k) (Some v)) (get_place es q)))
 
 -- ---- one place more
-
-order_equal : (o : Ordering) → is_eq o ≡ true → o ≡ Equal
-order_equal Less e = absurd (cc)
-order_equal Equal e = refl
-order_equal Greater e = absurd (cc)
 
 is_equal : (q k : ℕ) → eq_by_cmp nat_cmp q k ≡ true → nat_cmp q k ≡ Equal
 is_equal q k e = order_equal (nat_cmp q k) e

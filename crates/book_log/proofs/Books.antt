@@ -1,6 +1,7 @@
 -- The lines of a book, in their order, and the first bad one.
 use Rattle.book_log.proofs.Common.{◌≡◌, ℕ, ◌<◌, ◌≤◌, ◌==◌, ◌&&◌, Bool, true, false, suc, List, [], ◌∷◌, ◌++◌, Some, None, codes, length, map, refl, sym, ap, ap₂, ◌∙◌, arith, subst, append_assoc, append-nil, if◌then◌else◌, eqb-true, false≢true, map-append, All-append, All-cons, All-head, All-nil, All-tail, All-weaker, flat_map-append, All, zip, Crossing, Fate, Life, ended_line, Lacks, SameCut, same_cut, Book, IsBadLine, IsBook, IsCrossing, IsHanded, IsLived, IsLog, log_lines, text_of_lines, IsLine, added, is_bare, line_text, Line}
 use Rattle.std.proofs.lemmas.List.Elements.{All-map}
+use Rattle.std.proofs.lemmas.Bool.{and_parts}
 use Rattle.interface.specs.declared.crossing.Crossing.TheVariants as crossing
 use Rattle.script.proofs.lemmas.{uncut}
 use Rattle.book_log.specs.Log.{Begins}
@@ -278,7 +279,7 @@ log_ends b valid =
     subst (All (Lacks 10)) (sym (lines_are b))
     (All-map (Lacks 10) line_text (all_told b) (All-weaker IsLine (λ l. Lacks 10 (line_text l)) (λ l is. line_ends l is) (all_told b) (all_told_are b valid)))
 
-front_of : {X : Type 0} (P : X → Type 0) (xs ys : List X) → All P (xs ++ ys) → All P xs
+pub front_of : {X : Type 0} (P : X → Type 0) (xs ys : List X) → All P (xs ++ ys) → All P xs
 front_of P [] ys h = All-nil P
 front_of P (x ∷ xs) ys h = All-cons P x xs (All-head P x (xs ++ ys) h) (front_of P xs ys (All-tail P x (xs ++ ys) h))
 
@@ -359,17 +360,12 @@ with_list bits b = record {
   valid = λ is l. record { crossings = is.crossings; lives = is.lives; handed = All-append IsHanded b.handed (bits ∷ []) is.handed (All-cons IsHanded bits [] l (All-nil IsHanded)) };
 }
 
-and_both : (p q : Bool) → (p && q) ≡ true → (p ≡ true) × (q ≡ true)
-and_both true true e = (refl, refl)
-and_both true false e = absurd (false≢true e)
-and_both false q e = absurd (false≢true e)
-
 pub was_added : (l : Line) (old new : Book) → added l old ≡ Some new → Added l old new
 was_added (line.Crossed c) old new e = by (is_bare old.lives && is_bare old.handed) refl e
   where
     by : (t : Bool) → (is_bare old.lives && is_bare old.handed) ≡ t → (if t then Some (record old { crossings = old.crossings ++ c ∷ [] }) else None) ≡ Some new → Added (line.Crossed c) old new
     by true bare is =
-        let both = and_both (is_bare old.lives) (is_bare old.handed) bare in
+        let both = and_parts (is_bare old.lives) (is_bare old.handed) bare in
         subst (Added (line.Crossed c) old) (some_same is) (with_crossing c old (bare_nil old.lives both.0) (bare_nil old.handed both.1))
     by false bare is = absurd (none_some is)
 was_added (line.Lived x f) old new e = by (is_bare old.handed) refl e

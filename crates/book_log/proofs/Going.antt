@@ -4,6 +4,7 @@ use Rattle.std.proofs.lemmas.List.{length-append}
 use Rattle.book_log.specs.Steps.{opening_book}
 use Rattle.book_log.specs.declared.lines.Line.TheVariants as line
 use Rattle.book_log.proofs.Books.{Added, Follows, Next, bad_line, begins_all, begins_told, last_line, lived, middle_of, next, no_end, not_whole, rank, rank_is, text_of_lines_more, text_rank, texts, this_line, told, was_added}
+use Rattle.book_log.proofs.Books.{front_of}
 
 -- how far reading has got: these lines are read, and they describe this book
 pub record Reached (text left : List ℕ) (b : Book) (passed : ℕ) : Type 0 where
@@ -60,10 +61,6 @@ all_texts P (l ∷ ls) h = All-cons (λ k. P (line_text k)) l ls (All-head P (li
 back_of : {X : Type 0} (P : X → Type 0) (xs ys : List X) → All P (xs ++ ys) → All P ys
 back_of P [] ys h = h
 back_of P (x ∷ xs) ys h = back_of P xs ys (All-tail P x (xs ++ ys) h)
-
-front_of : {X : Type 0} (P : X → Type 0) (xs ys : List X) → All P (xs ++ ys) → All P xs
-front_of P [] ys h = All-nil P
-front_of P (x ∷ xs) ys h = All-cons P x xs (All-head P x (xs ++ ys) h) (front_of P xs ys (All-tail P x (xs ++ ys) h))
 
 -- where a line follows all lines of a book of which one has a higher rank
 after_lives : (r : ℕ) (lives : List (Life × Fate)) → is_bare lives ≡ false → r < 1 → All (λ l. Follows (text_rank (line_text l)) r) (map lived lives) → ⊥

@@ -12,6 +12,7 @@ use Rattle.promise.specs.Fates.{is_over}
 use Rattle.promise.specs.declared.life.Fate.TheVariants as fate
 use Rattle.book_log.specs.Log.{log_text}
 use Rattle.book_log.specs.Steps.{octet_at}
+use Rattle.book_log.proofs.Books.{text_of_lines-append}
 
 -- ---- octets of bits
 
@@ -183,16 +184,13 @@ lines_text : {X : Type 0} (text : X → List ℕ) (xs : List X) → text_of_line
 lines_text text [] = refl
 lines_text text (x ∷ xs) = ap (λ ys. ended_line (text x) ++ ys) (lines_text text xs)
 
-append_lines : (xs ys : List (List ℕ)) → text_of_lines (xs ++ ys) ≡ text_of_lines xs ++ text_of_lines ys
-append_lines xs ys = flat_map-append ended_line xs ys
-
 log_is : (b : Book) → log_text b ≡ text_of logged_line b.crossings ++ (text_of life_line b.lives ++ (text_of handed_line b.handed ++ codes "end\n"))
 log_is b =
-    append_lines (map logged_line b.crossings) (map life_line b.lives ++ (map handed_line b.handed ++ codes "end" ∷ []))
+    text_of_lines-append (map logged_line b.crossings) (map life_line b.lives ++ (map handed_line b.handed ++ codes "end" ∷ []))
     ∙ ap₂ (λ (u v : List ℕ). u ++ v) (lines_text logged_line b.crossings)
-    (append_lines (map life_line b.lives) (map handed_line b.handed ++ codes "end" ∷ [])
+    (text_of_lines-append (map life_line b.lives) (map handed_line b.handed ++ codes "end" ∷ [])
     ∙ ap₂ (λ (u v : List ℕ). u ++ v) (lines_text life_line b.lives)
-    (append_lines (map handed_line b.handed) (codes "end" ∷ []) ∙ ap (λ u. u ++ codes "end\n") (lines_text handed_line b.handed)))
+    (text_of_lines-append (map handed_line b.handed) (codes "end" ∷ []) ∙ ap (λ u. u ++ codes "end\n") (lines_text handed_line b.handed)))
 
 pub log_written : (b : Book) (first second third fourth last : Option (List ℕ)) → Appends first second (text_of logged_line b.crossings) → Appends second third (text_of life_line b.lives)
     → Appends third fourth (text_of handed_line b.handed) → Appends fourth last (codes "end\n") → Appends first last (log_text b)

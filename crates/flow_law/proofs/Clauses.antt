@@ -160,6 +160,3 @@ pub number_of : (queue : List Queued) (number : ℕ) (text : List Bool) (q : Que
 number_of queue number text q one there =
     let C : List Queued → Type 0 = λ l. Contains l q in
     ap (λ (m : Queued). m.number) (sym (only_one (queued_text number text) q (subst C one there)))
-
-pub none_there : {X : Type 0} (x : X) → Contains [] x → ⊥
-none_there x there = none_in [] x refl there

@@ -9,9 +9,9 @@ use Rattle.flow_law.specs.Moves.{next_number}
 use Rattle.flow_law.specs.Local.{answer_packet}
 use Rattle.flow_law.specs.Example.{first_text}
 use Rattle.flow_law.specs.Counterexamples.{Breaks, second_text, data_of, rfnm_of, dead_of, OffersDown, offers_down, NotIdle, not_idle, NotAnswered, not_answered, NotesNothing, notes_nothing, NotesAway, notes_away, NotesTaken, notes_taken, NotesOld, notes_old, QueuesOld, queues_old, JoinsAny, joins_any, FreedByNothing, freed_by_nothing, FreedByAny, freed_by_any, FreedByData, freed_by_data, TakesNothing, takes_nothing, ToldNothing, told_nothing, TakesDown, takes_down, SourceStopsTwice, source_stops_twice, DestinationStopsTwice, destination_stops_twice, SourceStartsTwice, source_starts_twice, DestinationStartsTwice, destination_starts_twice, StartsAway, starts_away, StartsUnsettled, starts_unsettled, StartsAlive, starts_alive, StartsQueued, starts_queued, ReturnsAlive, returns_alive, ForgetsAlive, forgets_alive, GivesUpNothing, gives_up_nothing, GivesUpAlive, gives_up_alive, GivesUpQueued, gives_up_queued}
-use Rattle.flow_law.proofs.Clauses.{none_there}
-use Rattle.flow_law.proofs.Left.{only, first_there, second_there, left_none, left_old, left_made, left_both}
+use Rattle.flow_law.proofs.Left.{only, second_there, left_none, left_old, left_made, left_both}
 use Rattle.flow_law.proofs.ExampleLemmas.{new_at_first}
+use Rattle.interface.proofs.lemmas.{contains_head, contains_none}
 
 -- number 0 isn't the one that would leave the window after number 0
 not_oldest : (last : ℕ) → last ≡ 0 → 0 ≢ oldest last
@@ -60,7 +60,7 @@ notes_nothing_breaks = record {
     (
       record { needs = record { destination = refl; waits = refl }; left = λ x there. inl there },
       (
-        record { needs = record { there = first_there (dead_of 0) []; brings = tt; awaited = refl }; left = left_none _ _ },
+        record { needs = record { there = contains_head (dead_of 0) []; brings = tt; awaited = refl }; left = left_none _ _ },
         (
           record { needs = record { offer = record { source = refl; idle = refl; answered = refl }; free = λ last is. absurd (cc); unkept = λ is. absurd (cc) }; left = λ x there. inl there },
           (
@@ -82,15 +82,15 @@ notes_away_breaks = record {
   history = (
     record { needs = refl; left = left_none _ _ },
     (
-      record { needs = record { there = first_there (dead_of 0) []; brings = tt; awaited = refl }; left = left_none _ _ },
+      record { needs = record { there = contains_head (dead_of 0) []; brings = tt; awaited = refl }; left = left_none _ _ },
       (
-        record { needs = (first_there (data_of 0 first_text) [], refl, first_is_new, tt); left = left_made _ _ (dead_of 0) (record { refusal = refl; number = refl }) },
+        record { needs = (contains_head (data_of 0 first_text) [], refl, first_is_new, tt); left = left_made _ _ (dead_of 0) (record { refusal = refl; number = refl }) },
         (
           record { needs = tt; left = λ x there. inl there },
           (
-            record { needs = record { destination = refl; waits = refl }; left = left_old _ _ (data_of 0 first_text) (first_there (data_of 0 first_text) []) },
+            record { needs = record { destination = refl; waits = refl }; left = left_old _ _ (data_of 0 first_text) (contains_head (data_of 0 first_text) []) },
             (
-              record { needs = record { note = record { there = first_there (data_of 0 first_text) []; new = new_at_first (data_of 0 first_text) refl }; joined = λ whole all. all (data_of 0 first_text) (first_there (data_of 0 first_text) []) refl refl }; left = λ x there. inl there },
+              record { needs = record { note = record { there = contains_head (data_of 0 first_text) []; new = new_at_first (data_of 0 first_text) refl }; joined = λ whole all. all (data_of 0 first_text) (contains_head (data_of 0 first_text) []) refl refl }; left = λ x there. inl there },
               (
                 record { needs = record { offer = record { source = refl; idle = refl; answered = refl }; free = λ last is. absurd (cc); unkept = λ is. absurd (cc) }; left = left_made _ _ (data_of 0 first_text) (record { data_packet = refl; number = refl; piece = refl }) },
                 tt,
@@ -109,11 +109,11 @@ notes_taken_breaks = record {
   history = (
     record { needs = refl; left = left_none _ _ },
     (
-      record { needs = record { there = first_there (rfnm_of 0) []; brings = tt; awaited = refl }; left = left_none _ _ },
+      record { needs = record { there = contains_head (rfnm_of 0) []; brings = tt; awaited = refl }; left = left_none _ _ },
       (
-        record { needs = record { there = first_there (data_of 0 first_text) []; kept = refl; tells = refl }; left = left_made _ _ (rfnm_of 0) (record { kind = refl; number = refl }) },
+        record { needs = record { there = contains_head (data_of 0 first_text) []; kept = refl; tells = refl }; left = left_made _ _ (rfnm_of 0) (record { kind = refl; number = refl }) },
         (
-          record { needs = record { there = first_there (data_of 0 first_text) []; new = new_at_first (data_of 0 first_text) refl }; left = λ x there. inl there },
+          record { needs = record { there = contains_head (data_of 0 first_text) []; new = new_at_first (data_of 0 first_text) refl }; left = λ x there. inl there },
           (
             record { needs = record { offer = record { source = refl; idle = refl; answered = refl }; free = λ last is. absurd (cc); unkept = λ is. absurd (cc) }; left = left_made _ _ (data_of 0 first_text) (record { data_packet = refl; number = refl; piece = refl }) },
             tt,
@@ -205,7 +205,7 @@ gives_up_nothing_breaks = record {
   history = (
     record { needs = refl; left = left_none _ _ },
     (
-      record { needs = (λ x there kind same. none_there x there, λ q there same. none_there q there); left = left_none _ _ },
+      record { needs = (λ x there kind same. contains_none x there, λ q there same. contains_none q there); left = left_none _ _ },
       tt,
     ),
   );
@@ -243,11 +243,11 @@ notes_old_breaks = record {
     (
       record { needs = record { destination = refl; waits = refl }; left = left_none _ _ },
       (
-        record { needs = record { there = first_there (dead_of 0) []; brings = tt; awaited = refl }; left = left_none _ _ },
+        record { needs = record { there = contains_head (dead_of 0) []; brings = tt; awaited = refl }; left = left_none _ _ },
         (
-          record { needs = (first_there (data_of 0 first_text) [], refl, refl, tt); left = left_made _ _ (dead_of 0) (record { refusal = refl; number = refl }) },
+          record { needs = (contains_head (data_of 0 first_text) [], refl, refl, tt); left = left_made _ _ (dead_of 0) (record { refusal = refl; number = refl }) },
           (
-            record { needs = record { note = record { there = first_there (data_of 0 first_text) []; new = new_at_first (data_of 0 first_text) refl }; joined = λ whole all. all (data_of 0 first_text) (first_there (data_of 0 first_text) []) refl refl }; left = λ x there. inl there },
+            record { needs = record { note = record { there = contains_head (data_of 0 first_text) []; new = new_at_first (data_of 0 first_text) refl }; joined = λ whole all. all (data_of 0 first_text) (contains_head (data_of 0 first_text) []) refl refl }; left = λ x there. inl there },
             (
               record { needs = record { offer = record { source = refl; idle = refl; answered = refl }; free = λ last is. absurd (cc); unkept = λ is. absurd (cc) }; left = left_made _ _ (data_of 0 first_text) (record { data_packet = refl; number = refl; piece = refl }) },
               tt,
@@ -267,9 +267,9 @@ queues_old_breaks = record {
     (
       record { needs = record { destination = refl; waits = refl }; left = left_none _ _ },
       (
-        record { needs = (first_there (data_of 0 first_text) [], refl, refl, λ whole all. all (data_of 0 first_text) (first_there (data_of 0 first_text) []) refl refl); left = λ x there. inl there },
+        record { needs = (contains_head (data_of 0 first_text) [], refl, refl, λ whole all. all (data_of 0 first_text) (contains_head (data_of 0 first_text) []) refl refl); left = λ x there. inl there },
         (
-          record { needs = (first_there (data_of 0 first_text) [], refl, refl, λ whole all. all (data_of 0 first_text) (first_there (data_of 0 first_text) []) refl refl); left = λ x there. inl there },
+          record { needs = (contains_head (data_of 0 first_text) [], refl, refl, λ whole all. all (data_of 0 first_text) (contains_head (data_of 0 first_text) []) refl refl); left = λ x there. inl there },
           (
             record { needs = record { offer = record { source = refl; idle = refl; answered = refl }; free = λ last is. absurd (cc); unkept = λ is. absurd (cc) }; left = left_made _ _ (data_of 0 first_text) (record { data_packet = refl; number = refl; piece = refl }) },
             tt,
@@ -286,7 +286,7 @@ joins_any_breaks = record {
   history = (
     record { needs = record { destination = refl; waits = refl }; left = λ x there. inl there },
     (
-      record { needs = record { there = first_there (data_of 0 first_text) []; new = new_at_first (data_of 0 first_text) refl }; left = left_none _ _ },
+      record { needs = record { there = contains_head (data_of 0 first_text) []; new = new_at_first (data_of 0 first_text) refl }; left = left_none _ _ },
       (
         record { needs = record { offer = record { source = refl; idle = refl; answered = refl }; free = λ last is. absurd (cc); unkept = λ is. absurd (cc) }; left = left_made _ _ (data_of 0 first_text) (record { data_packet = refl; number = refl; piece = refl }) },
         tt,
@@ -301,13 +301,13 @@ freed_by_any_breaks = record {
   history = (
     record { needs = refl; left = left_none _ _ },
     (
-      record { needs = (next_number (Some 0), first_there (rfnm_of 0) [], tt, refl); left = left_none _ _ },
+      record { needs = (next_number (Some 0), contains_head (rfnm_of 0) [], tt, refl); left = left_none _ _ },
       (
-        record { needs = record { offer = record { source = refl; idle = refl; answered = refl }; free = zero_is_near (rfnm_of 0) refl; unkept = second_is_other }; left = left_old _ _ (rfnm_of 0) (first_there (rfnm_of 0) []) },
+        record { needs = record { offer = record { source = refl; idle = refl; answered = refl }; free = zero_is_near (rfnm_of 0) refl; unkept = second_is_other }; left = left_old _ _ (rfnm_of 0) (contains_head (rfnm_of 0) []) },
         (
           record { needs = refl; left = λ x there. inl there },
           (
-            record { needs = (0, first_there (rfnm_of 0) [], tt, refl); left = λ x there. inl there },
+            record { needs = (0, contains_head (rfnm_of 0) [], tt, refl); left = λ x there. inl there },
             (
               record { needs = record { destination = refl; waits = refl }; left = left_made _ _ (rfnm_of 0) (record { kind = refl; number = refl }) },
               (
@@ -328,7 +328,7 @@ freed_by_data_breaks = record {
   history = (
     record { needs = refl; left = left_none _ _ },
     (
-      record { needs = (first_there (data_of 0 first_text) [], refl); left = left_none _ _ },
+      record { needs = (contains_head (data_of 0 first_text) [], refl); left = left_none _ _ },
       (
         record { needs = record { offer = record { source = refl; idle = refl; answered = refl }; free = λ last is. absurd (cc); unkept = λ is. absurd (cc) }; left = left_made _ _ (data_of 0 first_text) (record { data_packet = refl; number = refl; piece = refl }) },
         tt,
@@ -396,7 +396,7 @@ starts_alive_breaks = record {
     (
       record { needs = record { from_up = refl; down = refl; idle = refl }; left = λ x there. inl there },
       (
-        record { needs = record { note = record { there = first_there (data_of 0 first_text) []; new = new_at_first (data_of 0 first_text) refl }; joined = λ whole all. all (data_of 0 first_text) (first_there (data_of 0 first_text) []) refl refl }; left = left_none _ _ },
+        record { needs = record { note = record { there = contains_head (data_of 0 first_text) []; new = new_at_first (data_of 0 first_text) refl }; joined = λ whole all. all (data_of 0 first_text) (contains_head (data_of 0 first_text) []) refl refl }; left = left_none _ _ },
         (
           record { needs = refl; left = λ x there. inl there },
           (
@@ -420,7 +420,7 @@ starts_queued_breaks = record {
     (
       record { needs = record { from_up = refl; down = refl; idle = refl }; left = λ x there. inl there },
       (
-        record { needs = none_there; left = λ x there. inl there },
+        record { needs = contains_none; left = λ x there. inl there },
         (
           record { needs = tt; left = λ x there. inl there },
           (
@@ -439,7 +439,7 @@ returns_alive_breaks = record {
   history = (
     record { needs = record { destination = refl; waits = refl }; left = left_none _ _ },
     (
-      record { needs = record { note = record { there = first_there (data_of 0 first_text) []; new = new_at_first (data_of 0 first_text) refl }; joined = λ whole all. all (data_of 0 first_text) (first_there (data_of 0 first_text) []) refl refl }; left = left_none _ _ },
+      record { needs = record { note = record { there = contains_head (data_of 0 first_text) []; new = new_at_first (data_of 0 first_text) refl }; joined = λ whole all. all (data_of 0 first_text) (contains_head (data_of 0 first_text) []) refl refl }; left = left_none _ _ },
       (
         record { needs = refl; left = λ x there. inl there },
         (
@@ -447,11 +447,11 @@ returns_alive_breaks = record {
           (
             record { needs = tt; left = λ x there. inl there },
             (
-              record { needs = record { there = first_there (rfnm_of 0) (data_of 0 first_text ∷ []); brings = tt; awaited = refl }; left = left_old _ _ (data_of 0 first_text) (second_there (rfnm_of 0) (data_of 0 first_text) []) },
+              record { needs = record { there = contains_head (rfnm_of 0) (data_of 0 first_text ∷ []); brings = tt; awaited = refl }; left = left_old _ _ (data_of 0 first_text) (second_there (rfnm_of 0) (data_of 0 first_text) []) },
               (
-                record { needs = record { destination = refl; waits = refl }; left = left_both _ _ (rfnm_of 0) (data_of 0 first_text) (record { kind = refl; number = refl }) (first_there (data_of 0 first_text) []) },
+                record { needs = record { destination = refl; waits = refl }; left = left_both _ _ (rfnm_of 0) (data_of 0 first_text) (record { kind = refl; number = refl }) (contains_head (data_of 0 first_text) []) },
                 (
-                  record { needs = record { note = record { there = first_there (data_of 0 first_text) []; new = new_at_first (data_of 0 first_text) refl }; joined = λ whole all. all (data_of 0 first_text) (first_there (data_of 0 first_text) []) refl refl }; left = λ x there. inl there },
+                  record { needs = record { note = record { there = contains_head (data_of 0 first_text) []; new = new_at_first (data_of 0 first_text) refl }; joined = λ whole all. all (data_of 0 first_text) (contains_head (data_of 0 first_text) []) refl refl }; left = λ x there. inl there },
                   (
                     record { needs = record { offer = record { source = refl; idle = refl; answered = refl }; free = λ last is. absurd (cc); unkept = λ is. absurd (cc) }; left = left_made _ _ (data_of 0 first_text) (record { data_packet = refl; number = refl; piece = refl }) },
                     tt,
@@ -472,15 +472,15 @@ forgets_alive_breaks = record {
   history = (
     record { needs = record { destination = refl; waits = refl }; left = left_none _ _ },
     (
-      record { needs = record { note = record { there = first_there (data_of 0 first_text) []; new = new_at_first (data_of 0 first_text) refl }; joined = λ whole all. all (data_of 0 first_text) (first_there (data_of 0 first_text) []) refl refl }; left = left_none _ _ },
+      record { needs = record { note = record { there = contains_head (data_of 0 first_text) []; new = new_at_first (data_of 0 first_text) refl }; joined = λ whole all. all (data_of 0 first_text) (contains_head (data_of 0 first_text) []) refl refl }; left = left_none _ _ },
       (
         record { needs = refl; left = λ x there. inl there },
         (
-          record { needs = record { there = first_there (rfnm_of 0) (data_of 0 first_text ∷ []); brings = tt; awaited = refl }; left = left_old _ _ (data_of 0 first_text) (second_there (rfnm_of 0) (data_of 0 first_text) []) },
+          record { needs = record { there = contains_head (rfnm_of 0) (data_of 0 first_text ∷ []); brings = tt; awaited = refl }; left = left_old _ _ (data_of 0 first_text) (second_there (rfnm_of 0) (data_of 0 first_text) []) },
           (
-            record { needs = record { destination = refl; waits = refl }; left = left_both _ _ (rfnm_of 0) (data_of 0 first_text) (record { kind = refl; number = refl }) (first_there (data_of 0 first_text) []) },
+            record { needs = record { destination = refl; waits = refl }; left = left_both _ _ (rfnm_of 0) (data_of 0 first_text) (record { kind = refl; number = refl }) (contains_head (data_of 0 first_text) []) },
             (
-              record { needs = record { note = record { there = first_there (data_of 0 first_text) []; new = new_at_first (data_of 0 first_text) refl }; joined = λ whole all. all (data_of 0 first_text) (first_there (data_of 0 first_text) []) refl refl }; left = λ x there. inl there },
+              record { needs = record { note = record { there = contains_head (data_of 0 first_text) []; new = new_at_first (data_of 0 first_text) refl }; joined = λ whole all. all (data_of 0 first_text) (contains_head (data_of 0 first_text) []) refl refl }; left = λ x there. inl there },
               (
                 record { needs = record { offer = record { source = refl; idle = refl; answered = refl }; free = λ last is. absurd (cc); unkept = λ is. absurd (cc) }; left = left_made _ _ (data_of 0 first_text) (record { data_packet = refl; number = refl; piece = refl }) },
                 tt,
@@ -501,9 +501,9 @@ gives_up_alive_breaks = record {
     (
       record { needs = refl; left = λ x there. inl there },
       (
-        record { needs = record { note = record { there = first_there (data_of 0 first_text) []; new = new_at_first (data_of 0 first_text) refl }; joined = λ whole all. all (data_of 0 first_text) (first_there (data_of 0 first_text) []) refl refl }; left = left_none _ _ },
+        record { needs = record { note = record { there = contains_head (data_of 0 first_text) []; new = new_at_first (data_of 0 first_text) refl }; joined = λ whole all. all (data_of 0 first_text) (contains_head (data_of 0 first_text) []) refl refl }; left = left_none _ _ },
         (
-          record { needs = (refl, λ q there same. none_there q there); left = λ x there. inl there },
+          record { needs = (refl, λ q there same. contains_none q there); left = λ x there. inl there },
           (
             record { needs = record { offer = record { source = refl; idle = refl; answered = refl }; free = λ last is. absurd (cc); unkept = λ is. absurd (cc) }; left = left_made _ _ (data_of 0 first_text) (record { data_packet = refl; number = refl; piece = refl }) },
             tt,
@@ -522,7 +522,7 @@ gives_up_queued_breaks = record {
     (
       record { needs = refl; left = λ x there. inl there },
       (
-        record { needs = (refl, λ x there kind same. none_there x there); left = λ x there. inl there },
+        record { needs = (refl, λ x there kind same. contains_none x there); left = λ x there. inl there },
         (
           record { needs = record { offer = record { source = refl; idle = refl; answered = refl }; free = λ last is. absurd (cc); unkept = λ is. absurd (cc) }; left = λ x there. inl there },
           tt,

@@ -4,7 +4,8 @@ use Rattle.std.specs.List.{Contains}
 use Rattle.std.proofs.lemmas.List.Elements.{Contains-push_cases}
 use Rattle.flow_law.specs.View.{Packet}
 use Rattle.flow_law.specs.Moves.{Either}
-use Rattle.flow_law.proofs.Clauses.{only_one, none_there}
+use Rattle.flow_law.proofs.Clauses.{only_one}
+use Rattle.interface.proofs.lemmas.{contains_none}
 
 -- the element of a list of one
 pub only : {X : Type 0} (P : X → Type 0) (x z : X) → P x → Contains (x ∷ []) z → P z
@@ -17,15 +18,12 @@ each_of_two P x y z px py there = elim (Contains-push_cases (x ∷ []) y z there
   | inr second ↦ subst P second py
 ]
 
-pub first_there : {X : Type 0} (x : X) (xs : List X) → Contains (x ∷ xs) x
-first_there x xs = (0, omega arith, refl)
-
 pub second_there : {X : Type 0} (x y : X) (xs : List X) → Contains (x ∷ y ∷ xs) y
 second_there x y xs = (1, omega arith, refl)
 
 -- nothing is left
 pub left_none : (alive made : Packet → Type 0) (x : Packet) → Contains [] x → Either alive made x
-left_none alive made x there = absurd (none_there x there)
+left_none alive made x there = absurd (contains_none x there)
 
 -- one of those that were alive is left
 pub left_old : (alive made : Packet → Type 0) (y : Packet) → alive y → (x : Packet) → Contains (y ∷ []) x → Either alive made x

@@ -3,23 +3,23 @@ use Rattle.std.proofs.Common.{[], ◌∷◌, inl, refl}
 use Rattle.flow_law.specs.View.{Kind}
 use Rattle.flow_law.specs.Example.{first_text}
 use Rattle.flow_law.specs.Counterexamples.{Breaks, data_of, dead_of, rfnm_of, never_of, ask_of, second, ReturnsAwaited, returns_awaited, ForgetsAwaited, forgets_awaited, AsksAnything, asks_anything, RepliesToNothing, replies_to_nothing, RepliesToAny, replies_to_any, RepliesFalsely, replies_falsely, NeverOfWaiting, never_of_waiting, NeverOfTaken, never_of_taken, NeverUnnoted, never_unnoted}
-use Rattle.flow_law.proofs.Clauses.{none_there}
-use Rattle.flow_law.proofs.Left.{first_there, second_there, left_none, left_old, left_made, left_both}
+use Rattle.flow_law.proofs.Left.{second_there, left_none, left_old, left_made, left_both}
 use Rattle.flow_law.proofs.ExampleLemmas.{new_at_first}
 use Rattle.flow_law.proofs.CounterexampleLemmas.{answer_only, second_is_other}
+use Rattle.interface.proofs.lemmas.{contains_head, contains_none}
 
 pub returns_awaited_breaks : Breaks ReturnsAwaited returns_awaited
 returns_awaited_breaks = record {
   history = (
     record { needs = refl; left = left_none _ _ },
     (
-      record { needs = record { there = first_there (never_of 0) []; brings = tt; awaited = refl }; left = left_none _ _ },
+      record { needs = record { there = contains_head (never_of 0) []; brings = tt; awaited = refl }; left = left_none _ _ },
       (
-        record { needs = (record { there = first_there (ask_of 0) []; new = new_at_first (ask_of 0) refl }, tt); left = left_made _ _ (never_of 0) (record { refusal = refl; number = refl }) },
+        record { needs = (record { there = contains_head (ask_of 0) []; new = new_at_first (ask_of 0) refl }, tt); left = left_made _ _ (never_of 0) (record { refusal = refl; number = refl }) },
         (
           record { needs = refl; left = left_made _ _ (ask_of 0) (record { kind = refl; number = refl }) },
           (
-            record { needs = λ x there request. none_there x there; left = λ x there. inl there },
+            record { needs = λ x there request. contains_none x there; left = λ x there. inl there },
             (
               record { needs = tt; left = λ x there. inl there },
               (
@@ -43,13 +43,13 @@ forgets_awaited_breaks = record {
   history = (
     record { needs = refl; left = left_none _ _ },
     (
-      record { needs = record { there = first_there (never_of 0) []; brings = tt; awaited = refl }; left = left_none _ _ },
+      record { needs = record { there = contains_head (never_of 0) []; brings = tt; awaited = refl }; left = left_none _ _ },
       (
-        record { needs = (record { there = first_there (ask_of 0) []; new = new_at_first (ask_of 0) refl }, tt); left = left_made _ _ (never_of 0) (record { refusal = refl; number = refl }) },
+        record { needs = (record { there = contains_head (ask_of 0) []; new = new_at_first (ask_of 0) refl }, tt); left = left_made _ _ (never_of 0) (record { refusal = refl; number = refl }) },
         (
           record { needs = refl; left = left_made _ _ (ask_of 0) (record { kind = refl; number = refl }) },
           (
-            record { needs = λ x there request. none_there x there; left = λ x there. inl there },
+            record { needs = λ x there request. contains_none x there; left = λ x there. inl there },
             (
               record { needs = record { destination = refl; waits = refl }; left = left_none _ _ },
               (
@@ -72,13 +72,13 @@ asks_anything_breaks = record {
     (
       record { needs = record { destination = refl; waits = refl }; left = left_none _ _ },
       (
-        record { needs = record { there = first_there (never_of 0) []; brings = tt; awaited = refl }; left = left_none _ _ },
+        record { needs = record { there = contains_head (never_of 0) []; brings = tt; awaited = refl }; left = left_none _ _ },
         (
           record { needs = record { offer = record { source = refl; idle = refl; answered = refl }; free = λ last is. absurd (cc); unkept = λ is. absurd (cc) }; left = λ x there. inl there },
           (
             record { needs = record { no_request = answer_only Kind.Never refl; idle = refl }; left = λ x there. inl there },
             (
-              record { needs = (record { there = first_there (ask_of 0) []; new = new_at_first (ask_of 0) refl }, tt); left = left_made _ _ (never_of 0) (record { refusal = refl; number = refl }) },
+              record { needs = (record { there = contains_head (ask_of 0) []; new = new_at_first (ask_of 0) refl }, tt); left = left_made _ _ (never_of 0) (record { refusal = refl; number = refl }) },
               (
                 record { needs = tt; left = left_made _ _ (ask_of 0) (record { kind = refl; number = refl }) },
                 tt,
@@ -97,9 +97,9 @@ replies_to_nothing_breaks = record {
   history = (
     record { needs = refl; left = left_none _ _ },
     (
-      record { needs = record { there = first_there (rfnm_of 0) []; brings = tt; awaited = refl }; left = left_none _ _ },
+      record { needs = record { there = contains_head (rfnm_of 0) []; brings = tt; awaited = refl }; left = left_none _ _ },
       (
-        record { needs = record { offer = record { source = refl; idle = refl; answered = refl }; free = λ last is. absurd (cc); unkept = λ is. absurd (cc) }; left = left_old _ _ (rfnm_of 0) (first_there (rfnm_of 0) []) },
+        record { needs = record { offer = record { source = refl; idle = refl; answered = refl }; free = λ last is. absurd (cc); unkept = λ is. absurd (cc) }; left = left_old _ _ (rfnm_of 0) (contains_head (rfnm_of 0) []) },
         (
           record { needs = record { no_request = answer_only Kind.Rfnm refl; idle = refl }; left = λ x there. inl there },
           (
@@ -107,7 +107,7 @@ replies_to_nothing_breaks = record {
             (
               record { needs = record { from_up = refl; down = refl; idle = refl }; left = λ x there. inl there },
               (
-                record { needs = record { no_packet = none_there; unread = refl }; left = λ x there. inl there },
+                record { needs = record { no_packet = contains_none; unread = refl }; left = λ x there. inl there },
                 (
                   record { needs = tt; left = λ x there. inl there },
                   (
@@ -133,17 +133,17 @@ replies_to_any_breaks = record {
   history = (
     record { needs = refl; left = left_none _ _ },
     (
-      record { needs = record { there = first_there (rfnm_of second) []; brings = tt; awaited = refl }; left = left_none _ _ },
+      record { needs = record { there = contains_head (rfnm_of second) []; brings = tt; awaited = refl }; left = left_none _ _ },
       (
-        record { needs = (first_there (ask_of second) [], refl); left = left_made _ _ (rfnm_of second) (record { kind = refl; number = refl }) },
+        record { needs = (contains_head (ask_of second) [], refl); left = left_made _ _ (rfnm_of second) (record { kind = refl; number = refl }) },
         (
           record { needs = refl; left = left_made _ _ (ask_of second) (record { kind = refl; number = refl }) },
           (
-            record { needs = record { offer = record { source = refl; idle = refl; answered = refl }; free = λ last is x there. absurd (none_there x there); unkept = second_is_other }; left = left_none _ _ },
+            record { needs = record { offer = record { source = refl; idle = refl; answered = refl }; free = λ last is x there. absurd (contains_none x there); unkept = second_is_other }; left = left_none _ _ },
             (
               record { needs = refl; left = left_none _ _ },
               (
-                record { needs = record { there = first_there (rfnm_of 0) []; brings = tt; awaited = refl }; left = left_none _ _ },
+                record { needs = record { there = contains_head (rfnm_of 0) []; brings = tt; awaited = refl }; left = left_none _ _ },
                 (
                   record { needs = record { destination = refl; waits = refl }; left = left_made _ _ (rfnm_of 0) (record { kind = refl; number = refl }) },
                   (
@@ -166,11 +166,11 @@ replies_falsely_breaks = record {
   history = (
     record { needs = refl; left = left_none _ _ },
     (
-      record { needs = record { there = first_there (dead_of 0) []; brings = tt; awaited = refl }; left = left_none _ _ },
+      record { needs = record { there = contains_head (dead_of 0) []; brings = tt; awaited = refl }; left = left_none _ _ },
       (
         record { needs = record { destination = refl; waits = refl }; left = λ x there. inl there },
         (
-          record { needs = (first_there (ask_of 0) [], refl); left = left_made _ _ (dead_of 0) (record { kind = refl; number = refl }) },
+          record { needs = (contains_head (ask_of 0) [], refl); left = left_made _ _ (dead_of 0) (record { kind = refl; number = refl }) },
           (
             record { needs = refl; left = left_made _ _ (ask_of 0) (record { kind = refl; number = refl }) },
             (
@@ -190,11 +190,11 @@ never_of_waiting_breaks = record {
   history = (
     record { needs = refl; left = left_none _ _ },
     (
-      record { needs = record { there = first_there (never_of 0) []; brings = tt; awaited = refl }; left = left_none _ _ },
+      record { needs = record { there = contains_head (never_of 0) []; brings = tt; awaited = refl }; left = left_none _ _ },
       (
         record { needs = record { destination = refl; waits = refl }; left = λ x there. inl there },
         (
-          record { needs = (first_there (ask_of 0) [], refl, refl, refl); left = left_made _ _ (never_of 0) (record { kind = refl; number = refl }) },
+          record { needs = (contains_head (ask_of 0) [], refl, refl, refl); left = left_made _ _ (never_of 0) (record { kind = refl; number = refl }) },
           (
             record { needs = refl; left = left_made _ _ (ask_of 0) (record { kind = refl; number = refl }) },
             (
@@ -214,9 +214,9 @@ never_of_taken_breaks = record {
   history = (
     record { needs = refl; left = left_none _ _ },
     (
-      record { needs = record { there = first_there (never_of 0) []; brings = tt; awaited = refl }; left = left_none _ _ },
+      record { needs = record { there = contains_head (never_of 0) []; brings = tt; awaited = refl }; left = left_none _ _ },
       (
-        record { needs = (first_there (ask_of 0) [], refl, refl, refl); left = left_made _ _ (never_of 0) (record { kind = refl; number = refl }) },
+        record { needs = (contains_head (ask_of 0) [], refl, refl, refl); left = left_made _ _ (never_of 0) (record { kind = refl; number = refl }) },
         (
           record { needs = refl; left = left_made _ _ (ask_of 0) (record { kind = refl; number = refl }) },
           (
@@ -238,7 +238,7 @@ never_unnoted_breaks = record {
   history = (
     record { needs = refl; left = left_none _ _ },
     (
-      record { needs = record { there = first_there (never_of 0) []; brings = tt; awaited = refl }; left = left_none _ _ },
+      record { needs = record { there = contains_head (never_of 0) []; brings = tt; awaited = refl }; left = left_none _ _ },
       (
         record { needs = record { destination = refl; waits = refl }; left = λ x there. inl there },
         (
@@ -247,15 +247,15 @@ never_unnoted_breaks = record {
               note = record { there = second_there (never_of 0) (data_of 0 first_text) []; new = new_at_first (data_of 0 first_text) refl };
               joined = λ whole all. all (data_of 0 first_text) (second_there (never_of 0) (data_of 0 first_text) []) refl refl;
             };
-            left = left_old _ _ (never_of 0) (first_there (never_of 0) (data_of 0 first_text ∷ []));
+            left = left_old _ _ (never_of 0) (contains_head (never_of 0) (data_of 0 first_text ∷ []));
           },
           (
             record {
-              needs = (record { there = first_there (ask_of 0) (data_of 0 first_text ∷ []); new = new_at_first (ask_of 0) refl }, refl);
+              needs = (record { there = contains_head (ask_of 0) (data_of 0 first_text ∷ []); new = new_at_first (ask_of 0) refl }, refl);
               left = left_both _ _ (never_of 0) (data_of 0 first_text) (record { kind = refl; number = refl }) (second_there (ask_of 0) (data_of 0 first_text) []);
             },
             (
-              record { needs = refl; left = left_both _ _ (ask_of 0) (data_of 0 first_text) (record { kind = refl; number = refl }) (first_there (data_of 0 first_text) []) },
+              record { needs = refl; left = left_both _ _ (ask_of 0) (data_of 0 first_text) (record { kind = refl; number = refl }) (contains_head (data_of 0 first_text) []) },
               (
                 record {
                   needs = record { offer = record { source = refl; idle = refl; answered = refl }; free = λ last is. absurd (cc); unkept = λ is. absurd (cc) };

@@ -11,9 +11,9 @@ use Rattle.flow_law.specs.Moves.{Move, Either, IsRefusal, queued_text, view_move
 use Rattle.flow_law.specs.Runs.{IsTurn, IsHistoryBy, view_after, left_by}
 use Rattle.flow_law.specs.Example.{at_first, first_text, InOnePacket}
 use Rattle.flow_law.specs.Counterexamples.{Breaks, AnyNumber, any_number, outlived, rounds, BeginsKept, begins_kept, asked_after, given_up_to, turn, second_text, data_of, dead_of, rfnm_of, ask_of}
-use Rattle.flow_law.proofs.Clauses.{none_there}
-use Rattle.flow_law.proofs.Left.{first_there, second_there, left_none, left_old, left_made, left_both}
+use Rattle.flow_law.proofs.Left.{second_there, left_none, left_old, left_made, left_both}
 use Rattle.flow_law.proofs.ExampleLemmas.{new_at_first}
+use Rattle.interface.proofs.lemmas.{contains_head, contains_none}
 
 next_is : (n : ℕ) → suc n < modulus → next n ≡ suc n
 next_is n small = next_below n (omega (arith, small)) ∙ omega arith
@@ -56,7 +56,7 @@ begins n small v alive at left =
     let L : List Packet → Type 0 = λ l. IsTurn AnyNumber InOnePacket (settled_at n) l (turn begin_next (data_of (suc n) second_text ∷ copy ∷ [])) in
     subst V (sym at) (subst L (sym left) (record {
       needs = (record { source = refl; idle = refl; answered = refl }, λ same. (let at : n ≡ next n = cc in absurd (omega (arith, at, next_is n small))));
-      left = left_both _ _ (data_of (suc n) second_text) copy (record { data_packet = refl; number = sym (next_is n small); piece = refl }) (first_there copy []);
+      left = left_both _ _ (data_of (suc n) second_text) copy (record { data_packet = refl; number = sym (next_is n small); piece = refl }) (contains_head copy []);
     }))
 
 notes : (n : ℕ) → suc n < modulus → (v : View) → v ≡ settled_at n → (left : List Packet)
@@ -67,7 +67,7 @@ notes n small v at left from =
     subst V (sym at) (record {
       needs = (
         record {
-          there = first_there (data_of (suc n) second_text) (copy ∷ []);
+          there = contains_head (data_of (suc n) second_text) (copy ∷ []);
           new = record { up = refl; request = refl; new = next_is_new n small };
         },
         tt,
@@ -80,7 +80,7 @@ frees : (n : ℕ) → suc n < modulus → (v : View) → v ≡ settled_at n
 frees n small v at =
     let V : View → Type 0 = λ w. IsTurn AnyNumber InOnePacket (view_moved (note_next n) (view_moved begin_next w)) (dead_of (suc n) ∷ copy ∷ []) (turn (Move.Freed (dead_of (suc n)) answer.Dead) (copy ∷ [])) in
     subst V (sym at) (record {
-      needs = record { there = first_there (dead_of (suc n)) (copy ∷ []); brings = tt; awaited = ap (λ (k : ℕ). Some k) (next_is n small) };
+      needs = record { there = contains_head (dead_of (suc n)) (copy ∷ []); brings = tt; awaited = ap (λ (k : ℕ). Some k) (next_is n small) };
       left = left_old _ _ copy (second_there (dead_of (suc n)) copy []);
     })
 
@@ -96,13 +96,13 @@ history_rounds zero small = (
   record { needs = refl; left = λ x there. inl there },
   (
     record {
-      needs = record { there = first_there (dead_of 0) (copy ∷ []); brings = tt; awaited = refl };
+      needs = record { there = contains_head (dead_of 0) (copy ∷ []); brings = tt; awaited = refl };
       left = left_old _ _ copy (second_there (dead_of 0) copy []);
     },
     (
       record {
-        needs = (record { there = first_there copy []; new = new_at_first copy refl }, tt);
-        left = left_both _ _ (dead_of 0) copy (record { refusal = refl; number = refl }) (first_there copy []);
+        needs = (record { there = contains_head copy []; new = new_at_first copy refl }, tt);
+        left = left_both _ _ (dead_of 0) copy (record { refusal = refl; number = refl }) (contains_head copy []);
       },
       (
         record {
@@ -138,8 +138,8 @@ queues n again v at =
     let V : View → Type 0 = λ w. IsTurn AnyNumber InOnePacket (view_moved (note_next n) (view_moved begin_next w)) (copy ∷ []) (turn (Move.Whole copy first_text) []) in
     subst V (sym at) (record {
       needs = record {
-        note = record { there = first_there copy []; new = record { up = refl; request = refl; new = again } };
-        joined = λ whole all. all copy (first_there copy []) refl refl;
+        note = record { there = contains_head copy []; new = record { up = refl; request = refl; new = again } };
+        joined = λ whole all. all copy (contains_head copy []) refl refl;
       };
       left = left_none _ _;
     })
@@ -202,7 +202,7 @@ begins_unasked n v alive at none =
     let V : View → Type 0 = λ w. IsTurn BeginsKept InOnePacket w alive (turn begin_next []) in
     let L : List Packet → Type 0 = λ l. IsTurn BeginsKept InOnePacket (lost_at n) l (turn begin_next []) in
     subst V (sym at) (subst L (sym none) (record {
-      needs = (record { source = refl; idle = refl; answered = refl }, λ last is x there. absurd (none_there x there));
+      needs = (record { source = refl; idle = refl; answered = refl }, λ last is x there. absurd (contains_none x there));
       left = left_none _ _;
     }))
 
@@ -210,7 +210,7 @@ gives_up : (n : ℕ) → suc n < modulus → (v : View) → v ≡ lost_at n → 
 gives_up n small v at =
     let V : View → Type 0 = λ w. IsTurn BeginsKept InOnePacket (view_moved begin_next w) [] (turn (Move.GiveUp (suc n)) []) in
     subst V (sym at) (record {
-      needs = record { awaited = ap (λ (k : ℕ). Some k) (next_is n small); no_request = λ x there request same. none_there x there; unread = λ q there same. none_there q there };
+      needs = record { awaited = ap (λ (k : ℕ). Some k) (next_is n small); no_request = λ x there request same. contains_none x there; unread = λ q there same. contains_none q there };
       left = left_none _ _;
     })
 
@@ -225,7 +225,7 @@ unfolding given_up_to
 history_given_up zero small = (
   record { needs = refl; left = left_none _ _ },
   (
-    record { needs = record { there = first_there (rfnm_of 0) []; brings = tt; awaited = refl }; left = left_none _ _ },
+    record { needs = record { there = contains_head (rfnm_of 0) []; brings = tt; awaited = refl }; left = left_none _ _ },
     (
       record { needs = record { destination = refl; waits = refl }; left = left_made _ _ (rfnm_of 0) (record { kind = refl; number = refl }) },
       (
@@ -259,14 +259,14 @@ tells_first : (n : ℕ) (v : View) → v ≡ lost_at n → IsTurn BeginsKept InO
 tells_first n v at =
     let V : View → Type 0 = λ w. IsTurn BeginsKept InOnePacket (view_moved begin_next w) (ask_of 0 ∷ []) (turn (Move.Reply (ask_of 0) Kind.Rfnm) (rfnm_of 0 ∷ [])) in
     subst V (sym at) (record {
-      needs = record { there = first_there (ask_of 0) []; kept = refl; tells = refl };
+      needs = record { there = contains_head (ask_of 0) []; kept = refl; tells = refl };
       left = left_made _ _ (rfnm_of 0) (record { kind = refl; number = refl });
     })
 
 frees_first : (n : ℕ) → next n ≡ 0 → (v : View) → v ≡ lost_at n → IsTurn BeginsKept InOnePacket (view_moved begin_next v) (rfnm_of 0 ∷ []) (turn (Move.Freed (rfnm_of 0) answer.Rfnm) [])
 frees_first n wraps v at =
     let V : View → Type 0 = λ w. IsTurn BeginsKept InOnePacket (view_moved begin_next w) (rfnm_of 0 ∷ []) (turn (Move.Freed (rfnm_of 0) answer.Rfnm) []) in
-    subst V (sym at) (record { needs = record { there = first_there (rfnm_of 0) []; brings = tt; awaited = ap (λ (k : ℕ). Some k) wraps }; left = left_none _ _ })
+    subst V (sym at) (record { needs = record { there = contains_head (rfnm_of 0) []; brings = tt; awaited = ap (λ (k : ℕ). Some k) wraps }; left = left_none _ _ })
 
 told_rfnm : (n : ℕ) (v : View) → v ≡ lost_at n
     → IsTurn BeginsKept InOnePacket (view_moved (Move.Freed (rfnm_of 0) answer.Rfnm) (view_moved begin_next v)) [] (turn (Move.TakeAnswer answer.Rfnm []) [])

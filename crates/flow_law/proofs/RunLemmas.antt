@@ -6,8 +6,8 @@ use Rattle.flow_law.specs.Moves.{Makes, Either}
 use Rattle.flow_law.specs.Invariant.{Invariant}
 use Rattle.flow_law.specs.Follows.{Sound}
 use Rattle.flow_law.specs.Runs.{FlowTurn, IsOpening, IsHistory, left_by, view_after, seen_in}
-use Rattle.flow_law.proofs.Clauses.{none_there}
 use Rattle.flow_law.proofs.AllMoves.{sound_less, sound_after}
+use Rattle.interface.proofs.lemmas.{contains_none}
 
 -- at the opening the clauses hold, where nothing is alive
 pub opening_invariant : {Piece : List Bool → Packet → Type 0} (v : View) (t : Packet → Type 0) → IsOpening v → ((x : Packet) → t x → ⊥) → Invariant Piece v t
@@ -37,7 +37,7 @@ opening_sound v t o nothing = record { clauses = opening_invariant v t o nothing
 
 pub history_sound : {Piece : List Bool → Packet → Type 0} (v : View) (turns : List FlowTurn) → IsOpening v → IsHistory Piece v turns
     → Sound Piece (mail_now v) (seen_in turns v) (view_after turns v) (Contains (left_by turns))
-history_sound v [] o h = opening_sound v (Contains []) o (λ x there. none_there x there)
+history_sound v [] o h = opening_sound v (Contains []) o (λ x there. contains_none x there)
 history_sound {Piece} v (turn ∷ turns) o h =
     sound_less (mail_now v) (seen_in (turn ∷ turns) v) (view_after (turn ∷ turns) v) (Either (Contains (left_by turns)) (Makes Piece turn.move (view_after turns v))) (Contains turn.left)
     h.0.left

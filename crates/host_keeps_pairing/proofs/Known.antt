@@ -11,9 +11,10 @@ use Rattle.host_keeps_pairing.specs.Words as words
 use Rattle.host_keeps_pairing.proofs.Lists.{Found, Is, are, at_changed, first}
 use Rattle.host_keeps_pairing.proofs.Desks.{On, closed_ends, found_here, none_here}
 use Rattle.host_keeps_pairing.proofs.Stands.{asked_by, closed_by, closes_now, live_end, may_ask, plain}
-use Rattle.host_keeps_pairing.proofs.Takes.{Fits, after, and_turned, on_matched, on_shut, one_fits, one_mark, shut, when}
+use Rattle.host_keeps_pairing.proofs.Takes.{Fits, after, on_matched, on_shut, one_fits, one_mark, shut, when}
 use Rattle.host_keeps_pairing.proofs.Passes.{all_gone_append, cls_unswept, one_gone, request_by}
 use Rattle.host_keeps_pairing.proofs.Openings.{found_is, one_end, sockets_are}
+use Rattle.interface.proofs.lemmas.{and_turned}
 
 -- ---- what isn't known
 

@@ -10,8 +10,9 @@ use Rattle.host_keeps_pairing.specs.Openings.{with_opening}
 use Rattle.host_keeps_pairing.proofs.Lists.{Found, Is, are}
 use Rattle.host_keeps_pairing.proofs.Desks.{On, found_here, they_are}
 use Rattle.host_keeps_pairing.proofs.Stands.{asked_by, live_end, plain}
-use Rattle.host_keeps_pairing.proofs.Takes.{Fits, and_turned, on_matched, one_fits, when}
+use Rattle.host_keeps_pairing.proofs.Takes.{Fits, on_matched, one_fits, when}
 use Rattle.host_keeps_pairing.proofs.Passes.{one_gone, request_by}
+use Rattle.interface.proofs.lemmas.{and_turned}
 
 -- ---- some of others
 

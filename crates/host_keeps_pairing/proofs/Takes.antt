@@ -13,12 +13,7 @@ use Rattle.host_keeps_pairing.proofs.Lists.{Found, are, eqb-sym}
 use Rattle.host_keeps_pairing.proofs.Lists as lists
 use Rattle.host_keeps_pairing.proofs.Desks.{On, change_away, change_here, ends_swept, found_here, loose, none_here, on_if, on_joined, on_queued, on_quiet, on_settled}
 use Rattle.host_keeps_pairing.proofs.Stands.{asked_by, closed_by, stand_asked, stand_closed}
-
-pub and_turned : (a b : Bool) → (a && b) ≡ (b && a)
-and_turned true true = refl
-and_turned true false = refl
-and_turned false true = refl
-and_turned false false = refl
+use Rattle.interface.proofs.lemmas.{and_turned}
 
 -- a list with one mark or none
 abbrev pub when : Bool → Mark → List Mark

@@ -1,12 +1,13 @@
 -- One message at a time goes out on a link, and none is outstanding where an end closes.
 use Rattle.host_keeps_streams.proofs.Common.{◌≡◌, ℕ, Bool, true, false, not, ◌&&◌, ◌==◌, List, [], ◌∷◌, ◌++◌, length, filter, Option, Some, None, refl, ap, sym, subst, ◌∙◌, inl, inr, eqb-true, ne_eqb, or_parts, Sender, has_cls, is_answered, is_busy, is_drained, is_due, is_link, is_receiving, must_close, sends_on, Entry, both, not_is, all_sent, AreSender, HasSender, NoneOpen, KeepBox, closes, named, numbers, is_among, AreApart, AreKnown}
 use Rattle.std.proofs.Common.{eq-eqb}
+use Rattle.std.proofs.lemmas.Bool.{or_from}
 use Rattle.stream_law.specs.Senders as senders
 use Rattle.stream_law.proofs.lemmas.{some_is}
 use Rattle.host_keeps_streams.proofs.Known.{goes_some}
 use Rattle.host_keeps_streams.proofs.Leaving.{due_open}
 use Rattle.host_keeps_streams.proofs.Lists.{unlike}
-use Rattle.host_keeps_streams.proofs.Names.{among_filter, not_like, or_both, or_right}
+use Rattle.host_keeps_streams.proofs.Names.{among_filter, not_like, or_right}
 
 pub keep_both : (out : Bool) (xs ys : List senders.Move) (s : Sender) → KeepBox out xs s → KeepBox out ys (all_sent xs s) → KeepBox out (xs ++ ys) s
 keep_both out [] ys s a b = b
@@ -42,7 +43,7 @@ module _ (name : ℕ → ℕ → ℕ) (busy : List ℕ) where
     off_one z y all n t off true o =
         let other : (named name z == named name y) ≡ false
         = ne_eqb (named name z) (named name y) (λ same. unlike (is_among (named name y) (numbers name all)) t (ap (λ (c : ℕ). is_among c (numbers name all)) (sym same) ∙ n)) in
-        rw o (or_both (named name z == named name y) (is_among (named name y) (numbers name (filter (sends_on link) all))) other off)
+        rw o (or_from (named name z == named name y) (is_among (named name y) (numbers name (filter (sends_on link) all))) other off)
     off_one z y all n t off false o = rw o off
 
     off_more : (z : Entry) (all ys : List Entry) → is_among (named name z) (numbers name all) ≡ false → AllOff all ys → AllOff (z ∷ all) ys

@@ -15,11 +15,11 @@ use Rattle.host_keeps_streams.proofs.Leaving as leaving
 use Rattle.host_keeps_streams.proofs.Lists.{away, filter_both, sent_is, unchanged}
 use Rattle.host_keeps_streams.proofs.Names.{apart_changed, apart_filter}
 use Rattle.host_keeps_streams.proofs.Opening as opening
-use Rattle.host_keeps_streams.proofs.Opening.{and_no}
 use Rattle.host_keeps_streams.proofs.ReceiverHears.{Received}
 use Rattle.host_keeps_streams.proofs.Senders.{own_sender}
 use Rattle.host_keeps_streams.proofs.SenderHears.{opened_size, opened_closed}
 use Rattle.host_keeps_streams.proofs.Sound.{sound_some}
+use Rattle.interface.proofs.lemmas.{and_none}
 
 -- an end that didn't close has said no CLS
 pub unsaid : HasSaid (command.Cls 16 33) (receiving_end 16 33 5 ∷ []) → ⊥
@@ -82,7 +82,7 @@ module _ (name : ℕ → ℕ → ℕ) (link stamp : ℕ) (e : Entry) (s : Sender
     inl (record { end = i.end; opened = sym p; shut = i.shut; closed = i.closed; size = i.size; allocation = i.allocation; live = i.live }),
   )
   opens_by i false p =
-      let before : s.opened ≡ false = i.opened ∙ ap (λ (v : Bool). is_some e.asked && v) p ∙ and_no (is_some e.asked) in
+      let before : s.opened ≡ false = i.opened ∙ ap (λ (v : Bool). is_some e.asked && v) p ∙ and_none (is_some e.asked) in
       (tt, inl (record { end = i.end; opened = before ∙ sym p; shut = i.shut; closed = i.closed; size = i.size; allocation = i.allocation; live = i.live }))
 
   open_is : IsSender (named name e) e s → Opens (of_end (named name e) s.end (sent_open (is_some e.partner) (named name e)))

@@ -1,10 +1,9 @@
 -- A list of ends of which one is changed, as far as those on a link go.
+pub use Rattle.interface.proofs.lemmas.{unlike}
 use Rattle.host_keeps_streams.proofs.Common.{◌≡◌, ℕ, Bool, not, ◌&&◌, ◌==◌, List, [], ◌∷◌, ◌++◌, map, filter, find, Option, Some, None, refl, ap, sym, ◌∙◌, append-nil, filter-append, eqb-true, list_any, changed_first, is_link, is_receiving, receives_on, sends_on, Entry, both, not_is}
 use Rattle.std.proofs.Common.{true, false}
+use Rattle.std.proofs.lemmas.Bool.{and_left, and_right}
 use Rattle.host_pairs.proofs.lemmas.{some_is}
-
-pub unlike : (b : Bool) → b ≡ true → b ≡ false → ⊥
-unlike b e f = let same : true ≡ false = sym e ∙ f in absurd (cc)
 
 -- ---- what is found
 
@@ -160,14 +159,6 @@ filter_both on keep (y ∷ ys) = both_step on keep y ys (filter_both on keep ys)
 other_link : (link other : ℕ) → (other == link) ≡ false → (o : Option ℕ) → is_link other o ≡ true → is_link link o ≡ false
 other_link link other e None t = refl
 other_link link other e (Some l) t = let same : l ≡ other = eqb-true l other t in ap (λ (n : ℕ). n == link) same ∙ e
-
-and_left : (a b : Bool) → a ≡ false → (a && b) ≡ false
-and_left true b e = absurd (cc)
-and_left false b e = refl
-
-and_right : (a b : Bool) → b ≡ false → (a && b) ≡ false
-and_right true b e = e
-and_right false b e = refl
 
 pub not_received : (link : ℕ) (e : Entry) → is_receiving e ≡ false → receives_on link e ≡ false
 not_received link e f = and_left (is_receiving e) (is_link link e.link) f

@@ -1,16 +1,9 @@
 -- Lists of ends whose numbers are all different.
+pub use Rattle.std.proofs.lemmas.Bool.{or_right}
 use Rattle.host_keeps_streams.proofs.Common.{◌≡◌, ℕ, Bool, true, false, ◌||◌, ◌==◌, List, [], ◌∷◌, ◌++◌, map, filter, find, Some, refl, ap, sym, subst, ◌∙◌, inl, inr, or_parts, ne_eqb, changed_first, receives_on, sends_on, Entry, Receiver, Sender, IsReceiver, IsSender, AreReceiver, AreSender, HasReceiver, AreSound, named, numbers, is_among, AreApart, IsKnown, AreKnown, IsSending}
-use Rattle.std.proofs.lemmas.Bool.{eq-eqb}
+use Rattle.std.proofs.lemmas.Bool.{eq-eqb, or_from}
 use Rattle.host_pairs.proofs.lemmas.{some_is}
 use Rattle.host_keeps_streams.proofs.Lists.{unlike}
-
-pub or_right : (a b : Bool) → b ≡ true → (a || b) ≡ true
-or_right true b e = refl
-or_right false b e = e
-
-pub or_both : (a b : Bool) → a ≡ false → b ≡ false → (a || b) ≡ false
-or_both true b e f = absurd (cc)
-or_both false b e f = f
 
 pub not_like : (c d : ℕ) → (c == d) ≡ false → c ≡ d → ⊥
 not_like c d e same = unlike (c == d) (eq-eqb c d same) e
@@ -34,7 +27,7 @@ module _ (name : ℕ → ℕ → ℕ) where
       → is_among c (numbers name (filter on (y ∷ ys))) ≡ false
   filter_step c on y ys rest true o n =
       let p : ((named name y == c) ≡ false) × (is_among c (numbers name ys) ≡ false) = or_parts (named name y == c) (is_among c (numbers name ys)) n in
-      rw o (or_both (named name y == c) (is_among c (numbers name (filter on ys))) p.0 (rest p.1))
+      rw o (or_from (named name y == c) (is_among c (numbers name (filter on ys))) p.0 (rest p.1))
   filter_step c on y ys rest false o n = rw o (rest (or_parts (named name y == c) (is_among c (numbers name ys)) n).1)
 
   pub among_filter : (c : ℕ) (on : Entry → Bool) (es : List Entry) → is_among c (numbers name es) ≡ false → is_among c (numbers name (filter on es)) ≡ false
@@ -54,7 +47,7 @@ module _ (name : ℕ → ℕ → ℕ) where
       let r : find test ys ≡ Some e = rw t at f in
       let other : (named name y == named name e) ≡ false
       = ne_eqb (named name y) (named name e) (λ same. unlike (is_among (named name e) (numbers name ys)) (found_among test e ys r) (ap (λ (n : ℕ). is_among n (numbers name ys)) (sym same) ∙ apart)) in
-      rw o (or_both (named name y == named name e) (is_among (named name e) (numbers name (filter on ys))) other (rest r))
+      rw o (or_from (named name y == named name e) (is_among (named name e) (numbers name (filter on ys))) other (rest r))
   others_step test on e y ys off rest apart false false t o f = rw o (rest (rw t at f))
 
   pub others : (test on : Entry → Bool) (e : Entry) (es : List Entry) → on e ≡ false → AreApart (numbers name es) → find test es ≡ Some e → is_among (named name e) (numbers name (filter on es)) ≡ false
@@ -71,10 +64,10 @@ module _ (name : ℕ → ℕ → ℕ) where
   apart_filter keep (y ∷ ys) a = apart_step keep y ys (apart_filter keep ys a.1) a.0 (keep y) refl
 
   among_append : (c : ℕ) (es : List Entry) (e : Entry) → is_among c (numbers name es) ≡ false → (named name e == c) ≡ false → is_among c (numbers name (es ++ e ∷ [])) ≡ false
-  among_append c [] e n f = or_both (named name e == c) false f refl
+  among_append c [] e n f = or_from (named name e == c) false f refl
   among_append c (y ∷ ys) e n f =
       let p : ((named name y == c) ≡ false) × (is_among c (numbers name ys) ≡ false) = or_parts (named name y == c) (is_among c (numbers name ys)) n in
-      or_both (named name y == c) (is_among c (numbers name (ys ++ e ∷ []))) p.0 (among_append c ys e p.1 f)
+      or_from (named name y == c) (is_among c (numbers name (ys ++ e ∷ []))) p.0 (among_append c ys e p.1 f)
 
   pub turned : (c d : ℕ) → (c == d) ≡ false → (d == c) ≡ false
   turned c d e = ne_eqb d c (λ same. not_like c d e (sym same))

@@ -9,10 +9,7 @@ use Rattle.stream_law.specs.Senders as senders
 use Rattle.stream_law.proofs.lemmas.{some_is}
 use Rattle.host_keeps_streams.proofs.Lists.{joins, none_any}
 use Rattle.host_keeps_streams.proofs.Receivers.{own_receiver}
-
-pub and_no : (v : Bool) → (v && false) ≡ false
-and_no true = refl
-and_no false = refl
+use Rattle.interface.proofs.lemmas.{and_none}
 
 module _ (name : ℕ → ℕ → ℕ) (link : ℕ) where
   -- ---- a receiving end whose RTS goes out
@@ -24,7 +21,7 @@ module _ (name : ℕ → ℕ → ℕ) (link : ℕ) where
     record { end = i.end; opened = sym t; closed = i.closed; over = i.over; size = i.size; allocation = i.allocation; due = i.due; live = i.live },
   )
   asked_by stamp e r i false t size =
-      let before : r.opened ≡ false = i.opened ∙ ap (λ (v : Bool). is_some e.asked && v) t ∙ and_no (is_some e.asked) in
+      let before : r.opened ≡ false = i.opened ∙ ap (λ (v : Bool). is_some e.asked && v) t ∙ and_none (is_some e.asked) in
       (tt, record { end = i.end; opened = before ∙ sym t; closed = i.closed; over = i.over; size = i.size; allocation = i.allocation; due = i.due; live = i.live })
 
   pub rts_gone : (peer : Host) (stamp own foreign other : ℕ) (d : DeskState) (e : Entry) (r : Receiver) → entry_at own foreign d.entries ≡ Some e → receives_on link e ≡ true → (is_some e.partner ≡ true → is_some e.size ≡ true)
@@ -49,7 +46,7 @@ module _ (name : ℕ → ℕ → ℕ) (link : ℕ) where
         record { end = i.end; opened = ap (λ (v : Bool). v && true) (sym t); closed = i.closed; over = i.over; size = size; allocation = i.allocation; due = i.due; live = i.live },
       )
   told_by stamp z e r i none false t =
-      let before : r.opened ≡ false = i.opened ∙ ap (λ (v : Bool). is_some e.asked && v) none ∙ and_no (is_some e.asked) in (
+      let before : r.opened ≡ false = i.opened ∙ ap (λ (v : Bool). is_some e.asked && v) none ∙ and_none (is_some e.asked) in (
         (tt, tt),
         record {
           end = i.end;
@@ -89,13 +86,13 @@ module _ (name : ℕ → ℕ → ℕ) (link : ℕ) where
     record { end = refl; opened = ap (λ (v : Bool). v && true) (sym t); shut = sym open_end; closed = closed; size = size; allocation = sym fresh; live = live_by open_end },
   ) where
     live_by : e.partner_closed ≡ false → is_over (asked_on_link stamp link e) ≡ false
-    live_by f = rw f (and_no _)
+    live_by f = rw f (and_none _)
   linked_by stamp e s none size closed told fresh open_end first false t = (
     tt,
     record { end = refl; opened = ap (λ (v : Bool). v && true) (sym t); shut = sym open_end; closed = closed; size = size; allocation = sym fresh; live = live_by open_end },
   ) where
     live_by : e.partner_closed ≡ false → is_over (asked_on_link stamp link e) ≡ false
-    live_by f = rw f (and_no _)
+    live_by f = rw f (and_none _)
 
   pub rts_heard : (peer : Host) (busy : List ℕ) (stamp own foreign : ℕ) (d : DeskState) (e : Entry) (s : Sender) → entry_at own foreign d.entries ≡ Some e → is_receiving e ≡ false → list_any (sends_on link) d.entries ≡ false → s.end ≡ None
       → s.size (name e.own e.foreign) ≡ e.size → s.closed (name e.own e.foreign) ≡ has_cls e.closing → is_some e.size ≡ true → e.allocation ≡ counters.nothing → e.partner_closed ≡ false → is_some e.partner ≡ false
@@ -148,7 +145,7 @@ module _ (name : ℕ → ℕ → ℕ) (link own foreign : ℕ) (q : PairState) (
 
   pub asks_elsewhere : (other : ℕ) → (other == link) ≡ false → HasReceiver name link (requested (receiving_end own foreign other) (command.Rts own foreign other) q).entries r
   asks_elsewhere other away =
-      let off : receives_on link (receiving_end own foreign other) ≡ false = (rw away (and_no (is_receive_socket own))) in
+      let off : receives_on link (receiving_end own foreign other) ≡ false = (rw away (and_none (is_receive_socket own))) in
       let none : filter (receives_on link) (receiving_end own foreign other ∷ []) ≡ [] = (rw off refl) in
       let list : filter (receives_on link) (q.entries ++ receiving_end own foreign other ∷ []) ≡ filter (receives_on link) q.entries
       = filter-append (receives_on link) q.entries (receiving_end own foreign other ∷ []) ∙ ap (λ (xs : List Entry). filter (receives_on link) q.entries ++ xs) none ∙ append-nil (filter (receives_on link) q.entries) in
@@ -171,7 +168,7 @@ module _ (name : ℕ → ℕ → ℕ) (link c z : ℕ) (s : Sender) (other : s.e
   pub asks_to_send : (own foreign : ℕ) (q : PairState) → s.size c ≡ None → HasSender name link q.entries s
       → senders.May (senders.Ask c z) s × HasSender name link (requested (sending_end own foreign z) (command.Str own foreign z) q).entries (senders.moved (senders.Ask c z) s)
   asks_to_send own foreign q fresh h =
-      let off : sends_on link (sending_end own foreign z) ≡ false = and_no (not (is_receive_socket own)) in
+      let off : sends_on link (sending_end own foreign z) ≡ false = and_none (not (is_receive_socket own)) in
       let none : filter (sends_on link) (sending_end own foreign z ∷ []) ≡ [] = (rw off refl) in
       let list : filter (sends_on link) (q.entries ++ sending_end own foreign z ∷ []) ≡ filter (sends_on link) q.entries
       = filter-append (sends_on link) q.entries (sending_end own foreign z ∷ []) ∙ ap (λ (xs : List Entry). filter (sends_on link) q.entries ++ xs) none ∙ append-nil (filter (sends_on link) q.entries) in

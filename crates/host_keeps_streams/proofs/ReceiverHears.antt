@@ -9,10 +9,11 @@ use Rattle.host_keeps_streams.proofs.Lists.{append_off, append_on, away, find_pa
 use Rattle.host_pairs.proofs.lemmas.{some_is}
 use Rattle.host_keeps_streams.proofs.Quiet.{receiver_leaves}
 use Rattle.host_keeps_streams.proofs.Receivers.{ret_receives}
-use Rattle.host_keeps_streams.proofs.Opening.{and_no, number_passes}
+use Rattle.host_keeps_streams.proofs.Opening.{number_passes}
 use Rattle.host_keeps_streams.proofs.Names.{among_filter, others}
 use Rattle.host_keeps_streams.proofs.Ending.{cls_receives, cls_elsewhere}
 use Rattle.host_keeps_streams.proofs.Opening as opening
+use Rattle.interface.proofs.lemmas.{and_none}
 
 -- what a law's receiver has to do, and what it has afterwards
 abbrev pub Received : (ℕ → ℕ → ℕ) → ℕ → List receivers.Move → List Entry → Receiver → Type 0
@@ -62,7 +63,7 @@ module _ (name : ℕ → ℕ → ℕ) (link : ℕ) where
     )
 
     nowhere : (e : Entry) → e.link ≡ None → receives_on link e ≡ false
-    nowhere e none = ap (λ (o : Option ℕ). is_receiving e && is_link link o) none ∙ and_no (is_receiving e)
+    nowhere e none = ap (λ (o : Option ℕ). is_receiving e && is_link link o) none ∙ and_none (is_receiving e)
 
     answered_on_link : IsNewReceived (name own foreign) (numbers name d.entries) r → free_link d.entries ≡ Some link
         → Received name link (receivers.Hear (words.Str (name own foreign) z) ∷ receivers.Ask (name own foreign) ∷ []) (d.entries ++ asked_with_size stamp z (receiving_end own foreign link) ∷ []) r
@@ -83,7 +84,7 @@ module _ (name : ℕ → ℕ → ℕ) (link : ℕ) where
         rw e (subst (λ (l : ℕ). Received name link (receivers.Hear (words.Str (name own foreign) z) ∷ receivers.Ask (name own foreign) ∷ []) (d.entries ++ asked_with_size stamp z (receiving_end own foreign l) ∷ []) r) (sym same)
         (answered_on_link new (free ∙ ap (λ (l : ℕ). Some l) same)))
     answered_by new other free false e =
-        rw e (refused_here new.free (asked_with_size stamp z (receiving_end own foreign other)) (ap (λ (v : Bool). is_receive_socket own && v) e ∙ and_no (is_receive_socket own)))
+        rw e (refused_here new.free (asked_with_size stamp z (receiving_end own foreign other)) (ap (λ (v : Bool). is_receive_socket own && v) e ∙ and_none (is_receive_socket own)))
 
     linked_by : IsNewReceived (name own foreign) (numbers name d.entries) r → (l : Listener) → (o : Option ℕ) → free_link d.entries ≡ o
         → Received name link (receivers.Hear (words.Str (name own foreign) z) ∷ answers_str link (name own foreign) (Some l) o) (str_linked own foreign z stamp o d).entries r

@@ -14,13 +14,14 @@ use Rattle.host_keeps_streams.proofs.Known.{Sent, known_append, known_changed, k
 use Rattle.host_keeps_streams.proofs.Lists.{append_off, apart, away, find_passes, not_received, not_sent, unlike}
 use Rattle.host_keeps_streams.proofs.Names.{apart_changed}
 use Rattle.host_keeps_streams.proofs.Opening as opening
-use Rattle.host_keeps_streams.proofs.Opening.{and_no, told_keeps}
+use Rattle.host_keeps_streams.proofs.Opening.{told_keeps}
 use Rattle.host_keeps_streams.proofs.ReceiverHears.{Received}
 use Rattle.host_keeps_streams.proofs.Senders.{own_sender}
 use Rattle.host_keeps_streams.proofs.SenderHears.{ask_elsewhere}
 use Rattle.host_keeps_streams.proofs.SenderShuts.{due_cls}
 use Rattle.host_keeps_streams.proofs.Settling.{settle_all}
 use Rattle.host_keeps_streams.proofs.Sound.{sound_append, sound_changed}
+use Rattle.interface.proofs.lemmas.{and_none}
 
 -- ---- new ends
 
@@ -29,7 +30,7 @@ module _ (name : ℕ → ℕ → ℕ) (link own foreign : ℕ) (q : PairState) w
       → Sent name link (senders.Ask (name own foreign) z ∷ []) (requested (sending_end own foreign z) (command.Str own foreign z) q).entries s
   sends_asked z s h k new = record {
     may = (new.untold, tt);
-    has = subst (λ (xs : List Entry). AreSender name xs (senders.moved (senders.Ask (name own foreign) z) s)) (sym (append_off (sends_on link) (sending_end own foreign z) q.entries (and_no (not (is_receive_socket own)))))
+    has = subst (λ (xs : List Entry). AreSender name xs (senders.moved (senders.Ask (name own foreign) z) s)) (sym (append_off (sends_on link) (sending_end own foreign z) q.entries (and_none (not (is_receive_socket own)))))
         (told_keeps name link (name own foreign) z s new.unheard (filter (sends_on link) q.entries) h);
     known = known_append name q.entries (sending_end own foreign z) (senders.moved (senders.Ask (name own foreign) z) s)
         (known_other name (name own foreign) q.entries s (senders.moved (senders.Ask (name own foreign) z) s) new.free (ask_elsewhere (name own foreign) z s) k)
@@ -37,7 +38,7 @@ module _ (name : ℕ → ℕ → ℕ) (link own foreign : ℕ) (q : PairState) w
   }
 
   pub sends_received : (z : ℕ) (r : Receiver) → HasReceiver name link q.entries r → HasReceiver name link (requested (sending_end own foreign z) (command.Str own foreign z) q).entries r
-  sends_received z r h = subst (λ (xs : List Entry). AreReceiver name xs r) (sym (append_off (receives_on link) (sending_end own foreign z) q.entries (and_no (is_receive_socket own)))) h
+  sends_received z r h = subst (λ (xs : List Entry). AreReceiver name xs r) (sym (append_off (receives_on link) (sending_end own foreign z) q.entries (and_none (is_receive_socket own)))) h
 
   pub sends_sound : (z : ℕ) → AreSound name q.entries → is_among (name own foreign) (numbers name q.entries) ≡ false → AreSound name (requested (sending_end own foreign z) (command.Str own foreign z) q).entries
   sends_sound z sound n = sound_append name q.entries (sending_end own foreign z) sound (sending_formed own foreign z) n

@@ -8,8 +8,9 @@ use Rattle.host_keeps_streams.proofs.Known.{Elsewhere, Sent, close_apart, closed
 use Rattle.host_keeps_streams.proofs.Lists.{append_off, append_on, away, joins, none_any}
 use Rattle.host_keeps_streams.proofs.Names.{among_filter}
 use Rattle.host_keeps_streams.proofs.Opening as opening
-use Rattle.host_keeps_streams.proofs.Opening.{and_no, told_keeps}
+use Rattle.host_keeps_streams.proofs.Opening.{told_keeps}
 use Rattle.host_keeps_streams.proofs.ReceiverHears.{own_name, own_parity}
+use Rattle.interface.proofs.lemmas.{and_none}
 
 -- ---- an RTS begins an end, where the law has none
 
@@ -48,7 +49,7 @@ module _ (name : ℕ → ℕ → ℕ) (link : ℕ) where
         → Sent name link (senders.Close (name own foreign) ∷ []) (d.entries ++ refused_end own foreign stamp ∷ []) t
     refuses t g j free untold unclosed = record {
       may = (unclosed, tt);
-      has = subst (λ (xs : List Entry). AreSender name xs (senders.moved (senders.Close (name own foreign)) t)) (sym (append_off (sends_on link) (refused_end own foreign stamp) d.entries (and_no (not (is_receive_socket own)))))
+      has = subst (λ (xs : List Entry). AreSender name xs (senders.moved (senders.Close (name own foreign)) t)) (sym (append_off (sends_on link) (refused_end own foreign stamp) d.entries (and_none (not (is_receive_socket own)))))
           (close_apart name (name own foreign) (filter (sends_on link) d.entries) t (among_filter name (name own foreign) (sends_on link) d.entries free) g);
       known = known_append name d.entries (refused_end own foreign stamp) (senders.moved (senders.Close (name own foreign)) t)
           (known_other name (name own foreign) d.entries t (senders.moved (senders.Close (name own foreign)) t) free (closed_elsewhere (name own foreign) t) j)
@@ -91,7 +92,7 @@ module _ (name : ℕ → ℕ → ℕ) (link : ℕ) where
 
     answers_away : (z : ℕ) → IsNewSent (name own foreign) (numbers name d.entries) s → (l == link) ≡ false → Sent name link (senders.Ask (name own foreign) z ∷ []) (d.entries ++ asked_on_link stamp l (sending_end own foreign z) ∷ []) s
     answers_away z new e =
-        let off : sends_on link (asked_on_link stamp l (sending_end own foreign z)) ≡ false = (rw e (and_no (not (is_receive_socket own)))) in
+        let off : sends_on link (asked_on_link stamp l (sending_end own foreign z)) ≡ false = (rw e (and_none (not (is_receive_socket own)))) in
         record {
           may = (new.untold, tt);
           has = subst (λ (xs : List Entry). AreSender name xs (senders.moved (senders.Ask (name own foreign) z) s)) (sym (append_off (sends_on link) (asked_on_link stamp l (sending_end own foreign z)) d.entries off))
@@ -119,8 +120,8 @@ module _ (name : ℕ → ℕ → ℕ) (link : ℕ) where
     found_away : (e : Entry) → entry_at own foreign d.entries ≡ Some e → is_some e.partner ≡ false → (l == link) ≡ false → Sent name link [] (changed_first (is_at own foreign) (asked_on_link stamp l) d.entries) s
     found_away e found first other =
         let none : e.link ≡ None = (formed_found (is_at own foreign) e d.entries formed found).unlinked (own_parity name link own foreign e d.entries found ∙ odd) first in
-        let off : sends_on link e ≡ false = ap (λ (o : Option ℕ). not (is_receiving e) && is_link link o) none ∙ and_no (not (is_receiving e)) in
-        let after : sends_on link (asked_on_link stamp l e) ≡ false = (rw other (and_no (not (is_receiving e)))) in
+        let off : sends_on link e ≡ false = ap (λ (o : Option ℕ). not (is_receiving e) && is_link link o) none ∙ and_none (not (is_receiving e)) in
+        let after : sends_on link (asked_on_link stamp l e) ≡ false = (rw other (and_none (not (is_receiving e)))) in
         record {
           may = tt;
           has = subst (λ (xs : List Entry). AreSender name xs s) (sym (away (is_at own foreign) (sends_on link) (asked_on_link stamp l) e d.entries off after found)) h;

@@ -13,6 +13,7 @@ use Rattle.ncp_control.specs.Command.{spelling}
 use Rattle.host_keeps_streams.specs.Said.{returned_on, returned_in}
 use Rattle.host_keeps_streams.proofs.Lists.{find_passes, none_is, first_is, missed, unlike, Here, here}
 use Rattle.host_keeps_streams.proofs.Receivers.{closed_found, open_found}
+use Rattle.interface.proofs.lemmas.{and_none}
 
 open_bool : (a x y : Bool) → (a && not y && not x) ≡ (a && not (x || y))
 open_bool true true true = refl
@@ -26,13 +27,9 @@ open_same c e s h =
     ap (λ (v : Bool). v && not s.shut && not (s.closed c)) h.opened ∙ ap (λ (v : Bool). has_opened e && not v && not (s.closed c)) h.shut
     ∙ ap (λ (v : Bool). has_opened e && not e.partner_closed && not v) h.closed ∙ open_bool (has_opened e) (has_cls e.closing) e.partner_closed
 
-and_no : (v : Bool) → (v && false) ≡ false
-and_no true = refl
-and_no false = refl
-
 -- an end whose CLS waits to go out, or has gone out, isn't open, nor is one that leaves
 closed_shut : (e : Entry) → has_cls e.closing ≡ true → is_open e ≡ false
-closed_shut e closed = ap (λ (v : Bool). is_some e.asked && is_some e.partner && not (v || e.partner_closed)) closed ∙ and_no (is_some e.asked && is_some e.partner)
+closed_shut e closed = ap (λ (v : Bool). is_some e.asked && is_some e.partner && not (v || e.partner_closed)) closed ∙ and_none (is_some e.asked && is_some e.partner)
 
 pub leaving_shut : (e : Entry) (s : Sender) → IsLeaving e s → is_open e ≡ false
 leaving_shut e s n = closed_shut e n.closed
@@ -41,7 +38,7 @@ leaving_shut e s n = closed_shut e n.closed
 pub unopened : (s : Sender) → NoneOpen s → (c : ℕ) → s.end ≡ Some c → senders.is_open c s ≡ false
 unopened s n c e = by s.opened refl where
   by : (v : Bool) → s.opened ≡ v → senders.is_open c s ≡ false
-  by true t = ap (λ (v : Bool). s.opened && not s.shut && not v) (n c e t) ∙ and_no (s.opened && not s.shut)
+  by true t = ap (λ (v : Bool). s.opened && not s.shut && not v) (n c e t) ∙ and_none (s.opened && not s.shut)
   by false t = ap (λ (v : Bool). v && not s.shut && not (s.closed c)) t
 
 -- what holds of the work that is done at the open end of a link, and of the law's move there

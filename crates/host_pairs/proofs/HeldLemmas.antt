@@ -3,7 +3,7 @@ use Rattle.std.proofs.Common.{◌≡◌, ℕ, ◌<◌, ◌≤◌, ◌+◌, ◌-�
 use Rattle.std.specs.List.{list_any, remove, position, position_from}
 use Rattle.std.proofs.lemmas.List.{drop-drop, length-append, length-take, length-drop, length-set, take-append-le, take_all, get_or_default}
 use Rattle.std.proofs.lemmas.List.Folds.{list_any-append}
-use Rattle.std.proofs.lemmas.Bool.{eqb-true}
+use Rattle.std.proofs.lemmas.Bool.{eqb-true, not_from_false, or_parts}
 use Rattle.std.proofs.lemmas.Iterator.Adapters.{position_from-zero}
 use Rattle.std.proofs.Common.{Result, Ok, Err, OnOk, OnErr}
 use Rattle.host_pairs.specs.Entries.{called_off, changed_first, close_due, closed_when, is_over, is_sent, must_close}
@@ -17,9 +17,10 @@ use Rattle.host_pairs.specs.declared.held.Few.{Few}
 use Rattle.host_pairs.specs.declared.held.Few.TheVariants as few
 use Rattle.host_pairs.proofs.EntryLemmas.{one_changed}
 use Rattle.host_pairs.proofs.IndexLemmas.{KeepsKey, kept_changed, kept_mapped, kept_set}
-use Rattle.host_pairs.proofs.OpeningLemmas.{both, is_none, neither, not_is}
+use Rattle.host_pairs.proofs.OpeningLemmas.{both, not_is}
 use Rattle.host_pairs.proofs.ParcelLemmas.{no_turn}
 use Rattle.host_pairs.specs.Parcels.{bits_gone, may_send}
+use Rattle.interface.proofs.lemmas.{not_false}
 
 -- ---- a change that gives no end the mark
 
@@ -31,10 +32,10 @@ none_by : (mark test : Entry → Bool) (change : Entry → Entry) (e : Entry) (e
     → (list_any mark es ≡ false → list_any mark (changed_first test change es) ≡ false) → (b : Bool) → test e ≡ b
     → list_any mark (e ∷ es) ≡ false → list_any mark (changed_first test change (e ∷ es)) ≡ false
 none_by mark test change e es keeps rest true t h =
-    let two : (mark e ≡ false) × (list_any mark es ≡ false) = neither _ _ h in
+    let two : (mark e ≡ false) × (list_any mark es ≡ false) = or_parts _ _ h in
     rw (t, keeps e two.0) two.1
 none_by mark test change e es keeps rest false t h =
-    let two : (mark e ≡ false) × (list_any mark es ≡ false) = neither _ _ h in
+    let two : (mark e ≡ false) × (list_any mark es ≡ false) = or_parts _ _ h in
     rw (t, two.0) (rest two.1)
 
 none_kept : (mark test : Entry → Bool) (change : Entry → Entry) (es : List Entry) → Keeps mark change
@@ -45,7 +46,7 @@ none_kept mark test change (e ∷ es) keeps h = none_by mark test change e es ke
 but_first : (mark test : Entry → Bool) (change : Entry → Entry) (e : Entry) (es : List Entry) → Keeps mark change → (b : Bool) → test e ≡ b
     → none_but mark zero (e ∷ es) ≡ true → none_but mark zero (changed_first test change (e ∷ es)) ≡ true
 but_first mark test change e es keeps true t h = rw t h
-but_first mark test change e es keeps false t h = rw t (is_none _ (none_kept mark test change es keeps (not_is _ h)))
+but_first mark test change e es keeps false t h = rw t (not_from_false _ (none_kept mark test change es keeps (not_is _ h)))
 
 but_later : (mark test : Entry → Bool) (change : Entry → Entry) (at : ℕ) (e : Entry) (es : List Entry) → Keeps mark change
     → (none_but mark at es ≡ true → none_but mark at (changed_first test change es) ≡ true) → (b : Bool) → test e ≡ b
@@ -66,7 +67,7 @@ but_kept mark test change (suc at) (e ∷ es) keeps h = but_later mark test chan
 -- what is remembered stays true
 pub where_kept : (mark test : Entry → Bool) (change : Entry → Entry) (few : Few) (es : List Entry) → Keeps mark change
     → is_where mark few es ≡ true → is_where mark few (changed_first test change es) ≡ true
-where_kept mark test change few.Nowhere es keeps h = is_none _ (none_kept mark test change es keeps (not_is _ h))
+where_kept mark test change few.Nowhere es keeps h = not_from_false _ (none_kept mark test change es keeps (not_is _ h))
 where_kept mark test change (few.At at) es keeps h = but_kept mark test change at es keeps h
 where_kept mark test change few.Anywhere es keeps h = refl
 
@@ -74,10 +75,10 @@ where_kept mark test change few.Anywhere es keeps h = refl
 
 pub one_set : (mark : Entry → Bool) (at : ℕ) (y : Entry) (es : List Entry) → list_any mark es ≡ false → none_but mark at (slice_set es at y) ≡ true
 one_set mark at y [] h = refl
-one_set mark zero y (e ∷ es) h = is_none _ (neither _ _ h).1
+one_set mark zero y (e ∷ es) h = not_from_false _ (or_parts _ _ h).1
 one_set mark (suc at) y (e ∷ es) h =
-    let without : mark e ≡ false = (neither _ _ h).0 in
-    rw without (one_set mark at y es (neither _ _ h).1)
+    let without : mark e ≡ false = (or_parts _ _ h).0 in
+    rw without (one_set mark at y es (or_parts _ _ h).1)
 
 pub same_set : (mark : Entry → Bool) (at : ℕ) (y : Entry) (es : List Entry) → none_but mark at es ≡ true → none_but mark at (slice_set es at y) ≡ true
 same_set mark at y [] h = refl
@@ -94,7 +95,7 @@ Within one mark = (e : Entry) → mark e ≡ false → one e ≡ false
 
 pub none_pass : (one mark : Entry → Bool) (es : List Entry) → Within one mark → list_any mark es ≡ false → filter one es ≡ []
 none_pass one mark [] within h = refl
-none_pass one mark (e ∷ es) within h = rw (within e (neither _ _ h).0) (none_pass one mark es within (neither _ _ h).1)
+none_pass one mark (e ∷ es) within h = rw (within e (or_parts _ _ h).0) (none_pass one mark es within (or_parts _ _ h).1)
 
 first_passes : (one : Entry → Bool) (e : Entry) (es : List Entry) → filter one es ≡ [] → filter one (e ∷ es) ≡ filter one (e ∷ [])
 first_passes one e es h = rw h refl
@@ -191,9 +192,9 @@ one_more mark [] e zero is h = refl
 one_more mark [] e (suc at) is h = absurd (cc)
 one_more mark (f ∷ es) e zero is h = absurd (omega (arith, is))
 one_more mark (f ∷ es) e (suc at) is h =
-    let two : (mark f ≡ false) × (list_any mark es ≡ false) = neither _ _ (not_is _ h) in
+    let two : (mark f ≡ false) × (list_any mark es ≡ false) = or_parts _ _ (not_is _ h) in
     let first : mark f ≡ false = two.0 in
-    rw first (one_more mark es e at (omega (arith, is)) (is_none _ two.1))
+    rw first (one_more mark es e at (omega (arith, is)) (not_from_false _ two.1))
 
 pub same_more : (mark : Entry → Bool) (at : ℕ) (es : List Entry) (e : Entry) → mark e ≡ false → none_but mark at es ≡ true → none_but mark at (es ++ e ∷ []) ≡ true
 same_more mark zero [] e without h = refl
@@ -208,11 +209,11 @@ same_more mark (suc at) (f ∷ es) e without h =
 pub none_removed : (mark : Entry → Bool) (at : ℕ) (es : List Entry) → not (list_any mark es) ≡ true → not (list_any mark (remove es at)) ≡ true
 none_removed mark zero [] h = h
 none_removed mark (suc at) [] h = h
-none_removed mark zero (e ∷ es) h = is_none _ (neither _ _ (not_is _ h)).1
+none_removed mark zero (e ∷ es) h = not_from_false _ (or_parts _ _ (not_is _ h)).1
 none_removed mark (suc at) (e ∷ es) h =
-    let two : (mark e ≡ false) × (list_any mark es ≡ false) = neither _ _ (not_is _ h) in
+    let two : (mark e ≡ false) × (list_any mark es ≡ false) = or_parts _ _ (not_is _ h) in
     let first : mark e ≡ false = two.0 in
-    rw first (none_removed mark at es (is_none _ two.1))
+    rw first (none_removed mark at es (not_from_false _ two.1))
 
 pub same_removed : (mark : Entry → Bool) (at : ℕ) (es : List Entry) → none_but mark at es ≡ true → not (list_any mark (remove es at)) ≡ true
 same_removed mark zero [] h = refl
@@ -251,10 +252,10 @@ left_by mark stays e es without rest false is = rw is rest
 
 none_left_of : (mark stays : Entry → Bool) (es : List Entry) → list_any mark es ≡ false → list_any mark (filter stays es) ≡ false
 none_left_of mark stays [] h = refl
-none_left_of mark stays (e ∷ es) h = left_by mark stays e es (neither _ _ h).0 (none_left_of mark stays es (neither _ _ h).1) (stays e) refl
+none_left_of mark stays (e ∷ es) h = left_by mark stays e es (or_parts _ _ h).0 (none_left_of mark stays es (or_parts _ _ h).1) (stays e) refl
 
 pub none_left : (mark stays : Entry → Bool) (es : List Entry) → not (list_any mark es) ≡ true → not (list_any mark (filter stays es)) ≡ true
-none_left mark stays es h = is_none _ (none_left_of mark stays es (not_is _ h))
+none_left mark stays es h = not_from_false _ (none_left_of mark stays es (not_is _ h))
 
 -- ---- the end of this host's own that its user closes isn't over by that
 
@@ -272,9 +273,9 @@ called_off_kept e h = over_by e.closing e.partner_closed h
 pub none_has : (one mark : Entry → Bool) (es : List Entry) → Within one mark → not (list_any mark es) ≡ true → list_any one es ≡ false
 none_has one mark [] within h = refl
 none_has one mark (e ∷ es) within h =
-    let two : (mark e ≡ false) × (list_any mark es ≡ false) = neither _ _ (not_is _ h) in
+    let two : (mark e ≡ false) × (list_any mark es ≡ false) = or_parts _ _ (not_is _ h) in
     let first : one e ≡ false = within e two.0 in
-    rw first (none_has one mark es within (is_none _ two.1))
+    rw first (none_has one mark es within (not_from_false _ two.1))
 
 first_has : (one : Entry → Bool) (e : Entry) (es : List Entry) → list_any one es ≡ false → list_any one (e ∷ es) ≡ list_any one (e ∷ [])
 first_has one e es h = rw h refl
@@ -298,9 +299,9 @@ passes_among one mark at n es within is h = rw is (only_passes one mark at es wi
 pub map_none : (mark : Entry → Bool) (change : Entry → Entry) (es : List Entry) → Keeps mark change → not (list_any mark es) ≡ true → not (list_any mark (map change es)) ≡ true
 map_none mark change [] keeps h = refl
 map_none mark change (e ∷ es) keeps h =
-    let two : (mark e ≡ false) × (list_any mark es ≡ false) = neither _ _ (not_is _ h) in
+    let two : (mark e ≡ false) × (list_any mark es ≡ false) = or_parts _ _ (not_is _ h) in
     let first : mark (change e) ≡ false = keeps e two.0 in
-    rw first (map_none mark change es keeps (is_none _ two.1))
+    rw first (map_none mark change es keeps (not_from_false _ two.1))
 
 map_but : (mark : Entry → Bool) (change : Entry → Entry) (at : ℕ) (es : List Entry) → Keeps mark change → none_but mark at es ≡ true → none_but mark at (map change es) ≡ true
 map_but mark change at [] keeps h = refl
@@ -347,9 +348,9 @@ never_waits busy e h = rw h refl
 pub closed_none : (busy : List ℕ) (es : List Entry) → not (list_any waits es) ≡ true → map (closed_by busy) es ≡ es
 closed_none busy [] h = refl
 closed_none busy (e ∷ es) h =
-    let two : (waits e ≡ false) × (list_any waits es ≡ false) = neither _ _ (not_is _ h) in
+    let two : (waits e ≡ false) × (list_any waits es ≡ false) = or_parts _ _ (not_is _ h) in
     let first : closed_by busy e ≡ e = stays_open busy e (never_waits busy e two.0) in
-    ap (λ (x : Entry). x ∷ map (closed_by busy) es) first ∙ ap (λ (xs : List Entry). e ∷ xs) (closed_none busy es (is_none _ two.1))
+    ap (λ (x : Entry). x ∷ map (closed_by busy) es) first ∙ ap (λ (xs : List Entry). e ∷ xs) (closed_none busy es (not_from_false _ two.1))
 
 -- only the one at the place closes
 pub closed_at : (busy : List ℕ) (at : ℕ) (d : Entry) (es : List Entry) → none_but waits at es ≡ true → at < length es
@@ -376,8 +377,8 @@ keep_by e es h = rw h refl
 pub swept_none : (es : List Entry) → not (list_any is_over es) ≡ true → filter (λ e. not (is_over e)) es ≡ es
 swept_none [] h = refl
 swept_none (e ∷ es) h =
-    let two : (is_over e ≡ false) × (list_any is_over es ≡ false) = neither _ _ (not_is _ h) in
-    keep_by e es two.0 ∙ ap (λ (xs : List Entry). e ∷ xs) (swept_none es (is_none _ two.1))
+    let two : (is_over e ≡ false) × (list_any is_over es ≡ false) = or_parts _ _ (not_is _ h) in
+    keep_by e es two.0 ∙ ap (λ (xs : List Entry). e ∷ xs) (swept_none es (not_from_false _ two.1))
 
 pub swept_at : (at : ℕ) (d : Entry) (es : List Entry) → none_but is_over at es ≡ true → at < length es → is_over (slice_index_or es at d) ≡ true → remove es at ≡ filter (λ e. not (is_over e)) es
 swept_at at d [] h lt over = absurd (omega (arith, lt))
@@ -490,13 +491,13 @@ set_none_where : (mark : Entry → Bool) (at : ℕ) (e y : Entry) (es : List Ent
 set_none_where mark zero e y [] read keeps h = refl
 set_none_where mark (suc at) e y [] read keeps h = refl
 set_none_where mark zero e y (f ∷ es) read keeps h =
-    let two : (mark f ≡ false) × (list_any mark es ≡ false) = neither _ _ (not_is _ h) in
+    let two : (mark f ≡ false) × (list_any mark es ≡ false) = or_parts _ _ (not_is _ h) in
     let first : mark y ≡ false = keeps (ap mark (sym read) ∙ two.0) in
-    rw first (is_none _ two.1)
+    rw first (not_from_false _ two.1)
 set_none_where mark (suc at) e y (f ∷ es) read keeps h =
-    let two : (mark f ≡ false) × (list_any mark es ≡ false) = neither _ _ (not_is _ h) in
+    let two : (mark f ≡ false) × (list_any mark es ≡ false) = or_parts _ _ (not_is _ h) in
     let first : mark f ≡ false = two.0 in
-    rw first (set_none_where mark at e y es read keeps (is_none _ two.1))
+    rw first (set_none_where mark at e y es read keeps (not_from_false _ two.1))
 
 set_but_where : (mark : Entry → Bool) (other at : ℕ) (e y : Entry) (es : List Entry) → slice_index_or es at e ≡ e → (mark e ≡ false → mark y ≡ false) → none_but mark other es ≡ true → none_but mark other (slice_set es at y) ≡ true
 set_but_where mark other zero e y [] read keeps h = refl
@@ -576,15 +577,11 @@ swept_held gone index fewer due over bits due' bits' ends all held is indexed cl
 pub without_bits : (busy : List ℕ) (e : Entry) → has_bits e ≡ false → may_send busy e ≡ false
 without_bits busy e h = no_turn busy e (rw h refl)
 
-is_true : (b : Bool) → not b ≡ false → b ≡ true
-is_true true h = refl
-is_true false h = absurd (cc)
-
 bits_kept : (count : ℕ) (bits : List Bool) → not (length bits == 0) ≡ false → not (length (drop count bits) == 0) ≡ false
 bits_kept zero bits h = h
 bits_kept (suc count) [] h = refl
 bits_kept (suc count) (b ∷ bits) h =
-    let none : length (b ∷ bits) ≡ 0 = eqb-true (length (b ∷ bits)) 0 (is_true _ h) in
+    let none : length (b ∷ bits) ≡ 0 = eqb-true (length (b ∷ bits)) 0 (not_false _ h) in
     absurd (omega (arith, none))
 
 sent_kept : (count : ℕ) → Keeps has_bits (bits_gone count)
@@ -630,8 +627,8 @@ set_view gone at e y change live ends d view lt is by =
 none_from : (mark : Entry → Bool) (i : ℕ) (es : List Entry) → list_any mark es ≡ false → position_from mark i es ≡ None
 none_from mark i [] h = refl
 none_from mark i (e ∷ es) h =
-    let first : mark e ≡ false = (neither _ _ h).0 in
-    rw first (none_from mark (i + 1) es (neither _ _ h).1)
+    let first : mark e ≡ false = (or_parts _ _ h).0 in
+    rw first (none_from mark (i + 1) es (or_parts _ _ h).1)
 
 only_from : (mark : Entry → Bool) (i at : ℕ) (d : Entry) (es : List Entry) → none_but mark at es ≡ true → at < length es → mark (slice_index_or es at d) ≡ true → position_from mark i es ≡ Some (i + at)
 only_from mark i at d [] h lt is = absurd (omega (arith, lt))

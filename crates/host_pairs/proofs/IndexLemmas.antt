@@ -4,7 +4,8 @@ use Rattle.std.specs.List.{list_any, remove}
 use Rattle.std.specs.Ordering.{nat_cmp, is_eq}
 use Rattle.std.specs.declared.cmp.Ordering.{Ordering}
 use Rattle.std.specs.declared.cmp.Ordering.TheVariants.{Less, Equal, Greater}
-use Rattle.std.proofs.lemmas.Bool.{eqb-true}
+use Rattle.std.proofs.lemmas.Bool.{eqb-true, not_from_false}
+use Rattle.std.proofs.lemmas.Option.{same_Some}
 use Rattle.host_pairs.specs.Entries.{changed_first, is_at}
 use Rattle.host_pairs.specs.Inside.Held.{none_but}
 use Rattle.host_pairs.specs.Inside.Index.{Ascend, AreFound, AreIndexed, AreKept, AscendFrom, end_key, key_of, number_in}
@@ -12,7 +13,8 @@ use Rattle.host_pairs.specs.declared.index.Places.{Places}
 use Rattle.host_pairs.specs.declared.index.Places.TheVariants as places
 use Rattle.host_pairs.specs.declared.entry.Entry.{Entry}
 use Rattle.host_pairs.specs.declared.index.Index.{Index}
-use Rattle.host_pairs.proofs.OpeningLemmas.{both, is_none}
+use Rattle.host_pairs.proofs.OpeningLemmas.{both}
+use Rattle.interface.proofs.lemmas.{is_equal}
 
 -- ---- numbers as a map compares them
 
@@ -24,20 +26,12 @@ equal_by false false h = absurd (cc)
 pub equals : (x y : ℕ) → nat_cmp x y ≡ Equal → x ≡ y
 equals x y h = eqb-true x y (equal_by _ _ h)
 
-is_equal : (o : Ordering) → is_eq o ≡ true → o ≡ Equal
-is_equal Less h = absurd (cc)
-is_equal Equal h = refl
-is_equal Greater h = absurd (cc)
-
 apart_by : (k q : ℕ) → (k ≡ q → ⊥) → (b : Bool) → is_eq (nat_cmp k q) ≡ b → b ≡ false
 apart_by k q differ true h = absurd (differ (equals k q (is_equal _ h)))
 apart_by k q differ false h = refl
 
 apart : (k q : ℕ) → (k ≡ q → ⊥) → is_eq (nat_cmp k q) ≡ false
 apart k q differ = apart_by k q differ (is_eq (nat_cmp k q)) refl
-
-some_is : (n m : ℕ) → Some n ≡ Some m → n ≡ m
-some_is n m h = cc
 
 -- ---- an end of two sockets has their number
 
@@ -101,7 +95,7 @@ later found own foreign n low next [] [] is lt up h = refl
 later found own foreign n low next [] (e ∷ es) is lt up h = absurd (h)
 later found own foreign n low next (m ∷ ns) [] is lt up h = absurd (h)
 later found own foreign n low next (m ∷ ns) (e ∷ es) is lt up h =
-    let first : is_at own foreign e ≡ false = not_at own foreign e (λ same. absurd (let e : m ≡ n = some_is m n (sym h.0 ∙ ap found same ∙ is) in omega (arith, e, lt, up.0))) in
+    let first : is_at own foreign e ≡ false = not_at own foreign e (λ same. absurd (let e : m ≡ n = same_Some m n (sym h.0 ∙ ap found same ∙ is) in omega (arith, e, lt, up.0))) in
     rw first (later found own foreign n (suc m) next ns es is (omega (arith, lt, up.0)) up.1 h.1)
 
 only_at : (found : ℕ → Option ℕ) (own foreign n low next at d : ℕ) (ns : List ℕ) (es : List Entry) → found (key_of own foreign) ≡ Some n → at < length ns → slice_index_or ns at d ≡ n → Ascend low ns next
@@ -110,16 +104,16 @@ only_at found own foreign n low next at d [] [] is lt read up h = refl
 only_at found own foreign n low next at d [] (e ∷ es) is lt read up h = absurd (h)
 only_at found own foreign n low next at d (m ∷ ns) [] is lt read up h = absurd (h)
 only_at found own foreign n low next zero d (m ∷ ns) (e ∷ es) is lt read up h =
-    is_none _ (later found own foreign n (suc m) next ns es is (omega (arith, read)) up.1 h.1)
+    not_from_false _ (later found own foreign n (suc m) next ns es is (omega (arith, read)) up.1 h.1)
 only_at found own foreign n low next (suc at) d (m ∷ ns) (e ∷ es) is lt read up h =
     let above : suc m ≤ slice_index_or ns at d = from_low (suc m) ns next at d up.1 (omega (arith, lt)) in
-    let first : is_at own foreign e ≡ false = not_at own foreign e (λ same. absurd (let e : m ≡ n = some_is m n (sym h.0 ∙ ap found same ∙ is) in omega (arith, e, above, read))) in
+    let first : is_at own foreign e ≡ false = not_at own foreign e (λ same. absurd (let e : m ≡ n = same_Some m n (sym h.0 ∙ ap found same ∙ is) in omega (arith, e, above, read))) in
     rw first (only_at found own foreign n (suc m) next at d ns es is (omega (arith, lt)) read up.1 h.1)
 
 -- ---- what the index answers
 
 pub nowhere : (x : Index) (own foreign : ℕ) (es : List Entry) → number_in x (key_of own foreign) ≡ None → AreIndexed x es → not (list_any (is_at own foreign) es) ≡ true
-nowhere x own foreign es none h = is_none _ (absent (number_in x) own foreign _ es none h.found)
+nowhere x own foreign es none h = not_from_false _ (absent (number_in x) own foreign _ es none h.found)
 
 pub only_there : (x : Index) (own foreign n at : ℕ) (es : List Entry) → number_in x (key_of own foreign) ≡ Some n → at < length x.numbers.items → slice_index_or x.numbers.items at 0 ≡ n → AreIndexed x es
     → none_but (is_at own foreign) at es ≡ true
@@ -162,7 +156,7 @@ kept_without found fewer key n low next [] [] is lt rest up h = h
 kept_without found fewer key n low next [] (e ∷ es) is lt rest up h = absurd (h)
 kept_without found fewer key n low next (m ∷ ns) [] is lt rest up h = absurd (h)
 kept_without found fewer key n low next (m ∷ ns) (e ∷ es) is lt rest up h = (
-  rest (end_key e) (apart key (end_key e) (λ same. absurd (let e : n ≡ m = some_is n m (sym is ∙ ap found same ∙ h.0) in omega (arith, e, lt, up.0)))) ∙ h.0,
+  rest (end_key e) (apart key (end_key e) (λ same. absurd (let e : n ≡ m = same_Some n m (sym is ∙ ap found same ∙ h.0) in omega (arith, e, lt, up.0)))) ∙ h.0,
   kept_without found fewer key n (suc m) next ns es is (omega (arith, lt, up.0)) rest up.1 h.1,
 )
 
@@ -182,7 +176,7 @@ found_removed found fewer key low next at d (n ∷ ns) [] is rest lt up h = absu
 found_removed found fewer key low next zero d (n ∷ ns) (e ∷ es) is rest lt up h = kept_without found fewer key n (suc n) next ns es is (omega arith) rest up.1 h.1
 found_removed found fewer key low next (suc at) d (n ∷ ns) (e ∷ es) is rest lt up h =
     let above : suc n ≤ slice_index_or ns at d = from_low (suc n) ns next at d up.1 (omega (arith, lt)) in (
-      rest (end_key e) (apart key (end_key e) (λ same. absurd (let e : slice_index_or ns at d ≡ n = some_is (slice_index_or ns at d) n (sym is ∙ ap found same ∙ h.0) in omega (arith, e, above)))) ∙ h.0,
+      rest (end_key e) (apart key (end_key e) (λ same. absurd (let e : slice_index_or ns at d ≡ n = same_Some (slice_index_or ns at d) n (sym is ∙ ap found same ∙ h.0) in omega (arith, e, above)))) ∙ h.0,
       found_removed found fewer key (suc n) next at d ns es is rest (omega (arith, lt)) up.1 h.1,
     )
 

@@ -1,6 +1,7 @@
 -- Links that have a receiving end.
 use Rattle.std.proofs.Common.{◌≡◌, ℕ, ◌||◌, Bool, true, false, not, List, [], ◌∷◌, drop, find, refl, ap, zero, suc}
 use Rattle.std.specs.List.{list_any}
+use Rattle.std.proofs.lemmas.Bool.{or_right}
 use Rattle.host_pairs.specs.Entries.{receives_on}
 use Rattle.host_pairs.specs.declared.entry.Entry.{Entry}
 
@@ -8,14 +9,10 @@ use Rattle.host_pairs.specs.declared.entry.Entry.{Entry}
 abbrev pub is_free : List Entry → ℕ → Bool
 is_free entries link = not (list_any (receives_on link) entries)
 
-or_last : (a b : Bool) → b ≡ true → (a || b) ≡ true
-or_last true b h = refl
-or_last false b h = h
-
 any_behind : (test : Entry → Bool) (i : ℕ) (es : List Entry) → list_any test (drop i es) ≡ true → list_any test es ≡ true
 any_behind test zero es h = h
 any_behind test (suc i) [] h = h
-any_behind test (suc i) (e ∷ es) h = or_last (test e) (list_any test es) (any_behind test i es h)
+any_behind test (suc i) (e ∷ es) h = or_right (test e) (list_any test es) (any_behind test i es h)
 
 first_any : (test : Entry → Bool) (e : Entry) (es : List Entry) → test e ≡ true → list_any test (e ∷ es) ≡ true
 first_any test e es h = rw h refl

@@ -1,4 +1,6 @@
 -- A pair in its initial state.
+pub use Rattle.interface.proofs.lemmas.{not_true as not_is}
+pub use Rattle.std.proofs.lemmas.Bool.{and_parts as both}
 use Rattle.std.proofs.Common.{◌≡◌, ℕ, Bool, true, false, ◌&&◌, ◌||◌, ◌==◌, not, List, [], ◌∷◌, length, refl, ap, ◌∙◌, arith}
 use Rattle.std.proofs.lemmas.Bool.{eqb-true}
 use Rattle.ncp_control.specs.declared.command.Command.{Command}
@@ -10,10 +12,6 @@ use Rattle.ncp_control.specs.declared.phase.Phase.TheVariants as phase
 
 -- ---- a pair in its initial state
 
-pub both : (a b : Bool) → (a && b) ≡ true → (a ≡ true) × (b ≡ true)
-both true b h = (refl, h)
-both false b h = absurd (cc)
-
 pub none_of : {A : Type 0} (xs : List A) → (length xs == 0) ≡ true → xs ≡ []
 none_of [] e = refl
 none_of (x ∷ xs) e = absurd (let z : length (x ∷ xs) ≡ 0 = eqb-true (length (x ∷ xs)) 0 e in omega (arith, z))
@@ -24,17 +22,6 @@ closed_is phase.Want e = absurd (cc)
 closed_is (phase.Gone early) e = absurd (cc)
 closed_is phase.Heard e = absurd (cc)
 closed_is phase.Ready e = absurd (cc)
-
-pub not_is : (b : Bool) → not b ≡ true → b ≡ false
-not_is true e = absurd (cc)
-not_is false e = refl
-
-pub is_none : (b : Bool) → b ≡ false → not b ≡ true
-is_none b h = rw h refl
-
-pub neither : (a b : Bool) → (a || b) ≡ false → (a ≡ false) × (b ≡ false)
-neither true b h = absurd (cc)
-neither false b h = (refl, h)
 
 abbrev pair_of : Phase → Bool → List ℕ → List Entry → List Command → PairState
 pair_of p o b e q = record { phase = p; owed = o; busy = b; entries = e; queue = q }

@@ -3,13 +3,12 @@ use Rattle.std.proofs.Common.{◌≡◌, ℕ, ◌<◌, ◌≤◌, ◌-◌, ◌==
 use Rattle.std.specs.Bool.{OnTrue}
 use Rattle.std.specs.List.{list_any, remove}
 use Rattle.std.specs.List.Sorted.{IsPartitionPoint, IsPartitionedBy}
-use Rattle.std.proofs.lemmas.Bool.{eqb-true, ltb-false, ltb-true}
+use Rattle.std.proofs.lemmas.Bool.{eqb-true, ltb-false, ltb-true, not_from_false}
 use Rattle.host_pairs.specs.Entries.{is_at, new_entry}
 use Rattle.host_pairs.specs.Inside.Held.{none_but}
 use Rattle.host_pairs.specs.Inside.Index.{AreBelow, AreInOrder, AscendFrom, end_key, key_of}
 use Rattle.host_pairs.specs.declared.entry.Entry.{Entry}
 use Rattle.host_pairs.proofs.IndexLemmas.{at_key, not_at}
-use Rattle.host_pairs.proofs.OpeningLemmas.{is_none}
 
 weaker : (low more : ℕ) (es : List Entry) → low ≤ more → AscendFrom more es → AscendFrom low es
 weaker low more [] le h = tt
@@ -41,7 +40,7 @@ none_from own foreign (e ∷ es) h =
     rw first (none_from own foreign es h.1)
 
 pub none_before : (own foreign : ℕ) (es : List Entry) → AreBelow (key_of own foreign) es → not (list_any (is_at own foreign) es) ≡ true
-none_before own foreign es h = is_none _ (none_from own foreign es h)
+none_before own foreign es h = not_from_false _ (none_from own foreign es h)
 
 joined_from : (low : ℕ) (e : Entry) (es : List Entry) → low ≤ end_key e → AreBelow (end_key e) es → AscendFrom low es → AscendFrom low (es ++ e ∷ [])
 joined_from low e [] le below h = (le, tt)
@@ -76,7 +75,7 @@ none_above own foreign low (e ∷ es) lt h =
 only_from : (own foreign low at : ℕ) (d : Entry) (es : List Entry) → AscendFrom low es → at < length es → is_at own foreign (slice_index_or es at d) ≡ true → none_but (is_at own foreign) at es ≡ true
 only_from own foreign low at d [] h lt is = refl
 only_from own foreign low zero d (e ∷ es) h lt is =
-    is_none _ (none_above own foreign (suc (end_key e)) es (omega (arith, at_key own foreign e is)) h.1)
+    not_from_false _ (none_above own foreign (suc (end_key e)) es (omega (arith, at_key own foreign e is)) h.1)
 only_from own foreign low (suc at) d (e ∷ es) h lt is =
     let rest : suc (end_key e) ≤ end_key (slice_index_or es at d) = above (suc (end_key e)) es at d h.1 (omega (arith, lt)) in
     let first : is_at own foreign e ≡ false = not_at own foreign e (λ same. absurd (omega (arith, same, rest, at_key own foreign (slice_index_or es at d) is))) in
@@ -90,7 +89,7 @@ parted_from : (own foreign low at : ℕ) (es : List Entry) → AscendFrom low es
     → ((d : Entry) → at < length es → key_of own foreign ≤ end_key (slice_index_or es at d)) → none_but (is_at own foreign) at es ≡ true
 parted_from own foreign low at [] h before behind = refl
 parted_from own foreign low zero (e ∷ es) h before behind =
-    is_none _ (none_above own foreign (suc (end_key e)) es (omega (arith, behind e (omega arith))) h.1)
+    not_from_false _ (none_above own foreign (suc (end_key e)) es (omega (arith, behind e (omega arith))) h.1)
 parted_from own foreign low (suc at) (e ∷ es) h before behind =
     let first : is_at own foreign e ≡ false = not_at own foreign e (λ same. absurd (omega (arith, same, before 0 e (omega arith) (omega arith)))) in
     rw first (parted_from own foreign (suc (end_key e)) at es h.1 (λ k d lt there. before (suc k) d (omega (arith, lt)) (omega (arith, there))) (λ d there. behind d (omega (arith, there))))

@@ -1,4 +1,5 @@
 -- What goes out of a pair, and when it may.
+pub use Rattle.std.proofs.lemmas.Option.{same_Some as some_is}
 use Rattle.std.proofs.Common.{◌≡◌, ℕ, ◌*◌, ◌/◌, ◌<◌, ◌≤◌, ◌==◌, ◌&&◌, Bool, true, false, not, min, nat_lt, List, [], ◌∷◌, length, find, filter, Option, Some, None, is_some, refl, ap, sym, subst, ◌∙◌, arith, zero, suc}
 use Rattle.std.proofs.Math.Nat.{min-le_left, min-le_right, mul-div-le, mul-le-mul_left, zero-div}
 use Rattle.std.proofs.lemmas.Bool.{eqb-true, ltb-true}
@@ -14,6 +15,7 @@ use Rattle.host_pairs.specs.declared.entry.Entry.{Entry}
 use Rattle.ncp_control.specs.declared.phase.Phase.{Phase}
 use Rattle.ncp_control.specs.declared.phase.Phase.TheVariants as phase
 use Rattle.host_pairs.proofs.OpeningLemmas.{none_of, both, not_is}
+use Rattle.interface.proofs.lemmas.{and_none, and_turned}
 
 want_is : (p : Phase) → is_want p ≡ true → p ≡ phase.Want
 want_is phase.Closed e = absurd (cc)
@@ -82,13 +84,9 @@ none_sendable e z (Some size) =
     let bytes : length e.bits / size ≡ 0 = rw z (zero-div size) in
     omega (arith, bytes, (sendable_at e.allocation size (length e.bits / size) (e.allocation.messages == 0) refl).0)
 
-and_no : (b : Bool) → (b && false) ≡ false
-and_no true = refl
-and_no false = refl
-
 nothing_waits : (busy : List ℕ) (e : Entry) → length e.bits ≡ 0 → may_send busy e ≡ false
 nothing_waits busy e z =
-    rw (none_sendable e z e.size) (and_no (not (is_receiving e) && is_open e && is_some e.link && is_answered busy e.link))
+    rw (none_sendable e z e.size) (and_none (not (is_receiving e) && is_open e && is_some e.link && is_answered busy e.link))
 
 -- nor does one without a message left
 none_granted : (e : Entry) → (e.allocation.messages == 0) ≡ true → (size : Option ℕ) → sendable_by size e ≡ 0
@@ -97,7 +95,7 @@ none_granted e z (Some size) = rw z refl
 
 nothing_granted : (busy : List ℕ) (e : Entry) → (e.allocation.messages == 0) ≡ true → may_send busy e ≡ false
 nothing_granted busy e z =
-    rw (none_granted e z e.size) (and_no (not (is_receiving e) && is_open e && is_some e.link && is_answered busy e.link))
+    rw (none_granted e z e.size) (and_none (not (is_receiving e) && is_open e && is_some e.link && is_answered busy e.link))
 
 no_turn_by : (busy : List ℕ) (e : Entry) → (waits granted : Bool) → (length e.bits == 0) ≡ waits → (e.allocation.messages == 0) ≡ granted
     → (not waits && not granted) ≡ false → may_send busy e ≡ false
@@ -110,19 +108,10 @@ no_turn busy e h = no_turn_by busy e (length e.bits == 0) (e.allocation.messages
 
 -- ---- the link of an end
 
-pub and_turned : (a b : Bool) → (a && b) ≡ (b && a)
-and_turned true true = refl
-and_turned true false = refl
-and_turned false true = refl
-and_turned false false = refl
-
 pub on_its_link : (busy : List ℕ) (link : ℕ) (e : Entry) → (link_of e.link == link && may_send busy e) ≡ may_send_on busy link e
 on_its_link busy link e = and_turned (link_of e.link == link) (may_send busy e)
 
 -- ---- data
-
-pub some_is : {A : Type 0} (x y : A) → Some x ≡ Some y → x ≡ y
-some_is x y e = cc
 
 find_step : {A : Type 0} (test : A → Bool) (x y : A) (ys : List A) → (b : Bool) → test y ≡ b → find test (y ∷ ys) ≡ Some x → (find test ys ≡ Some x → test x ≡ true) → test x ≡ true
 find_step {A} test x y ys true e h rest = let r : Some y ≡ Some x = rw e at h in sym (ap test (some_is y x r)) ∙ e

@@ -1,6 +1,7 @@
 -- What does nothing to a service.
 use Rattle.std.proofs.Common.{◌≡◌, ℕ, ◌+◌, ◌==◌, ◌&&◌, ◌||◌, Bool, true, false, if◌then◌else◌, List, [], Option, Some, None, is_some, is_none, refl, ap, sym, ◌∙◌, arith}
 use Rattle.std.specs.Option.{option_or}
+use Rattle.std.proofs.lemmas.Bool.{or_parts}
 use Rattle.interface.specs.Host.{Host}
 use Rattle.host_pairs.specs.declared.notice.Notice.{Notice}
 use Rattle.host_pairs.specs.declared.notice.Notice.TheVariants as notice
@@ -21,20 +22,9 @@ use Rattle.host_services.specs.declared.hearing.Ear.TheVariants as ear
 use Rattle.host_services.specs.declared.hearing.Subject.{Subject}
 use Rattle.host_services.specs.declared.hearing.Subject.TheVariants as subject
 use Rattle.host_services.specs.declared.service.Service.TheVariants as service
+use Rattle.interface.proofs.lemmas.{and_none, or_nothing}
 
 -- ---- truth values
-
-pub neither : (a b : Bool) → (a || b) ≡ false → (a ≡ false) × (b ≡ false)
-neither true b e = absurd (cc)
-neither false b e = (refl, e)
-
-or_false : (b : Bool) → (b || false) ≡ b
-or_false true = refl
-or_false false = refl
-
-and_false : (b : Bool) → (b && false) ≡ false
-and_false true = refl
-and_false false = refl
 
 -- ---- what a notice is about
 
@@ -102,7 +92,7 @@ no_verdict s (Some r) (Some t) few = absurd (cc)
 no_server_failure : (s : ServerState) (n : Notice) → is_reset (subject_of n) ≡ false → is_about s.listen (subject_of n) ≡ false → is_about s.receive (subject_of n) ≡ false → is_about s.send (subject_of n) ≡ false
     → server_failure s n ≡ None
 no_server_failure s n reset listen receive send =
-    let refused : server_refused s n ≡ false = rw (not_ended s.receive n receive, not_ended s.send n send, not_ended s.listen n listen) (and_false (is_none s.user)) in
+    let refused : server_refused s n ≡ false = rw (not_ended s.receive n receive, not_ended s.send n send, not_ended s.listen n listen) (and_none (is_none s.user)) in
     let gone : server_reset s n ≡ false = rw (not_reset_of s.user n reset, not_reset_of s.receiving n reset, not_reset_of s.sending n reset) refl in
     rw (refused, gone) refl
 
@@ -111,7 +101,7 @@ nobody_met s n listen receive send =
     rw (not_opened s.listen n listen, not_opened s.receive n receive, not_opened s.send n send, or_none s.user, or_none s.receiving, or_none s.sending) refl
 
 nothing_said : (s : ServerState) (n : Notice) → is_about s.listen (subject_of n) ≡ false → server_says s n ≡ []
-nothing_said s n listen = rw (not_opened s.listen n listen, and_false (is_none s.user)) refl
+nothing_said s n listen = rw (not_opened s.listen n listen, and_none (is_none s.user)) refl
 
 none_judged : (s : ServerState) → s.over ≡ false → (is_some s.receiving && is_some s.sending) ≡ false → server_judged s [] ≡ passed s
 none_judged s over few = rw (no_verdict s s.receiving s.sending few, sym over) refl
@@ -153,7 +143,7 @@ no_bits s n own = rw (not_arrived s.own n own) refl
 
 none_met : (s : UserState) (n : Notice) (base : ℕ) → is_about s.receive (subject_of n) ≡ false → is_about s.send (subject_of n) ≡ false → user_met s base n ≡ s
 none_met s n base receive send =
-    rw (not_first_opened s.receive s.peer (base + 1) n receive, not_first_opened s.send s.peer base n send, or_false s.receiving, or_false s.sending) refl
+    rw (not_first_opened s.receive s.peer (base + 1) n receive, not_first_opened s.send s.peer base n send, or_nothing s.receiving, or_nothing s.sending) refl
 
 by_stage : (opened : Bool) (s : UserState) (n : Notice) → is_about s.own (subject_of n) ≡ false
     → (if opened then user_heard s (notices.arrived_on s.own n) else user_opened s n) ≡ passed s
@@ -205,10 +195,10 @@ by_server n s d true both over is away = rw (server_over s n over) refl
 by_server n s d false true over is away = absurd (no_truth (sym (all_by (subject_of n)) ∙ away))
 by_server n s d false false over is away =
     let reset : (is_reset (subject_of n) ≡ false) × ((is_about s.listen (subject_of n) || (is_about s.receive (subject_of n) || is_about s.send (subject_of n))) ≡ false) =
-    neither (is_reset (subject_of n)) (is_about s.listen (subject_of n) || (is_about s.receive (subject_of n) || is_about s.send (subject_of n))) (sym (begins_by s.listen s.receive s.send (subject_of n)) ∙ away) in
+    or_parts (is_reset (subject_of n)) (is_about s.listen (subject_of n) || (is_about s.receive (subject_of n) || is_about s.send (subject_of n))) (sym (begins_by s.listen s.receive s.send (subject_of n)) ∙ away) in
     let listen : (is_about s.listen (subject_of n) ≡ false) × ((is_about s.receive (subject_of n) || is_about s.send (subject_of n)) ≡ false) =
-    neither (is_about s.listen (subject_of n)) (is_about s.receive (subject_of n) || is_about s.send (subject_of n)) reset.1 in
-    let ends : (is_about s.receive (subject_of n) ≡ false) × (is_about s.send (subject_of n) ≡ false) = neither (is_about s.receive (subject_of n)) (is_about s.send (subject_of n)) listen.1 in
+    or_parts (is_about s.listen (subject_of n)) (is_about s.receive (subject_of n) || is_about s.send (subject_of n)) reset.1 in
+    let ends : (is_about s.receive (subject_of n) ≡ false) × (is_about s.send (subject_of n) ≡ false) = or_parts (is_about s.receive (subject_of n)) (is_about s.send (subject_of n)) listen.1 in
     rw (server_passed s n over is reset.0 listen.0 ends.0 ends.1) refl
 
 by_user : (n : Notice) (s : UserState) (d : ServiceDeskState) (over both : Bool) → s.over ≡ over → (s.receiving && s.sending) ≡ both
@@ -217,18 +207,18 @@ by_user n s d true both over is away = rw (user_over s n over) refl
 by_user n s d false true over is away = absurd (no_truth (sym (all_by (subject_of n)) ∙ away))
 by_user n s d false false over is away =
     let reset : (is_reset (subject_of n) ≡ false) × ((is_about s.own (subject_of n) || (is_about s.receive (subject_of n) || is_about s.send (subject_of n))) ≡ false) =
-    neither (is_reset (subject_of n)) (is_about s.own (subject_of n) || (is_about s.receive (subject_of n) || is_about s.send (subject_of n))) (sym (begins_by s.own s.receive s.send (subject_of n)) ∙ away) in
+    or_parts (is_reset (subject_of n)) (is_about s.own (subject_of n) || (is_about s.receive (subject_of n) || is_about s.send (subject_of n))) (sym (begins_by s.own s.receive s.send (subject_of n)) ∙ away) in
     let own : (is_about s.own (subject_of n) ≡ false) × ((is_about s.receive (subject_of n) || is_about s.send (subject_of n)) ≡ false) =
-    neither (is_about s.own (subject_of n)) (is_about s.receive (subject_of n) || is_about s.send (subject_of n)) reset.1 in
-    let ends : (is_about s.receive (subject_of n) ≡ false) × (is_about s.send (subject_of n) ≡ false) = neither (is_about s.receive (subject_of n)) (is_about s.send (subject_of n)) own.1 in
+    or_parts (is_about s.own (subject_of n)) (is_about s.receive (subject_of n) || is_about s.send (subject_of n)) reset.1 in
+    let ends : (is_about s.receive (subject_of n) ≡ false) × (is_about s.send (subject_of n) ≡ false) = or_parts (is_about s.receive (subject_of n)) (is_about s.send (subject_of n)) own.1 in
     rw (user_passed s n over is reset.0 own.0 ends.0 ends.1) refl
 
 pub deaf : (n : Notice) (s : Service) (d : ServiceDeskState) → hears (ear_of s) (subject_of n) ≡ false → heard_by n s d ≡ (s, d)
 deaf n (service.Server s) d away = by_server n s d s.over (is_some s.receiving && is_some s.sending) refl refl away
 deaf n (service.User s) d away = by_user n s d s.over (s.receiving && s.sending) refl refl away
 deaf n (service.Echo s) d away =
-    let ends : (is_about s.receive (subject_of n) ≡ false) × (is_about s.send (subject_of n) ≡ false) = neither (is_about s.receive (subject_of n)) (is_about s.send (subject_of n)) (sym (ends_by s.receive s.send (subject_of n)) ∙ away) in
+    let ends : (is_about s.receive (subject_of n) ≡ false) × (is_about s.send (subject_of n) ≡ false) = or_parts (is_about s.receive (subject_of n)) (is_about s.send (subject_of n)) (sym (ends_by s.receive s.send (subject_of n)) ∙ away) in
     quiet_echo n s d (arrived_elsewhere s.receive n ends.0) (nothing_closed s.receive s.send n ends.0 ends.1)
 deaf n (service.Terminal s) d away =
-    let ends : (is_about s.receive (subject_of n) ≡ false) × (is_about s.send (subject_of n) ≡ false) = neither (is_about s.receive (subject_of n)) (is_about s.send (subject_of n)) (sym (ends_by s.receive s.send (subject_of n)) ∙ away) in
+    let ends : (is_about s.receive (subject_of n) ≡ false) × (is_about s.send (subject_of n) ≡ false) = or_parts (is_about s.receive (subject_of n)) (is_about s.send (subject_of n)) (sym (ends_by s.receive s.send (subject_of n)) ∙ away) in
     quiet_terminal n s d (arrived_elsewhere s.receive n ends.0) (nothing_closed s.receive s.send n ends.0 ends.1)

@@ -1,7 +1,7 @@
 -- What the scope of several services has room for, and what passes by all of them.
 use Rattle.std.proofs.Common.{◌≡◌, ◌≤◌, ◌==◌, ℕ, Bool, true, false, min, max, List, [], ◌∷◌, ◌++◌, map, refl, ◌∙◌, ap, sym, subst, arith}
 use Rattle.std.proofs.Math.Nat.{min-le_left, min-le_right, le-max_left, le-max_right}
-use Rattle.std.proofs.lemmas.Bool.{OnFalse_from}
+use Rattle.std.proofs.lemmas.Bool.{OnFalse_from, or_parts}
 use Rattle.std.proofs.lemmas.Bool.Decides.{nat_tests}
 use Rattle.std.specs.Bool.{OnFalse}
 use Rattle.std.specs.List.{fold}
@@ -14,7 +14,7 @@ use Rattle.host_services.specs.declared.hearing.Ear.TheVariants as ear
 use Rattle.host_services.specs.declared.hearing.Scope.{Scope}
 use Rattle.host_services.specs.declared.hearing.Subject.{Subject}
 use Rattle.host_services.specs.declared.hearing.Subject.TheVariants as subject
-use Rattle.host_services.proofs.HearingLemmas.{deaf, neither, no_truth}
+use Rattle.host_services.proofs.HearingLemmas.{deaf, no_truth}
 use Rattle.host_services.proofs.TurnLemmas.{next_heard}
 
 -- ---- as wide as it has to be
@@ -112,7 +112,7 @@ out_of s e subject.Other h few away = not_all s e h few
 
 unheard : (s : Scope) (e : Ear) (t : Subject) → IsHeardIn s e → is_heard_in s t ≡ false → hears e t ≡ false
 unheard s e t h away =
-    let both : (s.everything ≡ false) × (has_room s t ≡ false) = neither s.everything (has_room s t) away in
+    let both : (s.everything ≡ false) × (has_room s t ≡ false) = or_parts s.everything (has_room s t) away in
     out_of s e t h both.0 both.1
 
 pub out_of_scope : (n : Notice) (s : Scope) → is_heard_in s (subject_of n) ≡ false → (xs : List Service) → AreHeardIn s (map ear_of xs) → (d : ServiceDeskState) → notice_heard n xs d ≡ (xs, d)

@@ -3,7 +3,7 @@ use Rattle.std.proofs.Common.{◌≡◌, ℕ, ◌+◌, ◌≤◌, ◌==◌, ◌&
 use Rattle.std.proofs.lemmas.Bool.Decides.{nat_tests}
 use Rattle.std.specs.Option.{option_or}
 use Rattle.interface.specs.Host.{Host, same_host}
-use Rattle.interface.proofs.lemmas.{same_host-true}
+use Rattle.interface.proofs.lemmas.{same_host-true, and_first, and_second}
 use Rattle.icp.specs.Notices.{is_partner, opened_on}
 use Rattle.icp.specs.Outcomes.{IcpTurn, passed}
 use Rattle.icp.specs.Played.{IsServed, above, before, opened_in, outcomes_of, server_played}
@@ -72,21 +72,13 @@ pub record IsVerdict (m : ServerState) (a b : Option Partner) (r t : ℕ) : Type
   pub receive : r ≡ m.receive
   pub send : t ≡ m.send
 
-pub both_first : (a b : Bool) → (a && b) ≡ true → a ≡ true
-both_first true b e = refl
-both_first false b e = e
-
-pub both_second : (a b : Bool) → (a && b) ≡ true → b ≡ true
-both_second true b e = e
-both_second false b e = absurd (grind arith)
-
 abbrev the_partner : Host → ℕ → Partner
 the_partner h k = record { peer = h; socket = k }
 
 partner_is : (p q : Partner) → is_partner p.peer p.socket q ≡ true → q ≡ p
 partner_is p q same =
-    let host : q.peer ≡ p.peer = same_host-true q.peer p.peer (both_first (same_host q.peer p.peer) (q.socket == p.socket) same) in
-    let number : (q.socket == p.socket) ≡ true = both_second (same_host q.peer p.peer) (q.socket == p.socket) same in
+    let host : q.peer ≡ p.peer = same_host-true q.peer p.peer (and_first (same_host q.peer p.peer) (q.socket == p.socket) same) in
+    let number : (q.socket == p.socket) ≡ true = and_second (same_host q.peer p.peer) (q.socket == p.socket) same in
     let socket : q.socket ≡ p.socket = grind (arith, nat_tests) in
     ap (λ (h : Host). the_partner h q.socket) host ∙ ap (λ (k : ℕ). the_partner p.peer k) socket
 
@@ -98,8 +90,8 @@ verdict_by m a b r t (Some u) true is of e =
     record {
       user = u;
       asked = is;
-      receiving = ap (λ (p : Partner). Some p) (partner_is (above 3 u) a (both_first (is_partner u.peer (u.socket + 3) a) (is_partner u.peer (u.socket + 2) b) of));
-      sending = ap (λ (p : Partner). Some p) (partner_is (above 2 u) b (both_second (is_partner u.peer (u.socket + 3) a) (is_partner u.peer (u.socket + 2) b) of));
+      receiving = ap (λ (p : Partner). Some p) (partner_is (above 3 u) a (and_first (is_partner u.peer (u.socket + 3) a) (is_partner u.peer (u.socket + 2) b) of));
+      sending = ap (λ (p : Partner). Some p) (partner_is (above 2 u) b (and_second (is_partner u.peer (u.socket + 3) a) (is_partner u.peer (u.socket + 2) b) of));
       receive = ap receive_of all;
       send = ap send_of all;
     }

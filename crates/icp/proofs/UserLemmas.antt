@@ -14,7 +14,8 @@ use Rattle.icp.specs.declared.outcome.Failure.{Failure}
 use Rattle.icp.specs.declared.outcome.Outcome.{Outcome}
 use Rattle.icp.specs.declared.outcome.Outcome.TheVariants as outcome
 use Rattle.host_pairs.specs.declared.notice.Notice.{Notice}
-use Rattle.icp.proofs.ServerLemmas.{both_first, both_second, ended_by, is_done, is_not, receive_of, send_of}
+use Rattle.icp.proofs.ServerLemmas.{ended_by, is_done, is_not, receive_of, send_of}
+use Rattle.interface.proofs.lemmas.{and_first, and_second}
 
 -- ---- after its outcome
 
@@ -248,8 +249,8 @@ by_both s n ns r t again base known true both e =
       base = base;
       known = base_some s.base base known;
       said = λ unknown. absurd (is_not (sym (ap is_some (sym known ∙ unknown))));
-      receiving = here_or s.receiving (is_opened s.receive s.peer (base + 1) n) (list_any (λ m. is_opened s.receive s.peer (base + 1) m) ns) (both_first m.receiving m.sending both);
-      sending = here_or s.sending (is_opened s.send s.peer base n) (list_any (λ m. is_opened s.send s.peer base m) ns) (both_second m.receiving m.sending both);
+      receiving = here_or s.receiving (is_opened s.receive s.peer (base + 1) n) (list_any (λ m. is_opened s.receive s.peer (base + 1) m) ns) (and_first m.receiving m.sending both);
+      sending = here_or s.sending (is_opened s.send s.peer base n) (list_any (λ m. is_opened s.send s.peer base m) ns) (and_second m.receiving m.sending both);
     }
 by_both s n ns r t again base known false both e =
     let m : UserState = user_met s base n in

@@ -49,7 +49,7 @@ one_more gone freed after is more = rw is more
 pub none_more : (gone : Bool) (freed after : ℕ) → gone ≡ false → after ≡ freed → after ≡ freed + cond gone 1 0
 none_more gone freed after is same = rw is (omega (arith, same))
 
-same_differs : (bit : Bool) → differs bit bit ≡ false
+pub same_differs : (bit : Bool) → differs bit bit ≡ false
 same_differs true = refl
 same_differs false = refl
 

@@ -6,6 +6,7 @@ use Rattle.packetiser.specs.PacketFields.{PacketFields}
 use Rattle.imp_channel.specs.Line.{differs, acknowledged}
 use Rattle.imp_channel.specs.Schedule.{freed_by, Begins}
 use Rattle.imp_channel.specs.declared.channel.Channel.{Channel}
+use Rattle.imp_channel.proofs.Acknowledging.{same_differs}
 
 -- a packet under its bit, or a frame with none on this channel
 abbrev pub Passing : Type 0
@@ -215,10 +216,6 @@ kept_submit ch p expects way acks put given freed free (inr (inr k)) = let at = 
 
 -- Taking a frame.
 
-differs_same : (b : Bool) → differs b b ≡ false
-differs_same true = refl
-differs_same false = refl
-
 differs_not : (b : Bool) → differs (not b) b ≡ true
 differs_not true = refl
 differs_not false = refl
@@ -268,7 +265,7 @@ acked_same : (b a : Bool) (p : PacketFields) (expects : Bool) (way : List Passin
     → a ≡ b → Kept (record { bit = b; packet = Some p }) expects way acks put given freed
     → Kept (acked_on (differs a b) b p) expects way acks put given (freed ++ freed_by (Some p) (acked_on (differs a b) b p).packet)
 acked_same b a p expects way acks put given freed e k =
-    let same : differs a b ≡ false = ap (λ (v : Bool). differs v b) e ∙ differs_same b in
+    let same : differs a b ≡ false = ap (λ (v : Bool). differs v b) e ∙ same_differs b in
     let P : Bool → Type 0 = λ d. Kept (acked_on d b p) expects way acks put given (freed ++ freed_by (Some p) (acked_on d b p).packet) in
     subst P (sym same) (kept_more_freed (record { bit = b; packet = Some p }) expects way acks put given freed k)
 
@@ -317,7 +314,7 @@ came_first : (ch : Channel) (expects : Bool) (m : Bool × PacketFields) (way : L
     → (k : IsWaiting ch expects (Some m ∷ way) acks put given freed) → m.0 ≡ ch.bit → m.1 ≡ k.held → AllThis ch.bit k.held way
     → Kept ch (expected_by (Some m) expects) (Some m ∷ way) acks put (given ++ given_by (Some m) expects) freed
 came_first ch expects m way acks put given freed k bit packet rest =
-    let same : differs m.0 expects ≡ false = ap (λ (v : Bool). differs m.0 v) (k.expected ∙ sym bit) ∙ differs_same m.0 in
+    let same : differs m.0 expects ≡ false = ap (λ (v : Bool). differs m.0 v) (k.expected ∙ sym bit) ∙ same_differs m.0 in
     let P : Bool → Type 0 = λ d. Kept ch (cond (not d) (not m.0) expects) (Some m ∷ way) acks put (given ++ cond (not d) (m.1 ∷ []) []) freed in
     let this : given ++ m.1 ∷ [] ≡ given ++ k.held ∷ [] = ap (λ (q : PacketFields). given ++ q ∷ []) packet in
     subst P (sym same)

@@ -11,14 +11,11 @@ use Rattle.imp_node.specs.State.{State, port_at}
 use Rattle.imp_node.specs.Arrival.{arrival, arrived, arrival_has_room, acknowledged, frame_taken, ignored, fresh, taken_frame, from_line}
 use Rattle.imp_node.specs.Pump.{pump}
 use Rattle.imp_node.specs.Inside.Arriving.{lost_by}
-
-room_by : (room : Bool) → not room ≡ false → room ≡ true
-room_by true e = refl
-room_by false e = cc
+use Rattle.interface.proofs.lemmas.{not_false}
 
 -- a frame that brings a fresh packet and isn't lost: there is room for it
 room_of_fresh : (r : Result Received ChannelFault) (s : State) (p : PacketFields) → r ≡ Ok (received.Fresh p) → lost_by r s ≡ false → arrival_has_room (arrival s p) s p ≡ true
-room_of_fresh r s p e kept = room_by _ (subst (λ (x : Result Received ChannelFault). lost_by x s ≡ false) e kept)
+room_of_fresh r s p e kept = not_false _ (subst (λ (x : Result Received ChannelFault). lost_by x s ≡ false) e kept)
 
 -- a frame at a live end
 at_live_end : (s : State) (k : ℕ) (f : Frame) → (port_at s.ports k).up ≡ true → from_line s k f ≡ taken_frame (answer_to (port_at s.ports k).line f) k f s

@@ -1,7 +1,7 @@
 -- A packet that is passed on at once.
 use Rattle.std.specs.Prelude.{if◌then◌else◌, option_to_list}
 use Rattle.std.proofs.Common.{◌≡◌, ℕ, Bool, true, false, not, List, ◌∷◌, ◌++◌, length, nat_lt, ◌==◌, ◌&&◌, Option, Result, Ok, refl, ap, sym, subst, ◌∙◌, arith}
-use Rattle.std.proofs.lemmas.Bool.{eqb-true}
+use Rattle.std.proofs.lemmas.Bool.{eqb-true, and_parts}
 use Rattle.std.proofs.lemmas.Bool.Decides.{nat_tests}
 use Rattle.packetiser.specs.PacketFields.{PacketFields}
 use Rattle.imp_channel.specs.Line.{acknowledgement, answer_to}
@@ -20,15 +20,7 @@ use Rattle.imp_node.specs.State.{State, ImpTurn, number, port_at}
 use Rattle.imp_node.specs.Turns.{from_line_grows}
 use Rattle.imp_node.proofs.Arrivals.{from_line_fresh}
 use Rattle.imp_node.proofs.Pumping.{passed}
-
-and_two : (a b : Bool) → (a && b) ≡ true → (a ≡ true) × (b ≡ true)
-and_two true true all = (refl, refl)
-and_two true false all = cc
-and_two false b all = cc
-
-not_true : (b : Bool) → not b ≡ true → b ≡ false
-not_true true e = cc
-not_true false e = refl
+use Rattle.interface.proofs.lemmas.{not_true}
 
 untrue : false ≡ true → ⊥
 untrue e = cc
@@ -44,8 +36,8 @@ record IsPassing (s : State) (k : ℕ) (f : Frame) : Type 0 where
 
 is_passing : (s : State) (k : ℕ) (f : Frame) → passes s k f ≡ true → IsPassing s k f
 is_passing s k f is =
-    let all = and_two (port_at s.ports k).up (length s.store == 0 && brings_passing (answer_to (port_at s.ports k).line f) s) is in
-    let rest = and_two (length s.store == 0) (brings_passing (answer_to (port_at s.ports k).line f) s) all.1 in
+    let all = and_parts (port_at s.ports k).up (length s.store == 0 && brings_passing (answer_to (port_at s.ports k).line f) s) is in
+    let rest = and_parts (length s.store == 0) (brings_passing (answer_to (port_at s.ports k).line f) s) all.1 in
     record { up = all.0; waits = eqb-true (length s.store) 0 rest.0; brings = rest.1 }
 
 pub none_waits : (s : State) (k : ℕ) (f : Frame) → passes s k f ≡ true → length s.store ≡ 0
@@ -68,7 +60,7 @@ record Goes (s : State) (p : PacketFields) : Type 0 where
 
 goes : (s : State) (p : PacketFields) → (not (target p == number s) && has_room_to s (target p)) ≡ true → Goes s p
 goes s p is =
-    let both = and_two (not (target p == number s)) (has_room_to s (target p)) is in
+    let both = and_parts (not (target p == number s)) (has_room_to s (target p)) is in
     record { passing = ap (λ (b : Bool). if b then arrival_by p.kind s p else Passing) (not_true (target p == number s) both.0); room = both.1 }
 
 goes_on : (s : State) (k : ℕ) (f : Frame) (p : PacketFields) → passes s k f ≡ true → answer_to (port_at s.ports k).line f ≡ Ok (received.Fresh p) → Goes s p

@@ -29,13 +29,6 @@ none_in : (q : Sought) (ps : List PacketFields) → length ps ≡ 0 → list_any
 none_in q [] none = refl
 none_in q (p ∷ ps) none = absurd (omega (arith, none))
 
--- the number may be compared before the flow
-pub number_first : (a b : Bool) → (a && b) ≡ (b && a)
-number_first true true = refl
-number_first true false = refl
-number_first false true = refl
-number_first false false = refl
-
 pub any_in_channels : (q : Sought) (chs : List Channel) → list_any (packet_is q) (channels.packets_in chs) ≡ list_any (λ channel. list_any (packet_is q) (channels.packet_of channel.packet)) chs
 any_in_channels q [] = refl
 any_in_channels q (ch ∷ chs) =

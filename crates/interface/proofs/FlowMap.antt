@@ -37,7 +37,7 @@ one_removed es ds f h = same_map flows_total exact_flows _ _ (λ g.
     get_flow ds g ∙ h g ∙ ap (λ b. cond b None (value_at es g)) ((eq_by_cmp_equiv flows_total).symm f g)
     ∙ sym (get-remove flows_total (from_entries es) f g ∙ ap (cond (is_at (flow_cmp g) f) None) (get_flow es g)))
 
-is_equal : (o : Ordering) → is_eq o ≡ true → o ≡ Equal
+pub is_equal : (o : Ordering) → is_eq o ≡ true → o ≡ Equal
 is_equal Less e = absurd (cc)
 is_equal Equal e = refl
 is_equal Greater e = absurd (cc)

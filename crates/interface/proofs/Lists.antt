@@ -1,7 +1,9 @@
 -- Tests of hosts and flows, and chains of tests.
-use Rattle.std.proofs.Common.{arith, Bor, option_copied, slice_get, ◌≡◌, ℕ, Bool, true, false, not, ◌&&◌, ◌||◌, List, Option, Some, None, refl, ap, sym, subst, ◌∙◌, inl, inr, ◌⊎◌, ◌==◌, if◌then◌else◌, eq-eqb}
+pub use Rattle.std.proofs.lemmas.Bool.{and_parts as and_true, or_parts as or_false}
+use Rattle.std.proofs.Common.{arith, Bor, option_copied, slice_get, ◌≡◌, ℕ, Bool, true, false, not, ◌&&◌, ◌||◌, suc, List, [], ◌∷◌, Option, Some, None, refl, ap, sym, subst, ◌∙◌, inl, inr, ◌⊎◌, ◌==◌, if◌then◌else◌, eq-eqb}
 use Rattle.std.proofs.lemmas.Bool.{eqb-true}
 use Rattle.std.proofs.lemmas.Option.{slice_get-get_or, slice_get_past}
+use Rattle.std.specs.List.{Contains}
 use Rattle.std.specs.Slice.{IsItemAt}
 use Rattle.interface.specs.Host.{Host, same_host}
 use Rattle.interface.specs.Mailboxes.{same_flow, Box, Empty, Waiting, Taken, WaitsWith}
@@ -18,17 +20,34 @@ pub not_false : (b : Bool) → not b ≡ false → b ≡ true
 not_false true h = refl
 not_false false h = absurd (cc)
 
-pub and_true : (a b : Bool) → (a && b) ≡ true → (a ≡ true) × (b ≡ true)
-and_true true b h = (refl, h)
-and_true false b h = absurd (cc)
+pub not_true : (b : Bool) → not b ≡ true → b ≡ false
+not_true true h = absurd (cc)
+not_true false h = refl
 
-pub or_false : (a b : Bool) → (a || b) ≡ false → (a ≡ false) × (b ≡ false)
-or_false true b h = absurd (cc)
-or_false false b h = (refl, h)
+pub unlike : (b : Bool) → b ≡ true → b ≡ false → ⊥
+unlike b e f = absurd (let clash : true ≡ false = sym e ∙ f in cc)
 
-pub or_true : (a b : Bool) → (a || b) ≡ true → (a ≡ true) ⊎ (b ≡ true)
-or_true true b h = inl refl
-or_true false b h = inr h
+pub and_none : (a : Bool) → (a && false) ≡ false
+and_none true = refl
+and_none false = refl
+
+pub and_turned : (a b : Bool) → (a && b) ≡ (b && a)
+and_turned true true = refl
+and_turned true false = refl
+and_turned false true = refl
+and_turned false false = refl
+
+pub and_first : (a b : Bool) → (a && b) ≡ true → a ≡ true
+and_first a b e = (and_true a b e).0
+
+pub and_second : (a b : Bool) → (a && b) ≡ true → b ≡ true
+and_second a b e = (and_true a b e).1
+
+pub or_first : (a b : Bool) → (a || b) ≡ false → a ≡ false
+or_first a b e = (or_false a b e).0
+
+pub or_second : (a b : Bool) → (a || b) ≡ false → b ≡ false
+or_second a b e = (or_false a b e).1
 
 pub or_nothing : (a : Bool) → (a || false) ≡ a
 or_nothing true = refl
@@ -38,6 +57,17 @@ pub both_ways : (a b : Bool) → (a ≡ true → b ≡ true) → (b ≡ true →
 both_ways true b f g = sym (f refl)
 both_ways false true f g = g refl
 both_ways false false f g = refl
+
+-- ---- lists
+
+pub contains_head : {A : Type 0} (x : A) (xs : List A) → Contains (x ∷ xs) x
+contains_head x xs = (0, omega arith, refl)
+
+pub contains_tail : {A : Type 0} (x : A) (xs : List A) (y : A) → Contains xs y → Contains (x ∷ xs) y
+contains_tail x xs y (k, h, e) = (suc k, omega arith, e)
+
+pub contains_none : {A : Type 0} (x : A) → Contains [] x → ⊥
+contains_none x (k, h, e) = omega arith
 
 -- ---- hosts and flows
 

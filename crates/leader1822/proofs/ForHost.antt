@@ -16,13 +16,9 @@ use Rattle.interface.specs.declared.crossing.Answer.TheVariants as answer
 use Rattle.interface.specs.declared.message.HostMessage.{HostMessage}
 use Rattle.interface.proofs.lemmas.{both_ways, exact_hosts, hosts_total, same_flow-refl, same_flow-true, same_host-refl, same_host-true}
 use Rattle.leader1822.proofs.Waiting.{texts_of-append, kinds_of-append, texts_one_same, texts_one_other, kinds_one_same, kinds_one_other, if_same}
+use Rattle.interface.proofs.lemmas.{is_equal}
 
 -- ---- one queue
-
-is_equal : (o : Ordering) → is_eq o ≡ true → o ≡ Equal
-is_equal Less e = absurd (cc)
-is_equal Equal e = refl
-is_equal Greater e = absurd (cc)
 
 -- hosts compare alike exactly where they are one
 pub eq_host : (g h : Host) → eq_by_cmp host_cmp g h ≡ same_host g h

@@ -14,7 +14,7 @@ use Rattle.interface.specs.declared.crossing.Crossing.TheVariants as crossing
 use Rattle.interface.specs.declared.crossing.Inbound.TheVariants as inbound
 use Rattle.interface.specs.declared.message.HostMessage.{HostMessage}
 use Rattle.interface.proofs.lemmas.{or_false}
-use Rattle.leader1822.proofs.Waiting.{has_any, any_of, any_rfnm}
+use Rattle.leader1822.proofs.Waiting.{has_any, any_of, any_rfnm, none_waits}
 use Rattle.leader1822.proofs.SoundEvents.{Outstanding, outstanding}
 
 -- ---- counting
@@ -94,10 +94,6 @@ is_up true true e = absurd (false≢true e)
 is_up true false e = refl
 is_up false w e = absurd (false≢true e)
 
-empty_of : {A : Type 0} (xs : List A) → has_any xs ≡ false → xs ≡ []
-empty_of [] e = refl
-empty_of (x ∷ xs) e = absurd (false≢true (sym e))
-
 by_source : (c : Held) (f : Flow) → IsIndexed c → Matches c.boxes → texts_for c.boxes f ≡ [] → list_any is_rfnm (kinds_for c.boxes f) ≡ true
     → (s : Bool) → is_running c.boxes.hosts c.boxes.down f.source ≡ s → ByRfnm c f
 by_source c f i k quiet rfnm false e = absurd (false≢true (ap (list_any is_rfnm) (sym ((k.flows f).shut e)) ∙ rfnm))
@@ -118,7 +114,7 @@ by_rfnm c f i s none told =
     let b = c.boxes in
     let o : Outstanding b f = outstanding b f none in
     let k : Matches b = s.matches o.running in
-    let quiet : texts_for b f ≡ [] = empty_of (texts_for b f) (sym (has_text (texts_for b f) (kinds_for b f)) ∙ ap is_message (sym (i.each f)) ∙ told) in
+    let quiet : texts_for b f ≡ [] = none_waits (texts_for b f) (sym (has_text (texts_for b f) (kinds_for b f)) ∙ ap is_message (sym (i.each f)) ∙ told) in
     let rfnm : list_any is_rfnm (kinds_for b f) ≡ true = ap (λ (ts : List (List Bool)). has_any ts || list_any is_rfnm (kinds_for b f)) (sym quiet) ∙ o.busy in
     by_source c f i k quiet rfnm (is_running b.hosts b.down f.source) refl
 

@@ -1,6 +1,7 @@
 -- Plain boxes rest while their map by flow is empty.
 use Rattle.std.proofs.Common.{◌≡◌, inl, inr, Bool, true, false, ◌||◌, List, [], ◌∷◌, Option, Some, None, is_some, Ok, Err, refl, ap, sym, ◌∙◌}
 use Rattle.std.specs.FinMap.{empty, get, get-empty}
+use Rattle.std.proofs.lemmas.Bool.{or_right, or_left}
 use Rattle.interface.specs.Host.{Host, is_host}
 use Rattle.interface.specs.Flow.{flow_cmp}
 use Rattle.interface.specs.Rest.{Rests, TakesNothing}
@@ -14,14 +15,7 @@ use Rattle.interface.specs.declared.message.HostMessage.{HostMessage}
 use Rattle.interface.proofs.lemmas.{same_flow-refl, same_host-true}
 use Rattle.leader1822.proofs.Waiting.{has_any}
 use Rattle.leader1822.proofs.Index.{some_pending}
-
-or_some : (a b : Bool) → a ≡ true → (a || b) ≡ true
-or_some true b e = refl
-or_some false b e = absurd (cc)
-
-or_last : (a b : Bool) → b ≡ true → (a || b) ≡ true
-or_last true b e = refl
-or_last false b e = e
+use Rattle.leader1822.proofs.SoundCalls.{none_first}
 
 -- of a flow that isn't in the map nothing waits
 none_of : (c : Held) (f : Flow) → IsIndexed c → c.flows ≡ empty → (has_any (texts_for c.boxes f) || has_any (kinds_for c.boxes f)) ≡ true → ⊥
@@ -37,7 +31,7 @@ no_message c h (m ∷ q) i none to is =
     let there : f.destination ≡ h = sym (same_host-true h f.destination to.0) in
     let waits : has_any (texts_of f (m ∷ q)) ≡ true = rw (same_flow-refl f) refl in
     let text : has_any (texts_for c.boxes f) ≡ true = ap (λ (x : Host). has_any (texts_of f (for_host c.boxes.messages x))) there ∙ ap (λ (ms : List HostMessage). has_any (texts_of f ms)) is ∙ waits in
-    absurd (none_of c f i none (or_some (has_any (texts_for c.boxes f)) (has_any (kinds_for c.boxes f)) text))
+    absurd (none_of c f i none (or_left (has_any (texts_for c.boxes f)) (has_any (kinds_for c.boxes f)) text))
 
 no_answer : (c : Held) (h : Host) (q : List WaitingAnswer) → IsIndexed c → c.flows ≡ empty → AreToldTo h q → for_host c.boxes.answers h ≡ q → first_of_list q ≡ None
 no_answer c h [] i none to is = refl
@@ -46,7 +40,7 @@ no_answer c h (a ∷ q) i none to is =
     let there : f.source ≡ h = sym (same_host-true h f.source to.0) in
     let waits : has_any (kinds_of f (a ∷ q)) ≡ true = rw (same_flow-refl f) refl in
     let kind : has_any (kinds_for c.boxes f) ≡ true = ap (λ (x : Host). has_any (kinds_of f (for_host c.boxes.answers x))) there ∙ ap (λ (xs : List WaitingAnswer). has_any (kinds_of f xs)) is ∙ waits in
-    absurd (none_of c f i none (or_last (has_any (texts_for c.boxes f)) (has_any (kinds_for c.boxes f)) kind))
+    absurd (none_of c f i none (or_right (has_any (texts_for c.boxes f)) (has_any (kinds_for c.boxes f)) kind))
 
 -- where the map is empty, nothing waits for any host
 pub none_waits : (c : Held) (h : Host) → IsKept c → c.boxes.stopped ≡ false → c.flows ≡ empty → next_for c.boxes h ≡ None
@@ -70,11 +64,6 @@ boxes_rest b goes none = record {
   takings = λ h. taking b h goes (none h);
 }
 
--- and each message of a host that is up was answered
-first_none : {A : Type 0} (xs : List A) → first_of_list xs ≡ None → xs ≡ []
-first_none [] e = refl
-first_none (x ∷ xs) e = absurd (cc)
-
 pub all_answered : (b : Boxes) → Matches b → ((h : Host) → next_for b h ≡ None) → AllAnswered b
 all_answered b m none f up =
     elim ((m.flows f).told (sym (m.up f.source) ∙ up) (ap (texts_of f) (messages f.destination))) [
@@ -82,7 +71,7 @@ all_answered b m none f up =
       | inr one ↦ absurd (let no : one.0 ∷ [] ≡ [] = sym one.1 ∙ ap (kinds_of f) (answers f.source) in cc)
     ] where
       by : (h : Host) → (a : Option WaitingAnswer) (o : Option HostMessage) → first_of_list (for_host b.answers h) ≡ a → first_of_list (for_host b.messages h) ≡ o → answer_first a o ≡ None → (for_host b.answers h ≡ []) × (for_host b.messages h ≡ [])
-      by h None None e g n = (first_none (for_host b.answers h) e, first_none (for_host b.messages h) g)
+      by h None None e g n = (none_first (for_host b.answers h) e, none_first (for_host b.messages h) g)
       by h (Some a) o e g n = absurd (cc)
       by h None (Some x) e g n = absurd (cc)
 

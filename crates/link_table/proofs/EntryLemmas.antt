@@ -9,35 +9,24 @@ use Rattle.std.specs.Cmp.{eq_by_cmp_equiv}
 use Rattle.std.specs.FinMap.{entries, entries_sorted, get, get-entries, from_entries, from_sorted, get-from_entries, get-from_sorted, entries-from_sorted, same_map}
 use Rattle.std.specs.FinMap.Entries.{find, below_all, is_sorted}
 use Rattle.std.specs.Map.{keys_of}
+use Rattle.std.proofs.lemmas.Bool.{and_from}
 use Rattle.interface.specs.Host.{Host, same_host}
 use Rattle.interface.specs.declared.address.Flow.{Flow}
 use Rattle.link_table.specs.Keys.{flow_cmp}
 use Rattle.link_table.specs.Flows.{Sources, outstanding_in, has_outstanding, has_outstanding_to}
 use Rattle.link_table.specs.declared.source.Standing.{Standing}
-use Rattle.interface.proofs.lemmas.{exact_flows, flows_total, or_false}
-
-both : (a b : Bool) → a ≡ true → b ≡ true → (a && b) ≡ true
-both true b e f = f
-both false b e f = absurd (cc)
-
-first_of : (a b : Bool) → (a && b) ≡ true → a ≡ true
-first_of true b e = refl
-first_of false b e = absurd (cc)
-
-second_of : (a b : Bool) → (a && b) ≡ true → b ≡ true
-second_of true b e = e
-second_of false b e = absurd (cc)
+use Rattle.interface.proofs.lemmas.{exact_flows, flows_total, or_false, and_first, and_second, is_equal}
 
 -- ---- the map of entries whose flows rise
 
 rises : {V : Type 0} (f : Flow) (es : List (Flow × V)) → AllByRecursion (λ g. flow_cmp f g ≡ Less) (keys_of es) → below_all flow_cmp f es ≡ true
 rises f [] h = refl
-rises f (e ∷ es) h = both (is_lt (flow_cmp f e.0)) (below_all flow_cmp f es) (ap is_lt h.0) (rises f es h.1)
+rises f (e ∷ es) h = and_from (is_lt (flow_cmp f e.0)) (below_all flow_cmp f es) (ap is_lt h.0) (rises f es h.1)
 
 sorted_from : {V : Type 0} (es : List (Flow × V)) → IsStrictlySortedBy flow_cmp (keys_of es) → is_sorted flow_cmp es ≡ true
 unfolding IsStrictlySortedBy
 sorted_from [] h = refl
-sorted_from (e ∷ es) h = both (below_all flow_cmp e.0 es) (is_sorted flow_cmp es) (rises e.0 es h.0) (sorted_from es h.1)
+sorted_from (e ∷ es) h = and_from (below_all flow_cmp e.0 es) (is_sorted flow_cmp es) (rises e.0 es h.0) (sorted_from es h.1)
 
 known : (b : Bool) → T b → b ≡ true
 known true t = refl
@@ -57,11 +46,6 @@ entries_again es h =
 
 -- ---- what a map has at the flow of an entry
 
-is_equal : (o : Ordering) → is_eq o ≡ true → o ≡ Equal
-is_equal Less e = absurd (cc)
-is_equal Equal e = refl
-is_equal Greater e = absurd (cc)
-
 above_is_other : (o : Ordering) → is_lt o ≡ true → is_eq (ordering_reverse o) ≡ false
 above_is_other Less e = refl
 above_is_other Equal e = absurd (cc)
@@ -77,9 +61,9 @@ record Found {V : Type 0} (test : Flow × V → Bool) (es : List (Flow × V)) : 
 
 found : {V : Type 0} (test : Flow × V → Bool) (es : List (Flow × V)) → is_sorted flow_cmp es ≡ true → list_any test es ≡ true → Found test es
 found test [] sorted some = absurd (cc)
-found {V} test (e ∷ es) sorted some = by (test e) refl some (found test es (second_of (below_all flow_cmp e.0 es) (is_sorted flow_cmp es) sorted)) where
+found {V} test (e ∷ es) sorted some = by (test e) refl some (found test es (and_second (below_all flow_cmp e.0 es) (is_sorted flow_cmp es) sorted)) where
   below : below_all flow_cmp e.0 es ≡ true
-  below = first_of (below_all flow_cmp e.0 es) (is_sorted flow_cmp es) sorted
+  below = and_first (below_all flow_cmp e.0 es) (is_sorted flow_cmp es) sorted
 
   itself : eq_by_cmp flow_cmp e.0 e.0 ≡ true
   itself = (eq_by_cmp_equiv flows_total).refl e.0
@@ -92,7 +76,7 @@ found {V} test (e ∷ es) sorted some = by (test e) refl some (found test es (se
         value = h.value;
         passes = h.passes;
         at = ap (λ (b : Bool). cond b (Some e.1) (find flow_cmp h.flow es)) other ∙ h.at;
-        above = λ g all. h.above g (second_of (is_lt (flow_cmp g e.0)) (below_all flow_cmp g es) all);
+        above = λ g all. h.above g (and_second (is_lt (flow_cmp g e.0)) (below_all flow_cmp g es) all);
       }
 
   by : (b : Bool) → test e ≡ b → (b || list_any test es) ≡ true → (list_any test es ≡ true → Found test es) → Found test (e ∷ es)
@@ -101,7 +85,7 @@ found {V} test (e ∷ es) sorted some = by (test e) refl some (found test es (se
     value = e.1;
     passes = passes;
     at = ap (λ (b : Bool). cond b (Some e.1) (find flow_cmp e.0 es)) itself;
-    above = λ g all. first_of (is_lt (flow_cmp g e.0)) (below_all flow_cmp g es) all;
+    above = λ g all. and_first (is_lt (flow_cmp g e.0)) (below_all flow_cmp g es) all;
   }
   by false passes h rest = later (rest h)
 
@@ -122,7 +106,7 @@ none_found {V} test (e ∷ es) f v none at = by (eq_by_cmp flow_cmp f e.0) refl 
 
 -- ---- a host, or an IMP, with an outstanding message
 
-nothing : {V : Type 0} (o : Option V) → is_some o ≡ false → o ≡ None
+pub nothing : {V : Type 0} (o : Option V) → is_some o ≡ false → o ≡ None
 nothing None e = refl
 nothing (Some v) e = absurd (cc)
 
@@ -145,8 +129,8 @@ one_awaits : (test : Flow → Bool) (m : Sources) → list_any (awaits test) (en
 one_awaits test m some =
     let one : Found (awaits test) (entries m) = found (awaits test) (entries m) (known (is_sorted flow_cmp (entries m)) (entries_sorted m)) some in (
       one.flow,
-      first_of (test one.flow) (is_some (outstanding_in (Some one.value))) one.passes,
-      ap (λ (o : Option Standing). is_some (outstanding_in o)) (get-entries m one.flow ∙ one.at) ∙ second_of (test one.flow) (is_some (outstanding_in (Some one.value))) one.passes,
+      and_first (test one.flow) (is_some (outstanding_in (Some one.value))) one.passes,
+      ap (λ (o : Option Standing). is_some (outstanding_in o)) (get-entries m one.flow ∙ one.at) ∙ and_second (test one.flow) (is_some (outstanding_in (Some one.value))) one.passes,
     )
 
 -- where a host has none, no flow from it has

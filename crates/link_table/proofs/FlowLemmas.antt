@@ -15,13 +15,14 @@ use Rattle.link_table.specs.Keys.{flow_cmp, is_from, drop_from, has_from}
 use Rattle.link_table.specs.declared.destination.Fate.{Fate}
 use Rattle.link_table.specs.declared.source.Standing.{Standing}
 use Rattle.link_table.specs.declared.source.Standing.TheVariants as standing
-use Rattle.interface.proofs.lemmas.{exact_flows, flows_total, or_false}
+use Rattle.interface.proofs.lemmas.{exact_flows, flows_total, or_false, is_equal}
 use Rattle.link_table.specs.Flows.{last_of}
 use Rattle.link_table.specs.Numbers.{modulus}
 use Rattle.link_table.proofs.NumberLemmas.{next_in, some_number}
 use Rattle.std.proofs.lemmas.Bool.{cases_order}
 use Rattle.std.proofs.lemmas.Bool.Decides.{nat_tests}
 use Rattle.std.proofs.Common.{◌⊎◌, inl, inr}
+use Rattle.link_table.proofs.EntryLemmas.{nothing}
 
 tied_then : (a b : Ordering) → is_eq (ordering_then a b) ≡ (is_eq a && is_eq b)
 tied_then Less b = refl
@@ -64,14 +65,9 @@ tied_flows f g =
 pub get_put : {V : Type 0} (m : FinMap flow_cmp V) (f g : Flow) (v : V) → get (insert m f v) g ≡ (if same_flow g f then Some v else get m g)
 get_put m f g v = get-insert flows_total m f v g ∙ ap (λ b. cond b (Some v) (get m g)) (tied_flows g f)
 
-equal_from : (o : Ordering) → is_eq o ≡ true → o ≡ Equal
-equal_from Less e = absurd (cc)
-equal_from Equal e = refl
-equal_from Greater e = absurd (cc)
-
 -- what a map has at a flow goes for the same flow by another name
 pub get_same : {V : Type 0} (m : FinMap flow_cmp V) (f g : Flow) → same_flow g f ≡ true → get m g ≡ get m f
-get_same m f g e = ap (get m) (exact_flows g f (equal_from (flow_cmp g f) (tied_flows g f ∙ e)))
+get_same m f g e = ap (get m) (exact_flows g f (is_equal (flow_cmp g f) (tied_flows g f ∙ e)))
 
 -- after what is known of one flow was changed
 pub get_changed : {V : Type 0} (change : V → V) (m : FinMap flow_cmp V) (f g : Flow) → get (changed change m f) g ≡ (if same_flow g f then option_map change (get m f) else get m g)
@@ -126,12 +122,8 @@ apart imp g (f ∷ fs) from none =
     let parts : (is_from imp f ≡ false) × (list_any (is_from imp) fs ≡ false) = or_false (is_from imp f) (list_any (is_from imp) fs) none in
     by (eq_by_cmp flow_cmp g f) refl parts.0 (apart imp g fs from parts.1) where
       by : (b : Bool) → eq_by_cmp flow_cmp g f ≡ b → is_from imp f ≡ false → list_any (eq_by_cmp flow_cmp g) fs ≡ false → (b || list_any (eq_by_cmp flow_cmp g) fs) ≡ false
-      by true e other rest = (let same : is_from imp g ≡ is_from imp f = ap (is_from imp) (exact_flows g f (equal_from (flow_cmp g f) e)) in absurd (cc))
+      by true e other rest = (let same : is_from imp g ≡ is_from imp f = ap (is_from imp) (exact_flows g f (is_equal (flow_cmp g f) e)) in absurd (cc))
       by false e other rest = rest
-
-nothing : {V : Type 0} (o : Option V) → is_some o ≡ false → o ≡ None
-nothing None e = refl
-nothing (Some v) e = absurd (cc)
 
 pub kept_none : {V : Type 0} (m : FinMap flow_cmp V) (imp : ℕ) → has_from imp m ≡ false → (g : Flow) → is_from imp g ≡ true → get m g ≡ None
 kept_none m imp none g from = nothing (get m g) (contains_key-keys m g ∙ apart imp g (keys m) from none)

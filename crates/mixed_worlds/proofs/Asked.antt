@@ -14,6 +14,7 @@ use Rattle.mixed_worlds.proofs.Common.{older, ordered, ReportsData, IsReadBack, 
 use Rattle.world_keeps_lives.proofs.lemmas.{Done, answer_keeps}
 use Rattle.std.proofs.Common.{slice_index_or}
 use Rattle.std.proofs.lemmas.Bool.{eqb-true}
+use Rattle.std.proofs.lemmas.Option.{same_Some}
 use Rattle.interface.specs.declared.crossing.Crossing.TheVariants as crossing
 use Rattle.interface.specs.declared.crossing.Inbound.TheVariants as inbound
 use Rattle.ncp_control.specs.declared.command.Command.TheVariants as command
@@ -36,9 +37,6 @@ str_is own foreign size e = ap
 
 request_as : (a b own foreign n : ℕ) → a ≡ own → b ≡ foreign → request a b n ≡ request own foreign n
 request_as a b own foreign n e f = ap (λ (k : ℕ). request k b n) e ∙ ap (λ (k : ℕ). request own k n) f
-
-pub one_place : (x y : ℕ) → Some x ≡ Some y → x ≡ y
-one_place x y e = cc
 
 pub read_at : (cs : List Command) (c : Command) (i : ℕ) → i < length cs → slice_index_or cs i c ≡ c
     → Contains (map Legal cs) (Legal c)
@@ -156,13 +154,13 @@ module _ (h p : Host) (log : List Crossing) where
     rts = λ own foreign link e there even odd o f i. record {
       refusing = i.refusing;
       asked = λ mine a is. i.asked mine a is;
-      partner = λ mine b is. came link e.own e.foreign b (one_place stamp b is)
+      partner = λ mine b is. came link e.own e.foreign b (same_Some stamp b is)
           (sym (request_as e.foreign e.own foreign own link f o ∙ rts_is foreign own link even)) there;
       linked = λ mine s b is. record {
         number = link;
         is = refl;
         crossed = subst (λ (place : ℕ). HasCrossed coming p h place (command.Rts e.foreign e.own link) log)
-            (one_place stamp b is) (record {
+            (same_Some stamp b is) (record {
               message = m;
               flow = flow;
               crossed = crossed;
@@ -176,7 +174,7 @@ module _ (h p : Host) (log : List Crossing) where
     str = λ own foreign size e there odd even o f i. record {
       refusing = i.refusing;
       asked = λ mine a is. i.asked mine a is;
-      partner = λ mine b is. came size e.own e.foreign b (one_place stamp b is)
+      partner = λ mine b is. came size e.own e.foreign b (same_Some stamp b is)
           (sym (request_as e.foreign e.own foreign own size f o ∙ str_is foreign own size odd)) there;
       linked = λ mine s b is. absurd (even_odd own even (ap is_send_socket (sym o) ∙ s));
     };
@@ -199,14 +197,14 @@ module _ (h p : Host) (log : List Crossing) where
   goes m stamp n queue flow crossed reads = record {
     rts = λ own foreign link e there even o f i. record {
       refusing = i.refusing;
-      asked = λ mine a is. went link e.own e.foreign a (one_place stamp a is)
+      asked = λ mine a is. went link e.own e.foreign a (same_Some stamp a is)
           (sym (request_as e.own e.foreign own foreign link o f ∙ rts_is own foreign link even)) there;
       partner = λ mine b is. i.partner mine b is;
       linked = λ mine s b is. i.linked mine s b is;
     };
     str = λ own foreign size e there odd o f i. record {
       refusing = i.refusing;
-      asked = λ mine a is. went size e.own e.foreign a (one_place stamp a is)
+      asked = λ mine a is. went size e.own e.foreign a (same_Some stamp a is)
           (sym (request_as e.own e.foreign own foreign size o f ∙ str_is own foreign size odd)) there;
       partner = λ mine b is. i.partner mine b is;
       linked = λ mine s b is. i.linked mine s b is;

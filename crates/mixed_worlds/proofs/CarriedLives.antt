@@ -25,6 +25,7 @@ use Rattle.mixed_worlds.proofs.Common.{arith, find, is_some}
 use Rattle.mixed_worlds.proofs.DataNotices.{TakesIf, bytes_told, message_takes}
 use Rattle.mixed_worlds.proofs.OwnLinks.{HasSaid, Said, said, said_still}
 use Rattle.mixed_worlds.proofs.Sockets.{fit, held}
+use Rattle.interface.proofs.lemmas.{not_true}
 
 -- ---- moments that report no data
 
@@ -59,10 +60,6 @@ flow_two f x y l s d e =
       two : Host → Host → ℕ → Flow
       two a b n = record { source = a; destination = b; link = record { 0 = n } }
 
-goes_on : (b : Bool) → not b ≡ true → b ≡ false
-goes_on true e = absurd (let clash : false ≡ true = e in cc)
-goes_on false e = refl
-
 each_three : {A : Type 0} (P Q R T : A → Type 0) (xs : List A) → ((x : A) → P x → Q x → R x → T x) → Each P xs
     → Each Q xs → Each R xs → Each T xs
 each_three P Q R T [] k h i j = tt
@@ -83,7 +80,7 @@ is_there h socket x is =
     record {
       host = same_host-true h x.host q.0;
       socket_is = eqb-true x.socket socket q.1;
-      goes = goes_on x.ended p.1;
+      goes = not_true x.ended p.1;
     }
 
 module _ (orders : Orders) (strange : Host → Bool) (hosts : List Host) where

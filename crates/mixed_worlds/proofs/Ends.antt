@@ -14,6 +14,7 @@ use Rattle.host_keeps_pairing.specs.Words.{AllFit, all_taken}
 use Rattle.host_keeps_pairing.proofs.lemmas.{Found, Is, On, after_data, after_reply, after_reset, are, asked_by}
 use Rattle.host_keeps_pairing.proofs.lemmas.{change_away, change_here, closed_by, ends_swept, found_here, live_end}
 use Rattle.host_keeps_pairing.proofs.lemmas.{loose, none_here, on_queued, on_settled, on_taken, plain}
+use Rattle.interface.proofs.lemmas.{and_turned}
 
 -- ---- the end of two sockets is asked for, or closed, in whatever order
 
@@ -59,12 +60,6 @@ takes_close origin place s words x h = (
   ap (mark_taken Close) (h.2 ∙ live_end origin s (h.0.live refl))
       ∙ closes_as origin s (is_sent s.closing) refl (as_sent s.closing),
 )
-
-turned_both : (a b : Bool) → (a && b) ≡ (b && a)
-turned_both true true = refl
-turned_both true false = refl
-turned_both false true = refl
-turned_both false false = refl
 
 module _ (origin : ℕ → ℕ) (own foreign : ℕ) where
   -- the connections of a pair have some end of the law
@@ -142,7 +137,7 @@ module _ (origin : ℕ → ℕ) (own foreign : ℕ) where
           on = λ place.
               on_taken origin own foreign place peer busy stamp (command.Rts receive send link) d h.x free
               (fits_new send receive stamp d h (receive == foreign && send == own)
-              (turned_both (receive == foreign) (send == own)) f) (h.on place);
+              (and_turned (receive == foreign) (send == own)) f) (h.on place);
         }
 
   str_end : (peer : Host) (busy : List ℕ) (stamp send receive size : ℕ) (d : DeskState) → SomeEnd d
@@ -159,7 +154,7 @@ module _ (origin : ℕ → ℕ) (own foreign : ℕ) where
       on = λ place.
           on_taken origin own foreign place peer busy stamp (command.Str send receive size) d h.x tt
           (fits_new receive send stamp d h (send == foreign && receive == own)
-          (turned_both (send == foreign) (receive == own)) f) (h.on place);
+          (and_turned (send == foreign) (receive == own)) f) (h.on place);
     }
 
   -- ---- CLS

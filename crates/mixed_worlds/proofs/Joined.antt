@@ -18,6 +18,7 @@ use Rattle.mixed_worlds.specs.Book.{book_among}
 use Rattle.mixed_worlds.proofs.Books.{same_book}
 use Rattle.mixed_worlds.proofs.RealLogs.{real_match}
 use Rattle.mixed_worlds.proofs.Settled.{plain_life}
+use Rattle.interface.proofs.lemmas.{and_first}
 
 -- ---- the sockets above an even one
 
@@ -37,10 +38,6 @@ even_by true true e = refl
 even_by true false e = absurd (let no : ◌≡◌ {A = Option StartFault} (Some fault.BadSocket) None = e in cc)
 even_by false b e = absurd (let no : ◌≡◌ {A = Option StartFault} (Some fault.BadSocket) None = e in cc)
 
-first_of : (a b : Bool) → (a && b) ≡ true → a ≡ true
-first_of true b e = refl
-first_of false b e = e
-
 server_even : (notices : List Notice) (s : ℕ) → ServerIsDone notices s (s + 1) → is_receive_socket s ≡ true
 server_even notices s done = ap is_receive_socket done.receives
     ∙ even_by (is_send_socket done.began.listen) (is_receive_socket done.began.base) done.began.can
@@ -49,7 +46,7 @@ user_even : (notices : List Notice) (u : ℕ) → UserIsDone notices (u + 2) (u 
 user_even notices u done =
     let same : u ≡ done.began.own = omega (arith, done.receives) in
     ap is_receive_socket same
-    ∙ first_of (is_receive_socket done.began.own) (nat_le (done.began.own + 3) 4294967295)
+    ∙ and_first (is_receive_socket done.began.own) (nat_le (done.began.own + 3) 4294967295)
     (even_by (is_send_socket done.began.listen)
     (is_receive_socket done.began.own && nat_le (done.began.own + 3) 4294967295) done.began.can)
 

@@ -12,10 +12,10 @@ use Rattle.std.proofs.Common.{true}
 use Rattle.host_pairs.proofs.lemmas.{both}
 use Rattle.std.proofs.lemmas.Bool.{eqb-true}
 use Rattle.std.specs.Prelude.{All}
+use Rattle.std.proofs.lemmas.Option.{same_Some}
 use Rattle.ncp_control.specs.declared.command.Command.TheVariants as command
 use Rattle.host_pairs.specs.declared.notice.Notice.TheVariants as notice
 use Rattle.host_keeps_pairing.proofs.lemmas.{Found, at_one}
-use Rattle.mixed_worlds.proofs.Asked.{one_place}
 use Rattle.mixed_worlds.proofs.Ends.{SomeEnd}
 use Rattle.mixed_worlds.proofs.Steps.{IsBegun, IsHeard, IsSame, OpenNone, OpensNone, Steps}
 use Rattle.mixed_worlds.proofs.Waiting.{all_changed}
@@ -335,7 +335,7 @@ module _ (h p : Host) (stamp : ℕ) (before : List Opening) where
         new_done : (n : Opening) → n.partner < stamp → IsDone n e
         new_done n less own foreign mine = (
           (λ a. absurd (let clash : None ≡ Some n.asked = sym begun.asked ∙ a in cc)),
-          (λ q. absurd (let same : stamp ≡ n.partner = one_place stamp n.partner (sym begun.partner ∙ q) in
+          (λ q. absurd (let same : stamp ≡ n.partner = same_Some stamp n.partner (sym begun.partner ∙ q) in
               omega (arith, less, same))),
         )
 
@@ -407,7 +407,7 @@ module _ (h p : Host) (stamp : ℕ) (before : List Opening) where
       done = λ n less all. all_changed (IsDone n) (is_at own foreign) change d.entries
           (λ x t k o f mine. (
             (λ a. ap is_some (is x t).partner),
-            (λ q. absurd (let same : stamp ≡ n.partner = one_place stamp n.partner (sym (is x t).partner ∙ q) in
+            (λ q. absurd (let same : stamp ≡ n.partner = same_Some stamp n.partner (sym (is x t).partner ∙ q) in
                 omega (arith, less, same))),
           )) all;
       both = λ n off all. (
@@ -490,7 +490,7 @@ module _ (h p : Host) (stamp : ℕ) (before : List Opening) where
       by false = one_more (changed (is_at own foreign) change d) (opening a)
           (notice.Opened (change e).own p (change e).foreign a b ∷ [])
           (ap (λ (n : ℕ). openings h (notice.Opened (change e).own p (change e).foreign a n ∷ []))
-          (one_place b stamp partner))
+          (same_Some b stamp partner))
           (other a was) (
             refl,
             refl,

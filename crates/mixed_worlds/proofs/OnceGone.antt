@@ -12,13 +12,13 @@ use Rattle.mixed_worlds.proofs.Common.{at, standing, mark_of, marks, found_at, n
 use Rattle.std.proofs.lemmas.Bool.{eqb-true}
 use Rattle.std.proofs.lemmas.List.{take-append-drop}
 use Rattle.std.specs.Prelude.{All}
+use Rattle.std.proofs.lemmas.Option.{same_Some}
 use Rattle.ncp_control.specs.declared.command.Command.TheVariants as command
 use Rattle.host_pairs.specs.Parcels as parcel
 use Rattle.host_pairs.specs.Parcels.{link_of, request_gone}
 use Rattle.host_pairs.specs.declared.notice.Notice.TheVariants as notice
 use Rattle.host_keeps_pairing.proofs.lemmas.{Found, heads, marks_append, one_gone}
 use Rattle.sockets.specs.Sending.{offered}
-use Rattle.mixed_worlds.proofs.Asked.{one_place}
 use Rattle.mixed_worlds.proofs.Once.{AreApart, Differ, IsBoth, IsDone, Opening, all_here, apart_more, at_two, both_same}
 use Rattle.mixed_worlds.proofs.Once.{changed_found, done_same, found_all, lone_by, none_opened, openings}
 use Rattle.mixed_worlds.proofs.Once.{openings_append}
@@ -131,7 +131,7 @@ module _ (h p : Host) (stamp : ℕ) (before : List Opening) where
     asks = turned d (changed_at own foreign (asked_at stamp) d.entries) d.queue d.listening
         (λ n less all. all_changed (IsDone n) (is_at own foreign) (asked_at stamp) d.entries
         (λ y t k o f mine. (
-          (λ a. absurd (let same : stamp ≡ n.asked = one_place stamp n.asked a in omega (arith, less, same))),
+          (λ a. absurd (let same : stamp ≡ n.asked = same_Some stamp n.asked a in omega (arith, less, same))),
           (λ q. refl),
         )) all)
         (λ n all. all_changed (IsBoth n) (is_at own foreign) (asked_at stamp) d.entries

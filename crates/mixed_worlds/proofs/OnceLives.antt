@@ -14,6 +14,7 @@ use Rattle.mixed_worlds.proofs.Common.{All-cons, All-head, All-nil, All-tail, Al
 use Rattle.net_sim.specs.Book.{granted}
 use Rattle.std.proofs.lemmas.List.{map-append}
 use Rattle.std.specs.Prelude.{All}
+use Rattle.std.proofs.lemmas.Option.{same_Some}
 use Rattle.interface.specs.declared.crossing.Crossing.TheVariants as crossing
 use Rattle.interface.specs.declared.crossing.Inbound.TheVariants as inbound
 use Rattle.host_pairs.specs.declared.notice.Notice.TheVariants as notice
@@ -21,7 +22,6 @@ use Rattle.sockets.specs.Requests.{served_notices}
 use Rattle.sockets.specs.declared.request.Request.TheVariants as request
 use Rattle.promise.specs.Safe.{own_request}
 use Rattle.mixed_worlds.specs.Toward.{taken_request}
-use Rattle.mixed_worlds.proofs.Asked.{one_place}
 use Rattle.mixed_worlds.proofs.EndMoments.{Moved, moved_ends, own_out}
 use Rattle.mixed_worlds.proofs.AskedLives.{IsOwn, all_own}
 use Rattle.mixed_worlds.proofs.Carried.{below_all}
@@ -147,11 +147,11 @@ module _ (n : Opening) where
 
   module _ (stamp : ℕ) (own : n.asked < stamp) (partner : n.partner < stamp) where
     later_own : {A : Type 0} → Some stamp ≡ Some n.asked → A
-    later_own e = absurd (let same : stamp ≡ n.asked = one_place stamp n.asked e in omega (arith, own, same))
+    later_own e = absurd (let same : stamp ≡ n.asked = same_Some stamp n.asked e in omega (arith, own, same))
 
     later_partner : {A : Type 0} → Some stamp ≡ Some n.partner → A
     later_partner e = absurd
-        (let same : stamp ≡ n.partner = one_place stamp n.partner e in omega (arith, partner, same))
+        (let same : stamp ≡ n.partner = same_Some stamp n.partner e in omega (arith, partner, same))
 
     done_hears : (orders : List Order) → Hears (IsDone n) stamp orders
     done_hears orders = record {

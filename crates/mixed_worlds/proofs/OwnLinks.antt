@@ -9,10 +9,11 @@ use Rattle.mixed_worlds.proofs.Common.{Hears, Quiet, each_weaker, IsMixed, Order
 use Rattle.mixed_worlds.proofs.Common.{All-head, All-nil, All-tail, even_odd}
 use Rattle.std.proofs.lemmas.List.Elements.{All-take}
 use Rattle.std.specs.Prelude.{All}
+use Rattle.std.proofs.lemmas.Option.{same_Some}
 use Rattle.interface.specs.declared.crossing.Crossing.TheVariants as crossing
 use Rattle.interface.specs.declared.crossing.Inbound.TheVariants as inbound
 use Rattle.ncp_control.specs.declared.command.Command.TheVariants as command
-use Rattle.mixed_worlds.proofs.Asked.{one_place, read_at}
+use Rattle.mixed_worlds.proofs.Asked.{read_at}
 use Rattle.mixed_worlds.proofs.EndMoments.{Moved, moved_ends, own_out}
 use Rattle.mixed_worlds.proofs.Sockets.{fit, own_request}
 use Rattle.mixed_worlds.proofs.Steps.{message_step}
@@ -126,7 +127,7 @@ module _ (h p : Host) (log : List Crossing) where
       → Goes (Going queue) stamp (take n queue)
   goes m stamp n queue flow crossed reads = record {
     rts = λ own foreign link e there even o f i.
-        ((λ receives a is. says own foreign link e there o f i.1 receives a (one_place stamp a is)), i.1);
+        ((λ receives a is. says own foreign link e there o f i.1 receives a (same_Some stamp a is)), i.1);
     str = λ own foreign size e there odd o f i.
         ((λ receives a is. absurd (even_odd own (ap is_receive_socket (sym o) ∙ receives) odd)), i.1);
   } where

@@ -32,7 +32,7 @@ use Rattle.net_sim.specs.Book.{more}
 use Rattle.world_keeps_lives.proofs.lemmas.{GoesAll, HearsAll, IsNoMore, Leaves, Starts, each_first}
 use Rattle.world_keeps_lives.proofs.lemmas.{first_of, no_more, quiet_off, quiet_sent, turn_order, turn_passes}
 use Rattle.mixed_worlds.specs.Toward.{granted_in}
-use Rattle.mixed_worlds.proofs.Asked.{one_place}
+use Rattle.std.proofs.lemmas.Option.{same_Some}
 use Rattle.mixed_worlds.proofs.EndMoments.{Free}
 
 -- a life's socket and stamps, and what it has sent
@@ -242,11 +242,11 @@ module _ (x : Share) (total : ℕ → Amount) where
           → So os (asked_on_link stamp link e)
       asked_now own foreign link os now e none h = record {
         early = h.early;
-        answered = λ mine b is. (let same : stamp ≡ b = one_place stamp b is in omega (arith, same, soon));
+        answered = λ mine b is. (let same : stamp ≡ b = same_Some stamp b is in omega (arith, same, soon));
         fresh = λ own lacks. h.fresh own (unanswered e none);
         held = λ mine own asked partner l linked.
             (let empty : IsEmpty e.allocation = h.fresh own (unanswered e none) in
-            let r : IsLeft l os = now (h.early x.own asked) (sym (one_place stamp x.partner partner)) l in
+            let r : IsLeft l os = now (h.early x.own asked) (sym (same_Some stamp x.partner partner)) l in
             record {
               messages = omega (arith, r.0, empty.messages);
               bits = omega (arith, r.1, empty.bits);
@@ -262,7 +262,7 @@ module _ (x : Share) (total : ℕ → Amount) where
         rts = λ own foreign link e there even odd is at none h. asked_now own foreign link os now e none h;
         str = λ own foreign size e there odd even is at none h. record {
           early = h.early;
-          answered = λ mine b same. (let r : stamp ≡ b = one_place stamp b same in omega (arith, r, soon));
+          answered = λ mine b same. (let r : stamp ≡ b = same_Some stamp b same in omega (arith, r, soon));
           fresh = λ its lacks. off own even (sym is ∙ its);
           held = λ mine its asked partner l linked. off own even (sym is ∙ its);
         };
@@ -282,7 +282,7 @@ module _ (x : Share) (total : ℕ → Amount) where
             (let yes : has_opened e ≡ true = (both (has_opened e) (not (is_ending e)) opened).0 in
             let clash : true ≡ false = sym yes ∙ lacks in cc);
         held = λ mine own asked partner l linked.
-            (let same : (link == l) ≡ true = eq-eqb link l (one_place link l (sym (link_is link e.link on) ∙ linked)) in
+            (let same : (link == l) ≡ true = eq-eqb link l (same_Some link l (sym (link_is link e.link on) ∙ linked)) in
             let r : IsRoom x (total l) (more messages bits (granted_in l os)) e.allocation = subst
             (λ (b : Bool). IsRoom x (total l) (if b then more messages bits (granted_in l os) else granted_in l os)
             e.allocation) same (h.held mine own asked partner l linked) in
@@ -389,7 +389,7 @@ module _ (x : Share) (total : ℕ → Amount) where
 
     module _ (stamp k : ℕ) (new : x.own ≡ stamp → (x.messages ≡ 0) × (x.bits ≡ 0)) where
       placed : (a : ℕ) → Some stamp ≡ Some a → a < 1 + stamp
-      placed a is = let same : stamp ≡ a = one_place stamp a is in omega (arith, same)
+      placed a is = let same : stamp ≡ a = same_Some stamp a is in omega (arith, same)
 
       gone : (e : Entry) → Within x total (1 + stamp) k [] e → (e.asked ≡ None) ⊎ (e.asked ≡ Some stamp)
           → Within x total (1 + stamp) k [] (asked_at stamp e)
@@ -405,7 +405,7 @@ module _ (x : Share) (total : ℕ → Amount) where
             → IsRoom x (total l) (granted_in l []) e.allocation
         room mine own asked partner l linked (inl none) =
             let empty : IsEmpty e.allocation = h.fresh own (unasked e none) in
-            let z : (x.messages ≡ 0) × (x.bits ≡ 0) = new (sym (one_place stamp x.own asked)) in
+            let z : (x.messages ≡ 0) × (x.bits ≡ 0) = new (sym (same_Some stamp x.own asked)) in
             record { messages = omega (arith, empty.messages, z.0); bits = omega (arith, empty.bits, z.1) }
         room mine own asked partner l linked (inr now) = h.held mine own (now ∙ asked) partner l linked
 

@@ -1,22 +1,20 @@
 -- Commands written and read.
 use Rattle.std.proofs.Common.{◌≡◌, ℕ, zero, suc, ◌+◌, ◌<◌, ◌≤◌, Bool, true, false, List, [], ◌∷◌, ◌++◌, length, take, drop, get_or, refl, ap, sym, ◌∙◌, arith, inl, inr, subst, Option, Some, None, unwrap_or, Ok, Err, nat_lt, All, ◌&&◌, if◌then◌else◌}
 use Rattle.std.proofs.lemmas.Bool.Decides.{nat_tests}
-use Rattle.std.proofs.lemmas.Bool.{cases_lt}
+use Rattle.std.proofs.lemmas.Bool.{cases_lt, and_parts}
 use Rattle.std.proofs.lemmas.List.{length-append, length-take-le, length-drop, get_or_past}
 use Rattle.std.proofs.lemmas.List.Elements.{All-take, All-drop}
 use Rattle.std.proofs.Math.Seq.{take-add, take-append_seam}
 use Rattle.std.proofs.lemmas.Nat.{be_bytes_2, be_bytes_4, from_be_bytes-to_be_bytes_2, from_be_bytes-to_be_bytes_4}
 use Rattle.std.specs.Result.{result_ok}
 use Rattle.std.specs.Int.{w16, w32, to_be_bytes}
+use Rattle.std.proofs.lemmas.Option.{same_Some}
 use Rattle.ncp_control.specs.declared.command.Command.{Command}
 use Rattle.ncp_control.specs.declared.command.Command.TheVariants as command
 use Rattle.ncp_control.specs.declared.fault.ControlFault.TheVariants as fault
 use Rattle.ncp_control.specs.Numbers.{is_receive_socket, is_send_socket, is_connection_link, is_byte_size}
 use Rattle.ncp_control.specs.Command.{spelling, IsCommand, IsOctet, IsDouble, IsWord}
 use Rattle.ncp_control.specs.Reading.{read_of, read_as, command_of, rts_from, rts_of, str_from, str_of, err_of, length_of, number_at, quoted_of}
-
-some_same : {X : Type 0} (x y : X) → Some x ≡ Some y → x ≡ y
-some_same {X} x y e = ap (λ (o : Option X). unwrap_or o x) e
 
 -- what reading a command says of the octets
 pub record IsRead (code : ℕ) (fields : List ℕ) (c : Command) (used : ℕ) : Type 0 where
@@ -39,7 +37,7 @@ record IsReadAs (found : Option Command) (count : ℕ) (c : Command) (used : ℕ
 
 read_as-tells : (found : Option Command) (count : ℕ) (c : Command) (used : ℕ) → read_as found count ≡ Ok (c, used) → IsReadAs found count c used
 read_as-tells (Some d) count c used e =
-    let same : (d, count) ≡ (c, used) = some_same _ _ (ap result_ok e) in
+    let same : (d, count) ≡ (c, used) = same_Some _ _ (ap result_ok e) in
     record { found_is = ap (λ (p : Command × ℕ). Some p.0) same; counted = sym (ap (λ (p : Command × ℕ). p.1) same) }
 read_as-tells None count c used e = absurd cc
 
@@ -239,16 +237,12 @@ one_at (n ∷ ns) (suc place) there = one_at ns place (omega (arith, there))
 joined : {a b x y : List ℕ} → a ≡ x → b ≡ y → a ++ b ≡ x ++ y
 joined {a = a} {y = y} front back = ap (λ (l : List ℕ). a ++ l) back ∙ ap (λ (l : List ℕ). l ++ y) front
 
-both_true : (x y : Bool) → (x && y) ≡ true → (x ≡ true) × (y ≡ true)
-both_true true y e = (refl, e)
-both_true false y e = absurd cc
-
 chosen : (b : Bool) (x c : Command) → (if b then Some x else None) ≡ Some c → (b ≡ true) × (x ≡ c)
-chosen true x c e = (refl, some_same x c e)
+chosen true x c e = (refl, same_Some x c e)
 chosen false x c e = absurd cc
 
 found_as : (x : Command) (octets : List ℕ) (c : Command) (used : ℕ) → Some x ≡ Some c → IsSpelled octets x used → IsSpelled octets c used
-found_as x octets c used found s = subst (λ (c : Command). IsSpelled octets c used) (some_same x c found) s
+found_as x octets c used found s = subst (λ (c : Command). IsSpelled octets c used) (same_Some x c found) s
 
 -- two sockets after a code octet
 sockets_again : (code : ℕ) (fields : List ℕ) → All IsOctet (code ∷ fields) → 8 ≤ length fields
@@ -271,8 +265,8 @@ spelled_rts : (fields : List ℕ) (c : Command) → All IsOctet (1 ∷ fields) �
 spelled_rts fields c small whole found =
     let o : List ℕ = 1 ∷ fields in
     let found_is : (is_receive_socket (number_at w32 o 1) && is_send_socket (number_at w32 o 5) && is_connection_link (get_or o 9 0) ≡ true) × (command.Rts (number_at w32 o 1) (number_at w32 o 5) (get_or o 9 0) ≡ c) = chosen _ _ c found in
-    let tests : (is_receive_socket (number_at w32 o 1) && is_send_socket (number_at w32 o 5) ≡ true) × (is_connection_link (get_or o 9 0) ≡ true) = both_true _ _ found_is.0 in
-    let parities : (is_receive_socket (number_at w32 o 1) ≡ true) × (is_send_socket (number_at w32 o 5) ≡ true) = both_true _ _ tests.0 in
+    let tests : (is_receive_socket (number_at w32 o 1) && is_send_socket (number_at w32 o 5) ≡ true) × (is_connection_link (get_or o 9 0) ≡ true) = and_parts _ _ found_is.0 in
+    let parities : (is_receive_socket (number_at w32 o 1) ≡ true) × (is_send_socket (number_at w32 o 5) ≡ true) = and_parts _ _ tests.0 in
     subst (λ (c : Command). IsSpelled o c 10) found_is.1
     record {
       spelled = ap (λ (l : List ℕ). 1 ∷ l) (request_again 1 fields small (omega (arith, whole)));
@@ -283,8 +277,8 @@ spelled_str : (fields : List ℕ) (c : Command) → All IsOctet (2 ∷ fields) �
 spelled_str fields c small whole found =
     let o : List ℕ = 2 ∷ fields in
     let found_is : (is_send_socket (number_at w32 o 1) && is_receive_socket (number_at w32 o 5) && is_byte_size (get_or o 9 0) ≡ true) × (command.Str (number_at w32 o 1) (number_at w32 o 5) (get_or o 9 0) ≡ c) = chosen _ _ c found in
-    let tests : (is_send_socket (number_at w32 o 1) && is_receive_socket (number_at w32 o 5) ≡ true) × (is_byte_size (get_or o 9 0) ≡ true) = both_true _ _ found_is.0 in
-    let parities : (is_send_socket (number_at w32 o 1) ≡ true) × (is_receive_socket (number_at w32 o 5) ≡ true) = both_true _ _ tests.0 in
+    let tests : (is_send_socket (number_at w32 o 1) && is_receive_socket (number_at w32 o 5) ≡ true) × (is_byte_size (get_or o 9 0) ≡ true) = and_parts _ _ found_is.0 in
+    let parities : (is_send_socket (number_at w32 o 1) ≡ true) × (is_receive_socket (number_at w32 o 5) ≡ true) = and_parts _ _ tests.0 in
     subst (λ (c : Command). IsSpelled o c 10) found_is.1
     record {
       spelled = ap (λ (l : List ℕ). 2 ∷ l) (request_again 2 fields small (omega (arith, whole)));

@@ -1,5 +1,6 @@
 -- What one call gives, from what another gave.
 use Rattle.std.proofs.Common.{◌≡◌, ◌∙◌, refl, Result, Ok, Err, OnErr, Option, None, sym, subst, List}
+use Rattle.std.proofs.lemmas.Option.{none-some}
 use Rattle.bit_messages.specs.Faults.{Decided}
 use Rattle.bit_messages.specs.declared.fault.BitFault.{BitFault}
 use Rattle.bit_messages.specs.declared.fault.BitFault.TheVariants as bit_fault
@@ -10,7 +11,7 @@ use Rattle.packetiser.specs.declared.fault.PacketFault.{PacketFault}
 use Rattle.packetiser.specs.declared.fault.PacketFault.TheVariants as fault
 use Rattle.packetiser.specs.declared.packet.PacketKind.TheVariants as kind
 use Rattle.packetiser.specs.declared.reassembly.Outcome.TheVariants as outcome
-use Rattle.packetiser.proofs.Slots.{kept_table, none_some}
+use Rattle.packetiser.proofs.Slots.{kept_table}
 
 pub gives_map : {T : Type 0} (P Q : T → Type 0) (r : Result T PacketFault) → GivesIfMemory P r → ((x : T) → P x → Q x) → GivesIfMemory Q r
 gives_map P Q (Ok x) h go = go x h
@@ -22,9 +23,9 @@ gives_map P Q (Err fault.BadLength) h go = h
 -- a call on bits that isn't refused finds no memory where it fails
 memory_alone : {T : Type 0} (refusal : Option BitFault) (HasGiven : T → Type 0) (e : BitFault) → refusal ≡ None → Decided refusal HasGiven (Err e) → e ≡ bit_fault.OutOfMemory
 memory_alone refusal HasGiven bit_fault.OutOfMemory none h = refl
-memory_alone refusal HasGiven bit_fault.NoMark none h = absurd (none_some bit_fault.NoMark (sym none ∙ h))
-memory_alone refusal HasGiven bit_fault.TooLong none h = absurd (none_some bit_fault.TooLong (sym none ∙ h))
-memory_alone refusal HasGiven bit_fault.Range none h = absurd (none_some bit_fault.Range (sym none ∙ h))
+memory_alone refusal HasGiven bit_fault.NoMark none h = absurd (none-some bit_fault.NoMark (sym none ∙ h))
+memory_alone refusal HasGiven bit_fault.TooLong none h = absurd (none-some bit_fault.TooLong (sym none ∙ h))
+memory_alone refusal HasGiven bit_fault.Range none h = absurd (none-some bit_fault.Range (sym none ∙ h))
 
 pub only_memory : {T : Type 0} (refusal : Option BitFault) (HasGiven : T → Type 0) (r : Result T BitFault) → refusal ≡ None → Decided refusal HasGiven r
     → (e : BitFault) → r ≡ Err e → e ≡ bit_fault.OutOfMemory

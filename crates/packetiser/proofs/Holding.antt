@@ -1,11 +1,12 @@
 -- What slots hold.
 use Rattle.std.proofs.Common.{◌≡◌, ℕ, ◌+◌, ◌*◌, ◌%◌, ◌<◌, ◌≤◌, Bool, true, false, not, List, [], ◌∷◌, ◌++◌, length, refl, ap, sym, ◌∙◌, subst, arith, All, Contains, None, Some, filter, map, IsPermutation, length-append, replicate, nat_lt, ◌==◌, ◌||◌, ◌&&◌, eqb-true, eq-eqb, le-ltb, inl, inr, if◌then◌else◌}
 use Rattle.std.specs.List.{list_any, range_with_len}
-use Rattle.std.proofs.lemmas.Bool.{cases_Bool}
+use Rattle.std.proofs.lemmas.Bool.{cases_Bool, or_left}
 use Rattle.std.proofs.lemmas.Bool.Decides.{nat_tests}
 use Rattle.std.proofs.lemmas.List.{nil_from_length}
 use Rattle.std.proofs.lemmas.List.Elements.{All-cons, All-nil, All-head, All-tail, All-weaker, All-append, All-contains_itself, Contains-append_left, Contains-push}
 use Rattle.std.proofs.lemmas.List.Sorted.{IsPermutation-refl}
+use Rattle.std.proofs.lemmas.Option.{none-some}
 use Rattle.bit_messages.specs.Body.{is_one, has_mark, text_of, strip_fault}
 use Rattle.bit_messages.specs.declared.fault.BitFault.TheVariants as bit_fault
 use Rattle.bit_messages.proofs.lemmas.{IsSplit, split_text}
@@ -21,7 +22,8 @@ use Rattle.packetiser.specs.declared.reassembly.Outcome.{Outcome}
 use Rattle.packetiser.specs.declared.reassembly.Outcome.TheVariants as outcome
 use Rattle.packetiser.specs.declared.reassembly.Added.{Added}
 use Rattle.packetiser.specs.declared.reassembly.Added.TheVariants as answer
-use Rattle.packetiser.proofs.Slots.{All_with_piece, kept_sound, kept_packets, kept_table, without_table, and_first, and_second, none_some}
+use Rattle.packetiser.proofs.Slots.{All_with_piece, kept_sound, kept_packets, kept_table, without_table}
+use Rattle.interface.proofs.lemmas.{and_first, and_second}
 
 -- ---- a property of all that is held
 
@@ -211,7 +213,7 @@ named_once slots = IsPermutation-refl slots
 pub none_taken : (slots : List SlotState) (f : Flow) → slot_of slots f ≡ None → without slots f ≡ slots
 none_taken [] f none = refl
 none_taken (t ∷ ts) f none = elim (cases_Bool (same_flow f t.flow)) [
-  | inl e ↦ absurd (none_some t (sym (rw e at none)))
+  | inl e ↦ absurd (none-some t (sym (rw e at none)))
   | inr e ↦ rw e (ap (λ (us : List SlotState). t ∷ us) (none_taken ts f (rw e at none)))
 ]
 
@@ -220,13 +222,10 @@ or_third true b c e = refl
 or_third false true c e = refl
 or_third false false c e = e
 
-or_first : (a b : Bool) → a ≡ true → (a || b) ≡ true
-or_first a b e = rw e refl
-
 old_by : (p : PacketFields) (ps : List PacketFields) → p.place ≡ 0 → p.last ≡ true → 0 < length ps → is_old ps p ≡ true
 old_by p [] first last some = absurd (omega arith)
 old_by p (q ∷ qs) first last some =
-    or_first (rules_out p q) (is_old qs p)
+    or_left (rules_out p q) (is_old qs p)
     (elim (cases_Bool (q.place == p.place)) [
       | inl e ↦ rw e refl
       | inr e ↦ (

@@ -1,6 +1,6 @@
 -- Packets and their octets, both ways.
 use Rattle.std.proofs.Common.{◌≡◌, ℕ, ◌+◌, ◌*◌, ◌/◌, ◌%◌, ◌<◌, ◌≤◌, Bool, true, false, not, List, ◌∷◌, ◌++◌, length, get_or, take, drop, refl, ap, sym, ◌∙◌, subst, arith, All, suc, replicate, append-nil, nat_lt, nat_le, ◌==◌, ◌||◌, ◌&&◌, eq-eqb, ne_eqb, eqb-true, le-ltb, inl, inr, zero, Result, Ok, Err, if◌then◌else◌, length-drop}
-use Rattle.std.proofs.lemmas.Bool.{leb-true, cases_Bool, cases_lt}
+use Rattle.std.proofs.lemmas.Bool.{leb-true, cases_Bool, cases_lt, or_from}
 use Rattle.std.proofs.lemmas.List.Elements.{All-from_get_or}
 use Rattle.std.proofs.lemmas.Bool.Decides.{nat_tests}
 use Rattle.std.proofs.lemmas.List.{length-take-le, take_all, get_or_past, drop_more, get_or-drop}
@@ -44,10 +44,6 @@ seven false false true d e f g h = absurd (cc)
 seven false false false true e f g h = absurd (cc)
 seven false false false false true f g h = absurd (cc)
 seven false false false false false true g h = absurd (cc)
-
-not_true : (b : Bool) → (b ≡ true → ⊥) → b ≡ false
-not_true true e = absurd (e refl)
-not_true false e = refl
 
 -- of two that aren't both so
 not_both : (a b : Bool) → (not a && b) ≡ false → b ≡ true → a ≡ true
@@ -259,9 +255,6 @@ size_by kind.Dead place last size h = (let empty : size ≡ 0 = h.empty in omega
 size_by kind.Ask place last size h = (let empty : size ≡ 0 = h.empty in omega arith, let empty : size ≡ 0 = h.empty in omega arith)
 size_by kind.Never place last size h = (let empty : size ≡ 0 = h.empty in omega arith, let empty : size ≡ 0 = h.empty in omega arith)
 
-none_of_two : (a b : Bool) → a ≡ false → b ≡ false → (a || b) ≡ false
-none_of_two a b ea eb = rw (ea, eb) refl
-
 none_of_seven : (a b c d e f g : Bool) → a ≡ false → b ≡ false → c ≡ false → d ≡ false → e ≡ false → f ≡ false → g ≡ false
     → (a || b || c || d || e || f || g) ≡ false
 none_of_seven a b c d e f g ea eb ec ed ee ef eg = rw (ea, eb, ec, ed, ee, ef, eg) refl
@@ -274,7 +267,7 @@ unfolding is_short
 long_again p h =
     let size : (length p.bits % 8 ≡ 0) × (length p.bits ≤ 1008) = size_by p.kind p.place p.last (length p.bits) h.body in
     let o : AreOctets p.bits = octets_are p.bits size.0 in
-    none_of_two (nat_lt (length (spelling p)) header_octets) (nat_lt (length (spelling p)) (octet_count (bit_count (spelling p))))
+    or_from (nat_lt (length (spelling p)) header_octets) (nat_lt (length (spelling p)) (octet_count (bit_count (spelling p))))
     (grind (arith, nat_tests)) (grind (arith, nat_tests, o.count, size.0))
 
 kind_small : (k : PacketKind) → kind_octet k ≤ 4

@@ -1,12 +1,12 @@
 -- Pieces rejoin.
 use Rattle.std.proofs.Common.{◌≡◌, ℕ, ◌+◌, ◌*◌, ◌<◌, ◌≤◌, Bool, true, false, List, [], ◌∷◌, ◌++◌, length, drop, refl, ap, sym, ◌∙◌, subst, arith, All, suc, zero, Option, Some, None, filter, map, zero-add, is_some, nat_lt, ◌==◌, ◌||◌, ◌&&◌, eq-eqb, ne_eqb, eqb-true, inl, inr, if◌then◌else◌}
 use Rattle.std.specs.List.{list_any, list_all, range_with_len}
-use Rattle.std.proofs.lemmas.Bool.{cases_Bool, cases_eq}
+use Rattle.std.proofs.lemmas.Bool.{cases_Bool, cases_eq, or_right}
 use Rattle.std.proofs.lemmas.Bool.Decides.{nat_tests}
 use Rattle.std.proofs.lemmas.List.{take-append-drop, drop-drop, drop_all, length-map, nil_from_length}
 use Rattle.std.proofs.lemmas.List.Elements.{All-cons, All-nil, All-head, All-tail, All-weaker, All-filter, All-map}
 use Rattle.interface.specs.Flow.{same_flow, flow_before}
-use Rattle.interface.proofs.lemmas.{same_flow-refl, same_flow-true}
+use Rattle.interface.proofs.lemmas.{same_flow-refl, same_flow-true, and_first, and_second}
 use Rattle.interface.specs.declared.address.Flow.{Flow}
 use Rattle.packetiser.specs.PacketFields.{PacketFields, flow_of}
 use Rattle.packetiser.specs.Pieces.{piece_count, piece, piece_packet, places, packets_of, CarriesPieceOf}
@@ -15,7 +15,6 @@ use Rattle.packetiser.specs.Rejoining.{came, all_came, pieces_of, Holds, answer_
 use Rattle.packetiser.specs.declared.reassembly.Outcome.{Outcome}
 use Rattle.packetiser.specs.declared.reassembly.Outcome.TheVariants as outcome
 use Rattle.packetiser.specs.declared.reassembly.Added.TheVariants as answer
-use Rattle.packetiser.proofs.Slots.{and_first, and_second}
 
 -- ---- pieces of one body, joined
 
@@ -133,10 +132,6 @@ any_in_range c a (suc count) k low high = elim (cases_eq a k) [
 or_nothing : (b c d : Bool) → c ≡ false → d ≡ false → (b || c || d) ≡ b
 or_nothing true c d ec ed = refl
 or_nothing false c d ec ed = rw (ec, ed) refl
-
-or_second : (a b : Bool) → b ≡ true → (a || b) ≡ true
-or_second true b e = refl
-or_second false b e = e
 
 true_false : true ≡ false → ⊥
 true_false e = cc
@@ -391,7 +386,7 @@ more_came : (ks : List ℕ) (k : ℕ) (js : List ℕ) → list_all (came ks) js 
 more_came ks k [] all = refl
 more_came ks k (j ∷ js) all =
     let here : came ks j ≡ true = and_first (came ks j) (list_all (came ks) js) all in
-    let found : came (k ∷ ks) j ≡ true = or_second (k == j) (came ks j) here in
+    let found : came (k ∷ ks) j ≡ true = or_right (k == j) (came ks j) here in
     rw found (more_came ks k js (and_second (came ks j) (list_all (came ks) js) all))
 
 before_all : (w : List Bool) (ks : List ℕ) (k : ℕ) → all_came w (k ∷ ks) ≡ false → all_came w ks ≡ false
@@ -468,7 +463,7 @@ still_there flow number w slots ks j g h lt other = untouched flow number w slot
 
 came_before : (events : List Event) (ks : List ℕ) (j : ℕ) → came ks j ≡ true → came (places_in events ks) j ≡ true
 came_before [] ks j here = here
-came_before (Piece k ∷ events) ks j here = or_second (k == j) (came (places_in events ks) j) (came_before events ks j here)
+came_before (Piece k ∷ events) ks j here = or_right (k == j) (came (places_in events ks) j) (came_before events ks j here)
 came_before (Other p ∷ events) ks j here = came_before events ks j here
 came_before (Emptied g ∷ events) ks j here = came_before events ks j here
 

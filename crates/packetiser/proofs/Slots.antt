@@ -8,9 +8,9 @@ use Rattle.std.proofs.lemmas.List.Elements.{All-cons, All-nil, All-head, All-tai
 use Rattle.std.proofs.lemmas.Grind.{flat_map-append}
 use Rattle.std.proofs.lemmas.List.Folds.{find_at}
 use Rattle.std.proofs.lemmas.List.Sums.{passes_at_first}
-use Rattle.std.proofs.lemmas.Option.{slice_get_read, same_Some}
+use Rattle.std.proofs.lemmas.Option.{slice_get_read, same_Some, none-some}
 use Rattle.interface.specs.Flow.{same_flow, flow_before}
-use Rattle.interface.proofs.lemmas.{flow_before_else, flow_before_trans, same_flow-true}
+use Rattle.interface.proofs.lemmas.{flow_before_else, flow_before_trans, same_flow-true, or_first, or_second}
 use Rattle.interface.specs.declared.address.Flow.{Flow}
 use Rattle.packetiser.specs.PacketFields.{PacketFields, IsPacket, flow_of}
 use Rattle.packetiser.specs.Slots.{SlotState, IsSlot, IsInOrder, IsTable, IsPieceFor, PlacesRise, slot_of, pieces_for, kept_for, gathered, with_piece, put, without, kept, outcome_of, has_room, is_old, rules_out, is_whole_from, joined_pieces}
@@ -45,21 +45,18 @@ pub record IsAt {X : Type 0} (p : X → Bool) (xs : List X) (at : ℕ) : Type 0 
   pub within : at < length xs
   pub any : list_any p xs ≡ true
 
-pub none_some : {X : Type 0} (x : X) → None ≡ Some x → ⊥
-none_some x h = cc
-
 pub position_some : {X : Type 0} (p : X → Bool) (xs : List X) (at : ℕ) → position p xs ≡ Some at → IsAt p xs at
 position_some p xs at h = elim (cases_Bool (nat_lt (position_or_len p xs) (length xs))) [
   | inl e ↦ (
       let first : position_or_len p xs ≡ at = same_Some (position_or_len p xs) at (rw e at h) in
       let lt : position_or_len p xs < length xs = grind (arith, nat_tests, e) in
       record { first = first; within = omega arith; any = any_within p xs ∙ e })
-  | inr e ↦ absurd (none_some at (rw e at h))
+  | inr e ↦ absurd (none-some at (rw e at h))
 ]
 
 pub position_none : {X : Type 0} (p : X → Bool) (xs : List X) → position p xs ≡ None → list_any p xs ≡ false
 position_none p xs h = elim (cases_Bool (nat_lt (position_or_len p xs) (length xs))) [
-  | inl e ↦ absurd (none_some (position_or_len p xs) (sym (rw e at h)))
+  | inl e ↦ absurd (none-some (position_or_len p xs) (sym (rw e at h)))
   | inr e ↦ any_within p xs ∙ e
 ]
 
@@ -71,14 +68,6 @@ find_none p (x ∷ xs) h = elim (cases_Bool (p x)) [
 ]
 
 -- ---- tests
-
-pub and_first : (a b : Bool) → (a && b) ≡ true → a ≡ true
-and_first true b h = refl
-and_first false b h = absurd (cc)
-
-pub and_second : (a b : Bool) → (a && b) ≡ true → b ≡ true
-and_second true b h = h
-and_second false b h = absurd (cc)
 
 -- ---- pieces
 
@@ -102,14 +91,6 @@ All_with_piece P p (q ∷ qs) here all = elim (cases_Bool (nat_lt q.place p.plac
   | inr e ↦ rw e (All-cons P p (q ∷ qs) here all)
 ]
 
-or_first : (a b : Bool) → (a || b) ≡ false → a ≡ false
-or_first true b e = absurd (cc)
-or_first false b e = refl
-
-or_rest : (a b : Bool) → (a || b) ≡ false → b ≡ false
-or_rest true b e = absurd (cc)
-or_rest false b e = e
-
 -- a piece that isn't old is at a place of its own
 rise_with_piece : (p : PacketFields) (ps : List PacketFields) → is_old ps p ≡ false → PlacesRise ps → PlacesRise (with_piece p ps)
 rise_with_piece p [] new rise = (All-nil (λ r. p.place < r.place), tt)
@@ -119,7 +100,7 @@ rise_with_piece p (q ∷ qs) new rise =
     elim (cases_Bool (nat_lt q.place p.place)) [
       | inl e ↦ (
           let below : q.place < p.place = grind (arith, nat_tests, e) in
-          rw e (All_with_piece (λ r. q.place < r.place) p qs below rise.0, rise_with_piece p qs (or_rest (rules_out p q) (is_old qs p) new) rise.1))
+          rw e (All_with_piece (λ r. q.place < r.place) p qs below rise.0, rise_with_piece p qs (or_second (rules_out p q) (is_old qs p) new) rise.1))
       | inr e ↦ (
           let above : p.place < q.place = grind (arith, nat_tests, e, apart) in
           let behind : All (λ (r : PacketFields). p.place < r.place) qs = All-weaker (λ r. q.place < r.place) (λ r. p.place < r.place) (λ r more. omega (arith, above, more)) qs rise.0 in

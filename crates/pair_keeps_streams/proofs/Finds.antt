@@ -2,11 +2,7 @@
 use Rattle.pair_keeps_streams.proofs.Common.{◌≡◌, ℕ, ◌==◌, true, List, [], ◌∷◌, map, refl, ap, ◌∙◌, eq-eqb, Command, Word, Rts, Stream, link_free, FindsFree, IsTelling, plain, receiver_words, with_closing}
 use Rattle.ncp_control.specs.declared.command.Command.TheVariants as command
 use Rattle.pair_keeps_streams.proofs.Joint.{Joint, Party, heard_by}
-
--- a word that is an RTS, but for what is left out of it, is that RTS
-plain_rts : (w : Word) (c : ℕ) → plain w ≡ Rts c → w ≡ Rts c
-plain_rts (Rts k) c e = e
-plain_rts w c e = absurd (cc)
+use Rattle.pair_keeps_streams.proofs.FirstWords.{plain_rts}
 
 first_word : (ws more : List Word) (c : ℕ) → map plain ws ≡ Rts c ∷ more → (rest : List Word) × (ws ≡ Rts c ∷ rest)
 first_word [] more c e = absurd (cc)

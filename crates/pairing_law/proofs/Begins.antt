@@ -1,6 +1,6 @@
 -- Where a stay begins: nothing was said since the connections were dropped last, and an older stay is over.
 use Rattle.std.proofs.Common.{◌≡◌, ◌≢◌, ◌⊎◌, ℕ, Bool, true, false, not, ◌&&◌, ◌||◌, List, [], ◌∷◌, Some, refl, ap, sym, subst, ◌∙◌, inl, inr, if◌then◌else◌, ◌==◌, eq-eqb}
-use Rattle.std.proofs.lemmas.Bool.{eqb-true}
+use Rattle.std.proofs.lemmas.Bool.{eqb-true, and_parts, and_right}
 use Rattle.interface.specs.Host.{Host, same_host}
 use Rattle.interface.specs.declared.crossing.Answer.{Answer}
 use Rattle.interface.specs.declared.crossing.Answer.TheVariants as answer
@@ -134,10 +134,6 @@ up_gone false here p bs h = h
 
 -- ---- its peer doesn't stay
 
-and_no : (s t : Bool) → t ≡ false → (s && t) ≡ false
-and_no true t e = e
-and_no false t e = refl
-
 left_on : (t r k s : Bool) → t ≡ false → (k ≡ true) ⊎ (s ≡ false) → (t || (r && not k && s)) ≡ false
 left_on true r k s e h = e
 left_on false false k s e h = refl
@@ -146,7 +142,7 @@ left_on false true false s e (inl f) = absurd (cc)
 left_on false true false s e (inr f) = f
 
 no_begin : (e : Event) (events : List Event) (v w : Host) → ready v w (e ∷ events) ≡ false → begins w v e events ≡ false
-no_begin e events v w none = rw (and_no (ready w v (e ∷ events)) (ready v w (e ∷ events)) none) refl
+no_begin e events v w none = rw (and_right (ready w v (e ∷ events)) (ready v w (e ∷ events)) none) refl
 
 stays_left : (e : Event) (events : List Event) (v w : Host) → HasGone (pair v w (e ∷ events)).phase (boxes v w (e ∷ events) 0) → (takes_reset w v e ≡ true) ⊎ (stays w v events ≡ false) → stays w v (e ∷ events) ≡ false
 stays_left e events v w h left =
@@ -263,10 +259,6 @@ became_fresh hosts (Down x) events r v w here before there = absurd (before (sti
 became_fresh hosts (Up x) events r v w here before there = absurd (before (still_ready (same_host v x) Begin (place events) (pair v w events) (monitor v w events) tt here).0)
 became_fresh hosts Idle events r v w here before there = absurd (before here)
 
-both_parts : (s t : Bool) → (s && t) ≡ true → (s ≡ true) × (t ≡ true)
-both_parts true t e = (refl, e)
-both_parts false t e = absurd (cc)
-
 one_false : (s t : Bool) → not (s && t) ≡ true → (s ≡ false) ⊎ (t ≡ false)
 one_false true true e = absurd (cc)
 one_false true false e = inr refl
@@ -274,8 +266,8 @@ one_false false t e = inl refl
 
 pub begins_fresh : (hosts : List Host) (e : Event) (events : List Event) → IsRun hosts (e ∷ events) → (a b : Host) → begins a b e events ≡ true → Fresh a b e events
 begins_fresh hosts e events r a b begun =
-    let t : (joint a b (e ∷ events) ≡ true) × (not (joint a b events) ≡ true) = both_parts (joint a b (e ∷ events)) (not (joint a b events)) begun in
-    let now : (ready a b (e ∷ events) ≡ true) × (ready b a (e ∷ events) ≡ true) = both_parts (ready a b (e ∷ events)) (ready b a (e ∷ events)) t.0 in
+    let t : (joint a b (e ∷ events) ≡ true) × (not (joint a b events) ≡ true) = and_parts (joint a b (e ∷ events)) (not (joint a b events)) begun in
+    let now : (ready a b (e ∷ events) ≡ true) × (ready b a (e ∷ events) ≡ true) = and_parts (ready a b (e ∷ events)) (ready b a (e ∷ events)) t.0 in
     let first : (pair a b (e ∷ events)).phase ≡ Ready = ready_phase (pair a b (e ∷ events)).phase now.0 in
     let second : (pair b a (e ∷ events)).phase ≡ Ready = ready_phase (pair b a (e ∷ events)).phase now.1 in
     elim (one_false (ready a b events) (ready b a events) t.1) [

@@ -1,12 +1,14 @@
 -- What both hosts keep, through all that happens.
 use Rattle.std.proofs.Common.{◌≡◌, ◌≢◌, ℕ, ◌+◌, ◌<◌, ◌≤◌, Bool, true, false, List, ◌∷◌, Option, Some, None, refl, ap, sym, subst, ◌∙◌, inl, inr, if◌then◌else◌, arith}
+use Rattle.std.proofs.lemmas.Option.{same_Some}
 use Rattle.pairing_law.specs.Marks.{Mark, Ask, Close, IsOlder}
 use Rattle.pairing_law.specs.Ends.{End, nothing, MayGo, gone}
 use Rattle.pairing_law.specs.Sides.{Life, Side, lives_opened, lives_gone, above, says, IsLater, both}
 use Rattle.pairing_law.specs.Partners.{AreBoth}
 use Rattle.pairing_law.proofs.Words.{Below, From, Grows, below_later}
-use Rattle.pairing_law.proofs.Balance.{Balanced, balanced_says, none_some, some_is}
+use Rattle.pairing_law.proofs.Balance.{Balanced, balanced_says, none_some}
 use Rattle.pairing_law.proofs.Lives.{every_in, none_owns, none_took, IsNew, Stood, Stands, own_below, one_new, other_new, Lived, lived_on, lived_more}
+use Rattle.interface.proofs.lemmas.{unlike}
 
 -- what a host keeps, with what its peer said and opened. All that went out before `floor`, and before `other` of the peer, is
 -- older than the stay
@@ -37,7 +39,7 @@ turned a b j = record { floor = j.other; other = j.floor; here = j.there; there 
 -- an end that continues, or is over, used its requests
 pub gone_used : (m : Mark) (e : End) (next : ℕ) (x : Life) → IsLater m next → x.own < next → (e.asked ≡ Some x.own → e.partner ≢ None) → (e.partner ≡ Some x.partner → e.asked ≢ None)
     → ((gone m e).asked ≡ Some x.own → (gone m e).partner ≢ None) × ((gone m e).partner ≡ Some x.partner → (gone m e).asked ≢ None)
-gone_used (Ask p) e next x later less own partner = (λ same. absurd (let h : p ≡ x.own = some_is p x.own same in let l : next ≤ p = later in omega (arith, h, l, less)), λ same none. absurd (cc))
+gone_used (Ask p) e next x later less own partner = (λ same. absurd (let h : p ≡ x.own = same_Some p x.own same in let l : next ≤ p = later in omega (arith, h, l, less)), λ same none. absurd (cc))
 gone_used Close e next x later less own partner = by e.taken where
   by : (v : Bool) → ((if v then nothing else record e { gone = true }).asked ≡ Some x.own → (if v then nothing else record e { gone = true }).partner ≢ None)
       × ((if v then nothing else record e { gone = true }).partner ≡ Some x.partner → (if v then nothing else record e { gone = true }).asked ≢ None)
@@ -142,9 +144,6 @@ there_on floor other a a' b g older both back = record {
   low = g.low;
   lived = back_lived other floor b.said b.heard b.end b.lives a.lives a'.lives g.lived both back;
 }
-
-pub unlike : (v : Bool) → v ≡ true → v ≡ false → ⊥
-unlike v e f = let both : true ≡ false = sym e ∙ f in absurd (cc)
 
 pub joined_said : (m : Mark) (a b : Side) → Joined a b → a.stays ≡ true → MayGo m a.end → IsLater m a.next → Joined (said_in m a) b
 joined_said m a b j stay may later =

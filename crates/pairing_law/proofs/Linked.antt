@@ -1,19 +1,19 @@
 -- A link that a request names is that of no other connection at its sender.
 use Rattle.std.proofs.Common.{◌≡◌, ℕ, ◌+◌, ◌<◌, ◌≤◌, ◌==◌, Bool, true, false, List, [], ◌∷◌, ◌++◌, refl, ap, sym, subst, ◌∙◌, inl, inr, if◌then◌else◌, eq-eqb, eq-or-lt_of_le, arith}
-use Rattle.std.proofs.lemmas.Bool.{eqb-true}
+use Rattle.std.proofs.lemmas.Bool.{eqb-true, and_parts}
 use Rattle.pairing_law.specs.Marks.{Mark, Ask, Close, closes, Asks, IsOlder}
 use Rattle.pairing_law.specs.Ends.{End}
 use Rattle.pairing_law.specs.Sides.{Move, Say, Hear, May, Event, One, Two, both, IsRun}
 use Rattle.pairing_law.specs.Links.{Sockets, same, Word, Receiver, Sender, Step, Says, Hears, Leaves, Meets, when, with_event, events_at, receiver, sender, stays, said_words, heard_words, IsAmong, IsUnused, NamesFree, AreSteps}
 use Rattle.pairing_law.proofs.Words.{asks_said, closes_said, asks_once}
-use Rattle.pairing_law.proofs.Balance.{Balanced, count, and_both}
+use Rattle.pairing_law.proofs.Balance.{Balanced, count}
 use Rattle.pairing_law.proofs.Joint.{Joined}
 use Rattle.pairing_law.proofs.Runs.{joined_run}
 use Rattle.pairing_law.proofs.Seen.{put, at, at_older, BothSeen, seen}
 
 pub same_is : (s t : Sockets) → same s t ≡ true → s ≡ t
 same_is s t e =
-    let h : ((s.receive == t.receive) ≡ true) × ((s.send == t.send) ≡ true) = and_both (s.receive == t.receive) (s.send == t.send) e in
+    let h : ((s.receive == t.receive) ≡ true) × ((s.send == t.send) ≡ true) = and_parts (s.receive == t.receive) (s.send == t.send) e in
     ap (λ (r : ℕ). record { receive = r; send = s.send }) (eqb-true s.receive t.receive h.0) ∙ ap (λ (n : ℕ). record { receive = t.receive; send = n }) (eqb-true s.send t.send h.1)
 
 pub same_self : (s : Sockets) → same s s ≡ true

@@ -1,10 +1,11 @@
 -- Two open ends are of one connection.
 use Rattle.std.proofs.Common.{◌≡◌, ℕ, ◌≤◌, Bool, true, false, Some, refl, sym, subst, ◌∙◌, arith}
+use Rattle.std.proofs.lemmas.Option.{same_Some}
 use Rattle.pairing_law.specs.Marks.{Asks}
 use Rattle.pairing_law.specs.Sides.{Side}
 use Rattle.pairing_law.specs.Partners.{IsOpen}
 use Rattle.pairing_law.proofs.Words.{asks_said}
-use Rattle.pairing_law.proofs.Balance.{Balanced, none_some, some_is}
+use Rattle.pairing_law.proofs.Balance.{Balanced, none_some}
 use Rattle.pairing_law.proofs.Joint.{Half, Joined}
 
 -- a host with an open end stays, so the end is what its words say
@@ -30,6 +31,6 @@ open_match a b p q r s j one two =
     let ahead : here.now ≤ there.now = not_behind j.floor j.other p q a b j.here here there one in
     let back : there.now ≤ here.now = not_behind j.other j.floor r s b a j.there there here two in
     let same : here.now ≡ there.now = omega (arith, ahead, back) in (
-      some_is q r (sym (partner_is_own j.floor j.other p q a b j.here here there same one) ∙ two.0),
-      some_is s p (sym (partner_is_own j.other j.floor r s b a j.there there here (sym same) two) ∙ one.0),
+      same_Some q r (sym (partner_is_own j.floor j.other p q a b j.here here there same one) ∙ two.0),
+      same_Some s p (sym (partner_is_own j.other j.floor r s b a j.there there here (sym same) two) ∙ one.0),
     )

@@ -1,5 +1,6 @@
 -- What the law of resets gives: a host that is through a reset takes a text only in a stay.
 use Rattle.std.proofs.Common.{◌≡◌, ℕ, Bool, true, false, ◌&&◌, List, [], ◌∷◌, Some, refl, ap, sym, subst, ◌∙◌, inl, inr}
+use Rattle.std.proofs.lemmas.Bool.{and_from}
 use Rattle.interface.specs.Host.{Host, same_host}
 use Rattle.ncp_control.specs.declared.phase.Phase.TheVariants.{Ready}
 use Rattle.reset_law.specs.Events.{Message, Reset, Reply, Other, Event, Contact, Out, In, Told, Down, Up, Idle, Call, Send, Hear, Begin, when, are, place}
@@ -55,9 +56,6 @@ sends_ready : (t : Bool) (l : ℕ) (text : List Bool) (p : Pair) → (t ≡ true
 sends_ready true l text p may e = (may refl).0
 sends_ready false l text p may e = absurd (cc)
 
-and_true : (s t : Bool) → s ≡ true → t ≡ true → (s && t) ≡ true
-and_true s t e f = rw (e, f) refl
-
 put_stays : (hosts : List Host) (events : List Event) (x y : Host) (l : ℕ) (m : Message) → IsRun hosts (Out x y l m ∷ events) → (a b : Host) → are a b x y ≡ true → (pair b a (Out x y l m ∷ events)).phase ≡ Ready
     → (text : List Bool) → m ≡ Other text → stays b a (Out x y l m ∷ events) ≡ true
 put_stays hosts events x y l m r a b same now text other =
@@ -66,7 +64,7 @@ put_stays hosts events x y l m r a b same now text other =
     let there : (pair a b (Out x y l (Other text) ∷ events)).phase ≡ Ready = sends_ready (are a b x y) l text (pair a b events) (λ e. may) same in
     let here : (pair b a (Out x y l (Other text) ∷ events)).phase ≡ Ready = subst (λ (z : Message). (pair b a (Out x y l z ∷ events)).phase ≡ Ready) other now in
     let both : joint b a (Out x y l (Other text) ∷ events) ≡ true
-    = and_true (ready b a (Out x y l (Other text) ∷ events)) (ready a b (Out x y l (Other text) ∷ events)) (phase_ready (pair b a (Out x y l (Other text) ∷ events)).phase here) (phase_ready (pair a b (Out x y l (Other text) ∷ events)).phase there) in
+    = and_from (ready b a (Out x y l (Other text) ∷ events)) (ready a b (Out x y l (Other text) ∷ events)) (phase_ready (pair b a (Out x y l (Other text) ∷ events)).phase here) (phase_ready (pair a b (Out x y l (Other text) ∷ events)).phase there) in
     subst (λ (z : Message). stays b a (Out x y l z ∷ events) ≡ true) (sym other) (joint_stays hosts (Out x y l (Other text) ∷ events) q b a both)
 
 no_reset : (b a x y : Host) (l : ℕ) (m : Message) → (m ≡ Reset → are b a y x ≡ false) → takes_reset b a (In x y l m) ≡ false

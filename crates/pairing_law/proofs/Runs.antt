@@ -1,13 +1,15 @@
 -- What is heard, where a host leaves and where both meet; and so through every list of events.
 use Rattle.std.proofs.Common.{◌≡◌, ◌≢◌, ℕ, ◌<◌, ◌≤◌, Bool, true, false, List, [], ◌∷◌, Option, Some, None, refl, ap, sym, subst, ◌∙◌, inl, inr, if◌then◌else◌, arith}
+use Rattle.std.proofs.lemmas.Option.{same_Some}
 use Rattle.pairing_law.specs.Marks.{Mark, Ask, Close, IsOlder}
 use Rattle.pairing_law.specs.Ends.{End, nothing, MayGo, gone, fits, mark_taken}
 use Rattle.pairing_law.specs.Sides.{Life, Side, opening_side, lives_opened, lives_gone, lives_taken, Move, Say, Hear, Leave, above, says, hears, leaves, moved, IsLater, May, Event, One, Two, Meet, meets, both, IsRun}
 use Rattle.pairing_law.specs.Partners.{SafePartners}
 use Rattle.pairing_law.proofs.Words.{below_later}
-use Rattle.pairing_law.proofs.Balance.{Balanced, balanced_nothing, balanced_hears, next_fits, fits_ask, none_some, some_is}
+use Rattle.pairing_law.proofs.Balance.{Balanced, balanced_nothing, balanced_hears, next_fits, fits_ask, none_some}
 use Rattle.pairing_law.proofs.Lives.{every_in, none_owns, none_took, IsNew, Stood, Stands, own_below, partner_below, partner_before, one_new, other_new, Lived, lived_on, lived_more}
-use Rattle.pairing_law.proofs.Joint.{Half, Joined, turned, gone_used, above_less, stood_heard, there_on, joined_said, says_in, unlike}
+use Rattle.pairing_law.proofs.Joint.{Half, Joined, turned, gone_used, above_less, stood_heard, there_on, joined_said, says_in}
+use Rattle.interface.proofs.lemmas.{unlike}
 
 -- ---- a word that goes out where the host doesn't stay
 
@@ -77,7 +79,7 @@ joined_fits m a b j may =
 
 taken_used : (m : Mark) (e : End) (x : Life) → ((p : ℕ) → m ≡ Ask p → x.partner < p) → (e.asked ≡ Some x.own → e.partner ≢ None) → (e.partner ≡ Some x.partner → e.asked ≢ None)
     → ((mark_taken m e).asked ≡ Some x.own → (mark_taken m e).partner ≢ None) × ((mark_taken m e).partner ≡ Some x.partner → (mark_taken m e).asked ≢ None)
-taken_used (Ask p) e x less own partner = (λ same none. absurd (cc), λ same. absurd (let h : p ≡ x.partner = some_is p x.partner same in let l : x.partner < p = less p refl in omega (arith, h, l)))
+taken_used (Ask p) e x less own partner = (λ same none. absurd (cc), λ same. absurd (let h : p ≡ x.partner = same_Some p x.partner same in let l : x.partner < p = less p refl in omega (arith, h, l)))
 taken_used Close e x less own partner = by e.gone where
   by : (v : Bool) → ((if v then nothing else record e { taken = true }).asked ≡ Some x.own → (if v then nothing else record e { taken = true }).partner ≢ None)
       × ((if v then nothing else record e { taken = true }).partner ≡ Some x.partner → (if v then nothing else record e { taken = true }).asked ≢ None)

@@ -1,5 +1,6 @@
 -- A host that is through a reset takes only what went out after its last clean point.
 use Rattle.std.proofs.Common.{◌≡◌, ◌≢◌, ◌⊎◌, ℕ, ◌+◌, ◌<◌, Bool, true, false, ◌&&◌, List, [], ◌∷◌, Option, Some, None, refl, ap, sym, subst, ◌∙◌, inl, inr, if◌then◌else◌, ◌==◌, arith}
+use Rattle.std.proofs.lemmas.Bool.{and_from}
 use Rattle.interface.specs.Host.{Host, same_host}
 use Rattle.interface.specs.declared.crossing.Answer.TheVariants as answer
 use Rattle.interface.proofs.lemmas.{and_true}
@@ -159,11 +160,8 @@ signal_alone bs l m o alone waits signal k p text e =
 
 -- ---- over whole lists of events
 
-pub both_true : (s t : Bool) → s ≡ true → t ≡ true → (s && t) ≡ true
-both_true s t e f = rw (e, f) refl
-
 pub turned_about : (a b x y : Host) → are b a y x ≡ true → are a b x y ≡ true
-turned_about a b x y e = let t : (same_host b y ≡ true) × (same_host a x ≡ true) = and_true (same_host b y) (same_host a x) e in both_true (same_host a x) (same_host b y) t.1 t.0
+turned_about a b x y e = let t : (same_host b y ≡ true) × (same_host a x ≡ true) = and_true (same_host b y) (same_host a x) e in and_from (same_host a x) (same_host b y) t.1 t.0
 
 -- a host that is ready after a message is taken was ready before, with the same clean point, or took a signal
 pub ready_taken : (t : Bool) (message : Message) (here : ℕ) (p : Pair) (m : Monitor) → (pair_moved (when t (Take message)) p).phase ≡ Ready

@@ -1,4 +1,5 @@
 -- Two hosts that are both through a reset: how that begins, and what it keeps.
+pub use Rattle.reset_law.proofs.Runs.{up_and_down as contradicts}
 use Rattle.std.proofs.Common.{◌≡◌, ◌≢◌, ◌⊎◌, ℕ, Bool, true, false, List, [], ◌∷◌, Option, Some, None, refl, ap, sym, subst, ◌∙◌, inl, inr}
 use Rattle.interface.specs.Host.{Host, same_host}
 use Rattle.interface.specs.declared.crossing.Answer.{Answer}
@@ -26,9 +27,6 @@ ready_phase ph e = absurd (cc)
 
 pub phase_ready : (ph : Phase) → ph ≡ Ready → is_ready ph ≡ true
 phase_ready ph e = ap is_ready e
-
-pub contradicts : (t : Bool) → t ≡ true → t ≡ false → ⊥
-contradicts t e f = let both : true ≡ false = sym e ∙ f in absurd (cc)
 
 -- ---- an RST that was taken
 

@@ -1,4 +1,5 @@
 -- The invariant over whole lists of events.
+pub use Rattle.interface.proofs.lemmas.{unlike as up_and_down}
 use Rattle.std.proofs.Common.{◌≡◌, ◌≢◌, ℕ, Bool, true, false, List, [], ◌∷◌, Some, None, refl, ap, sym, subst, ◌∙◌, inl, inr, if◌then◌else◌}
 use Rattle.interface.specs.Host.{Host, same_host}
 use Rattle.interface.proofs.lemmas.{and_true, same_host-true}
@@ -187,9 +188,6 @@ stopped_pair false up p e h = h e
 not_up : (t up : Bool) → (if t then true else up) ≡ false → (t ≡ false) × (up ≡ false)
 not_up true up e = absurd (cc)
 not_up false up e = (refl, e)
-
-up_and_down : (up : Bool) → up ≡ true → up ≡ false → ⊥
-up_and_down up e f = let both : true ≡ false = sym e ∙ f in absurd (cc)
 
 pub down_pair : (hosts : List Host) (events : List Event) → IsRun hosts events → (a b : Host) → is_up hosts a events ≡ false → pair a b events ≡ opening_pair
 down_pair hosts [] r a b down = refl

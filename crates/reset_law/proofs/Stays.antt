@@ -1,10 +1,10 @@
 -- What a host heard of its peer while it stays is a prefix of what that peer said.
 use Rattle.std.proofs.Common.{◌≡◌, ◌≢◌, ◌⊎◌, ℕ, Bool, true, false, not, ◌&&◌, ◌||◌, List, [], ◌∷◌, ◌++◌, refl, ap, sym, subst, ◌∙◌, inl, inr, if◌then◌else◌, ◌==◌, eq-eqb, append-nil}
-use Rattle.std.proofs.lemmas.Bool.{eqb-true}
+use Rattle.std.proofs.lemmas.Bool.{eqb-true, false_from_ne_true, or_left, and_cases}
 use Rattle.interface.specs.Host.{Host, same_host}
 use Rattle.interface.specs.declared.crossing.Answer.{Answer}
 use Rattle.interface.specs.declared.crossing.Answer.TheVariants as answer
-use Rattle.interface.proofs.lemmas.{and_true}
+use Rattle.interface.proofs.lemmas.{and_true, not_true, and_turned}
 use Rattle.ncp_control.specs.Phases.{reply_phase, failed_phase}
 use Rattle.ncp_control.specs.declared.phase.Phase.{Phase}
 use Rattle.ncp_control.specs.declared.phase.Phase.TheVariants.{Closed, Want, Gone, Heard, Ready}
@@ -70,14 +70,6 @@ became_quiet hosts (Down x) events r v w here before there = absurd (before (sti
 became_quiet hosts (Up x) events r v w here before there = absurd (before (still_ready (same_host v x) Begin (place events) (pair v w events) (monitor v w events) tt here).0)
 became_quiet hosts Idle events r v w here before there = absurd (before here)
 
-both_false : (s t : Bool) → (s && t) ≡ false → (s ≡ false) ⊎ (t ≡ false)
-both_false true t e = inr e
-both_false false t e = inl refl
-
-not_true : (b : Bool) → not b ≡ true → b ≡ false
-not_true true e = absurd (cc)
-not_true false e = refl
-
 pub unready_phase : (ph : Phase) → is_ready ph ≡ false → ph ≢ Ready
 unready_phase ph e same = contradicts (is_ready ph) (phase_ready ph same) e
 
@@ -87,7 +79,7 @@ begin_quiet hosts e events r a b begun =
     let now : (ready a b (e ∷ events) ≡ true) × (ready b a (e ∷ events) ≡ true) = and_true (ready a b (e ∷ events)) (ready b a (e ∷ events)) t.0 in
     let first : (pair a b (e ∷ events)).phase ≡ Ready = ready_phase (pair a b (e ∷ events)).phase now.0 in
     let second : (pair b a (e ∷ events)).phase ≡ Ready = ready_phase (pair b a (e ∷ events)).phase now.1 in
-    elim (both_false (ready a b events) (ready b a events) (not_true (joint a b events) t.1)) [
+    elim (and_cases (ready a b events) (ready b a events) (not_true (joint a b events) t.1)) [
       | inl was ↦ became_quiet hosts e events r a b first (unready_phase (pair a b events).phase was) second
       | inr was ↦
           (let q : NoPlain (boxes b a (e ∷ events)) × NoPlain (boxes a b (e ∷ events)) = became_quiet hosts e events r b a second (unready_phase (pair b a events).phase was) first in
@@ -96,19 +88,13 @@ begin_quiet hosts e events r a b begun =
 
 -- ---- tests of stays
 
-swap : (s t : Bool) → (s && t) ≡ (t && s)
-swap true true = refl
-swap true false = refl
-swap false true = refl
-swap false false = refl
-
 pub begins_either : (a b : Host) (e : Event) (events : List Event) → begins a b e events ≡ begins b a e events
 begins_either a b e events =
-    ap (λ (j : Bool). j && not (joint a b events)) (swap (ready a b (e ∷ events)) (ready b a (e ∷ events)))
-    ∙ ap (λ (j : Bool). joint b a (e ∷ events) && not j) (swap (ready a b events) (ready b a events))
+    ap (λ (j : Bool). j && not (joint a b events)) (and_turned (ready a b (e ∷ events)) (ready b a (e ∷ events)))
+    ∙ ap (λ (j : Bool). joint b a (e ∷ events) && not j) (and_turned (ready a b events) (ready b a events))
 
 pub joint_either : (a b : Host) (events : List Event) → joint a b events ≡ true → joint b a events ≡ true
-joint_either a b events together = sym (swap (ready a b events) (ready b a events)) ∙ together
+joint_either a b events together = sym (and_turned (ready a b events) (ready b a events)) ∙ together
 
 pub stays_on : (t r k s : Bool) → r ≡ true → k ≡ false → s ≡ true → (t || (r && not k && s)) ≡ true
 stays_on true r k s e f g = refl
@@ -119,10 +105,6 @@ stays_parts true r k s e f = absurd (cc)
 stays_parts false true true s e f = absurd (cc)
 stays_parts false true false s e f = (refl, refl, e)
 stays_parts false false k s e f = absurd (cc)
-
-or_left : (t u : Bool) → t ≡ true → (t || u) ≡ true
-or_left true u e = refl
-or_left false u e = absurd (cc)
 
 -- hosts that are together now, and not just begun, were so before
 were_joint : (now before : Bool) → (now && not before) ≡ false → now ≡ true → before ≡ true
@@ -137,13 +119,9 @@ stays_ready (e ∷ events) a b s = by (begins a b e events) refl where
   by true begun = (and_true (ready a b (e ∷ events)) (ready b a (e ∷ events)) (and_true (joint a b (e ∷ events)) (not (joint a b events)) begun).0).0
   by false old = (stays_parts (begins a b e events) (ready a b (e ∷ events)) (takes_reset a b e) (stays a b events) s old).0
 
-false_if : (t : Bool) → (t ≡ true → ⊥) → t ≡ false
-false_if true f = absurd (f refl)
-false_if false f = refl
-
 -- while two hosts are together neither takes an RST of the other
 no_reset : (hosts : List Host) (e : Event) (events : List Event) → IsRun hosts (e ∷ events) → (a b : Host) → (pair b a (e ∷ events)).phase ≡ Ready → takes_reset a b e ≡ false
-no_reset hosts (In x y l Reset) events r a b other = false_if (are a b y x) (λ same. reset_unready hosts events x y l r a b same other)
+no_reset hosts (In x y l Reset) events r a b other = false_from_ne_true (are a b y x) (λ same. reset_unready hosts events x y l r a b same other)
 no_reset hosts (In x y l Reply) events r a b other = refl
 no_reset hosts (In x y l (Other text)) events r a b other = refl
 no_reset hosts (Contact x y) events r a b other = refl
@@ -339,7 +317,7 @@ stay_step hosts (Out x y k c) events a b l s r kept h =
     (inl (signal_put (are a b x y) (place events) k l c (boxes a b events) refl (λ same. carry (λ v w. boxes v w events k ≡ Empty) a b x y same r.0.1))) h
 stay_step hosts (In x y k Reset) events a b l s r kept h =
     quiet hosts (In x y k Reset) events a b l (joint a b (In x y k Reset ∷ events)) s refl refl
-    (inl (no_fetch (are a b x y) (place events) k l (boxes a b events) (false_if (are a b x y) (λ same. contradicts (are b a y x) (turned_about b a y x same) kept)))) h
+    (inl (no_fetch (are a b x y) (place events) k l (boxes a b events) (false_from_ne_true (are a b x y) (λ same. contradicts (are b a y x) (turned_about b a y x same) kept)))) h
 stay_step hosts (In x y k Reply) events a b l s r kept h =
     quiet hosts (In x y k Reply) events a b l (joint a b (In x y k Reply ∷ events)) s refl refl
     (inl (reply_fetch (are a b x y) (place events) k l (boxes a b events) (λ same. carry (λ v w. WaitsWith (boxes v w events k) Reply) a b x y same r.0.1))) h

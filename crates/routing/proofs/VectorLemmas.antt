@@ -3,7 +3,7 @@ use Rattle.std.proofs.Common.{◌≡◌, ℕ, ◌+◌, ◌<◌, ◌≤◌, ◌&&
 use Rattle.std.proofs.lemmas.List.{get_or-set_other}
 use Rattle.std.proofs.lemmas.List.Edits.{fill_by_more}
 use Rattle.std.proofs.lemmas.List.Sums.{AllPass-from_list_all, list_all-from_AllPass}
-use Rattle.std.proofs.lemmas.Bool.{and_from, eq-eqb, eqb-true, le-leb, leb-true}
+use Rattle.std.proofs.lemmas.Bool.{and_from, eq-eqb, eqb-true, le-leb, leb-true, and_parts}
 use Rattle.std.specs.List.{list_all}
 use Rattle.interface.specs.Host.{most_imps}
 use Rattle.routing.specs.Vector.{IsVector, is_vector, infinite}
@@ -12,15 +12,10 @@ pub is_vector-true : (distances : List ℕ) → IsVector distances → is_vector
 is_vector-true distances v =
     and_from _ _ (eq-eqb (length distances) most_imps v.one_each) (list_all-from_AllPass (λ d. leb d infinite) distances (λ k d lt. le-leb (get_or distances k d) infinite (v.in_range k d lt)))
 
-both_true : (x y : Bool) → (x && y) ≡ true → (x ≡ true) × (y ≡ true)
-both_true true true is = (refl, refl)
-both_true true false is = absurd (cc)
-both_true false y is = absurd (cc)
-
 -- and what passes the test is one
 pub vector_tested : (distances : List ℕ) → is_vector distances ≡ true → IsVector distances
 vector_tested distances passes =
-    let both : (eqb (length distances) most_imps ≡ true) × (list_all (λ d. leb d infinite) distances ≡ true) = both_true _ _ passes in
+    let both : (eqb (length distances) most_imps ≡ true) × (list_all (λ d. leb d infinite) distances ≡ true) = and_parts _ _ passes in
     record {
       one_each = eqb-true (length distances) most_imps both.0;
       in_range = λ k d lt. leb-true (get_or distances k d) infinite (AllPass-from_list_all (λ d. leb d infinite) distances both.1 k d lt);

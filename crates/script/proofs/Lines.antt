@@ -22,7 +22,7 @@ length_next {X} n xs ys y h =
     let left : length xs - n ≡ length (y ∷ ys) = sym (length-drop n xs) ∙ ap length h in
     omega arith
 
-same_first : {X : Type 0} {x y : X} {xs ys : List X} → x ∷ xs ≡ y ∷ ys → x ≡ y
+pub same_first : {X : Type 0} {x y : X} {xs ys : List X} → x ∷ xs ≡ y ∷ ys → x ≡ y
 same_first e = cc
 
 at_next : {X : Type 0} (n : ℕ) (xs ys : List X) (y : X) → drop n xs ≡ y ∷ ys → get_or xs n y ≡ y

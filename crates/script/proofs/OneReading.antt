@@ -22,7 +22,7 @@ use Rattle.script.specs.Spelling.{IsEvent, IsFlow, IsHost, IsImp, IsMessage, dir
 use Rattle.script.specs.Steps.{IsFrame, frame_text, pair_text}
 use Rattle.script.specs.declared.event.RawEvent.{RawEvent}
 use Rattle.script.proofs.Keywords.{unmarked_where, Kind, Messages, Hosts, Flows, Imps, Twos, Frames, Ends, Counts, OperandOf, text_of, IsMeant, keyword, made, operand, made_again, spelled, is_meant, plain}
-use Rattle.script.proofs.Places.{direction_unmarked}
+use Rattle.script.proofs.Places.{direction_unmarked, imp_small}
 use Rattle.script.proofs.Hosts.{front_unmarked, host_range, host_unmarked}
 use Rattle.script.proofs.Messages.{message_words}
 use Rattle.script.proofs.Numbers.{All-unmarked_decimal}
@@ -87,9 +87,6 @@ message_once m n ms ns e =
     λ i. record { flow = flow i; text = text i }
 
 -- ---- numbers
-
-imp_small : (n : ℕ) → IsImp n → n ≤ 63
-imp_small n is = grind (arith, nat_tests)
 
 record SamePair (a b c d : ℕ) : Type 0 where
   first : a ≡ c

@@ -14,7 +14,7 @@ use Rattle.script.proofs.Words.{SameThree, same_three, not_cut, not_front, not_b
 
 -- ---- IMPs
 
-imp_small : (n : ℕ) → IsImp n → n ≤ 63
+pub imp_small : (n : ℕ) → IsImp n → n ≤ 63
 imp_small n is = grind (arith, nat_tests)
 
 imp_unmarked : (n : ℕ) → IsImp n → Lacks 32 (decimal n)

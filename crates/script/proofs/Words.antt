@@ -5,6 +5,7 @@ use Rattle.std.proofs.lemmas.Bool.Decides.{nat_tests}
 use Rattle.std.proofs.lemmas.List.Elements.{All-head, All-tail, All-weaker}
 use Rattle.std.specs.List.{All}
 use Rattle.script.specs.Steps.{Lacks}
+use Rattle.script.proofs.Lines.{same_first}
 
 self_mark : (mark : ℕ) → (mark == mark) ≡ true
 self_mark mark = grind (arith, nat_tests)
@@ -26,19 +27,16 @@ pub record SameCut {X : Type 0} (a b c d : List X) : Type 0 where
   pub front : a ≡ c
   pub back : b ≡ d
 
-first_same : {X : Type 0} {x y : X} {xs ys : List X} → x ∷ xs ≡ y ∷ ys → x ≡ y
-first_same e = cc
-
 rest_same : {X : Type 0} {x y : X} {xs ys : List X} → x ∷ xs ≡ y ∷ ys → xs ≡ ys
 rest_same e = cc
 
 pub same_parts : {X : Type 0} (mark : X) (a b c d : List X) → All (λ x. x ≢ mark) a → All (λ x. x ≢ mark) c → a ++ mark ∷ b ≡ c ++ mark ∷ d → SameCut a b c d
 same_parts {X} mark [] b [] d ha hc e = record { front = refl; back = rest_same e }
-same_parts {X} mark [] b (y ∷ c) d ha hc e = absurd (All-head (λ x. x ≢ mark) y c hc (sym (first_same e)))
-same_parts {X} mark (x ∷ a) b [] d ha hc e = absurd (All-head (λ x. x ≢ mark) x a ha (first_same e))
+same_parts {X} mark [] b (y ∷ c) d ha hc e = absurd (All-head (λ x. x ≢ mark) y c hc (sym (same_first e)))
+same_parts {X} mark (x ∷ a) b [] d ha hc e = absurd (All-head (λ x. x ≢ mark) x a ha (same_first e))
 same_parts {X} mark (x ∷ a) b (y ∷ c) d ha hc e =
     let rest : SameCut a b c d = same_parts mark a b c d (All-tail (λ z. z ≢ mark) x a ha) (All-tail (λ z. z ≢ mark) y c hc) (rest_same e) in
-    record { front = ap₂ (λ z zs. z ∷ zs) (first_same e) rest.front; back = rest.back }
+    record { front = ap₂ (λ z zs. z ∷ zs) (same_first e) rest.front; back = rest.back }
 
 all_differ : (mark : ℕ) (xs : List ℕ) → Lacks mark xs → All (λ x. x ≢ mark) xs
 all_differ mark xs h = All-weaker (λ x. (x == mark) ≡ false) (λ x. x ≢ mark) (λ x differs is. false≢true (sym differs ∙ ap (λ z. z == mark) is ∙ self_mark mark)) xs h
@@ -81,7 +79,7 @@ twice_unmarked : (mark : ℕ) (x y a b c : List ℕ) → Lacks mark x → Lacks 
 twice_unmarked mark [] y [] b c hx hy e = uncut mark b c (subst (Lacks mark) (rest_same e) hy)
 twice_unmarked mark [] y (z ∷ a) b c hx hy e = uncut mark a (b ++ mark ∷ c) (subst (Lacks mark) (rest_same e) hy)
 twice_unmarked mark (z ∷ x) y [] b c hx hy e =
-    let first : z ≡ mark = first_same e in
+    let first : z ≡ mark = same_first e in
     absurd (false≢true (sym (unmarked_first mark z x hx) ∙ ap (λ v. v == mark) first ∙ self_mark mark))
 twice_unmarked mark (z ∷ x) y (v ∷ a) b c hx hy e = twice_unmarked mark x y a b c (unmarked_rest mark z x hx) hy (rest_same e)
 

@@ -2,6 +2,7 @@
 use Rattle.std.proofs.Common.{◌≡◌, ℕ, ◌<◌, ◌==◌, ◌&&◌, ◌||◌, ◌++◌, Bool, true, false, List, [], ◌∷◌, find, None, refl, nat_lt}
 use Rattle.std.specs.BTreeSet.{BTreeSet, IsUpperBound, contains}
 use Rattle.std.specs.Ordering.{nat_cmp}
+use Rattle.std.proofs.lemmas.Bool.{or_parts}
 use Rattle.host_pairs.proofs.lemmas.{beyond_last}
 use Rattle.interface.specs.Host.{Host, same_host, address_octet}
 use Rattle.ncp_control.specs.declared.command.Command.{Command}
@@ -14,14 +15,7 @@ use Rattle.sockets.specs.Pairs.{owner_of, pair_with, placed, with_pair, without_
 use Rattle.sockets.specs.declared.owned.Owned.{Owned}
 use Rattle.sockets.specs.declared.owned.Owned.TheVariants as owned
 use Rattle.sockets.specs.declared.peer.Peer.{Peer}
-
-neither : (a b : Bool) → (a || b) ≡ false → (a ≡ false) × (b ≡ false)
-neither true b h = absurd (cc)
-neither false b h = (refl, h)
-
-and_no : (b : Bool) → (b && false) ≡ false
-and_no true = refl
-and_no false = refl
+use Rattle.interface.proofs.lemmas.{and_none}
 
 -- a number that is greater than the greatest one is none of them
 pub beyond_all : (numbers : BTreeSet ℕ) (last n : ℕ) → IsUpperBound nat_cmp numbers last → last < n → contains nat_cmp numbers n ≡ false
@@ -32,19 +26,19 @@ beyond_all numbers last n greatest lt = beyond_last numbers last n greatest lt
 no_mine : (s : ℕ) (es : List Entry) → has_own s es ≡ false → find (is_mine_on s) es ≡ None
 no_mine s [] h = refl
 no_mine s (e ∷ es) h =
-    let t : (e.own == s) ≡ false × has_own s es ≡ false = neither (e.own == s) (has_own s es) h in
-    rw (t.0, and_no e.mine) (no_mine s es t.1)
+    let t : (e.own == s) ≡ false × has_own s es ≡ false = or_parts (e.own == s) (has_own s es) h in
+    rw (t.0, and_none e.mine) (no_mine s es t.1)
 
 no_at : (s f : ℕ) (es : List Entry) → has_own s es ≡ false → entry_at s f es ≡ None
 no_at s f [] h = refl
 no_at s f (e ∷ es) h =
-    let t : (e.own == s) ≡ false × has_own s es ≡ false = neither (e.own == s) (has_own s es) h in
+    let t : (e.own == s) ≡ false × has_own s es ≡ false = or_parts (e.own == s) (has_own s es) h in
     rw t.0 (no_at s f es t.1)
 
 pub no_owner : (s : ℕ) (ps : List Peer) → some_own s ps ≡ false → owner_of s ps ≡ None
 no_owner s [] h = refl
 no_owner s (p ∷ ps) h =
-    let t : has_own s p.pair.entries ≡ false × some_own s ps ≡ false = neither (has_own s p.pair.entries) (some_own s ps) h in
+    let t : has_own s p.pair.entries ≡ false × some_own s ps ≡ false = or_parts (has_own s p.pair.entries) (some_own s ps) h in
     rw (no_mine s p.pair.entries t.0) (no_owner s ps t.1)
 
 -- ---- peers
@@ -57,7 +51,7 @@ found_own s h p ps one rest false e = rw e rest
 own_with : (s : ℕ) (h : Host) (ps : List Peer) → some_own s ps ≡ false → has_own s (pair_with h ps).entries ≡ false
 own_with s h [] z = refl
 own_with s h (p ∷ ps) z =
-    let t : has_own s p.pair.entries ≡ false × some_own s ps ≡ false = neither (has_own s p.pair.entries) (some_own s ps) z in
+    let t : has_own s p.pair.entries ≡ false × some_own s ps ≡ false = or_parts (has_own s p.pair.entries) (some_own s ps) z in
     found_own s h p ps t.0 (own_with s h ps t.1) (same_host h p.host) refl
 
 pub no_end : (s f : ℕ) (h : Host) (ps : List Peer) → some_own s ps ≡ false → entry_at s f (pair_with h ps).entries ≡ None
@@ -72,7 +66,7 @@ placed_by s p q qs one other rest more false false e f = rw (e, f) (rw (one, oth
 own_placed : (s : ℕ) (p : Peer) (ps : List Peer) → has_own s p.pair.entries ≡ false → some_own s ps ≡ false → some_own s (placed p ps) ≡ false
 own_placed s p [] one z = rw one refl
 own_placed s p (q ∷ qs) one z =
-    let t : has_own s q.pair.entries ≡ false × some_own s qs ≡ false = neither (has_own s q.pair.entries) (some_own s qs) z in
+    let t : has_own s q.pair.entries ≡ false × some_own s qs ≡ false = or_parts (has_own s q.pair.entries) (some_own s qs) z in
     placed_by s p q qs one t.0 t.1 (own_placed s p qs one t.1) (nat_lt (address_octet q.host) (address_octet p.host)) (same_host p.host q.host) refl refl
 
 without_by : (s : ℕ) (h : Host) (p : Peer) (ps : List Peer) → has_own s p.pair.entries ≡ false → some_own s (without_peer h ps) ≡ false → (b : Bool) → same_host h p.host ≡ b
@@ -83,7 +77,7 @@ without_by s h p ps one rest false e = rw e (rw (one, rest) refl)
 own_without : (s : ℕ) (h : Host) (ps : List Peer) → some_own s ps ≡ false → some_own s (without_peer h ps) ≡ false
 own_without s h [] z = refl
 own_without s h (p ∷ ps) z =
-    let t : has_own s p.pair.entries ≡ false × some_own s ps ≡ false = neither (has_own s p.pair.entries) (some_own s ps) z in
+    let t : has_own s p.pair.entries ≡ false × some_own s ps ≡ false = or_parts (has_own s p.pair.entries) (some_own s ps) z in
     without_by s h p ps t.0 (own_without s h ps t.1) (same_host h p.host) refl
 
 put_by : (s : ℕ) (h : Host) (q : PairState) (ps : List Peer) → has_own s q.entries ≡ false → some_own s ps ≡ false → (b : Bool) → is_opening q ≡ b → some_own s (with_pair h q ps) ≡ false
@@ -95,7 +89,7 @@ put_by s h q ps one z false e = rw e (own_placed s (record { host = h; pair = q 
 more_own : (s : ℕ) (x : Entry) (es : List Entry) → has_own s es ≡ false → (x.own == s) ≡ false → has_own s (es ++ x ∷ []) ≡ false
 more_own s x [] z d = rw d refl
 more_own s x (e ∷ es) z d =
-    let t : (e.own == s) ≡ false × has_own s es ≡ false = neither (e.own == s) (has_own s es) z in
+    let t : (e.own == s) ≡ false × has_own s es ≡ false = or_parts (e.own == s) (has_own s es) z in
     rw (t.0, more_own s x es t.1 d) refl
 
 requested_own : (s : ℕ) (h : Host) (x : Entry) (c : Command) (ps : List Peer) → some_own s ps ≡ false → (x.own == s) ≡ false

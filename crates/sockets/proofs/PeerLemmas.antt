@@ -1,11 +1,12 @@
 -- Peers in order: where a host is among them.
+pub use Rattle.interface.proofs.lemmas.{same_host-true}
 use Rattle.std.proofs.Common.{◌≡◌, ℕ, ◌<◌, ◌≤◌, ◌-◌, ◌++◌, Bool, true, false, not, ◌&&◌, ◌==◌, List, [], ◌∷◌, length, find, Option, Some, None, Result, Ok, Err, OnOk, slice_set, slice_index_or, refl, ap, sym, subst, ◌∙◌, arith, suc, zero, nat_lt, eq-eqb}
 use Rattle.std.specs.List.{count_by}
 use Rattle.std.proofs.lemmas.List.Sums.{length-filter, count_by-le-length}
 use Rattle.std.specs.List.Sorted.{IsPartitionPoint, IsPartitionedBy}
-use Rattle.std.proofs.lemmas.Bool.{eqb-true, ltb-true, ltb-false}
+use Rattle.std.proofs.lemmas.Bool.{eqb-true, ltb-true, ltb-false, and_parts}
 use Rattle.interface.specs.Host.{Host, IsAddress, same_host, address_octet}
-use Rattle.interface.proofs.lemmas.{same_host-refl}
+use Rattle.interface.proofs.lemmas.{same_host-refl, and_none}
 use Rattle.std.specs.declared.alloc.AllocError.{AllocError}
 use Rattle.ncp_control.specs.declared.command.Command.{Command}
 use Rattle.host_pairs.specs.Asked.{commanded, requested, with_end, with_more_bits}
@@ -21,17 +22,8 @@ use Rattle.sockets.specs.declared.peer.Peer.{Peer}
 
 -- ---- hosts
 
-and_both : (a b : Bool) → (a && b) ≡ true → (a ≡ true) × (b ≡ true)
-and_both true b h = (refl, h)
-and_both false b h = absurd (cc)
-
 abbrev host_of : ℕ → ℕ → Host
 host_of i j = record { imp = i; host = j }
-
-pub same_host-true : (g h : Host) → same_host g h ≡ true → g ≡ h
-same_host-true g h e =
-    let t : (g.imp == h.imp) ≡ true × (g.host == h.host) ≡ true = and_both (g.imp == h.imp) (g.host == h.host) e in
-    ap (λ (i : ℕ). host_of i g.host) (eqb-true g.imp h.imp t.0) ∙ ap (λ (j : ℕ). host_of h.imp j) (eqb-true g.host h.host t.1)
 
 pub same_octet : (g h : Host) → same_host g h ≡ true → address_octet g ≡ address_octet h
 same_octet g h e = ap (λ (x : Host). address_octet x) (same_host-true g h e)
@@ -349,18 +341,14 @@ more_commands : (c : Command) (cs : List Command) → (length (cs ++ c ∷ []) =
 more_commands c [] = refl
 more_commands c (d ∷ cs) = not_none (length (cs ++ c ∷ [])) (suc (length (cs ++ c ∷ [])) == 0) refl
 
-and_last : (b : Bool) → (b && false) ≡ false
-and_last true = refl
-and_last false = refl
-
 pub command_stays : (c : Command) (q : PairState) → is_opening (commanded c q) ≡ false
-command_stays c q = rw (more_commands c q.queue) (and_last _)
+command_stays c q = rw (more_commands c q.queue) (and_none _)
 
 pub request_stays : (e : Entry) (c : Command) (q : PairState) → is_opening (requested e c q) ≡ false
-request_stays e c q = rw (more_commands c q.queue) (and_last _)
+request_stays e c q = rw (more_commands c q.queue) (and_none _)
 
 pub grant_stays : (s messages bits : ℕ) (c : Command) (q : PairState) → is_opening (commanded c (with_end s (granted messages bits) q)) ≡ false
-grant_stays s messages bits c q = rw (more_commands c q.queue) (and_last _)
+grant_stays s messages bits c q = rw (more_commands c q.queue) (and_none _)
 
 -- ---- bits that wait where the pair is
 

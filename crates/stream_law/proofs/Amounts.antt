@@ -1,16 +1,13 @@
 -- Amounts of messages and of bits, by connection.
+pub use Rattle.std.proofs.lemmas.Option.{same_Some as some_is}
 use Rattle.std.proofs.Common.{◌≡◌, ◌≢◌, ◌⊎◌, ℕ, ◌+◌, ◌-◌, ◌<◌, ◌≤◌, ◌==◌, ◌&&◌, not, Bool, true, false, List, [], ◌∷◌, ◌++◌, length, Option, Some, None, refl, ap, sym, subst, ◌∙◌, inl, inr, if◌then◌else◌, eq-eqb, nat_lt, nat_le, arith}
-use Rattle.std.proofs.lemmas.Bool.{eqb-true, leb-true, ltb-true}
+use Rattle.std.proofs.lemmas.Bool.{eqb-true, leb-true, ltb-true, false_from_ne_true, and_parts}
 use Rattle.std.proofs.Math.Nat.{min-le_left, min-eq_left}
 use Rattle.ncp_control.specs.Allocation as counters
 use Rattle.ncp_control.specs.declared.allocation.Allocation.{Allocation}
 use Rattle.ncp_control.proofs.lemmas.{share-le}
 use Rattle.stream_law.specs.Words.{Word, All, Ret, for, covers, holds}
 use Rattle.stream_law.specs.Within.{message_bits, IsPrefix}
-
-pub parts : (a b : Bool) → (a && b) ≡ true → (a ≡ true) × (b ≡ true)
-parts true b e = (refl, e)
-parts false b e = absurd (cc)
 
 pub not_true : (a : Bool) → not a ≡ true → a ≡ false
 not_true true e = absurd (cc)
@@ -19,17 +16,9 @@ not_true false e = refl
 pub unlike : (a : Bool) → a ≡ true → a ≡ false → ⊥
 unlike a e f = let same : true ≡ false = sym e ∙ f in absurd (cc)
 
-pub never : (a : Bool) → (a ≡ true → ⊥) → a ≡ false
-never true f = absurd (f refl)
-never false f = refl
-
 value : Option ℕ → ℕ
 value None = 0
 value (Some c) = c
-
-pub some_is : (c d : ℕ) → Some c ≡ Some d → c ≡ d
-unfolding value
-some_is c d e = ap value e
 
 -- ---- by connection
 
@@ -55,7 +44,7 @@ for_more c f k e = elim (at c true f k) [
 
 -- and what isn't now was not before
 pub for_less : (c : ℕ) (f : ℕ → Bool) (k : ℕ) → for c true f k ≡ false → f k ≡ false
-for_less c f k e = never (f k) (λ t. unlike (for c true f k) (for_more c f k t) e)
+for_less c f k e = false_from_ne_true (f k) (λ t. unlike (for c true f k) (for_more c f k t) e)
 
 -- the part of an amount of connection `d` that is of connection `k`
 abbrev pub mine : ℕ → ℕ → ℕ → ℕ
@@ -116,16 +105,16 @@ number_all Messages a m b l n = min-eq_left l
 number_all Bits a m b l n = min-eq_left n
 
 pub number_spent : (u : Counter) (a : Allocation) (message : List Bool) → covers a (length message) ≡ true → number u (counters.spent a (length message)) + cost u message ≡ number u a
-number_spent Messages a message c = let l : 0 < a.messages = ltb-true 0 a.messages (parts (nat_lt 0 a.messages) (nat_le (length message) a.bits) c).0 in omega (arith, l)
-number_spent Bits a message c = let l : length message ≤ a.bits = leb-true (length message) a.bits (parts (nat_lt 0 a.messages) (nat_le (length message) a.bits) c).1 in omega (arith, l)
+number_spent Messages a message c = let l : 0 < a.messages = ltb-true 0 a.messages (and_parts (nat_lt 0 a.messages) (nat_le (length message) a.bits) c).0 in omega (arith, l)
+number_spent Bits a message c = let l : length message ≤ a.bits = leb-true (length message) a.bits (and_parts (nat_lt 0 a.messages) (nat_le (length message) a.bits) c).1 in omega (arith, l)
 
 pub number_back : (u : Counter) (a : Allocation) (m b : ℕ) → number u (counters.given_back a m b) + amount u (counters.share a.messages m) (counters.share a.bits b) ≡ number u a
 number_back Messages a m b = let l : counters.share a.messages m ≤ a.messages = share-le a.messages m in omega (arith, l)
 number_back Bits a m b = let l : counters.share a.bits b ≤ a.bits = share-le a.bits b in omega (arith, l)
 
 pub number_less : (u : Counter) (a : Allocation) (m b : ℕ) → holds a m b ≡ true → number u (record { messages = a.messages - m; bits = a.bits - b }) + amount u m b ≡ number u a
-number_less Messages a m b c = let l : m ≤ a.messages = leb-true m a.messages (parts (nat_le m a.messages) (nat_le b a.bits) c).0 in omega (arith, l)
-number_less Bits a m b c = let l : b ≤ a.bits = leb-true b a.bits (parts (nat_le m a.messages) (nat_le b a.bits) c).1 in omega (arith, l)
+number_less Messages a m b c = let l : m ≤ a.messages = leb-true m a.messages (and_parts (nat_le m a.messages) (nat_le b a.bits) c).0 in omega (arith, l)
+number_less Bits a m b c = let l : b ≤ a.bits = leb-true b a.bits (and_parts (nat_le m a.messages) (nat_le b a.bits) c).1 in omega (arith, l)
 
 number_added : (u : Counter) (a : Allocation) (m b : ℕ) → number u (counters.added a m b) ≡ number u a + amount u m b
 number_added Messages a m b = refl

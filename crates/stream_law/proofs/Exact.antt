@@ -1,6 +1,6 @@
 -- While both ends of a connection are open nothing that was granted is lost.
 use Rattle.std.proofs.Common.{◌≡◌, ◌≢◌, ℕ, suc, ◌+◌, ◌-◌, ◌≤◌, ◌==◌, Bool, true, false, ◌&&◌, List, [], ◌∷◌, ◌++◌, length, Option, Some, None, refl, ap, sym, subst, ◌∙◌, inl, inr, if◌then◌else◌, eq-eqb, append-nil, nat_le, ◌⊎◌, arith}
-use Rattle.std.proofs.lemmas.Bool.{eqb-true, le-leb}
+use Rattle.std.proofs.lemmas.Bool.{eqb-true, le-leb, false_from_ne_true, and_parts}
 use Rattle.std.proofs.Math.Nat.{min-eq_left}
 use Rattle.ncp_control.specs.Allocation as counters
 use Rattle.ncp_control.specs.declared.allocation.Allocation.{Allocation}
@@ -12,7 +12,7 @@ use Rattle.stream_law.specs.Senders.{Sender}
 use Rattle.stream_law.specs.Streams.{Stream, Box, Empty, Waiting, Taken, Event, Receives, Sends, happens, word_queued, behind, opening_stream, stream, MayHappen, IsRun}
 use Rattle.stream_law.specs.Within.{message_bits}
 use Rattle.stream_law.specs.Agreed.{IsPrompt, ArePrompt, IsAtRest, AreAgreed}
-use Rattle.stream_law.proofs.Amounts.{parts, unlike, never, some_is, both_are, at, mine, mine_same, mine_most, mine_add, Counter, Messages, Bits, number, amount, cost, total, number_all, number_spent, number_less, number_back, number_nothing, number_for, total_for, total_front, total_messages, total_bits, granted_in, granted_more, returned_in, returned_more, held, held_is}
+use Rattle.stream_law.proofs.Amounts.{unlike, some_is, both_are, at, mine, mine_same, mine_most, mine_add, Counter, Messages, Bits, number, amount, cost, total, number_all, number_spent, number_less, number_back, number_nothing, number_for, total_for, total_front, total_messages, total_bits, granted_in, granted_more, returned_in, returned_more, held, held_is}
 use Rattle.stream_law.proofs.Words.{unless_some}
 use Rattle.stream_law.proofs.Keeps.{made, Account, Inv, waits_of, link_free}
 use Rattle.stream_law.proofs.Receives as receives
@@ -169,7 +169,7 @@ module _ (lost : Bool) (r : Receiver) (s : Sender) (d rest : List Word) (b : Box
       → (u : Counter) → amount u m n ≡ 0
   ret_nothing c m n end h dropped closed unsaid u = by r.opened refl where
     over : r.over c ≡ false
-    over = never (r.over c) (λ o. unlike (s.closed c) (h.ends.passed c o) unsaid)
+    over = false_from_ne_true (r.over c) (λ o. unlike (s.closed c) (h.ends.passed c o) unsaid)
 
     by : (v : Bool) → r.opened ≡ v → amount u m n ≡ 0
     by true e = absurd (unlike (receivers.is_open c r && holds r.allocation m n) (ret_opened c m n end h closed over e) dropped)
@@ -183,7 +183,7 @@ module _ (lost : Bool) (r : Receiver) (s : Sender) (d rest : List Word) (b : Box
         let f : number u' (for c (counters.added (r.returned c) m n) r.returned k) ≡ number u' (r.returned k) + mine k c (amount u' m n) = number_for u' k c m n r.returned in
         let same : mine k c (amount u' m n) ≡ amount u' m n = mine_same k c (amount u' m n) (both_are r.end c k end i) in
         let less : number u' (record { messages = r.allocation.messages - m; bits = r.allocation.bits - n }) + amount u' m n ≡ number u' r.allocation
-        = number_less u' r.allocation m n (parts (receivers.is_open c r) (holds r.allocation m n) e).1 in
+        = number_less u' r.allocation m n (and_parts (receivers.is_open c r) (holds r.allocation m n) e).1 in
         omega (arith, l, f, same, less));
     fits = ((let l : r.allocation.messages ≤ 65535 = x.fits.0 in omega (arith, l)), (let l : r.allocation.bits ≤ 4294967295 = x.fits.1 in omega (arith, l)));
     all = λ u' k o. (
@@ -220,7 +220,7 @@ module _ (lost : Bool) (r : Receiver) (s : Sender) (d u : List Word) (c z : ℕ)
         let f : total u' (for c (r.taken c ++ bits ∷ []) r.taken k) ≡ total u' (r.taken k) + mine k c (cost u' bits) = total_for u' k c bits r.taken in
         let own : mine k c (cost u' bits) ≡ cost u' bits = mine_same k c (cost u' bits) (both_are r.end c k end_is i) in
         let less : number u' (counters.spent r.allocation (length bits)) + cost u' bits ≡ number u' r.allocation
-        = number_spent u' r.allocation bits (parts (receivers.is_open c r && is_size z (r.size c)) (covers r.allocation (length bits)) e).1 in
+        = number_spent u' r.allocation bits (and_parts (receivers.is_open c r && is_size z (r.size c)) (covers r.allocation (length bits)) e).1 in
         omega (arith, l, f, own, less));
     fits = ((let l : r.allocation.messages ≤ 65535 = x.fits.0 in omega (arith, l)), (let l : r.allocation.bits ≤ 4294967295 = x.fits.1 in omega (arith, l)));
     all = x.all;

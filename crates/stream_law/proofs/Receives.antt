@@ -1,5 +1,6 @@
 -- What the receiver does keeps all of it.
 use Rattle.std.proofs.Common.{◌≡◌, ℕ, suc, ◌==◌, ◌+◌, ◌-◌, ◌≤◌, Bool, true, false, not, ◌&&◌, List, [], ◌∷◌, ◌++◌, length, Option, Some, None, is_some, refl, ap, sym, subst, ◌∙◌, inl, inr, if◌then◌else◌, append-nil, eqb-true, arith}
+use Rattle.std.proofs.lemmas.Bool.{and_parts}
 use Rattle.ncp_control.specs.Allocation as counters
 use Rattle.stream_law.specs.Words.{Word, Rts, Str, All, Gvb, Ret, Cls, for, covers, holds, is_size}
 use Rattle.stream_law.specs.Receivers as receivers
@@ -7,7 +8,7 @@ use Rattle.stream_law.specs.Receivers.{Receiver}
 use Rattle.stream_law.specs.Senders.{Sender}
 use Rattle.stream_law.specs.Streams.{Stream, Box, Empty, Waiting, Taken}
 use Rattle.stream_law.specs.Within.{IsPrefix, waiting_in}
-use Rattle.stream_law.proofs.Amounts.{parts, not_true, unlike, some_is, both_are, at, for_here, for_more, for_less, mine, mine_same, mine_most, Counter, number, amount, cost, total, number_all, number_spent, number_less, number_for, total_for, granted_in, granted_more}
+use Rattle.stream_law.proofs.Amounts.{not_true, unlike, some_is, both_are, at, for_here, for_more, for_less, mine, mine_same, mine_most, Counter, number, amount, cost, total, number_all, number_spent, number_less, number_for, total_for, granted_in, granted_more}
 use Rattle.stream_law.proofs.Words.{unless, unless_none, DownFits, down_more, no_rts_said, down_said, down_asked, up_more, closed_more}
 use Rattle.stream_law.proofs.Keeps.{made, Account, Inv, all_over, sole, waits_for, waits_of, acceptable}
 
@@ -17,8 +18,8 @@ last_of r c end closed = ap (λ (v : Bool). unless v r.end) closed ∙ end
 
 pub opens : (c : ℕ) (r : Receiver) → receivers.is_open c r ≡ true → (r.opened ≡ true) × (r.closed ≡ false) × (r.over c ≡ false)
 opens c r e =
-    let p : ((r.opened && not r.closed) ≡ true) × (not (r.over c) ≡ true) = parts (r.opened && not r.closed) (not (r.over c)) e in
-    let q : (r.opened ≡ true) × (not r.closed ≡ true) = parts r.opened (not r.closed) p.0 in
+    let p : ((r.opened && not r.closed) ≡ true) × (not (r.over c) ≡ true) = and_parts (r.opened && not r.closed) (not (r.over c)) e in
+    let q : (r.opened ≡ true) × (not r.closed ≡ true) = and_parts r.opened (not r.closed) p.0 in
     (q.0, not_true r.closed q.1, not_true (r.over c) p.1)
 
 no_front : (xs : List (List Bool)) → IsPrefix xs [] → xs ≡ []
@@ -308,7 +309,7 @@ module _ (r : Receiver) (s : Sender) (d rest : List Word) (b : Box) where
           let f : number u' (for c (counters.added (r.returned c) m n) r.returned k) ≡ number u' (r.returned k) + mine k c (amount u' m n) = number_for u' k c m n r.returned in
           let same : mine k c (amount u' m n) ≡ amount u' m n = mine_same k c (amount u' m n) (both_are r.end c k end i) in
           let less : number u' (record { messages = r.allocation.messages - m; bits = r.allocation.bits - n }) + amount u' m n ≡ number u' r.allocation
-          = number_less u' r.allocation m n (parts (receivers.is_open c r) (holds r.allocation m n) e).1 in
+          = number_less u' r.allocation m n (and_parts (receivers.is_open c r) (holds r.allocation m n) e).1 in
           omega (arith, l, f, same, less));
       unopened = h.grants.unopened;
       ungranted = h.grants.ungranted;
@@ -383,13 +384,13 @@ module _ (r : Receiver) (s : Sender) (d u : List Word) (c z : ℕ) (bits : List 
     };
   } where
     fits : ((receivers.is_open c r && is_size z (r.size c)) ≡ true) × (covers r.allocation (length bits) ≡ true)
-    fits = parts (receivers.is_open c r && is_size z (r.size c)) (covers r.allocation (length bits)) e
+    fits = and_parts (receivers.is_open c r && is_size z (r.size c)) (covers r.allocation (length bits)) e
 
     covered : covers r.allocation (length bits) ≡ true
     covered = fits.1
 
     opened : (r.opened ≡ true) × (r.closed ≡ false) × (r.over c ≡ false)
-    opened = opens c r (parts (receivers.is_open c r) (is_size z (r.size c)) fits.0).0
+    opened = opens c r (and_parts (receivers.is_open c r) (is_size z (r.size c)) fits.0).0
 
     same : (k : ℕ) → k ≡ c → s.sent k ≡ for c (r.taken c ++ bits ∷ []) r.taken k
     same k e = subst (λ (j : ℕ). s.sent j ≡ for c (r.taken c ++ bits ∷ []) r.taken j) (sym e) (h.arrivals.whole c end_is opened.1 opened.2 ∙ sym (for_here c (r.taken c ++ bits ∷ []) r.taken))

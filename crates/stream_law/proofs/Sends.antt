@@ -1,6 +1,6 @@
 -- What the sender does keeps all of it.
 use Rattle.std.proofs.Common.{◌≡◌, ◌≢◌, ℕ, ◌+◌, ◌≤◌, ◌==◌, Bool, true, false, not, ◌&&◌, List, [], ◌∷◌, ◌++◌, length, Option, Some, None, refl, ap, sym, subst, ◌∙◌, inl, inr, if◌then◌else◌, eq-eqb, append-nil, arith}
-use Rattle.std.proofs.lemmas.Bool.{eqb-true}
+use Rattle.std.proofs.lemmas.Bool.{eqb-true, false_from_ne_true, and_parts}
 use Rattle.std.proofs.lemmas.List.{append_assoc, length-append}
 use Rattle.ncp_control.specs.Allocation as counters
 use Rattle.ncp_control.specs.declared.allocation.Allocation.{Allocation}
@@ -10,14 +10,14 @@ use Rattle.stream_law.specs.Senders as senders
 use Rattle.stream_law.specs.Senders.{Sender}
 use Rattle.stream_law.specs.Streams.{Box, Empty, Waiting, Taken, word_queued}
 use Rattle.stream_law.specs.Within.{IsPrefix}
-use Rattle.stream_law.proofs.Amounts.{parts, not_true, unlike, never, some_is, both_are, at, for_here, for_more, for_less, mine, mine_add, mine_within, Counter, number, amount, cost, total, number_granted, number_spent, number_back, number_nothing, total_for, returned_in, returned_more, held, held_is}
+use Rattle.stream_law.proofs.Amounts.{not_true, unlike, some_is, both_are, at, for_here, for_more, for_less, mine, mine_add, mine_within, Counter, number, amount, cost, total, number_granted, number_spent, number_back, number_nothing, total_for, returned_in, returned_more, held, held_is}
 use Rattle.stream_law.proofs.Words.{unless, unless_none, unless_some, NoRts, DownFits, UpFits, up_more, up_said}
 use Rattle.stream_law.proofs.Keeps.{made, Down, Waits, Account, Inv, sole, link_free}
 
 pub opens : (c : ℕ) (s : Sender) → senders.is_open c s ≡ true → (s.opened ≡ true) × (s.shut ≡ false) × (s.closed c ≡ false)
 opens c s e =
-    let p : ((s.opened && not s.shut) ≡ true) × (not (s.closed c) ≡ true) = parts (s.opened && not s.shut) (not (s.closed c)) e in
-    let q : (s.opened ≡ true) × (not s.shut ≡ true) = parts s.opened (not s.shut) p.0 in
+    let p : ((s.opened && not s.shut) ≡ true) × (not (s.closed c) ≡ true) = and_parts (s.opened && not s.shut) (not (s.closed c)) e in
+    let q : (s.opened ≡ true) × (not s.shut ≡ true) = and_parts s.opened (not s.shut) p.0 in
     (q.0, not_true s.shut q.1, not_true (s.closed c) p.1)
 
 -- a size that is said once stays so
@@ -335,7 +335,7 @@ module _ (r : Receiver) (s : Sender) (rest u : List Word) (b : Box) where
         share = Ret c (counters.share s.allocation.messages m) (counters.share s.allocation.bits n)
 
         never_over : (over : ℕ → Bool) → ((k : ℕ) → over k ≡ true → s.closed k ≡ true) → over c ≡ false
-        never_over over f = never (over c) (λ o. unlike (s.closed c) (f c o) (opens c s e).2)
+        never_over over f = false_from_ne_true (over c) (λ o. unlike (s.closed c) (f c o) (opens c s e).2)
   returned_if c m n end h false e = reallocated r s (Gvb c m n ∷ rest) u b h s.allocation rest u h.down.1 (λ q. q) h.up h.account
 
   pub kept_gvb : (c m n : ℕ) → Inv (made r s (Gvb c m n ∷ rest) u b)

@@ -5,17 +5,14 @@ use Rattle.subnet.specs.Calls as subnet
 use Rattle.subnet.specs.Events as events
 use Rattle.subnet.proofs.lemmas.{take_log}
 use Rattle.trace.proofs.lemmas.{Continues, IsDecided, goes_as, goes_back, same_answer, same_step}
-
-no_memory : (a b : Bool) → (a || b) ≡ false → b ≡ false
-no_memory true b e = absurd (false≢true (sym e))
-no_memory false b e = e
+use Rattle.interface.proofs.lemmas.{or_second}
 
 decided : {T : Type 0} (refusal : Option CarrierFault) (grows : Bool) (Gives : T → Type 0) (old : Kept)
     (r : Result T CarrierFault) (new : Kept) → Decided refusal grows Gives old new r → Continues r
     → IsDecided refusal Gives old r new
 decided refusal grows Gives old (Ok x) new h goes = h
 decided refusal grows Gives old (Err f) new h goes =
-    subst (λ (memory : Bool). Fails refusal grows memory f old new) (no_memory (is_halt f) (is_memory f) goes) h
+    subst (λ (memory : Bool). Fails refusal grows memory f old new) (or_second (is_halt f) (is_memory f) goes) h
 
 one_call : (refusal : Option CarrierFault) (grows : Bool) (left old : Kept) (r q : Result (Unit {0}) CarrierFault)
     (new other : Kept)

@@ -7,14 +7,12 @@ use Rattle.script.proofs.lemmas.{SameCut, same_cut}
 use Rattle.trace.specs.Named.{IsShort}
 use Rattle.trace.proofs.lemmas.{decimal_lacks, member_closed}
 use Rattle.subnet_trace.proofs.Spelling.{bit_spelled, bits_spelled, bool_spelled, channel_spelled, packet_spelled, told_spelled, whole_spelled, word_closed}
+use Rattle.subnet_trace.proofs.Spelling.{none_left}
 
 pub null_closed : IsClosed (codes "null")
 null_closed = word_closed 110 (codes "ull") refl
 
 -- ---- distances
-
-none_left : {X : Type 0} {x : X} {xs : List X} → [] ≡ x ∷ xs → ⊥
-none_left e = absurd (cc)
 
 named : (name value : List ℕ) → member name value ≡ 34 ∷ (name ++ 34 ∷ 58 ∷ value)
 named name value = ap (λ zs. 34 ∷ zs) (append_assoc name (34 ∷ []) (58 ∷ value))

@@ -9,6 +9,7 @@ use Rattle.script.specs.declared.event.RawEvent.TheVariants as event
 use Rattle.subnet.specs.Events.{first_of, starting_refusal}
 use Rattle.subnet.specs.Net.{dropping}
 use Rattle.subnet_trace.specs.Parts.{Part, SamePart, imp_alone, imp_and_lines, is_named, line_alone, lines_at, parts_of}
+use Rattle.interface.proofs.lemmas.{and_first}
 
 -- ---- frames that an IMP puts on lines
 
@@ -108,14 +109,10 @@ same_all : (q : Part) (n m : Net) → m ≡ n → SamePart q n m
 same_all (Imp j) n m e = ap (λ (x : Net). imp_at x.imps j) e
 same_all (Line l) n m e = ap (λ (x : Net). wire_at x.lines l) e
 
-and_true : (a b : Bool) → (a && b) ≡ true → a ≡ true
-and_true true b h = refl
-and_true false b h = absurd (cc)
-
 pub frame_there : (n : Net) (l : ℕ) (d : Direction) (k : ℕ) → frame_refusal n l d k ≡ None → nat_lt l (length n.lines) ≡ true
 frame_there n l d k ok = by (nat_lt l (length n.lines) && nat_lt k (length (frames_on d (wire_at n.lines l)))) refl ok where
   by : (b : Bool) → (nat_lt l (length n.lines) && nat_lt k (length (frames_on d (wire_at n.lines l)))) ≡ b → (if b then None else Some fault.NoSuch) ≡ None → nat_lt l (length n.lines) ≡ true
-  by true e h = and_true (nat_lt l (length n.lines)) (nat_lt k (length (frames_on d (wire_at n.lines l)))) e
+  by true e h = and_first (nat_lt l (length n.lines)) (nat_lt k (length (frames_on d (wire_at n.lines l)))) e
   by false e h = absurd (not_some (sym h))
 
 deliver_rest : (n : Net) (l : ℕ) (d : Direction) (k : ℕ) (p : Part) → IsPlaced n → frame_refusal n l d k ≡ None → is_part n p ≡ true → is_named p (parts_of n (event.Net (net.Deliver l d k))) ≡ false → SamePart p n (deliver n l d k)

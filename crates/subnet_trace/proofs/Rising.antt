@@ -14,11 +14,12 @@ use Rattle.std.specs.Ordering.{is_lt}
 use Rattle.std.specs.Prelude.{slice_index_or}
 use Rattle.std.specs.declared.cmp.Ordering.{Ordering}
 use Rattle.std.specs.declared.cmp.Ordering.TheVariants.{Less, Equal, Greater}
+use Rattle.std.proofs.lemmas.Bool.{and_parts}
 use Rattle.subnet.specs.Net.{imp_at}
 use Rattle.subnet_trace.specs.Parts.{Part, parts_of_net}
 use Rattle.subnet_trace.specs.Texts.{kept_part, source_part}
 use Rattle.subnet_trace.specs.Told.{ends_of}
-use Rattle.subnet_trace.proofs.Tables.{both, known}
+use Rattle.subnet_trace.proofs.Tables.{known}
 use Rattle.trace.specs.Changes.{AreOfOne, Rises}
 
 -- ---- the parts that tables of flows are made into
@@ -28,7 +29,7 @@ behind : {V : Type 0} (part : Flow × V → FlowPart) → ((e : Flow × V) → (
     → AllByRecursion (λ g. flow_cmp f g ≡ Less) (map (λ p. p.flow) (map part es))
 behind part same f [] h = tt
 behind part same f (e ∷ es) h =
-    let parts = both (is_lt (flow_cmp f e.0)) (below_all flow_cmp f es) h in
+    let parts = and_parts (is_lt (flow_cmp f e.0)) (below_all flow_cmp f es) h in
     (ap (flow_cmp f) (same e) ∙ by (flow_cmp f e.0) parts.0, behind part same f es parts.1) where
       by : (o : Ordering) → is_lt o ≡ true → o ≡ Less
       by Less is = refl
@@ -40,7 +41,7 @@ entries_rise : {V : Type 0} (part : Flow × V → FlowPart) → ((e : Flow × V)
 unfolding IsStrictlySortedBy
 entries_rise part same [] h = tt
 entries_rise part same (e ∷ es) h =
-    let parts = both (below_all flow_cmp e.0 es) (is_sorted flow_cmp es) h in
+    let parts = and_parts (below_all flow_cmp e.0 es) (is_sorted flow_cmp es) h in
     (behind part same (part e).flow es (ap (λ (f : Flow). below_all flow_cmp f es) (same e) ∙ parts.0), entries_rise part same es parts.1)
 
 map_rises : {V : Type 0} (part : Flow × V → FlowPart) → ((e : Flow × V) → (part e).flow ≡ e.0)

@@ -148,7 +148,7 @@ told_spelled = record { closed = λ t is. answer_spelled.closed (t.kind, t.flow)
 
 -- ---- channels
 
-none_left : {X : Type 0} {x : X} {xs : List X} → [] ≡ x ∷ xs → ⊥
+pub none_left : {X : Type 0} {x : X} {xs : List X} → [] ≡ x ∷ xs → ⊥
 none_left e = absurd (cc)
 
 held_closed : (o : Option PacketFields) → IfSome o IsPacketTold → AreClosed (held_members o)

@@ -12,6 +12,7 @@ use Rattle.std.specs.Option.{option_map}
 use Rattle.std.specs.Ordering.{eq_by_cmp, is_eq, is_lt, ordering_reverse}
 use Rattle.std.specs.declared.cmp.Ordering.{Ordering}
 use Rattle.std.specs.declared.cmp.Ordering.TheVariants.{Less, Equal, Greater}
+use Rattle.std.proofs.lemmas.Bool.{and_parts}
 use Rattle.interface.specs.Flow.{same_flow}
 use Rattle.interface.proofs.lemmas.{flows_total, same_flow-true}
 use Rattle.link_table.specs.Flows.{Destinations, answered_in, ended, ended_in, flow_answered, given_up, given_up_in}
@@ -109,10 +110,6 @@ pub known : (b : Bool) → T b → b ≡ true
 known true t = refl
 known false t = absurd t
 
-pub both : (a b : Bool) → (a && b) ≡ true → (a ≡ true) × (b ≡ true)
-both true b e = (refl, e)
-both false b e = absurd (cc)
-
 above_is_other : (o : Ordering) → is_lt o ≡ true → is_eq (ordering_reverse o) ≡ false
 above_is_other Less e = refl
 above_is_other Equal e = absurd (cc)
@@ -123,7 +120,7 @@ IsAbove f e = is_lt (flow_cmp f e.0) ≡ true
 
 all_above : {V : Type 0} (f : Flow) (es : List (Flow × V)) → below_all flow_cmp f es ≡ true → All (IsAbove f) es
 all_above f [] h = All-nil (IsAbove f)
-all_above f (e ∷ es) h = let parts = both (is_lt (flow_cmp f e.0)) (below_all flow_cmp f es) h in All-cons (IsAbove f) e es parts.0 (all_above f es parts.1)
+all_above f (e ∷ es) h = let parts = and_parts (is_lt (flow_cmp f e.0)) (below_all flow_cmp f es) h in All-cons (IsAbove f) e es parts.0 (all_above f es parts.1)
 
 -- what is found after an entry is found also with it
 later_found : {V : Type 0} (P : Flow × V → Type 0) (e : Flow × V) (es : List (Flow × V)) → ((f : Flow) (v : V) → find flow_cmp f (e ∷ es) ≡ Some v → P (f, v)) → (f : Flow) (v : V) → find flow_cmp f es ≡ Some v → IsAbove e.0 (f, v) → P (f, v)
@@ -135,7 +132,7 @@ later_found {V} P e es found f v at above =
 all_found : {V : Type 0} (P : Flow × V → Type 0) (es : List (Flow × V)) → is_sorted flow_cmp es ≡ true → ((f : Flow) (v : V) → find flow_cmp f es ≡ Some v → P (f, v)) → All P es
 all_found P [] sorted found = All-nil P
 all_found {V} P (e ∷ es) sorted found =
-    let parts : (below_all flow_cmp e.0 es ≡ true) × (is_sorted flow_cmp es ≡ true) = both (below_all flow_cmp e.0 es) (is_sorted flow_cmp es) sorted in
+    let parts : (below_all flow_cmp e.0 es ≡ true) × (is_sorted flow_cmp es ≡ true) = and_parts (below_all flow_cmp e.0 es) (is_sorted flow_cmp es) sorted in
     let Q : Flow × V → Type 0 = λ x. IsAbove e.0 x → P x in
     let later : All Q es = all_found Q es parts.1 (later_found P e es found) in
     let above : All (IsAbove e.0) es = all_above e.0 es parts.0 in

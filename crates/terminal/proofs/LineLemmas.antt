@@ -6,7 +6,9 @@ use Rattle.std.proofs.Math.Seq.{take-append_seam}
 use Rattle.std.proofs.lemmas.Grind.{flat_map-append, fold-append}
 use Rattle.std.proofs.lemmas.List.Folds.{list_any-append}
 use Rattle.std.specs.List.{flat_map, fold, list_all, list_any}
+use Rattle.std.proofs.lemmas.Bool.{and_parts}
 use Rattle.terminal.specs.Lines.{AreLines, Heard, ends_line, has_end, hear, lines_heard, is_printable, spelled}
+use Rattle.interface.proofs.lemmas.{and_none, or_first, or_second}
 
 -- ---- the octet before an end
 
@@ -69,23 +71,11 @@ nothing_lost rest octets = all_of [] rest octets
 
 -- ---- truth values
 
-first_false : (a b : Bool) → (a || b) ≡ false → a ≡ false
-first_false true b e = e
-first_false false b e = refl
-
-second_false : (a b : Bool) → (a || b) ≡ false → b ≡ false
-second_false true b e = absurd (grind arith)
-second_false false b e = e
-
 swapped : (a b : Bool) → (a && b) ≡ false → (b && a) ≡ false
 swapped true true e = e
 swapped true false e = refl
 swapped false true e = refl
 swapped false false e = refl
-
-and_false : (a : Bool) → (a && false) ≡ false
-and_false true = refl
-and_false false = refl
 
 or_false : (a : Bool) → a ≡ false → (a || false) ≡ false
 or_false true e = e
@@ -100,8 +90,8 @@ push_at (y ∷ []) zero x is stays endless = or_false ((y == 13) && (x == 10)) (
 push_at (y ∷ []) (suc n) x is stays endless = absurd (omega arith)
 push_at (y ∷ z ∷ zs) zero x is stays endless = absurd (omega arith)
 push_at (y ∷ z ∷ zs) (suc n) x is stays endless =
-    let here : ((y == 13) && (z == 10)) ≡ false = first_false ((y == 13) && (z == 10)) (has_end (z ∷ zs)) endless in
-    rw here (push_at (z ∷ zs) n x (omega arith) stays (second_false ((y == 13) && (z == 10)) (has_end (z ∷ zs)) endless))
+    let here : ((y == 13) && (z == 10)) ≡ false = or_first ((y == 13) && (z == 10)) (has_end (z ∷ zs)) endless in
+    rw here (push_at (z ∷ zs) n x (omega arith) stays (or_second ((y == 13) && (z == 10)) (has_end (z ∷ zs)) endless))
 
 open_push : (rest : List ℕ) (x : ℕ) → ends_line rest x ≡ false → has_end rest ≡ false → has_end (rest ++ x ∷ []) ≡ false
 open_push [] x stays endless = refl
@@ -112,19 +102,19 @@ open_front : (xs ys : List ℕ) → has_end (xs ++ ys) ≡ false → has_end xs 
 open_front [] ys endless = refl
 open_front (x ∷ []) ys endless = refl
 open_front (x ∷ z ∷ zs) ys endless =
-    let here : ((x == 13) && (z == 10)) ≡ false = first_false ((x == 13) && (z == 10)) (has_end (z ∷ zs ++ ys)) endless in
-    rw here (open_front (z ∷ zs) ys (second_false ((x == 13) && (z == 10)) (has_end (z ∷ zs ++ ys)) endless))
+    let here : ((x == 13) && (z == 10)) ≡ false = or_first ((x == 13) && (z == 10)) (has_end (z ∷ zs ++ ys)) endless in
+    rw here (open_front (z ∷ zs) ys (or_second ((x == 13) && (z == 10)) (has_end (z ∷ zs ++ ys)) endless))
 
 -- where there is no end, no octet ends a line
 here_at : (r : List ℕ) (n x : ℕ) (xs : List ℕ) → length r ≡ suc n → has_end (r ++ x ∷ xs) ≡ false → ((x == 10) && (slice_index_or r n 0 == 13)) ≡ false
 here_at [] n x xs is endless = absurd (omega arith)
-here_at (y ∷ []) zero x xs is endless = swapped (y == 13) (x == 10) (first_false ((y == 13) && (x == 10)) (has_end (x ∷ xs)) endless)
+here_at (y ∷ []) zero x xs is endless = swapped (y == 13) (x == 10) (or_first ((y == 13) && (x == 10)) (has_end (x ∷ xs)) endless)
 here_at (y ∷ []) (suc n) x xs is endless = absurd (omega arith)
 here_at (y ∷ z ∷ zs) zero x xs is endless = absurd (omega arith)
-here_at (y ∷ z ∷ zs) (suc n) x xs is endless = here_at (z ∷ zs) n x xs (omega arith) (second_false ((y == 13) && (z == 10)) (has_end (z ∷ zs ++ x ∷ xs)) endless)
+here_at (y ∷ z ∷ zs) (suc n) x xs is endless = here_at (z ∷ zs) n x xs (omega arith) (or_second ((y == 13) && (z == 10)) (has_end (z ∷ zs ++ x ∷ xs)) endless)
 
 no_end_here : (r : List ℕ) (x : ℕ) (xs : List ℕ) → has_end (r ++ x ∷ xs) ≡ false → ends_line r x ≡ false
-no_end_here [] x xs endless = and_false (x == 10)
+no_end_here [] x xs endless = and_none (x == 10)
 no_end_here (y ∷ ys) x xs endless = here_at (y ∷ ys) (length (y ∷ ys) - 1) x xs (omega arith) endless
 
 -- ---- the lines are whole, and the rest is open
@@ -187,8 +177,8 @@ pub read_again : (before lines : List (List ℕ)) (rest : List ℕ) → list_any
 read_again before [] rest endless last = kept before [] rest last ∙ ap (λ (z : List (List ℕ)). the_heard z rest) (sym (append-nil before))
 read_again before (l ∷ lines) rest endless last =
     ap (λ (z : List ℕ). fold hear (the_heard before []) z) (append_assoc (spelled l) (flat_map spelled lines) rest ∙ append_assoc l (13 ∷ 10 ∷ []) (flat_map spelled lines ++ rest))
-    ∙ line_read before l (flat_map spelled lines ++ rest) (first_false (has_end l) (list_any has_end lines) endless)
-    ∙ read_again (before ++ l ∷ []) lines rest (second_false (has_end l) (list_any has_end lines) endless) last
+    ∙ line_read before l (flat_map spelled lines ++ rest) (or_first (has_end l) (list_any has_end lines) endless)
+    ∙ read_again (before ++ l ∷ []) lines rest (or_second (has_end l) (list_any has_end lines) endless) last
     ∙ ap (λ (z : List (List ℕ)). the_heard z rest) (append_assoc before (l ∷ []) lines)
 
 pub only_reading : (octets : List ℕ) (lines : List (List ℕ)) (rest : List ℕ) → AreLines octets lines rest → lines_heard [] octets ≡ (lines, rest)
@@ -199,15 +189,11 @@ only_reading octets lines rest are = ap (λ (z : List ℕ). fold hear (the_heard
 not_return : (x : ℕ) → is_printable x ≡ true → (x == 13) ≡ false
 not_return x printable = grind (arith, nat_tests)
 
-both_true : (a b : Bool) → (a && b) ≡ true → (a ≡ true) × (b ≡ true)
-both_true true b e = (refl, e)
-both_true false b e = absurd (grind arith)
-
 typed_open : (text : List ℕ) → list_all is_printable text ≡ true → has_end text ≡ false
 typed_open [] all = refl
 typed_open (x ∷ []) all = refl
 typed_open (x ∷ y ∷ ys) all =
-    let both : (is_printable x ≡ true) × (list_all is_printable (y ∷ ys) ≡ true) = both_true (is_printable x) (list_all is_printable (y ∷ ys)) all in
+    let both : (is_printable x ≡ true) × (list_all is_printable (y ∷ ys) ≡ true) = and_parts (is_printable x) (list_all is_printable (y ∷ ys)) all in
     let here : (x == 13) ≡ false = not_return x both.0 in
     rw here (typed_open (y ∷ ys) both.1)
 

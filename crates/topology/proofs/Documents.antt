@@ -45,7 +45,7 @@ blank_document : (text : List ℕ) → IsBlank text → parse_document text ≡ 
 unfolding parse_document
 blank_document text h = ap (option_map (λ (doc : Document). close doc.0)) (blank_lines (length text) (no_nodes, []) text h)
 
-some_same : {X : Type 0} {x y : X} → Some x ≡ Some y → x ≡ y
+pub some_same : {X : Type 0} {x y : X} → Some x ≡ Some y → x ≡ y
 some_same e = cc
 
 -- a blank text lists no IMP

@@ -2,7 +2,7 @@
 use Rattle.std.proofs.Common.{◌≡◌, ◌≢◌, ℕ, zero, suc, ◌<◌, ◌≤◌, ◌+◌, ◌*◌, ◌-◌, ◌/◌, ◌%◌, ◌==◌, ◌&&◌, ◌||◌, nat_lt, nat_le, Bool, true, false, List, [], ◌∷◌, ◌++◌, length, refl, sym, ◌∙◌, subst, arith, lit<, inl, inr, ◌⊎◌, eqb-true, Result, Ok, Err, IfErr}
 use Rattle.std.proofs.Math.Nat.{div-add-mod}
 use Rattle.std.proofs.lemmas.Nat.{mod_below}
-use Rattle.std.proofs.lemmas.Bool.{false≢true, and_parts}
+use Rattle.std.proofs.lemmas.Bool.{false≢true, and_parts, or_right, or_cases, or_left}
 use Rattle.std.proofs.lemmas.Bool.Decides.{nat_tests}
 use Rattle.std.proofs.lemmas.List.Folds.{list_any-append}
 use Rattle.std.specs.List.{list_all}
@@ -11,28 +11,16 @@ use Rattle.interface.proofs.lemmas.{both_ways, same_host-refl, same_host-true}
 use Rattle.topology.specs.declared.network.ImpHosts.{ImpHosts}
 use Rattle.topology.specs.Topology.{TopologyFields, IsTopology, has_host, host_if, hosts_below, hosts_of, is_imp, most_hosts}
 
-one_of : (a b : Bool) → (a || b) ≡ true → (a ≡ true) ⊎ (b ≡ true)
-one_of true b e = inl refl
-one_of false b e = inr e
-
-left_true : (a b : Bool) → a ≡ true → (a || b) ≡ true
-left_true true b e = refl
-left_true false b e = absurd (false≢true e)
-
-right_true : (a b : Bool) → b ≡ true → (a || b) ≡ true
-right_true true b e = refl
-right_true false b e = e
-
 abbrev pub place_of : ℕ → Host
 place_of n = record { imp = n / 4 + 1; host = n % 4 }
 
 -- a host at a place is there if its IMP has it
 here_only : (test : Bool) (g h : Host) → is_host (host_if test g) h ≡ true → (test ≡ true) × (h ≡ g)
-here_only true g h e = elim (one_of (same_host h g) false e) [ inl same ↦ (refl, same_host-true h g same) | inr unlike ↦ absurd (false≢true unlike) ]
+here_only true g h e = elim (or_cases (same_host h g) false e) [ inl same ↦ (refl, same_host-true h g same) | inr unlike ↦ absurd (false≢true unlike) ]
 here_only false g h e = absurd (false≢true e)
 
 here : (test : Bool) (g h : Host) → test ≡ true → h ≡ g → is_host (host_if test g) h ≡ true
-here true g h t e = left_true (same_host h g) false (subst (λ (k : Host). same_host h k ≡ true) e (same_host-refl h))
+here true g h t e = or_left (same_host h g) false (subst (λ (k : Host). same_host h k ≡ true) e (same_host-refl h))
 here false g h t e = absurd (false≢true t)
 
 -- a host that is in the list is one of its IMP
@@ -40,7 +28,7 @@ stands : (imps : List ImpHosts) (n : ℕ) (h : Host) → is_host (hosts_below im
 unfolding hosts_below
 stands imps zero h e = absurd (false≢true e)
 stands imps (suc n) h e =
-    elim (one_of (is_host (hosts_below imps n) h) (is_host (host_if (has_host imps (n / 4 + 1) (n % 4)) (place_of n)) h)
+    elim (or_cases (is_host (hosts_below imps n) h) (is_host (host_if (has_host imps (n / 4 + 1) (n % 4)) (place_of n)) h)
     (sym (list_any-append (same_host h) (hosts_below imps n) (host_if (has_host imps (n / 4 + 1) (n % 4)) (place_of n))) ∙ e)) [
       | inl before ↦ stands imps n h before
       | inr last ↦
@@ -72,10 +60,10 @@ stood imps (suc n) h has some few low =
     let back = is_host (host_if (has_host imps (n / 4 + 1) (n % 4)) (place_of n)) h in
     list_any-append (same_host h) (hosts_below imps n) (host_if (has_host imps (n / 4 + 1) (n % 4)) (place_of n)) ∙
     elim (last_or_before (4 * h.imp + h.host) n low) [
-      | inl before ↦ left_true front back (stood imps n h has some few before)
+      | inl before ↦ or_left front back (stood imps n h has some few before)
       | inr last ↦
           let is : h ≡ place_of n = at_place n h last some few in
-          right_true front back (here (has_host imps (n / 4 + 1) (n % 4)) (place_of n) h (subst (λ (k : Host). has_host imps k.imp k.host ≡ true) is has) is)
+          or_right front back (here (has_host imps (n / 4 + 1) (n % 4)) (place_of n) h (subst (λ (k : Host). has_host imps k.imp k.host ≡ true) is has) is)
     ]
 
 -- an IMP of a topology is numbered from 1 to the greatest, and has hosts 0 to 3
@@ -100,7 +88,7 @@ in_range : (imps : List ImpHosts) (imp host : ℕ) → list_all is_imp imps ≡ 
 in_range [] imp host good has = absurd (false≢true has)
 in_range (i ∷ imps) imp host good has =
     let all = and_parts (is_imp i) (list_all is_imp imps) good in
-    elim (one_of (i.imp == imp && nat_lt host i.hosts) (has_host imps imp host) has) [
+    elim (or_cases (i.imp == imp && nat_lt host i.hosts) (has_host imps imp host) has) [
       | inl this ↦ of_imp i imp host all.0 this
       | inr other ↦ in_range imps imp host all.1 other
     ]

@@ -10,6 +10,7 @@ use Rattle.interface.specs.Host.{host_before, InOrder}
 use Rattle.interface.proofs.lemmas.{before_from_numbers}
 use Rattle.topology.specs.declared.network.ImpHosts.{ImpHosts}
 use Rattle.topology.specs.Topology.{hosts_below, host_if, has_host, numbered_below, imp_of_number, IsRising}
+use Rattle.topology.proofs.Documents.{some_same}
 
 ordered_more : (hosts : List Host) (h : Host) → InOrder hosts → All (λ g. host_before g h ≡ true) hosts → InOrder (hosts ++ h ∷ [])
 ordered_more [] h o b = tt
@@ -80,9 +81,6 @@ rising_more : (imps : List ImpHosts) (i : ImpHosts) → IsRising imps → All (�
 rising_more [] i o b = tt
 rising_more (j ∷ []) i o b = (All-head (λ j. j.imp < i.imp) j [] b, tt)
 rising_more (j ∷ k ∷ imps) i o b = (o.0, rising_more (k ∷ imps) i o.1 (All-tail (λ j. j.imp < i.imp) j (k ∷ imps) b))
-
-some_same : {X : Type 0} {x y : X} → Some x ≡ Some y → x ≡ y
-some_same e = cc
 
 found_in : (imps : List ImpHosts) (n : ℕ) (j i : ImpHosts) (test : Bool) → test ≡ (j.imp == n) → cond test (Some j) (imp_of_number imps n) ≡ Some i → ((k : ImpHosts) → imp_of_number imps n ≡ Some k → k.imp ≡ n) → i.imp ≡ n
 found_in imps n j i true is e others = let same : j ≡ i = some_same e in sym (ap (λ (k : ImpHosts). k.imp) same) ∙ eqb-true j.imp n (sym is)

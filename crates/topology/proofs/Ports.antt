@@ -8,6 +8,7 @@ use Rattle.interface.specs.Host.{most_imps}
 use Rattle.topology.specs.declared.network.ImpHosts.{ImpHosts}
 use Rattle.topology.specs.declared.network.LineEnds.{LineEnds}
 use Rattle.topology.specs.Topology.{IsTopology, TopologyFields, are_apart, has_ports, is_imp, is_line, is_there, line_count, most_lines, most_network_lines}
+use Rattle.interface.proofs.lemmas.{not_true}
 
 abbrev one : Bool → ℕ
 one b = cond b 1 0
@@ -72,10 +73,6 @@ both_ends (i ∷ imps) line apart =
     by : (a b c d e f : ℕ) → a ≡ b + c → d ≡ e + f → a + d ≡ (b + e) + (c + f)
     by a b c d e f g h = omega (arith, g, h)
 
-no_true : (b : Bool) → not b ≡ true → b ≡ false
-no_true true e = absurd (false≢true e)
-no_true false e = refl
-
 -- each line has two ends
 two_each : (imps : List ImpHosts) (lines : List LineEnds) → list_all (is_line imps) lines ≡ true → 2 * length lines ≤ ends_of imps lines
 two_each imps [] good = omega arith
@@ -83,7 +80,7 @@ two_each imps (line ∷ lines) good =
     let all : (is_line imps line ≡ true) × (list_all (is_line imps) lines ≡ true) = and_parts (is_line imps line) (list_all (is_line imps) lines) good in
     let parts : (not (line.a == line.b) ≡ true) × ((is_there imps line.a && is_there imps line.b) ≡ true) = and_parts (not (line.a == line.b)) (is_there imps line.a && is_there imps line.b) all.0 in
     let both : (is_there imps line.a ≡ true) × (is_there imps line.b ≡ true) = and_parts (is_there imps line.a) (is_there imps line.b) parts.1 in
-    let ends : ends_of_one imps line ≡ named imps line.a + named imps line.b = both_ends imps line (no_true (line.a == line.b) parts.0) in
+    let ends : ends_of_one imps line ≡ named imps line.a + named imps line.b = both_ends imps line (not_true (line.a == line.b) parts.0) in
     let a : 1 ≤ named imps line.a = there_named imps line.a both.0 in
     let b : 1 ≤ named imps line.b = there_named imps line.b both.1 in
     let rest : 2 * length lines ≤ ends_of imps lines = two_each imps lines all.1 in

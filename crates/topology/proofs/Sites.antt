@@ -11,6 +11,7 @@ use Rattle.interface.specs.Host.{Host, most_imps}
 use Rattle.topology.specs.declared.network.ImpHosts.{ImpHosts}
 use Rattle.topology.specs.Topology.{AreSites, IsRising, IsTopology, TopologyFields, has_host, host_if, hosts_at, hosts_below, hosts_from, hosts_of, is_imp, site_of, sites_of}
 use Rattle.topology.proofs.Hosts.{place_of}
+use Rattle.interface.proofs.lemmas.{or_nothing}
 
 -- ---- one site
 
@@ -33,10 +34,6 @@ none_behind i (j ∷ imps) n host rising low =
     let other : (j.imp == n) ≡ false = unlike j.imp n (λ e. omega (arith, above, low, e)) in
     rw other (none_behind j imps n host rising.1 (omega (arith, above, low)))
 
-or_false : (b : Bool) → (b || false) ≡ b
-or_false true = refl
-or_false false = refl
-
 rest_rises : (i : ImpHosts) (imps : List ImpHosts) → IsRising (i ∷ imps) → IsRising imps
 rest_rises i [] rising = tt
 rest_rises i (j ∷ imps) rising = rising.1
@@ -47,7 +44,7 @@ hosts_there (i ∷ imps) n host rising = elim (cases_Bool (i.imp == n)) [
   | inl same ↦ (
       let is : i.imp ≡ n = eqb-true i.imp n same in
       let behind : has_host imps n host ≡ false = none_behind i imps n host rising (omega (arith, is)) in
-      rw (same, behind) (or_false (nat_lt host i.hosts)))
+      rw (same, behind) (or_nothing (nat_lt host i.hosts)))
   | inr other ↦ rw other (hosts_there imps n host (rest_rises i imps rising))
 ]
 

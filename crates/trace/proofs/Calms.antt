@@ -1,6 +1,6 @@
 -- A calm of plain mailboxes is its takings one after another.
 use Rattle.std.proofs.Common.{◌≡◌, ◌&&◌, ◌||◌, ℕ, Bool, true, false, not, List, [], ◌∷◌, Option, Some, None, Result, Ok, Err, is_some, if◌then◌else◌, refl, sym, ap, ◌∙◌, subst}
-use Rattle.std.proofs.lemmas.Bool.{false≢true}
+use Rattle.std.proofs.lemmas.Bool.{false≢true, and_right}
 use Rattle.std.proofs.lemmas.List.Elements.{All-cons, All-nil, All-weaker}
 use Rattle.std.specs.List.{All}
 use Rattle.leader1822.specs.Boxes.{Boxes, host_refusal, inbound_taken, is_running, next_for, take_grows, plain_calls}
@@ -60,10 +60,6 @@ goes_taking round h old new i free is left =
     } in
     record { ok = refl; left = left; holds = tt; run = run_one plain_calls old new (event.Take h) (crossing_of i ∷ []) once log }
 
-mutual_none : (a b : Bool) → b ≡ false → (a && b) ≡ false
-mutual_none true b e = e
-mutual_none false b e = refl
-
 takes_so : AllTakeSo traced
 takes_so old h answer new holds t goes = by answer t goes where
   took : (a : Result (Option Inbound) CarrierFault) → plain_calls.takes old h a new → GoesOn (outcome_of a) → Went (host_refusal old h) (λ o. (o ≡ next_for old h) × (new ≡ inbound_taken old h o)) old a new
@@ -75,7 +71,7 @@ takes_so old h answer new holds t goes = by answer t goes where
       (rw (free_is old h w.0).1 (ap is_some (sym w.1.0)), λ round. goes_taking round h old new i w.0 w.1.0 (w.1.1 ∙ ap (λ o. inbound_taken old h o) w.1.0))
   by (Ok None) t goes =
       let w = took (Ok None) t tt in
-      (mutual_none (is_running old.hosts old.down h) (is_some (next_for old h)) (ap is_some (sym w.1.0)), w.1.1)
+      (and_right (is_running old.hosts old.down h) (is_some (next_for old h)) (ap is_some (sym w.1.0)), w.1.1)
   by (Err f) t goes =
       let calm : (is_halt f || is_memory f) ≡ false = goes_calmly f goes in
       let w = took (Err f) t calm in

@@ -5,6 +5,7 @@ use Rattle.std.proofs.lemmas.List.Elements.{All-cons, All-nil}
 use Rattle.std.specs.Fmt.{decimal}
 use Rattle.std.specs.List.{All, list_all}
 use Rattle.std.specs.Str.{bytes_eq}
+use Rattle.std.proofs.lemmas.Bool.{and_parts}
 use Rattle.script.proofs.lemmas.{SameCut, unmarked_where}
 use Rattle.script.specs.Steps.{Lacks}
 use Rattle.topology.specs.Topology.{IsTopology, TopologyFields, is_imp, is_line, is_there}
@@ -55,14 +56,10 @@ ends_spelled = record { closed = λ l is. array_closed (decimal l.a ∷ decimal 
 
 -- ---- a topology's numbers are short
 
-both_true : (a b : Bool) → (a && b) ≡ true → (a ≡ true) × (b ≡ true)
-both_true true b h = (refl, h)
-both_true false b h = absurd (cc)
-
 site_is : (i : ImpHosts) → is_imp i ≡ true → IsSite i
 site_is i h =
-    let one = both_true (nat_le 1 i.imp) (nat_le i.imp 63 && nat_le i.hosts 4) h in
-    let two = both_true (nat_le i.imp 63) (nat_le i.hosts 4) one.1 in
+    let one = and_parts (nat_le 1 i.imp) (nat_le i.imp 63 && nat_le i.hosts 4) h in
+    let two = and_parts (nat_le i.imp 63) (nat_le i.hosts 4) one.1 in
     let imp : i.imp ≤ 63 = grind (arith, nat_tests) in
     let hosts : i.hosts ≤ 4 = grind (arith, nat_tests) in
     record { imp = omega (arith, imp); hosts = omega (arith, hosts) }
@@ -94,8 +91,8 @@ lines_are is [] imps h = All-nil IsEnds
 lines_are is (l ∷ ls) imps h = by (λ k. lines_are is ls imps k) (is_line is l) refl h where
   ends : is_line is l ≡ true → IsEnds l
   ends e =
-      let apart = both_true _ (is_there is l.a && is_there is l.b) e in
-      let both = both_true (is_there is l.a) (is_there is l.b) apart.1 in
+      let apart = and_parts _ (is_there is l.a && is_there is l.b) e in
+      let both = and_parts (is_there is l.a) (is_there is l.b) apart.1 in
       record { a = there_short is l.a imps both.0; b = there_short is l.b imps both.1 }
 
   by : (list_all (is_line is) ls ≡ true → All IsEnds ls) → (b : Bool) → is_line is l ≡ b → list_all (is_line is) (l ∷ ls) ≡ true → All IsEnds (l ∷ ls)
@@ -124,7 +121,7 @@ unfolding raw_in
 raw_again true = refl
 raw_again false = refl
 
-plain_all : (t : List ℕ) → list_all is_plain t ≡ true → All (λ c. is_plain c ≡ true) t
+pub plain_all : (t : List ℕ) → list_all is_plain t ≡ true → All (λ c. is_plain c ≡ true) t
 plain_all [] h = All-nil (λ c. is_plain c ≡ true)
 plain_all (c ∷ t) h = by (λ k. plain_all t k) (is_plain c) refl h where
   by : (list_all is_plain t ≡ true → All (λ x. is_plain x ≡ true) t) → (b : Bool) → is_plain c ≡ b → list_all is_plain (c ∷ t) ≡ true → All (λ x. is_plain x ≡ true) (c ∷ t)
@@ -164,10 +161,10 @@ of_parts p = member (codes "parts") p
 
 pub network : (t u : TopologyFields) (p q : List ℕ) → IsTopology t → IsTopology u → opening_line t p ≡ opening_line u q → t ≡ u
 network t u p q is are e =
-    let ti = both_true _ _ (both_true _ _ is.imps).1 in
-    let ui = both_true _ _ (both_true _ _ are.imps).1 in
-    let tl = both_true _ _ (both_true _ _ is.lines).0 in
-    let ul = both_true _ _ (both_true _ _ are.lines).0 in
+    let ti = and_parts _ _ (and_parts _ _ is.imps).1 in
+    let ui = and_parts _ _ (and_parts _ _ are.imps).1 in
+    let tl = and_parts _ _ (and_parts _ _ is.lines).0 in
+    let ul = and_parts _ _ (and_parts _ _ are.lines).0 in
     let form = cut (codes "trace") (codes "3") (codes "3") (of_raw t ∷ of_imps t ∷ of_lines t ∷ of_parts p ∷ []) (of_raw u ∷ of_imps u ∷ of_lines u ∷ of_parts q ∷ []) (of_carrier t) (of_carrier u) (unmarked_where 34 (codes "trace") refl) (word_closed 51 [] refl) (word_closed 51 [] refl) (rest_same e) in
     let carriers = cut (codes "carrier") (quoted (carrier_word t.carrier)) (quoted (carrier_word u.carrier)) (of_imps t ∷ of_lines t ∷ of_parts p ∷ []) (of_imps u ∷ of_lines u ∷ of_parts q ∷ []) (of_raw t) (of_raw u) (unmarked_where 34 (codes "carrier") refl) (string_closed (carrier_word t.carrier) (carrier_plain t.carrier)) (string_closed (carrier_word u.carrier) (carrier_plain u.carrier)) form.back in
     let raws = cut (codes "raw") (bool_text t.raw) (bool_text u.raw) (of_lines t ∷ of_parts p ∷ []) (of_lines u ∷ of_parts q ∷ []) (of_imps t) (of_imps u) (unmarked_where 34 (codes "raw") refl) (raw_closed t.raw) (raw_closed u.raw) carriers.back in

@@ -1,4 +1,5 @@
 -- A part of a calm that continues is the events of its course, one after another: over any carrier.
+pub use Rattle.interface.proofs.lemmas.{or_first}
 use Rattle.std.proofs.Common.{◌≡◌, ◌||◌, ℕ, zero, suc, Bool, true, false, List, [], ◌∷◌, ◌++◌, Option, Some, None, Result, Ok, Err, if◌then◌else◌, reverse, refl, sym, ap, ◌∙◌, subst}
 use Rattle.std.proofs.lemmas.List.{append_assoc, append-nil, append_cancel_right, map-append, reverse-append, reverse-reverse}
 use Rattle.interface.specs.Calls.{Calls, is_halt, is_memory}
@@ -101,10 +102,6 @@ goes_calmly f goes = by (is_halt f || is_memory f) refl goes where
   by : (b : Bool) → (is_halt f || is_memory f) ≡ b → GoesOn (if b then Err f else Ok tt) → (is_halt f || is_memory f) ≡ false
   by true e g = g
   by false e g = e
-
-pub or_first : (a b : Bool) → (a || b) ≡ false → a ≡ false
-or_first true b h = absurd (cc)
-or_first false b h = refl
 
 calm_is : (f : CarrierFault) → (is_halt f || is_memory f) ≡ false → calmly (Err f) ≡ Ok tt
 calm_is f e = rw e refl

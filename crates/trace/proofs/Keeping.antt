@@ -1,6 +1,6 @@
 -- Each event keeps that all that waits and all that is down can be named.
 use Rattle.std.proofs.Common.{◌≡◌, Bool, true, false, not, List, [], ◌∷◌, ◌++◌, Option, Some, None, if◌then◌else◌, filter, inl, inr, refl, sym, ap, ◌∙◌, subst}
-use Rattle.std.proofs.lemmas.Bool.{false≢true}
+use Rattle.std.proofs.lemmas.Bool.{false≢true, and_parts}
 use Rattle.std.proofs.lemmas.List.Elements.{All-append, All-cons, All-filter, All-head, All-nil, All-tail}
 use Rattle.std.specs.List.{All}
 use Rattle.leader1822.specs.Boxes.{Boxes, Queues, WaitingAnswer, first_of_list, for_host, give_up_refusal, given_up, host_started, host_stopped, inbound_taken, is_of, is_rfnm_about, is_running, next_for, offer_refusal, offered, one_if, opening_boxes, queued_if, rest, step_refusal, stepped, told_dead, with_queue, plain_calls}
@@ -23,21 +23,18 @@ use Rattle.replay.specs.Replay.{Happens, Replays}
 use Rattle.trace.specs.Elements.{elements_of, events_of}
 use Rattle.trace.proofs.Calms.{IsTaking, elementary, rounds_are}
 use Rattle.trace.proofs.Each.{Left, left_of}
-use Rattle.trace.proofs.Queues.{no_queues, queues_more, queues_rest, queues_with, split_and}
+use Rattle.trace.proofs.Queues.{no_queues, queues_more, queues_rest, queues_with}
+use Rattle.interface.proofs.lemmas.{not_false}
 
 -- ---- what is waiting, after each step
 
 running_there : (hosts down : List Host) (h : Host) → is_running hosts down h ≡ true → is_host hosts h ≡ true
-running_there hosts down h e = (split_and (is_host hosts h) (not (is_host down h)) e).0
+running_there hosts down h e = (and_parts (is_host hosts h) (not (is_host down h)) e).0
 
 -- a chain of refusals that ends in none
 past_first : (b : Bool) (f : CarrierFault) (more : Option CarrierFault) → (if b then Some f else more) ≡ None → (b ≡ false) × (more ≡ None)
 past_first true f more h = absurd (cc)
 past_first false f more h = (refl, h)
-
-not_false : (b : Bool) → not b ≡ false → b ≡ true
-not_false true h = refl
-not_false false h = absurd (cc)
 
 offer_there : (old : Boxes) (f : Flow) → offer_refusal old f ≡ None → is_host old.hosts f.source ≡ true
 offer_there old f none = not_false (is_host old.hosts f.source) (past_first (not (is_host old.hosts f.source)) fault.NoSuch _ (past_first old.stopped fault.Stopped _ none).1).0

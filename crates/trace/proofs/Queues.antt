@@ -1,6 +1,6 @@
 -- One queue changes, and no other does.
 use Rattle.std.proofs.Common.{◌≡◌, ◌≢◌, ℕ, ◌==◌, ◌&&◌, Bool, true, false, List, [], ◌∷◌, ◌++◌, Option, Some, None, unwrap_or, cond, if◌then◌else◌, refl, sym, ap, subst, ◌∙◌, eq-eqb}
-use Rattle.std.proofs.lemmas.Bool.{eqb-true, false≢true}
+use Rattle.std.proofs.lemmas.Bool.{eqb-true, false≢true, and_parts}
 use Rattle.std.proofs.lemmas.Cmp.{on_total, then_total}
 use Rattle.std.proofs.lemmas.List.Elements.{All-append, All-cons, All-nil, All-same, All-tail}
 use Rattle.std.proofs.lemmas.Map.Lookups.{CmpEqualImpliesEq, exact_pairs, exact_unsigned}
@@ -13,19 +13,9 @@ use Rattle.std.specs.declared.cmp.Ordering.TheVariants.{Less, Equal, Greater}
 use Rattle.leader1822.specs.Boxes.{Queues, for_host, queued_if, rest, with_queue}
 use Rattle.interface.specs.Host.{Host, host_cmp, is_host, same_host}
 use Rattle.trace.specs.Kept.{AreQueues}
+use Rattle.interface.proofs.lemmas.{is_equal, same_host-true}
 
 -- ---- hosts
-
-pub split_and : (a b : Bool) → (a && b) ≡ true → (a ≡ true) × (b ≡ true)
-split_and true b h = (refl, h)
-split_and false b h = absurd (cc)
-
-pub host_is : (g h : Host) → same_host g h ≡ true → g ≡ h
-host_is g h e =
-    let t = split_and (g.imp == h.imp) (g.host == h.host) e in
-    let imp : g.imp ≡ h.imp = eqb-true g.imp h.imp t.0 in
-    let host : g.host ≡ h.host = eqb-true g.host h.host t.1 in
-    λ i. record { imp = imp i; host = host i }
 
 pub host_itself : (h : Host) → same_host h h ≡ true
 host_itself h = rw (eq-eqb h.imp h.imp refl, eq-eqb h.host h.host refl) refl
@@ -36,11 +26,6 @@ total = then_total (on_total (λ h. h.imp) nat_cmp_total) (on_total (λ h. h.hos
 exact : CmpEqualImpliesEq host_cmp
 exact g h e = ap (λ (p : ℕ × ℕ). record { imp = p.0; host = p.1 }) (exact_pairs nat_cmp nat_cmp exact_unsigned exact_unsigned (g.imp, g.host) (h.imp, h.host) e)
 
-tie : (o : Ordering) → is_eq o ≡ true → o ≡ Equal
-tie Less e = absurd (cc)
-tie Equal e = refl
-tie Greater e = absurd (cc)
-
 either_way : (a b : Bool) → (a ≡ true → b ≡ true) → (b ≡ true → a ≡ true) → a ≡ b
 either_way true b f g = sym (f refl)
 either_way false true f g = g refl
@@ -48,8 +33,8 @@ either_way false false f g = refl
 
 ties : (g h : Host) → eq_by_cmp host_cmp g h ≡ same_host g h
 ties g h = either_way (eq_by_cmp host_cmp g h) (same_host g h)
-    (λ e. let P : Host → Type 0 = λ x. same_host g x ≡ true in subst P (exact g h (tie (host_cmp g h) e)) (host_itself g))
-    (λ e. let P : Host → Type 0 = λ x. eq_by_cmp host_cmp g x ≡ true in subst P (host_is g h e) ((eq_by_cmp_equiv total).refl g))
+    (λ e. let P : Host → Type 0 = λ x. same_host g x ≡ true in subst P (exact g h (is_equal (host_cmp g h) e)) (host_itself g))
+    (λ e. let P : Host → Type 0 = λ x. eq_by_cmp host_cmp g x ≡ true in subst P (same_host-true g h e) ((eq_by_cmp_equiv total).refl g))
 
 -- ---- one queue
 
@@ -107,15 +92,15 @@ queues_with {A} IsValid hosts q h xs are valid own = record {
   valid = λ g. all (same_host g h) g refl;
 } where
   of : (b : Bool) (g : Host) → same_host g h ≡ b → is_host hosts g ≡ false → for_host (with_queue q h xs) g ≡ []
-  of true g e none = ap (λ x. for_host (with_queue q h xs) x) (host_is g h e) ∙ for_here q h xs ∙ own (ap (is_host hosts) (sym (host_is g h e)) ∙ none)
+  of true g e none = ap (λ x. for_host (with_queue q h xs) x) (same_host-true g h e) ∙ for_here q h xs ∙ own (ap (is_host hosts) (sym (same_host-true g h e)) ∙ none)
   of false g e none = for_other q h xs g e ∙ are.of_hosts g none
 
   filled : (b : Bool) (g : Host) → same_host g h ≡ b → get (with_queue q h xs) g ≢ Some []
-  filled true g e is = kept_filled xs (sym (ap (λ x. get (with_queue q h xs) x) (host_is g h e) ∙ get_here q h xs) ∙ is)
+  filled true g e is = kept_filled xs (sym (ap (λ x. get (with_queue q h xs) x) (same_host-true g h e) ∙ get_here q h xs) ∙ is)
   filled false g e is = are.filled g (sym (get_other q h xs g e) ∙ is)
 
   all : (b : Bool) (g : Host) → same_host g h ≡ b → All IsValid (for_host (with_queue q h xs) g)
-  all true g e = All-same IsValid (for_host (with_queue q h xs) g) xs (ap (λ x. for_host (with_queue q h xs) x) (host_is g h e) ∙ for_here q h xs) valid
+  all true g e = All-same IsValid (for_host (with_queue q h xs) g) xs (ap (λ x. for_host (with_queue q h xs) x) (same_host-true g h e) ∙ for_here q h xs) valid
   all false g e = All-same IsValid (for_host (with_queue q h xs) g) (for_host q g) (for_other q h xs g e) (are.valid g)
 
 -- one more waits

@@ -1,6 +1,6 @@
 -- What an event's parts do not name is as before.
 use Rattle.std.proofs.Common.{◌≡◌, ◌||◌, Bool, true, false, List, [], ◌∷◌, ◌++◌, Option, Some, None, if◌then◌else◌, filter, inl, inr, map, refl, reverse, sym, ap, ◌∙◌}
-use Rattle.std.proofs.lemmas.Bool.{false≢true}
+use Rattle.std.proofs.lemmas.Bool.{false≢true, or_parts}
 use Rattle.leader1822.specs.Boxes.{Boxes, for_host, given_up, inbound_taken, next_for, offered, rest, stepped, plain_calls}
 use Rattle.interface.specs.Host.{Host, is_host, same_host}
 use Rattle.interface.specs.declared.address.Flow.{Flow}
@@ -20,13 +20,10 @@ use Rattle.trace.specs.Parts.{Part, Down, Waiting, IsPart, SamePart, is_named, i
 use Rattle.replay.proofs.lemmas.{happens_shows}
 use Rattle.trace.proofs.Each.{Left, left_of}
 use Rattle.trace.proofs.Going.{crossings_are}
-use Rattle.trace.proofs.Queues.{for_other, host_is, queued_other}
+use Rattle.trace.proofs.Queues.{for_other, queued_other}
+use Rattle.interface.proofs.lemmas.{same_host-true}
 
 -- ---- what is not named
-
-or_false : (a b : Bool) → (a || b) ≡ false → (a ≡ false) × (b ≡ false)
-or_false true b h = absurd (cc)
-or_false false b h = (refl, h)
 
 down_named : (t : Bool) (parts : List Part) → is_named Down ((if t then Down ∷ [] else []) ++ parts) ≡ false → t ≡ false
 down_named true parts h = absurd (cc)
@@ -45,7 +42,7 @@ host_named test h (g ∷ hosts) there passes = by (λ t. host_named test h hosts
 
     by : (is_host hosts h ≡ true → is_named (Waiting h) (map (λ k. Waiting k) (filter test hosts)) ≡ true) → (b : Bool) → same_host h g ≡ b → (c : Bool) → test g ≡ c → is_named (Waiting h) (map (λ g. Waiting g) (filter test (g ∷ hosts))) ≡ true
     by more true e true t = rw t (rw e refl)
-    by more true e false t = absurd (false≢true (sym t ∙ ap test (sym (host_is h g e)) ∙ passes))
+    by more true e false t = absurd (false≢true (sym t ∙ ap test (sym (same_host-true h g e)) ∙ passes))
     by more false e true t = rw t (rw e (more (rest_there e)))
     by more false e false t = rw t (more (rest_there e))
 
@@ -78,7 +75,7 @@ given_up_same old f h d s = (for_other old.messages f.destination _ h d, for_oth
 source_told : (h : Host) (cs log new : List Crossing) (m : HostMessage) → new ≡ reverse cs ++ log → new ≡ crossing.In m ∷ log → is_source h cs ≡ false → same_host h m.flow.source ≡ false
 source_told h cs log new m grown is none =
     let one : cs ≡ crossing.In m ∷ [] = crossings_are cs (crossing.In m ∷ []) log new grown is in
-    (or_false (same_host h m.flow.source) false (ap (is_source h) (sym one) ∙ none)).0
+    (or_parts (same_host h m.flow.source) false (ap (is_source h) (sym one) ∙ none)).0
 
 taken_same : (old new : Boxes) (g h : Host) (o : Option Inbound) (cs : List Crossing) → new ≡ inbound_taken old g o → new.log ≡ reverse cs ++ old.log → same_host h g ≡ false → is_source h cs ≡ false → Same old h new
 taken_same old new g h None cs e grown other none = all_same old new h e
@@ -90,18 +87,18 @@ taken_same old new g h (Some (inbound.Message m)) cs e grown other none =
     (for_other old.messages g (rest (for_host old.messages g)) h other, queued_other _ old.answers m.flow.source (answer.Rfnm, m.flow) h apart) e
 
 stepped_same : (old : Boxes) (e : NetEvent) (crossings : List Crossing) (h : Host) → reaches (event.Net e) crossings h ≡ false → Same old h (stepped old e)
-stepped_same old (net.GiveUp f) crossings h none = let apart = or_false (same_host h f.destination) (same_host h f.source) none in given_up_same old f h apart.0 apart.1
+stepped_same old (net.GiveUp f) crossings h none = let apart = or_parts (same_host h f.destination) (same_host h f.source) none in given_up_same old f h apart.0 apart.1
 stepped_same old (net.HostDown g) crossings h none = absurd (cc)
 stepped_same old e crossings h none = (refl, refl)
 
 pub queues_left : (old new : Boxes) (e : RawEvent) (shown : List Shown) (h : Host) → Left old new e → Happens plain_calls old e new shown → reaches e (crossings_of shown) h ≡ false → Same old h new
 queues_left old new (event.Out m) shown h (inl same) k none = all_same old new h same
 queues_left old new (event.Out m) shown h (inr left) k none =
-    let apart = or_false (same_host h m.flow.destination) (same_host h m.flow.source) none in
+    let apart = or_parts (same_host h m.flow.destination) (same_host h m.flow.source) none in
     as_left old (offered old m) new h (offered_same old m h apart.0 apart.1) left.1
 queues_left old new (event.Take g) shown h (inl same) k none = all_same old new h same
 queues_left old new (event.Take g) shown h (inr left) k none =
-    let apart = or_false (same_host h g) (is_source h (crossings_of shown)) none in
+    let apart = or_parts (same_host h g) (is_source h (crossings_of shown)) none in
     taken_same old new g h (next_for old g) (crossings_of shown) left.1 (happens_shows plain_calls old new (event.Take g) shown k) apart.0 apart.1
 queues_left old new (event.Net e) shown h (inl same) k none = all_same old new h same
 queues_left old new (event.Net e) shown h (inr left) k none = as_left old (stepped old e) new h (stepped_same old e (crossings_of shown) h none) left.1

@@ -12,17 +12,11 @@ use Rattle.host_keeps_pairing.specs.Known.{known_after}
 use Rattle.net_sim.specs.Book.{Kept, all_told, carried, changed_when, life_ended, granted, lives_asked, lives_at, lives_between, lives_on, lives_told, lives_with, new_life, returned, book_told, where_it}
 use Rattle.promise.specs.declared.life.Life as book
 use Rattle.net_sim.specs.Told.{kept_by, kept_in, notices_by}
+use Rattle.interface.proofs.lemmas.{not_true, unlike}
 
 never : (b : Bool) → (b && false) ≡ true → ⊥
 never true e = absurd (let r : false ≡ true = e in cc)
 never false e = absurd (let r : false ≡ true = e in cc)
-
-clash : (b : Bool) → b ≡ true → b ≡ false → ⊥
-clash b e f = absurd (let r : true ≡ false = sym e ∙ f in cc)
-
-not_off : (b : Bool) → not b ≡ true → b ≡ false
-not_off true e = absurd (let r : false ≡ true = e in cc)
-not_off false e = refl
 
 -- an opening upon what is known, where it is of these ends
 abbrev upon : Bool → Bool → Life → List Life → List Life
@@ -60,7 +54,7 @@ module _ (origin : ℕ → ℕ) (h p : Host) (own foreign : ℕ) where
       let b : (same_host h x.host ≡ true) × ((same_host p x.peer && (x.socket == own && x.foreign == foreign)) ≡ true) = both (same_host h x.host) (same_host p x.peer && (x.socket == own && x.foreign == foreign)) a.0 in
       let c : (same_host p x.peer ≡ true) × ((x.socket == own && x.foreign == foreign) ≡ true) = both (same_host p x.peer) (x.socket == own && x.foreign == foreign) b.1 in
       let d : ((x.socket == own) ≡ true) × ((x.foreign == foreign) ≡ true) = both (x.socket == own) (x.foreign == foreign) c.1 in
-      record { host = same_host-true h x.host b.0; peer = same_host-true p x.peer c.0; socket = eqb-true x.socket own d.0; foreign_is = eqb-true x.foreign foreign d.1; on = not_off x.ended a.1 }
+      record { host = same_host-true h x.host b.0; peer = same_host-true p x.peer c.0; socket = eqb-true x.socket own d.0; foreign_is = eqb-true x.foreign foreign d.1; on = not_true x.ended a.1 }
 
   -- ---- changes of lives
 
@@ -80,7 +74,7 @@ module _ (origin : ℕ → ℕ) (h p : Host) (own foreign : ℕ) where
   where_ends test (x ∷ xs) all = (by (test x) refl, where_ends test xs all) where
     by : (b : Bool) → test x ≡ b → goes (changed_when b life_ended x) ≡ true → IsIn (life_of origin (changed_when b life_ended x)) []
     by true e g = absurd (never (is_between h p own foreign x) g)
-    by false e g = absurd (clash (test x) (all x g) e)
+    by false e g = absurd (unlike (test x) (all x g) e)
 
   ended_keeps : Keeps life_ended
   ended_keeps x e = absurd (never (is_between h p own foreign x) e)
@@ -96,10 +90,10 @@ module _ (origin : ℕ → ℕ) (h p : Host) (own foreign : ℕ) where
   opened_by g q socket other a b k lives known true true e f = join (record { own = a; partner = origin b } ∷ k) lives (new_life g socket q other a b ∷ []) (more (record { own = a; partner = origin b }) k lives known) ((λ i. inl refl), tt)
   opened_by g q socket other a b k lives known true false e f =
       join k lives (new_life g socket q other a b ∷ []) known
-      ((λ i. absurd (clash (same_host p q && (socket == own && other == foreign)) (both (same_host h g) (same_host p q && (socket == own && other == foreign)) (both (is_between h p own foreign (new_life g socket q other a b)) true i).0).1 f)), tt)
+      ((λ i. absurd (unlike (same_host p q && (socket == own && other == foreign)) (both (same_host h g) (same_host p q && (socket == own && other == foreign)) (both (is_between h p own foreign (new_life g socket q other a b)) true i).0).1 f)), tt)
   opened_by g q socket other a b k lives known false d e f =
       join k lives (new_life g socket q other a b ∷ []) known
-      ((λ i. absurd (clash (same_host h g) (both (same_host h g) (same_host p q && (socket == own && other == foreign)) (both (is_between h p own foreign (new_life g socket q other a b)) true i).0).0 e)), tt)
+      ((λ i. absurd (unlike (same_host h g) (both (same_host h g) (same_host p q && (socket == own && other == foreign)) (both (is_between h p own foreign (new_life g socket q other a b)) true i).0).0 e)), tt)
 
   host_is : (g : Host) (x : book.Life) → same_host h g ≡ true → Has x → same_host g x.host ≡ true
   host_is g x e i = subst (λ (y : Host). same_host y x.host ≡ true) (sym i.host ∙ same_host-true h g e) (same_host-refl x.host)
@@ -183,7 +177,7 @@ module _ (origin : ℕ → ℕ) (h p : Host) (own foreign : ℕ) where
       → AreKnown (if same_host h g then all_known origin p own foreign ns k else k) (all_told g ns kept).book.lives × (mail.is_up hosts h log ≡ false → AreKnown [] (all_told g ns kept).book.lives)
   acts hosts g ns k kept log up known idle = (all_told_by g (same_host h g) refl ns k kept known, λ down. off down (same_host h g) refl) where
     off : mail.is_up hosts h log ≡ false → (b : Bool) → same_host h g ≡ b → AreKnown [] (all_told g ns kept).book.lives
-    off down true e = absurd (clash (mail.is_up hosts h log) (subst (λ (y : Host). mail.is_up hosts y log ≡ true) (sym (same_host-true h g e)) up) down)
+    off down true e = absurd (unlike (mail.is_up hosts h log) (subst (λ (y : Host). mail.is_up hosts y log ≡ true) (sym (same_host-true h g e)) up) down)
     off down false e = all_told_by g false e ns [] kept (idle down)
 
   down_follows : (hosts : List Host) (g : Host) (moments : List Moment) → Follows hosts moments → Follows hosts (Crossed (crossing.Down g) ∷ moments)

@@ -4,8 +4,9 @@ use Rattle.interface.specs.Mailboxes as mail
 use Rattle.world_keeps_lives.proofs.Facts.{no}
 use Rattle.world_keeps_lives.proofs.Laws.{live}
 use Rattle.world_keeps_lives.proofs.Linked.{HasRequests, Linked}
-use Rattle.world_keeps_lives.proofs.Walk.Rules.{Each, each_filter, each_in, each_weaker, first_of, later_of}
+use Rattle.world_keeps_lives.proofs.Walk.Rules.{Each, each_filter, each_in, each_weaker}
 use Rattle.world_keeps_lives.proofs.Grounds.{Grounded, IsAnswered, IsAsked, Opens, grounds}
+use Rattle.interface.proofs.lemmas.{contains_head, contains_tail}
 
 -- ---- the end of a life that continues has the link of its messages
 
@@ -35,7 +36,7 @@ in_filter test (x ∷ es) = by (test x) refl (in_filter test es) where
   by : (b : Bool) → test x ≡ b → Each (λ (e : Entry). test e ≡ true → Contains (filter test es) e) es → Each (λ (e : Entry). test e ≡ true → Contains (filter test (x ∷ es)) e) (x ∷ es)
   by true t rest =
       subst (λ (l : List Entry). Each (λ (e : Entry). test e ≡ true → Contains l e) (x ∷ es)) (sym (filter_on test x es t))
-      ((λ u. first_of x (filter test es)), each_weaker (λ (e : Entry). test e ≡ true → Contains (filter test es) e) (λ (e : Entry). test e ≡ true → Contains (x ∷ filter test es) e) es (λ e k u. later_of x (filter test es) e (k u)) rest)
+      ((λ u. contains_head x (filter test es)), each_weaker (λ (e : Entry). test e ≡ true → Contains (filter test es) e) (λ (e : Entry). test e ≡ true → Contains (x ∷ filter test es) e) es (λ e k u. contains_tail x (filter test es) e (k u)) rest)
   by false t rest = subst (λ (l : List Entry). Each (λ (e : Entry). test e ≡ true → Contains l e) (x ∷ es)) (sym (filter_off test x es t)) ((λ u. no (test x) u t), rest)
 
 only_one : (x e : Entry) → Contains (x ∷ []) e → e ≡ x

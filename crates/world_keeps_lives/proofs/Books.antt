@@ -4,7 +4,7 @@ use Rattle.std.proofs.Common.{false}
 use Rattle.host_pairs.specs.declared.notice.Notice.TheVariants as notice
 use Rattle.net_sim.specs.Book.{returned}
 
-not_both : (P : Type 0) (b : Bool) → b ≡ true → b ≡ false → P
+pub not_both : (P : Type 0) (b : Bool) → b ≡ true → b ≡ false → P
 not_both P b e f = absurd (let r : true ≡ false = sym e ∙ f in cc)
 
 -- what is asked of each life

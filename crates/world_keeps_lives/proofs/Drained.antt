@@ -2,6 +2,7 @@
 -- it is over.
 use Rattle.world_keeps_lives.proofs.Common.{◌≡◌, ◌⊎◌, inl, inr, ℕ, zero, suc, ◌<◌, ◌==◌, ◌&&◌, not, Bool, false, if◌then◌else◌, List, [], ◌∷◌, ◌++◌, length, filter, find, slice_index_or, Option, Some, None, refl, ap, sym, subst, ◌∙◌, eq-eqb, arith, eqb-true, Contains, Seen, Host, same_host, not_false, same_host-true, is_receive_socket, is_send_socket, Command, Order, orders_of, has_cls, is_mine_on, is_open, Entry, both, not_is, NcpState, owner_of, pair_with, AreInOrder, on_open, send_fault, not_first, lives_at, HaveAddresses, IsLawful, going, AreHanded, IsPrefix, Name, SafePartners, own_request, sends, Asked, Crossed, Moment, places, program, IsTimeline, crossings_of, kept_in, WorldState, Life, Coupled, coupled, places_same, book_run, even_odd, queued_commands, safe_partners, served_in, ClosedFirst, ClosesFirst, AreRefusing, EachOn, HasOpenEnd, IsFreeSocket, IsLifeOf, IsOwned, NoneOf, mine_on}
 use Rattle.std.proofs.Common.{true}
+use Rattle.std.proofs.lemmas.Option.{same_Some}
 use Rattle.interface.specs.Mailboxes as mail
 use Rattle.interface.specs.declared.crossing.Crossing.TheVariants as crossing
 use Rattle.host_pairs.specs.Parcels as parcel
@@ -93,9 +94,6 @@ module _ (moments : List Moment) where
 abbrev IsShut : ℕ → ℕ → Entry → Type 0
 IsShut k n e = e.own ≡ k → e.asked ≡ Some n → has_cls e.closing ≡ true
 
-same_stamp : (m n : ℕ) → Some m ≡ Some n → m ≡ n
-same_stamp m n e = cc
-
 shut_rules : (k n : ℕ) (p : Host) → Rules (IsShut k n) Nothing p
 shut_rules k n p = record {
   quiet = λ e f q shut own asked. q.closing (shut (sym q.own ∙ own) (sym q.asked ∙ asked));
@@ -121,10 +119,10 @@ shut_goes : (k n here : ℕ) (cs : List Command) → n < here → Goes (IsShut k
 shut_goes k n here cs less = record {
   rts =
       λ own foreign link e there even o f shut is asked. absurd
-      (let same : here ≡ n = same_stamp here n asked in omega (arith, less, same));
+      (let same : here ≡ n = same_Some here n asked in omega (arith, less, same));
   str =
       λ own foreign size e there odd o f shut is asked. absurd
-      (let same : here ≡ n = same_stamp here n asked in omega (arith, less, same));
+      (let same : here ≡ n = same_Some here n asked in omega (arith, less, same));
 }
 
 -- at first: the one own end of the socket, and ends that refuse

@@ -6,6 +6,3 @@ no b e f = absurd (let both : true ≡ false = sym e ∙ f in cc)
 
 pub no_place : {A : Type 0} {X : Type 0} (x : X) → None ≡ Some x → A
 no_place x e = absurd (cc)
-
-pub one_place : {X : Type 0} (x y : X) → Some x ≡ Some y → x ≡ y
-one_place x y e = cc

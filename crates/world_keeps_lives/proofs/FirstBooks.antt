@@ -1,5 +1,6 @@
 -- The messages of each life are the first on its link, over all moments.
 use Rattle.world_keeps_lives.proofs.Common.{◌≡◌, ◌⊎◌, ◌<◌, inl, inr, ℕ, ◌*◌, ◌==◌, Bool, true, false, if◌then◌else◌, List, [], ◌∷◌, ◌++◌, take, drop, length, Option, Some, None, is_some, refl, ap, sym, subst, ◌∙◌, eq-eqb, Contains, eqb-true, drop-append_seam, Seen, same_flow, Host, same_host, Flow, Crossing, HostMessage, same_flow-refl, same_flow-true, same_host-refl, data_bits, header_bits, is_receive_socket, Command, MayGo, data_of, is_link, is_open, is_receiving, receives_on, sends_on, PairState, Parcel, link_for, may_send_on, next_of, Entry, Notice, both, what_goes, find_passes, pair_with, message_for, next_in, Request, next_is, next_pair, all_told, carried, lives_at, where_it, IsLawful, data_by, data_in, text_of, receives, Asked, Crossed, IsNext, Moment, places, program, crossings_of, host_in, kept_by, kept_in, notices_by, WorldState, Life, coupled, places_same, book_lives, book_run, begun, HasOpenEnd}
+use Rattle.std.proofs.lemmas.Option.{same_Some}
 use Rattle.interface.specs.declared.crossing.Crossing.TheVariants as crossing
 use Rattle.host_pairs.specs.Parcels as parcel
 use Rattle.host_pairs.specs.Parcels.{link_of}
@@ -55,14 +56,11 @@ sends_on_flow x link kind = ap (λ (b : Bool). if b then record { source = x.pee
 takes_on_flow : (x : Life) (link : ℕ) → receives x ≡ true → flow_of x link ≡ record { source = x.peer; destination = x.host; link = record { 0 = link } }
 takes_on_flow x link kind = ap (λ (b : Bool). if b then record { source = x.peer; destination = x.host; link = record { 0 = link } } else record { source = x.host; destination = x.peer; link = record { 0 = link } }) kind
 
-some_link : (o : Option ℕ) → is_some o ≡ true → o ≡ Some (link_of o)
+pub some_link : (o : Option ℕ) → is_some o ≡ true → o ≡ Some (link_of o)
 some_link None e = absurd (let both : false ≡ true = e in cc)
 some_link (Some l) e = refl
 
-same_link : (l k : ℕ) → Some l ≡ Some k → l ≡ k
-same_link l k e = cc
-
-same_out : (m n : HostMessage) → crossing.Out m ≡ crossing.Out n → m ≡ n
+pub same_out : (m n : HostMessage) → crossing.Out m ≡ crossing.Out n → m ≡ n
 same_out m n e = cc
 
 no_out : {A : Type 0} (m n : HostMessage) → crossing.In m ≡ crossing.Out n → A
@@ -146,7 +144,7 @@ module _ (hosts : List Host) (given : Together hosts) where
         on_flow : (x : Life) (link : ℕ) → x.host ≡ m.flow.source → x.peer ≡ m.flow.destination → x.socket ≡ e.own → e.link ≡ Some link → (receives x ≡ false) × (m.flow ≡ flow_of x link)
         on_flow x link host peer socket its =
             let kind : receives x ≡ false = ap is_receive_socket socket ∙ may.1.sends in
-            (kind, flow_two m.flow x.host x.peer link host peer (sym (same_link link m.flow.link.0 (sym its ∙ linked))) ∙ sym (sends_on_flow x link kind))
+            (kind, flow_two m.flow x.host x.peer link host peer (sym (same_Some link m.flow.link.0 (sym its ∙ linked))) ∙ sym (sends_on_flow x link kind))
 
         hit : (x : Life) (link : ℕ) → x.host ≡ m.flow.source → x.peer ≡ m.flow.destination → x.socket ≡ e.own → e.link ≡ Some link
             → (text_of (receives x) (flow_of x link) (crossing.Out m) ≡ m.text ∷ []) × (data_in (receives x) m.text ≡ Some (take (size * count) e.bits))
@@ -351,7 +349,7 @@ module _ (hosts : List Host) (given : Together hosts) where
         from p here t (inl w) goes o link linked =
             let i : AtEnd (y ∷ ms) p = at_end hosts given (y ∷ ms) late p here t goes in
             let same : i.end ≡ o.end = is_end hosts given (y ∷ ms) late p.life o i.end i.there i.mine i.own in
-            let on : p.link ≡ link = same_link p.link link (sym i.link ∙ ap (λ (e : Entry). e.link) same ∙ linked) in
+            let on : p.link ≡ link = same_Some p.link link (sym i.link ∙ ap (λ (e : Entry). e.link) same ∙ linked) in
             let also : w.one.life.ended ≡ false = w.goes goes in
             let k : AtEnd ms w.one = at_end hosts given ms l w.one w.there w.tracked also in
             let v : HasOpenEnd (program w.one.life.host ms) w.one.life = live hosts ms l.0 l.1 l.2 w.one.life w.there also in

@@ -1,5 +1,6 @@
 -- The ends of lives that aren't over, each on its link. What is asked of two programs together is `Together`.
 use Rattle.world_keeps_lives.proofs.Common.{◌≡◌, ◌⊎◌, inr, ℕ, ◌<◌, ◌≤◌, ◌==◌, Bool, true, false, if◌then◌else◌, List, [], ◌∷◌, map, drop, length, Some, refl, ap, sym, subst, ◌∙◌, arith, eq-eqb, Contains, max-le, eqb-true, Host, Flow, Crossing, HostMessage, IsCommand, is_receive_socket, Command, Legal, Order, orders_of, is_link, is_mine_on, is_open, is_receiving, sends_on, Parcel, Entry, both, text_good, AreOrders, IsOrder, pair_with, AreInOrder, message_for, next_in, Peer, HaveAddresses, CrossedAt, coming, going, request, texts_for, Name, before, own_request, receives, Asked, Crossed, IsNext, Moment, places, program, IsTimeline, crossings_of, kept_in, notices_by, Life, begun, HasOpenEnd}
+use Rattle.std.proofs.lemmas.Option.{same_Some}
 use Rattle.interface.specs.Mailboxes as mail
 use Rattle.interface.specs.declared.crossing.Crossing.TheVariants as crossing
 use Rattle.ncp_control.specs.Numbers.{is_connection_link}
@@ -7,7 +8,7 @@ use Rattle.ncp_control.specs.declared.command.Command.TheVariants as command
 use Rattle.host_pairs.specs.Parcels as parcel
 use Rattle.host_pairs.specs.declared.notice.Notice.TheVariants as notice
 use Rattle.promise.specs.Formed.{flow_of}
-use Rattle.world_keeps_lives.proofs.Facts.{no, no_place, one_place}
+use Rattle.world_keeps_lives.proofs.Facts.{no, no_place}
 use Rattle.world_keeps_lives.proofs.Desks.{open_mine}
 use Rattle.world_keeps_lives.proofs.FirstLists.{Pairwise, each_all, life_of, mapped}
 use Rattle.world_keeps_lives.proofs.Begun.{alone_on, one_is}
@@ -106,14 +107,14 @@ module _ (x : Life) (link : ℕ) (N : Type 0) where
   held_hears : (stamp : ℕ) (orders : List Order) → x.partner_stamp < stamp → Hears Held stamp orders
   held_hears stamp orders below = record {
     begins = held_begins;
-    rts = λ own foreign l e there even odd o f h mine o2 asked partner. absurd (let s : stamp ≡ x.partner_stamp = one_place stamp x.partner_stamp partner in omega (arith, s, below));
-    str = λ own foreign size e there odd even o f h mine o2 asked partner. absurd (let s : stamp ≡ x.partner_stamp = one_place stamp x.partner_stamp partner in omega (arith, s, below));
+    rts = λ own foreign l e there even odd o f h mine o2 asked partner. absurd (let s : stamp ≡ x.partner_stamp = same_Some stamp x.partner_stamp partner in omega (arith, s, below));
+    str = λ own foreign size e there odd even o f h mine o2 asked partner. absurd (let s : stamp ≡ x.partner_stamp = same_Some stamp x.partner_stamp partner in omega (arith, s, below));
   }
 
   held_goes : (stamp : ℕ) (cs : List Command) → x.own_stamp < stamp → Goes Held stamp cs
   held_goes stamp cs below = record {
-    rts = λ own foreign l e there even o f h mine o2 asked partner. absurd (let s : stamp ≡ x.own_stamp = one_place stamp x.own_stamp asked in omega (arith, s, below));
-    str = λ own foreign size e there odd o f h mine o2 asked partner. absurd (let s : stamp ≡ x.own_stamp = one_place stamp x.own_stamp asked in omega (arith, s, below));
+    rts = λ own foreign l e there even o f h mine o2 asked partner. absurd (let s : stamp ≡ x.own_stamp = same_Some stamp x.own_stamp asked in omega (arith, s, below));
+    str = λ own foreign size e there odd o f h mine o2 asked partner. absurd (let s : stamp ≡ x.own_stamp = same_Some stamp x.own_stamp asked in omega (arith, s, below));
   }
 
   pub held_may : (y : Moment) (moments : List Moment) → (a b : Host) → ((m : HostMessage) → y ≡ Crossed (crossing.Out m) → IsNext (program m.flow.source moments) m) → x.own_stamp < places moments → x.partner_stamp < places moments → May Held Nothing a b (held_rules b) y moments
@@ -252,7 +253,7 @@ module _ (hosts : List Host) (given : Together hosts) where
     pub all_due : (a b : Host) → Each (Due (lives_in ms) (places ms)) (ends_in a b ms)
     all_due a b = each_all (Due (lives_in ms) (places ms)) (ends_in a b ms) (λ e there opened u v asked partner.
         (let w : Owner a b ms e = owned a b e there opened in
-        inr (inr (record { life = w.life; there = w.there; place = one_place w.life.own_stamp u (sym w.asked ∙ asked); socket = sym w.socket; foreign_is = sym w.foreign }))))
+        inr (inr (record { life = w.life; there = w.there; place = same_Some w.life.own_stamp u (sym w.asked ∙ asked); socket = sym w.socket; foreign_is = sym w.foreign }))))
 
     abbrev pub at_end : (p : Linked) → Contains (lives_in ms) p.life → Tracked ms p → p.life.ended ≡ false → AtEnd ms p
     at_end p there t goes =
@@ -292,7 +293,7 @@ module _ (hosts : List Host) (given : Together hosts) where
         let i : AtEnd ms p = at_end p here t goes in
         let j : AtEnd ms q = at_end q there u also in
         let same : i.end ≡ j.end = ends_same p q i j t.other kind like (ap (λ (g : Flow). g.source) f) (ap (λ (g : Flow). g.destination) f) (ap (λ (g : Flow). g.link.0) f) in
-        let place : p.life.own_stamp ≡ q.life.own_stamp = one_place p.life.own_stamp q.life.own_stamp (sym i.asked ∙ ap (λ (e : Entry). e.asked) same ∙ j.asked) in
+        let place : p.life.own_stamp ≡ q.life.own_stamp = same_Some p.life.own_stamp q.life.own_stamp (sym i.asked ∙ ap (λ (e : Entry). e.asked) same ∙ j.asked) in
         let own : p.life.socket ≡ q.life.socket = sym i.own ∙ ap (λ (e : Entry). e.own) same ∙ j.own in
         let foreign : p.life.foreign ≡ q.life.foreign = sym i.foreign ∙ ap (λ (e : Entry). e.foreign) same ∙ j.foreign in
         named_by p.life.own_stamp q.life.own_stamp p.life.socket q.life.socket p.life.foreign q.life.foreign place own foreign where

@@ -1,7 +1,8 @@
 -- Lists of lives with their links: what holds of each, and of each two.
 use Rattle.world_keeps_lives.proofs.Common.{◌≡◌, ℕ, zero, suc, ◌<◌, List, [], ◌∷◌, ◌++◌, map, length, slice_index_or, refl, ap, sym, subst, ◌∙◌, arith, Contains, append_assoc, AreTwo, own_request, Life}
 use Rattle.world_keeps_lives.proofs.Linked.{Linked}
-use Rattle.world_keeps_lives.proofs.Walk.Rules.{Each, each_in, each_of, each_weaker, first_of, later_of}
+use Rattle.world_keeps_lives.proofs.Walk.Rules.{Each, each_in, each_of, each_weaker}
+use Rattle.interface.proofs.lemmas.{contains_head, contains_tail}
 
 -- ---- each of a list
 
@@ -20,7 +21,7 @@ each_changed P Q f (x ∷ xs) k h = (k x h.0, each_changed P Q f xs k h.1)
 all_mapped : {A B : Type 0} (f : A → B) (xs : List A) → Each (λ (x : A). Contains (map f xs) (f x)) xs
 all_mapped f [] = tt
 all_mapped {A} f (x ∷ xs) =
-    (first_of (f x) (map f xs), each_weaker (λ (y : A). Contains (map f xs) (f y)) (λ (y : A). Contains (f x ∷ map f xs) (f y)) xs (λ y there. later_of (f x) (map f xs) (f y) there) (all_mapped f xs))
+    (contains_head (f x) (map f xs), each_weaker (λ (y : A). Contains (map f xs) (f y)) (λ (y : A). Contains (f x ∷ map f xs) (f y)) xs (λ y there. contains_tail (f x) (map f xs) (f y) there) (all_mapped f xs))
 
 pub mapped : {A B : Type 0} (f : A → B) (xs : List A) (x : A) → Contains xs x → Contains (map f xs) (f x)
 mapped {A} f xs x there = each_in (λ (y : A). Contains (map f xs) (f y)) xs x there (all_mapped f xs)
@@ -33,8 +34,8 @@ pub record From {A B : Type 0} (f : A → B) (xs : List A) (y : B) : Type 0 wher
 all_from : {A B : Type 0} (f : A → B) (xs : List A) → Each (λ (y : B). From f xs y) (map f xs)
 all_from f [] = tt
 all_from {A} {B} f (x ∷ xs) = (
-  record { one = x; there = first_of x xs; is = refl },
-  each_weaker (λ (y : B). From f xs y) (λ (y : B). From f (x ∷ xs) y) (map f xs) (λ y k. record { one = k.one; there = later_of x xs k.one k.there; is = k.is }) (all_from f xs),
+  record { one = x; there = contains_head x xs; is = refl },
+  each_weaker (λ (y : B). From f xs y) (λ (y : B). From f (x ∷ xs) y) (map f xs) (λ y k. record { one = k.one; there = contains_tail x xs k.one k.there; is = k.is }) (all_from f xs),
 )
 
 pub from_map : {A B : Type 0} (f : A → B) (xs : List A) (y : B) → Contains (map f xs) y → From f xs y
@@ -120,8 +121,8 @@ all_distinct front (p ∷ ps) once = (
   all_distinct (front ++ p.life ∷ []) ps (λ x y two. once x y (subst (λ (l : List Life). AreTwo l x y) (append_assoc front (p.life ∷ []) (map life_of ps)) two)),
 ) where
   behind : (x : Life) (xs : List Life) → Contains (xs ++ x ∷ []) x
-  behind x [] = first_of x []
-  behind x (y ∷ xs) = later_of y (xs ++ x ∷ []) x (behind x xs)
+  behind x [] = contains_head x []
+  behind x (y ∷ xs) = contains_tail y (xs ++ x ∷ []) x (behind x xs)
 
 pub map_life : (f : Linked → Linked) (g : Life → Life) → ((p : Linked) → (f p).life ≡ g p.life) → (ps : List Linked) → map life_of (map f ps) ≡ map g (map life_of ps)
 map_life f g k [] = refl

@@ -12,13 +12,10 @@ use Rattle.world_keeps_lives.proofs.Begun.{Begun, Bound, begins, in_filter, mine
 use Rattle.world_keeps_lives.proofs.Grounds.{Nothing, crossed_below, step_ends}
 use Rattle.world_keeps_lives.proofs.Laws.{live}
 use Rattle.world_keeps_lives.proofs.Linked.{HasRequests, IsFirst, IsSentIn, Linked, all_data}
-use Rattle.world_keeps_lives.proofs.Walk.Rules.{Each, each_append, each_in, each_of, each_weaker, first_of, later_of}
+use Rattle.world_keeps_lives.proofs.Walk.Rules.{Each, each_append, each_in, each_of, each_weaker}
 use Rattle.world_keeps_lives.proofs.Stamps.{HasLife, Now}
 use Rattle.world_keeps_lives.proofs.Texts.{IsFull, before_all, before_here, before_still, first_more, first_still, full_more, take_whole, texts_none, texts_same}
-
-off_not : (b : Bool) → not b ≡ true → b ≡ false
-off_not true e = absurd (let both : false ≡ true = e in cc)
-off_not false e = refl
+use Rattle.interface.proofs.lemmas.{not_true, contains_head, contains_tail}
 
 -- ---- one moment more
 
@@ -257,8 +254,8 @@ module _ (hosts : List Host) (given : Together hosts) (y : Moment) (ms : List Mo
     all_begin : (xs : List Life) → ((x : Life) → Contains xs x → Contains c.more x) → Each (Born (lives_in ms) (places ms) (crossings_of (y ∷ ms))) xs → AllBegun xs
     all_begin [] in_more born = record { ones = []; are = refl; tracked = tt; newest = tt }
     all_begin (x ∷ xs) in_more born =
-        let one : Newly x = begins_so x (in_more x (first_of x xs)) born.0 in
-        let rest : AllBegun xs = all_begin xs (λ z k. in_more z (later_of x xs z k)) born.1 in
+        let one : Newly x = begins_so x (in_more x (contains_head x xs)) born.0 in
+        let rest : AllBegun xs = all_begin xs (λ z k. in_more z (contains_tail x xs z k)) born.1 in
         record { ones = one.one ∷ rest.ones; are = ap (λ (z : Life). z ∷ map life_of rest.ones) one.is ∙ ap (λ (zs : List Life). x ∷ zs) rest.are; tracked = (one.tracked, rest.tracked); newest = (one.newest, rest.newest) }
 
     new : AllBegun c.more
@@ -349,7 +346,7 @@ module _ (hosts : List Host) (given : Together hosts) (y : Moment) (ms : List Mo
       full : IsFull (crossings_of ms) p.life p.link
 
     goes_at : (x : Life) → lives_at h e.own x ≡ true → x.ended ≡ false
-    goes_at x f = off_not x.ended (both (same_host h x.host && x.socket == e.own) (not x.ended) f).1
+    goes_at x f = not_true x.ended (both (same_host h x.host && x.socket == e.own) (not x.ended) f).1
 
     peer_at : (x : Life) → (o : HasOpenEnd (program x.host ms) x) → Contains (ends_in x.host b ms) e → x.socket ≡ e.own → x.peer ≡ b
     peer_at x o here socket = by (same_host b x.peer) refl where

@@ -1,5 +1,6 @@
 -- The requests of each end of a host's program, in the messages that crossed.
 use Rattle.world_keeps_lives.proofs.Common.{◌≡◌, inl, inr, ℕ, ◌<◌, Bool, true, false, if◌then◌else◌, zero, suc, List, [], ◌∷◌, map, take, drop, length, slice_index_or, Some, refl, ap, sym, subst, ◌∙◌, arith, Contains, eqb-true, take-append-drop, Contains-append_left, Host, same_host, Flow, Answer, Crossing, HostMessage, or_false, same_host-true, is_receive_socket, is_send_socket, Command, Legal, Order, orders_of, has_cls, is_ending, is_receiving, PairState, Parcel, asked_at, link_for, Entry, Notice, offer_read, AreCommands, IsReadBack, accepted, NcpState, opening_state, pair_with, AreInOrder, served, message_for, next_in, offered, Peer, next_pair, HaveAddresses, CrossedAt, HasCrossed, coming, going, request, control_flow, Asked, Crossed, IsNext, Moment, places, program, IsTimeline, crossings_of, coupled, places_same, even_odd, programs_ranged, served_in, queued_commands}
+use Rattle.std.proofs.lemmas.Option.{same_Some}
 use Rattle.interface.specs.Mailboxes as mail
 use Rattle.interface.specs.declared.crossing.Crossing.TheVariants as crossing
 use Rattle.interface.specs.declared.crossing.Inbound.TheVariants as inbound
@@ -11,7 +12,7 @@ use Rattle.sockets.proofs.lemmas.{answer_leaves, message_leaves, offer_leaves}
 use Rattle.net_sim.proofs.lemmas.{flow_of, program_own}
 use Rattle.world_keeps_pairing.proofs.lemmas.{send_odd}
 use Rattle.world_keeps_pairing.proofs.lemmas.{queued_link}
-use Rattle.world_keeps_lives.proofs.Facts.{no_place, one_place}
+use Rattle.world_keeps_lives.proofs.Facts.{no_place}
 use Rattle.world_keeps_lives.proofs.Walk.Rules.{Begins, Each, Goes, Hears, IsOther, MayTell, Quiet, Rules, each_of, each_weaker}
 use Rattle.world_keeps_lives.proofs.Walk.ByRules.{Done, Ends, MayTake, answer_keeps, message_keeps, offer_keeps, request_keeps}
 
@@ -140,7 +141,7 @@ module _ (h p : Host) (log : List Crossing) where
       asked = λ mine a is. (let i : IsAsked h p log e a = g.asked mine a is in record { named = i.named; crossed = i.crossed; link = λ r. absurd (even_odd own (ap is_receive_socket (sym o) ∙ r) odd) });
       partner = λ mine b is. record {
         named = link;
-        crossed = subst (λ (place : ℕ). HasCrossed coming p h place (request e.foreign e.own link) log) (one_place stamp b is) (record {
+        crossed = subst (λ (place : ℕ). HasCrossed coming p h place (request e.foreign e.own link) log) (same_Some stamp b is) (record {
           message = m;
           flow = flow;
           crossed = crossed;
@@ -154,7 +155,7 @@ module _ (h p : Host) (log : List Crossing) where
       asked = λ mine a is. (let i : IsAsked h p log e a = g.asked mine a is in record { named = i.named; crossed = i.crossed; link = i.link });
       partner = λ mine b is. record {
         named = size;
-        crossed = subst (λ (place : ℕ). HasCrossed coming p h place (request e.foreign e.own size) log) (one_place stamp b is) (record {
+        crossed = subst (λ (place : ℕ). HasCrossed coming p h place (request e.foreign e.own size) log) (same_Some stamp b is) (record {
           message = m;
           flow = flow;
           crossed = crossed;
@@ -199,7 +200,7 @@ module _ (h p : Host) (log : List Crossing) where
         refusing = g.0.refusing;
         asked = λ mine a is. record {
           named = link;
-          crossed = subst (λ (place : ℕ). HasCrossed going h p place (request e.own e.foreign link) log) (one_place stamp a is) (has (request e.own e.foreign link) (command.Rts own foreign link) (ap (λ (k : ℕ). request k e.foreign link) o ∙ ap (λ (k : ℕ). request own k link) f ∙ rts_is own foreign link even) there);
+          crossed = subst (λ (place : ℕ). HasCrossed going h p place (request e.own e.foreign link) log) (same_Some stamp a is) (has (request e.own e.foreign link) (command.Rts own foreign link) (ap (λ (k : ℕ). request k e.foreign link) o ∙ ap (λ (k : ℕ). request own k link) f ∙ rts_is own foreign link even) there);
           link = λ r. g.1 mine link (subst (λ (k : ℕ). Contains queue (command.Rts k e.foreign link)) (sym o) (subst (λ (k : ℕ). Contains queue (command.Rts own k link)) (sym f) (taken_in n queue (command.Rts own foreign link) there)));
         };
         partner = λ mine b is. (let i : IsAnswered h p log e b = g.0.partner mine b is in record { named = i.named; crossed = i.crossed; link = i.link });
@@ -211,7 +212,7 @@ module _ (h p : Host) (log : List Crossing) where
         refusing = g.0.refusing;
         asked = λ mine a is. record {
           named = size;
-          crossed = subst (λ (place : ℕ). HasCrossed going h p place (request e.own e.foreign size) log) (one_place stamp a is) (has (request e.own e.foreign size) (command.Str own foreign size) (ap (λ (k : ℕ). request k e.foreign size) o ∙ ap (λ (k : ℕ). request own k size) f ∙ str_is own foreign size odd) there);
+          crossed = subst (λ (place : ℕ). HasCrossed going h p place (request e.own e.foreign size) log) (same_Some stamp a is) (has (request e.own e.foreign size) (command.Str own foreign size) (ap (λ (k : ℕ). request k e.foreign size) o ∙ ap (λ (k : ℕ). request own k size) f ∙ str_is own foreign size odd) there);
           link = λ r. absurd (even_odd own (ap is_receive_socket (sym o) ∙ r) odd);
         };
         partner = λ mine b is. (let i : IsAnswered h p log e b = g.0.partner mine b is in record { named = i.named; crossed = i.crossed; link = i.link });

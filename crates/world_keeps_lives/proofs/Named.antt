@@ -6,7 +6,7 @@ use Rattle.interface.specs.declared.crossing.Crossing.TheVariants as crossing
 use Rattle.ncp_control.specs.declared.command.Command.TheVariants as command
 use Rattle.promise.specs.Formed.{named_by, named_of}
 use Rattle.world_keeps_lives.proofs.Grounds.{crossed_below}
-use Rattle.world_keeps_lives.proofs.Walk.Rules.{first_of, later_of}
+use Rattle.interface.proofs.lemmas.{not_true, contains_head, contains_tail}
 
 -- ---- one command
 
@@ -32,10 +32,6 @@ if_some : (n k : ℕ) (v : Bool) → (if v then Some n else None) ≡ Some k →
 if_some n k true e = (refl, (let same : n ≡ k = cc in same))
 if_some n k false e = absurd (let none : None ≡ Some k = e in cc)
 
-off_not : (b : Bool) → not b ≡ true → b ≡ false
-off_not true e = absurd (let none : false ≡ true = e in cc)
-off_not false e = refl
-
 pub named_is : (own foreign k : ℕ) (c : Command) → named_by own foreign c ≡ Some k → c ≡ request own foreign k
 named_is own foreign k (command.Rts a b n) e =
     let i : ((is_receive_socket own && own == a && foreign == b) ≡ true) × (n ≡ k) = if_some n k (is_receive_socket own && own == a && foreign == b) e in
@@ -48,7 +44,7 @@ named_is own foreign k (command.Str a b n) e =
     let two : ((not (is_receive_socket own) && own == a) ≡ true) × ((foreign == b) ≡ true) = both (not (is_receive_socket own) && own == a) (foreign == b) i.0 in
     let one : (not (is_receive_socket own) ≡ true) × ((own == a) ≡ true) = both (not (is_receive_socket own)) (own == a) two.0 in
     ap (λ (x : ℕ). command.Str x b n) (sym (eqb-true own a one.1)) ∙ ap (λ (x : ℕ). command.Str own x n) (sym (eqb-true foreign b two.1)) ∙ ap (λ (x : ℕ). command.Str own foreign x) i.1
-    ∙ ap (λ (v : Bool). if v then command.Rts own foreign k else command.Str own foreign k) (sym (off_not (is_receive_socket own) one.0))
+    ∙ ap (λ (v : Bool). if v then command.Rts own foreign k else command.Str own foreign k) (sym (not_true (is_receive_socket own) one.0))
 named_is own foreign k c e = absurd (let none : None ≡ Some k = e in cc)
 
 -- ---- a text
@@ -60,7 +56,7 @@ pub record Names (own foreign : ℕ) (orders : List Order) : Type 0 where
   pub there : Contains orders (Legal (request own foreign named))
 
 later_names : (own foreign : ℕ) (o : Order) (orders : List Order) → named_in own foreign (o ∷ orders) ≡ named_in own foreign orders → Names own foreign orders → Names own foreign (o ∷ orders)
-later_names own foreign o orders e n = record { named = n.named; is = e ∙ n.is; there = later_of o orders (Legal (request own foreign n.named)) n.there }
+later_names own foreign o orders e n = record { named = n.named; is = e ∙ n.is; there = contains_tail o orders (Legal (request own foreign n.named)) n.there }
 
 names_at : (own foreign n : ℕ) (orders : List Order) (i : ℕ) → i < length orders → slice_index_or orders i (Legal (request own foreign n)) ≡ Legal (request own foreign n) → Names own foreign orders
 names_at own foreign n [] i less is = absurd (omega (arith, less))
@@ -71,7 +67,7 @@ names_at own foreign n (Legal c ∷ orders) zero less is =
     record {
       named = n;
       is = ap (λ (d : Command). option_or (named_by own foreign d) (named_in own foreign orders)) same ∙ ap (λ (o : Option ℕ). option_or o (named_in own foreign orders)) (named_again own foreign n);
-      there = subst (λ (d : Command). Contains (Legal c ∷ orders) (Legal d)) same (first_of (Legal c) orders);
+      there = subst (λ (d : Command). Contains (Legal c ∷ orders) (Legal d)) same (contains_head (Legal c) orders);
     }
 names_at own foreign n (Legal c ∷ orders) (suc i) less is = by (named_by own foreign c) refl (names_at own foreign n orders i (omega (arith, less)) is) where
   by : (o : Option ℕ) → named_by own foreign c ≡ o → Names own foreign orders → Names own foreign (Legal c ∷ orders)
@@ -79,7 +75,7 @@ names_at own foreign n (Legal c ∷ orders) (suc i) less is = by (named_by own f
   by (Some k) e rest = record {
     named = k;
     is = ap (λ (o : Option ℕ). option_or o (named_in own foreign orders)) e;
-    there = subst (λ (d : Command). Contains (Legal c ∷ orders) (Legal d)) (named_is own foreign k c e) (first_of (Legal c) orders);
+    there = subst (λ (d : Command). Contains (Legal c ∷ orders) (Legal d)) (named_is own foreign k c e) (contains_head (Legal c) orders);
   }
 
 pub names_of : (own foreign n : ℕ) (orders : List Order) → Contains orders (Legal (request own foreign n)) → Names own foreign orders

@@ -17,6 +17,7 @@ use Rattle.net_sim.specs.WorkedResets.{rrp, rst}
 use Rattle.world_keeps_lives.specs.WorkedFormed.{arrived_told, sent_told, stray, stray_arrived, stray_sent, untaken_log}
 use Rattle.world_keeps_lives.proofs.Walk.Rules.{Each, each_in}
 use Rattle.world_keeps_lives.proofs.FormedRows.{rts_holds, rts_read, str_holds}
+use Rattle.world_keeps_lives.proofs.FirstBooks.{same_out}
 
 -- ---- good ones
 
@@ -139,9 +140,6 @@ NamesOther foreign c = (m : HostMessage) → c ≡ crossing.Out m → m.flow ≡
 none_in : (order : Order) (m : HostMessage) → (os : List Order) → orders_of m.text ≡ os → Each (λ (o : Order). o ≡ order → ⊥) os → Contains (orders_of m.text) order → ⊥
 none_in order m os is none there = each_in (λ (o : Order). o ≡ order → ⊥) os order (subst (λ (all : List Order). Contains all order) is there) none refl
 
-out_is : (m n : HostMessage) → crossing.Out m ≡ crossing.Out n → m ≡ n
-out_is m n e = cc
-
 in_is : (m n : HostMessage) → crossing.In m ≡ crossing.Out n → ⊥
 in_is m n e = cc
 
@@ -153,12 +151,12 @@ not_answer foreign kind f n e flow there = cc
 
 from_second : (foreign : ℕ) (m : HostMessage) → m.flow.source.imp ≡ 2 → NamesOther foreign (crossing.Out m)
 from_second foreign m two n e flow there =
-    let source : 2 ≡ 1 = sym two ∙ ap (λ (x : HostMessage). x.flow.source.imp) (out_is m n e) ∙ ap (λ (f : Flow). f.source.imp) flow in
+    let source : 2 ≡ 1 = sym two ∙ ap (λ (x : HostMessage). x.flow.source.imp) (same_out m n e) ∙ ap (λ (f : Flow). f.source.imp) flow in
     omega (arith, source)
 
 of_these : (foreign : ℕ) (m : HostMessage) (os : List Order) → orders_of m.text ≡ os → Each (λ (o : Order). o ≡ Legal (command.Rts 16 foreign 3) → ⊥) os → NamesOther foreign (crossing.Out m)
 of_these foreign m os is none n e flow there =
-    none_in (Legal (command.Rts 16 foreign 3)) m os is none (subst (λ (x : HostMessage). Contains (orders_of x.text) (Legal (command.Rts 16 foreign 3))) (sym (out_is m n e)) there)
+    none_in (Legal (command.Rts 16 foreign 3)) m os is none (subst (λ (x : HostMessage). Contains (orders_of x.text) (Legal (command.Rts 16 foreign 3))) (sym (same_out m n e)) there)
 
 an_rst : (foreign : ℕ) → Legal command.Rst ≡ Legal (command.Rts 16 foreign 3) → ⊥
 an_rst foreign e = cc

@@ -1,10 +1,11 @@
 -- Where a user is notified of an opening, one of its two requests has just crossed, unless a life of its own request is there.
 use Rattle.world_keeps_lives.proofs.Common.{◌≡◌, ◌⊎◌, inl, inr, ℕ, Bool, true, false, List, Some, is_some, refl, ap, sym, subst, ◌∙◌, Contains, Host, HostMessage, Command, Order, has_cls, is_open, Parcel, Entry, Notice, pair_with, HaveAddresses, Asked, Crossed, IsNext, Moment, places, program, IsTimeline, crossings_of, notices_by, Life, queued_commands}
+use Rattle.std.proofs.lemmas.Option.{same_Some}
 use Rattle.interface.specs.Mailboxes as mail
 use Rattle.interface.specs.declared.crossing.Crossing.TheVariants as crossing
 use Rattle.host_pairs.specs.Parcels as parcel
 use Rattle.host_pairs.specs.declared.notice.Notice.TheVariants as notice
-use Rattle.world_keeps_lives.proofs.Facts.{no, no_place, one_place}
+use Rattle.world_keeps_lives.proofs.Facts.{no, no_place}
 use Rattle.world_keeps_lives.proofs.Desks.{IsAnOpen, open_parts}
 use Rattle.world_keeps_lives.proofs.Walk.Rules.{Begins, Each, Goes, Hears, IsOther, MayTell, Quiet, Rules}
 use Rattle.world_keeps_lives.proofs.Walk.ByRules.{answer_keeps, message_keeps, offer_keeps, request_told}
@@ -60,14 +61,14 @@ module _ (lives : List Life) (here : ℕ) where
   hears : (orders : List Order) → Hears Due here orders
   hears orders = record {
     begins = begins;
-    rts = λ own foreign l e there even odd o f d opened a b asked partner. inr (inl (sym (one_place here b partner)));
-    str = λ own foreign size e there odd even o f d opened a b asked partner. inr (inl (sym (one_place here b partner)));
+    rts = λ own foreign l e there even odd o f d opened a b asked partner. inr (inl (sym (same_Some here b partner)));
+    str = λ own foreign size e there odd even o f d opened a b asked partner. inr (inl (sym (same_Some here b partner)));
   }
 
   goes : (cs : List Command) → Goes Due here cs
   goes cs = record {
-    rts = λ own foreign l e there even o f d opened a b asked partner. inl (sym (one_place here a asked));
-    str = λ own foreign size e there odd o f d opened a b asked partner. inl (sym (one_place here a asked));
+    rts = λ own foreign l e there even o f d opened a b asked partner. inl (sym (same_Some here a asked));
+    str = λ own foreign size e there odd o f d opened a b asked partner. inl (sym (same_Some here a asked));
   }
 
 -- ---- one moment

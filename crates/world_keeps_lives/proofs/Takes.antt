@@ -17,10 +17,7 @@ use Rattle.world_keeps_lives.proofs.Ends.{IsRefusing, refusing_found, split}
 use Rattle.world_keeps_lives.proofs.Books.{each_here, each_weaker}
 use Rattle.world_keeps_lives.proofs.Desks.{At, Elsewhere, Near, Place, clash, open_mine, open_opened, own_is, own_off}
 use Rattle.world_keeps_lives.proofs.Steps.{Good, good_aside, good_changed, good_foreign, good_if, good_joined, good_less, good_opening, good_queued, good_quiet, good_settled, good_swept, heard_drains, heard_less, refuses_due}
-
-and_false : (b : Bool) → (b && false) ≡ false
-and_false true = refl
-and_false false = refl
+use Rattle.interface.proofs.lemmas.{and_none}
 
 -- ---- receiving ends and sending ones
 
@@ -137,7 +134,7 @@ module _ (a : Host) (k : ℕ) (m : Place) (p : Host) (k0 : Kept) where
     by : (b : Bool) → is_some e.partner ≡ b → G (if b then commands.faulted ERRONEOUS c d else commands.matched p x y change d)
     by true f = good_fault ERRONEOUS c d h
     by false f =
-        good_opening a k m p k0 x y change d e found (ap (λ (b : Bool). is_some e.asked && b) f ∙ and_false (is_some e.asked)) keeps at bits allocation refuses h
+        good_opening a k m p k0 x y change d e found (ap (λ (b : Bool). is_some e.asked && b) f ∙ and_none (is_some e.asked)) keeps at bits allocation refuses h
 
   good_refused : (x y stamp : ℕ) (d : DeskState) → G d → G (commands.refused x y stamp d)
   good_refused x y stamp d h =

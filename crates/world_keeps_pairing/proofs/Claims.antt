@@ -1,5 +1,6 @@
 -- Which link the last request of a receiver named, for each pair of sockets.
 use Rattle.world_keeps_pairing.proofs.Common.{◌≡◌, ◌⊎◌, inl, inr, ℕ, ◌<◌, ◌≤◌, Bool, true, false, if◌then◌else◌, List, [], ◌∷◌, Option, Some, None, refl, ap, sym, subst, ◌∙◌, arith, End, nothing, fits, gone, mark_taken, Mark, Ask, Close, One, Two, Say, Sockets, same, Word, Receiver, Sender, Step, Says, Hears, Leaves, Meets, receiver, sender, events_at, with_event, stays, said_words, heard_words, IsAmong, AreSteps, joined_fits, joined_run, run_at, same_is, same_self, turned}
+use Rattle.std.proofs.lemmas.Option.{same_Some}
 use Rattle.pairing_law.specs.Marks.{Asks}
 use Rattle.pairing_law.specs.Sides as sides
 use Rattle.pairing_law.specs.Links as links
@@ -38,9 +39,6 @@ heard_claims (Meets ∷ xs) = heard_claims xs
 
 abbrev word_of : Sockets → ℕ → ℕ → Word
 word_of t link p = record { sockets = t; link = link; mark = Ask p }
-
-some_same : (p q : ℕ) → Some p ≡ Some q → p ≡ q
-some_same p q e = cc
 
 -- ---- a request among all words went out below
 
@@ -84,7 +82,7 @@ says_last : (t : Sockets) (w : Word) (xs : List Step) → AreSteps (Says Receive
     → last_link t (claimed m w.sockets w.link (said_claims xs)) ≡ Some link
 says_last t w xs r p link k true e (Ask q) f asked among =
     let is : t ≡ w.sockets = same_is t w.sockets e in
-    let same_place : q ≡ p = some_same q p asked in
+    let same_place : q ≡ p = same_Some q p asked in
     let found : last_link t (claimed (Ask q) w.sockets w.link (said_claims xs)) ≡ Some w.link = rw e refl in
     elim (in_if (stays Receiver xs) w (record { sockets = t; link = link; mark = Ask p }) (said_words Receiver xs) among) [
       | inl i ↦ found ∙ ap (λ (v : Word). Some v.link) (sym i)
@@ -156,7 +154,7 @@ heard_among t w xs r p link k true e (Ask q) f (inl fit) partner last =
     let now : (if fits (Ask q) (sender t xs).end then mark_taken (Ask q) (sender t xs).end else (sender t xs).end).partner ≡ Some p = partner in
     let place : Some q ≡ Some p = ap (λ (c : Bool). (if c then mark_taken (Ask q) (sender t xs).end else (sender t xs).end).partner) (sym fit) ∙ now in
     let found : Some w.link ≡ Some link = ap (λ (c : Bool). if c then Some w.link else last_link t (heard_claims xs)) (sym e) ∙ last in
-    inl (made t w.sockets link w.link (Ask p) w.mark is (sym (some_same w.link link found)) (ap (λ (n : ℕ). Ask n) (sym (some_same q p place)) ∙ sym f)) where
+    inl (made t w.sockets link w.link (Ask p) w.mark is (sym (same_Some w.link link found)) (ap (λ (n : ℕ). Ask n) (sym (same_Some q p place)) ∙ sym f)) where
       word : Sockets → ℕ → Mark → Word
       word s l m = record { sockets = s; link = l; mark = m }
 

@@ -2,7 +2,7 @@
 use Rattle.world_keeps_pairing.proofs.Common.{◌≡◌, ℕ, Bool, true, false, not, ◌&&◌, ◌||◌, if◌then◌else◌, List, [], ◌∷◌, ◌++◌, Option, Some, None, is_some, refl, sym, subst, ◌∙◌, Host, same_host, Flow, Answer, same_host-true, is_receive_socket, is_send_socket, Command, desk_of, entry_at, free_link, is_receiving, receiving_end, sending_end, PairState, link_of, is_ready, TurnState, Entry, Phase, turn_of, NcpState, pair_with, with_pair, Peer, Request}
 use Rattle.interface.specs.declared.crossing.Answer.TheVariants as answer
 use Rattle.interface.specs.declared.crossing.Inbound.TheVariants as inbound
-use Rattle.interface.proofs.lemmas.{or_false}
+use Rattle.interface.proofs.lemmas.{or_false, not_false}
 use Rattle.ncp_control.specs.declared.command.Command.TheVariants as command
 use Rattle.host_pairs.specs.Asked.{closed_end, commanded, contacted, interrupt_of, receiver_requested, requested, with_end, with_more_bits}
 use Rattle.host_pairs.specs.Commands.{granted}
@@ -18,7 +18,7 @@ use Rattle.sockets.specs.declared.request.Request.TheVariants as request
 use Rattle.sockets.proofs.lemmas.{not_first, others_stay}
 use Rattle.host_keeps_pairing.proofs.lemmas.{peer_here}
 use Rattle.world_keeps_pairing.proofs.Claims.{Claim}
-use Rattle.world_keeps_pairing.proofs.LinkDesks.{linked_settled, receiver_joined}
+use Rattle.world_keeps_pairing.proofs.LinkDesks.{linked_settled, receiver_joined, off_link}
 use Rattle.world_keeps_pairing.proofs.LinkTurns.{send_odd}
 use Rattle.world_keeps_pairing.proofs.Local.{IsQuiet, Links, all_claims, claim_of, claims_join, links_changed, links_joined}
 
@@ -34,17 +34,9 @@ kept P g h q peers p work = by (same_host h g) refl where
   by true e = peer_here P g h q peers e (work (subst (λ (x : Host). P (pair_with x peers)) (same_host-true h g e) p))
   by false e = subst P (sym (others_stay g h q peers e)) p
 
-not_off : (b : Bool) → not b ≡ false → b ≡ true
-not_off true e = refl
-not_off false e = absurd (let no : true ≡ false = e in cc)
-
 none_is : (o : Option Entry) → is_some o ≡ false → o ≡ None
 none_is None e = refl
 none_is (Some x) e = absurd (let no : true ≡ false = e in cc)
-
-off_link : (b : Bool) → (b && false) ≡ true → ⊥
-off_link true e = absurd (let no : false ≡ true = e in cc)
-off_link false e = absurd (let no : false ≡ true = e in cc)
 
 module _ (said taken : List Claim) where
   -- a command that is no RTS is queued
@@ -93,10 +85,10 @@ module _ (said taken : List Claim) where
   request_links s (request.OpenSend peer mine yours size) h ok k =
       let parts : (not (is_send_socket mine && is_receive_socket yours) ≡ false) × (first_if (is_taken s peer mine yours) _ _ ≡ None) = not_first (not (is_send_socket mine && is_receive_socket yours)) _ _ (not_first (not (is_ready (pair_with peer s.peers).phase)) _ _ ok).1 in
       kept (LinksOf said taken) peer h (requested (sending_end mine yours size) (command.Str mine yours size) (pair_with peer s.peers)) s.peers k
-      (sender_links mine yours size (pair_with peer s.peers) (both (is_send_socket mine) (is_receive_socket yours) (not_off (is_send_socket mine && is_receive_socket yours) parts.0)).0)
+      (sender_links mine yours size (pair_with peer s.peers) (both (is_send_socket mine) (is_receive_socket yours) (not_false (is_send_socket mine && is_receive_socket yours) parts.0)).0)
   request_links s (request.OpenReceive peer mine yours) h ok k =
       let parts : (not (is_receive_socket mine && is_send_socket yours) ≡ false) × (first_if (is_taken s peer mine yours) _ _ ≡ None) = not_first (not (is_receive_socket mine && is_send_socket yours)) _ _ (not_first (not (is_ready (pair_with peer s.peers).phase)) _ _ ok).1 in
-      let sockets : (is_receive_socket mine ≡ true) × (is_send_socket yours ≡ true) = both (is_receive_socket mine) (is_send_socket yours) (not_off (is_receive_socket mine && is_send_socket yours) parts.0) in
+      let sockets : (is_receive_socket mine ≡ true) × (is_send_socket yours ≡ true) = both (is_receive_socket mine) (is_send_socket yours) (not_false (is_receive_socket mine && is_send_socket yours) parts.0) in
       kept (LinksOf said taken) peer h (receiver_requested mine yours (free_link (pair_with peer s.peers).entries) (pair_with peer s.peers)) s.peers k
       (receiver_links mine yours (free_link (pair_with peer s.peers).entries) (pair_with peer s.peers) sockets.0 sockets.1 refl (untaken s peer mine yours (not_first (is_taken s peer mine yours) _ _ parts.1).0))
   request_links s (request.Send socket bits) h ok k =

@@ -15,6 +15,7 @@ use Rattle.host_pairs.specs.Entries.{closed_by_partner, closed_when, cls_of, con
 use Rattle.host_pairs.proofs.lemmas.{both}
 use Rattle.world_keeps_pairing.proofs.Claims.{Claim, last_link}
 use Rattle.world_keeps_pairing.proofs.Local.{IsQuiet, Links, One, all_claims, claim_first, claim_of, claims_join, links_changed, links_filter, links_heard, links_joined, links_linked, links_map, links_said, none_found}
+use Rattle.interface.proofs.lemmas.{not_true}
 
 -- a desk's ends have the links that were said and heard
 abbrev pub Linked : List Claim → List Claim → DeskState → Type 0
@@ -26,7 +27,7 @@ cls_claims : (es : List Entry) (claims : List Claim) → all_claims (map cls_of 
 cls_claims [] claims = refl
 cls_claims (e ∷ es) claims = cls_claims es claims
 
-off_link : (b : Bool) → (b && false) ≡ true → ⊥
+pub off_link : (b : Bool) → (b && false) ≡ true → ⊥
 off_link true e = absurd (let both : false ≡ true = e in cc)
 off_link false e = absurd (let both : false ≡ true = e in cc)
 
@@ -36,10 +37,6 @@ find_some test (y ∷ xs) x e = by (test y) refl (λ k. find_some test xs x k) w
   by : (b : Bool) → test y ≡ b → (find test xs ≡ Some x → test x ≡ true) → test x ≡ true
   by true t rest = let same : Some y ≡ Some x = rw t at e in let is : y ≡ x = cc in ap test (sym is) ∙ t
   by false t rest = rest (rw t at e)
-
-not_true : (b : Bool) → not b ≡ true → b ≡ false
-not_true true e = absurd (let both : false ≡ true = e in cc)
-not_true false e = refl
 
 free_is : (es : List Entry) (link : ℕ) → free_link es ≡ Some link → list_any (receives_on link) es ≡ false
 free_is es link e = not_true (list_any (receives_on link) es) (find_some (λ l. not (list_any (receives_on l) es)) connection_links link e)

@@ -1,6 +1,7 @@
 -- Links are free over all moments, so two programs are tied to the law.
 use Rattle.world_keeps_pairing.proofs.Common.{◌≡◌, ℕ, Bool, true, false, ◌&&◌, if◌then◌else◌, List, ◌∷◌, None, refl, ap, sym, subst, ◌∙◌, zero, suc, ◌+◌, ◌<◌, ◌≤◌, ◌==◌, ◌++◌, length, Option, Some, eq-eqb, arith, Host, same_host, HostMessage, same_host-true, IsRanged, AreCommands, accepted, pair_with, refusal, offered, message_leaves, offer_leaves, PairState, Receiver, Sender, Word, Sockets, placed_event, with_box, with_place, boxes, In, Message, Other, Out, Reply, Reset, are, place, event_of, message_on, Asked, Crossed, IsNext, IsStory, Moment, events_of, places, program, by_request, Coupled, coupled, NameFree, NamesFreeAt, TakesFreeAt, law_events, origin_in, all_said, steps, words_of, eqb-true, Contains, IsCommand, is_receive_socket, is_send_socket, Command, is_link, Closing, Entry, pair_range, HasEnd, Stand, Standing, close_waits, request_due, standing, mark_of, marks, End, Mark, Ask, Close, HaveAddresses, IsTimeline, crossings_of}
 use Rattle.std.proofs.Common.{[], slice_index_or}
+use Rattle.std.proofs.lemmas.Bool.{and_right}
 use Rattle.interface.specs.declared.crossing.Crossing.TheVariants as crossing
 use Rattle.interface.specs.declared.crossing.Inbound.TheVariants as inbound
 use Rattle.reset_law.specs.Runs.{IsRun}
@@ -32,10 +33,6 @@ heard_off_in a b x y l Reset e = refl
 heard_off_in a b x y l Reply e = refl
 heard_off_in a b x y l (Other text) e = rw e refl
 
-and_off : (c d : Bool) → d ≡ false → (c && d) ≡ false
-and_off true d e = e
-and_off false d e = refl
-
 -- all pairs of hosts
 pub record AllTied (origin : Host → Host → ℕ → ℕ) (moments : List Moment) : Type 0 where
   pub tied : (a b : Host) → Tied origin a b moments
@@ -49,7 +46,7 @@ module _ (origin : Host → Host → ℕ → ℕ) (hosts : List Host) (ranged_at
   out_names a b m moments story ranged t true true e f = (out_here origin a b m moments story ranged (t.tied a b) (t.tied b a) (t.linked a b) e f).0
   out_names a b m moments story ranged t true false e f =
       subst (λ (ts : List (List Bool)). NameFree (words_of Receiver ts) (all_said Sender (words_of Sender (stay.said_by b a 0 (placed_event (event_of (crossing.Out m)) (events_of moments)))) (steps a b (law_events moments))))
-      (sym (said_off a b m.flow.source m.flow.destination m.flow.link.0 (with_place (place (events_of moments)) (message_on m.flow.link.0 m.text)) (and_off (same_host a m.flow.source) (same_host b m.flow.destination) f))) tt
+      (sym (said_off a b m.flow.source m.flow.destination m.flow.link.0 (with_place (place (events_of moments)) (message_on m.flow.link.0 m.text)) (and_right (same_host a m.flow.source) (same_host b m.flow.destination) f))) tt
   out_names a b m moments story ranged t false d e f =
       subst (λ (ts : List (List Bool)). NameFree (words_of Receiver ts) (all_said Sender (words_of Sender (stay.said_by b a 0 (placed_event (event_of (crossing.Out m)) (events_of moments)))) (steps a b (law_events moments))))
       (sym (said_off a b m.flow.source m.flow.destination m.flow.link.0 (with_place (place (events_of moments)) (message_on m.flow.link.0 m.text)) (ap (λ (x : Bool). x && same_host b m.flow.destination) e))) tt
@@ -78,7 +75,7 @@ module _ (origin : Host → Host → ℕ → ℕ) (hosts : List Host) (ranged_at
   out_linked a b m moments story ranged t true false e f =
       let n : IsNext (program a moments) m = subst (λ (y : Host). IsNext (program y moments) m) (sym (same_host-true a m.flow.source e)) story.0 in
       let away : same_host b n.peer.host ≡ false = ap (λ (y : HostMessage). same_host b y.flow.destination) (sym n.message) ∙ f in
-      out_quiet a b m moments (and_off (same_host a m.flow.source) (same_host b m.flow.destination) f)
+      out_quiet a b m moments (and_right (same_host a m.flow.source) (same_host b m.flow.destination) f)
       (if_links _ _ b (same_host a m.flow.source) (offered (program a moments) (places moments)).0 (program a moments)
       (λ x. subst (λ (p : PairState). LinksOf (said_claims (steps a b (law_events moments))) (heard_claims (steps b a (law_events moments))) p) (sym (offer_leaves (program a moments) (places moments) n.peer n.parcel b n.next away)) (t.linked a b)) (t.linked a b))
   out_linked a b m moments story ranged t false d e f =
@@ -104,7 +101,7 @@ module _ (origin : Host → Host → ℕ → ℕ) (hosts : List Host) (ranged_at
       (if_links _ _ b (same_host a m.flow.destination) (accepted (program a moments) (inbound.Message m) (places moments)).0 (program a moments)
       (λ x. subst (λ (p : PairState). LinksOf (said_claims (steps a b (law_events moments))) (heard_claims (steps b a (law_events moments))) p) (sym (message_leaves (program a moments) m (places moments) b f)) (t.linked a b)) (t.linked a b))
   in_links a b m moments story run ranged from t false d e f =
-      in_quiet a b m moments (and_off (same_host b m.flow.source) (same_host a m.flow.destination) e)
+      in_quiet a b m moments (and_right (same_host b m.flow.source) (same_host a m.flow.destination) e)
       (subst (λ (x : Bool). LinksOf (said_claims (steps a b (law_events moments))) (heard_claims (steps b a (law_events moments))) (pair_with b (if x then (accepted (program a moments) (inbound.Message m) (places moments)).0 else program a moments).peers)) (sym e) (t.linked a b))
 
   -- ---- each moment

@@ -15,6 +15,7 @@ use Rattle.world_keeps_pairing.proofs.Local.{AllOff, Each, Links, One, SendsBy, 
 use Rattle.world_keeps_pairing.proofs.Marks.{IsPair, order_at}
 use Rattle.world_keeps_pairing.proofs.Moves.{hears_end, sender_fits}
 use Rattle.world_keeps_pairing.proofs.Sides.{sender_hears}
+use Rattle.interface.proofs.lemmas.{not_true}
 
 -- ---- sockets
 
@@ -30,10 +31,6 @@ send_odd n e = by (is_receive_socket n) refl where
   by : (b : Bool) → is_receive_socket n ≡ b → b ≡ false
   by true f = absurd (let a : n % 2 ≡ 0 = eqb-true (n % 2) 0 f in let c : n % 2 ≡ 1 = eqb-true (n % 2) 1 e in omega (arith, a, c))
   by false f = refl
-
-not_true : (b : Bool) → not b ≡ true → b ≡ false
-not_true true e = absurd (let both : false ≡ true = e in cc)
-not_true false e = refl
 
 -- ---- one end of two sockets
 

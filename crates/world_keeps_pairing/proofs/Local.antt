@@ -279,7 +279,7 @@ each_first Q R test change (e ∷ es) one here there h = by (test e) refl (λ k.
       (here e t h.0, each_both (λ x. test x ≡ false) Q R es (λ x f k. there x f k) (off_each test es off) h.1)
   by false t rest = let more : One (map test es) = rw t at one in (there e t h.0, rest more)
 
-at_sockets : (own foreign : ℕ) (e : Entry) → is_at own foreign e ≡ true → (e.own ≡ own) × (e.foreign ≡ foreign)
+pub at_sockets : (own foreign : ℕ) (e : Entry) → is_at own foreign e ≡ true → (e.own ≡ own) × (e.foreign ≡ foreign)
 at_sockets own foreign e t = let h : ((e.own == own) ≡ true) × ((e.foreign == foreign) ≡ true) = both (e.own == own) (e.foreign == foreign) t in (eqb-true e.own own h.0, eqb-true e.foreign foreign h.1)
 
 link_same : (l link : ℕ) (own : Bool) → (own && is_link l (Some link)) ≡ true → Some link ≡ Some l

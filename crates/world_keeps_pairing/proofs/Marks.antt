@@ -5,6 +5,7 @@ use Rattle.host_pairs.proofs.lemmas.{both}
 use Rattle.pairing_law.proofs.lemmas.{at}
 use Rattle.world_keeps_pairing.specs.Steps.{word}
 use Rattle.world_keeps_pairing.proofs.Sides.{at_texts}
+use Rattle.interface.proofs.lemmas.{and_turned}
 
 -- a receiving socket and a sending one
 abbrev pub IsPair : Sockets → Type 0
@@ -17,12 +18,6 @@ own_of Sender s = s.send
 abbrev pub foreign_of : Who → Sockets → ℕ
 foreign_of Receiver s = s.send
 foreign_of Sender s = s.receive
-
-pub and_turned : (s t : Bool) → (s && t) ≡ (t && s)
-and_turned true true = refl
-and_turned true false = refl
-and_turned false true = refl
-and_turned false false = refl
 
 pub even_odd : (n : ℕ) → is_receive_socket n ≡ true → is_send_socket n ≡ true → ⊥
 even_odd n e o = let a : n % 2 ≡ 0 = eqb-true (n % 2) 0 e in let b : n % 2 ≡ 1 = eqb-true (n % 2) 1 o in absurd (omega (arith, a, b))

@@ -74,7 +74,7 @@ sender_speaks (w ∷ ws) xs p h may =
 
 -- ---- what is heard fits
 
-under_heard : (who : Who) (ws : List Word) (xs : List Step) → AreSteps (all_heard who ws xs) → AreSteps xs
+pub under_heard : (who : Who) (ws : List Word) (xs : List Step) → AreSteps (all_heard who ws xs) → AreSteps xs
 under_heard who [] xs h = h
 under_heard who (w ∷ ws) xs h = (under_heard who ws (Hears who w ∷ xs) h).1
 

@@ -224,7 +224,7 @@ unsaid_if : (b : Bool) (ms : List Mark) (x : Side) → Unsaid x.end → Unsaid (
 unsaid_if true ms x h = all_unsaid ms x h
 unsaid_if false ms x h = h
 
-met_end : (g : Bool) (x : Side) → (met_if g x).end ≡ x.end
+pub met_end : (g : Bool) (x : Side) → (met_if g x).end ≡ x.end
 met_end true x = refl
 met_end false x = refl
 

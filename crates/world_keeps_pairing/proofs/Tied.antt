@@ -21,6 +21,7 @@ use Rattle.world_keeps_pairing.proofs.Moments.{Side_of, Tie, answer_turn, asked_
 use Rattle.world_keeps_pairing.proofs.Programs.{AnRrp, AnRst, AText, Sort, sort_of}
 use Rattle.world_keeps_pairing.proofs.Turns.{heard_is}
 use Rattle.world_keeps_pairing.proofs.Messages.{Hears, IsFrom, are_same, boxed, boxed_is, in_turn, place_in, stays_as}
+use Rattle.world_keeps_pairing.proofs.Moves.{under_heard}
 
 -- ---- what a host says may be said
 
@@ -116,10 +117,6 @@ under_left false who xs h = h.1
 under_met : (begin : Bool) (xs : List Step) → AreSteps (met begin xs) → AreSteps xs
 under_met true xs h = h.1
 under_met false xs h = h
-
-under_heard : (who : Who) (ws : List Word) (xs : List Step) → AreSteps (all_heard who ws xs) → AreSteps xs
-under_heard who [] xs h = h
-under_heard who (w ∷ ws) xs h = (under_heard who ws _ h).1
 
 pub under_heard_in : (b : Bool) (who : Who) (ws : List Word) (xs : List Step) → AreSteps (heard_in b who ws xs) → AreSteps xs
 under_heard_in true who ws xs h = under_heard who ws xs h

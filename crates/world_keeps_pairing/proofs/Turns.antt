@@ -4,7 +4,7 @@ use Rattle.ncp_control.specs.Phases as program_phases
 use Rattle.host_keeps_pairing.specs.Ends.{kept_in}
 use Rattle.pairing_law.proofs.lemmas.{pair_same}
 use Rattle.reset_law.specs.Stays as stay
-use Rattle.world_keeps_pairing.proofs.Sides.{all_says, at_texts, before, hears_if, left_if, met_if}
+use Rattle.world_keeps_pairing.proofs.Sides.{all_says, at_texts, before, hears_if, left_if, met_if, met_end}
 use Rattle.world_keeps_pairing.proofs.Marks.{IsPair, foreign_of, own_of, text_at}
 use Rattle.world_keeps_pairing.proofs.Programs.{AnRrp, AnRst, AText, Sort, read_marks, sort_of}
 
@@ -69,10 +69,6 @@ heard_is s pair Receiver place text = text_at s pair Sender place text
 heard_is s pair Sender place text = text_at s pair Receiver place text
 
 -- ---- one event
-
-met_end : (g : Bool) (x : Side) → (met_if g x).end ≡ x.end
-met_end true x = refl
-met_end false x = refl
 
 pub hears_none : (b : Bool) (x : Side) → (hears_if b [] x).end ≡ x.end
 hears_none true x = refl

@@ -5,8 +5,8 @@ use Rattle.interface.specs.declared.crossing.Crossing.TheVariants as crossing
 use Rattle.ncp_control.specs.declared.command.Command.TheVariants as command
 use Rattle.host_pairs.proofs.lemmas.{both}
 use Rattle.net_sim.proofs.lemmas.{cleared_waits, fetched_waits}
-use Rattle.world_keeps_pairing.proofs.Marks.{and_turned}
 use Rattle.world_keeps_pairing.proofs.Programs.{read_marks}
+use Rattle.interface.proofs.lemmas.{and_turned}
 
 -- neither a receiving socket with a sending one, nor the other way
 abbrev pub IsUnpaired : ℕ → ℕ → Type 0

@@ -1,9 +1,7 @@
 -- Small facts of truth values, numbers and lists.
 use Rattle.world_keeps_streams.proofs.Common.{◌≡◌, ◌≤◌, ◌==◌, ◌&&◌, not, ℕ, suc, Bool, true, false, if◌then◌else◌}
 use Rattle.world_keeps_streams.proofs.Common.{List, [], ◌∷◌, length, refl, ap, sym, ◌∙◌, arith, ne_eqb}
-
-pub unlike : (v : Bool) → v ≡ true → v ≡ false → ⊥
-unlike v e f = let same : true ≡ false = sym e ∙ f in absurd (cc)
+use Rattle.interface.proofs.lemmas.{unlike}
 
 pub clash : {A : Type 0} (v : Bool) → v ≡ true → v ≡ false → A
 clash v e f = absurd (unlike v e f)
@@ -13,10 +11,6 @@ untrue e = unlike false e refl
 
 pub unfalse : true ≡ false → ⊥
 unfalse e = unlike true refl e
-
-pub and_off : (b : Bool) → (b && false) ≡ false
-and_off true = refl
-and_off false = refl
 
 pub middle_off : (a b c : Bool) → b ≡ false → (a && b && c) ≡ false
 middle_off true b c e = ap (λ (v : Bool). v && c) e

@@ -16,6 +16,7 @@ import os
 import re
 import shutil
 from collections import Counter, defaultdict
+from collections.abc import Iterator
 from dataclasses import dataclass
 
 from workshop.documents import dead
@@ -137,6 +138,16 @@ def parsed(folder: str, prefix: str) -> dict[str, Source]:
     return found
 
 
+def passed_by(source: Source) -> Iterator[str]:
+    """The names that a file imports and passes on."""
+    for line in text_of(source.path).split("\n"):
+        found = dead.USE.match(line)
+        if found and found[1] and found[3]:
+            for it in found[3].split(","):
+                name, _, local = it.partition(" as ")
+                yield (local or name).strip()
+
+
 @functools.cache
 def of_std() -> dict[str, str]:
     """What std states in lemmas that others may take: each statement, and where. Nothing without a toolchain."""
@@ -148,13 +159,13 @@ def of_std() -> dict[str, str]:
     for crate in ("std", "core"):
         every |= parsed(f"{folder}/{crate}/proofs", f"Rattle.{crate}.proofs")
     lent = {module: source for module, source in every.items() if "/std/proofs/lemmas/" in source.path}
-    passed = {it: f"{module}.{name}" for module, source in lent.items() for name, it in source.imports.items()}
+    passed = {source.imports[name]: f"{module}.{name}" for module, source in lent.items() for name in passed_by(source)}
     found: dict[str, str] = {}
     for module, source in every.items():
         lines = text_of(source.path).split("\n")
         for said, lemma in lemmas(every, module):
-            own = f"{module}.{lemma.name}" if module in lent else None
-            if lines[lemma.line - 1].startswith("pub ") and (name := passed.get((module, lemma.name), own)):
+            own = f"{module}.{lemma.name}" if module in lent else passed.get((module, lemma.name))
+            if lines[lemma.line - 1].startswith("pub ") and (name := own):
                 found.setdefault(said, name)
     return found
 

@@ -6,9 +6,10 @@ use Rattle.book_judge.specs.Inside.Deeds.{end_by}
 use Rattle.std.proofs.Common.{eq-eqb, leb-true, max, nat_le}
 use Rattle.book_judge.specs.Inside.Made.{Counts, HasBits, IsMadeBy, Makes, since}
 use Rattle.book_judge.specs.Lives.{UnmadeAt}
-use Rattle.book_judge.proofs.Named.{contains_cases, contains_head, contains_none, contains_tail}
+use Rattle.book_judge.proofs.Named.{contains_cases}
 use Rattle.book_judge.proofs.Crossed.TextsBy.{before_take, data_read, texts_past, texts_same}
 use Rattle.book_judge.proofs.Ends.Reached.{all_crossings}
+use Rattle.interface.proofs.lemmas.{contains_head, contains_tail, contains_none}
 
 -- ---- one life
 
@@ -183,7 +184,7 @@ more_cases (z ∷ xs) x y c = elim (contains_cases z (xs ++ x ∷ []) y c) [
 ]
 
 -- one life more
-more_is : (lives : List Life) (place : ℕ) (x : Life) → place < length lives → x ≡ get_or lives place x
+pub more_is : (lives : List Life) (place : ℕ) (x : Life) → place < length lives → x ≡ get_or lives place x
     → take (place + 1) lives ≡ take place lives ++ x ∷ []
 more_is lives place x lt at = take_more lives place x lt ∙ ap (λ (z : Life). take place lives ++ z ∷ []) (sym at)
 

@@ -635,11 +635,6 @@ named_message comes from to own foreign place log c m at got flow =
     (named_there comes from to own foreign place log ∙ ap (λ (o : Option Crossing). named_of own foreign (texts_at comes (control_flow from to) o)) at
     ∙ ap (named_of own foreign) (text_by comes c m (control_flow from to) (sym got) ∙ (let same : same_flow (control_flow from to) m.flow ≡ true = same_flow_is (control_flow from to) m.flow flow in ap (λ (b : Bool). if b then m.text ∷ [] else []) same)))
 
-pub slice_none : {X : Type 0} (xs : List X) (i : ℕ) → length xs ≤ i → slice_get xs i ≡ None
-slice_none [] i past = refl
-slice_none {X} (x ∷ xs) zero past = absurd (omega (arith, past))
-slice_none {X} (x ∷ xs) (suc i) past = slice_none xs i (omega (arith, past))
-
 pub unnamed_place : (comes : Bool) (from to : Host) (own foreign place : ℕ) (log : List Crossing)
     → slice_get log place ≡ None → None ≡ named_at comes from to own foreign place (reverse log)
 unnamed_place comes from to own foreign place log none = sym (named_there comes from to own foreign place log ∙ ap (λ (o : Option Crossing). named_of own foreign (texts_at comes (control_flow from to) o)) none)

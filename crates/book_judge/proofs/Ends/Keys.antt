@@ -1,4 +1,5 @@
 -- The order of keys, and the map that a list of entries by key makes.
+pub use Rattle.interface.proofs.lemmas.{is_equal}
 use Rattle.book_judge.proofs.Common.{◌≡◌, ℕ, Bool, true, false, ◌&&◌, ◌==◌, List, [], ◌∷◌, Some, refl, ap, sym, subst, ◌∙◌, cond, if◌then◌else◌, lookup, is_at, eq_by_cmp, is_eq, nat_cmp, eq_by_cmp_equiv, nat_cmp_total, Ordering, Equal, Greater, Less, FinMap, find, from_entries, get, get-from_entries, get-insert, insert, same_map, and_from, eqb-true, false≢true, exact_unsigned, Host, same_host, and_true, both_ways, same_host-refl, same_host-true, Key, same_bit, key_cmp, same_key}
 use Rattle.std.specs.Ordering.{bool_cmp, ordering_then}
 use Rattle.std.specs.Cmp.{IsTotalOrder, bool_cmp_total}
@@ -7,6 +8,7 @@ use Rattle.std.proofs.lemmas.Cmp.{on_total, then_total}
 use Rattle.std.proofs.lemmas.Map.Lookups.{CmpEqualImpliesEq, exact_pairs}
 use Rattle.interface.specs.Host.{host_cmp}
 use Rattle.interface.proofs.lemmas.{exact_hosts, hosts_total}
+use Rattle.book_judge.proofs.Crossed.SameText.{same_bit-true, same_bit-refl}
 
 -- ---- their order
 
@@ -74,16 +76,6 @@ key_set es ds k v h = same_map keys_total exact_keys _ _ (λ q.
 
 -- ---- keys that are one
 
-same_bits : (a b : Bool) → same_bit a b ≡ true → a ≡ b
-same_bits true true e = refl
-same_bits false false e = refl
-same_bits true false e = absurd (false≢true e)
-same_bits false true e = absurd (false≢true e)
-
-way_itself : (a : Bool) → same_bit a a ≡ true
-way_itself true = refl
-way_itself false = refl
-
 pub same_key-true : (a b : Key) → same_key a b ≡ true → a ≡ b
 same_key-true a b e =
     let foreign = and_true
@@ -99,7 +91,7 @@ same_key-true a b e =
     let p : a.place ≡ b.place = sym (eqb-true b.place a.place place.1) in
     let h : a.host ≡ b.host = same_host-true a.host b.host host.1 in
     let q : a.peer ≡ b.peer = same_host-true a.peer b.peer peer.1 in
-    let w : a.comes ≡ b.comes = same_bits a.comes b.comes place.0 in
+    let w : a.comes ≡ b.comes = same_bit-true a.comes b.comes place.0 in
     let o : a.own ≡ b.own = sym (eqb-true b.own a.own own.1) in
     let f : a.foreign ≡ b.foreign = sym (eqb-true b.foreign a.foreign foreign.1) in
     λ i. record { place = p i; host = h i; peer = q i; comes = w i; own = o i; foreign = f i }
@@ -108,13 +100,8 @@ pub same_key-refl : (k : Key) → same_key k k ≡ true
 same_key-refl k =
     and_from _ (k.foreign == k.foreign) (and_from _ (k.own == k.own) (and_from _ (same_host k.peer k.peer)
     (and_from _ (same_host k.host k.host)
-    (and_from (same_bit k.comes k.comes) (k.place == k.place) (way_itself k.comes) (eq-eqb k.place k.place refl))
+    (and_from (same_bit k.comes k.comes) (k.place == k.place) (same_bit-refl k.comes) (eq-eqb k.place k.place refl))
     (same_host-refl k.host)) (same_host-refl k.peer)) (eq-eqb k.own k.own refl)) (eq-eqb k.foreign k.foreign refl)
-
-is_equal : (o : Ordering) → is_eq o ≡ true → o ≡ Equal
-is_equal Less e = absurd (cc)
-is_equal Equal e = refl
-is_equal Greater e = absurd (cc)
 
 alike_keys : (a b : Key) → eq_by_cmp key_cmp a b ≡ same_key a b
 alike_keys a b = both_ways (eq_by_cmp key_cmp a b) (same_key a b)

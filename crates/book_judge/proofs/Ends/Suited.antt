@@ -5,6 +5,7 @@ use Rattle.std.proofs.lemmas.Bool.{not-true}
 use Rattle.std.specs.List.{slice_get}
 use Rattle.promise.specs.declared.life.Fate.TheVariants as fate
 use Rattle.book_judge.proofs.Ends.Reached.{all_crossings}
+use Rattle.book_judge.proofs.Crossed.Made.{more_is}
 
 -- ---- deeds of a text
 
@@ -63,10 +64,6 @@ beside_more (z ∷ lives) x y f [] b = absurd b
 beside_more (z ∷ lives) x y f (g ∷ fates) b =
     elim b [ inl e ↦ inl e | inr r ↦ inr (beside_more lives x y f fates r) ]
 
-more_lives : (lives : List Life) (place : ℕ) (x : Life) → place < length lives → x ≡ get_or lives place x
-    → take (place + 1) lives ≡ take place lives ++ x ∷ []
-more_lives lives place x h at = take_more lives place x h ∙ ap (λ (z : Life). take place lives ++ z ∷ []) (sym at)
-
 -- the life at a place, and its fate, if it has one
 pub record IsAt (lives : List Life) (fates : List Fate) (place : ℕ) (x : Life) (o : Option Fate) : Type 0 where
   pub less : place < length lives
@@ -84,20 +81,20 @@ module _ (lives : List Life) (fates : List Fate) (place : ℕ) (x : Life) (o : O
   at_last y f b =
       elim
       (beside_last (take place lives) y x f fates
-      (subst (λ (xs : List Life). IsBeside y f xs fates) (more_lives lives place x h.less h.life) b)) [
+      (subst (λ (xs : List Life). IsBeside y f xs fates) (more_is lives place x h.less h.life) b)) [
         | inl e ↦ inl (e.0, h.said ∙ ap (slice_get fates) (sym counted) ∙ e.1)
         | inr r ↦ inr r
       ]
 
   pub at_here : (f : Fate) → o ≡ Some f → IsBeside x f (take (place + 1) lives) fates
   at_here f e =
-      subst (λ (xs : List Life). IsBeside x f xs fates) (sym (more_lives lives place x h.less h.life))
+      subst (λ (xs : List Life). IsBeside x f xs fates) (sym (more_is lives place x h.less h.life))
       (beside_there (take place lives) x f fates (ap (slice_get fates) counted ∙ sym h.said ∙ e))
 
   pub at_older : (y : Life) (f : Fate) → IsBeside y f (take place lives) fates
       → IsBeside y f (take (place + 1) lives) fates
   at_older y f b =
-      subst (λ (xs : List Life). IsBeside y f xs fates) (sym (more_lives lives place x h.less h.life))
+      subst (λ (xs : List Life). IsBeside y f xs fates) (sym (more_is lives place x h.less h.life))
       (beside_more (take place lives) y x f fates b)
 
 -- what suits a life by its stage

@@ -34,7 +34,7 @@ dropped_none : (d : Direction) (w : Wire) → frames_on d w ≡ [] → dropping 
 dropped_none way.Forward w none = ap (λ (frames : List Frame). record w { forward = take 0 frames ++ drop 1 frames }) none ∙ ap (λ (frames : List Frame). record w { forward = frames }) (sym none)
 dropped_none way.Back w none = ap (λ (frames : List Frame). record w { back = take 0 frames ++ drop 1 frames }) none ∙ ap (λ (frames : List Frame). record w { back = frames }) (sym none)
 
-no_frame_in : (d : Direction) → frames_on d no_wire ≡ []
+pub no_frame_in : (d : Direction) → frames_on d no_wire ≡ []
 no_frame_in way.Forward = refl
 no_frame_in way.Back = refl
 

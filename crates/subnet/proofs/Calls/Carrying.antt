@@ -8,13 +8,6 @@ use Rattle.subnet.specs.Alive.{packets_on, carries}
 use Rattle.subnet.specs.Net.{Wire}
 use Rattle.subnet.specs.Inside.Seeking.{packet_is, frame_has}
 
--- the number may be compared before the flow
-pub number_first : (a b : Bool) → (a && b) ≡ (b && a)
-number_first true true = refl
-number_first true false = refl
-number_first false true = refl
-number_first false false = refl
-
 -- nothing is under way where no frame is
 pub none_under_way : (q : Sought) (frames : List Frame) → length frames ≡ 0 → list_any (frame_has q) frames ≡ false
 none_under_way q [] none = refl
@@ -24,7 +17,7 @@ or_assoc : (a b c : Bool) → (a || (b || c)) ≡ ((a || b) || c)
 or_assoc true b c = refl
 or_assoc false b c = refl
 
-any_append : {X : Type 0} (test : X → Bool) (xs ys : List X) → list_any test (xs ++ ys) ≡ (list_any test xs || list_any test ys)
+pub any_append : {X : Type 0} (test : X → Bool) (xs ys : List X) → list_any test (xs ++ ys) ≡ (list_any test xs || list_any test ys)
 any_append test [] ys = refl
 any_append test (x ∷ xs) ys = ap (λ (b : Bool). test x || b) (any_append test xs ys) ∙ or_assoc (test x) (list_any test xs) (list_any test ys)
 

@@ -5,7 +5,7 @@ use Rattle.std.specs.FinMap as finite
 use Rattle.std.specs.FinMap.{get-empty}
 use Rattle.std.specs.List.{flat_map, list_any}
 use Rattle.std.proofs.Math.Nat.{le-max_left, le-max_right}
-use Rattle.std.proofs.lemmas.Bool.{cases_Bool}
+use Rattle.std.proofs.lemmas.Bool.{cases_Bool, or_from}
 use Rattle.std.proofs.lemmas.List.{get_or-set_other}
 use Rattle.std.proofs.lemmas.List.Elements.{All-nil, All-cons, All-head, All-tail, All-append, All-set, All-weaker, All-contains, All-contains_itself}
 use Rattle.std.proofs.lemmas.List.Folds.{list_any_none}
@@ -208,10 +208,6 @@ messages_low h n is low = imps_all (MessageUpTo h n.imps) n.imps (λ i. by i (im
 
 -- ---- so no higher number is alive
 
-neither : (a b : Bool) → a ≡ false → b ≡ false → (a || b) ≡ false
-neither true b is other = absurd (cc)
-neither false b is other = other
-
 -- what no packet and no message passes is nowhere
 imps_none : (test : PacketFields → Bool) (asked : Message → Bool) (imps : List (Option State)) → All (λ p. test p ≡ false) (flat_map packets_at_imp imps) → All (λ m. asked m ≡ false) (flat_map messages_at_imp imps)
     → list_any (says (λ s. list_any test (contents.packets s) || list_any asked (contents.messages s))) imps ≡ false
@@ -222,12 +218,12 @@ imps_none test asked (o ∷ imps) ps ms =
     let question : State → Bool = λ s. list_any test (contents.packets s) || list_any asked (contents.messages s) in
     let here : says question o ≡ false = at o (All_left P (packets_at_imp o) (flat_map packets_at_imp imps) ps) (parts_left Q (messages_at_imp o) (flat_map messages_at_imp imps) ms) in
     let rest : list_any (says question) imps ≡ false = imps_none test asked imps (All_right P (packets_at_imp o) (flat_map packets_at_imp imps) ps) (parts_right Q (messages_at_imp o) (flat_map messages_at_imp imps) ms) in
-    neither (says question o) (list_any (says question) imps) here rest
+    or_from (says question o) (list_any (says question) imps) here rest
   where
     at : (x : Option State) → All (λ p. test p ≡ false) (packets_at_imp x) → All (λ m. asked m ≡ false) (messages_at_imp x) → says (λ s. list_any test (contents.packets s) || list_any asked (contents.messages s)) x ≡ false
     at None qs ns = refl
     at (Some s) qs ns =
-        neither (list_any test (contents.packets s)) (list_any asked (contents.messages s)) (list_any_none test (contents.packets s) qs) (list_any_none asked (contents.messages s) ns)
+        or_from (list_any test (contents.packets s)) (list_any asked (contents.messages s)) (list_any_none test (contents.packets s) qs) (list_any_none asked (contents.messages s) ns)
 
 lines_none : (test : PacketFields → Bool) (lines : List Wire) → All (λ p. test p ≡ false) (flat_map packets_on_wire lines) → list_any (carries test) lines ≡ false
 lines_none test [] ps = refl
@@ -235,7 +231,7 @@ lines_none test (w ∷ ws) ps =
     let P : PacketFields → Type 0 = λ p. test p ≡ false in
     let here : carries test w ≡ false = list_any_none test (packets_on_wire w) (All_left P (packets_on_wire w) (flat_map packets_on_wire ws) ps) in
     let rest : list_any (carries test) ws ≡ false = lines_none test ws (All_right P (packets_on_wire w) (flat_map packets_on_wire ws) ps) in
-    neither (carries test w) (list_any (carries test) ws) here rest
+    or_from (carries test w) (list_any (carries test) ws) here rest
 
 packet_apart : (h : ℕ) (imps : List (Option State)) (f : Flow) (number : ℕ) → imp_is_up (imp_at imps f.source.imp) ≡ true → h < number → (p : PacketFields) → PacketUpTo h imps p → packet_has f number p ≡ false
 packet_apart h imps f number up above p low = elim (cases_Bool (packet_has f number p)) [
@@ -264,7 +260,7 @@ none_above h n f number is low up above =
     let P : PacketFields → Type 0 = λ p. packet_has f number p ≡ false in
     let held : list_any (says (λ s. holds s f number)) n.imps ≡ false = imps_none (packet_has f number) (message_has f number) n.imps (All_left P (flat_map packets_at_imp n.imps) (flat_map packets_on_wire n.lines) apart) unread in
     let carried_so : list_any (carries (packet_has f number)) n.lines ≡ false = lines_none (packet_has f number) n.lines (All_right P (flat_map packets_at_imp n.imps) (flat_map packets_on_wire n.lines) apart) in
-    sym (neither (list_any (says (λ s. holds s f number)) n.imps) (list_any (carries (packet_has f number)) n.lines) held carried_so)
+    sym (or_from (list_any (says (λ s. holds s f number)) n.imps) (list_any (carries (packet_has f number)) n.lines) held carried_so)
 
 -- ---- the events that make packets
 

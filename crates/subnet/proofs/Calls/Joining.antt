@@ -2,7 +2,7 @@
 use Rattle.std.specs.Prelude.{if◌then◌else◌}
 use Rattle.std.proofs.Common.{◌≡◌, ℕ, ◌+◌, ◌-◌, ◌<◌, ◌≤◌, zero, suc, Bool, true, false, List, [], ◌∷◌, ◌++◌, length, take, drop, get_or, set, slice_get, ◌==◌, ◌||◌, count_by, Option, Some, refl, ap, sym, subst, ◌∙◌, arith, nat_lt}
 use Rattle.std.specs.Prelude.{IfSome}
-use Rattle.std.proofs.lemmas.List.{length-set, length-append, append_assoc, drop_more}
+use Rattle.std.proofs.lemmas.List.{length-set, length-append, append_assoc, drop_more, get_or_default}
 use Rattle.std.proofs.lemmas.List.Sums.{sum_by-cons}
 use Rattle.std.proofs.lemmas.Bool.Decides.{nat_tests}
 use Rattle.interface.specs.declared.event.Direction.{Direction}
@@ -12,7 +12,6 @@ use Rattle.subnet.specs.Net.{Wire, no_wire, wire_at, ends_at, port_of, line_from
 use Rattle.subnet.specs.Opening.{Ends}
 use Rattle.subnet.specs.Inside.Joined.{numbers, lines_from, ports_at, ports_from, AreJoined}
 use Rattle.subnet.specs.Inside.Taking.{hollowed}
-use Rattle.subnet.proofs.Calls.Living.{read_alike}
 
 -- ---- a line by its port
 
@@ -53,7 +52,7 @@ pub line_there : (all lines : List Wire) (by_imp : List (List ℕ)) (ports : Lis
     → IfSome o (λ line. line < length all)
 line_there all lines by_imp ports i k ls o same are within read is =
     subst (λ (ws : List Wire). IfSome o (λ line. line < length ws)) (sym same)
-    (line_within lines i k o (is ∙ (ap (λ (xs : List ℕ). slice_get xs k) (read ∙ read_alike by_imp i ls [] within) ∙ line_read lines by_imp ports i k are within)))
+    (line_within lines i k o (is ∙ (ap (λ (xs : List ℕ). slice_get xs k) (read ∙ get_or_default by_imp i ls [] within) ∙ line_read lines by_imp ports i k are within)))
 
 -- ---- a port by its line
 
@@ -86,7 +85,7 @@ lines_kept k [] l i v same = refl
 lines_kept k (w ∷ ws) zero i v same = ap (λ (b : Bool). if b then k ∷ lines_from (k + 1) ws i else lines_from (k + 1) ws i) (ends_alike i v w same)
 lines_kept k (w ∷ ws) (suc l) i v same = ap (λ (ls : List ℕ). if ends_at i w then k ∷ ls else ls) (lines_kept (k + 1) ws l i v same)
 
-counted : (i : ℕ) (w : Wire) (ws : List Wire) → count_by (ends_at i) (w ∷ ws) ≡ (if ends_at i w then 1 else 0) + count_by (ends_at i) ws
+pub counted : (i : ℕ) (w : Wire) (ws : List Wire) → count_by (ends_at i) (w ∷ ws) ≡ (if ends_at i w then 1 else 0) + count_by (ends_at i) ws
 counted i w ws = sum_by-cons (λ (x : Wire). if ends_at i x then 1 else 0) w ws
 
 port_kept : (lines : List Wire) (l i n : ℕ) (v : Wire) → SameEnds v (wire_at lines l) → port_of (set lines l v) i n ≡ port_of lines i n
@@ -142,7 +141,7 @@ dropped_ends way.Back k w = record { a = refl; b = refl }
 -- a line in whose place another with the same ends comes
 joined_by : (lines : List Wire) (by_imp : List (List ℕ)) (ports : List EndPorts) (l : ℕ) (v w : Wire) → AreJoined lines by_imp ports → l < length lines → w ≡ get_or lines l w → SameEnds v w → AreJoined (set lines l v) by_imp ports
 joined_by lines by_imp ports l v w are within there same =
-    joined_kept lines by_imp ports l v are (subst (λ (x : Wire). SameEnds v x) (there ∙ read_alike lines l w no_wire within) same)
+    joined_kept lines by_imp ports l v are (subst (λ (x : Wire). SameEnds v x) (there ∙ get_or_default lines l w no_wire within) same)
 
 pub hollowed_joined : (lines : List Wire) (by_imp : List (List ℕ)) (ports : List EndPorts) (l : ℕ) (d : Direction) (v w : Wire) → AreJoined lines by_imp ports → l < length lines → w ≡ get_or lines l w → v ≡ hollowed d w
     → AreJoined (set lines l v) by_imp ports

@@ -1,6 +1,6 @@
 -- A call leaves each IMP that is up with its number, and with memory where it succeeds.
 use Rattle.std.proofs.Common.{◌≡◌, ℕ, ◌<◌, zero, suc, Bool, false, List, [], ◌∷◌, get_or, set, length, Option, Some, None, Result, Ok, Err, OnOk, refl, ap, sym, subst, ◌∙◌, arith}
-use Rattle.std.proofs.lemmas.List.{set-get_or}
+use Rattle.std.proofs.lemmas.List.{set-get_or, get_or_default}
 use Rattle.std.specs.Prelude.{IfSome}
 use Rattle.interface.specs.declared.carrier.CarrierFault.{CarrierFault}
 use Rattle.imp_channel.specs.declared.frame.Frame.{Frame}
@@ -14,12 +14,6 @@ use Rattle.subnet.specs.Net.{imp_at}
 use Rattle.subnet.specs.declared.imp_call.ImpCall.{ImpCall}
 use Rattle.subnet.specs.Inside.Calling.{call_turn, IsLive, AreLive, CallEnds, imp_by}
 use Rattle.subnet.proofs.Calls.Owning.{call_own, to_host_own}
-
--- an element that is there is read alike with any default
-pub read_alike : {A : Type 0} (xs : List A) (k : ℕ) (a b : A) → k < length xs → get_or xs k a ≡ get_or xs k b
-read_alike [] k a b within = absurd (omega arith)
-read_alike (x ∷ xs) zero a b within = refl
-read_alike (x ∷ xs) (suc k) a b within = read_alike xs k a b (omega arith)
 
 live_by : (i : ℕ) (o : Option State) (call : State → ImpTurn) → ((s : State) → number (call s).state ≡ number s) → IsLive i o → IfSome (imp_by o call) (λ s. s.spent ≡ false) → IsLive i (imp_by o call)
 live_by i None call own live unspent = tt
@@ -39,14 +33,14 @@ live_call (Err e) imps i x c refusal grows Q live is unspent = tt
 -- a call that may be left
 pub live_again_read : (r : Option Frame) (imps : List (Option State)) (i : ℕ) (x d : Option State) (c : ImpCall) → i < length imps → AreLive imps → IfSome r (λ ack. x ≡ imp_by (get_or imps i d) (call_turn c)) → (r ≡ None → x ≡ get_or imps i d) → IfSome x (λ s. s.spent ≡ false) → AreLive (set imps i x)
 live_again_read (Some ack) imps i x d c within live taken left unspent =
-    live_set imps i x (call_turn c) (call_own c) live (taken ∙ ap (λ (o : Option State). imp_by o (call_turn c)) (read_alike imps i d None within)) unspent
+    live_set imps i x (call_turn c) (call_own c) live (taken ∙ ap (λ (o : Option State). imp_by o (call_turn c)) (get_or_default imps i d None within)) unspent
 live_again_read None imps i x d c within live taken left unspent =
-    subst AreLive (sym (ap (set imps i) (left refl ∙ read_alike imps i d None within) ∙ set-get_or imps i None)) live
+    subst AreLive (sym (ap (set imps i) (left refl ∙ get_or_default imps i d None within) ∙ set-get_or imps i None)) live
 
 -- a call that runs out of memory, and does nothing else but succeed
 pub live_passed : {T E : Type 0} (r : Result T E) (imps : List (Option State)) (i : ℕ) (x d : Option State) (c : ImpCall) → i < length imps → AreLive imps → OnOk r (x ≡ imp_by (get_or imps i d) (call_turn c)) → OnOk r (IfSome x (λ s. s.spent ≡ false)) → OnOk r (AreLive (set imps i x))
 live_passed (Ok y) imps i x d c within live taken unspent =
-    live_set imps i x (call_turn c) (call_own c) live (taken ∙ ap (λ (o : Option State). imp_by o (call_turn c)) (read_alike imps i d None within)) unspent
+    live_set imps i x (call_turn c) (call_own c) live (taken ∙ ap (λ (o : Option State). imp_by o (call_turn c)) (get_or_default imps i d None within)) unspent
 live_passed (Err e) imps i x d c within live taken unspent = tt
 
 -- a taking
@@ -57,5 +51,5 @@ live_taking (Err e) imps i h x refusal grows P Q live is unspent = tt
 pub live_taking_read : {T : Type 0} (r : Result T CarrierFault) (imps : List (Option State)) (i h : ℕ) (x d : Option State) (P Q : Option State → T → Type 0) → i < length imps → AreLive imps → CallEnds (at_up (get_or imps i d) (λ s. to_host_refusal s h)) (grows_at (get_or imps i d) (λ s. to_host_grows s h)) (λ (y : T). P (get_or imps i d) y × (x ≡ imp_by (get_or imps i d) (λ s. to_host s h)) × Q (get_or imps i d) y) (get_or imps i d) x r → OnOk r (IfSome x (λ s. s.spent ≡ false)) → OnOk r (AreLive (set imps i x))
 live_taking_read {T} r imps i h x d P Q within live is unspent =
     live_taking r imps i h x (at_up (imp_at imps i) (λ s. to_host_refusal s h)) (grows_at (imp_at imps i) (λ s. to_host_grows s h)) (P (imp_at imps i)) (Q (imp_at imps i)) live
-    (subst (λ (o : Option State). CallEnds (at_up o (λ s. to_host_refusal s h)) (grows_at o (λ s. to_host_grows s h)) (λ (y : T). P o y × (x ≡ imp_by o (λ s. to_host s h)) × Q o y) o x r) (read_alike imps i d None within) is)
+    (subst (λ (o : Option State). CallEnds (at_up o (λ s. to_host_refusal s h)) (grows_at o (λ s. to_host_grows s h)) (λ (y : T). P o y × (x ≡ imp_by o (λ s. to_host s h)) × Q o y) o x r) (get_or_default imps i d None within) is)
     unspent

@@ -2,16 +2,13 @@
 use Rattle.std.proofs.Common.{◌≡◌, ℕ, ◌+◌, ◌<◌, ◌≤◌, zero, suc, List, [], ◌∷◌, length, map, get_or, count_by, Option, Some, None, refl, ap, sym, subst, ◌∙◌, arith, All}
 use Rattle.std.specs.Prelude.{IfSome}
 use Rattle.std.proofs.lemmas.List.Elements.{All-get_or}
+use Rattle.std.proofs.lemmas.List.{get_or_default}
 use Rattle.interface.specs.Host.{most_imps}
 use Rattle.imp_node.specs.State.{State}
 use Rattle.subnet.specs.Net.{Wire, ends_at, port_of}
 use Rattle.subnet.specs.Opening.{Ends, empty_wire, opened_imp, opened_from}
 use Rattle.subnet.specs.Inside.Calling.{IsLive, AreLive}
-use Rattle.subnet.proofs.Calls.Living.{read_alike}
 use Rattle.subnet.proofs.Calls.Starts as starts
-
-pub all_ports : (lines : List Wire) (i : ℕ) → port_of lines i (length lines) ≡ count_by (ends_at i) lines
-all_ports = starts.all_ports
 
 pub places_opened : (i : ℕ) (sites : List (Option ℕ)) (ports : ℕ → ℕ) → length (opened_from i sites ports) ≡ length sites
 places_opened i [] ports = refl
@@ -62,4 +59,4 @@ lines_opened lines [] is = ap length is
 lines_opened lines (e ∷ ends) is = ap length is ∙ ap suc (lines_opened (map empty_wire ends) ends refl)
 
 pub site_read : (sites : List (Option ℕ)) (k : ℕ) → k < length sites → get_or sites 0 None ≡ None → length sites ≤ most_imps + 1 → All (λ site. IfSome site (λ count. count ≤ 4)) sites → IfSome (get_or sites k None) (λ count. (1 ≤ k) × (k ≤ most_imps) × (count ≤ 4))
-site_read sites k within none most few = site_fits sites k (get_or sites k None) (read_alike sites k None (get_or sites k None) within) within none most few
+site_read sites k within none most few = site_fits sites k (get_or sites k None) (get_or_default sites k None (get_or sites k None) within) within none most few

@@ -124,7 +124,7 @@ returned_low h (m ∷ ms) s low =
     (moved_low h s (message_returned m s) m.flow (sender_told (is_from_here s m) e answer.Dead (sender s m.flow)) (fated_with m.number fate.Dead (receiver s m.flow)) (returned_moves m s)
     (told_low h (is_from_here s m) e answer.Dead (sender s m.flow) (low m.flow)) low)
 
-down_same : (b : Bool) (x : Sender) → (source_down b x).outstanding ≡ x.outstanding
+pub down_same : (b : Bool) (x : Sender) → (source_down b x).outstanding ≡ x.outstanding
 down_same true x = refl
 down_same false x = refl
 

@@ -3,7 +3,7 @@ use Rattle.std.specs.Prelude.{if◌then◌else◌}
 use Rattle.std.proofs.Common.{◌≡◌, ℕ, zero, suc, ◌+◌, Bool, false, true, List, [], ◌∷◌, ◌++◌, length, nat_lt, take, drop, get_or, set, slice_get, Option, Some, None, ◌||◌, ◌&&◌, refl, ap, sym, subst, ◌∙◌, arith}
 use Rattle.std.specs.List.{list_any}
 use Rattle.std.proofs.lemmas.Bool.Decides.{nat_tests}
-use Rattle.std.proofs.lemmas.Bool.{or_from}
+use Rattle.std.proofs.lemmas.Bool.{or_from, and_right}
 use Rattle.std.proofs.lemmas.List.{set-get_or}
 use Rattle.interface.specs.declared.event.Direction.{Direction}
 use Rattle.interface.specs.declared.event.Direction.TheVariants as way
@@ -33,10 +33,6 @@ use Rattle.subnet.specs.Inside.Calling.{call_turn, call_grows, carried_first}
 only_where : (a b : Bool) → (a ≡ false → b ≡ false) → b ≡ true → a ≡ true
 only_where true b none grows = refl
 only_where false b none grows = let untrue : b ≡ false = none refl in cc
-
-and_none : (a b : Bool) → b ≡ false → (a && b) ≡ false
-and_none true b none = none
-and_none false b none = refl
 
 and_told : (a b : Bool) → a ≡ true → (a && b) ≡ false → b ≡ false
 and_told true b told none = none
@@ -221,7 +217,7 @@ refreshed_earlier n m i is grows =
 -- ---- a frame of a round
 
 no_frame_brought : (imps : List (Option State)) → brings_bits imps no_wire ≡ false
-no_frame_brought imps = or_from _ _ (and_none (imp_is_up (imp_at imps 0)) false refl) (and_none (imp_is_up (imp_at imps 0)) false refl)
+no_frame_brought imps = or_from _ _ (and_right (imp_is_up (imp_at imps 0)) false refl) (and_right (imp_is_up (imp_at imps 0)) false refl)
 
 wire_quiet : (n : Net) (l : ℕ) → round_grows n ≡ false → brings_bits n.imps (wire_at n.lines l) ≡ false
 wire_quiet n l none = none_at (brings_bits n.imps) n.lines l no_wire (no_frame_brought n.imps) (or_false _ (list_any (brings_bits n.imps) n.lines) none).1

@@ -5,7 +5,7 @@ use Rattle.std.specs.List.{AllByRecursion, range_with_len, list_all}
 use Rattle.std.proofs.Common.{◌≡◌, ℕ, ◌+◌, ◌-◌, ◌<◌, ◌≤◌, zero, suc, Bool, true, false, List, [], ◌∷◌, ◌++◌, length, map, take, set, slice_get, nat_lt, ◌==◌, ◌||◌, ◌&&◌, count_by, Option, Some, None, refl, ap, sym, subst, ◌∙◌, arith}
 use Rattle.std.proofs.lemmas.List.{set-get_or, length-map}
 use Rattle.std.proofs.lemmas.List.Sums.{sum_by-cons}
-use Rattle.std.proofs.lemmas.Bool.{eqb-true}
+use Rattle.std.proofs.lemmas.Bool.{eqb-true, and_parts}
 use Rattle.std.proofs.lemmas.Bool.Decides.{nat_tests}
 use Rattle.interface.specs.declared.event.Direction.{Direction}
 use Rattle.interface.specs.declared.event.Direction.TheVariants as way
@@ -27,6 +27,8 @@ use Rattle.subnet.proofs.Calls.Resending.{all_resent}
 use Rattle.subnet.proofs.Calls.Resting.{rests_at}
 use Rattle.subnet.proofs.Calls.Stuck.{only_rests}
 use Rattle.subnet.proofs.Calls.Telling.{all_from, all_told, put_both}
+use Rattle.subnet.proofs.Calls.Carries.{no_frame_in}
+use Rattle.subnet.proofs.Calls.Joining.{counted}
 
 -- ---- lines without their frames
 
@@ -54,9 +56,6 @@ wire_emptied (w ∷ ws) (suc l) = wire_emptied ws l
 far_emptied : (d : Direction) (w : Wire) → far_end d (emptied w) ≡ far_end d w
 far_emptied way.Forward w = refl
 far_emptied way.Back w = refl
-
-counted : (i : ℕ) (w : Wire) (ws : List Wire) → count_by (ends_at i) (w ∷ ws) ≡ (if ends_at i w then 1 else 0) + count_by (ends_at i) ws
-counted i w ws = sum_by-cons (λ (x : Wire). if ends_at i x then 1 else 0) w ws
 
 port_emptied : (lines : List Wire) (i l : ℕ) → port_of (map emptied lines) i l ≡ port_of lines i l
 port_emptied [] i l = refl
@@ -390,12 +389,8 @@ fewer_on : (d : Direction) (w : Wire) (count : ℕ) → length (frames_on d w) �
 fewer_on way.Forward w count is = fewer_frames w.forward count is
 fewer_on way.Back w count is = fewer_frames w.back count is
 
-no_frames : (d : Direction) → frames_on d no_wire ≡ []
-no_frames way.Forward = refl
-no_frames way.Back = refl
-
 fewer : (lines : List Wire) (l : ℕ) (d : Direction) (count : ℕ) → length (frames_on d (wire_at lines l)) ≡ suc count → length (frames_on d (wire_at (set lines l (dropping d 0 (wire_at lines l))) l)) ≡ count
-fewer [] l d count is = absurd (omega (arith, is, ap (λ (frames : List Frame). length frames) (no_frames d)))
+fewer [] l d count is = absurd (omega (arith, is, ap (λ (frames : List Frame). length frames) (no_frame_in d)))
 fewer (w ∷ ws) zero d count is = fewer_on d w count is
 fewer (w ∷ ws) (suc l) d count is = fewer ws l d count is
 
@@ -492,30 +487,26 @@ settled_rests n settled =
 
 -- ---- what the code finds out
 
-and_true : (a b : Bool) → (a && b) ≡ true → (a ≡ true) × (b ≡ true)
-and_true true b both = (refl, both)
-and_true false b both = absurd cc
-
 no_length : (frames : List Frame) → (length frames == 0) ≡ true → frames ≡ []
 no_length frames none = empty_of frames (eqb-true (length frames) 0 none)
 
 silent_on : (d : Direction) (w : Wire) → is_silent w ≡ true → frames_on d w ≡ []
-silent_on way.Forward w silent = no_length w.forward (and_true (length w.forward == 0) (length w.back == 0) silent).0
-silent_on way.Back w silent = no_length w.back (and_true (length w.forward == 0) (length w.back == 0) silent).1
+silent_on way.Forward w silent = no_length w.forward (and_parts (length w.forward == 0) (length w.back == 0) silent).0
+silent_on way.Back w silent = no_length w.back (and_parts (length w.forward == 0) (length w.back == 0) silent).1
 
 waiting_of : (o : Option State) → waits_at o ≡ true → IfSome o (λ s. pump [] s ≡ ignored s)
 waiting_of None none = tt
 waiting_of (Some s) all = only_rests s all
 
 silent_at : (lines : List Wire) (l : ℕ) (d : Direction) → list_all is_silent lines ≡ true → frames_on d (wire_at lines l) ≡ []
-silent_at [] l d all = no_frames d
-silent_at (w ∷ ws) zero d all = silent_on d w (and_true (is_silent w) (list_all is_silent ws) all).0
-silent_at (w ∷ ws) (suc l) d all = silent_at ws l d (and_true (is_silent w) (list_all is_silent ws) all).1
+silent_at [] l d all = no_frame_in d
+silent_at (w ∷ ws) zero d all = silent_on d w (and_parts (is_silent w) (list_all is_silent ws) all).0
+silent_at (w ∷ ws) (suc l) d all = silent_at ws l d (and_parts (is_silent w) (list_all is_silent ws) all).1
 
 waiting_at : (imps : List (Option State)) (i : ℕ) → list_all waits_at imps ≡ true → IfSome (imp_at imps i) (λ s. pump [] s ≡ ignored s)
 waiting_at [] i all = tt
-waiting_at (o ∷ imps) zero all = waiting_of o (and_true (waits_at o) (list_all waits_at imps) all).0
-waiting_at (o ∷ imps) (suc i) all = waiting_at imps i (and_true (waits_at o) (list_all waits_at imps) all).1
+waiting_at (o ∷ imps) zero all = waiting_of o (and_parts (waits_at o) (list_all waits_at imps) all).0
+waiting_at (o ∷ imps) (suc i) all = waiting_at imps i (and_parts (waits_at o) (list_all waits_at imps) all).1
 
 pub round_rests : (n : Net) → list_all is_silent n.lines ≡ true → list_all waits_at n.imps ≡ true → ((l : ℕ) (d : Direction) → l < length n.lines → IsStillOn n l d) → quiet_round n ≡ n
 round_rests n silent none still = settled_rests n record { empty = λ l d. silent_at n.lines l d silent; waits = λ i. waiting_at n.imps i none; still = still }

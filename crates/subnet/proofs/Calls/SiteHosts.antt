@@ -7,16 +7,17 @@ use Rattle.std.proofs.lemmas.Bool.Decides.{nat_tests}
 use Rattle.interface.specs.Host.{Host, same_host, is_host, host_before, InOrder}
 use Rattle.interface.proofs.lemmas.{before_from_numbers, both_ways, or_nothing, same_host-refl}
 use Rattle.subnet.specs.Opening.{host_there, AreHosts, hosts_of_one, hosts_from}
+use Rattle.subnet.proofs.Calls.Carrying.{any_append}
 
 -- ---- tests of numbers
 
-unlike : (x k : ℕ) → (x ≡ k → ⊥) → (x == k) ≡ false
+pub unlike : (x k : ℕ) → (x ≡ k → ⊥) → (x == k) ≡ false
 unlike x k other = elim (cases_Bool (x == k)) [
   | inl same ↦ absurd (other (eqb-true x k same))
   | inr differs ↦ differs
 ]
 
-below_both : (h count : ℕ) → nat_lt h count ≡ nat_lt (suc h) (suc count)
+pub below_both : (h count : ℕ) → nat_lt h count ≡ nat_lt (suc h) (suc count)
 below_both h count = both_ways (nat_lt h count) (nat_lt (suc h) (suc count)) (λ e. grind (arith, nat_tests, e)) (λ e. grind (arith, nat_tests, e))
 
 -- ---- hosts of one IMP
@@ -47,13 +48,6 @@ one_at i k (suc count) (suc x) =
     ∙ below_both x count
 
 -- ---- hosts of all
-
-any_append : {X : Type 0} (test : X → Bool) (xs ys : List X) → list_any test (xs ++ ys) ≡ (list_any test xs || list_any test ys)
-any_append test [] ys = refl
-any_append test (x ∷ xs) ys = by (test x) (any_append test xs ys) where
-  by : (b : Bool) → list_any test (xs ++ ys) ≡ (list_any test xs || list_any test ys) → (b || list_any test (xs ++ ys)) ≡ ((b || list_any test xs) || list_any test ys)
-  by true rest = refl
-  by false rest = rest
 
 below : (i : ℕ) (sites : List (Option ℕ)) (h : Host) → h.imp < i → is_host (hosts_from i sites) h ≡ false
 below i [] h less = refl

@@ -13,6 +13,7 @@ use Rattle.subnet.specs.Net.{Wire, Net, ends_at, port_of}
 use Rattle.subnet.specs.Alive.{says}
 use Rattle.subnet.specs.Events.{started_imp, hosts_at, is_imp}
 use Rattle.subnet.specs.Inside.Calling.{IsLive, AreLive}
+use Rattle.subnet.proofs.Calls.SiteHosts.{unlike}
 
 -- ---- hosts that go down one after another
 
@@ -69,12 +70,6 @@ pub all_ports : (lines : List Wire) (i : ℕ) → port_of lines i (length lines)
 all_ports lines i = ap (count_by (ends_at i)) (take-length lines)
 
 -- ---- IMPs beside it
-
-unlike : (x k : ℕ) → (x ≡ k → ⊥) → (x == k) ≡ false
-unlike x k other = elim (cases_Bool (x == k)) [
-  | inl same ↦ absurd (other (eqb-true x k same))
-  | inr differs ↦ differs
-]
 
 abbrev pub is_beside : ℕ → Option State → Bool
 is_beside i = says (λ s. not (number s == i) && queries.keeps s i)

@@ -2,6 +2,7 @@
 use Rattle.std.specs.Prelude.{is_some}
 use Rattle.std.specs.List.{AllByRecursion, list_all}
 use Rattle.std.proofs.Common.{◌≡◌, ℕ, ◌<◌, Bool, true, false, ◌&&◌, List, [], ◌∷◌, length, Option, Some, None, refl, ap, arith}
+use Rattle.std.proofs.lemmas.Bool.{and_parts}
 use Rattle.packetiser.specs.PacketFields.{PacketFields}
 use Rattle.routing.specs.RouteTable.{next_of}
 use Rattle.interface.specs.declared.crossing.Inbound.{Inbound}
@@ -14,10 +15,6 @@ use Rattle.imp_node.specs.Taking.{first_of, next_for}
 use Rattle.imp_node.proofs.lemmas.{Rests, stays, stuck_rests, taking_still}
 use Rattle.subnet.specs.Inside.Settled.{is_stuck, is_stuck_by, only_waits}
 
-both_true : (a b : Bool) → (a && b) ≡ true → (a ≡ true) × (b ≡ true)
-both_true true b both = (refl, both)
-both_true false b both = absurd cc
-
 stuck_stays : (s : State) (p : PacketFields) (o : Option ℕ) → is_stuck_by s o ≡ true → packet_sent s.ports p o ≡ sent_on s.ports 0 p None
 stuck_stays s p None is = absurd cc
 stuck_stays s p (Some k) is = stays s.ports p k is
@@ -25,7 +22,7 @@ stuck_stays s p (Some k) is = stays s.ports p k is
 all_stuck : (s : State) (ps : List PacketFields) → list_all (is_stuck s) ps ≡ true → AllByRecursion (λ p. packet_sent s.ports p (next_of s.routes (target p)) ≡ sent_on s.ports 0 p None) ps
 all_stuck s [] all = tt
 all_stuck s (p ∷ ps) all =
-    let both = both_true (is_stuck s p) (list_all (is_stuck s) ps) all in
+    let both = and_parts (is_stuck s p) (list_all (is_stuck s) ps) all in
     (stuck_stays s p (next_of s.routes (target p)) both.0, all_stuck s ps both.1)
 
 -- the pump then does nothing

@@ -2,7 +2,7 @@
 use Rattle.std.proofs.Common.{◌≡◌, ◌≢◌, ℕ, zero, suc, Bool, true, false, not, List, [], ◌∷◌, ◌++◌, ◌&&◌, ◌==◌, get_or, set, map, Option, Some, None, refl, ap, sym, ◌∙◌, subst, inl, inr, eq-eqb, All, Contains}
 use Rattle.std.specs.Prelude.{is_none, slice_set}
 use Rattle.std.specs.List.{flat_map}
-use Rattle.std.proofs.lemmas.Bool.{cases_Bool}
+use Rattle.std.proofs.lemmas.Bool.{cases_Bool, and_from}
 use Rattle.std.proofs.lemmas.List.Elements.{All-contains, All-head, All-tail, All-cons, All-nil}
 use Rattle.interface.specs.Flow.{same_flow}
 use Rattle.interface.specs.Host.{is_host}
@@ -39,16 +39,13 @@ use Rattle.subnet.proofs.Moves.Views.{view_parts, turn_view, alive_less, held_me
 
 -- ---- what the move needs
 
-both_true : (a b : Bool) → a ≡ true → b ≡ true → (a && b) ≡ true
-both_true a b e f = rw (e, f) refl
-
 -- a packet with this number would have been found
 pub no_packet : (n : Net) (f : Flow) (number : ℕ) → All (NotIn f number) (packets n) → (x : Packet) → Alive n f x → x.number ≢ number
 no_packet n f number silent x a same =
     let p : PacketFields = a.fields in
     let missing : packet_has f number p ≡ false = All-contains (NotIn f number) (packets n) p silent a.there in
     let ours : same_flow f (flow_of p) ≡ true = ap (same_flow f) a.flow ∙ same_flow-refl f in
-    let found : packet_has f number p ≡ true = both_true (same_flow f (flow_of p)) (p.number == number) ours (eq-eqb p.number number (ap (λ (y : Packet). y.number) a.packet ∙ same)) in
+    let found : packet_has f number p ≡ true = and_from (same_flow f (flow_of p)) (p.number == number) ours (eq-eqb p.number number (ap (λ (y : Packet). y.number) a.packet ∙ same)) in
     let both : true ≡ false = sym found ∙ missing in
     absurd (cc)
 

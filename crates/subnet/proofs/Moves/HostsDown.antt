@@ -54,6 +54,7 @@ use Rattle.subnet.proofs.Moves.Fates.{ended_all, kept_all, fate_all, view_fated}
 use Rattle.subnet.proofs.Moves.Views.{view_parts}
 use Rattle.subnet.proofs.Moves.Askable.{one_begins}
 use Rattle.subnet.proofs.Moves.ManyFlows.{all_moved, at_end, at_end_if}
+use Rattle.subnet.proofs.Calls.Outstanding.{down_same}
 
 -- ---- messages are given back, one after another
 
@@ -268,10 +269,6 @@ quiet_source n h s f stop none =
     at_end_if (λ (o : Option State). sender_at o f) source_down n.imps h.imp f.source.imp (Some t) c (λ x. refl) (set_here n.imps h.imp (Some t) s stop.at)
     (λ here. none_of_it (host_at s h.host).queue (stopped s h.host) f (none here) ∙ (stopped_becomes s h.host f).sender ∙ ap (λ (o : Option State). source_down c (sender_at o f)) (sym stop.at))
 
-down_outstanding : (b : Bool) (s : Sender) → (source_down b s).outstanding ≡ s.outstanding
-down_outstanding true s = refl
-down_outstanding false s = refl
-
 -- where one does
 told_source : (n : Net) (h : Host) (s : State) (f : Flow) (m : Message) → Stopping n h s → (f.source.imp == h.imp) ≡ true → messages_of f (host_at s h.host).queue ≡ m ∷ [] → outstanding s f ≡ Some m.number
     → sender_at (imp_at (slice_set n.imps h.imp (Some (host_down s h.host).state)) f.source.imp) f ≡ ended_with answer.Dead (source_down (same_host f.source h) (sender_at (imp_at n.imps f.source.imp) f))
@@ -283,7 +280,7 @@ told_source n h s f m stop here one awaited =
     let mid : State = stopped s h.host in
     let down : sender mid f ≡ source_down c (sender s f) = (stopped_becomes s h.host f).sender in
     let told : sender (all_returned (host_at s h.host).queue mid) f ≡ ended_with answer.Dead (sender mid f) =
-    one_of_it (host_at s h.host).queue mid f m one (ap (λ (k : ℕ). f.source.imp == k) stop.imp.own ∙ here) (ap (λ (x : Sender). x.outstanding) down ∙ down_outstanding c (sender s f) ∙ awaited) in
+    one_of_it (host_at s h.host).queue mid f m one (ap (λ (k : ℕ). f.source.imp == k) stop.imp.own ∙ here) (ap (λ (x : Sender). x.outstanding) down ∙ down_same c (sender s f) ∙ awaited) in
     source_changed (λ x. ended_with answer.Dead (source_down a x)) n.imps h.imp s t f stop.at (eqb-true f.source.imp h.imp here)
     (told ∙ ap (ended_with answer.Dead) down ∙ ap (λ (b : Bool). ended_with answer.Dead (source_down b (sender s f))) same)
 

@@ -255,7 +255,7 @@ new_view n i s f there =
         at_end F change n.imps i j None true still (set_here n.imps i None s there) gone
         ∙ ap (λ (b : Bool). change b (F (imp_at n.imps j))) (and_true_is (j == i))
 
-none_begins : (a b : Bool) → one_begins (moves_by a b) ≡ false
+pub none_begins : (a b : Bool) → one_begins (moves_by a b) ≡ false
 none_begins true true = refl
 none_begins true false = refl
 none_begins false true = refl

@@ -4,6 +4,7 @@ use Rattle.std.proofs.lemmas.List.{map-append}
 use Rattle.std.proofs.lemmas.List.Elements.{All-nil, All-push, All-weaker, All-contains, All-contains_itself}
 use Rattle.std.specs.FinMap as finite
 use Rattle.std.specs.List.{list_any}
+use Rattle.std.proofs.lemmas.Option.{same_Some}
 use Rattle.bit_messages.specs.Body.{body}
 use Rattle.interface.specs.Flow.{message_numbers, same_flow}
 use Rattle.interface.specs.Host.{is_host}
@@ -16,7 +17,7 @@ use Rattle.interface.specs.declared.crossing.Answer.TheVariants as answer
 use Rattle.interface.specs.declared.crossing.Crossing.{Crossing}
 use Rattle.interface.specs.declared.crossing.Crossing.TheVariants as crossing
 use Rattle.interface.specs.declared.message.HostMessage.{HostMessage}
-use Rattle.interface.proofs.lemmas.{and_true, guard, not_false, or_false, same_flow-refl}
+use Rattle.interface.proofs.lemmas.{and_true, guard, not_false, or_false, same_flow-refl, not_true}
 use Rattle.link_table.specs.Flows.{last_in, outstanding_in, is_idle_in, number_in, kept_in}
 use Rattle.link_table.specs.declared.destination.Fate.TheVariants as fate
 use Rattle.link_table.specs.Numbers.{modulus, oldest}
@@ -107,10 +108,6 @@ no_answers f (t ∷ ts) none =
     let both : (same_flow f t.flow ≡ false) × (list_any (is_about f) ts ≡ false) = or_false (same_flow f t.flow) (list_any (is_about f) ts) none in
     rw both.0 (no_answers f ts both.1)
 
-not_true : (b : Bool) → not b ≡ true → b ≡ false
-not_true false e = refl
-not_true true e = absurd (cc)
-
 -- the source is up and its flow idle
 record IsReady (s : State) (f : Flow) : Type 0 where
   pub own : is_own s f.source ≡ true
@@ -191,9 +188,6 @@ offered_answers Away m s can all = all
 begun_format : (m : HostMessage) (s : State) → IsCarriable m → (number : ℕ) → next_number s m.flow ≡ number → IsPacket (answer_packet kind.Rfnm m.flow number)
 begun_format m s can number same =
     answer_format kind.Rfnm m.flow number (record { first = refl; only = refl; empty = refl }) can.source can.destination can.link (subst (λ (k : ℕ). k < message_numbers) same (number_small s m.flow))
-
-begun_is : (k number : ℕ) → Some k ≡ Some number → k ≡ number
-begun_is k number is = cc
 
 -- ---- the event, by where the message goes
 
@@ -290,7 +284,7 @@ over_lines n s m o is carriable moved sound =
           new
           (λ x. alive_or_made n next made (IsPieceOf Piece k m.text) g x only pieces);
       shown = out_here m n.log;
-      begun = inr (λ number awaited. begun_format m s carriable number (same ∙ begun_is k number (ap (λ (v : View). v.outstanding) (sym new) ∙ awaited)));
+      begun = inr (λ number awaited. begun_format m s carriable number (same ∙ same_Some k number (ap (λ (v : View). v.outstanding) (sym new) ∙ awaited)));
     }) sound
 
 within : (n : Net) (s : State) (m : HostMessage) → IsOffered n s m → way_of s m.flow ≡ Here → IsCarriable m → OfferMoves Here m s (from_host s m).state → IsSound n → IsSound (logging (crossing.Out m ∷ []) (with_turn m.flow.source.imp (from_host s m) n))
@@ -327,7 +321,7 @@ within n s m o is carriable moved sound =
           (waits ∙ ap (λ (q : List Queued). (let v : View = record (view_moved move (view n g)) { queue = q } in v)) (map-append queued_of to.queue (message k ∷ [])))
           (λ x. alive_or_made n next [] (λ (y : Packet). ⊥) g x only (All-nil (λ (p : PacketFields). ⊥)));
       shown = out_here m n.log;
-      begun = inr (λ number awaited. begun_format m s carriable number (same ∙ begun_is k number (ap (λ (v : View). v.outstanding) (sym waits) ∙ awaited)));
+      begun = inr (λ number awaited. begun_format m s carriable number (same ∙ same_Some k number (ap (λ (v : View). v.outstanding) (sym waits) ∙ awaited)));
     }) sound
 
 -- ---- the event

@@ -29,6 +29,7 @@ use Rattle.subnet.specs.Flows.{Alive, imp_is_up, sender_at, receiver_at, queued_
 use Rattle.subnet.specs.Opening.{Ends, empty_wire, opened_imp, opened_from, opening_subnet, host_there, AreHosts}
 use Rattle.subnet.specs.Sound.{IsAt, IsSound}
 use Rattle.subnet.proofs.Packets.Having.{FrameHas, WireHas, ImpHas, NetHas, net_packets, net_at}
+use Rattle.subnet.proofs.Calls.SiteHosts.{below_both}
 
 -- ---- IMPs by their places
 
@@ -44,9 +45,6 @@ opened_is k j None ports same = tt
 opened_is k j (Some hosts) ports same = subst (λ (i : ℕ). IsImp i (imp.opening_node j hosts ports)) same (opening_imp j hosts ports)
 
 -- ---- hosts
-
-below_both : (h count : ℕ) → nat_lt h count ≡ nat_lt (suc h) (suc count)
-below_both h count = both_ways (nat_lt h count) (nat_lt (suc h) (suc count)) (λ e. grind (arith, nat_tests, e)) (λ e. grind (arith, nat_tests, e))
 
 up_there : (count h : ℕ) → (get_or (replicate count up_host) h no_host).up ≡ nat_lt h count
 up_there zero h = both_ways false (nat_lt h 0) (λ e. absurd (cc)) (λ e. grind (arith, nat_tests, e))

@@ -1,6 +1,7 @@
 -- An event as the call of one IMP that it is.
 use Rattle.std.proofs.Common.{◌≡◌, ℕ, ◌==◌, ◌&&◌, ◌||◌, Bool, true, false, not, Option, Some, None, Result, Err, refl, ap, subst, arith}
 use Rattle.std.proofs.lemmas.Bool.Decides.{nat_tests}
+use Rattle.std.proofs.lemmas.Bool.{and_from}
 use Rattle.interface.specs.declared.carrier.CarrierFault.{CarrierFault}
 use Rattle.interface.specs.declared.carrier.CarrierFault.TheVariants as fault
 use Rattle.interface.specs.declared.event.NetEvent.TheVariants as event
@@ -20,9 +21,6 @@ use Rattle.subnet.specs.Inside.Calling.{call_turn, call_grows, IsLive, AreLive, 
 pub passed : {A T : Type 0} (b : Bool) (e : CarrierFault) (refusal : Option CarrierFault) (grows : Bool) (Gives : T → Type 0) (old new : A) (r : Result T CarrierFault) → b ≡ false → CallEnds refusal grows Gives old new r → CallEnds (first_of b e refusal) grows Gives old new r
 passed true e refusal grows Gives old new r untrue h = cc
 passed false e refusal grows Gives old new r untrue h = h
-
-both : (a b : Bool) → a ≡ true → b ≡ true → (a && b) ≡ true
-both a b p q = rw (p, q) refl
 
 other_number : (i from k : ℕ) → k ≡ i → (i == from) ≡ false → (from == k) ≡ false
 other_number i from k same apart = grind (arith, nat_tests)
@@ -44,7 +42,7 @@ forget_accepted i from (Some s) live apart =
 
 pub forget_step : (n new : Net) (at from : ℕ) (r : Result (Unit {0}) CarrierFault) → Makes at (call.Forget from) n new r → AreLive n.imps → is_imp n at ≡ true → is_imp n from ≡ true → (at == from) ≡ false → (has_data n from at || is_awaited_at (imp_at n.imps from) at) ≡ false → Steps (event.Forget at from) n new r
 forget_step n new at from r made live here there apart gone =
-    passed (not (is_imp n at && is_imp n from)) fault.NoSuch _ _ _ n new r (ap not (both _ _ here there))
+    passed (not (is_imp n at && is_imp n from)) fault.NoSuch _ _ _ n new r (ap not (and_from _ _ here there))
     (passed (at == from) fault.NoSuch _ _ _ n new r apart
     (passed (has_data n from at || is_awaited_at (imp_at n.imps from) at) fault.StillAlive _ _ _ n new r gone
     (subst (λ (o : Option CarrierFault). CallEnds o (grows_at (imp_at n.imps at) (call_grows (call.Forget from))) (λ (done : Unit {0}). new ≡ at_imp (imp_at n.imps at) at (call_turn (call.Forget from)) n) n new r) (forget_accepted at from (imp_at n.imps at) (live at) apart) made)))

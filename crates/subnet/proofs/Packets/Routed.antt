@@ -57,6 +57,7 @@ use Rattle.subnet.specs.Routed.{TellsVector, FrameTells, WireTells, HeardVector,
 use Rattle.subnet.specs.Sound.{IsAt, IsSound}
 use Rattle.subnet.proofs.Calls.Rounds.{round_keeps}
 use Rattle.subnet.proofs.Packets.OnLines.{WireHolds, dropped_holds, put_all_holds, way_holds, wire_holds}
+use Rattle.subnet.proofs.Calls.Opens.{places_opened}
 
 -- ---- frames of one IMP
 
@@ -337,10 +338,6 @@ opened_heard i (site ∷ sites) ports = All-cons ImpHeard (opened_imp i site (po
   at None = tt
   at (Some hosts) = All-replicate HeardVector (ports i) None tt
 
-opened_length : (i : ℕ) (sites : List (Option ℕ)) (ports : ℕ → ℕ) → length (opened_from i sites ports) ≡ length sites
-opened_length i [] ports = refl
-opened_length i (site ∷ sites) ports = ap suc (opened_length (i + 1) sites ports)
-
 empty_tells : (ends : List Ends) → All WireTells (map empty_wire ends)
 empty_tells [] = All-nil WireTells
 empty_tells (e ∷ ends) = All-cons WireTells (empty_wire e) (map empty_wire ends) (record { forward = All-nil FrameTells; back = All-nil FrameTells }) (empty_tells ends)
@@ -348,7 +345,7 @@ empty_tells (e ∷ ends) = All-cons WireTells (empty_wire e) (map empty_wire end
 pub opening_routed : (hosts : List Host) (sites : List (Option ℕ)) (ends : List Ends) → length sites ≤ most_imps + 1 → IsRouted (opening_subnet hosts sites ends)
 opening_routed hosts sites ends few =
     let ports : ℕ → ℕ = λ i. count_by (ends_at i) (map empty_wire ends) in
-    record { few = subst (λ (k : ℕ). k ≤ most_imps + 1) (sym (opened_length 0 sites ports)) few; imps = opened_heard 0 sites ports; lines = empty_tells ends }
+    record { few = subst (λ (k : ℕ). k ≤ most_imps + 1) (sym (places_opened 0 sites ports)) few; imps = opened_heard 0 sites ports; lines = empty_tells ends }
 
 -- ---- so packets can name every host to which a route leads
 

@@ -7,7 +7,7 @@ use Rattle.std.proofs.lemmas.List.Elements.{Contains-push, Contains-push_cases}
 use Rattle.std.specs.List.{Contains, flat_map}
 use Rattle.std.specs.Prelude.{slice_index_or}
 use Rattle.interface.specs.Flow.{same_flow}
-use Rattle.interface.proofs.lemmas.{and_true, same_flow-true}
+use Rattle.interface.proofs.lemmas.{and_true, same_flow-true, contains_head, contains_tail, contains_none}
 use Rattle.trace.specs.Changes.{IsGone, altered, changed, changed_flows, changed_lists, changed_parts, is_there}
 use Rattle.trace.specs.Changes.{is_told}
 use Rattle.trace.specs.Changes.{lost}
@@ -53,18 +53,9 @@ part_is p q e =
 
 -- ---- one list
 
-here : {X : Type 0} (x : X) (xs : List X) → Contains (x ∷ xs) x
-here x xs = Contains-append_left (x ∷ []) xs x (Contains-push [] x)
-
-later : {X : Type 0} (y : X) (xs : List X) (x : X) → Contains xs x → Contains (y ∷ xs) x
-later y xs x h = Contains-append_right (y ∷ []) xs x h
-
-none_in : {X : Type 0} (x : X) → Contains [] x → ⊥
-none_in x h = absurd (let past : h.0 < 0 = h.1 in omega (arith, past))
-
 pub only_one : {X : Type 0} (x y : X) → Contains (x ∷ []) y → x ≡ y
 only_one x y h = elim (Contains-push_cases [] x y h) [
-  | inl none ↦ absurd (none_in y none)
+  | inl none ↦ absurd (contains_none y none)
   | inr is ↦ is
 ]
 
@@ -75,21 +66,21 @@ told_before (q ∷ before) p e = by (same_flow_part q p) refl (λ h. told_before
   by : (b : Bool) → same_flow_part q p ≡ b → (is_told before p ≡ true → Contains (map told before) (told p))
       → (b || is_told before p) ≡ true → Contains (map told (q ∷ before)) (told p)
   by true same before_it h = subst (λ (t : List ℕ). Contains (map told (q ∷ before)) t) (ap told (part_is q p same))
-      (here (told q) (map told before))
-  by false other before_it h = later (told q) (map told before) (told p) (before_it h)
+      (contains_head (told q) (map told before))
+  by false other before_it h = contains_tail (told q) (map told before) (told p) (before_it h)
 
 -- what passes a test is among what does
 passes : (text : FlowPart → List ℕ) (test : FlowPart → Bool) (x : FlowPart) (xs : List FlowPart) → test x ≡ true
     → Contains (map text (filter test (x ∷ xs))) (text x)
 passes text test x xs e = subst (λ (ps : List FlowPart). Contains (map text ps) (text x)) (sym (keeps test x xs true e))
-    (here (text x) (map text (filter test xs)))
+    (contains_head (text x) (map text (filter test xs)))
 
 passes_later : (text : FlowPart → List ℕ) (test : FlowPart → Bool) (x : FlowPart) (xs : List FlowPart) (t : List ℕ)
     → Contains (map text (filter test xs)) t → Contains (map text (filter test (x ∷ xs))) t
 passes_later text test x xs t h = by (test x) refl where
   by : (b : Bool) → test x ≡ b → Contains (map text (filter test (x ∷ xs))) t
   by true e = subst (λ (ps : List FlowPart). Contains (map text ps) t) (sym (keeps test x xs true e))
-      (later (text x) (map text (filter test xs)) t h)
+      (contains_tail (text x) (map text (filter test xs)) t h)
   by false e = subst (λ (ps : List FlowPart). Contains (map text ps) t) (sym (keeps test x xs false e)) h
 
 -- and each of them is among all
@@ -104,19 +95,19 @@ passed text test (x ∷ xs) t h = by (test x) refl (λ g. passed text test xs t 
       subst (λ (ps : List FlowPart). Contains (map text ps) t) (keeps test x xs true e) h in
       elim (Contains-append_cases (text x ∷ []) (map text (filter test xs)) t there) [
         | inl first ↦ Contains-append_left (text x ∷ []) (map text xs) t first
-        | inr rest ↦ later (text x) (map text xs) t (among rest)
+        | inr rest ↦ contains_tail (text x) (map text xs) t (among rest)
       ]
   by false e among =
       let there : Contains (map text (filter test xs)) t =
       subst (λ (ps : List FlowPart). Contains (map text ps) t) (keeps test x xs false e) h in
-      later (text x) (map text xs) t (among there)
+      contains_tail (text x) (map text xs) t (among there)
 
 abbrev Either : List (List ℕ) → List (List ℕ) → List ℕ → Type 0
 Either xs ys t = Contains xs t ⊎ Contains ys t
 
 flow_kept : (before now : List FlowPart) (t : List ℕ) → Contains (map told now) t
     → Either (map told (altered before now)) (map told before) t
-flow_kept before [] t h = absurd (none_in t h)
+flow_kept before [] t h = absurd (contains_none t h)
 flow_kept before (x ∷ now) t h = elim (Contains-append_cases (told x ∷ []) (map told now) t h) [
   | inl first ↦ by (is_told before x) refl first
   | inr rest ↦ more (flow_kept before now t rest)
@@ -158,7 +149,7 @@ among_changed before now t (inr h) = inr h
 
 lists_kept : (before now : List (List FlowPart)) (t : List ℕ) → Contains (all_told now) t
     → Either (changed_lists before now) (all_told before) t
-lists_kept before [] t h = absurd (none_in t h)
+lists_kept before [] t h = absurd (contains_none t h)
 lists_kept [] (n ∷ now) t h = elim (Contains-append_cases (map told n) (all_told now) t h) [
   | inl first ↦ joined (changed_flows [] n) (changed_lists [] now) [] [] t
       (among_changed [] n t (flow_kept [] n t first))
@@ -180,13 +171,13 @@ record IsGoneFrom (before now : List FlowPart) (t : List ℕ) : Type 0 where
 
 flow_lost : (before now : List FlowPart) (t : List ℕ) → Contains (map gone (lost before now)) t
     → IsGoneFrom before now t
-flow_lost [] now t h = absurd (none_in t h)
+flow_lost [] now t h = absurd (contains_none t h)
 flow_lost (x ∷ before) now t h = by (is_there now x) refl (flow_lost before now t) where
   out : FlowPart → Bool
   out q = not (is_there now q)
 
   earlier : IsGoneFrom before now t → IsGoneFrom (x ∷ before) now t
-  earlier g = record { flow = g.flow; was = later x before g.flow g.was; none = g.none; null = g.null }
+  earlier g = record { flow = g.flow; was = contains_tail x before g.flow g.was; none = g.none; null = g.null }
 
   by : (b : Bool) → is_there now x ≡ b → (Contains (map gone (lost before now)) t → IsGoneFrom before now t)
       → IsGoneFrom (x ∷ before) now t
@@ -196,7 +187,7 @@ flow_lost (x ∷ before) now t h = by (is_there now x) refl (flow_lost before no
       let some : Contains (gone x ∷ map gone (lost before now)) t =
       subst (λ (ps : List FlowPart). Contains (map gone ps) t) (keeps out x before true (ap not e)) h in
       elim (Contains-append_cases (gone x ∷ []) (map gone (lost before now)) t some) [
-        | inl first ↦ record { flow = x; was = here x before; none = e; null = sym (only_one (gone x) t first) }
+        | inl first ↦ record { flow = x; was = contains_head x before; none = e; null = sym (only_one (gone x) t first) }
         | inr more ↦ earlier (rest more)
       ]
 
@@ -224,7 +215,7 @@ only_first before now n t h = elim (Contains-append_cases (map told (altered was
 only_later : (before now : List (List FlowPart)) (n : List FlowPart) (t : List ℕ) → IsOnly (drop 1 before) now t
     → IsOnly before (n ∷ now) t
 only_later before now n t (inl h) = inl (Contains-append_right (map told n) (all_told now) t h)
-only_later [] now n t (inr g) = absurd (none_in g.flow g.lost.was)
+only_later [] now n t (inr g) = absurd (contains_none g.flow g.lost.was)
 only_later (b ∷ before) now n t (inr g) = inr
     (record {
       place = suc g.place;
@@ -235,7 +226,7 @@ only_later (b ∷ before) now n t (inr g) = inr
 
 lists_only : (before now : List (List FlowPart)) (t : List ℕ) → Contains (changed_lists before now) t
     → IsOnly before now t
-lists_only before [] t h = absurd (none_in t (subst (λ (xs : List (List ℕ)). Contains xs t) (no_lists before) h))
+lists_only before [] t h = absurd (contains_none t (subst (λ (xs : List (List ℕ)). Contains xs t) (no_lists before) h))
 lists_only before (n ∷ now) t h = elim
     (Contains-append_cases (changed_flows (slice_index_or before 0 []) n) (changed_lists (drop 1 before) now) t
     (subst (λ (xs : List (List ℕ)). Contains xs t) (lists_first before now n) h)) [
@@ -246,7 +237,7 @@ lists_only before (n ∷ now) t h = elim
 -- a flow of a list that is there no more
 flow_gone : (before now : List FlowPart) (p : FlowPart) → Contains before p → is_there now p ≡ false
     → Contains (map gone (lost before now)) (gone p)
-flow_gone [] now p h none = absurd (none_in p h)
+flow_gone [] now p h none = absurd (contains_none p h)
 flow_gone (x ∷ before) now p h none = elim (Contains-append_cases (x ∷ []) before p h) [
   | inl first ↦ subst (λ (q : FlowPart). Contains (map gone (lost (x ∷ before) now)) (gone q)) (only_one x p first)
       (passes gone out x before (ap (λ (q : FlowPart). not (is_there now q)) (only_one x p first) ∙ ap not none))
@@ -259,8 +250,8 @@ lists_gone : (before now : List (List FlowPart)) (i : ℕ) (p : FlowPart) → i 
     → Contains (slice_index_or before i []) p → is_there (slice_index_or now i []) p ≡ false
     → Contains (changed_lists before now) (gone p)
 lists_gone before [] i p lt h none = absurd (omega (arith, lt))
-lists_gone [] (n ∷ now) zero p lt h none = absurd (none_in p h)
-lists_gone [] (n ∷ now) (suc i) p lt h none = absurd (none_in p h)
+lists_gone [] (n ∷ now) zero p lt h none = absurd (contains_none p h)
+lists_gone [] (n ∷ now) (suc i) p lt h none = absurd (contains_none p h)
 lists_gone (b ∷ before) (n ∷ now) zero p lt h none =
     Contains-append_left (changed_flows b n) (changed_lists before now) (gone p)
     (Contains-append_right (map told (altered b n)) (map gone (lost b n)) (gone p) (flow_gone b n p h none))

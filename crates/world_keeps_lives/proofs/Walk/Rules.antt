@@ -5,6 +5,7 @@ use Rattle.ncp_control.specs.declared.command.Command.TheVariants as command
 use Rattle.host_pairs.specs.Parcels as parcel
 use Rattle.host_pairs.specs.declared.entry.Closing.TheVariants as closing
 use Rattle.host_pairs.specs.declared.notice.Notice.TheVariants as notice
+use Rattle.interface.proofs.lemmas.{contains_head, contains_tail}
 
 -- ---- lists
 
@@ -58,15 +59,9 @@ each_at Q (y ∷ xs) x (suc i) less is h = each_at Q xs x i (omega (arith, less)
 pub each_in : {A : Type 0} (Q : A → Type 0) (xs : List A) (x : A) → Contains xs x → Each Q xs → Q x
 each_in Q xs x there h = each_at Q xs x there.0 there.1 there.2 h
 
-pub first_of : {A : Type 0} (x : A) (xs : List A) → Contains (x ∷ xs) x
-first_of x xs = (0, omega arith, refl)
-
-pub later_of : {A : Type 0} (y : A) (xs : List A) (x : A) → Contains xs x → Contains (y ∷ xs) x
-later_of y xs x there = (suc there.0, omega (arith, there.1), there.2)
-
 pub each_of : {A : Type 0} (xs : List A) → Each (λ (x : A). Contains xs x) xs
 each_of [] = tt
-each_of {A} (x ∷ xs) = (first_of x xs, each_weaker (λ (y : A). Contains xs y) (λ (y : A). Contains (x ∷ xs) y) xs (λ y there. later_of x xs y there) (each_of xs))
+each_of {A} (x ∷ xs) = (contains_head x xs, each_weaker (λ (y : A). Contains xs y) (λ (y : A). Contains (x ∷ xs) y) xs (λ y there. contains_tail x xs y there) (each_of xs))
 
 pub found_in : {A : Type 0} (Q : A → Type 0) (test : A → Bool) (xs : List A) (x : A) → find test xs ≡ Some x → Each Q xs → Q x
 found_in Q test [] x is h = absurd (let both : None ≡ Some x = is in cc)

@@ -26,7 +26,7 @@ use Rattle.world_keeps_streams.proofs.Moments.In.{notices_there}
 use Rattle.world_keeps_streams.proofs.Requests.Sides.{Lawful, lives_in}
 use Rattle.world_keeps_streams.proofs.Steps.JoinedAll.{joined}
 use Rattle.world_keeps_streams.proofs.Steps.Streams.{has_receiver}
-use Rattle.world_keeps_streams.proofs.Facts.{unlike}
+use Rattle.interface.proofs.lemmas.{unlike}
 
 -- ---- the one end on a link
 

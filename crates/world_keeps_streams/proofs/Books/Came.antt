@@ -17,7 +17,8 @@ use Rattle.world_keeps_streams.proofs.Books.Finished.{Done, Fixed, has_sent, has
 use Rattle.world_keeps_streams.proofs.Lives.Lists.{IsOf, Named, contains, grown, is_of, named_itself, of_left, of_map}
 use Rattle.world_keeps_streams.proofs.Requests.Sides.{Heard, Lawful, Own, lives_in}
 use Rattle.world_keeps_streams.proofs.Steps.Overs.{over_alike}
-use Rattle.world_keeps_streams.proofs.Facts.{none_long, unlike}
+use Rattle.world_keeps_streams.proofs.Facts.{none_long}
+use Rattle.interface.proofs.lemmas.{unlike}
 
 -- ---- a life by its names
 

@@ -35,7 +35,8 @@ use Rattle.world_keeps_streams.proofs.Stays.Resets.{stays_on}
 use Rattle.world_keeps_streams.proofs.Steps.Joined.{Joined}
 use Rattle.world_keeps_streams.proofs.Steps.JoinedAll.{joined}
 use Rattle.world_keeps_streams.proofs.Calls.Chain.{ready_both}
-use Rattle.world_keeps_streams.proofs.Facts.{unlike, no_zero}
+use Rattle.world_keeps_streams.proofs.Facts.{no_zero}
+use Rattle.interface.proofs.lemmas.{unlike}
 
 max_less : (p q k : ℕ) → p < k → q < k → max p q < k
 max_less p q zero i j = absurd (omega (arith, i))

@@ -23,7 +23,7 @@ use Rattle.world_keeps_streams.proofs.Lives.Lists.{IsOf, is_of, of_drop, of_part
 use Rattle.world_keeps_streams.proofs.Requests.Sides.{Heard, Lawful, Own, lives_in}
 use Rattle.world_keeps_streams.proofs.Steps.Joined.{post_in}
 use Rattle.world_keeps_streams.proofs.Steps.Streams.{has_receiver}
-use Rattle.world_keeps_streams.proofs.Facts.{unlike}
+use Rattle.interface.proofs.lemmas.{unlike}
 
 free_box : (b : Box) → IsPosted Free b → waiting_in b ≡ []
 free_box Empty p = refl

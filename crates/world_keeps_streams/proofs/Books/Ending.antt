@@ -37,7 +37,8 @@ use Rattle.world_keeps_streams.proofs.Books.Later as later
 use Rattle.world_keeps_streams.proofs.Books.Later.{named_request}
 use Rattle.world_keeps_streams.proofs.Books.Run.{below, whole}
 use Rattle.world_keeps_streams.proofs.Books.Whole.{GoesOn, PresentR, Receives, Whole, present_in, since}
-use Rattle.world_keeps_streams.proofs.Facts.{unlike, no_zero, own_if}
+use Rattle.world_keeps_streams.proofs.Facts.{no_zero, own_if}
+use Rattle.interface.proofs.lemmas.{unlike}
 
 -- ---- a receiving life that isn't over
 

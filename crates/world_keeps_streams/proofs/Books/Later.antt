@@ -25,7 +25,8 @@ use Rattle.world_keeps_streams.proofs.Books.Goes.{since_bound, since_new, since_
 use Rattle.world_keeps_streams.proofs.Books.Run.{Given, below, whole, whole_keeps}
 use Rattle.world_keeps_streams.proofs.Books.Source.{Granter, granted_of, one_matches}
 use Rattle.world_keeps_streams.proofs.Books.Whole.{HasR, HasS, PresentR, PresentS, Whole, present_in, since}
-use Rattle.world_keeps_streams.proofs.Facts.{none_long, some_long, unlike, no_zero, own_if}
+use Rattle.world_keeps_streams.proofs.Facts.{none_long, some_long, no_zero, own_if}
+use Rattle.interface.proofs.lemmas.{unlike}
 
 -- ---- words
 

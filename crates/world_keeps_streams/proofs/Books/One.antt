@@ -12,7 +12,7 @@ use Rattle.world_keeps_streams.proofs.Deeds.Effects.{Among}
 use Rattle.world_keeps_streams.proofs.Requests.Now.{heard_now}
 use Rattle.world_keeps_streams.proofs.Requests.Sides.{Heard, Lawful, Own, law_joined, lives_in}
 use Rattle.world_keeps_streams.proofs.Steps.Joined.{Joined, party}
-use Rattle.world_keeps_streams.proofs.Facts.{unlike}
+use Rattle.interface.proofs.lemmas.{unlike}
 
 -- ---- small facts
 

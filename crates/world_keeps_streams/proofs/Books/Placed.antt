@@ -3,6 +3,7 @@
 use Rattle.world_keeps_streams.proofs.Common.{◌≡◌, inl, inr, ℕ, suc, ◌+◌, ◌<◌, ◌≤◌, ◌==◌, ◌&&◌, nat_lt, Bool, true, false, if◌then◌else◌, List, ◌∷◌, ◌++◌, drop, length, Some, refl, ap, sym, subst, ◌∙◌, arith, eqb-true, length-append, Host, box_of, went_out, Flow, Crossing, HostMessage, or_false, same_flow-refl, waits_with, CrossedAt, text_of, texts_of, last_out, texts_one}
 use Rattle.std.proofs.Common.{◌-◌, []}
 use Rattle.std.proofs.Math.Seq.{drop-append_seam}
+use Rattle.std.proofs.lemmas.Option.{same_Some}
 use Rattle.interface.specs.Flow.{same_flow}
 use Rattle.interface.specs.Mailboxes.{IsRun, Waiting, WaitsWith}
 use Rattle.interface.specs.declared.crossing.Crossing.TheVariants as crossing
@@ -138,9 +139,6 @@ pub record WentAt (m : HostMessage) (place : ℕ) (log : List Crossing) : Type 0
   pub crossed : CrossedAt place (crossing.Out message) log
   pub text : message.text ≡ m.text
 
-place_is : (p q : ℕ) → Some p ≡ Some q → p ≡ q
-place_is p q e = cc
-
 pub went_at : (hosts : List Host) (log : List Crossing) → IsRun hosts log → (taken place : ℕ) (m : HostMessage)
     → CrossedAt taken (crossing.In m) log → last_out m.flow (before taken log) ≡ Some place → WentAt m place log
 went_at hosts [] run taken place m i last = absurd i
@@ -151,7 +149,7 @@ went_at hosts (c ∷ log) run taken place m (inl i) last =
     let w : Waits m.flow m.text log = waiting m.flow log box.0 m.text box.1 in
     let here : before taken (c ∷ log) ≡ log = ap (λ (n : ℕ). before n (c ∷ log)) i.1 ∙ before_end (c ∷ []) log in
     let is : length w.out.before ≡ place =
-    place_is (length w.out.before) place
+    same_Some (length w.out.before) place
     (sym (last_since m.flow w.out.message w.out.since w.out.before (sym w.out.flow) w.out.last)
     ∙ ap (last_out m.flow) (sym w.out.parts) ∙ ap (last_out m.flow) (sym here) ∙ last) in
     record {

@@ -11,7 +11,7 @@ use Rattle.world_keeps_streams.proofs.Deeds.Ends.{Does, IsAt}
 use Rattle.world_keeps_streams.proofs.Deeds.Told.{After}
 use Rattle.world_keeps_streams.proofs.Carried.Streams.{EndOf, HasSent, HasTaken, IsSent, IsTaken, among_there, end_opened, end_own, end_there, gone_more, gone_one, gone_same, sent_step, taken_step, the_end}
 use Rattle.world_keeps_streams.proofs.Carried.Step.{AreOwned, CarriedOn, Carry, by_goes, by_over, by_same, by_stamp}
-use Rattle.world_keeps_streams.proofs.Facts.{and_off}
+use Rattle.interface.proofs.lemmas.{and_none}
 
 module _ (told next_told : ℕ → ℕ → ℕ → ℕ → Type 0) (grows : (own foreign g v : ℕ) → told own foreign g v → next_told own foreign g v) (number : ℕ → ℕ → ℕ → ℕ) (tells : IsTelling number) (a b : Host) (gone : ℕ → ℕ → ℕ) (es : List Entry) (r : ℕ → Receiver) (s : ℕ → Sender) where
   -- ---- where a life is hit, the law is
@@ -48,7 +48,7 @@ module _ (told next_told : ℕ → ℕ → ℕ → ℕ → Type 0) (grows : (own
       off false t never = refl
 
       by : (v w : Bool) → x.ended ≡ v → (x.socket == e.own) ≡ w → lives_at a e.own x ≡ (number x.socket x.foreign g == named (name_of number gone) e)
-      by true w t u = rw (here, t) (and_off (x.socket == e.own) ∙ sym (off (number x.socket x.foreign g == named (name_of number gone) e) refl (ended_apart t)))
+      by true w t u = rw (here, t) (and_none (x.socket == e.own) ∙ sym (off (number x.socket x.foreign g == named (name_of number gone) e) refl (ended_apart t)))
       by false true t u =
           let same : (number x.socket x.foreign g == named (name_of number gone) e) ≡ true = eq-eqb (number x.socket x.foreign g) (named (name_of number gone) e) (number_here t (eqb-true x.socket e.own u)) in
           rw (here, t, u) (sym same)
@@ -74,7 +74,7 @@ module _ (told next_told : ℕ → ℕ → ℕ → ℕ → Type 0) (grows : (own
           let even_end : is_receiving e ≡ true = ap is_receive_socket (sym (same_of q).0) ∙ even in
           let on : is_link link e.link ≡ true = link_is (linked_here q) in
           rw (even_end, on) refl
-      by false t = sym (and_off (receives_on link e))
+      by false t = sym (and_none (receives_on link e))
 
     hits_sender : sends x ≡ true → lives_at a e.own x ≡ at_sender (name_of number gone) link (number x.socket x.foreign g) e
     hits_sender odd = hit ∙ by (number x.socket x.foreign g == named (name_of number gone) e) refl where
@@ -84,7 +84,7 @@ module _ (told next_told : ℕ → ℕ → ℕ → ℕ → Type 0) (grows : (own
           let odd_end : is_receiving e ≡ false = ap is_receive_socket (sym (same_of q).0) ∙ odd_is x.socket odd in
           let on : is_link link e.link ≡ true = link_is (linked_here q) in
           rw (odd_end, on) refl
-      by false t = sym (and_off (sends_on link e))
+      by false t = sym (and_none (sends_on link e))
 
   -- ---- after a call
 

@@ -15,7 +15,7 @@ use Rattle.world_keeps_lives.proofs.lemmas.{IsLess, IsRefusing, called_less, clo
 use Rattle.world_keeps_streams.proofs.Deeds.Effects as deeds
 use Rattle.world_keeps_streams.proofs.Deeds.Effects.{Among, Becomes, Comes, Deed, From, HasLink, IsLinked, IsNew, OpensAs, Stays, among_filter, changed_comes, changed_stays, filtered_stays, found_among, joined_comes, mapped_stays, stays_comes, stays_same, stays_then}
 use Rattle.world_keeps_streams.proofs.Deeds.Kinds.{arrives, arrives_if, closings, deed_of, hears, matches, opens, opens_by, returns, says, sweeps}
-use Rattle.world_keeps_streams.proofs.Facts.{and_off}
+use Rattle.interface.proofs.lemmas.{and_none}
 
 -- ---- at which ends
 
@@ -214,7 +214,7 @@ module _ (name : ℕ → ℕ → ℕ) (p : Host) (q : PairState) (listening : Li
   join_new e n = (joined_comes deeds.Nothing e q.entries n, tt)
 
   lacks_partner : (e : Entry) → is_some e.partner ≡ false → has_opened e ≡ false
-  lacks_partner e f = ap (λ (b : Bool). is_some e.asked && b) f ∙ and_off (is_some e.asked)
+  lacks_partner e f = ap (λ (b : Bool). is_some e.asked && b) f ∙ and_none (is_some e.asked)
 
   matched_does : (x y : ℕ) (c : Command) (e : Entry) (change : Entry → Entry) → entry_at x y q.entries ≡ Some e → (change e).own ≡ e.own → (change e).foreign ≡ e.foreign → (change e).mine ≡ e.mine → IsRefusing (change e) → (IsLinked e → IsLinked (change e))
       → Does (matches x y change q.entries (Some e)) q.entries (commands.matched_once p x y c e change (desk_of q listening)).entries

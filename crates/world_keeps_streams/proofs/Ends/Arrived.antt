@@ -40,7 +40,7 @@ use Rattle.world_keeps_streams.proofs.Lives.Fates.{beside_of, beside_over}
 use Rattle.world_keeps_streams.proofs.Lives.Lists.{Grown, IsOf, Named, contains, grown, is_of, named_itself, of_drop, of_left, of_map, of_parts}
 use Rattle.world_keeps_streams.proofs.Requests.Names.{request_grows}
 use Rattle.world_keeps_streams.proofs.Requests.Sides.{Heard, Lawful, Own, lives_in}
-use Rattle.world_keeps_streams.proofs.Facts.{unlike}
+use Rattle.interface.proofs.lemmas.{unlike}
 
 -- ---- in the law of streams: a receiver that hasn't closed first has taken all that came
 

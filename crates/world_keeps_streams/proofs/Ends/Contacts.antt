@@ -14,9 +14,10 @@ use Rattle.reset_law.specs.Events.{Reply, Reset, is_up}
 use Rattle.sockets.specs.declared.request.Request.TheVariants as request
 use Rattle.world_keeps_streams.proofs.Books.Run.{below}
 use Rattle.world_keeps_streams.proofs.Ends.Courses.{any_with, contacts_below, is_there, none_there, not_there}
-use Rattle.world_keeps_streams.proofs.Ends.Marks.{never, or_right}
+use Rattle.world_keeps_streams.proofs.Ends.Marks.{never}
 use Rattle.world_keeps_streams.proofs.Ends.Owes.{AData, AReply, AReset, Outs, Several, next_out, outs, pair_is}
 use Rattle.world_keeps_streams.proofs.Requests.Sides.{Lawful, coupled_in}
+use Rattle.interface.proofs.lemmas.{or_nothing}
 
 -- ---- whether a contact was the last thing, moment by moment
 
@@ -31,7 +32,7 @@ any_later : (h p : Host) (place : ℕ) (cs : List Called) (c : Called) → (c.pl
     → list_any (is_contact h p place) (cs ++ c ∷ []) ≡ list_any (is_contact h p place) cs
 any_later h p place cs c never_there =
     any_with h p place cs c ∙ ap (λ (v : Bool). list_any (is_contact h p place) cs || v)
-    (not_there h p place c (c.place == place) never_there refl) ∙ or_right (list_any (is_contact h p place) cs)
+    (not_there h p place c (c.place == place) never_there refl) ∙ or_nothing (list_any (is_contact h p place) cs)
 
 later_call : (h p : Host) (cs : List Called) (c : Called) (log : List Crossing) → length log < c.place
     → contacts_now (cs ++ c ∷ []) h p log ≡ contacts_now cs h p log

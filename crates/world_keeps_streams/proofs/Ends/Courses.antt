@@ -9,8 +9,8 @@ use Rattle.promise.specs.Ends.{called, course, is_half}
 use Rattle.promise.specs.declared.life.Life.{Life}
 use Rattle.net_sim.specs.Book.{contacts_asked}
 use Rattle.net_sim.proofs.lemmas.{places_same}
-use Rattle.world_keeps_streams.proofs.Ends.Marks.{or_right}
 use Rattle.world_keeps_streams.proofs.Lives.Lists.{Named}
+use Rattle.interface.proofs.lemmas.{or_nothing}
 
 -- ---- a life by its names only
 
@@ -121,13 +121,13 @@ called_none x n place cs k less b = ap (λ (v : Bool). contacted_if v place k) (
 
 pub any_with : (h p : Host) (place : ℕ) (cs : List Called) (c : Called)
     → list_any (is_contact h p place) (cs ++ c ∷ []) ≡ (list_any (is_contact h p place) cs || is_contact h p place c)
-any_with h p place cs c = list_any-append (is_contact h p place) cs (c ∷ []) ∙ ap (λ (v : Bool). list_any (is_contact h p place) cs || v) (or_right (is_contact h p place c))
+any_with h p place cs c = list_any-append (is_contact h p place) cs (c ∷ []) ∙ ap (λ (v : Bool). list_any (is_contact h p place) cs || v) (or_nothing (is_contact h p place c))
 
 -- before its place it changes nothing
 called_with : (x : Life) (place : ℕ) (cs : List Called) (c : Called) (k : Course) → (c.place ≡ place → ⊥) → called (cs ++ c ∷ []) x place k ≡ called cs x place k
 called_with x place cs c k never =
     ap (λ (v : Bool). contacted_if v place k)
-    (any_with x.host x.peer place cs c ∙ ap (λ (v : Bool). list_any (is_contact x.host x.peer place) cs || v) (not_there x.host x.peer place c (c.place == place) never refl) ∙ or_right (list_any (is_contact x.host x.peer place) cs))
+    (any_with x.host x.peer place cs c ∙ ap (λ (v : Bool). list_any (is_contact x.host x.peer place) cs || v) (not_there x.host x.peer place c (c.place == place) never refl) ∙ or_nothing (list_any (is_contact x.host x.peer place) cs))
 
 later_contact : (x : Life) (cs : List Called) (c : Called) (log : List Crossing) → length log < c.place → course (cs ++ c ∷ []) x log ≡ course cs x log
 later_contact x cs c [] less = called_with x 0 cs c begin (λ e. absurd (omega (arith, less, e)))

@@ -3,6 +3,7 @@ use Rattle.world_keeps_streams.proofs.Common.{◌≡◌, ℕ, ◌==◌, ◌&&◌
 use Rattle.ncp_control.specs.declared.command.Command.TheVariants as command
 use Rattle.promise.specs.Ends.{Closed, is_half}
 use Rattle.promise.specs.declared.life.Life.{Life}
+use Rattle.interface.proofs.lemmas.{or_nothing}
 
 pub never : {A : Type 0} → true ≡ false → A
 never e = absurd (let no : true ≡ false = e in cc)
@@ -64,10 +65,6 @@ abbrev pub AskOnce : List Mark → Type 0
 AskOnce [] = Unit {0}
 AskOnce (Ask p ∷ ms) = NoAsk ms
 AskOnce (Close ∷ ms) = AskOnce ms
-
-pub or_right : (v : Bool) → (v || false) ≡ v
-or_right true = refl
-or_right false = refl
 
 or_three : (u v w : Bool) → (u || (v || w)) ≡ ((u || v) || w)
 or_three true v w = refl
@@ -204,33 +201,33 @@ module _ (x : Life) (place : ℕ) where
 
   own_ask_early : (v w : Bool) (k : Course) → (if v && w then record k { stage = own_asked k.stage } else k).early ≡
       (k.early || own_early (if v then Ask place ∷ [] else []) k.stage)
-  own_ask_early true true k = sym (or_right k.early)
-  own_ask_early true false k = sym (or_right k.early)
-  own_ask_early false w k = sym (or_right k.early)
+  own_ask_early true true k = sym (or_nothing k.early)
+  own_ask_early true false k = sym (or_nothing k.early)
+  own_ask_early false w k = sym (or_nothing k.early)
 
   own_close_early : (v : Bool) (k : Course) → (if v then ended_by (own_closed place) k else k).early ≡
       (k.early || own_early (if v then Close ∷ [] else []) k.stage)
-  own_close_early true k = ap (λ (v : Bool). k.early || v) (sym (or_right (is_half k.stage)))
-  own_close_early false k = sym (or_right k.early)
+  own_close_early true k = ap (λ (v : Bool). k.early || v) (sym (or_nothing (is_half k.stage)))
+  own_close_early false k = sym (or_nothing k.early)
 
   own_step_early : (c : Command) (k : Course) → (own_step x place c k).early ≡
       (k.early || own_early (mark_of place x.socket x.foreign c) k.stage)
   own_step_early (command.Rts r n l) k = own_ask_early (r == x.socket && n == x.foreign) (place == x.own_stamp) k
   own_step_early (command.Str n r size) k = own_ask_early (n == x.socket && r == x.foreign) (place == x.own_stamp) k
   own_step_early (command.Cls a b) k = own_close_early (a == x.socket && b == x.foreign) k
-  own_step_early c k = sym (or_right k.early)
+  own_step_early c k = sym (or_nothing k.early)
 
   partner_ask_early : (v w : Bool) (k : Course)
       → (if v && w then record k { stage = partner_asked k.stage } else k).early ≡
       (k.early || partner_early (if v then Ask place ∷ [] else []) k.stage)
-  partner_ask_early true true k = sym (or_right k.early)
-  partner_ask_early true false k = sym (or_right k.early)
-  partner_ask_early false w k = sym (or_right k.early)
+  partner_ask_early true true k = sym (or_nothing k.early)
+  partner_ask_early true false k = sym (or_nothing k.early)
+  partner_ask_early false w k = sym (or_nothing k.early)
 
   partner_close_early : (v : Bool) (k : Course) → (if v then ended_by (partner_closed place) k else k).early ≡
       (k.early || partner_early (if v then Close ∷ [] else []) k.stage)
-  partner_close_early true k = ap (λ (v : Bool). k.early || v) (sym (or_right (is_half k.stage)))
-  partner_close_early false k = sym (or_right k.early)
+  partner_close_early true k = ap (λ (v : Bool). k.early || v) (sym (or_nothing (is_half k.stage)))
+  partner_close_early false k = sym (or_nothing k.early)
 
   partner_step_early : (c : Command) (k : Course) → (partner_step x place c k).early ≡
       (k.early || partner_early (mark_of place x.foreign x.socket c) k.stage)
@@ -239,11 +236,11 @@ module _ (x : Life) (place : ℕ) where
   partner_step_early (command.Str n r size) k =
       partner_ask_early (n == x.foreign && r == x.socket) (place == x.partner_stamp) k
   partner_step_early (command.Cls a b) k = partner_close_early (a == x.foreign && b == x.socket) k
-  partner_step_early c k = sym (or_right k.early)
+  partner_step_early c k = sym (or_nothing k.early)
 
   pub all_said_early : (cs : List Command) (k : Course) → ArePlain cs → (each (said x place) (map Legal cs) k).early ≡
       (k.early || own_early (marks place x.socket x.foreign cs) k.stage)
-  all_said_early [] k h = sym (or_right k.early)
+  all_said_early [] k h = sym (or_nothing k.early)
   all_said_early (c ∷ cs) k h =
       all_said_early cs (said x place c k) h.1
       ∙ ap (λ (j : Course). j.early || own_early (marks place x.socket x.foreign cs) j.stage)
@@ -259,7 +256,7 @@ module _ (x : Life) (place : ℕ) where
 
   pub all_heard_early : (os : List Order) (k : Course) → AllPlain os → (each (heard x place) os k).early ≡
       (k.early || partner_early (marks_in place x.foreign x.socket os) k.stage)
-  all_heard_early [] k h = sym (or_right k.early)
+  all_heard_early [] k h = sym (or_nothing k.early)
   all_heard_early (Legal c ∷ os) k h =
       all_heard_early os (heard x place c k) h.1
       ∙ ap (λ (j : Course). j.early || partner_early (marks_in place x.foreign x.socket os) j.stage)

@@ -8,7 +8,7 @@ use Rattle.host_keeps_streams.specs.Histories as calls
 use Rattle.host_keeps_streams.specs.Histories.{Call, IsClosing}
 use Rattle.host_keeps_streams.specs.Names.{named}
 use Rattle.host_keeps_streams.proofs.lemmas.{Holds}
-use Rattle.world_keeps_streams.proofs.Facts.{unlike}
+use Rattle.interface.proofs.lemmas.{unlike}
 
 -- ---- a connection that was asked for
 

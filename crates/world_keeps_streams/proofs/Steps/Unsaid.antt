@@ -11,7 +11,7 @@ use Rattle.host_keeps_streams.specs.Histories.{Call}
 use Rattle.host_keeps_streams.proofs.lemmas.{Holds}
 use Rattle.world_keeps_streams.proofs.Deeds.Effects.{Among, among_kept, found_among}
 use Rattle.world_keeps_streams.proofs.Books.Arrives.{one_end}
-use Rattle.world_keeps_streams.proofs.Facts.{unlike}
+use Rattle.interface.proofs.lemmas.{unlike}
 
 -- its end is there, and it has said its CLS only where it has heard the sender's
 pub record IsHere (r : Receiver) (c : ℕ) : Type 0 where

@@ -4,9 +4,10 @@ use Rattle.ncp_control.specs.Reading.{command_of, read_of}
 use Rattle.host_pairs.specs.Control.{orders_of}
 use Rattle.book_judge.specs.WorkedLives.{stopped_log}
 use Rattle.book_judge.proofs.Crossed.Made.{made_formed, none_made}
-use Rattle.book_judge.proofs.Named.{contains_cases, contains_head, contains_none}
+use Rattle.book_judge.proofs.Named.{contains_cases}
 use Rattle.book_judge.proofs.Worked.{gave_goes, took_goes}
 use Rattle.book_judge.proofs.law.worked_lives.Goals as goal
+use Rattle.interface.proofs.lemmas.{contains_head, contains_none}
 
 going_made : (x : Life) → stage [] x sent_log ≡ Going false false → IsFormed sent_log x → IsMade sent_log x
 going_made x goes f = record {

@@ -1,9 +1,10 @@
 use Rattle.book_judge.proofs.Common.{◌≡◌, ◌==◌, Bool, true, false, List, refl, ap, sym, subst, ◌∙◌, same_flow, same_host, Flow, same_flow-true, orders_of, named_in}
-use Rattle.book_judge.proofs.Crossed.Streamed.{named_message, nested, past_end, piece_there, slice_none, unnamed_flow, unnamed_message, unnamed_place}
+use Rattle.std.proofs.lemmas.Option.{slice_get_past}
+use Rattle.book_judge.proofs.Crossed.Streamed.{named_message, nested, past_end, piece_there, unnamed_flow, unnamed_message, unnamed_place}
 use Rattle.book_judge.proofs.lives.named_at.Goals as goal
 
 pub returns-in_err-get : goal.returns-in_err-get
-returns-in_err-get c = λ from to e. c.from_residual.ensures ∙ unnamed_place c.args.comes from to c.args.own c.args.foreign c.args.place c.args.log.now (slice_none c.args.log.now c.args.place (past_end c.args.log.now c.args.log.now c.args.place refl c.in_err-get.ensures.lookup.0))
+returns-in_err-get c = λ from to e. c.from_residual.ensures ∙ unnamed_place c.args.comes from to c.args.own c.args.foreign c.args.place c.args.log.now (slice_get_past c.args.log.now c.args.place (past_end c.args.log.now c.args.log.now c.args.place refl c.in_err-get.ensures.lookup.0))
 
 pub returns-in_err-message : goal.returns-in_err-message
 returns-in_err-message c = λ from to e.

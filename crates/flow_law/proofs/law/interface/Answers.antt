@@ -1,12 +1,12 @@
 use Rattle.std.proofs.Common.{[]}
 use Rattle.std.specs.List.{Contains}
-use Rattle.flow_law.proofs.Clauses.{none_there}
 use Rattle.flow_law.proofs.FollowLemmas.{all_follow, all_open, sound_log, sound_run, passed_over-append}
 use Rattle.flow_law.proofs.StepLemmas.{one_follows, silent_follows}
 use Rattle.flow_law.proofs.law.interface.Goals as goal
+use Rattle.interface.proofs.lemmas.{contains_none}
 
 pub returns-clause-opening : goal.returns-clause-opening
-returns-clause-opening c = λ test hosts view o. all_open hosts view (λ f. Contains []) o (λ f. none_there)
+returns-clause-opening c = λ test hosts view o. all_open hosts view (λ f. Contains []) o (λ f. contains_none)
 
 pub returns-clause-kept : goal.returns-clause-kept
 returns-clause-kept c = λ test hosts entries log moves old new before left a h.

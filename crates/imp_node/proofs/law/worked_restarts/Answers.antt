@@ -14,6 +14,7 @@ use Rattle.routing.specs.RouteTable.{next_of, distance_to}
 use Rattle.imp_node.specs.Examples.{host, flow}
 use Rattle.imp_node.proofs.SentFlow.{is_begun, is_taken}
 use Rattle.imp_node.proofs.law.worked_restarts.Goals as goal
+use Rattle.interface.proofs.lemmas.{and_second}
 
 -- a host of which a message is outstanding, and one of which none is
 some_unsettled : (m : Sources) (h : Host) (g : Flow) (n : ℕ) → same_host g.source h ≡ true → outstanding_in (get m g) ≡ Some n → has_outstanding h m ≡ true
@@ -47,18 +48,13 @@ given_up_all g =
     ap outstanding_in (get_given_up one_sent sent g ∙ ap (λ (s : Option Standing). if same_flow g sent then option_map given_up_in (get one_sent sent) else s) (get_begun empty sent g))
     ∙ ended_by g (same_flow g sent)
 
--- no other host has one
-second : (x y : Bool) → (x && y) ≡ true → y ≡ true
-second true y is = is
-second false y is = absurd (cc)
-
 none : (x y z : Bool) → (((x && false) && y) && z) ≡ false
 none true y z = refl
 none false y z = refl
 
 not_from : (g : Flow) → same_host g.source (host 1 1) ≡ true → same_flow g sent ≡ false
 not_from g from =
-    let at : g.source.host ≡ 1 = eqb-true g.source.host 1 (second _ _ from) in
+    let at : g.source.host ≡ 1 = eqb-true g.source.host 1 (and_second _ _ from) in
     let other : eqb g.source.host 0 ≡ false = ne_eqb g.source.host 0 (λ (same : g.source.host ≡ 0). omega (arith, at, same)) in
     rw other (none _ _ _)
 

@@ -1,4 +1,5 @@
 use Rattle.std.proofs.Common.{◌≡◌, Option, None, subst, Vec, Global}
+use Rattle.std.proofs.lemmas.List.{get_or_default}
 use Rattle.imp_node.specs.State.{State}
 use Rattle.imp_node.specs.declared.outgoing.Outgoing.{Outgoing}
 use Rattle.subnet.specs.Events.{at_up}
@@ -6,13 +7,13 @@ use Rattle.subnet.specs.Calls.{grows_at}
 use Rattle.subnet.specs.Net.{imp_at}
 use Rattle.subnet.specs.declared.imp_call.ImpCall.TheVariants as variants
 use Rattle.subnet.specs.Inside.Calling.{call_refusal, call_turn, call_grows, CallEnds, imp_by, frames_by}
-use Rattle.subnet.proofs.Calls.Living.{live_call, read_alike}
+use Rattle.subnet.proofs.Calls.Living.{live_call}
 use Rattle.subnet.proofs.imp_call.arrive_at_imp.Goals as goal
 
 pub returns-clause-live : goal.returns-clause-live
 returns-clause-live c =
     let call = variants.Arrive c.args.port c.args.frame in
-    let read = read_alike c.args.imps.now c.args.imp c.index-imps-at.result None c.if-at-imps.false in
+    let read = get_or_default c.args.imps.now c.args.imp c.index-imps-at.result None c.if-at-imps.false in
     live_call c.arrive_at.result c.args.imps.now c.args.imp c.arrive_at.new.place call (at_up (imp_at c.args.imps.now c.args.imp) (call_refusal call)) (grows_at (imp_at c.args.imps.now c.args.imp) (call_grows call))
     (λ frames. frames.items ≡ frames_by (imp_at c.args.imps.now c.args.imp) (call_turn call)) c.requires
     (subst (λ (o : Option State). CallEnds (at_up o (call_refusal call)) (grows_at o (call_grows call)) (λ (frames : Vec Outgoing Global). (c.arrive_at.new.place ≡ imp_by o (call_turn call)) × (frames.items ≡ frames_by o (call_turn call))) o c.arrive_at.new.place c.arrive_at.result) read c.arrive_at.ensures.call)

@@ -1,9 +1,9 @@
 use Rattle.std.proofs.Common.{Option, None, sym, subst, ◌∙◌}
+use Rattle.std.proofs.lemmas.List.{get_or_default}
 use Rattle.imp_node.specs.State.{State}
 use Rattle.subnet.specs.Inside.Calling.{IsLive}
-use Rattle.subnet.proofs.Calls.Living.{read_alike}
 use Rattle.subnet.proofs.starting.is_kept_beside.Goals as goal
 
 pub is_kept_at-requires : goal.is_kept_at-requires
 is_kept_at-requires c =
-    subst (λ (o : Option State). IsLive c.loop-at.at o) (sym (c.index-imps-at.is ∙ read_alike c.args.imps.now c.loop-at.at c.index-imps-at.result None c.loop-at-test.true)) (c.requires c.loop-at.at)
+    subst (λ (o : Option State). IsLive c.loop-at.at o) (sym (c.index-imps-at.is ∙ get_or_default c.args.imps.now c.loop-at.at c.index-imps-at.result None c.loop-at-test.true)) (c.requires c.loop-at.at)
