@@ -144,7 +144,7 @@ impl Entry {
     }
 
     /// Returns whether it is this host's own on this socket. The socket is looked at first, since few ends have it.
-    #[tactic(auto, using(crate::proofs::ParcelLemmas::and_turned))]
+    #[tactic(auto, using(interface::proofs::lemmas::and_turned))]
     pub(crate) fn is_mine_on(&self, socket: u32) -> bool
         ensures { result ≡ entries.is_mine_on socket self.now }
     {

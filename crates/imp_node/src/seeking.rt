@@ -30,7 +30,7 @@ pub enum Sought {
 impl Sought {
     /// Returns whether a message or packet of this flow and number is sought, if it travels to the destination or not.
     /// Numbers are compared first, since most differ.
-    #[tactic(auto, using(crate::proofs::Searching::number_first))]
+    #[tactic(auto, using(interface::proofs::lemmas::and_turned))]
     pub(crate) fn is_sought(&self, request: bool, flow: &Flow, number: Number) -> bool
         ensures { result ≡ is_sought self.now request flow.now number }
     {

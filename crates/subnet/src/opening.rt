@@ -46,7 +46,7 @@ impl Parts {
 }
 
 /// Returns the IMPs of these sites, with the ports that the lines give them.
-#[tactic(auto, using(crate::proofs::Calls::Opens::site_fits, crate::proofs::Calls::Opens::all_ports))]
+#[tactic(auto, using(crate::proofs::Calls::Opens::site_fits, crate::proofs::Calls::Starts::all_ports))]
 fn opened_imps(
     alloc: Global,
     sites: &[Option<u8>],

@@ -58,7 +58,7 @@ impl Sought {
     }
 
     /// Returns whether this packet is sought. Numbers are compared first, since most differ.
-    #[tactic(auto, using(crate::proofs::Calls::Carrying::number_first))]
+    #[tactic(auto, using(interface::proofs::lemmas::and_turned))]
     fn is_packet(&self, packet: &Packet) -> bool
         ensures { result ≡ packet_is self.now packet.now }
     {
