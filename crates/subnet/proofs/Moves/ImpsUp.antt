@@ -37,7 +37,6 @@ use Rattle.subnet.proofs.Moves.Views.{view_parts, alive_less}
 use Rattle.subnet.proofs.Moves.Turns.{Answerable}
 use Rattle.subnet.proofs.Moves.Askable.{one_begins}
 use Rattle.subnet.proofs.Moves.ManyFlows.{all_moved, at_end, kept_messages, and_true_is}
-use Rattle.subnet.proofs.Moves.ImpsDown.{none_begins}
 
 -- ---- an IMP that just started
 
@@ -202,6 +201,12 @@ new_view n i s f start =
     up j =
         at_end imp_is_up up_where n.imps i j (Some s) true (λ x. refl) start.there refl
         ∙ ap (λ (c : Bool). up_where c (imp_is_up (imp_at n.imps j))) (and_true_is (j == i))
+
+none_begins : (a b : Bool) → one_begins (moves_by a b) ≡ false
+none_begins true true = refl
+none_begins true false = refl
+none_begins false true = refl
+none_begins false false = refl
 
 -- ---- the event
 
