@@ -19,6 +19,7 @@ use Rattle.interface.specs.declared.crossing.Inbound.TheVariants as inbound
 use Rattle.ncp_control.specs.Allocation as counters
 use Rattle.ncp_control.specs.declared.allocation.Allocation.{Allocation}
 use Rattle.ncp_control.specs.declared.command.Command.TheVariants as command
+use Rattle.interface.proofs.lemmas.{contains_head}
 use Rattle.host_pairs.specs.Commands as commands
 use Rattle.host_pairs.specs.Entries.{is_link, refused_end}
 use Rattle.host_pairs.specs.declared.entry.Closing.{Closing}
@@ -30,7 +31,7 @@ use Rattle.host_keeps_streams.specs.Ends.{has_opened}
 use Rattle.promise.specs.declared.life.Amount.{Amount}
 use Rattle.net_sim.specs.Book.{more}
 use Rattle.world_keeps_lives.proofs.lemmas.{GoesAll, HearsAll, IsNoMore, Leaves, Starts, each_first}
-use Rattle.world_keeps_lives.proofs.lemmas.{first_of, no_more, quiet_off, quiet_sent, turn_order, turn_passes}
+use Rattle.world_keeps_lives.proofs.lemmas.{no_more, quiet_off, quiet_sent, turn_order, turn_passes}
 use Rattle.mixed_worlds.specs.Toward.{granted_in}
 use Rattle.std.proofs.lemmas.Option.{same_Some}
 use Rattle.mixed_worlds.proofs.EndMoments.{Free}
@@ -334,7 +335,7 @@ module _ (x : Share) (total : ℕ → Amount) where
           → Each (So (o ∷ os)) t.pair.entries → Each (So os) (order_taken peer stamp o t).pair.entries
       another_taken o os t ok now not h =
           (turn_order (So os) Free peer (leaves_of peer stamp k os) stamp (o ∷ []) (hears o os now not) o t ok
-          (first_of o []) (record {
+          (contains_head o []) (record {
             ends = each_weaker (So (o ∷ os)) (So os) t.pair.entries (later stamp k o os) h;
             told = all_free t.notices;
           })).ends

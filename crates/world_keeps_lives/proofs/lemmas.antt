@@ -21,7 +21,7 @@ pub use Rattle.world_keeps_lives.proofs.Owners.{owner_found}
 pub use Rattle.world_keeps_lives.proofs.Walk.ByRules.{Done, Ends, answer_keeps, goes_all, leaves, may_grant, message_keeps}
 pub use Rattle.world_keeps_lives.proofs.Walk.ByRules.{offer_keeps, request_keeps, request_told, starts}
 pub use Rattle.world_keeps_lives.proofs.Walk.Rules.{Begins, Each, Goes, Hears, IsOther, MayTell, Quiet}
-pub use Rattle.world_keeps_lives.proofs.Walk.Rules.{Rules, each_first, each_in, each_of, each_weaker, first_of, found_in, quiet_off, quiet_sent}
+pub use Rattle.world_keeps_lives.proofs.Walk.Rules.{Rules, each_first, each_in, each_of, each_weaker, found_in, quiet_off, quiet_sent}
 pub use Rattle.world_keeps_lives.proofs.Rows.{none_there}
 pub use Rattle.world_keeps_lives.proofs.Steps.{called_less, closed_less, good_queued, heard_less, sent_less}
 pub use Rattle.world_keeps_lives.proofs.Takes.{G, good_data, good_taken}
