@@ -10,6 +10,7 @@ mod Judged
 mod LastWord
 mod Lived
 mod Logs
+mod MixedTraced
 mod Named
 mod Once
 mod OneInput

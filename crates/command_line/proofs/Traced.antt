@@ -84,7 +84,7 @@ asking_counts number (l ∷ ls) = by (asking_counts (number + 1) ls) (asks l) re
   by more true e = rw e (ap (λ (n : ℕ). suc n) more)
   by more false e = rw e more
 
-as_many : {E : Type 0} (spell : E → List ℕ) (IsMeant : E → Type 0) (events : List E) (ls : List (List ℕ)) → AskForAs spell IsMeant events ls → length (asking_from 1 ls) ≡ length events
+pub as_many : {E : Type 0} (spell : E → List ℕ) (IsMeant : E → Type 0) (events : List E) (ls : List (List ℕ)) → AskForAs spell IsMeant events ls → length (asking_from 1 ls) ≡ length events
 as_many spell IsMeant events ls asked = asking_counts 1 ls ∙ sym (ap length asked.spelled) ∙ length-map events spell
 
 asked_many : (raw : Bool) (events : Asked) (script : List ℕ) → AsksFor raw events (lines_of script) → length (event_lines script) ≡ asked_count events

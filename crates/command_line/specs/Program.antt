@@ -7,9 +7,9 @@ use Rattle.command_line.specs.Either.{IsEitherFault, IsEitherInput, RanEither, R
 use Rattle.command_line.specs.Faults.{script_text, status_of}
 use Rattle.command_line.specs.Input.{IsInputFault, IsSomeInput}
 use Rattle.command_line.specs.Logs.{Logged, LogsInput}
+use Rattle.command_line.specs.MixedTraced.{TraceStopsEither, TracedEither, TracedEitherInPart, TracesEither}
 use Rattle.command_line.specs.Options.{detail_of, options_of, task_of}
 use Rattle.command_line.specs.Reading.{ReadsAll, ReadsFirst}
-use Rattle.command_line.specs.Traced.{TraceStops, Traced, TracedInPart, TracesInput}
 use Rattle.command_line.specs.declared.about.TheConstants.{HELP, VERSION}
 use Rattle.command_line.specs.declared.auditing.AuditFault.{AuditFault}
 use Rattle.command_line.specs.declared.auditing.AuditFault.TheVariants as log
@@ -86,14 +86,14 @@ pub record EndsLog (s : Sides) (r : Result (Unit {0}) ScriptFault) : Type 0 wher
 
 -- an input is replayed and its trace is written, or the first fault is given, and where memory runs out the first part is written
 pub record EndsTrace (s : Sides) (r : Result (Unit {0}) ScriptFault) : Type 0 where
-  pub ran : OnOk r (Traced s.before s.after)
-  pub traced : OnOk r (IfSome s.input (λ octets. TracesInput octets s.before s.after))
-  pub read : s.unread ≡ false → IfSome s.input (λ octets. MatchResult r (λ _. IsSomeInput octets) (IsInputFault octets))
+  pub ran : OnOk r (TracedEither s.before s.after)
+  pub traced : OnOk r (IfSome s.input (λ octets. TracesEither octets s.before s.after))
+  pub read : s.unread ≡ false → IfSome s.input (λ octets. MatchResult r (λ _. IsEitherInput octets) (IsEitherFault octets))
   pub options_read : IfErr r (λ f. f ≢ script.BadOptions)
   pub reads : ReadsFirst s.input s.left
   pub reads_all : r ≢ Err script.CannotRead → r ≢ Err script.OutOfMemory → ReadsAll s.input s.left
-  pub ran_in_part : r ≡ Err script.OutOfMemory → Keeps s.before s.after ⊎ TracedInPart s.before s.after
-  pub first_part : r ≡ Err script.OutOfMemory → IfSome s.input (λ octets. Keeps s.before s.after ⊎ TraceStops octets s.before s.after)
+  pub ran_in_part : r ≡ Err script.OutOfMemory → Keeps s.before s.after ⊎ TracedEitherInPart s.before s.after
+  pub first_part : r ≡ Err script.OutOfMemory → IfSome s.input (λ octets. Keeps s.before s.after ⊎ TraceStopsEither octets s.before s.after)
 
 -- a log is audited and what the audit says is written, or the first fault is given. Unless a read fails or memory runs out, all of it is read; where
 -- memory runs out nothing is written

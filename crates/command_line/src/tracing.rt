@@ -3,15 +3,18 @@
 ghost use Rattle.std.specs.Prelude.{◌≡◌, ◌≢◌, ◌↔◌, ◌≤◌, [], Err, IfErr, IfOk, IfSome, MatchResult, OnOk, false, length, true};
 ghost use Rattle.net_sim.specs.Carriers.{shown};
 ghost use Rattle.command_line.specs.Events.{asked_of};
-ghost use Rattle.command_line.specs.Input.{IsInputFault, IsSomeInput};
+ghost use Rattle.command_line.specs.Either.{IsEitherFault, IsEitherInput};
+ghost use Rattle.command_line.specs.Input.{IsInputFault};
+ghost use Rattle.command_line.specs.MixedTraced.{TraceStopsEither, TraceStopsKnown, TracedEither, TracedEitherInPart, TracesEither};
 ghost use Rattle.command_line.specs.Reading.{ReadsAll, ReadsFirst};
-ghost use Rattle.command_line.specs.Steps.{IsReplayFault};
+ghost use Rattle.command_line.specs.Steps.{IsFollowFault, IsReplayFault};
 ghost use Rattle.command_line.specs.Stopping.{NothingOr};
-ghost use Rattle.command_line.specs.Traced.{EndsAll, EndsFrom, EndsOn, IsScripted, TraceStops, Traced, TracedInPart, TracesAll, TracesFrom, TracesInput, TracesOn, WorldEndsFrom, WorldTracesFrom};
+ghost use Rattle.command_line.specs.Traced.{EndsAll, EndsFrom, EndsOn, IsScripted, TracesAll, TracesFrom, TracesOn, WorldEndsFrom, WorldTracesFrom};
 
 use crate::carriers::subnet_of;
 use crate::fault::ScriptFault;
 use crate::input::{Events, Input, read_input, read_octets};
+use crate::mixed_tracing::trace_mixed;
 use crate::source::Source;
 use leader1822::PlainBoxes;
 use net_sim::World;
@@ -42,11 +45,11 @@ pub fn run_trace<R: Source, W: Output>(
     requires more { R.ended reader.old ≡ false }
     requires writes { W.failed writer.old ≡ false }
 
-    // the trace of some script over the carrier of some topology is written, whatever the reader
-    ensures ran { OnOk result (Traced (W.contents writer.old) (W.contents writer.new)) }
+    // the trace of some script over the carrier of some topology is written, whatever the reader, among strangers or not
+    ensures ran { OnOk result (TracedEither (W.contents writer.old) (W.contents writer.new)) }
 
     // and of a reader whose octets are known these are the script and the topology that were read
-    ensures traced { OnOk result (IfSome (R.remaining reader.old) (λ octets. TracesInput octets (W.contents writer.old) (W.contents writer.new))) }
+    ensures traced { OnOk result (IfSome (R.remaining reader.old) (λ octets. TracesEither octets (W.contents writer.old) (W.contents writer.new))) }
 
     // the reader is asked for the first octets only, and for an octet more than an input may have at most; unless a read fails or memory runs out, it is
     // asked for all of them
@@ -54,7 +57,7 @@ pub fn run_trace<R: Source, W: Output>(
     ensures reads_all { result ≢ Err ScriptFault.CannotRead → result ≢ Err ScriptFault.OutOfMemory → ReadsAll (R.remaining reader.old) (R.remaining reader.new) }
 
     // what is read is an input, or the first fault is given
-    ensures read { R.failed reader.new ≡ false → IfSome (R.remaining reader.old) (λ octets. MatchResult result (λ _. IsSomeInput octets) (IsInputFault octets)) }
+    ensures read { R.failed reader.new ≡ false → IfSome (R.remaining reader.old) (λ octets. MatchResult result (λ _. IsEitherInput octets) (IsEitherFault octets)) }
     ensures options { IfErr result (λ f. f ≢ ScriptFault.BadOptions) }
 
     // where a read or a write fails it is reported, and nowhere else
@@ -68,16 +71,39 @@ pub fn run_trace<R: Source, W: Output>(
     ensures untouched { IfErr result (λ f. f ≢ ScriptFault.CannotWrite → f ≢ ScriptFault.OutOfMemory → writer.new ≡ writer.old) }
 
     // after memory has run out the output is a prefix of the trace
-    ensures ran_in_part { result ≡ Err ScriptFault.OutOfMemory → NothingOr TracedInPart (W.contents writer.old) (W.contents writer.new) }
-    ensures first_part { result ≡ Err ScriptFault.OutOfMemory → IfSome (R.remaining reader.old) (λ octets. NothingOr (TraceStops octets) (W.contents writer.old) (W.contents writer.new)) }
+    ensures ran_in_part { result ≡ Err ScriptFault.OutOfMemory → NothingOr TracedEitherInPart (W.contents writer.old) (W.contents writer.new) }
+    ensures first_part { result ≡ Err ScriptFault.OutOfMemory → TraceStopsKnown (R.remaining reader.old) (W.contents writer.old) (W.contents writer.new) }
 {
     let octets = read_octets(alloc, reader)?;
-    let Scripted {
-        network,
-        lines,
-        events,
-    } = read_scripted(alloc, &octets)?;
-    trace_on(alloc, &network, &lines, events, writer)
+    follow(alloc, &octets, writer)
+}
+
+/// Writes the trace of the input that octets are, with strangers or without. What is no input without strangers may be one
+/// with them.
+///
+/// Errors: `BadTopology`, `BadLine`, `CannotWrite`, `OutOfMemory`, as [`run_trace`].
+fn follow<W: Output>(alloc: Global, octets: &[u8], writer: &mut W) -> Result<(), ScriptFault>
+    requires short { length octets.now ≤ MAX_INPUT }
+    requires writes { W.failed writer.old ≡ false }
+    ensures traced { OnOk result (TracesEither octets.now (W.contents writer.old) (W.contents writer.new)) }
+    ensures read { MatchResult result (λ _. IsEitherInput octets.now) (IsEitherFault octets.now) }
+    ensures stopped { result ≡ Err ScriptFault.OutOfMemory → NothingOr (TraceStopsEither octets.now) (W.contents writer.old) (W.contents writer.new) }
+    ensures fault { IfErr result IsFollowFault }
+    ensures failed { (result ≡ Err ScriptFault.CannotWrite) ↔ (W.failed writer.new ≡ true) }
+    ensures flushed { OnOk result (W.flushed writer.new ≡ true) }
+    ensures untouched { IfErr result (λ f. f ≢ ScriptFault.CannotWrite → f ≢ ScriptFault.OutOfMemory → writer.new ≡ writer.old) }
+{
+    match read_scripted(alloc, octets) {
+        Ok(
+            Scripted {
+                network,
+                lines,
+                events,
+            },
+        ) => trace_on(alloc, &network, &lines, events, writer),
+        Err(ScriptFault::BadTopology) => trace_mixed(alloc, octets, writer),
+        Err(fault) => Err(fault),
+    }
 }
 
 /// What an input asks for, with the lines of its script.

@@ -1,5 +1,6 @@
 pub mod Common
 pub mod Accounts
+mod Among
 mod AtHosts
 pub mod CalmRounds
 mod CalmEvents

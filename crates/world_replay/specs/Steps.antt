@@ -1,9 +1,16 @@
 -- What the contracts of private functions say. No public clause cites this file.
-use Rattle.std.specs.Prelude.{◌≡◌, ℕ, suc, ◌+◌, false, true, List, [], ◌++◌, Option, Some, Result, Ok, Err}
+use Rattle.std.specs.Prelude.{◌≡◌, ℕ, suc, ◌+◌, Bool, false, true, List, [], ◌++◌, Option, Some, Result, Ok, Err}
 use Rattle.std.specs.Io.KnownBytes.{Appends}
+use Rattle.interface.specs.Host.{Host, is_host}
+use Rattle.interface.specs.declared.carrier.CarrierFault.TheVariants as carrier
 use Rattle.interface.specs.declared.crossing.Crossing.{Crossing}
 use Rattle.net_sim.specs.MixedWorlds.{mixed_stops}
+use Rattle.net_sim.specs.declared.event.Event.{Event}
+use Rattle.net_sim.specs.declared.event.Event.TheVariants.{Offer, Take}
+use Rattle.net_sim.specs.declared.event.WorldFault.{WorldFault}
+use Rattle.net_sim.specs.declared.event.WorldFault.TheVariants.{Carrier}
 use Rattle.net_sim.specs.declared.mixed.MixedFault.{MixedFault}
+use Rattle.net_sim.specs.declared.mixed.MixedFault.TheVariants.{HasProgram, NoProgram, World}
 use Rattle.replay.specs.declared.events.ReplayFault.{ReplayFault}
 use Rattle.replay.specs.declared.events.ReplayFault.TheVariants as fault
 use Rattle.replay.specs.declared.print.Detail.{Detail}
@@ -15,7 +22,8 @@ use Rattle.world_replay.specs.Output.{Shown, Writes, mixed_refusal, output, show
 
 -- an event goes so, and this answer shows the same refusal, and says as well whether memory has run out
 abbrev pub Tells : {S E : Type 0} → Kind S E → S → E → Result (Unit {0}) MixedFault → S → Type 0
-Tells kind old e told new = (outcome : kind.Answer) × kind.gives old e outcome new × (mixed_stops told ≡ kind.stops outcome) × (kind.refusal outcome ≡ mixed_refusal told)
+Tells kind old e told new = (outcome : kind.Answer) × kind.gives old e outcome new
+    × (mixed_stops told ≡ kind.stops outcome) × (kind.refusal outcome ≡ mixed_refusal told)
 
 pub record IsReplayable {S E : Type 0} (kind : Kind S E) : Type 0 where
   -- the calm of this many rounds has these, and no other event has
@@ -31,11 +39,14 @@ pub record IsReplayable {S E : Type 0} (kind : Kind S E) : Type 0 where
       → Gains (kind.kept old) (kind.kept new)
   -- rounds and then further ones are one calm, and so are their lines
   pub more :
-      (n k : ℕ) (old mid new : S) (r q : kind.Answer) → kind.gives old (kind.calm (suc n)) r mid → kind.stops r ≡ false → kind.gives mid (kind.calm (suc k)) q new
+      (n k : ℕ) (old mid new : S) (r q : kind.Answer) → kind.gives old (kind.calm (suc n)) r mid → kind.stops r ≡ false
+      → kind.gives mid (kind.calm (suc k)) q new
       → kind.gives old (kind.calm (suc n + suc k)) q new
   pub shows :
-      (n k : ℕ) (old mid new : S) (r q : kind.Answer) → kind.gives old (kind.calm n) r mid → kind.gives mid (kind.calm k) q new
-      → (g : Gains (kind.kept old) (kind.kept mid)) (h : Gains (kind.kept mid) (kind.kept new)) (all : Gains (kind.kept old) (kind.kept new)) → gained all ≡ gained g ++ gained h
+      (n k : ℕ) (old mid new : S) (r q : kind.Answer) → kind.gives old (kind.calm n) r mid
+      → kind.gives mid (kind.calm k) q new
+      → (g : Gains (kind.kept old) (kind.kept mid)) (h : Gains (kind.kept mid) (kind.kept new))
+      (all : Gains (kind.kept old) (kind.kept new)) → gained all ≡ gained g ++ gained h
   -- a round in which memory runs out ends any longer calm
   pub ends : (k : ℕ) (old new : S) (r : kind.Answer) → kind.gives old (kind.calm 1) r new → kind.stops r ≡ true
       → kind.gives old (kind.calm (suc k)) r new
@@ -45,22 +56,45 @@ pub record IsReplayable {S E : Type 0} (kind : Kind S E) : Type 0 where
 abbrev pub EventEnds : {S E : Type 0} → Kind S E → Detail → S → E → Result (Unit {0}) ReplayFault → S
     → Option (List ℕ) → Option (List ℕ) → Type 0
 EventEnds kind detail old e (Ok done) new before after = Writes detail (HappensBy kind old e new) before after
-EventEnds kind detail old e (Err fault.OutOfMemory) new before after = Writes detail (StopsBy kind old e new) before after
-EventEnds kind detail old e (Err fault.CannotWrite) new before after = (shown : List Shown) × MayDoBy kind old e new shown
+EventEnds kind detail old e (Err fault.OutOfMemory) new before after = Writes detail (StopsBy kind old e new) before
+    after
+EventEnds kind detail old e (Err fault.CannotWrite) new before after = (shown : List Shown)
+    × MayDoBy kind old e new shown
 
 -- of one that is printed at once
 abbrev pub OneEnds : {S E : Type 0} → Kind S E → Detail → S → E → Result (Unit {0}) ReplayFault → S → Option (List ℕ)
     → Option (List ℕ) → Type 0
 OneEnds kind detail old e (Ok done) new before after = Writes detail (HappensBy kind old e new) before after
 OneEnds kind detail old e (Err fault.OutOfMemory) new before after = Writes detail (StopsBy kind old e new) before after
-OneEnds kind detail old e (Err fault.CannotWrite) new before after = (outcome : kind.Answer) × kind.gives old e outcome new
+OneEnds kind detail old e (Err fault.CannotWrite) new before after = (outcome : kind.Answer)
+    × kind.gives old e outcome new
 
 -- ---- printing
 
 -- these news are written, with the crossings before them: what is shown of more news continues from there, with the crossings that
 -- are left
-pub record Fronts (detail : Detail) (before : ℕ) (crossings : List Crossing) (news : List Shown) (later : ℕ) (left : List Crossing) (a b : Option (List ℕ)) : Type 0 where
+pub record Fronts (detail : Detail) (before : ℕ) (crossings : List Crossing) (news : List Shown) (later : ℕ)
+    (left : List Crossing) (a b : Option (List ℕ)) : Type 0 where
   pub shown : List Shown
   pub whole : (more : List Shown)
       → shown_in_turn before crossings (news ++ more) ≡ shown ++ shown_in_turn later left more
   pub written : Appends a b (output detail shown)
+
+-- ---- an event of a calm among strangers
+
+-- a taking, and an offer in its place
+abbrev pub taken_or_offered : Bool → Host → Event
+taken_or_offered true h = Offer h
+taken_or_offered false h = Take h
+
+-- what strangers would take stays
+abbrev pub untaken : List Host → Event → Event
+untaken strangers (Take h) = taken_or_offered (is_host strangers h) h
+untaken strangers e = e
+
+-- an answer of a world in which strangers aren't there
+abbrev pub as_absent : Result (Unit {0}) MixedFault → Result (Unit {0}) WorldFault
+as_absent (Ok done) = Ok done
+as_absent (Err (World f)) = Err f
+as_absent (Err NoProgram) = Err (Carrier carrier.NoSuch)
+as_absent (Err HasProgram) = Err (Carrier carrier.NoSuch)

@@ -15,6 +15,7 @@ ghost use Rattle.world_script.specs.declared.event.WorldEvent.TheVariants as wor
 
 use crate::print::{check_memory, print_news, print_refusal};
 use crate::replayed::Replayed;
+use crate::turning::Turning;
 use interface::Carrier;
 use net_sim::{Event, MixedWorld, World};
 use replay::{Detail, Line, Output, ReplayFault};
@@ -137,10 +138,58 @@ pub fn replay_in_calm<C: Carrier, W: Output>(
     // a write failed: the event had already happened
     ensures cannot_write { result ≡ Err ReplayFault.CannotWrite → MayStep (shown C.calls) world.old event world.new }
 {
+    show_turn(world, event, detail, writer)
+}
+
+/// Lets one event happen as an event of a calm in a world some of whose hosts are strangers, and prints what it shows, as
+/// [`replay_in_calm`] does. It goes as in the world of the hosts with programs: a stranger has no turn, and an event at one is
+/// refused.
+///
+/// Errors: as in [`replay_in_calm`].
+pub fn replay_mixed_in_calm<C: Carrier, W: Output>(
+    world: &mut MixedWorld<C>,
+    event: Event,
+    detail: Detail,
+    writer: &mut W,
+) -> Result<(), ReplayFault>
+    requires { W.failed writer.old ≡ false }
+
+    // it went as that world says that its calls may go, and what the book gained was printed
+    ensures replayed { OnOk result (Writes detail (HappensInCalm (shown C.calls) world.old.world event world.new.world) (W.contents writer.old) (W.contents writer.new)) }
+
+    // memory ran out at it
+    ensures memory { result ≡ Err ReplayFault.OutOfMemory → Writes detail (StopsIn (shown C.calls) world.old.world (world_event.Happen event) world.new.world) (W.contents writer.old) (W.contents writer.new) }
+
+    // `CannotWrite` is answered where a write failed, and nowhere else
+    ensures failed { TellsCannotWrite result (W.failed writer.new) }
+
+    // a write failed: the event had already happened
+    ensures cannot_write { result ≡ Err ReplayFault.CannotWrite → MayStep (shown C.calls) world.old.world event world.new.world }
+
+    // its strangers are the same
+    ensures strangers { world.new.strangers ≡ world.old.strangers }
+{
+    show_turn(world, event, detail, writer)
+}
+
+/// Lets one event happen as an event of a calm, and prints what it shows.
+fn show_turn<C: Carrier, R: Turning<C>, W: Output>(
+    world: &mut R,
+    event: Event,
+    detail: Detail,
+    writer: &mut W,
+) -> Result<(), ReplayFault>
+    requires { W.failed writer.old ≡ false }
+    ensures replayed { OnOk result (Writes detail (HappensInCalm (shown C.calls) (R.state world.old) event (R.state world.new)) (W.contents writer.old) (W.contents writer.new)) }
+    ensures memory { result ≡ Err ReplayFault.OutOfMemory → Writes detail (StopsIn (shown C.calls) (R.state world.old) (world_event.Happen event) (R.state world.new)) (W.contents writer.old) (W.contents writer.new) }
+    ensures failed { TellsCannotWrite result (W.failed writer.new) }
+    ensures cannot_write { result ≡ Err ReplayFault.CannotWrite → MayStep (shown C.calls) (R.state world.old) event (R.state world.new) }
+    ensures strangers { R.strangers world.new ≡ R.strangers world.old }
+{
     let crossed = world.book().crossings().len();
     let told = world.book().notices().len();
     let said = world.book().reports().len();
-    let outcome = world.step(event);
+    let outcome = world.turn(event);
     let mut line = Line::new();
     print_news(&mut line, world.book(), crossed, told, said, detail, writer)?;
     check_memory(outcome)

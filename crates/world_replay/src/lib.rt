@@ -4,7 +4,7 @@
 //! host and its IMP, one for each notice to the user of a host, one for each thing that a service of a host
 //! reports, and one for each refusal. A notice is after the crossings that were before it, and a report after its
 //! notice. [`replay_mixed_events`] does so in a world some of whose hosts are strangers. [`replay_in_calm`] lets one event
-//! of a calm happen so. [`print_lives`] writes the lives of connections, one line each.
+//! of a calm happen so, and [`replay_mixed_in_calm`] among strangers. [`print_lives`] writes the lives of connections, one line each.
 //!
 //! A caller may rely on three things. Each event goes as the world says that its calls may go. What is written is what the
 //! events showed. Where memory runs out, the output is a prefix of that. `CannotWrite` is answered where a write
@@ -19,6 +19,7 @@ mod lines;
 mod print;
 mod replayed;
 mod told;
+mod turning;
 pub mod worked;
 pub mod worked_apart;
 pub mod worked_drives;
@@ -26,7 +27,10 @@ pub mod worked_ends;
 pub mod worked_mixed;
 pub mod worked_rounds;
 
-pub use events::{UNSEEN_ROUNDS, has_calmed, replay_events, replay_in_calm, replay_mixed_events};
+pub use events::{
+    UNSEEN_ROUNDS, has_calmed, replay_events, replay_in_calm, replay_mixed_events,
+    replay_mixed_in_calm,
+};
 pub use lines::LifeLine;
 pub use print::print_lives;
 pub use replay::{Detail, Output, ReplayFault, WriteFailed};

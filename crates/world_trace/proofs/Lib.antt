@@ -6,6 +6,7 @@ mod CommandTexts
 mod Ends
 mod Failures
 mod Fields
+mod Beside
 mod Blocks
 mod Unspent
 mod Lines
@@ -20,6 +21,7 @@ mod Resting
 mod Running
 mod States
 mod Stays
+mod Strangers
 mod SubnetStates
 mod Telling
 mod Turns

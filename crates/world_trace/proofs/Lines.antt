@@ -112,3 +112,42 @@ objects_printed parts programs services a b c d e f g first second third fourth 
     (appends_more c d g programs (codes ",\"services\":" ++ (services ++ codes "}\n")) third
     (appends_more d e g (codes ",\"services\":") (services ++ codes "}\n") fourth
     (appends_more e f g services (codes "}\n") fifth last))))
+
+-- ---- and with strangers
+
+abbrev foreign_hosts : List ℕ → List ℕ → List ℕ → List ℕ
+foreign_hosts programs services foreign =
+    codes ",\"programs\":" ++ (programs ++ (codes ",\"services\":" ++ (services ++ (codes ",\"foreign\":" ++ (foreign ++ codes "}\n")))))
+
+-- services with what comes after them
+abbrev and_foreign : List ℕ → List ℕ → List ℕ
+and_foreign services foreign = services ++ (codes ",\"foreign\":" ++ foreign)
+
+abbrev foreign_object : List ℕ → List ℕ → List ℕ → List ℕ → List ℕ → List ℕ → List ℕ → List ℕ → List ℕ
+foreign_object carrier raw imps lines parts programs services foreign =
+    ended_line (object (member (codes "trace") (codes "3")
+    ∷ member (codes "carrier") (quoted carrier)
+    ∷ member (codes "raw") raw
+    ∷ member (codes "imps") imps
+    ∷ member (codes "lines") lines
+    ∷ member (codes "parts") parts
+    ∷ member (codes "programs") programs
+    ∷ member (codes "services") services
+    ∷ member (codes "foreign") foreign ∷ []))
+
+foreign_pieces : (parts programs services foreign : List ℕ)
+    → parts ++ foreign_hosts programs services foreign ≡ parts ++ hosts programs (and_foreign services foreign)
+foreign_pieces parts programs services foreign = simp append_assoc
+
+foreign_whole : (carrier raw imps lines parts programs services foreign : List ℕ)
+    → object_first carrier raw imps lines parts programs (and_foreign services foreign)
+    ≡ foreign_object carrier raw imps lines parts programs services foreign
+foreign_whole carrier raw imps lines parts programs services foreign = simp append_assoc
+
+pub foreign_printed : (carrier raw imps lines parts programs services foreign : List ℕ) (a b c : Option (List ℕ))
+    → Appends a b (front carrier raw imps lines) → Appends b c (parts ++ foreign_hosts programs services foreign)
+    → Appends a c (foreign_object carrier raw imps lines parts programs services foreign)
+foreign_printed carrier raw imps lines parts programs services foreign a b c first last =
+    subst (Appends a c) (foreign_whole carrier raw imps lines parts programs services foreign)
+    (first_printed carrier raw imps lines parts programs (and_foreign services foreign) a b c first
+    (subst (Appends b c) (foreign_pieces parts programs services foreign) last))

@@ -75,7 +75,7 @@ module _ {C : Type 0} (own : Calls C) where
   abbrev NoneCrossed : WorldState C → WorldState C → Type 0
   NoneCrossed old new = length new.kept.book.crossings ≤ length old.kept.book.crossings
 
-  halts_not : (G : Type 0) (c : C) (old new : WorldState C) (r : Answer) → stops r ≡ false → Halts c old r new → G
+  pub halts_not : (G : Type 0) (c : C) (old new : WorldState C) (r : Answer) → stops r ≡ false → Halts c old r new → G
   halts_not G c old new r on h = absurd (false≢true (sym on ∙ ap stops h.answer ∙ memory_stops h.fault h.memory))
 
   -- only the carrier is another, and whether the world has stopped
@@ -154,13 +154,13 @@ module _ {C : Type 0} (own : Calls C) where
     pub programs : AreOthers (at_host seat_place o) seat_member (map seat_member old.seats) new.seats
     pub services : AreOthers (at_host service_place o) services_member (map services_member old.services) new.services
 
-  hosts_same : (o : Option Host) (old new : WorldState C) → new.seats ≡ old.seats → new.services ≡ old.services → AtOthers o old new
+  pub hosts_same : (o : Option Host) (old new : WorldState C) → new.seats ≡ old.seats → new.services ≡ old.services → AtOthers o old new
   hosts_same o old new seats services = record {
     programs = subst (λ (all : List Seat). AreOthers (at_host seat_place o) seat_member (map seat_member old.seats) all) (sym seats) (none_other (at_host seat_place o) seat_member old.seats);
     services = subst (λ (all : List ServiceSeat). AreOthers (at_host service_place o) services_member (map services_member old.services) all) (sym services) (none_other (at_host service_place o) services_member old.services);
   }
 
-  same_others : (o : Option Host) (old new : WorldState C) → new ≡ old → AtOthers o old new
+  pub same_others : (o : Option Host) (old new : WorldState C) → new ≡ old → AtOthers o old new
   same_others o old new is = hosts_same o old new (ap (λ (w : WorldState C). w.seats) is) (ap (λ (w : WorldState C). w.services) is)
 
   carried_others : (o : Option Host) (c : C) (old new : WorldState C) → Carried c old new → AtOthers o old new

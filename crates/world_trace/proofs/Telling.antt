@@ -42,28 +42,31 @@ none_before e last (x ∷ done) left is =
 the_last : {E : Type 0} (e last : E) (done left : List E) → e ∷ [] ≡ done ++ last ∷ left → done ≡ [] → e ≡ last
 the_last e last done left is none = ap (λ es. get_or es 0 last) (is ∙ ap (λ ds. ds ++ last ∷ left) none)
 
--- what a replay says of one event
-replayed : {C : Type 0} (calls : Calls C) (old new : WorldState C) (e : WorldEvent) (shown : List Shown) → Replays calls old (e ∷ []) new shown → Happens calls old e new shown
-replayed calls old new e shown (mid, first, rest, one, (same, none), all) =
+-- what events one after another show, in a list of one
+pub only_one : {S E : Type 0} (Happens : Happening S E Shown) (old new : S) (e : E) (shown : List Shown)
+    → InTurn Happens old (e ∷ []) new shown → Happens old e new shown
+only_one {S} {E} Happens old new e shown (mid, first, rest, one, (same, none), all) =
     let whole : shown ≡ first = all ∙ ap (λ xs. first ++ xs) none ∙ append-nil first in
-    subst (λ xs. Happens calls old e new xs) (sym whole) (subst (λ w. Happens calls old e w first) (sym same) one)
+    subst (λ xs. Happens old e new xs) (sym whole) (subst (λ (w : S). Happens old e w first) (sym same) one)
 
 -- an event that ends as is said, in a list of one
-last_one : {C : Type 0} (calls : Calls C) (Goes : Happening (WorldState C) WorldEvent Shown) (old new : WorldState C) (e : WorldEvent) (shown : List Shown) → EndsIn calls Goes old (e ∷ []) new shown → (own : List Shown) × Goes old e new own
-last_one {C} calls Goes old new e shown h =
+pub last_one : {S E : Type 0} (Happens Goes : Happening S E Shown) (old new : S) (e : E) (shown : List Shown)
+    → EndsInTurn Happens Goes old (e ∷ []) new shown → (own : List Shown) × Goes old e new own
+last_one {S} {E} Happens Goes old new e shown h =
     let none : h.done ≡ [] = none_before e h.last h.done h.left h.parts in
     let is : e ≡ h.last = the_last e h.last h.done h.left h.parts none in
-    let first : InTurn (Happens calls) old [] h.mid h.front = subst (λ (es : List WorldEvent). InTurn (Happens calls) old es h.mid h.front) none h.before in
-    (h.own, subst (λ (w : WorldState C). Goes w e new h.own) first.0 (subst (λ (x : WorldEvent). Goes h.mid x new h.own) (sym is) h.goes))
+    let first : InTurn Happens old [] h.mid h.front =
+    subst (λ (es : List E). InTurn Happens old es h.mid h.front) none h.before in
+    (h.own, subst (λ (w : S). Goes w e new h.own) first.0 (subst (λ (x : E). Goes h.mid x new h.own) (sym is) h.goes))
 
 pub stopped : {C : Type 0} (calls : Calls C) (old new : WorldState C) (e : Event) (shown : List Shown) → EndsIn calls (StopsIn calls) old (world.Happen e ∷ []) new shown → MayTell calls old e new []
 stopped calls old new e shown h =
-    let (own, stops) = last_one calls (StopsIn calls) old new (world.Happen e) shown h in
+    let (own, stops) = last_one (Happens calls) (StopsIn calls) old new (world.Happen e) shown h in
     (refl, (stops.outcome, stops.gives))
 
 pub unwritten : {C : Type 0} (calls : Calls C) (old new : WorldState C) (e : Event) (shown : List Shown) → EndsIn calls (MayDo calls) old (world.Happen e ∷ []) new shown → MayTell calls old e new []
 unwritten calls old new e shown h =
-    let (own, may) = last_one calls (MayDo calls) old new (world.Happen e) shown h in
+    let (own, may) = last_one (Happens calls) (MayDo calls) old new (world.Happen e) shown h in
     (refl, (may.outcome, subst (λ (x : WorldEvent). EventGives calls old x may.outcome new) may.begins may.gives))
 
 abbrev pub failed_by : ReplayFault → Result (Unit {0}) ReplayFault
@@ -81,7 +84,7 @@ ended_in_calm calls old new e fault.OutOfMemory a b memory failed = let w = (mem
 ended_in_calm calls old new e fault.CannotWrite a b memory failed = (refl, failed refl)
 
 pub shows : {C : Type 0} (calls : Calls C) (old new : WorldState C) (e : WorldEvent) (written : List ℕ) → Writes Sizes (Replays calls old (e ∷ []) new) (Some []) (Some written) → Shows calls old e new written
-shows calls old new e written h = (h.shown, replayed calls old new e h.shown h.is_shown, h.written)
+shows calls old new e written h = (h.shown, only_one (Happens calls) old new e h.shown h.is_shown, h.written)
 
 -- ---- its line
 
@@ -106,22 +109,29 @@ changes_are members old new before texts c h k are = record {
   services_are = are.services ∙ ap object (ap₂ changed h.services k.services);
 }
 
--- the line of an event
-line_is : {C : Type 0} (members : C → AllParts) (spot : Spot) (round : ℕ) (old new : WorldState C) (e : WorldEvent) (event printed parts programs services : List ℕ) (crossed : ℕ) (shown : List Shown) (gains : Gains old.kept new.kept)
-    → event ≡ event_text e → printed ≡ output Sizes shown → crossed ≡ length old.kept.book.crossings → AreChanges members old new parts programs services
-    → line_of spot round event (drop crossed (reverse new.kept.book.crossings)) printed (state_objects parts programs services) ≡ world_line spot round e gains.crossings shown (change_of members old new)
-line_is members spot round old new e event printed parts programs services crossed shown gains named says count are =
+-- the line of an event that has this name
+pub line_by : {C : Type 0} (members : C → AllParts) (spot : Spot) (round : ℕ) (old new : WorldState C)
+    (name event printed parts programs services : List ℕ) (crossed : ℕ) (shown : List Shown)
+    (gains : Gains old.kept new.kept)
+    → event ≡ name → printed ≡ output Sizes shown → crossed ≡ length old.kept.book.crossings
+    → AreChanges members old new parts programs services
+    → line_of spot round event (drop crossed (reverse new.kept.book.crossings)) printed (state_objects parts programs services)
+    ≡ line_of spot round name gains.crossings (output Sizes shown) (change_of members old new)
+line_by members spot round old new name event printed parts programs services crossed shown gains named says count are =
     let change : List (List ℕ) = state_objects parts programs services in
     let crossings : drop crossed (reverse new.kept.book.crossings) ≡ gains.crossings =
-    ap (λ n. drop n (reverse new.kept.book.crossings)) count ∙ crossings_gained old.kept.book.crossings new.kept.book.crossings gains.crossings gains.crossed in
+    ap (λ n. drop n (reverse new.kept.book.crossings)) count
+    ∙ crossings_gained old.kept.book.crossings new.kept.book.crossings gains.crossings gains.crossed in
     let new_parts : List ℕ = object (changed_parts (members old.carrier) (members new.carrier)) in
     let new_programs : List ℕ = object (changed (map seat_member old.seats) (map seat_member new.seats)) in
     let state : change ≡ change_of members old new =
-    ap (λ (t : List ℕ). state_objects t programs services) are.parts_are ∙ ap (λ (t : List ℕ). state_objects new_parts t services) are.programs_are ∙ ap (λ (t : List ℕ). state_objects new_parts new_programs t) are.services_are in
+    ap (λ (t : List ℕ). state_objects t programs services) are.parts_are
+    ∙ ap (λ (t : List ℕ). state_objects new_parts t services) are.programs_are
+    ∙ ap (λ (t : List ℕ). state_objects new_parts new_programs t) are.services_are in
     ap (λ (cs : List Crossing). line_of spot round event cs printed change) crossings
     ∙ ap (λ (t : List ℕ). line_of spot round t gains.crossings printed change) named
-    ∙ ap (λ (p : List ℕ). line_of spot round (event_text e) gains.crossings p change) says
-    ∙ ap (λ (s : List (List ℕ)). world_line spot round e gains.crossings shown s) state
+    ∙ ap (λ (p : List ℕ). line_of spot round name gains.crossings p change) says
+    ∙ ap (λ (s : List (List ℕ)). line_of spot round name gains.crossings (output Sizes shown) s) state
 
 pub tells : {C : Type 0} (calls : Calls C) (members : C → AllParts) (spot : Spot) (old new : WorldState C) (e : Event) (p : Passed) (a b : Option (List ℕ)) → HasPassed calls members old e new p
     → Appends a b (ended_line (passed_line spot 0 new p)) → OneEnds calls members spot old e (Ok tt) new a b
@@ -129,7 +139,7 @@ tells {C} calls members spot old new e p a b h written =
     let (shown, happens, says) = h.shows in
     one_line (world_line spot 0 (world.Happen e) happens.gains.crossings shown (change_of members old new)) (TellsOne calls members spot 0 old (world.Happen e) new) a b (shown, happens, refl)
     (subst (λ (line : List ℕ). Appends a b (ended_line line))
-    (line_is members spot 0 old new (world.Happen e) p.event.items p.printed.items p.changes.parts.items p.changes.programs.items p.changes.services.items p.crossed shown happens.gains h.event says h.crossed h.changes) written)
+    (line_by members spot 0 old new (event_text (world.Happen e)) p.event.items p.printed.items p.changes.parts.items p.changes.programs.items p.changes.services.items p.crossed shown happens.gains h.event says h.crossed h.changes) written)
 
 -- ---- an event of a calm
 
@@ -157,7 +167,7 @@ pub step_heard : {C : Type 0} (calls : Calls C) (members : C → AllParts) (spot
 step_heard {C} calls members spot round old new e event printed parts programs services crossed a b (shown, happens, says) named count are some written =
     let line : List ℕ = world_line spot round (world.Happen e) happens.gains.crossings shown (change_of members old new) in
     one_line line (TellsInCalm calls members spot round old e new) a b (inr ((shown, happens, refl), λ none same. heard none same some))
-    (subst (λ (line : List ℕ). Appends a b (ended_line line)) (line_is members spot round old new (world.Happen e) event printed parts programs services crossed shown happens.gains named says count are) written)
+    (subst (λ (line : List ℕ). Appends a b (ended_line line)) (line_by members spot round old new (event_text (world.Happen e)) event printed parts programs services crossed shown happens.gains named says count are) written)
   where
     heard : shown ≡ [] → IsUnchanged members old new → (length old.kept.book.crossings < length new.kept.book.crossings) ⊎ (changed_parts (members old.carrier) (members new.carrier) ≡ [] → ⊥) → ⊥
     heard none same (inl more) = shown_crossed calls old new e shown happens more none
@@ -273,10 +283,15 @@ next_at passed left later e is =
 
 -- ---- after the first line
 
+pub after_line : (line : List ℕ) (AreLines : List (List ℕ) → Type 0) (a b c : Option (List ℕ))
+    → Appends a b (ended_line line) → WritesTrace AreLines b c
+    → WritesTrace (λ lines. (others : List (List ℕ)) × (lines ≡ line ∷ others) × AreLines others) a c
+after_line line AreLines a b c first h = record {
+  shown = line ∷ h.shown;
+  is_shown = (h.shown, refl, h.is_shown);
+  written = appends_more a b c (ended_line line) (text_of (λ line. line) h.shown) first h.written;
+}
+
 pub after_opening : {C : Type 0} (members : C → AllParts) (t : TopologyFields) (opening : WorldState C) (AreLines : List (List ℕ) → Type 0) (a b c : Option (List ℕ)) → Appends a b (ended_line (opening_text t (state_of members opening))) → WritesTrace AreLines b c
     → WritesTrace (AfterOpening members t opening AreLines) a c
-after_opening members t opening AreLines a b c first h = record {
-  shown = opening_text t (state_of members opening) ∷ h.shown;
-  is_shown = (h.shown, refl, h.is_shown);
-  written = appends_more a b c (ended_line (opening_text t (state_of members opening))) (text_of (λ line. line) h.shown) first h.written;
-}
+after_opening members t opening AreLines a b c first h = after_line (opening_text t (state_of members opening)) AreLines a b c first h

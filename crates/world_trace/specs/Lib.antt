@@ -1,5 +1,7 @@
 pub mod Carriers
 pub mod Lasting
+pub mod MixedSteps
+pub mod MixedTraces
 pub mod Reached
 pub mod Steps
 pub mod Texts

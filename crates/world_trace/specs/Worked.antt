@@ -1,16 +1,26 @@
 -- Words for worked examples.
-use Rattle.std.specs.Prelude.{◌≡◌, ◌^◌, ℕ, false, true, [], ◌∷◌, Ok, Some, replicate}
+use Rattle.std.specs.Prelude.{◌≡◌, ◌^◌, ℕ, false, true, List, [], ◌∷◌, Ok, Some, replicate}
 use Rattle.host_services.specs.Services.{no_services}
 use Rattle.host_services.specs.declared.service.Service.{Service}
 use Rattle.host_services.specs.declared.service.Service.TheVariants as service
-use Rattle.interface.specs.Calls.{Calls}
+use Rattle.interface.specs.Calls.{Calls, Seen}
+use Rattle.interface.specs.declared.crossing.Crossing.{Crossing}
+use Rattle.interface.specs.declared.message.HostMessage.{HostMessage}
+use Rattle.net_sim.specs.MixedWorlds.{MixedState}
+use Rattle.net_sim.specs.WorkedMixed.{beside_third}
+use Rattle.net_sim.specs.declared.mixed.MixedEvent.{MixedEvent}
 use Rattle.net_sim.specs.declared.seat.Seat.{Seat}
 use Rattle.net_sim.specs.declared.seat.ServiceSeat.{ServiceSeat}
 use Rattle.replay.specs.Worked.{counting}
 use Rattle.sockets.specs.Pairs.{opening_state}
-use Rattle.sockets.specs.Worked.{first}
+use Rattle.sockets.specs.Worked.{first, third}
 use Rattle.terminal.specs.Machines.{opening_echo}
+use Rattle.trace.specs.declared.all_parts.AllParts.{AllParts}
+use Rattle.trace.specs.declared.element.Spot.{Spot}
 use Rattle.world_replay.specs.Worked.{went}
+use Rattle.world_trace.specs.MixedTraces.{TellsMixed, mixed_text}
+use Rattle.world_trace.specs.Texts.{line_of}
+use Rattle.world_trace.specs.Traces.{change_of}
 
 -- ---- carriers whose calls are counted (`replay`'s `counting`), each with one thing otherwise
 
@@ -40,3 +50,16 @@ long_seat = record { host = first; program = Some (record (opening_state first) 
 -- typed lines go to one
 abbrev pub long_services : ServiceSeat
 long_services = record { host = first; services = record no_services { typing = Some (10 ^ 64) } }
+
+-- ---- beside a stranger
+
+-- the third host says one bit to the first, on link 5
+abbrev pub short_message : HostMessage
+short_message = record { flow = record { source = third; destination = first; link = record { 0 = 5 } }; text = true ∷ [] }
+
+-- an event beside the third host has one line: these messages cross, and this is printed
+abbrev pub TracesOnly : Calls Seen → MixedEvent → List Crossing → List ℕ → Type 0
+TracesOnly calls e crossings printed =
+    (members : Seen → AllParts) (spot : Spot) (new : MixedState Seen) (lines : List (List ℕ))
+    → TellsMixed calls members spot beside_third e new lines
+    → lines ≡ line_of spot 0 (mixed_text e) crossings printed (change_of members beside_third.world new.world) ∷ []

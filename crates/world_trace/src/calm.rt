@@ -13,12 +13,12 @@ ghost use Rattle.world_trace.specs.Traces.{MayTell};
 use crate::line::{Passed, print_line};
 use crate::spelling::spelled;
 use crate::texts::{Texts, change, known_texts};
-use interface::{Carrier, HostAddr, TAKINGS};
-use net_sim::{Event, OFFERS, Seat, World};
-use replay::{Detail, Output, Printer, ReplayFault};
+use crate::worlds::Traced;
+use interface::{HostAddr, TAKINGS};
+use net_sim::{Event, OFFERS, Seat};
+use replay::{Output, Printer, ReplayFault};
 use std::alloc::{AllocError, Global};
 use trace::{Inspect, Spot};
-use world_replay::{has_calmed, replay_in_calm};
 
 /// An event of a calm.
 #[derive(Clone, Copy)]
@@ -77,9 +77,9 @@ fn turns_in(alloc: Global, seats: &[Seat]) -> Result<Vec<(CalmEvent, u8)>, Alloc
 
 /// Traces a calm round by round, until all have passed or the world rests. The rounds that are left then have no lines. The texts of the
 /// state may be known.
-pub(crate) fn trace_calm<C: Inspect, W: Output>(
+pub(crate) fn trace_calm<C: Inspect, T: Traced<C>, W: Output>(
     alloc: Global,
-    world: &mut World<C>,
+    world: &mut T,
     spot: Spot,
     rounds: u32,
     known: &mut Option<Texts>,
@@ -87,9 +87,10 @@ pub(crate) fn trace_calm<C: Inspect, W: Output>(
     writer: &mut W,
 ) -> Result<(), ReplayFault>
     requires whole { W.failed writer.old ≡ false }
-    requires known { IfSome known.old (AreTextsOf C.inside.members world.old) }
-    ensures ends { EventEnds (shown C.calls) C.inside.members spot world.old (world_event.Calm rounds) result world.new (W.contents writer.old) (W.contents writer.new) }
-    ensures known { OnOk result (IfSome known.new (AreTextsOf C.inside.members world.new)) }
+    requires known { IfSome known.old (AreTextsOf C.inside.members (T.state world.old)) }
+    ensures ends { EventEnds (shown C.calls) C.inside.members spot (T.state world.old) (world_event.Calm rounds) result (T.state world.new) (W.contents writer.old) (W.contents writer.new) }
+    ensures known { OnOk result (IfSome known.new (AreTextsOf C.inside.members (T.state world.new))) }
+    ensures strangers { T.strangers world.new ≡ T.strangers world.old }
     ensures failed { TellsCannotWrite result (W.failed writer.new) }
 {
     if rounds == 0 {
@@ -99,7 +100,7 @@ pub(crate) fn trace_calm<C: Inspect, W: Output>(
     for passed in 0..rounds {
         let before = count_crossings(world);
         trace_round(alloc, world, spot, passed + 1, &mut texts, notes, writer)?;
-        if has_calmed(world, before) {
+        if world.has_calmed(before) {
             *known = Some(texts);
             return Ok(());
         }
@@ -109,16 +110,16 @@ pub(crate) fn trace_calm<C: Inspect, W: Output>(
 }
 
 /// Returns how many crossings are in the book of a world.
-fn count_crossings<C: Carrier>(world: &World<C>) -> usize
-    ensures { result ≡ length world.now.kept.book.crossings }
+fn count_crossings<C: Inspect, T: Traced<C>>(world: &T) -> usize
+    ensures { result ≡ length (T.state world.now).kept.book.crossings }
 {
     world.book().crossings().len()
 }
 
 /// Lets the events of a round happen, and prints their lines. `texts` are those of the state.
-fn trace_round<C: Inspect, W: Output>(
+fn trace_round<C: Inspect, T: Traced<C>, W: Output>(
     alloc: Global,
-    world: &mut World<C>,
+    world: &mut T,
     spot: Spot,
     round: u32,
     texts: &mut Texts,
@@ -126,9 +127,10 @@ fn trace_round<C: Inspect, W: Output>(
     writer: &mut W,
 ) -> Result<(), ReplayFault>
     requires whole { W.failed writer.old ≡ false }
-    requires known { AreTextsOf C.inside.members world.old texts.old }
-    ensures ends { RoundEnds (shown C.calls) C.inside.members spot world.old round result world.new (W.contents writer.old) (W.contents writer.new) }
-    ensures known { OnOk result (AreTextsOf C.inside.members world.new texts.new) }
+    requires known { AreTextsOf C.inside.members (T.state world.old) texts.old }
+    ensures ends { RoundEnds (shown C.calls) C.inside.members spot (T.state world.old) round result (T.state world.new) (W.contents writer.old) (W.contents writer.new) }
+    ensures known { OnOk result (AreTextsOf C.inside.members (T.state world.new) texts.new) }
+    ensures strangers { T.strangers world.new ≡ T.strangers world.old }
     ensures failed { TellsCannotWrite result (W.failed writer.new) }
 {
     let turns = turns_in(alloc, world.seats())?;
@@ -141,9 +143,9 @@ fn trace_round<C: Inspect, W: Output>(
 }
 
 /// Lets an event of a calm happen again and again, at most this many times, until nothing crosses by it, and prints the lines.
-fn trace_again<C: Inspect, W: Output>(
+fn trace_again<C: Inspect, T: Traced<C>, W: Output>(
     alloc: Global,
-    world: &mut World<C>,
+    world: &mut T,
     spot: Spot,
     round: u32,
     event: &CalmEvent,
@@ -153,9 +155,10 @@ fn trace_again<C: Inspect, W: Output>(
     writer: &mut W,
 ) -> Result<(), ReplayFault>
     requires whole { W.failed writer.old ≡ false }
-    requires known { AreTextsOf C.inside.members world.old texts.old }
-    ensures ends { AgainEnds (shown C.calls) C.inside.members spot round world.old (step.turn (event.now, times)) result world.new (W.contents writer.old) (W.contents writer.new) }
-    ensures known { OnOk result (AreTextsOf C.inside.members world.new texts.new) }
+    requires known { AreTextsOf C.inside.members (T.state world.old) texts.old }
+    ensures ends { AgainEnds (shown C.calls) C.inside.members spot round (T.state world.old) (step.turn (event.now, times)) result (T.state world.new) (W.contents writer.old) (W.contents writer.new) }
+    ensures known { OnOk result (AreTextsOf C.inside.members (T.state world.new) texts.new) }
+    ensures strangers { T.strangers world.new ≡ T.strangers world.old }
     ensures failed { TellsCannotWrite result (W.failed writer.new) }
 {
     for _ in 0..times {
@@ -169,9 +172,9 @@ fn trace_again<C: Inspect, W: Output>(
 }
 
 /// Lets an event of a calm happen, and prints its line, unless it prints nothing and leaves all as it was. `texts` are those of the state.
-fn trace_step<C: Inspect, W: Output>(
+fn trace_step<C: Inspect, T: Traced<C>, W: Output>(
     alloc: Global,
-    world: &mut World<C>,
+    world: &mut T,
     spot: Spot,
     round: u32,
     event: CalmEvent,
@@ -180,9 +183,10 @@ fn trace_step<C: Inspect, W: Output>(
     writer: &mut W,
 ) -> Result<(), ReplayFault>
     requires whole { W.failed writer.old ≡ false }
-    requires known { AreTextsOf C.inside.members world.old texts.old }
-    ensures ends { StepEnds (shown C.calls) C.inside.members spot round world.old (step.event_of event) result world.new (W.contents writer.old) (W.contents writer.new) }
-    ensures known { OnOk result (AreTextsOf C.inside.members world.new texts.new) }
+    requires known { AreTextsOf C.inside.members (T.state world.old) texts.old }
+    ensures ends { StepEnds (shown C.calls) C.inside.members spot round (T.state world.old) (step.event_of event) result (T.state world.new) (W.contents writer.old) (W.contents writer.new) }
+    ensures known { OnOk result (AreTextsOf C.inside.members (T.state world.new) texts.new) }
+    ensures strangers { T.strangers world.new ≡ T.strangers world.old }
     ensures failed { TellsCannotWrite result (W.failed writer.new) }
 {
     let crossed = count_crossings(world);
@@ -211,8 +215,8 @@ fn trace_step<C: Inspect, W: Output>(
 }
 
 /// Returns whether it is known that an event of a calm leaves all as it is if nothing crosses by it.
-fn is_still<C: Inspect>(world: &World<C>, event: CalmEvent) -> bool
-    ensures { result ≡ true → IsStill (shown C.calls) C.inside.members world.now (step.event_of event) }
+fn is_still<C: Inspect, T: Traced<C>>(world: &T, event: CalmEvent) -> bool
+    ensures { result ≡ true → IsStill (shown C.calls) C.inside.members (T.state world.now) (step.event_of event) }
 {
     // for the proof only: what is refused changes no part
     world.carrier().keeps();
@@ -224,16 +228,17 @@ fn is_still<C: Inspect>(world: &World<C>, event: CalmEvent) -> bool
 }
 
 /// Lets an event of a calm happen. Returns the lines that a replay prints for it, without a refusal.
-fn happen_in_calm<C: Carrier>(
+fn happen_in_calm<C: Inspect, T: Traced<C>>(
     alloc: Global,
-    world: &mut World<C>,
+    world: &mut T,
     event: CalmEvent,
 ) -> Result<Vec<u8>, AllocError>
-    ensures shown { IfOk result (λ text. ShowsInCalm (shown C.calls) world.old (step.event_of event) world.new text.items) }
-    ensures memory { IfErr result (λ _. MayTell (shown C.calls) world.old (step.event_of event) world.new []) }
+    ensures shown { IfOk result (λ text. ShowsInCalm (shown C.calls) (T.state world.old) (step.event_of event) (T.state world.new) text.items) }
+    ensures memory { IfErr result (λ _. MayTell (shown C.calls) (T.state world.old) (step.event_of event) (T.state world.new) []) }
+    ensures strangers { T.strangers world.new ≡ T.strangers world.old }
 {
     let mut printer = Printer::new(Vec::new(alloc));
-    match replay_in_calm(world, event_of(event), Detail::Sizes, &mut printer) {
+    match world.replay_in_calm(event_of(event), &mut printer) {
         Ok(()) => Ok(printer.into_inner()),
         Err(_) => Err(AllocError),
     }

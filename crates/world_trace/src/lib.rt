@@ -6,6 +6,8 @@
 //! something is printed or changes: quiet rounds of the network, takings and offers. The first line is the network with the state at
 //! the opening.
 //!
+//! [`trace_mixed_world`] does so in a world some of whose hosts are strangers, of which the first line also says who they are.
+//!
 //! The texts are definitions (`specs/Texts.antt`), and each line is exactly that text of the state after its event.
 #![tactic(auto)]
 
@@ -14,6 +16,7 @@ mod commands;
 mod lasting;
 pub mod law;
 mod line;
+mod mixed;
 mod pairs;
 mod services;
 mod spelling;
@@ -23,6 +26,9 @@ mod values;
 pub mod worked;
 pub mod worked_lasting;
 pub mod worked_networks;
+pub mod worked_strangers;
+mod worlds;
 
 pub use lasting::{lasts, says_all};
+pub use mixed::trace_mixed_world;
 pub use traced::trace_world;

@@ -11,6 +11,7 @@ ghost use Rattle.world_trace.specs.Traces.{state_of};
 use crate::spelling::print_lines;
 use crate::texts::{Changes, print_changes};
 use crate::values::Object;
+use crate::worlds::Traced;
 use interface::Crossing;
 use net_sim::World;
 use replay::{Output, WriteFailed};
@@ -91,16 +92,16 @@ pub(crate) struct Passed {
 }
 
 /// Prints the line of an event that has just happened.
-fn print_passed<C: Inspect, W: Output>(
-    world: &World<C>,
+fn print_passed<C: Inspect, T: Traced<C>, W: Output>(
+    world: &T,
     spot: Spot,
     round: u32,
     passed: &Passed,
     writer: &mut W,
 ) -> Result<(), WriteFailed>
-    requires crossed { passed.now.crossed ≤ length world.now.kept.book.crossings }
+    requires crossed { passed.now.crossed ≤ length (T.state world.now).kept.book.crossings }
     requires whole { W.failed writer.old ≡ false }
-    ensures written { OnOk result (Appends (W.contents writer.old) (W.contents writer.new) (ended_line (passed_line spot round world.now passed.now))) }
+    ensures written { OnOk result (Appends (W.contents writer.old) (W.contents writer.new) (ended_line (passed_line spot round (T.state world.now) passed.now))) }
     ensures failed { TellsFailure result (W.failed writer.new) }
 {
     let (_, crossings) = world.book().crossings().split_at(passed.crossed);
@@ -112,16 +113,16 @@ fn print_passed<C: Inspect, W: Output>(
 
 /// Prints the line of an event that has just happened in a world, in this round of a calm, or 0. After many rounds of a calm it hands
 /// on each line, so that it is seen though the calm may never rest.
-pub(crate) fn print_line<C: Inspect, W: Output>(
-    world: &World<C>,
+pub(crate) fn print_line<C: Inspect, T: Traced<C>, W: Output>(
+    world: &T,
     spot: Spot,
     round: u32,
     passed: &Passed,
     writer: &mut W,
 ) -> Result<(), WriteFailed>
-    requires crossed { passed.now.crossed ≤ length world.now.kept.book.crossings }
+    requires crossed { passed.now.crossed ≤ length (T.state world.now).kept.book.crossings }
     requires whole { W.failed writer.old ≡ false }
-    ensures written { OnOk result (Appends (W.contents writer.old) (W.contents writer.new) (ended_line (passed_line spot round world.now passed.now))) }
+    ensures written { OnOk result (Appends (W.contents writer.old) (W.contents writer.new) (ended_line (passed_line spot round (T.state world.now) passed.now))) }
     ensures seen { 64 < round → OnOk result (W.flushed writer.new ≡ true) }
     ensures failed { TellsFailure result (W.failed writer.new) }
 {

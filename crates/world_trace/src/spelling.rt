@@ -1,19 +1,20 @@
 //! Printing an event of a world as a line of a script, within a string.
 
-ghost use Rattle.std.specs.Prelude.{◌≡◌, IfOk, OnOk, false};
+ghost use Rattle.std.specs.Prelude.{◌≡◌, ◌++◌, IfOk, OnOk, codes, false};
 ghost use Rattle.std.specs.List.{flat_map};
 ghost use Rattle.std.specs.Io.KnownBytes.{Appends};
 ghost use Rattle.replay.specs.Failing.{TellsFailure};
 ghost use Rattle.net_sim.specs.declared.event.Event.TheVariants as event;
+ghost use Rattle.script.specs.Spelling.{message_text};
 ghost use Rattle.sockets.specs.declared.request.Request.TheVariants as request;
 ghost use Rattle.world_script.specs.WorldSpelling.{request_spelling};
 ghost use Rattle.world_script.specs.declared.event.WorldEvent.TheVariants as world;
 ghost use Rattle.world_trace.specs.Texts.{escaped, event_text, lines_octet, lines_text};
 
 use bit_messages::Bits;
-use interface::HostAddr;
+use interface::{HostAddr, HostMessage};
 use net_sim::Event;
-use replay::{Output, Printer, WriteFailed, print_bits};
+use replay::{Output, Printer, WriteFailed, print_bits, print_text};
 use sockets::Request;
 use std::alloc::{AllocError, Global};
 use trace::print_net_event;
@@ -160,6 +161,29 @@ pub(crate) fn spelled(alloc: Global, event: &Event) -> Result<Vec<u8>, AllocErro
 {
     let mut printer = Printer::new(Vec::new(alloc));
     match print_happening(event, &mut printer) {
+        Ok(()) => Ok(printer.into_inner()),
+        Err(_) => Err(AllocError),
+    }
+}
+
+/// Prints a message that a stranger sends.
+fn print_out<W: Output>(message: &HostMessage, writer: &mut W) -> Result<(), WriteFailed>
+    requires { W.failed writer.old ≡ false }
+    ensures written { OnOk result (Appends (W.contents writer.old) (W.contents writer.new) (codes "out " ++ message_text message.now)) }
+    ensures failed { TellsFailure result (W.failed writer.new) }
+{
+    let flow = &message.flow;
+    let bits = message.text.bits().len();
+    write!(writer, "out {flow} {bits} ")?;
+    print_text(&message.text, writer)
+}
+
+/// Returns a stranger's message as a line of a script, within a string.
+pub(crate) fn spelled_out(alloc: Global, message: &HostMessage) -> Result<Vec<u8>, AllocError>
+    ensures { IfOk result (λ text. text.items ≡ codes "out " ++ message_text message.now) }
+{
+    let mut printer = Printer::new(Vec::new(alloc));
+    match print_out(message, &mut printer) {
         Ok(()) => Ok(printer.into_inner()),
         Err(_) => Err(AllocError),
     }

@@ -9,8 +9,8 @@ ghost use Rattle.world_trace.specs.Steps.{AreChanged, AreOthers, AreTextsOf, at_
 ghost use Rattle.world_trace.specs.Texts.{seat_member, services_member};
 
 use crate::values::{Json, Placed, Printed};
+use crate::worlds::Traced;
 use interface::HostAddr;
-use net_sim::World;
 use replay::{Output, WriteFailed};
 use std::alloc::{AllocError, Global};
 use trace::json::Item;
@@ -39,12 +39,12 @@ fn members_of<T: Json>(alloc: Global, items: &[T]) -> Result<Members, AllocError
 }
 
 /// Returns the texts of a world's state.
-pub(crate) fn texts_of<C: Inspect>(
+pub(crate) fn texts_of<C: Inspect, T: Traced<C>>(
     alloc: Global,
-    world: &World<C>,
+    world: &T,
     notes: &mut C::Notes,
 ) -> Result<Texts, AllocError>
-    ensures { IfOk result (AreTextsOf C.inside.members world.now) }
+    ensures { IfOk result (AreTextsOf C.inside.members (T.state world.now)) }
 {
     Ok(Texts {
         parts: world.carrier().members(alloc, notes)?,
@@ -54,14 +54,14 @@ pub(crate) fn texts_of<C: Inspect>(
 }
 
 /// Returns the texts of a world's state, which may be known.
-pub(crate) fn known_texts<C: Inspect>(
+pub(crate) fn known_texts<C: Inspect, T: Traced<C>>(
     alloc: Global,
-    world: &World<C>,
+    world: &T,
     known: Option<Texts>,
     notes: &mut C::Notes,
 ) -> Result<Texts, AllocError>
-    requires { IfSome known (AreTextsOf C.inside.members world.now) }
-    ensures { IfOk result (AreTextsOf C.inside.members world.now) }
+    requires { IfSome known (AreTextsOf C.inside.members (T.state world.now)) }
+    ensures { IfOk result (AreTextsOf C.inside.members (T.state world.now)) }
 {
     match known {
         Some(texts) => Ok(texts),
@@ -129,17 +129,17 @@ fn change_at<T: Placed>(
 
 /// Puts the texts of the program and the services of a host in the place of those before them. Returns what is other than before, these
 /// parts too.
-pub(crate) fn change<C: Inspect>(
+pub(crate) fn change<C: Inspect, T: Traced<C>>(
     alloc: Global,
-    world: &World<C>,
+    world: &T,
     host: &Option<HostAddr>,
     parts: &AllParts,
     texts: &mut Texts,
 ) -> Result<Changes, AllocError>
-    requires programs { AreOthers (at_host seat_place host.now) seat_member texts.old.programs world.now.seats }
-    requires services { AreOthers (at_host service_place host.now) services_member texts.old.services world.now.services }
-    ensures programs { OnOk result (texts.new.programs ≡ map seat_member world.now.seats) }
-    ensures services { OnOk result (texts.new.services ≡ map services_member world.now.services) }
+    requires programs { AreOthers (at_host seat_place host.now) seat_member texts.old.programs (T.state world.now).seats }
+    requires services { AreOthers (at_host service_place host.now) services_member texts.old.services (T.state world.now).services }
+    ensures programs { OnOk result (texts.new.programs ≡ map seat_member (T.state world.now).seats) }
+    ensures services { OnOk result (texts.new.services ≡ map services_member (T.state world.now).services) }
     ensures changes { IfOk result (λ c. AreChanged texts.old (record texts.new { parts = parts.now }) c) }
 {
     Ok(Changes {
@@ -150,13 +150,13 @@ pub(crate) fn change<C: Inspect>(
 }
 
 /// Puts the texts of all of a world's state in the place of those before them. Returns what is other than before.
-pub(crate) fn change_all<C: Inspect>(
+pub(crate) fn change_all<C: Inspect, T: Traced<C>>(
     alloc: Global,
-    world: &World<C>,
+    world: &T,
     texts: &mut Texts,
     notes: &mut C::Notes,
 ) -> Result<Changes, AllocError>
-    ensures known { OnOk result (AreTextsOf C.inside.members world.now texts.new) }
+    ensures known { OnOk result (AreTextsOf C.inside.members (T.state world.now) texts.new) }
     ensures changes { IfOk result (λ c. AreChanged texts.old texts.new c) }
 {
     let now = texts_of(alloc, world, notes)?;
@@ -167,16 +167,16 @@ pub(crate) fn change_all<C: Inspect>(
 
 /// Puts the texts of the parts of a world's carrier, and those of what is at a host, if there is one, in the place of those before them.
 /// Returns what is other than before.
-pub(crate) fn change_one<C: Inspect>(
+pub(crate) fn change_one<C: Inspect, T: Traced<C>>(
     alloc: Global,
-    world: &World<C>,
+    world: &T,
     host: &Option<HostAddr>,
     texts: &mut Texts,
     notes: &mut C::Notes,
 ) -> Result<Changes, AllocError>
-    requires programs { AreOthers (at_host seat_place host.now) seat_member texts.old.programs world.now.seats }
-    requires services { AreOthers (at_host service_place host.now) services_member texts.old.services world.now.services }
-    ensures known { OnOk result (AreTextsOf C.inside.members world.now texts.new) }
+    requires programs { AreOthers (at_host seat_place host.now) seat_member texts.old.programs (T.state world.now).seats }
+    requires services { AreOthers (at_host service_place host.now) services_member texts.old.services (T.state world.now).services }
+    ensures known { OnOk result (AreTextsOf C.inside.members (T.state world.now) texts.new) }
     ensures changes { IfOk result (λ c. AreChanged texts.old texts.new c) }
 {
     let parts = world.carrier().members(alloc, notes)?;

@@ -1,20 +1,23 @@
 //! Tracing the events of a world's script.
 
-ghost use Rattle.std.specs.Prelude.{◌≡◌, ◌⊎◌, [], Err, IfErr, IfOk, IfSome, OnOk, false};
+ghost use Rattle.std.specs.Prelude.{◌≡◌, ◌⊎◌, ℕ, [], Err, IfErr, IfOk, IfSome, List, OnOk, false};
 ghost use Rattle.net_sim.specs.Carriers.{shown};
 ghost use Rattle.replay.specs.Failing.{TellsCannotWrite};
 ghost use Rattle.replay.specs.declared.print.Detail.TheVariants.{Sizes};
-ghost use Rattle.trace.specs.Traces.{WritesTrace};
+ghost use Rattle.replay.specs.InTurn.{EndsInTurn, InTurn};
+ghost use Rattle.trace.specs.Traces.{WritesTrace, numbered_from};
 ghost use Rattle.world_replay.specs.Output.{output};
 ghost use Rattle.world_script.specs.declared.event.WorldEvent.TheVariants as world_event;
 ghost use Rattle.world_trace.specs.Steps as step;
 ghost use Rattle.world_trace.specs.Steps.{AreTextsOf, EventEnds, HasPassed, OneEnds, Shows, at_one};
-ghost use Rattle.world_trace.specs.Traces.{StopsOne, TracesWorld, WorldTraceFails, WritesPart, WritesStopped, WritesWorld};
+ghost use Rattle.world_trace.specs.MixedTraces.{AtSpot};
+ghost use Rattle.world_trace.specs.Traces.{StopsOne, WorldTraceFails, WritesPart, WritesWorld};
 
 use crate::calm::trace_calm;
 use crate::line::{Passed, print_line, print_opening};
 use crate::spelling::spelled;
 use crate::texts::{Texts, change_all, change_one, known_texts};
+use crate::worlds::Scripted;
 use interface::{Carrier, HostAddr};
 use net_sim::{Event, World};
 use replay::{Detail, Output, Printer, ReplayFault};
@@ -63,17 +66,17 @@ pub fn trace_world<C: Inspect, W: Output>(
 }
 
 /// Traces all events, each of which comes after the number of its line.
-fn trace_all<C: Inspect, W: Output>(
+pub(crate) fn trace_all<C: Inspect, T: Scripted<C>, W: Output>(
     alloc: Global,
-    world: &mut World<C>,
-    events: Vec<(usize, WorldEvent)>,
+    world: &mut T,
+    events: Vec<(usize, T::Event)>,
     writer: &mut W,
 ) -> Result<(), ReplayFault>
     requires whole { W.failed writer.old ≡ false }
-    ensures traced { OnOk result (WritesTrace (TracesWorld (shown C.calls) C.inside.members world.old events.items world.new) (W.contents writer.old) (W.contents writer.new)) }
-    ensures memory { result ≡ Err ReplayFault.OutOfMemory → WritesStopped (shown C.calls) C.inside.members world.old events.items world.new (W.contents writer.old) (W.contents writer.new) }
+    ensures traced { OnOk result (WritesTrace (InTurn (AtSpot T.tells) world.old (numbered_from 1 events.items) world.new) (W.contents writer.old) (W.contents writer.new)) }
+    ensures memory { result ≡ Err ReplayFault.OutOfMemory → WritesTrace (EndsInTurn (AtSpot T.tells) (AtSpot T.stops) world.old (numbered_from 1 events.items) world.new) (W.contents writer.old) (W.contents writer.new) }
     ensures failed { TellsCannotWrite result (W.failed writer.new) }
-    ensures cannot_write { result ≡ Err ReplayFault.CannotWrite → WorldTraceFails (shown C.calls) C.inside.members world.old events.items world.new }
+    ensures cannot_write { result ≡ Err ReplayFault.CannotWrite → (lines : List (List ℕ)) × EndsInTurn (AtSpot T.tells) (AtSpot T.fails) world.old (numbered_from 1 events.items) world.new lines }
 {
     let mut passed: usize = 0;
     let mut known = None;
@@ -83,14 +86,14 @@ fn trace_all<C: Inspect, W: Output>(
             line,
             number: passed + 1,
         };
-        trace_event(alloc, world, spot, event, &mut known, &mut notes, writer)?;
+        world.trace_event(alloc, spot, event, &mut known, &mut notes, writer)?;
         passed += 1;
     }
     Ok(())
 }
 
 /// Traces one event, which is at this spot of a script. The texts of the state may be known.
-fn trace_event<C: Inspect, W: Output>(
+pub(crate) fn trace_world_event<C: Inspect, W: Output>(
     alloc: Global,
     world: &mut World<C>,
     spot: Spot,
@@ -135,7 +138,7 @@ fn trace_one<C: Inspect, W: Output>(
 }
 
 /// Returns the host at which an event is, if it is at one.
-fn host_at(event: &Event) -> Option<HostAddr>
+pub(crate) fn host_at(event: &Event) -> Option<HostAddr>
     ensures { result ≡ at_one event.now }
 {
     match event {
@@ -148,7 +151,7 @@ fn host_at(event: &Event) -> Option<HostAddr>
 }
 
 /// Returns whether an event is inside the network, or to a host, and may change what is at several hosts.
-fn is_of_network(event: &Event) -> bool
+pub(crate) fn is_of_network(event: &Event) -> bool
     ensures { result ≡ step.is_of_network event.now }
 {
     matches!(event, Event::Net(_))

@@ -176,6 +176,17 @@ impl fmt::Display for HexString<'_> {
     }
 }
 
+impl Json for HostAddr {
+    ghost use Rattle.world_trace.specs.MixedTraces.{stranger_text};
+
+    ghost text = { stranger_text };
+
+    fn show<W: fmt::Write>(&self, f: &mut Formatter<W>) -> fmt::Result {
+        let name = Name(self);
+        write!(f, "{name}")
+    }
+}
+
 /// A host as a string.
 #[derive(Drop)]
 pub(crate) struct Name<'a>(pub &'a HostAddr);

@@ -17,6 +17,7 @@ from dorydate.model.runs import End as Ending
 from dorydate.model.runs import opened
 from dorydate.model.script import Event, read_line
 from dorydate.model.services import Echo, Running, Server, Terminal, User
+from dorydate.model.strangers import MixedWorld
 from dorydate.model.topology import Topology
 from dorydate.model.trace import all_parts, changed, of, opening, parts_of, fold_in, text
 from dorydate.model.trace_values import Object, crossing_of, text_of
@@ -155,12 +156,18 @@ def services_of(world: World, host: HostName) -> Object:
     return {"typing": typing.sends if typing else None, "running": [service_of(it) for it in world.programs[host] if began(it)]}
 
 
+def strangers_of(world: World) -> frozenset[HostName]:
+    """The hosts that run no program of these."""
+    return world.strangers if isinstance(world, MixedWorld) else frozenset()
+
+
 def state_of(world: World) -> Object:
-    """The state of a world, as each line has it: all parts of the network, and the program and the services of each host."""
+    """The state of a world, as each line has it: all parts of the network, and the program and the services of each host that has a program."""
+    hosts = [host for host in world.hosts if host not in strangers_of(world)]
     return {
         "parts": all_parts(world.carrier),
-        "programs": {spell_host(host): program_of(program) for host, program in world.hosts.items()},
-        "services": {spell_host(host): services_of(world, host) for host in world.hosts},
+        "programs": {spell_host(host): program_of(world.hosts[host]) for host in hosts},
+        "services": {spell_host(host): services_of(world, host) for host in hosts},
     }
 
 
@@ -219,14 +226,16 @@ class TracedWorld:
 def traced_world(world: World, lines: Iterable[str]) -> Iterator[Object]:
     """The trace of a script, record by record, over a world that is at its opening: each happens when it is asked for."""
     trace = TracedWorld(world)
-    events = [(line, event, spelled) for line, spelled in enumerate(lines, 1) if (event := read_line(spelled, False))]
+    has_strangers = bool(strangers_of(world))
+    events = [(line, event, spelled) for line, spelled in enumerate(lines, 1) if (event := read_line(spelled, False, strangers=has_strangers))]
     for number, (line, event, spelled) in enumerate(events, 1):
         yield from trace.happen(line, number, event, spelled)
 
 
 def opening_of(network: Topology, world: World) -> Object:
-    """The first record of a trace: the network, and the state at its opening."""
-    return {**opening(network, world.carrier), **state_of(world)}
+    """The first record of a trace: the network, the state at its opening, and who runs no program, where somebody doesn't."""
+    foreign = [spell_host(host) for host in sorted(network.strangers(), key=lambda host: (host.imp, host.number))]
+    return {**opening(network, world.carrier), **state_of(world), **({"foreign": foreign} if foreign else {})}
 
 
 def ends_world(network: Topology, lines: Iterable[str]) -> Ending:

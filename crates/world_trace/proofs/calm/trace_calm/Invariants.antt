@@ -6,4 +6,7 @@ use Rattle.world_trace.proofs.calm.trace_calm.Given as goal
 abbrev pub invariant-loop-passed : goal.invariant-loop-passed
 invariant-loop-passed g l =
     let calls : Calls g.row.C.Denot = shown g.C.Carrier.calls in
-    Passed calls g.C.Inspect.inside.members l.spot l.passed l.fn.world l.world (g.W.Output.contents l.fn.writer) (g.W.Output.contents l.writer) × (g.W.Output.failed l.writer ≡ false) × (l.passed ≤ l.rounds) × AreTextsOf g.C.Inspect.inside.members l.world l.texts
+    Passed calls g.C.Inspect.inside.members l.spot l.passed (g.T.Traced.state l.fn.world) (g.T.Traced.state l.world)
+    (g.W.Output.contents l.fn.writer) (g.W.Output.contents l.writer) × (g.W.Output.failed l.writer ≡ false)
+    × (l.passed ≤ l.rounds) × AreTextsOf g.C.Inspect.inside.members (g.T.Traced.state l.world) l.texts
+    × (g.T.Traced.strangers l.world ≡ g.T.Traced.strangers l.fn.world)

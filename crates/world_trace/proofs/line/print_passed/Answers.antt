@@ -7,13 +7,13 @@ use Rattle.world_trace.proofs.line.print_passed.Goals as goal
 
 pub returns-clause-written : goal.returns-clause-written
 returns-clause-written g c =
-    let w = c.args.world.now in
+    let w = g.T.Traced.state c.args.world.now in
     let a = g.W.Output.contents c.args.writer.now in
     let e = g.W.Output.contents c.print_changes.new.writer in
     let p = c.args.passed.now in
     let state : List (List ℕ) = state_objects p.changes.parts.items p.changes.programs.items p.changes.services.items in
     let crossings : c.split_at.result.1.now ≡ drop p.crossed (reverse w.kept.book.crossings) =
-    c.split_at.ensures.back ∙ ap (drop p.crossed) (c.crossings.ensures ∙ ap (λ (k : Kept). reverse k.book.crossings) c.book.ensures.value) in
+    c.split_at.ensures.back ∙ ap (drop p.crossed) (c.crossings.ensures ∙ ap (λ (k : Kept). reverse k.book.crossings) c.book.ensures) in
     on_ok c.print_changes.result
     (λ end.
     subst (λ (name : List ℕ). Appends a e (ended_line (line_of c.args.spot c.args.round name (drop p.crossed (reverse w.kept.book.crossings)) p.printed.items state))) c.deref.ensures.value

@@ -1,6 +1,6 @@
 use Rattle.world_trace.proofs.Common.{subst, sym, shown, Calls, WorldEvent, EventEnds}
 use Rattle.world_trace.proofs.Telling.{happen_ends}
-use Rattle.world_trace.proofs.traced.trace_event.Goals as goal
+use Rattle.world_trace.proofs.traced.trace_world_event.Goals as goal
 
 pub returns-in-Happen-clause-ends : goal.returns-in-Happen-clause-ends
 returns-in-Happen-clause-ends g c =

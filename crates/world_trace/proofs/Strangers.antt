@@ -1,0 +1,208 @@
+-- Events of a world with strangers have their lines.
+use Rattle.world_trace.proofs.Common.{◌≡◌, inl, inr, ℕ, Bool, true, false, List, [], ◌∷◌, Option, Some, None, Result}
+use Rattle.world_trace.proofs.Common.{Ok, Err, ap, refl, sym, subst, ◌∙◌, false≢true, if◌then◌else◌, Appends, Calls}
+use Rattle.world_trace.proofs.Common.{Event, Host, Seat, ServiceSeat, Quiet, Take, ReplayFault, Spot, WorldFault}
+use Rattle.world_trace.proofs.Common.{WorldState, crossing_of, ended_line, is_of_network, shown, stops, text_of}
+use Rattle.world_trace.proofs.Common.{EventEnds, AllParts}
+use Rattle.std.specs.Bool.{MatchBool}
+use Rattle.interface.specs.declared.carrier.CarrierFault.{CarrierFault}
+use Rattle.interface.specs.declared.crossing.Inbound.{Inbound}
+use Rattle.interface.specs.declared.crossing.Inbound.TheVariants as inbound
+use Rattle.interface.specs.declared.message.HostMessage.{HostMessage}
+use Rattle.net_sim.specs.MixedWorlds.{AnyGives, AskedGives, FetchEnds, FetchGives, MixedState, MixedStepGives, OfWorld}
+use Rattle.net_sim.specs.MixedWorlds.{OutEnds, OutGives, RefusesMixed, SaysGives, asked_at, is_strange, mixed_answer}
+use Rattle.net_sim.specs.MixedWorlds.{mixed_stops, strange_in}
+use Rattle.net_sim.specs.MixedWorlds as mixed_world
+use Rattle.net_sim.specs.declared.mixed.MixedEvent.{MixedEvent}
+use Rattle.net_sim.specs.declared.mixed.MixedEvent.TheVariants.{Any, Out}
+use Rattle.net_sim.specs.declared.mixed.MixedFault.{MixedFault}
+use Rattle.net_sim.specs.World.{StepGives}
+use Rattle.replay.specs.declared.events.ReplayFault.TheVariants as fault
+use Rattle.replay.specs.declared.print.Detail.TheVariants.{Sizes}
+use Rattle.world_replay.specs.Kinds.{BreaksOffBy, HappensBy, MayDoBy, MixedEventGives, ReplaysBy, RunsOutBy, StopsBy}
+use Rattle.world_replay.specs.Kinds.{mixed_kind}
+use Rattle.world_replay.specs.Output.{Shown, Writes, output}
+use Rattle.world_script.specs.declared.event.MixedWorldEvent.{MixedWorldEvent}
+use Rattle.world_script.specs.declared.event.MixedWorldEvent.TheVariants as mixed
+use Rattle.world_script.specs.declared.event.WorldEvent.TheVariants as world
+use Rattle.world_trace.specs.MixedSteps.{HasPassedMixed, MixedEnds, MixedEventEnds, ShowsMixed, mixed_reach}
+use Rattle.world_trace.specs.MixedTraces.{StopsMixed, TellsMixed, mixed_text}
+use Rattle.world_trace.specs.Steps.{at_one, passed_line}
+use Rattle.world_trace.specs.Texts.{line_of}
+use Rattle.world_trace.specs.Traces.{change_of}
+use Rattle.world_trace.specs.declared.line.Passed.{Passed}
+use Rattle.world_trace.specs.declared.mixed.Reach.{Reach}
+use Rattle.world_trace.specs.declared.mixed.Reach.TheVariants as reach
+use Rattle.world_trace.proofs.Stays.{AtOthers, event_others, halts_not, hosts_same, same_others}
+use Rattle.world_trace.proofs.Telling.{failed_by, last_one, line_by, one_line, only_one}
+
+-- ---- what a replay says of one event
+
+pub shows_mixed : {C : Type 0} (calls : Calls C) (old new : MixedState C) (e : MixedEvent) (written : List ℕ)
+    → Writes Sizes (ReplaysBy (mixed_kind calls) old (mixed.Happen e ∷ []) new) (Some []) (Some written)
+    → ShowsMixed calls old e new written
+shows_mixed calls old new e written h =
+    (h.shown, only_one (HappensBy (mixed_kind calls)) old new (mixed.Happen e) h.shown h.is_shown, h.written)
+
+-- whichever fault ended it
+pub ended_mixed : {C : Type 0} (calls : Calls C) (old new : MixedState C) (e : MixedEvent) (f : ReplayFault)
+    → (failed_by f ≡ Err fault.OutOfMemory → (lines : List Shown)
+    × RunsOutBy (mixed_kind calls) old (mixed.Happen e ∷ []) new lines)
+    → (failed_by f ≡ Err fault.CannotWrite → (lines : List Shown)
+    × BreaksOffBy (mixed_kind calls) old (mixed.Happen e ∷ []) new lines)
+    → StopsMixed calls old e new []
+ended_mixed calls old new e fault.OutOfMemory memory failed =
+    let w = memory refl in
+    let (own, stopped) = last_one (HappensBy (mixed_kind calls)) (StopsBy (mixed_kind calls)) old new (mixed.Happen e)
+    w.0 w.1 in
+    inr (refl, (stopped.outcome, stopped.gives))
+ended_mixed calls old new e fault.CannotWrite memory failed =
+    let w = failed refl in
+    let (own, may) = last_one (HappensBy (mixed_kind calls)) (MayDoBy (mixed_kind calls)) old new (mixed.Happen e) w.0
+    w.1 in
+    inr (
+      refl,
+      (
+        may.outcome,
+        subst (λ (x : MixedWorldEvent). MixedEventGives calls old x may.outcome new) may.begins
+            may.gives,
+      ),
+    )
+
+-- ---- its line
+
+pub tells_mixed : {C : Type 0} (calls : Calls C) (members : C → AllParts) (spot : Spot) (old new : MixedState C)
+    (e : MixedEvent) (p : Passed) (a b : Option (List ℕ))
+    → HasPassedMixed calls members old e new p → Appends a b (ended_line (passed_line spot 0 new.world p))
+    → MixedEnds calls members spot old e (Ok tt) new a b
+tells_mixed calls members spot old new e p a b h written =
+    let (lines, happens, says) = h.shows in
+    one_line (line_of spot 0 (mixed_text e) happens.gains.crossings (output Sizes lines)
+    (change_of members old.world new.world))
+    (TellsMixed calls members spot old e new) a b (lines, happens, refl)
+    (subst (λ (line : List ℕ). Appends a b (ended_line line))
+    (line_by members spot 0 old.world new.world (mixed_text e) p.event.items p.printed.items p.changes.parts.items
+    p.changes.programs.items p.changes.services.items p.crossed lines happens.gains h.event says h.crossed h.changes)
+    written)
+
+-- ---- an event of a script
+
+pub calm_ends : {C : Type 0} (calls : Calls C) (members : C → AllParts) (spot : Spot) (rounds : ℕ)
+    (old new : MixedState C) (r : Result (Unit {0}) ReplayFault) (a b : Option (List ℕ))
+    → EventEnds calls members spot old.world (world.Calm rounds) r new.world a b → new.strangers ≡ old.strangers
+    → MixedEventEnds calls members spot old (mixed.Calm rounds) r new a b
+calm_ends calls members spot rounds old new (Ok done) a b h same =
+    record { shown = h.shown; is_shown = (h.is_shown, same); written = h.written }
+calm_ends calls members spot rounds old new (Err fault.OutOfMemory) a b h same =
+    record { shown = h.shown; is_shown = (h.is_shown, same); written = h.written }
+calm_ends calls members spot rounds old new (Err fault.CannotWrite) a b (lines, h) same = (lines, (h, same))
+
+pub mixed_ends : {C : Type 0} (calls : Calls C) (members : C → AllParts) (spot : Spot) (e : MixedEvent)
+    (old new : MixedState C) (r : Result (Unit {0}) ReplayFault) (a b : Option (List ℕ))
+    → MixedEnds calls members spot old e r new a b → MixedEventEnds calls members spot old (mixed.Happen e) r new a b
+mixed_ends calls members spot e old new (Ok done) a b h = h
+mixed_ends calls members spot e old new (Err fault.OutOfMemory) a b h = h
+mixed_ends calls members spot e old new (Err fault.CannotWrite) a b h = h
+
+-- ---- what is at other hosts
+
+on_either : {A B X : Type 0} (b : Bool) → (b ≡ true → A → X) → (b ≡ false → B → X) → MatchBool b A B → X
+on_either true f g h = f refl h
+on_either false f g h = g refl h
+
+answer_stops : (q : Result (Unit {0}) WorldFault) → mixed_stops (mixed_answer q) ≡ stops q
+answer_stops (Ok done) = refl
+answer_stops (Err f) = refl
+
+module _ {C : Type 0} (own : Calls C) where
+  goes_on : (q : Result (Unit {0}) WorldFault) (r : Result (Unit {0}) MixedFault) → r ≡ mixed_answer q
+      → mixed_stops r ≡ false → stops q ≡ false
+  goes_on q r is on = sym (answer_stops q) ∙ ap mixed_stops (sym is) ∙ on
+
+  unmoved : (o : Option Host) (f : MixedFault) (old : MixedState C) (r : Result (Unit {0}) MixedFault)
+      (new : MixedState C) → RefusesMixed f old r new → AtOthers own o old.world new.world
+  unmoved o f old r new n = same_others own o old.world new.world (ap (λ (s : MixedState C). s.world) n.1)
+
+  -- only the carrier and what is kept are other
+  carried : (o : Option Host) (old new : WorldState C) → new.seats ≡ old.seats → new.services ≡ old.services
+      → AtOthers own o old new
+  carried o old new seats services = hosts_same own o old new seats services
+
+  abbrev seats_of : WorldState C → List Seat
+  seats_of w = w.seats
+
+  abbrev served_in : WorldState C → List ServiceSeat
+  served_in w = w.services
+
+  fetched : (o : Option Host) (answer : Result (Option Inbound) CarrierFault) (c : C) (old : WorldState C)
+      (q : Result (Unit {0}) WorldFault) (new : WorldState C) → stops q ≡ false → FetchEnds answer c old q new
+      → AtOthers own o old new
+  fetched o (Ok None) c old q new on ends = carried o old new (ap seats_of ends.1) (ap served_in ends.1)
+  fetched o (Ok (Some (inbound.Message m))) c old q new on (inl d) = carried o old new (ap seats_of d.1)
+      (ap served_in d.1)
+  fetched o (Ok (Some (inbound.Answer a f))) c old q new on (inl d) = carried o old new (ap seats_of d.1)
+      (ap served_in d.1)
+  fetched o (Ok (Some i)) c old q new on (inr h) = halts_not own (AtOthers own o old new) c old new q on h
+  fetched o (Err e) c old q new on ends = carried o old new (ap seats_of ends.1) (ap served_in ends.1)
+
+  said : (o : Option Host) (m : HostMessage) (answer : Result (Unit {0}) CarrierFault) (c : C) (old : WorldState C)
+      (q : Result (Unit {0}) WorldFault) (new : WorldState C) → stops q ≡ false → OutEnds m answer c old q new
+      → AtOthers own o old new
+  said o m (Ok done) c old q new on (inl d) = carried o old new (ap seats_of d.1) (ap served_in d.1)
+  said o m (Ok done) c old q new on (inr h) = halts_not own (AtOthers own o old new) c old new q on h
+  said o m (Err e) c old q new on ends = carried o old new (ap seats_of ends.1) (ap served_in ends.1)
+
+  stepped : (e : Event) (old : MixedState C) (r : Result (Unit {0}) MixedFault) (new : MixedState C)
+      → is_of_network e ≡ false → mixed_stops r ≡ false → OfWorld (StepGives (shown own) old.world e) old r new
+      → AtOthers own (at_one e) old.world new.world
+  stepped e old r new not on (q, gives, is, same) =
+      event_others own e old.world new.world q not (goes_on q r is on) gives
+
+  asked : (e : Event) (old : MixedState C) (r : Result (Unit {0}) MixedFault) (new : MixedState C)
+      → is_of_network e ≡ false → mixed_stops r ≡ false → AskedGives (shown own) old e r new
+      → AtOthers own (at_one e) old.world new.world
+  asked e old r new not on g =
+      on_either (is_strange (strange_in old) (asked_at e)) (λ s n. unmoved (at_one e) _ old r new n)
+      (λ s t. stepped e old r new not on t) g
+
+  any_others : (e : Event) (old : MixedState C) (r : Result (Unit {0}) MixedFault) (new : MixedState C)
+      → is_of_network e ≡ false → mixed_stops r ≡ false → AnyGives (shown own) old e r new
+      → AtOthers own (at_one e) old.world new.world
+  any_others (Take h) old r new not on g =
+      on_either (strange_in old h)
+      (λ s f. fetched (Some h) f.1.0 f.1.1 old.world f.0 new.world (goes_on f.0 r f.2 on) f.1.3)
+      (λ s t. stepped (Take h) old r new not on t) g
+  any_others e old r new not on g = asked e old r new not on g
+
+  says_others : (m : HostMessage) (old : MixedState C) (r : Result (Unit {0}) MixedFault) (new : MixedState C)
+      → mixed_stops r ≡ false → SaysGives (shown own) old m r new → AtOthers own None old.world new.world
+  says_others m old r new on g =
+      on_either (strange_in old m.flow.source)
+      (λ s f. said None m f.1.0 f.1.1 old.world f.0 new.world (goes_on f.0 r f.2 on) f.1.3)
+      (λ s n. unmoved None _ old r new n) g
+
+  reaches : (e : MixedEvent) (o : Option Host) (old : MixedState C) (r : Result (Unit {0}) MixedFault)
+      (new : MixedState C)
+      → mixed_reach e ≡ reach.At o → mixed_stops r ≡ false → mixed_world.MixedEventGives (shown own) old e r new
+      → AtOthers own o old.world new.world
+  reaches (Any e) o old r new at on g = by (is_of_network e) refl where
+    by : (b : Bool) → is_of_network e ≡ b → AtOthers own o old.world new.world
+    by true is =
+        absurd (let no : reach.All ≡ reach.At o =
+        sym (ap (λ (b : Bool). if b then reach.All else reach.At (at_one e)) is) ∙ at in cc)
+    by false is =
+        let here : reach.At (at_one e) ≡ reach.At o =
+        sym (ap (λ (b : Bool). if b then reach.All else reach.At (at_one e)) is) ∙ at in
+        let same : at_one e ≡ o = cc in
+        subst (λ (x : Option Host). AtOthers own x old.world new.world) same (any_others e old r new is on g)
+  reaches (Out m) o old r new at on g =
+      let same : None ≡ o = cc in
+      subst (λ (x : Option Host). AtOthers own x old.world new.world) same (says_others m old r new on g)
+
+  -- an event leaves what it doesn't reach
+  pub mixed_others : (e : MixedEvent) (o : Option Host) (old : MixedState C) (r : Result (Unit {0}) MixedFault)
+      (new : MixedState C)
+      → mixed_reach e ≡ reach.At o → mixed_stops r ≡ false → MixedStepGives (shown own) old e r new
+      → AtOthers own o old.world new.world
+  mixed_others e o old r new at on g =
+      on_either old.world.stopped (λ s n. unmoved o _ old r new n) (λ s t. reaches e o old r new at on t) g

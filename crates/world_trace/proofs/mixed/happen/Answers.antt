@@ -1,0 +1,20 @@
+use Rattle.world_trace.proofs.Common.{List, subst, shown, Calls}
+use Rattle.world_replay.specs.Kinds.{BreaksOffBy, RunsOutBy, mixed_kind}
+use Rattle.world_replay.specs.Output.{Shown}
+use Rattle.world_script.specs.declared.event.MixedWorldEvent.{MixedWorldEvent}
+use Rattle.world_trace.proofs.Strangers.{ended_mixed}
+use Rattle.world_trace.proofs.mixed.happen.Goals as goal
+
+pub returns-in-Err-clause-memory : goal.returns-in-Err-clause-memory
+returns-in-Err-clause-memory g c =
+    let calls : Calls g.row.C.Denot = shown g.C.Carrier.calls in
+    let old = c.args.world.now in
+    let new = c.replay_mixed_events.new.world in
+    ended_mixed calls old new c.args.event c.in-Err.field-0
+    (λ e. (
+    let w = c.in-Err.ensures.memory e in
+    subst (λ (es : List MixedWorldEvent). (lines : List Shown) × RunsOutBy (mixed_kind calls) old es new lines)
+    c.in_ok-events.ensures.items (w.shown, w.is_shown)))
+    (λ e. subst
+    (λ (es : List MixedWorldEvent). (lines : List Shown) × BreaksOffBy (mixed_kind calls) old es new lines)
+    c.in_ok-events.ensures.items (c.in-Err.ensures.cannot_write e))

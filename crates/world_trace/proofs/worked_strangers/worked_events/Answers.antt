@@ -1,0 +1,19 @@
+use Rattle.world_trace.proofs.Common.{[], ◌∷◌, codes, refl, first, second}
+use Rattle.interface.specs.declared.crossing.Crossing.TheVariants as crossing
+use Rattle.net_sim.specs.Worked.{accepting_carrier, any_carrier, message}
+use Rattle.net_sim.specs.declared.event.Event.TheVariants.{Offer}
+use Rattle.net_sim.specs.declared.mixed.MixedEvent.TheVariants.{Any, Out}
+use Rattle.net_sim.specs.declared.mixed.MixedFault.TheVariants.{HasProgram, NoProgram}
+use Rattle.sockets.specs.Worked.{third}
+use Rattle.world_replay.specs.Output.{Crossed, Refused}
+use Rattle.world_trace.proofs.Beside.{traces_only}
+use Rattle.world_trace.proofs.worked_strangers.worked_events.Goals as goal
+
+pub returns-clause-said : goal.returns-clause-said
+returns-clause-said c = traces_only accepting_carrier (Out (message third first 2)) (Crossed (crossing.Out (message third first 2)) ∷ []) c.worked_strangers.ensures.says
+
+pub returns-clause-asked : goal.returns-clause-asked
+returns-clause-asked c = traces_only any_carrier (Any (Offer third)) (Refused NoProgram ∷ []) c.worked_strangers.ensures.offered
+
+pub returns-clause-program : goal.returns-clause-program
+returns-clause-program c = traces_only any_carrier (Out (message first second 2)) (Refused HasProgram ∷ []) c.worked_strangers.ensures.program

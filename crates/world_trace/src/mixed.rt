@@ -1,0 +1,227 @@
+//! Tracing the events of a world some of whose hosts are strangers.
+
+ghost use Rattle.std.specs.Prelude.{◌≡◌, ◌⊎◌, [], Err, IfErr, IfOk, IfSome, OnOk, false, map};
+ghost use Rattle.std.specs.Io.KnownBytes.{Appends};
+ghost use Rattle.net_sim.specs.Carriers.{shown};
+ghost use Rattle.replay.specs.Failing.{TellsCannotWrite, TellsFailure};
+ghost use Rattle.script.specs.Input.{ended_line};
+ghost use Rattle.world_trace.specs.MixedSteps.{HasPassedMixed, MixedEnds, MixedEventEnds, ShowsMixed, foreign_text, mixed_end, mixed_reach};
+ghost use Rattle.world_trace.specs.MixedTraces.{MixedTraceFails, StopsMixed, WritesMixed, WritesMixedPart, mixed_opening, mixed_text, stranger_text};
+ghost use Rattle.world_trace.specs.Steps.{AreTextsOf};
+ghost use Rattle.world_trace.specs.Texts.{seat_member, services_member};
+
+use crate::calm::trace_calm;
+use crate::line::{Passed, print_line};
+use crate::spelling::{spelled, spelled_out};
+use crate::texts::{Texts, change_all, change_one, known_texts};
+use crate::traced::{host_at, is_of_network, trace_all};
+use crate::values::{Array, Object};
+use interface::HostAddr;
+use net_sim::{MixedEvent, MixedWorld};
+use replay::{Detail, Output, Printer, ReplayFault, WriteFailed};
+use std::alloc::{AllocError, Global};
+use topology::Topology;
+use trace::{Inspect, Spot, print_network};
+use world_replay::replay_mixed_events;
+use world_script::MixedWorldEvent;
+
+/// Traces a world some of whose hosts are strangers, as [`crate::trace_world`] does one without. The first line also says who they are.
+/// A message of a stranger and its taking have a line each, by which parts of the carrier change; and so has what is refused as
+/// `NoProgram` or `HasProgram`. In a calm a stranger has no turn. What is printed of the state is the carrier, and the programs and
+/// services of the other hosts.
+///
+/// Errors: as in [`crate::trace_world`].
+pub fn trace_mixed_world<C: Inspect, W: Output>(
+    alloc: Global,
+    network: &Topology,
+    world: &mut MixedWorld<C>,
+    events: Vec<(usize, MixedWorldEvent)>,
+    writer: &mut W,
+) -> Result<(), ReplayFault>
+    requires whole { W.failed writer.old ≡ false }
+
+    // first the network with the state and the strangers, and then each event happened as in a replay, those of a calm one by one, and its line was
+    // written
+    ensures traced { OnOk result (WritesMixed (shown C.calls) C.inside.members network.now world.old events.items world.new (W.contents writer.old) (W.contents writer.new)) }
+
+    // memory ran out at one of them: the first line and those before it were written, and nothing else
+    ensures memory { result ≡ Err ReplayFault.OutOfMemory → WritesMixedPart (shown C.calls) C.inside.members network.now world.old events.items world.new (W.contents writer.old) (W.contents writer.new) }
+
+    // `CannotWrite` is answered where a write failed, and nowhere else
+    ensures failed { TellsCannotWrite result (W.failed writer.new) }
+
+    // a write failed: the event had already happened, or none had
+    ensures cannot_write { result ≡ Err ReplayFault.CannotWrite → (world.new ≡ world.old) ⊎ MixedTraceFails (shown C.calls) C.inside.members world.old events.items world.new }
+{
+    print_opening(network, world, writer)?;
+    trace_all(alloc, world, events, writer)
+}
+
+/// Prints the first line of a trace: the network, the state of a world, and its strangers.
+fn print_opening<C: Inspect, W: Output>(
+    network: &Topology,
+    world: &MixedWorld<C>,
+    writer: &mut W,
+) -> Result<(), WriteFailed>
+    requires { W.failed writer.old ≡ false }
+    ensures written { OnOk result (Appends (W.contents writer.old) (W.contents writer.new) (ended_line (mixed_opening C.inside.members network.now world.now))) }
+    ensures failed { TellsFailure result (W.failed writer.new) }
+{
+    print_network(network, writer)?;
+    print_state(world, writer)
+}
+
+/// Prints the programs and the services of the hosts after other members, the strangers, and the end of the line.
+fn print_hosts<C: Inspect, W: Output>(
+    world: &MixedWorld<C>,
+    writer: &mut W,
+) -> Result<(), WriteFailed>
+    requires { W.failed writer.old ≡ false }
+    ensures written { OnOk result (Appends (W.contents writer.old) (W.contents writer.new) (foreign_text (map seat_member world.now.world.seats) (map services_member world.now.world.services) (map stranger_text world.now.strangers))) }
+    ensures failed { TellsFailure result (W.failed writer.new) }
+{
+    let (programs, services) = (Object(world.seats()), Object(world.services()));
+    let foreign = Array(world.strangers());
+    write!(
+        writer,
+        ",\"programs\":{programs},\"services\":{services},\"foreign\":{foreign}}}\n"
+    )
+}
+
+/// Prints the state of a world after other members, its strangers, and the end of the line.
+fn print_state<C: Inspect, W: Output>(
+    world: &MixedWorld<C>,
+    writer: &mut W,
+) -> Result<(), WriteFailed>
+    requires { W.failed writer.old ≡ false }
+    ensures written { OnOk result (Appends (W.contents writer.old) (W.contents writer.new) (mixed_end C.inside.members world.now)) }
+    ensures failed { TellsFailure result (W.failed writer.new) }
+{
+    world.carrier().print_whole(writer)?;
+    print_hosts(world, writer)
+}
+
+/// Traces one event, which is at this spot of a script. The texts of the state may be known.
+pub(crate) fn trace_mixed_event<C: Inspect, W: Output>(
+    alloc: Global,
+    world: &mut MixedWorld<C>,
+    spot: Spot,
+    event: MixedWorldEvent,
+    known: &mut Option<Texts>,
+    notes: &mut C::Notes,
+    writer: &mut W,
+) -> Result<(), ReplayFault>
+    requires whole { W.failed writer.old ≡ false }
+    requires known { IfSome known.old (AreTextsOf C.inside.members world.old.world) }
+    ensures ends { MixedEventEnds (shown C.calls) C.inside.members spot world.old event result world.new (W.contents writer.old) (W.contents writer.new) }
+    ensures known { OnOk result (IfSome known.new (AreTextsOf C.inside.members world.new.world)) }
+    ensures failed { TellsCannotWrite result (W.failed writer.new) }
+{
+    match event {
+        MixedWorldEvent::Calm(rounds) => {
+            trace_calm(alloc, world, spot, rounds, known, notes, writer)
+        }
+        MixedWorldEvent::Happen(event) => {
+            trace_mixed(alloc, world, spot, event, known, notes, writer)
+        }
+    }
+}
+
+/// Lets an event happen that is no calm, and prints its line.
+fn trace_mixed<C: Inspect, W: Output>(
+    alloc: Global,
+    world: &mut MixedWorld<C>,
+    spot: Spot,
+    event: MixedEvent,
+    known: &mut Option<Texts>,
+    notes: &mut C::Notes,
+    writer: &mut W,
+) -> Result<(), ReplayFault>
+    requires whole { W.failed writer.old ≡ false }
+    requires known { IfSome known.old (AreTextsOf C.inside.members world.old.world) }
+    ensures ends { MixedEnds (shown C.calls) C.inside.members spot world.old event result world.new (W.contents writer.old) (W.contents writer.new) }
+    ensures known { OnOk result (IfSome known.new (AreTextsOf C.inside.members world.new.world)) }
+    ensures failed { TellsCannotWrite result (W.failed writer.new) }
+{
+    let mut texts = known_texts(alloc, world, known.take(), notes)?;
+    let passed = pass(alloc, world, event, &mut texts, notes)?;
+    print_line(world, spot, 0, &passed, writer)?;
+    *known = Some(texts);
+    Ok(())
+}
+
+/// What of a state an event may change beside parts of the carrier: what is at a host, or what is at any.
+#[derive(Clone, Copy)]
+pub(crate) enum Reach {
+    /// What is at this host, if there is one.
+    At(Option<HostAddr>),
+    /// What is at any host.
+    All,
+}
+
+/// Returns what an event may change. A message of a stranger changes parts of the carrier only.
+fn reach_of(event: &MixedEvent) -> Reach
+    ensures { result ≡ mixed_reach event.now }
+{
+    match event {
+        MixedEvent::Any(event) if is_of_network(event) => Reach::All,
+        MixedEvent::Any(event) => Reach::At(host_at(event)),
+        MixedEvent::Out(_) => Reach::At(None),
+    }
+}
+
+/// Returns an event as a line of a script, within a string.
+fn spelled_mixed(alloc: Global, event: &MixedEvent) -> Result<Vec<u8>, AllocError>
+    ensures { IfOk result (λ text. text.items ≡ mixed_text event.now) }
+{
+    match event {
+        MixedEvent::Any(event) => spelled(alloc, event),
+        MixedEvent::Out(message) => spelled_out(alloc, message),
+    }
+}
+
+/// Lets an event happen that is no calm. Returns the texts of its line. `texts` are those of the state.
+fn pass<C: Inspect>(
+    alloc: Global,
+    world: &mut MixedWorld<C>,
+    event: MixedEvent,
+    texts: &mut Texts,
+    notes: &mut C::Notes,
+) -> Result<Passed, AllocError>
+    requires known { AreTextsOf C.inside.members world.old.world texts.old }
+    ensures passed { IfOk result (HasPassedMixed (shown C.calls) C.inside.members world.old event world.new) }
+    ensures texts { OnOk result (AreTextsOf C.inside.members world.new.world texts.new) }
+    ensures memory { IfErr result (λ _. StopsMixed (shown C.calls) world.old event world.new []) }
+{
+    let text = spelled_mixed(alloc, &event)?;
+    let crossed = world.book().crossings().len();
+    let reach = reach_of(&event);
+    let printed = happen(alloc, world, event)?;
+    let changes = match reach {
+        Reach::All => change_all(alloc, world, texts, notes)?,
+        Reach::At(host) => change_one(alloc, world, &host, texts, notes)?,
+    };
+    Ok(Passed {
+        event: text,
+        crossed,
+        printed,
+        changes,
+    })
+}
+
+/// Lets an event happen that is no calm. Returns the lines that a replay prints for it.
+fn happen<C: Inspect>(
+    alloc: Global,
+    world: &mut MixedWorld<C>,
+    event: MixedEvent,
+) -> Result<Vec<u8>, AllocError>
+    ensures shown { IfOk result (λ text. ShowsMixed (shown C.calls) world.old event world.new text.items) }
+    ensures memory { IfErr result (λ _. StopsMixed (shown C.calls) world.old event world.new []) }
+{
+    let events = vec![in alloc; MixedWorldEvent::Happen(event)]?;
+    let mut printer = Printer::new(Vec::new(alloc));
+    match replay_mixed_events(world, events, Detail::Sizes, &mut printer) {
+        Ok(()) => Ok(printer.into_inner()),
+        Err(_) => Err(AllocError),
+    }
+}
