@@ -41,8 +41,9 @@ ghost use Rattle.command_line.specs.declared.program.Done.TheVariants as did;
 ghost use Rattle.command_line.specs.declared.program.ProgramFault.TheVariants as fault;
 ghost use Rattle.command_line.specs.declared.verdict.Verdict.{Verdict};
 
-/// The input determines the output, with the book and without it, with texts and without them. It asks for one list of events over the carrier of one
-/// topology, and neither plain mailboxes nor a subnet leave their replay a choice, without host programs or with them.
+/// The input determines the output, with the book and without it, with texts and without them. It asks for one list of
+/// events over the carrier of one topology, and neither plain mailboxes nor a subnet leave their replay a choice,
+/// without host programs or with them.
 pub fn one_output()
     ensures { OneOutput }
 {}
@@ -63,8 +64,9 @@ pub fn one_log()
     ensures { (input before after other : List ℕ) → LogsInput input (Some before) (Some after) → LogsInput input (Some before) (Some other) → after ≡ other }
 {}
 
-/// The outputs of one input are of one replay. Whether the book and texts are asked for only decides how much of it is printed; and the log is that of the
-/// crossings and the lives that are printed. The lines of a plain output are those that its trace has as printed, in turn.
+/// The outputs of one input are of one replay. Whether the book and texts are asked for only decides how much of it is
+/// printed; and the log is that of the crossings and the lives that are printed. The lines of a plain output are those
+/// that its trace has as printed, in turn.
 pub fn one_replay()
     ensures { OneReplay }
 {}
@@ -78,9 +80,9 @@ pub fn worked_traces()
     ensures none { (book : Bool) (out trace : List ℕ) → PrintsTrace book out trace [] → ⊥ }
 {}
 
-/// What is printed is one book, of whatever network and events, with the book or without it: all that lines show is in it, and its lives, which are printed
-/// where the book is asked for, are those that the lines make. In a network without host programs there are none. Where memory runs out the lines
-/// are still those of such a book.
+/// What is printed is one book, of whatever network and events, with the book or without it: all that lines show is in
+/// it, and its lives, which are printed where the book is asked for, are those that the lines make. In a network
+/// without host programs there are none. Where memory runs out the lines are still those of such a book.
 pub fn printed_books()
     ensures whole { (book : Bool) (detail : Detail) (before after : Option (List ℕ)) (h : Ran book detail before after) → PrintsBook (is_raw h.events) book detail before after }
     ensures part { (detail : Detail) (before after : Option (List ℕ)) (h : RanInPart detail before after) → PrintsPart (is_raw h.events) detail before after }
@@ -115,14 +117,14 @@ pub fn worked_made()
     ensures still_alive { (m : HostMessage) → AreLived (crossing.Down here ∷ took_one m) told_one (life_one ∷ []) → ⊥ }
 {}
 
-/// What `--log` writes is a log, of whatever network and events. Its book is kept, and what crossed in it is a run of the mailboxes. So whoever reads it
-/// comes to this book, and to this verdict.
+/// What `--log` writes is a log, of whatever network and events. Its book is kept, and what crossed in it is a run of
+/// the mailboxes. So whoever reads it comes to this book, and to this verdict.
 pub fn logs_are_kept()
     ensures { (octets : List ℕ) → Logged (Some []) (Some octets) → IsKeptLog octets }
 {}
 
-/// What an audit names is broken, and what it doesn't name holds. A malformed book has requests that nothing names, so its partners, streams, grants and
-/// closes aren't looked at.
+/// What an audit names is broken, and what it doesn't name holds. A malformed book has requests that nothing names, so
+/// its partners, streams, grants and closes aren't looked at.
 pub fn named_parts()
     ensures run { (b : log.Book) (v : Verdict) → SaysOf v b → (v.stray ≡ None) ↔ IsSomeRun (reverse b.crossings) }
     ensures lives { (b : log.Book) (v : Verdict) → SaysOf v b → (v.unmade ≡ None) ↔ AreMade (reverse b.crossings) (log.lives_of b) }

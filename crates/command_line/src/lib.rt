@@ -1,7 +1,7 @@
 //! The simulator and its command line: which options it takes, what it reads, and what it writes.
 //!
-//! [`run_program`] is the whole program: its words ask for a replay with [`Options`], for its log or its trace, or for the
-//! audit of a log, or for what the program says of itself. [`run`] is the part of it that replays an input or only
+//! [`run_program`] is the whole program: its words ask for a replay with [`Options`], for its log or its trace, or for
+//! the audit of a log, or for what the program says of itself. [`run`] is the part of it that replays an input or only
 //! reads it, as the options ask, and [`run_script`] does the same for options that were read already.
 //!
 //! An input is a topology, the marker line `%` and a script. A caller may rely on three things. Every input is

@@ -61,8 +61,8 @@ impl Output for Silent {
     }
 }
 
-/// Reads a topology, the marker line `%` and a script, replays the script, and writes the log of the book that it leaves: what
-/// crossed with its texts, the lives of connections with their fates, and what was handed over in each.
+/// Reads a topology, the marker line `%` and a script, replays the script, and writes the log of the book that it
+/// leaves: what crossed with its texts, the lives of connections with their fates, and what was handed over in each.
 ///
 /// Errors: as [`crate::run_script`]. Nothing is written before the replay has come to its end.
 pub fn run_log<R: Source, W: Output>(
@@ -75,14 +75,15 @@ pub fn run_log<R: Source, W: Output>(
     requires more { R.ended reader.old ≡ false }
     requires writes { W.failed writer.old ≡ false }
 
-    // a script is replayed over the carrier of a topology, whatever the reader, and the log of the book that it leaves is written
+    // a script is replayed over the carrier of a topology, whatever the reader, and the log of the book that it leaves
+    // is written
     ensures ran { OnOk result (Logged (W.contents writer.old) (W.contents writer.new)) }
 
     // and of a reader whose octets are known these are the script and the topology that were read
     ensures logged { OnOk result (IfSome (R.remaining reader.old) (λ octets. LogsInput octets (W.contents writer.old) (W.contents writer.new))) }
 
-    // the reader is asked for the first octets only, and for an octet more than an input may have at most; unless a read fails or memory runs out, it is
-    // asked for all of them
+    // the reader is asked for the first octets only, and for an octet more than an input may have at most; unless a
+    // read fails or memory runs out, it is asked for all of them
     ensures reads { ReadsFirst (R.remaining reader.old) (R.remaining reader.new) }
     ensures reads_all { result ≢ Err ScriptFault.CannotRead → result ≢ Err ScriptFault.OutOfMemory → ReadsAll (R.remaining reader.old) (R.remaining reader.new) }
 
@@ -133,7 +134,8 @@ pub(crate) fn log_on<W: Output>(
     }
 }
 
-/// Replays events over a carrier at its opening, without host programs or with them, and writes the log of the book that they leave.
+/// Replays events over a carrier at its opening, without host programs or with them, and writes the log of the book
+/// that they leave.
 ///
 /// Errors: `CannotWrite`; `OutOfMemory`, after which nothing is written.
 fn log_over<C: Carrier, W: Output>(

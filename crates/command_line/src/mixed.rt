@@ -88,8 +88,8 @@ fn read_mixed_network(alloc: Global, document: &[u8]) -> Result<MixedTopology, S
     }
 }
 
-/// Replays events over the carrier that a topology with strangers names, plain mailboxes or a subnet. It writes what they
-/// show, the lives of connections where the book is asked for, and a last line `end`. Of a message it writes as
+/// Replays events over the carrier that a topology with strangers names, plain mailboxes or a subnet. It writes what
+/// they show, the lives of connections where the book is asked for, and a last line `end`. Of a message it writes as
 /// much as `detail` says.
 ///
 /// Errors: `CannotWrite`; `OutOfMemory`, after which a prefix of that is written.
@@ -123,9 +123,9 @@ pub(crate) fn replay_mixed_on<W: Output>(
     }
 }
 
-/// Replays events over a carrier in which these hosts are strangers, and writes what they show, the lives of connections where the book is
-/// asked for, and a last line `end`. The world's book keeps what is promised where there are strangers, and what is
-/// written is what this book has.
+/// Replays events over a carrier in which these hosts are strangers, and writes what they show, the lives of
+/// connections where the book is asked for, and a last line `end`. The world's book keeps what is promised where there
+/// are strangers, and what is written is what this book has.
 ///
 /// Errors: `CannotWrite`; `OutOfMemory`, after which a prefix of that is written.
 fn replay_mixed<C: Carrier, W: Output>(

@@ -58,7 +58,8 @@ pub(crate) fn trace_mixed<W: Output>(
     trace_mixed_on(alloc, &network, &lines, events, writer)
 }
 
-/// Returns the input of a network with strangers that these octets are, with the numbers of the lines that ask for its events.
+/// Returns the input of a network with strangers that these octets are, with the numbers of the lines that ask for its
+/// events.
 ///
 /// Errors: `BadTopology`, `BadLine` and `OutOfMemory`, as [`read_mixed_input`].
 fn read_mixed_scripted(alloc: Global, octets: &[u8]) -> Result<MixedScripted, ScriptFault>
@@ -84,7 +85,8 @@ fn read_mixed_scripted(alloc: Global, octets: &[u8]) -> Result<MixedScripted, Sc
     })
 }
 
-/// Replays events, which are in these lines of a script, over the carrier that a topology with strangers names, and writes their trace.
+/// Replays events, which are in these lines of a script, over the carrier that a topology with strangers names, and
+/// writes their trace.
 ///
 /// Errors: `CannotWrite`; `OutOfMemory`, after which the first lines of the trace are written, if any.
 fn trace_mixed_on<W: Output>(
@@ -117,7 +119,8 @@ fn trace_mixed_on<W: Output>(
     }
 }
 
-/// Replays events among strangers, each of which comes after the number of its line, over a carrier at its opening, and writes their trace.
+/// Replays events among strangers, each of which comes after the number of its line, over a carrier at its opening, and
+/// writes their trace.
 ///
 /// Errors: `CannotWrite`; `OutOfMemory`, after which the first lines of the trace are written, if any.
 fn trace_among<C: Inspect, W: Output>(

@@ -128,8 +128,8 @@ impl Options {
     }
 }
 
-/// Returns the texts of these words. They are put into a list one by one: `collect` would continue where the room for all
-/// of them is refused.
+/// Returns the texts of these words. They are put into a list one by one: `collect` would continue where the room for
+/// all of them is refused.
 fn texts_of<'a>(alloc: Global, words: &'a [String]) -> Result<Vec<&'a str>, AllocError>
     ensures { IfOk result (λ texts. map (λ text. text.now) texts.items ≡ map string_bytes words.now) }
 {

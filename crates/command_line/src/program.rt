@@ -52,8 +52,8 @@ impl fmt::Display for ProgramFault {
     }
 }
 
-/// Returns the exit status of the program: 0 where it wrote what it was asked for, 4 after the audit of a book that is not
-/// kept, and else that of its fault.
+/// Returns the exit status of the program: 0 where it wrote what it was asked for, 4 after the audit of a book that is
+/// not kept, and else that of its fault.
 pub fn exit_status(outcome: Result<Done, ProgramFault>) -> u8
     ensures { result ≡ exit_status outcome }
 {

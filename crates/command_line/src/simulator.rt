@@ -47,23 +47,24 @@ pub fn run<R: Source, W: Output>(
     // with `--check` the input is only read
     ensures checked { IfOptions words.now (λ options. options.check ≡ true → OnOk result (Appends (W.contents writer.old) (W.contents writer.new) (codes "ok\n"))) }
 
-    // without it a script is replayed over the carrier of a topology, whatever the reader: in a world whose book keeps the promise and of which
-    // all is written; or without host programs, where what crosses is a log that every host may rely on; or among strangers, where the book keeps
-    // what is promised to hosts with programs
+    // without it a script is replayed over the carrier of a topology, whatever the reader: in a world whose book keeps
+    // the promise and of which all is written; or without host programs, where what crosses is a log that every host
+    // may rely on; or among strangers, where the book keeps what is promised to hosts with programs
     ensures ran { IfReplayed words.now (λ book detail. OnOk result (RanEither book detail (W.contents writer.old) (W.contents writer.new))) }
 
     // and of a reader whose octets are known these are the script and the topology that were read
     ensures replayed { IfReplayed words.now (λ book detail. OnOk result (IfSome (R.remaining reader.old) (λ octets. ReplaysEither book detail octets (W.contents writer.old) (W.contents writer.new)))) }
 
-    // the reader is asked for the first octets only, and for an octet more than an input may have at most; unless a read fails or memory runs out, it is
-    // asked for all of them
+    // the reader is asked for the first octets only, and for an octet more than an input may have at most; unless a
+    // read fails or memory runs out, it is asked for all of them
     ensures reads { ReadsFirst (R.remaining reader.old) (R.remaining reader.new) }
     ensures reads_all { IfOptions words.now (λ options. result ≢ Err ScriptFault.CannotRead → result ≢ Err ScriptFault.OutOfMemory → ReadsAll (R.remaining reader.old) (R.remaining reader.new)) }
 
     // what is read is an input, or the first fault is given
     ensures read { IfOptions words.now (λ options. R.failed reader.new ≡ false → IfSome (R.remaining reader.old) (λ octets. MatchResult result (λ _. IsEitherInput octets) (IsEitherFault octets))) }
 
-    // where a read or a write fails it is reported, and nowhere else; by each call's `requires`, no more is asked of what failed
+    // where a read or a write fails it is reported, and nowhere else; by each call's `requires`, no more is asked of
+    // what failed
     ensures cannot_read { (result ≡ Err ScriptFault.CannotRead) ↔ (R.failed reader.new ≡ true) }
     ensures cannot_write { (result ≡ Err ScriptFault.CannotWrite) ↔ (W.failed writer.new ≡ true) }
 
@@ -100,8 +101,8 @@ pub fn run<R: Source, W: Output>(
 /// - `CannotRead`: a read failed. Nothing more is asked of the reader.
 /// - `BadTopology`: the input has more than 1,048,576 octets, has no line `%`, or begins with no topology.
 /// - `BadLine`: the first line of the script that is no event. Nothing is replayed and nothing is written.
-/// - `CannotWrite`: a write or a flush failed. Nothing more is asked of the writer, which is the only one to know how much was
-///   written.
+/// - `CannotWrite`: a write or a flush failed. Nothing more is asked of the writer, which is the only one to know how
+///   much was written.
 ///
 /// `OutOfMemory` may come at any of these steps. What was written by then is a prefix of what the
 /// replay would have written.
@@ -121,24 +122,25 @@ pub fn run_script<R: Source, W: Output>(
     // with `check` the input is only read
     ensures checked { check ≡ true → OnOk result (Appends (W.contents writer.old) (W.contents writer.new) (codes "ok\n")) }
 
-    // without it a script is replayed over the carrier of a topology, whatever the reader: in a world whose book keeps the promise and of which
-    // all is written; or without host programs, where what crosses is a log that every host may rely on; or among strangers, where the book keeps
-    // what is promised to hosts with programs
+    // without it a script is replayed over the carrier of a topology, whatever the reader: in a world whose book keeps
+    // the promise and of which all is written; or without host programs, where what crosses is a log that every host
+    // may rely on; or among strangers, where the book keeps what is promised to hosts with programs
     ensures ran { check ≡ false → OnOk result (RanEither book detail (W.contents writer.old) (W.contents writer.new)) }
 
     // and of a reader whose octets are known these are the script and the topology that were read
     ensures replayed { check ≡ false → OnOk result (IfSome (R.remaining reader.old) (λ octets. ReplaysEither book detail octets (W.contents writer.old) (W.contents writer.new))) }
     ensures options { IfErr result (λ f. f ≢ ScriptFault.BadOptions) }
 
-    // the reader is asked for the first octets only, and for an octet more than an input may have at most; unless a read fails or memory runs out, it is
-    // asked for all of them
+    // the reader is asked for the first octets only, and for an octet more than an input may have at most; unless a
+    // read fails or memory runs out, it is asked for all of them
     ensures reads { ReadsFirst (R.remaining reader.old) (R.remaining reader.new) }
     ensures reads_all { result ≢ Err ScriptFault.CannotRead → result ≢ Err ScriptFault.OutOfMemory → ReadsAll (R.remaining reader.old) (R.remaining reader.new) }
 
     // what is read is an input, or the first fault is given
     ensures read { R.failed reader.new ≡ false → IfSome (R.remaining reader.old) (λ octets. MatchResult result (λ _. IsEitherInput octets) (IsEitherFault octets)) }
 
-    // where a read or a write fails it is reported, and nowhere else; by each call's `requires`, no more is asked of what failed
+    // where a read or a write fails it is reported, and nowhere else; by each call's `requires`, no more is asked of
+    // what failed
     ensures cannot_read { (result ≡ Err ScriptFault.CannotRead) ↔ (R.failed reader.new ≡ true) }
     ensures cannot_write { (result ≡ Err ScriptFault.CannotWrite) ↔ (W.failed writer.new ≡ true) }
 

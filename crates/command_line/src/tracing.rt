@@ -27,12 +27,13 @@ use trace::{Inspect, beside_lines, event_lines, trace_events};
 use world_script::WorldEvent;
 use world_trace::trace_world;
 
-/// Reads a topology, the marker line `%` and a script, replays the script, and writes its trace: a line with the network and
-/// all its parts, and one line for each elementary event.
+/// Reads a topology, the marker line `%` and a script, replays the script, and writes its trace: a line with the
+/// network and all its parts, and one line for each elementary event.
 ///
 /// Errors, in this order:
 /// - `CannotRead`, `BadTopology` and `BadLine`, as [`crate::run_script`].
-/// - `CannotWrite`: a write or a flush failed. Nothing more is asked of the writer, which is the only one to know how much was written.
+/// - `CannotWrite`: a write or a flush failed. Nothing more is asked of the writer, which is the only one to know how
+///   much was written.
 ///
 /// `OutOfMemory` may come at any of these steps. What was written by then is a prefix of the trace.
 pub fn run_trace<R: Source, W: Output>(
@@ -45,14 +46,15 @@ pub fn run_trace<R: Source, W: Output>(
     requires more { R.ended reader.old ≡ false }
     requires writes { W.failed writer.old ≡ false }
 
-    // the trace of some script over the carrier of some topology is written, whatever the reader, among strangers or not
+    // the trace of some script over the carrier of some topology is written, whatever the reader, among strangers or
+    // not
     ensures ran { OnOk result (TracedEither (W.contents writer.old) (W.contents writer.new)) }
 
     // and of a reader whose octets are known these are the script and the topology that were read
     ensures traced { OnOk result (IfSome (R.remaining reader.old) (λ octets. TracesEither octets (W.contents writer.old) (W.contents writer.new))) }
 
-    // the reader is asked for the first octets only, and for an octet more than an input may have at most; unless a read fails or memory runs out, it is
-    // asked for all of them
+    // the reader is asked for the first octets only, and for an octet more than an input may have at most; unless a
+    // read fails or memory runs out, it is asked for all of them
     ensures reads { ReadsFirst (R.remaining reader.old) (R.remaining reader.new) }
     ensures reads_all { result ≢ Err ScriptFault.CannotRead → result ≢ Err ScriptFault.OutOfMemory → ReadsAll (R.remaining reader.old) (R.remaining reader.new) }
 
@@ -78,8 +80,8 @@ pub fn run_trace<R: Source, W: Output>(
     follow(alloc, &octets, writer)
 }
 
-/// Writes the trace of the input that octets are, with strangers or without. What is no input without strangers may be one
-/// with them.
+/// Writes the trace of the input that octets are, with strangers or without. What is no input without strangers may be
+/// one with them.
 ///
 /// Errors: `BadTopology`, `BadLine`, `CannotWrite`, `OutOfMemory`, as [`run_trace`].
 fn follow<W: Output>(alloc: Global, octets: &[u8], writer: &mut W) -> Result<(), ScriptFault>
@@ -143,7 +145,8 @@ fn read_scripted(alloc: Global, octets: &[u8]) -> Result<Scripted, ScriptFault>
     })
 }
 
-/// Replays events, which are in these lines of a script, over the carrier that a topology names, and writes their trace.
+/// Replays events, which are in these lines of a script, over the carrier that a topology names, and writes their
+/// trace.
 ///
 /// Errors: `CannotWrite`; `OutOfMemory`, after which the first lines of the trace are written, if any.
 fn trace_on<W: Output>(
@@ -205,7 +208,8 @@ fn trace_over<C: Inspect, W: Output>(
     }
 }
 
-/// Replays events of hosts with programs, each of which comes after the number of its line, over a carrier at its opening, and writes their trace.
+/// Replays events of hosts with programs, each of which comes after the number of its line, over a carrier at its
+/// opening, and writes their trace.
 ///
 /// Errors: `CannotWrite`; `OutOfMemory`, after which the first lines of the trace are written, if any.
 fn trace_hosts<C: Inspect, W: Output>(
@@ -231,7 +235,8 @@ fn trace_hosts<C: Inspect, W: Output>(
     }
 }
 
-/// Replays events, each of which comes after the number of its line, over a carrier at its opening, and writes their trace.
+/// Replays events, each of which comes after the number of its line, over a carrier at its opening, and writes their
+/// trace.
 ///
 /// Errors: `CannotWrite`; `OutOfMemory`, after which the first lines of the trace are written.
 fn trace_from<C: Inspect, W: Output>(

@@ -37,8 +37,9 @@ pub const UNSEEN_ROUNDS: u32 = 64;
 /// Errors:
 /// - `OutOfMemory`: memory ran out at one event. The lines of the events before it were written, and no line of its
 ///   own. If it was a calm, what happened before memory ran out was written too.
-/// - `CannotWrite`: a write failed. The event whose line it was had already happened, or of a calm all rounds up to the one whose line
-///   it was. Nothing more was asked of the writer, which is the only one to know how much of its last lines it wrote.
+/// - `CannotWrite`: a write failed. The event whose line it was had already happened, or of a calm all rounds up to
+///   the one whose line it was. Nothing more was asked of the writer, which is the only one to know how much of its
+///   last lines it wrote.
 pub fn replay_events<C: Carrier, W: Output>(
     world: &mut World<C>,
     events: Vec<WorldEvent>,
@@ -53,8 +54,8 @@ pub fn replay_events<C: Carrier, W: Output>(
     // each event in turn went as the world says that its calls may go, and what it showed was printed
     ensures replayed { OnOk result (Writes detail (Replays (shown C.calls) world.old events.items world.new) (W.contents writer.old) (W.contents writer.new)) }
 
-    // memory ran out at one event: what the events before it showed was printed, and nothing of that event, save what a calm
-    // showed before memory ran out
+    // memory ran out at one event: what the events before it showed was printed, and nothing of that event, save what a
+    // calm showed before memory ran out
     ensures memory { result ≡ Err ReplayFault.OutOfMemory → Writes detail (EndsIn (shown C.calls) (StopsIn (shown C.calls)) world.old events.items world.new) (W.contents writer.old) (W.contents writer.new) }
 
     // `CannotWrite` is answered where a write failed, and nowhere else
@@ -75,8 +76,8 @@ pub fn replay_events<C: Carrier, W: Output>(
 
 /// Lets each event happen in order in a world some of whose hosts are strangers, and prints what it shows, as
 /// [`replay_events`] does. What a stranger says and takes is shown as crossings, and what it is asked for as a refusal
-/// (`NoProgram`), and so is what another host is to say (`HasProgram`). In a calm a stranger has no turn: what waits for
-/// it stays.
+/// (`NoProgram`), and so is what another host is to say (`HasProgram`). In a calm a stranger has no turn: what waits
+/// for it stays.
 ///
 /// Errors: as in [`replay_events`].
 pub fn replay_mixed_events<C: Carrier, W: Output>(
@@ -106,18 +107,19 @@ pub fn replay_mixed_events<C: Carrier, W: Output>(
     ensures cannot_write { result ≡ Err ReplayFault.CannotWrite → (lines : List Shown) × BreaksOffBy (mixed_kind (shown C.calls)) world.old events.items world.new lines }
 {
     let outcome = replay_in_turn(world, events, detail, writer);
-    // for the proof only: by `MixedWorld::book` the world is lawful among its hosts with programs, so its messages are safe
+    // for the proof only: by `MixedWorld::book` the world is lawful among its hosts with programs, so its messages are
+    // safe
     let _book = world.book();
     outcome
 }
 
-/// Lets one event happen as an event of a calm, and prints what it shows: its crossings, notices and reports. A refusal changes nothing,
-/// and isn't printed.
+/// Lets one event happen as an event of a calm, and prints what it shows: its crossings, notices and reports. A refusal
+/// changes nothing, and isn't printed.
 ///
 /// Errors:
 /// - `OutOfMemory`: memory ran out at the event. Nothing was written.
-/// - `CannotWrite`: a write failed. The event had already happened. Nothing more was asked of the writer, which is the only one to know
-///   how much of its lines it wrote.
+/// - `CannotWrite`: a write failed. The event had already happened. Nothing more was asked of the writer, which is
+///   the only one to know how much of its lines it wrote.
 pub fn replay_in_calm<C: Carrier, W: Output>(
     world: &mut World<C>,
     event: Event,
@@ -141,9 +143,9 @@ pub fn replay_in_calm<C: Carrier, W: Output>(
     show_turn(world, event, detail, writer)
 }
 
-/// Lets one event happen as an event of a calm in a world some of whose hosts are strangers, and prints what it shows, as
-/// [`replay_in_calm`] does. It goes as in the world of the hosts with programs: a stranger has no turn, and an event at one is
-/// refused.
+/// Lets one event happen as an event of a calm in a world some of whose hosts are strangers, and prints what it shows,
+/// as [`replay_in_calm`] does. It goes as in the world of the hosts with programs: a stranger has no turn, and an event
+/// at one is refused.
 ///
 /// Errors: as in [`replay_in_calm`].
 pub fn replay_mixed_in_calm<C: Carrier, W: Output>(
@@ -216,7 +218,8 @@ fn replay_in_turn<R: Replayed, W: Output>(
     Ok(())
 }
 
-/// Lets one event happen, and prints what it shows, of a calm round by round. Lines are put together in this buffer, of which nothing is kept.
+/// Lets one event happen, and prints what it shows, of a calm round by round. Lines are put together in this buffer, of
+/// which nothing is kept.
 fn replay_event<R: Replayed, W: Output>(
     world: &mut R,
     event: R::Event,
@@ -237,8 +240,8 @@ fn replay_event<R: Replayed, W: Output>(
     }
 }
 
-/// Lets this many rounds pass, and prints after each what it showed. Where the world rests, the rounds that are left would change nothing and
-/// show nothing, and are not made.
+/// Lets this many rounds pass, and prints after each what it showed. Where the world rests, the rounds that are left
+/// would change nothing and show nothing, and are not made.
 fn replay_calm<R: Replayed, W: Output>(
     world: &mut R,
     rounds: u32,
@@ -263,8 +266,8 @@ fn replay_calm<R: Replayed, W: Output>(
     Ok(())
 }
 
-/// Lets one more round of a calm pass of which this many have passed, and prints what it showed. Of a long calm it hands on all that was
-/// printed so far, so that it is seen though the calm may never rest.
+/// Lets one more round of a calm pass of which this many have passed, and prints what it showed. Of a long calm it
+/// hands on all that was printed so far, so that it is seen though the calm may never rest.
 fn replay_round<R: Replayed, W: Output>(
     world: &mut R,
     passed: u32,

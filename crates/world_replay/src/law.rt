@@ -5,8 +5,8 @@ ghost use Rattle.world_replay.specs.Laws.{Apart, CalmRounds, Driven, OneReplay};
 
 use interface::Carrier;
 
-/// A carrier whose calls leave no choice leaves none to the replay of a world over it: events have one outcome and show one
-/// list of lines. What is shown where memory runs out is a prefix of that list.
+/// A carrier whose calls leave no choice leaves none to the replay of a world over it: events have one outcome and show
+/// one list of lines. What is shown where memory runs out is a prefix of that list.
 pub fn one_replay<C: Carrier>()
     ensures { OneReplay C.calls }
 {}
@@ -16,8 +16,8 @@ pub fn calm<C: Carrier>()
     ensures { CalmRounds C.calls }
 {}
 
-/// A world's carrier is the network that its hosts drive: it changes by its own calls only. Each event makes the one that it names, and an offer
-/// that of the message which the host's program has to send next.
+/// A world's carrier is the network that its hosts drive: it changes by its own calls only. Each event makes the one
+/// that it names, and an offer that of the message which the host's program has to send next.
 pub fn driven<C: Carrier>()
     ensures { Driven C.calls }
 {}

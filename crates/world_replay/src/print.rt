@@ -20,8 +20,8 @@ use net_sim::{Book, Life, MixedFault, Report, Reported, Told, WorldFault};
 use replay::{Detail, Line, Output, ReplayFault, WriteFailed, carrier_refusal, print_crossing_in};
 use sockets::NcpFault;
 
-/// Prints what is in a book after this many crossings, notices and reports. Lines are put together in this buffer, of which
-/// nothing is kept.
+/// Prints what is in a book after this many crossings, notices and reports. Lines are put together in this buffer, of
+/// which nothing is kept.
 ///
 /// Errors: `WriteFailed`.
 pub(crate) fn print_news<W: Output>(
@@ -254,7 +254,8 @@ pub(crate) fn check_memory(outcome: Result<(), WorldFault>) -> Result<(), Replay
     }
 }
 
-/// Returns the name of a refusal in a world with strangers, or in any. `None` where running out of memory has stopped the world.
+/// Returns the name of a refusal in a world with strangers, or in any. `None` where running out of memory has stopped
+/// the world.
 fn mixed_name_of(fault: MixedFault) -> Option<&'static str>
     ensures name { IfSome result (λ name. name.now ≡ mixed_refusal_name fault) }
     ensures goes_on { IsSome result ↔ (mixed_stops (Err fault) ≡ false) }

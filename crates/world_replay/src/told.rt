@@ -98,8 +98,8 @@ fn put_peer_octet(line: &mut Line, word: &[u8], host: HostAddr, peer: HostAddr, 
     put_head(line, word, host);
 }
 
-/// Puts the line for A notice to the user of a host: a word for what it is, the host, and what it is about. Of bits their
-/// number is given.
+/// Puts the line for A notice to the user of a host: a word for what it is, the host, and what it is about. Of bits
+/// their number is given.
 fn put_notice(line: &mut Line, host: HostAddr, notice: &Notice)
     ensures { line.new ≡ ended_line (notice_text host notice.now) }
 {

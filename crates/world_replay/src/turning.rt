@@ -66,8 +66,8 @@ fn is_among(hosts: &[HostAddr], host: HostAddr) -> bool
     hosts.iter().any(|other| host == *other)
 }
 
-/// Returns an event, and for the taking of a stranger an offer by it. A stranger takes what it likes and is asked for nothing, so
-/// that is refused, and what waits for it stays.
+/// Returns an event, and for the taking of a stranger an offer by it. A stranger takes what it likes and is asked for
+/// nothing, so that is refused, and what waits for it stays.
 fn untaken(strangers: &[HostAddr], event: Event) -> Event
     ensures { result ≡ untaken strangers.now event }
 {

@@ -86,7 +86,8 @@ pub fn worked_failures()
     ensures never { (shown : List Shown) → ¬ (MayDo counting (after 3) (Happen event.Quiet) (after 3) shown) }
     ensures twice { (shown : List Shown) → ¬ (MayDo counting (after 3) (Happen event.Quiet) (after 5) shown) }
 
-    // of a calm, whose lines are printed round by round, all rounds have passed or the first ones, and no more than it has
+    // of a calm, whose lines are printed round by round, all rounds have passed or the first ones, and no more than it
+    // has
     ensures calm { MayDo counting (after 3) (Calm 2) (after 5) [] }
     ensures in_part { MayDo counting (after 3) (Calm 2) (after 4) [] }
     ensures too_long { (shown : List Shown) → ¬ (MayDo counting (after 3) (Calm 2) (after 6) shown) }

@@ -1,5 +1,5 @@
-//! Worked examples of what an event leaves as it was. The functions here do nothing: each clause is a row, computed over
-//! the definitions.
+//! Worked examples of what an event leaves as it was. The functions here do nothing: each clause is a row, computed
+//! over the definitions.
 
 ghost use Rattle.std.specs.Prelude.{[], ◌∷◌};
 ghost use Rattle.net_sim.specs.Worked.{busy, down, fresh};

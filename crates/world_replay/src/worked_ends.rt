@@ -6,8 +6,8 @@ ghost use Rattle.world_replay.specs.Laws.{WorkedEnds};
 
 use interface::Carrier;
 
-/// Memory has run out in no event that happens, in no calm and in none of its rounds; and it has in one at which a replay
-/// ends.
+/// Memory has run out in no event that happens, in no calm and in none of its rounds; and it has in one at which a
+/// replay ends.
 pub fn worked_ends<C: Carrier>()
     ensures { WorkedEnds C.calls }
 {}

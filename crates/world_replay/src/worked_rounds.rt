@@ -1,5 +1,5 @@
-//! Worked examples of the rounds of a calm, and of how one ends early. The functions here do nothing: each clause is a row,
-//! computed over the definitions.
+//! Worked examples of the rounds of a calm, and of how one ends early. The functions here do nothing: each clause is a
+//! row, computed over the definitions.
 
 ghost use Rattle.std.specs.Prelude.{◌≡◌, List, [], ◌∷◌};
 ghost use Rattle.net_sim.specs.declared.event.Event.{Event};
@@ -34,7 +34,8 @@ pub fn worked_rounds()
     // the hosts that are up have turns, and take before they offer
     ensures turns { turns_in (tally 0).seats ≡ (Quiet, 1) ∷ (Take first, 16) ∷ (Offer first, 32) ∷ [] }
 
-    // a message crosses in the quiet round, and one by the first taking; by the second nothing does, nor by the first offer
+    // a message crosses in the quiet round, and one by the first taking; by the second nothing does, nor by the first
+    // offer
     ensures round { RoundOf Ticks (tally 0) (tally 2) (Quiet ∷ Take first ∷ Take first ∷ Offer first ∷ []) }
     ensures no_offer { ¬ (RoundOf Ticks (tally 0) (tally 2) (Quiet ∷ Take first ∷ Take first ∷ [])) }
     ensures offer_first { ¬ (RoundOf Ticks (tally 0) (tally 2) (Quiet ∷ Offer first ∷ Offer first ∷ Take first ∷ [])) }

@@ -75,8 +75,8 @@ fn turns_in(alloc: Global, seats: &[Seat]) -> Result<Vec<(CalmEvent, u8)>, Alloc
     Ok(turns)
 }
 
-/// Traces a calm round by round, until all have passed or the world rests. The rounds that are left then have no lines. The texts of the
-/// state may be known.
+/// Traces a calm round by round, until all have passed or the world rests. The rounds that are left then have no lines.
+/// The texts of the state may be known.
 pub(crate) fn trace_calm<C: Inspect, T: Traced<C>, W: Output>(
     alloc: Global,
     world: &mut T,
@@ -142,7 +142,8 @@ fn trace_round<C: Inspect, T: Traced<C>, W: Output>(
     Ok(())
 }
 
-/// Lets an event of a calm happen again and again, at most this many times, until nothing crosses by it, and prints the lines.
+/// Lets an event of a calm happen again and again, at most this many times, until nothing crosses by it, and prints the
+/// lines.
 fn trace_again<C: Inspect, T: Traced<C>, W: Output>(
     alloc: Global,
     world: &mut T,
@@ -171,7 +172,8 @@ fn trace_again<C: Inspect, T: Traced<C>, W: Output>(
     Ok(())
 }
 
-/// Lets an event of a calm happen, and prints its line, unless it prints nothing and leaves all as it was. `texts` are those of the state.
+/// Lets an event of a calm happen, and prints its line, unless it prints nothing and leaves all as it was. `texts` are
+/// those of the state.
 fn trace_step<C: Inspect, T: Traced<C>, W: Output>(
     alloc: Global,
     world: &mut T,

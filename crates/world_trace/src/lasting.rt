@@ -1,7 +1,7 @@
 //! Worlds in which memory lasts: of these the texts of a trace say all.
 //!
-//! That each number has a decimal of its own is what the numbers' types promise. So the functions here that are for the proof only look at
-//! each number, and the prover then knows its range.
+//! That each number has a decimal of its own is what the numbers' types promise. So the functions here that are for the
+//! proof only look at each number, and the prover then knows its range.
 
 ghost use Rattle.std.specs.List.{All};
 ghost use Rattle.std.specs.Prelude.{◌≡◌, ◌<◌, ◌∷◌, [], IfSome, List, false, true};
@@ -513,8 +513,9 @@ impl Numbered for Crossing {
 
 // ---- worlds
 
-/// Proves that the texts of a trace say all numbers of a world at hand, and that a script may ask for the messages that went out in it, since both
-/// have their types. So these texts say all of it ([`crate::law::whole`], [`crate::law::states`]) where a replay has come to it. It is for the proof only.
+/// Proves that the texts of a trace say all numbers of a world at hand, and that a script may ask for the messages that
+/// went out in it, since both have their types. So these texts say all of it ([`crate::law::whole`],
+/// [`crate::law::states`]) where a replay has come to it. It is for the proof only.
 pub fn says_all<C: Carrier>(world: &World<C>)
     ensures numbers { AreNumbersTold world.now }
     ensures messages { All IsSaid world.now.kept.book.crossings }
@@ -525,8 +526,9 @@ pub fn says_all<C: Carrier>(world: &World<C>)
     all_numbers(world.book().crossings());
 }
 
-/// Returns whether memory lasts in all programs and services of a world, and each program is its host's. While it lasts in the world
-/// too, the texts of a trace say all of them ([`crate::law::whole`]). In a world to which a replay has come it always does.
+/// Returns whether memory lasts in all programs and services of a world, and each program is its host's. While it lasts
+/// in the world too, the texts of a trace say all of them ([`crate::law::whole`]). In a world to which a replay has
+/// come it always does.
 pub fn lasts<C: Carrier>(world: &World<C>) -> bool
     ensures lasting { result ≡ true → Lasts world.now }
     ensures exact { Lasts world.now → result ≡ true }

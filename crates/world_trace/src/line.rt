@@ -111,8 +111,8 @@ fn print_passed<C: Inspect, T: Traced<C>, W: Output>(
     print_changes(&passed.changes, writer)
 }
 
-/// Prints the line of an event that has just happened in a world, in this round of a calm, or 0. After many rounds of a calm it hands
-/// on each line, so that it is seen though the calm may never rest.
+/// Prints the line of an event that has just happened in a world, in this round of a calm, or 0. After many rounds of a
+/// calm it hands on each line, so that it is seen though the calm may never rest.
 pub(crate) fn print_line<C: Inspect, T: Traced<C>, W: Output>(
     world: &T,
     spot: Spot,

@@ -25,10 +25,10 @@ use trace::{Inspect, Spot, print_network};
 use world_replay::replay_mixed_events;
 use world_script::MixedWorldEvent;
 
-/// Traces a world some of whose hosts are strangers, as [`crate::trace_world`] does one without. The first line also says who they are.
-/// A message of a stranger and its taking have a line each, by which parts of the carrier change; and so has what is refused as
-/// `NoProgram` or `HasProgram`. In a calm a stranger has no turn. What is printed of the state is the carrier, and the programs and
-/// services of the other hosts.
+/// Traces a world some of whose hosts are strangers, as [`crate::trace_world`] does one without. The first line also
+/// says who they are. A message of a stranger and its taking have a line each, by which parts of the carrier change;
+/// and so has what is refused as `NoProgram` or `HasProgram`. In a calm a stranger has no turn. What is printed of the
+/// state is the carrier, and the programs and services of the other hosts.
 ///
 /// Errors: as in [`crate::trace_world`].
 pub fn trace_mixed_world<C: Inspect, W: Output>(
@@ -40,8 +40,8 @@ pub fn trace_mixed_world<C: Inspect, W: Output>(
 ) -> Result<(), ReplayFault>
     requires whole { W.failed writer.old ≡ false }
 
-    // first the network with the state and the strangers, and then each event happened as in a replay, those of a calm one by one, and its line was
-    // written
+    // first the network with the state and the strangers, and then each event happened as in a replay, those of a calm
+    // one by one, and its line was written
     ensures traced { OnOk result (WritesMixed (shown C.calls) C.inside.members network.now world.old events.items world.new (W.contents writer.old) (W.contents writer.new)) }
 
     // memory ran out at one of them: the first line and those before it were written, and nothing else

@@ -132,7 +132,8 @@ fn print_typed<W: Output>(host: &HostAddr, text: &[u8], writer: &mut W) -> Resul
     print_escaped(text, writer)
 }
 
-/// Prints something that may happen in a world. A quiet round is an event of a calm, for which no script asks by itself.
+/// Prints something that may happen in a world. A quiet round is an event of a calm, for which no script asks by
+/// itself.
 fn print_happening<W: Output>(event: &Event, writer: &mut W) -> Result<(), WriteFailed>
     requires { W.failed writer.old ≡ false }
     ensures written { OnOk result (Appends (W.contents writer.old) (W.contents writer.new) (event_text (world.Happen event.now))) }

@@ -108,7 +108,8 @@ fn is_at<T: Placed>(host: &Option<HostAddr>, item: &T) -> bool
     }
 }
 
-/// Puts the texts of what is at a host in the place of those before them. Returns the object of those that are other than before.
+/// Puts the texts of what is at a host in the place of those before them. Returns the object of those that are other
+/// than before.
 fn change_at<T: Placed>(
     alloc: Global,
     host: &Option<HostAddr>,
@@ -127,8 +128,8 @@ fn change_at<T: Placed>(
     ended(text)
 }
 
-/// Puts the texts of the program and the services of a host in the place of those before them. Returns what is other than before, these
-/// parts too.
+/// Puts the texts of the program and the services of a host in the place of those before them. Returns what is other
+/// than before, these parts too.
 pub(crate) fn change<C: Inspect, T: Traced<C>>(
     alloc: Global,
     world: &T,
@@ -165,8 +166,8 @@ pub(crate) fn change_all<C: Inspect, T: Traced<C>>(
     Ok(changes)
 }
 
-/// Puts the texts of the parts of a world's carrier, and those of what is at a host, if there is one, in the place of those before them.
-/// Returns what is other than before.
+/// Puts the texts of the parts of a world's carrier, and those of what is at a host, if there is one, in the place of
+/// those before them. Returns what is other than before.
 pub(crate) fn change_one<C: Inspect, T: Traced<C>>(
     alloc: Global,
     world: &T,

@@ -27,19 +27,20 @@ use trace::{Inspect, Spot};
 use world_replay::replay_events;
 use world_script::WorldEvent;
 
-/// Prints the network with the state of a world, lets each event happen in order as a replay does, and prints a JSON object for
-/// each event, and of a calm for each of its events: the quiet round of the network, and then the takings and offers of each host that is
-/// up, round by round. It says where the event is in the script, in which round of a calm, the event, what crossed, what a replay prints
-/// for it, and what of the state is other than before. Each event comes after the number of its line in the script.
+/// Prints the network with the state of a world, lets each event happen in order as a replay does, and prints a JSON
+/// object for each event, and of a calm for each of its events: the quiet round of the network, and then the takings
+/// and offers of each host that is up, round by round. It says where the event is in the script, in which round of a
+/// calm, the event, what crossed, what a replay prints for it, and what of the state is other than before. Each event
+/// comes after the number of its line in the script.
 ///
-/// A refused event changes nothing, and has a line too. An event of a calm that prints nothing and changes nothing has none; its refusal
-/// is not printed.
+/// A refused event changes nothing, and has a line too. An event of a calm that prints nothing and changes nothing has
+/// none; its refusal is not printed.
 ///
 /// Errors:
-/// - `OutOfMemory`: memory ran out at one event, of the script or of a calm. The first line and those of the events before it were
-///   written, and none of its own.
-/// - `CannotWrite`: a write failed. The event had already happened whose line it was. Nothing more was asked of the writer, which is the
-///   only one to know how much of its last lines it wrote.
+/// - `OutOfMemory`: memory ran out at one event, of the script or of a calm. The first line and those of the events
+///   before it were written, and none of its own.
+/// - `CannotWrite`: a write failed. The event had already happened whose line it was. Nothing more was asked of the
+///   writer, which is the only one to know how much of its last lines it wrote.
 pub fn trace_world<C: Inspect, W: Output>(
     alloc: Global,
     network: &Topology,
@@ -49,7 +50,8 @@ pub fn trace_world<C: Inspect, W: Output>(
 ) -> Result<(), ReplayFault>
     requires whole { W.failed writer.old ≡ false }
 
-    // first the network with the state, and then each event happened as in a replay, those of a calm one by one, and its line was written
+    // first the network with the state, and then each event happened as in a replay, those of a calm one by one, and
+    // its line was written
     ensures traced { OnOk result (WritesWorld (shown C.calls) C.inside.members network.now world.old events.items world.new (W.contents writer.old) (W.contents writer.new)) }
 
     // memory ran out at one of them: the first line and those before it were written, and nothing else

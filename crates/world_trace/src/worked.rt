@@ -36,7 +36,8 @@ pub fn worked_lines()
     ensures nothing { lines_text [] ≡ codes "[]" }
 {}
 
-/// What is known of a world where a write failed: the event had happened, and its line is not among those that are known.
+/// What is known of a world where a write failed: the event had happened, and its line is not among those that are
+/// known.
 pub fn worked_failures<C: Carrier>()
     ensures { WorkedFailures (shown C.calls) }
 {}

@@ -1,5 +1,5 @@
-//! Worked examples of worlds in which memory lasts, and of which texts say all. The functions here do nothing: each clause is a row,
-//! computed over the definitions.
+//! Worked examples of worlds in which memory lasts, and of which texts say all. The functions here do nothing: each
+//! clause is a row, computed over the definitions.
 
 ghost use Rattle.std.specs.Prelude.{◌≡◌, [], ◌∷◌, None, Some, replicate, true};
 ghost use Rattle.host_services.specs.declared.service.Service.TheVariants as service;

@@ -1,5 +1,5 @@
-//! Worked examples of worlds' carriers as raw networks, and of what of a world is other than before. The functions here do nothing:
-//! each clause is a row, computed over the definitions.
+//! Worked examples of worlds' carriers as raw networks, and of what of a world is other than before. The functions here
+//! do nothing: each clause is a row, computed over the definitions.
 
 ghost use Rattle.std.specs.Prelude.{◌∷◌, []};
 ghost use Rattle.interface.specs.declared.event.NetEvent.TheVariants as net;

@@ -62,8 +62,8 @@ pub(crate) trait Traced<C: Inspect> {
         ensures cannot_write { result ≡ Err ReplayFault.CannotWrite → MayStep (shown C.calls) (state self.old) event (state self.new) }
         ensures strangers { strangers self.new ≡ strangers self.old };
 
-    /// Returns whether more rounds of a calm are known to change nothing: nothing has crossed since the book had this many
-    /// crossings, and the world rests. This takes no memory.
+    /// Returns whether more rounds of a calm are known to change nothing: nothing has crossed since the book had this
+    /// many crossings, and the world rests. This takes no memory.
     fn has_calmed(&self, before: usize) -> bool
         ensures { result ≡ true → IsAtRest (shown C.calls) (state self.now) };
 }
