@@ -22,7 +22,7 @@ use Rattle.book_judge.proofs.lemmas.{made_twice, made_with}
 use Rattle.command_line.specs.Audits.{IsKeptLog, SaysKept}
 use Rattle.command_line.specs.Events.{Asked}
 use Rattle.command_line.specs.declared.auditing.AuditFault.TheVariants as fault
-use Rattle.command_line.proofs.Named.{kept_from_safe, only_kept}
+use Rattle.command_line.proofs.Verdicts.Named.{kept_from_safe, only_kept}
 use Rattle.command_line.proofs.Printed.{none_there, safe_alone}
 
 -- ---- the log is kept

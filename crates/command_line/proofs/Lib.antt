@@ -1,17 +1,11 @@
 pub mod Common
-mod CommandLine
 mod Faults
-mod Hyphens
 mod InCalm
-mod Jobs
 mod Joined
 mod Joins
-mod Judged
-mod LastWord
 mod Lived
 mod Logs
 mod MixedTraced
-mod Named
 mod Once
 mod OneInput
 mod OneTrace
@@ -21,6 +15,7 @@ mod Recorded
 mod Replayed
 mod Sites
 mod Traced
-mod Words
 mod WorkedLines
 mod WorkedPrograms
+mod Flags
+mod Verdicts

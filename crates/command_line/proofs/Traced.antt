@@ -15,7 +15,7 @@ use Rattle.world_trace.specs.Traces.{TracesWorld, WorldTraceEnds}
 use Rattle.world_script.specs.WorldSpelling.{IsWorldEvent, world_spelling}
 use Rattle.command_line.specs.Events.{Asked}
 use Rattle.command_line.specs.Traced.{EndsOn, EndsOver, Traced, TracedInPart}
-use Rattle.command_line.proofs.Judged.{stays}
+use Rattle.command_line.proofs.Verdicts.Judged.{stays}
 use Rattle.command_line.specs.declared.fault.ScriptFault.TheVariants as fault
 
 -- ---- over a carrier
@@ -51,28 +51,10 @@ world_ends {C} calls members t opening first last events a b is w = record {
   traced = subst (λ (x : WorldState C). WritesTrace (worlds.AfterOpening members t x (WorldTraceEnds calls members (StopsOne calls) x events last)) a b) is w;
 }
 
--- ---- of known octets
-
-pub known_traced : (known : Option (List ℕ)) (octets lines : List ℕ) (network : TopologyFields) (events : Asked) (r : Result (Unit {0}) ScriptFault) (a b : Option (List ℕ))
-    → IfSome known (λ k. octets ≡ k) → IsScripted octets network lines events → OnOk r (TracesOn network lines events a b) → OnOk r (IfSome known (λ k. TracesInput k a b))
-known_traced None octets lines network events (Ok done) a b same read h = tt
-known_traced (Some k) octets lines network events (Ok done) a b same read h = record { network = network; lines = lines; events = events; input = subst (λ o. IsScripted o network lines events) same read; traced = h }
-known_traced known octets lines network events (Err f) a b same read h = tt
-
-pub known_ends : (known : Option (List ℕ)) (octets lines : List ℕ) (network : TopologyFields) (events : Asked) (a b : Option (List ℕ)) → IfSome known (λ k. octets ≡ k) → IsScripted octets network lines events
-    → (Keeps a b ⊎ EndsOn network lines events a b) → IfSome known (λ k. Keeps a b ⊎ TraceStops k a b)
-known_ends None octets lines network events a b same read h = tt
-known_ends (Some k) octets lines network events a b same read (inl kept) = inl kept
-known_ends (Some k) octets lines network events a b same read (inr h) = inr (record { network = network; lines = lines; events = events; input = subst (λ o. IsScripted o network lines events) same read; stopped = h })
-
 -- ---- of any octets
 
 pub traced : (network : TopologyFields) (lines : List ℕ) (events : Asked) (a b : Option (List ℕ)) → TracesOn network lines events a b → Traced a b
 traced network lines events a b h = record { network = network; lines = lines; events = events; traced = h }
-
-pub traced_in_part : (network : TopologyFields) (lines : List ℕ) (events : Asked) (a b : Option (List ℕ)) → (Keeps a b ⊎ EndsOn network lines events a b) → Keeps a b ⊎ TracedInPart a b
-traced_in_part network lines events a b (inl kept) = inl kept
-traced_in_part network lines events a b (inr h) = inr (record { network = network; lines = lines; events = events; stopped = h })
 
 -- ---- lines
 

@@ -7,4 +7,5 @@ pub use Rattle.world_replay.proofs.Grown.{at_seat, if_stopped, one_crossed}
 pub use Rattle.world_replay.proofs.News
 pub use Rattle.world_replay.proofs.Replays
 pub use Rattle.world_replay.proofs.Rounds.{when_false, when_true}
+pub use Rattle.world_replay.proofs.Steady.{on_either}
 pub use Rattle.world_replay.proofs.Turns.{again_front, again_once, round_calm}

@@ -96,6 +96,6 @@ pub use Rattle.world_trace.specs.Texts.{event_text, line_of, number_text, reques
 pub use Rattle.world_trace.specs.Texts.{services_member, sockets_object}
 pub use Rattle.world_trace.specs.Told.{AreNumbersTold, IsCommandTold, IsListenerTold, IsPairTold, IsSeatTold, IsServed}
 pub use Rattle.world_trace.specs.Told.{IsServiceTold, IsWorldTold}
-pub use Rattle.world_trace.specs.Traces.{MayTell, StopsOne, TellsIn, TellsInCalm, TellsRound, TracesWorld, first_rounds}
+pub use Rattle.world_trace.specs.Traces.{MayTell, StopsOne, TellsInCalm, TellsRound, TracesWorld, first_rounds}
 pub use Rattle.world_trace.specs.declared.calm.CalmEvent.{CalmEvent}
 pub use Rattle.world_trace.specs.declared.texts.Texts.{Texts}

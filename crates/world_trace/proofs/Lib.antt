@@ -1,5 +1,4 @@
 pub mod Common
-mod Calms
 mod Carriers
 mod Changing
 mod CommandTexts
@@ -11,18 +10,13 @@ mod Blocks
 mod Unspent
 mod Lines
 mod Lists
-mod Made
-mod Networks
-mod Passing
-mod PlainStates
 mod Programs
 mod Replayed
-mod Resting
 mod Running
 mod States
 mod Stays
 mod Strangers
-mod SubnetStates
 mod Telling
-mod Turns
 mod Whole
+mod Rounds
+mod Openings

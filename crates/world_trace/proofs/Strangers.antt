@@ -22,6 +22,7 @@ use Rattle.replay.specs.declared.print.Detail.TheVariants.{Sizes}
 use Rattle.world_replay.specs.Kinds.{BreaksOffBy, HappensBy, MayDoBy, MixedEventGives, ReplaysBy, RunsOutBy, StopsBy}
 use Rattle.world_replay.specs.Kinds.{mixed_kind}
 use Rattle.world_replay.specs.Output.{Shown, Writes, output}
+use Rattle.world_replay.proofs.lemmas.{on_either}
 use Rattle.world_script.specs.declared.event.MixedWorldEvent.{MixedWorldEvent}
 use Rattle.world_script.specs.declared.event.MixedWorldEvent.TheVariants as mixed
 use Rattle.world_script.specs.declared.event.WorldEvent.TheVariants as world
@@ -37,12 +38,6 @@ use Rattle.world_trace.proofs.Stays.{AtOthers, event_others, halts_not, hosts_sa
 use Rattle.world_trace.proofs.Telling.{failed_by, last_one, line_by, one_line, only_one}
 
 -- ---- what a replay says of one event
-
-pub shows_mixed : {C : Type 0} (calls : Calls C) (old new : MixedState C) (e : MixedEvent) (written : List ℕ)
-    → Writes Sizes (ReplaysBy (mixed_kind calls) old (mixed.Happen e ∷ []) new) (Some []) (Some written)
-    → ShowsMixed calls old e new written
-shows_mixed calls old new e written h =
-    (h.shown, only_one (HappensBy (mixed_kind calls)) old new (mixed.Happen e) h.shown h.is_shown, h.written)
 
 -- whichever fault ended it
 pub ended_mixed : {C : Type 0} (calls : Calls C) (old new : MixedState C) (e : MixedEvent) (f : ReplayFault)
@@ -105,10 +100,6 @@ mixed_ends calls members spot e old new (Err fault.OutOfMemory) a b h = h
 mixed_ends calls members spot e old new (Err fault.CannotWrite) a b h = h
 
 -- ---- what is at other hosts
-
-on_either : {A B X : Type 0} (b : Bool) → (b ≡ true → A → X) → (b ≡ false → B → X) → MatchBool b A B → X
-on_either true f g h = f refl h
-on_either false f g h = g refl h
 
 answer_stops : (q : Result (Unit {0}) WorldFault) → mixed_stops (mixed_answer q) ≡ stops q
 answer_stops (Ok done) = refl

@@ -1,6 +1,6 @@
 use Rattle.command_line.proofs.Common.{ℕ, List, ◌++◌, Option, codes, subst, Appends}
 use Rattle.command_line.specs.declared.about.TheConstants.{VERSION}
-use Rattle.command_line.proofs.Judged.{joins}
+use Rattle.command_line.proofs.Verdicts.Judged.{joins}
 use Rattle.command_line.proofs.about.write_version.Goals as goal
 
 pub returns-clause-written : goal.returns-clause-written

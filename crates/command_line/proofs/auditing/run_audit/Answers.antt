@@ -1,6 +1,6 @@
 use Rattle.command_line.proofs.Common.{◌≡◌, ℕ, List, Err, ap, rules, subst, IsLog, IsBookFault, SaysOf, Verdict}
 use Rattle.command_line.proofs.Joined.{ends_faulty, ends_kept}
-use Rattle.command_line.proofs.Judged.{audited, audits, known_audited, says_of, some_log, unlogged, unread, unwritten}
+use Rattle.command_line.proofs.Verdicts.Judged.{audited, audits, known_audited, says_of, some_log, unlogged, unread, unwritten}
 use Rattle.command_line.specs.declared.auditing.AuditFault.TheVariants as fault
 use Rattle.command_line.proofs.auditing.run_audit.Goals as goal
 

@@ -1,5 +1,5 @@
 use Rattle.std.proofs.Common.{rules}
-use Rattle.command_line.proofs.Named.{run_kept}
+use Rattle.command_line.proofs.Verdicts.Named.{run_kept}
 use Rattle.command_line.proofs.judging.unkept.Goals as goal
 
 pub returns-in-None : goal.returns-in-None

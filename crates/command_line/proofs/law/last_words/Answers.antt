@@ -1,4 +1,4 @@
-use Rattle.command_line.proofs.LastWord.{said_kept, said_none, said_safe}
+use Rattle.command_line.proofs.Verdicts.LastWord.{said_kept, said_none, said_safe}
 use Rattle.command_line.proofs.law.last_words.Goals as goal
 
 pub returns-clause-kept : goal.returns-clause-kept

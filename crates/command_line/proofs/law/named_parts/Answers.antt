@@ -1,7 +1,7 @@
 use Rattle.std.specs.Prelude.{reverse}
 use Rattle.book_log.specs.Log.{fates_of, lives_of}
 use Rattle.book_judge.proofs.lemmas.{made_formed}
-use Rattle.command_line.proofs.Named.{closes_named, fates_named, formed_named, grants_named, lives_named, messages_named, only_kept, partners_named, run_named, safe_from_kept, streams_named}
+use Rattle.command_line.proofs.Verdicts.Named.{closes_named, fates_named, formed_named, grants_named, lives_named, messages_named, only_kept, partners_named, run_named, safe_from_kept, streams_named}
 use Rattle.command_line.proofs.law.named_parts.Goals as goal
 
 pub returns-clause-run : goal.returns-clause-run

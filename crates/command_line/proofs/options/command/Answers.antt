@@ -1,7 +1,7 @@
 use Rattle.std.proofs.Common.{◌≡◌, refl, codes}
 use Rattle.clap.specs.Words.{App, app_of, new_app, with_rule}
 use Rattle.command_line.specs.Parser.{bare, flag}
-use Rattle.command_line.proofs.CommandLine.{IsFlag, is_bare, is_flag, with_flag, with_flag_if}
+use Rattle.command_line.proofs.Flags.CommandLine.{IsFlag, is_bare, is_flag, with_flag, with_flag_if}
 use Rattle.command_line.proofs.options.command.Goals as goal
 
 pub returns : goal.returns

@@ -5,7 +5,7 @@ use Rattle.std.proofs.Common.{string_bytes}
 use Rattle.command_line.specs.Options.{options_in}
 use Rattle.command_line.specs.Program.{sides}
 use Rattle.command_line.specs.declared.fault.ScriptFault.TheVariants as fault
-use Rattle.command_line.proofs.Jobs.{asked_ends, keeps_same, no_memory, replayed_if}
+use Rattle.command_line.proofs.Flags.Jobs.{asked_ends, keeps_same, no_memory, replayed_if}
 use Rattle.command_line.proofs.program.replay_words.Goals as goal
 
 pub returns-in-Err-OutOfMemory-clause-ends : goal.returns-in-Err-OutOfMemory-clause-ends

@@ -1,4 +1,4 @@
-use Rattle.command_line.proofs.Judged.{closes_told}
+use Rattle.command_line.proofs.Verdicts.Judged.{closes_told}
 use Rattle.command_line.proofs.verdict.write_closes.Goals as goal
 
 pub returns-in-Some-clause-written : goal.returns-in-Some-clause-written

@@ -1,6 +1,6 @@
 use Rattle.command_line.proofs.Common.{◌++◌, verdict_text, word_text}
 use Rattle.command_line.specs.Audits.{fates_text, lives_text, malformed_text, parts_text, run_text}
-use Rattle.command_line.proofs.Judged.{joins, stays, whether_ok}
+use Rattle.command_line.proofs.Verdicts.Judged.{joins, stays, whether_ok}
 use Rattle.command_line.proofs.verdict.write_found.Goals as goal
 
 pub returns-clause-written : goal.returns-clause-written

@@ -1,6 +1,6 @@
 use Rattle.world_trace.proofs.Common.{◌≡◌, ◌∙◌, refl, ◌<◌, ◌≤◌, Err, false, true, length, le-ltb, lt-ltb, arith, rules}
 use Rattle.world_trace.proofs.Common.{subst, sym, shown, Calls, crosses, AgainEnds, event_of}
-use Rattle.world_trace.proofs.Calms.{all_steps, last_step, no_steps, one_step, step_ends}
+use Rattle.world_trace.proofs.Rounds.Calms.{all_steps, last_step, no_steps, one_step, step_ends}
 use Rattle.world_trace.proofs.calm.trace_again.Goals as goal
 
 pub loop-init : goal.loop-init

@@ -1,5 +1,5 @@
 use Rattle.world_trace.proofs.Common.{◌≡◌, ◌≤◌, false, shown, Calls, AreTextsOf, event_of}
-use Rattle.world_trace.proofs.Calms.{HaveSteps}
+use Rattle.world_trace.proofs.Rounds.Calms.{HaveSteps}
 use Rattle.world_trace.proofs.calm.trace_again.Given as goal
 
 -- something has crossed each time, and the lines are written; no write has failed; the texts are those of the state

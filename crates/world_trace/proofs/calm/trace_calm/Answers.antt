@@ -1,7 +1,7 @@
 use Rattle.world_trace.proofs.Common.{◌≡◌, ◌∙◌, refl, ◌+◌, ◌<◌, Err, arith, rules, subst, sym, shown, Calls, EventEnds}
 use Rattle.replay.specs.declared.events.ReplayFault.TheVariants as fault
 use Rattle.world_script.specs.declared.event.WorldEvent.TheVariants as event
-use Rattle.world_trace.proofs.Calms.{calm_early, calm_passed, calm_rests, calm_unbegun, none_passed, one_passed}
+use Rattle.world_trace.proofs.Rounds.Calms.{calm_early, calm_passed, calm_rests, calm_unbegun, none_passed, one_passed}
 use Rattle.world_trace.proofs.calm.trace_calm.Goals as goal
 
 pub loop-passed-init : goal.loop-passed-init

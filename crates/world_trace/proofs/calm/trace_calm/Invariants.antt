@@ -1,5 +1,5 @@
 use Rattle.world_trace.proofs.Common.{◌≡◌, ◌≤◌, false, shown, Calls, AreTextsOf}
-use Rattle.world_trace.proofs.Calms.{Passed}
+use Rattle.world_trace.proofs.Rounds.Calms.{Passed}
 use Rattle.world_trace.proofs.calm.trace_calm.Given as goal
 
 -- this many rounds have passed, and their lines are written; the texts are those of the state; no write has failed

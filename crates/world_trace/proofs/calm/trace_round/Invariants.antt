@@ -1,5 +1,5 @@
 use Rattle.world_trace.proofs.Common.{◌≡◌, false, map, shown, Calls, AreTextsOf, turn}
-use Rattle.world_trace.proofs.Calms.{InRound}
+use Rattle.world_trace.proofs.Rounds.Calms.{InRound}
 use Rattle.world_trace.proofs.calm.trace_round.Given as goal
 
 -- the events of the round so far happened, and their lines are written; no write has failed; the texts are those of the state

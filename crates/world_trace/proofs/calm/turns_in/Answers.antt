@@ -1,5 +1,5 @@
 use Rattle.world_trace.proofs.Common.{◌∷◌, ◌++◌, [], ap, map, ◌∙◌, turn}
-use Rattle.world_trace.proofs.Turns.{all_turns, next_turn, turns_at_all}
+use Rattle.world_trace.proofs.Rounds.Turns.{all_turns, next_turn, turns_at_all}
 use Rattle.world_trace.proofs.calm.turns_in.Goals as goal
 
 pub loop-seat-init : goal.loop-seat-init

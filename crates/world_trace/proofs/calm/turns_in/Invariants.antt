@@ -1,4 +1,4 @@
-use Rattle.world_trace.proofs.Turns.{TurnsSoFar}
+use Rattle.world_trace.proofs.Rounds.Turns.{TurnsSoFar}
 use Rattle.world_trace.proofs.calm.turns_in.Given as goal
 
 -- the events so far, and those at the seats that are left

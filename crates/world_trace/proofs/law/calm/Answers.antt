@@ -1,5 +1,5 @@
 use Rattle.world_trace.proofs.Common.{shown, Calls}
-use Rattle.world_trace.proofs.Passing.{round_passes}
+use Rattle.world_trace.proofs.Rounds.Passing.{round_passes}
 use Rattle.world_trace.proofs.law.calm.Goals as goal
 
 pub returns : goal.returns

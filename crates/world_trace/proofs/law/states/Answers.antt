@@ -1,5 +1,5 @@
-use Rattle.world_trace.proofs.PlainStates.{plain_states}
-use Rattle.world_trace.proofs.SubnetStates.{subnet_states}
+use Rattle.world_trace.proofs.Openings.PlainStates.{plain_states}
+use Rattle.world_trace.proofs.Openings.SubnetStates.{subnet_states}
 use Rattle.world_trace.proofs.law.states.Goals as goal
 
 pub returns-clause-plain : goal.returns-clause-plain

@@ -1,4 +1,4 @@
-use Rattle.world_trace.proofs.Made.{none_made, none_taken, one_made, other_made}
+use Rattle.world_trace.proofs.Openings.Made.{none_made, none_taken, one_made, other_made}
 use Rattle.world_trace.proofs.worked.worked_carriers.Goals as goal
 
 pub returns : goal.returns

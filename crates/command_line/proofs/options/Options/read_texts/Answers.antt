@@ -5,7 +5,7 @@ use Rattle.clap.specs.Matches.{found_of}
 use Rattle.clap.specs.Walk.{Text, rows_of}
 use Rattle.clap.specs.Words.{App, app_of, fault_of, is_simple, is_simple_and_free, matches_of}
 use Rattle.clap.specs.declared.error.kind.ErrorKind.TheVariants as kind
-use Rattle.command_line.proofs.Words.{Verdict, flag_is, is_simple_line, marked, refused, verdict}
+use Rattle.command_line.proofs.Flags.Words.{Verdict, flag_is, is_simple_line, marked, refused, verdict}
 use Rattle.command_line.proofs.options.Options.read_texts.Goals as goal
 
 marks : (words : List (Bor Text)) → list_any (λ word. bytes_eq word (codes "--")) (map (λ word. word.now) words) ≡ list_any (λ word. bytes_eq word.now (codes "--")) words

@@ -27,7 +27,7 @@ use Rattle.clap.specs.declared.builder.value_parser.ValueParser.TheVariants as p
 use Rattle.clap.specs.declared.parser.matches.ValueSource.TheVariants.{CommandLine, DefaultValue}
 use Rattle.command_line.specs.Options.{options_after, with_word}
 use Rattle.command_line.specs.Parser.{flag}
-use Rattle.command_line.proofs.Hyphens.{long_is}
+use Rattle.command_line.proofs.Flags.Hyphens.{long_is}
 
 abbrev pub shape : Shape
 shape = (built command_line).top

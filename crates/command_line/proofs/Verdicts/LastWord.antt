@@ -6,8 +6,8 @@ use Rattle.interface.proofs.lemmas.{and_true}
 use Rattle.std.specs.Prelude.{◌&&◌, ◌↔◌, is_none}
 use Rattle.book_log.specs.Log.{Book}
 use Rattle.command_line.specs.Audits.{IsSafeLog, KeepsEnds, is_safe, keeps_ends}
-use Rattle.command_line.proofs.Named.{closes_named, fates_named, formed_named, grants_named, lives_named}
-use Rattle.command_line.proofs.Named.{messages_named, partners_named, run_named, streams_named}
+use Rattle.command_line.proofs.Verdicts.Named.{closes_named, fates_named, formed_named, grants_named, lives_named}
+use Rattle.command_line.proofs.Verdicts.Named.{messages_named, partners_named, run_named, streams_named}
 
 none_is : {X : Type 0} (r : Option X) → is_none r ≡ true → r ≡ None
 none_is None e = refl

@@ -14,7 +14,7 @@ use Rattle.world_replay.proofs.lemmas.{when_true}
 use Rattle.world_replay.specs.Rounds.{EndsAgain, EndsRepeated}
 use Rattle.world_script.specs.declared.event.WorldEvent.TheVariants as world
 use Rattle.world_trace.specs.Steps.{EndsRoundAt}
-use Rattle.world_trace.proofs.Resting.{round_rests}
+use Rattle.world_trace.proofs.Rounds.Resting.{round_rests}
 use Rattle.world_trace.proofs.Telling.{SoFar, all_done, ends_so, fails_so, no_line, none_yet}
 
 -- ---- an event again and again
