@@ -43,7 +43,7 @@ ghost use Rattle.command_line.specs.declared.verdict.Verdict.{Verdict};
 
 /// The input determines the output, with the book and without it, with texts and without them. It asks for one list of
 /// events over the carrier of one topology, and neither plain mailboxes nor a subnet leave their replay a choice,
-/// without host programs or with them.
+/// without host programs or with them, nor where strangers are among them.
 pub fn one_output()
     ensures { OneOutput }
 {}
