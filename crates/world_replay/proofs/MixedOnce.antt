@@ -84,7 +84,7 @@ module _ {C : Type 0} (calls : Calls C) (settled : AreSettled calls) where
     stays = λ r new h stop. step_kept calls e old r new h stop;
   }
 
-  same_state : (s t : MixedState C) → s.world ≡ t.world → s.strangers ≡ t.strangers → s ≡ t
+  pub same_state : (s t : MixedState C) → s.world ≡ t.world → s.strangers ≡ t.strangers → s ≡ t
   same_state s t world strangers =
       ap₂ (λ (w : WorldState C) (hs : List Host). let m : MixedState C = record { world = w; strangers = hs } in m)
       world strangers
@@ -156,7 +156,7 @@ module _ {C : Type 0} (calls : Calls C) (settled : AreSettled calls) where
 
   -- ---- what it shows
 
-  happens_once : HappensOnce (HappensBy (mixed_kind calls))
+  pub happens_once : HappensOnce (HappensBy (mixed_kind calls))
   happens_once old e new other shown more h k =
       let one : (h.outcome ≡ k.outcome) × (new ≡ other) =
       event_once e old h.outcome k.outcome new other h.gives h.goes_on k.gives k.goes_on in

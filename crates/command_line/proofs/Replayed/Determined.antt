@@ -27,11 +27,11 @@ use Rattle.command_line.proofs.Once.{begins, first_part, one_output}
 -- ---- the input
 
 -- octets are one input among strangers
-record OneMixed (network other : MixedFields) (events others : List MixedWorldEvent) : Type 0 where
-  same_network : network ≡ other
-  same_events : events ≡ others
+pub record OneMixed (network other : MixedFields) (events others : List MixedWorldEvent) : Type 0 where
+  pub same_network : network ≡ other
+  pub same_events : events ≡ others
 
-mixed_once : (octets : List ℕ) (network other : MixedFields) (events others : List MixedWorldEvent)
+pub mixed_once : (octets : List ℕ) (network other : MixedFields) (events others : List MixedWorldEvent)
     → IsMixedInput octets network events → IsMixedInput octets other others → OneMixed network other events others
 mixed_once octets network other events others p q =
     let same : SameInput p.document p.script q.document q.script =
@@ -46,7 +46,7 @@ mixed_once octets network other events others p q =
     }
 
 -- and none without strangers
-not_both : (octets : List ℕ) (network : TopologyFields) (other : MixedFields) (events : Asked)
+pub not_both : (octets : List ℕ) (network : TopologyFields) (other : MixedFields) (events : Asked)
     (others : List MixedWorldEvent) → IsInput octets network events → IsMixedInput octets other others → ⊥
 not_both octets network other events others p q =
     let same : SameInput p.document p.script q.document q.script =
