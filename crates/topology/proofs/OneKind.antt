@@ -6,7 +6,7 @@ use Rattle.toml.specs.Data.{Data, Items, Members, as_array, get, item, no_items,
 use Rattle.toml.specs.Parse.{parse_document}
 use Rattle.interface.specs.Host.{Host}
 use Rattle.interface.proofs.lemmas.{and_none, and_second}
-use Rattle.topology.specs.Mixed.{MixedFields, all_foreign, is_foreign, is_number, items_at, items_in, mixed_by, mixed_if}
+use Rattle.topology.specs.Mixed.{MixedFields, all_foreign, is_foreign, is_number, items_at, items_in, mixed_by}
 use Rattle.topology.specs.Mixed.{mixed_if_read, mixed_in, mixed_of, names_host}
 use Rattle.topology.specs.Naming.{imp_naming, imps_naming, network_of}
 use Rattle.topology.specs.Topology.{TopologyFields, all_of, carrier_of, each_of, has, hosts_of, imp_from, imp_of, imps_of}

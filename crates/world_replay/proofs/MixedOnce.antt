@@ -1,7 +1,7 @@
 -- Strangers leave a replay no choice either.
 use Rattle.world_replay.proofs.Common.{◌≡◌, inl, inr, Bool, true, false, List, ◌++◌, Option, Some, None, Result, Ok, Err}
-use Rattle.world_replay.proofs.Common.{ap, ap₂, sym, subst, ◌∙◌, refl, MatchBool, Calls, Host, Kept, WorldState, stops}
-use Rattle.world_replay.proofs.Common.{StepGives, CalmGives, Halts, Event, Take, WorldFault, Carrier, AreSettled, shown}
+use Rattle.world_replay.proofs.Common.{ap, ap₂, sym, ◌∙◌, refl, MatchBool, Calls, Host, Kept, WorldState, stops}
+use Rattle.world_replay.proofs.Common.{StepGives, CalmGives, Event, Take, WorldFault, Carrier, AreSettled, shown}
 use Rattle.world_replay.proofs.Common.{FetchEnds, MixedState, OutEnds, RefusesMixed, mixed_answer, mixed_stops, Any, Out}
 use Rattle.world_replay.proofs.Common.{MixedFault, HasProgram, NoProgram, World, if◌then◌else◌, MixedWorldEvent}
 use Rattle.world_replay.proofs.Common.{HappensBy, StopsBy, mixed_kind, mixed_refusal, Gains, gained, HappensOnce}
@@ -22,7 +22,7 @@ use Rattle.world_replay.specs.Output.{Shown}
 use Rattle.world_replay.proofs.Grown.{Grew, gains_none, grew_more, step_kept}
 use Rattle.world_replay.proofs.Replayable.{lasts_there, stops_there}
 use Rattle.world_replay.proofs.Replays.{SameGains, gained_more, gains_once, same_news, shown_settled}
-use Rattle.world_replay.proofs.Steady.{Steady, fetch_once, no_stop, on_either, out_once, steady_calm, step_once}
+use Rattle.world_replay.proofs.Steady.{Steady, fetch_once, no_stop, out_once, steady_calm, step_once}
 
 -- ---- what goes one way, running out of memory aside, and keeps the book where memory runs out
 

@@ -1,18 +1,16 @@
 -- An input of either kind leaves its trace no choice.
 use Rattle.command_line.proofs.Common.{◌≡◌, inl, inr, ℕ, List, [], ◌∷◌, ◌++◌, Some, sym, ap, ap₂, subst, zip, ◌∙◌}
 use Rattle.command_line.proofs.Common.{HappensOnce, ShowsFront, text_of, Calls, AreSettled, ends_front, in_turn_once}
-use Rattle.command_line.proofs.Common.{parted_once, CarrierKind, shown, WorldState, Event, SameGains, gains_once}
+use Rattle.command_line.proofs.Common.{parted_once, CarrierKind, shown, SameGains, gains_once}
 use Rattle.command_line.proofs.Common.{shown_settled, StopsOne, change_of, Spot, asking_from, numbered_from, AllParts}
 use Rattle.command_line.proofs.Common.{plain_inside, plain_calls, subnet_calls, subnet_inside, plain_of, subnet_of}
-use Rattle.command_line.proofs.Common.{subnet_settled, plain_settled, MixedFields, MixedWorldEvent, Host, Sizes}
-use Rattle.command_line.proofs.Common.{TopologyFields}
+use Rattle.command_line.proofs.Common.{subnet_settled, plain_settled, MixedFields, MixedWorldEvent, Sizes}
 use Rattle.interface.specs.declared.crossing.Crossing.{Crossing}
 use Rattle.net_sim.specs.MixedWorlds.{MixedState, opening_mixed}
 use Rattle.net_sim.specs.declared.mixed.MixedEvent.{MixedEvent}
 use Rattle.topology.specs.declared.network.CarrierKind.TheVariants as kind
 use Rattle.world_replay.proofs.lemmas as replays
 use Rattle.world_replay.proofs.lemmas.{same_state}
-use Rattle.world_replay.specs.Kinds.{HappensBy, mixed_kind}
 use Rattle.world_replay.specs.Output.{Shown, output}
 use Rattle.world_script.specs.declared.event.MixedWorldEvent.TheVariants as mixed
 use Rattle.world_script.specs.declared.event.WorldEvent.TheVariants as worlds
