@@ -159,7 +159,7 @@ def look_at(network: Topology, lines: Sequence[str], first: Object, records: Rec
 
 
 def events_of(network: Topology, lines: Sequence[str]) -> list[tuple[int, Event, str]]:
-    """The events of a script, each with the number of its line and as it stands there."""
+    """The events of a script, each with the number of its line, and its text."""
     told = ((line, read_line(it, False, strangers=bool(network.foreign)), it) for line, it in enumerate(lines, 1))
     return [(line, event, it) for line, event, it in told if event]
 

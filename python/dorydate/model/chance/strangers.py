@@ -220,7 +220,7 @@ class MixedScript(Script):
 def mixed_script(
     seed: int | str, host_program: type[Host] = Host, most: int = 400
 ) -> tuple[Topology, MixedScript, MixedWorld]:
-    """A network, a script of about so many events at most, and the world with one stranger or two that it leads to."""
+    """A network, a script of about this many events at most, and the world with a stranger or two that it leads to."""
     chance = random.Random(f"strangers {seed}")
     network = mixed_network(chance)
     carrier = opened_carrier(network)
