@@ -3,7 +3,7 @@
 import assert from "node:assert/strict";
 import { test } from "node:test";
 
-import { choicesFor } from "../choices.js";
+import { choicesFor, partTitle } from "../choices.js";
 import { COMMANDS, FIELDS } from "../commands.js";
 import { candidates, possible } from "../possible.js";
 import { groupsOf } from "../programs.js";
@@ -103,6 +103,8 @@ test("a stranger is asked what it sends, and hosts with programs aren't", async 
     const talk = new Talk(history.replay).goTo(history.length);
     const state = history.at(history.length);
     const of = (/** @type {string} */ host) => choicesFor(state, talk, { kind: "host", host });
+    const titles = ["1/2", "0/2"].map((host) => partTitle(state, { kind: "host", host }));
+    assert.deepEqual(titles, ["Host 1/2 (a stranger)", "Host 0/2"]);
     assert.deepEqual(of("1/2").filter((it) => it.asks).length, 1);
     assert(of("1/2").some(({ lines }) => lines[0] === RST));
     assert(!of("1/2").some(({ lines }) => /^(?:offer|contact)/.test(lines[0] ?? "")));
