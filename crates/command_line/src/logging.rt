@@ -236,7 +236,10 @@ fn log_world<C: Carrier, W: Output>(
         Detail::Sizes,
         &mut Silent { flushed: false },
     ) {
-        Ok(()) => Ok(write_book(&[], book_of(&world), writer)?),
+        Ok(()) => {
+            let book = book_of(&world);
+            Ok(write_book(&[], book, writer)?)
+        }
         Err(_) => Err(ScriptFault::OutOfMemory),
     }
 }

@@ -110,7 +110,8 @@ fn log_among<C: Carrier, W: Output>(
         Ok(()) => {
             // for the proof only: each fate says whether its life is over
             world.fates();
-            Ok(write_book(strangers, book_among(&world), writer)?)
+            let book = book_among(&world);
+            Ok(write_book(strangers, book, writer)?)
         }
         Err(_) => Err(ScriptFault::OutOfMemory),
     }

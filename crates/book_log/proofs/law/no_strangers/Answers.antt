@@ -2,4 +2,4 @@ use Rattle.book_log.proofs.Strangers.{bad_first}
 use Rattle.book_log.proofs.law.no_strangers.Goals as goal
 
 pub returns : goal.returns
-returns = bad_first
+returns c = bad_first
