@@ -68,10 +68,7 @@ pub fn print_log<W: Output>(
 /// begins with such a line ([`law::no_strangers`](crate::law::no_strangers)).
 ///
 /// Errors: `WriteFailed`.
-pub fn print_strangers<W: Output>(
-    strangers: &[HostAddr],
-    writer: &mut W,
-) -> Result<(), WriteFailed>
+pub fn print_strangers<W: Output>(strangers: &[HostAddr], writer: &mut W) -> Result<(), WriteFailed>
     requires { W.failed writer.old ≡ false }
     ensures written { OnOk result (Appends (W.contents writer.old) (W.contents writer.new) (strangers_text strangers.now)) }
     ensures failed { TellsFailure result (W.failed writer.new) }
