@@ -7,5 +7,6 @@ mod Numbers
 mod Once
 mod Printed
 mod Reading
+mod Strangers
 mod Bounds
 pub mod lemmas

@@ -2,7 +2,8 @@
 use Rattle.std.specs.Prelude.{◌≡◌, ℕ, ◌^◌, ◌<◌, Bool, List, [], ◌∷◌, ◌++◌, length, map, codes, suc, zip}
 use Rattle.std.specs.Fmt.{decimal}
 use Rattle.std.specs.List.{All, flat_map}
-use Rattle.interface.specs.Printed.{flow_text}
+use Rattle.interface.specs.Host.{Host}
+use Rattle.interface.specs.Printed.{flow_text, host_text}
 use Rattle.interface.specs.declared.crossing.Answer.{Answer}
 use Rattle.interface.specs.declared.crossing.Answer.TheVariants as answer
 use Rattle.interface.specs.declared.crossing.Crossing.{Crossing}
@@ -12,6 +13,7 @@ use Rattle.promise.specs.declared.life.Amount.{Amount}
 use Rattle.promise.specs.declared.life.Fate.{Fate}
 use Rattle.promise.specs.declared.life.Fate.TheVariants as fate
 use Rattle.promise.specs.declared.life.Life.{Life}
+use Rattle.replay.specs.InTurn.{text_of}
 use Rattle.replay.specs.Output.{crossing_line}
 use Rattle.replay.specs.declared.print.Detail.TheVariants.{Texts}
 use Rattle.script.specs.Input.{ended_line}
@@ -89,6 +91,14 @@ text_of_lines lines = flat_map ended_line lines
 
 abbrev pub log_text : Book → List ℕ
 log_text b = text_of_lines (log_lines b)
+
+-- the line of a stranger: a host that runs no program of these
+abbrev pub stranger_line : Host → List ℕ
+stranger_line h = codes "foreign " ++ host_text h
+
+-- what precedes the log of a network with these strangers
+abbrev pub strangers_text : List Host → List ℕ
+strangers_text hosts = text_of stranger_line hosts
 
 -- ---- which values a log describes
 

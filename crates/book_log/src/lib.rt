@@ -5,6 +5,7 @@
 //!
 //! A caller may rely on this: octets are read exactly if they are the spelling of a book, which is then the book that is answered. All
 //! others are refused by the number of their first bad line. No two books are spelled alike, so what is written is read again.
+//! Of a network with strangers [`print_strangers`] writes first who they are; such a log isn't read.
 //!
 //! Nothing here says whether a book keeps the promise, nor whether it has as many lists of bits as lives: that an audit says.
 #![tactic(auto)]
@@ -20,5 +21,5 @@ mod words;
 
 pub use book::LoggedBook;
 pub use fault::LogFault;
-pub use print::print_log;
+pub use print::{print_log, print_strangers};
 pub use read::read_log;

@@ -9,12 +9,12 @@ ghost use Rattle.replay.specs.InTurn.{text_of};
 ghost use Rattle.script.specs.Input.{ended_line};
 ghost use Rattle.script.specs.Spelling.{octets_text};
 ghost use Rattle.std.specs.List.{All};
-ghost use Rattle.book_log.specs.Log.{IsBook, IsCrossing, IsHanded, IsLife, fate_name, handed_line, life_line, log_text, logged_book, logged_line};
+ghost use Rattle.book_log.specs.Log.{IsBook, IsCrossing, IsHanded, IsLife, fate_name, handed_line, life_line, log_text, logged_book, logged_line, stranger_line, strangers_text};
 ghost use Rattle.book_log.specs.Steps.{octet_at};
 ghost use Rattle.promise.specs.Fates.{AreFated};
 
 use crate::ranges::{has_crossing_ranges, has_life_ranges, has_list_range};
-use interface::{Answer, Crossing};
+use interface::{Answer, Crossing, HostAddr};
 use net_sim::{BitLog, Life};
 use promise::Fate;
 use replay::{Detail, Output, WriteFailed, print_crossing};
@@ -62,6 +62,30 @@ pub fn print_log<W: Output>(
     print_lives(lives, fates, writer)?;
     print_lists(handed, writer)?;
     writer.write_all(b"end\n")
+}
+
+/// Writes what precedes the log of a network with strangers: a line for each of these hosts, in their order. No log
+/// begins with such a line ([`law::no_strangers`](crate::law::no_strangers)).
+///
+/// Errors: `WriteFailed`.
+pub fn print_strangers<W: Output>(strangers: &[HostAddr], writer: &mut W) -> Result<(), WriteFailed>
+    requires { W.failed writer.old ≡ false }
+    ensures written { OnOk result (Appends (W.contents writer.old) (W.contents writer.new) (strangers_text strangers.now)) }
+    ensures failed { TellsFailure result (W.failed writer.new) }
+{
+    for stranger in strangers {
+        print_stranger(stranger, writer)?;
+    }
+    Ok(())
+}
+
+/// Prints the line of a stranger.
+fn print_stranger<W: Output>(stranger: &HostAddr, writer: &mut W) -> Result<(), WriteFailed>
+    requires { W.failed writer.old ≡ false }
+    ensures written { OnOk result (Appends (W.contents writer.old) (W.contents writer.new) (ended_line (stranger_line stranger.now))) }
+    ensures failed { TellsFailure result (W.failed writer.new) }
+{
+    writeln!(writer, "foreign {stranger}")
 }
 
 /// Prints crossings with their texts.

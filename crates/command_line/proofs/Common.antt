@@ -12,16 +12,16 @@ pub use Rattle.command_line.specs.Carriers.{ends_of, plain_of, subnet_of}
 pub use Rattle.command_line.specs.Described.{Describes}
 pub use Rattle.command_line.specs.Either.{IsEitherFault, IsEitherInput, RanEither, RanEitherInPart, ReplaysEither, StopsEither}
 pub use Rattle.command_line.specs.Events.{AsksFor, Raw, World, asked_of}
-pub use Rattle.command_line.specs.Input.{IsInput, IsInputFault, IsSomeInput}
+pub use Rattle.command_line.specs.Input.{IsInput, IsInputFault}
 pub use Rattle.command_line.specs.Lived.{AreLived, lives_in, ungranted}
-pub use Rattle.command_line.specs.Logs.{Logged, LogsFrom, LogsInput, LogsOn, LogsOver, raw_book, world_book}
+pub use Rattle.command_line.specs.Logs.{LogsFrom, LogsOn, LogsOver, raw_book, world_book}
 pub use Rattle.command_line.specs.Mixed.{IsMixedFault, MixedEndsOn, MixedReplaysOn, MixedReplaysOver}
 pub use Rattle.command_line.specs.Options.{detail_of, options_of}
 pub use Rattle.command_line.specs.Parser.{command_line}
 pub use Rattle.command_line.specs.Printed.{AreOneBook, PrintsBook, PrintsPart}
 pub use Rattle.command_line.specs.Program.{EndsReplay, EndsTask, Sides}
 pub use Rattle.command_line.specs.Replayed.{ReplaysFrom, ReplaysInput, ReplaysOn, ReplaysOver, ShowsBook, ShowsFrom, StopsFrom, WorldShowsFrom, WorldStopsFrom, WritesWorld, book_text}
-pub use Rattle.command_line.specs.Steps.{IsNetworkFault, IsReadFault, IsReplayFault}
+pub use Rattle.command_line.specs.Steps.{IsNetworkFault, IsReplayFault}
 pub use Rattle.command_line.specs.Traced.{EndsAll, IsScriptOf, IsScripted, TraceStops, TracesAll, TracesFrom, TracesInput, TracesOn, TracesOver, WorldEndsFrom, WorldTracesFrom, asked_count}
 pub use Rattle.command_line.specs.declared.auditing.AuditFault.{AuditFault}
 pub use Rattle.command_line.specs.declared.fault.ScriptFault.{ScriptFault}

@@ -1,10 +1,8 @@
 -- Why octets are no input.
-use Rattle.command_line.proofs.Common.{◌≡◌, ◌<◌, Bool, true, false, List, ℕ, Option, Some, None, IfSome, Result, Ok}
-use Rattle.command_line.proofs.Common.{Err, IfErr, MatchResult, ap, inl, inr, refl, subst, sym, ◌∙◌, false≢true}
-use Rattle.command_line.proofs.Common.{TopologyFields, Describes, IsInput, IsInputFault, IsSomeInput, IsReplayFault}
-use Rattle.command_line.proofs.Common.{ScriptFault, IsUtf8, IsParted, IsNetworkFault, IsReadFault}
-use Rattle.std.proofs.Common.{◌↔◌, length}
-use Rattle.command_line.specs.Events.{Asked}
+use Rattle.command_line.proofs.Common.{◌≡◌, Bool, true, false, List, ℕ, Result, Ok, Err, IfErr, ap, inr, refl, subst}
+use Rattle.command_line.proofs.Common.{sym, ◌∙◌, false≢true, TopologyFields, Describes, IsInputFault, IsReplayFault}
+use Rattle.command_line.proofs.Common.{ScriptFault, IsUtf8, IsParted, IsNetworkFault}
+use Rattle.std.proofs.Common.{◌↔◌}
 use Rattle.replay.specs.Failing.{TellsCannotWrite}
 use Rattle.replay.specs.declared.events.ReplayFault.{ReplayFault}
 use Rattle.replay.specs.declared.events.ReplayFault.TheVariants as replay
@@ -18,35 +16,6 @@ network_fault octets document script fault.CannotRead parted known refused = abs
 network_fault octets document script fault.CannotWrite parted known refused = absurd known
 network_fault octets document script fault.BadOptions parted known refused = absurd known
 network_fault octets document script (fault.BadLine number) parted known refused = absurd known
-
--- once octets are an input, nothing but memory and a write can fail
-after_reading : (octets : List ℕ) (r : Result (Unit {0}) ScriptFault) → IsSomeInput octets → IfErr r IsReplayFault → MatchResult r (λ done. IsSomeInput octets) (IsInputFault octets)
-after_reading octets (Ok done) read known = read
-after_reading octets (Err fault.OutOfMemory) read known = tt
-after_reading octets (Err fault.CannotWrite) read known = read
-after_reading octets (Err fault.BadTopology) read known = absurd known
-after_reading octets (Err fault.CannotRead) read known = absurd known
-after_reading octets (Err fault.BadOptions) read known = absurd known
-after_reading octets (Err (fault.BadLine number)) read known = absurd known
-
-pub known_read : (known : Option (List ℕ)) (octets : List ℕ) (network : TopologyFields) (events : Asked) (r : Result (Unit {0}) ScriptFault)
-    → IfSome known (λ k. octets ≡ k) → IsInput octets network events → IfErr r IsReplayFault → IfSome known (λ k. MatchResult r (λ done. IsSomeInput k) (IsInputFault k))
-known_read None octets network events r same read known = tt
-known_read (Some k) octets network events r same read known = after_reading k r (network, events, subst (λ o. IsInput o network events) same read) known
-
--- octets that were not read: too many, or memory ran out
-unread_known : (k : List ℕ) (f : ScriptFault) (failed : Bool) → IsReadFault f → (f ≡ fault.BadTopology → 1048576 < length k) → (f ≡ fault.CannotRead → failed ≡ true) → failed ≡ false → IsInputFault k f
-unread_known k fault.BadTopology failed read long told whole = inl (long refl)
-unread_known k fault.OutOfMemory failed read long told whole = tt
-unread_known k fault.CannotRead failed read long told whole = absurd (false≢true (sym whole ∙ told refl))
-unread_known k fault.BadOptions failed read long told whole = absurd read
-unread_known k fault.CannotWrite failed read long told whole = absurd read
-unread_known k (fault.BadLine number) failed read long told whole = absurd read
-
-pub unread : (known : Option (List ℕ)) (r : Result (Unit {0}) ScriptFault) (f : ScriptFault) (failed : Bool) → r ≡ Err f → IsReadFault f → (f ≡ fault.BadTopology → IfSome known (λ k. 1048576 < length k))
-    → (f ≡ fault.CannotRead → failed ≡ true) → failed ≡ false → IfSome known (λ k. MatchResult r (λ done. IsSomeInput k) (IsInputFault k))
-unread None r f failed is read long told whole = tt
-unread (Some k) r f failed is read long told whole = subst (λ q. MatchResult q (λ done. IsSomeInput k) (IsInputFault k)) (sym is) (unread_known k f failed read long told whole)
 
 abbrev ends_with : ScriptFault → Result (Unit {0}) ScriptFault
 ends_with f = Err f

@@ -4,7 +4,7 @@ use Rattle.command_line.proofs.Common.{MatchResult, inl, inr, map, refl, sym, su
 use Rattle.command_line.proofs.Common.{lives_of, lives_back, Host, IsRun, SafeMessages, Crossing, Says, AreFated}
 use Rattle.command_line.proofs.Common.{ClosesWhole, Fate, Life, Calls, TopologyFields, CarrierKind, AreSuited}
 use Rattle.command_line.proofs.Common.{IsSomeRun, AuditsLog, IsAuditFault, IsSomeLog, Judged, SaysOf, kept, Verdict}
-use Rattle.command_line.proofs.Common.{plain_calls, subnet_calls, plain_of, subnet_of, Raw, World, Logged, LogsFrom}
+use Rattle.command_line.proofs.Common.{plain_calls, subnet_calls, plain_of, subnet_of, Raw, World, LogsFrom}
 use Rattle.command_line.proofs.Common.{LogsOver, raw_book, world_book, AuditFault, ap, ◌∙◌}
 use Rattle.std.proofs.Common.{reverse}
 use Rattle.book_log.specs.Log.{Book, logged_fate}
@@ -21,6 +21,7 @@ use Rattle.book_judge.specs.Fates.{Outlasts, IsSuited, suits}
 use Rattle.book_judge.proofs.lemmas.{made_twice, made_with}
 use Rattle.command_line.specs.Audits.{IsKeptLog, SaysKept}
 use Rattle.command_line.specs.Events.{Asked}
+use Rattle.command_line.specs.Logs.{Logged}
 use Rattle.command_line.specs.declared.auditing.AuditFault.TheVariants as fault
 use Rattle.command_line.proofs.Verdicts.Named.{kept_from_safe, only_kept}
 use Rattle.command_line.proofs.Printed.{none_there, safe_alone}

@@ -3,7 +3,7 @@ use Rattle.command_line.proofs.Common.{◌≡◌, Bool, List, [], ◌++◌, Some
 use Rattle.command_line.proofs.Common.{reverse-reverse, lives_of, log_text, lives_back, Crossing, shown, WorldState}
 use Rattle.command_line.proofs.Common.{opening_world, Life, crossings_of, output, Calls, AreSettled, Detail, OneReplay}
 use Rattle.command_line.proofs.Common.{replays_once, TopologyFields, CarrierKind, plain_calls, subnet_calls, plain_of}
-use Rattle.command_line.proofs.Common.{subnet_of, Raw, World, LogsFrom, LogsInput, LogsOn, LogsOver, raw_book}
+use Rattle.command_line.proofs.Common.{subnet_of, Raw, World, LogsFrom, LogsOn, LogsOver, raw_book}
 use Rattle.command_line.proofs.Common.{world_book, ReplaysFrom, ReplaysInput, ReplaysOn, ReplaysOver, book_text}
 use Rattle.command_line.proofs.Common.{subnet_settled, plain_settled}
 use Rattle.std.proofs.Common.{reverse}
@@ -13,6 +13,7 @@ use Rattle.world_replay.specs.Output as lines
 use Rattle.world_replay.proofs.lemmas.Replays as worlds
 use Rattle.command_line.specs.Events.{Asked}
 use Rattle.command_line.specs.Joins.{PrintTheSame, TellTheSame}
+use Rattle.command_line.specs.Logs.{LogsInput}
 use Rattle.command_line.proofs.Once.{raw_once, world_once}
 use Rattle.command_line.proofs.OneInput.{OneInput, input_once}
 use Rattle.command_line.proofs.Printed.{as_world, no_lives, same_crossings, same_output}

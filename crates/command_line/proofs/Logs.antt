@@ -1,12 +1,16 @@
 -- What `--log` writes is the log of the book that a replay leaves.
-use Rattle.command_line.proofs.Common.{◌≡◌, ℕ, Bool, List, [], Option, Some, None, IfSome, Result, Ok, Err, OnOk, refl, subst, sym, Appends, AreSuited, log_text, AreFated, Fate, KeepsPromise, IsRun, SafeMessages, Crossing, shown, WorldState, opening_world, Life, Writes, Calls, Detail, RawEvent, TopologyFields, WorldEvent, IsInput, Logged, LogsInput, LogsOn, ScriptFault}
+use Rattle.command_line.proofs.Common.{◌≡◌, ℕ, Bool, List, [], ◌++◌, Option, Result, OnOk, refl, subst, sym, Appends}
+use Rattle.command_line.proofs.Common.{AreSuited, log_text, AreFated, Fate, KeepsPromise, IsRun, SafeMessages, Crossing}
+use Rattle.command_line.proofs.Common.{shown, WorldState, opening_world, Life, Writes, Calls, Detail, Host, RawEvent}
+use Rattle.command_line.proofs.Common.{WorldEvent, on_ok, world_book}
 use Rattle.std.proofs.Common.{reverse}
-use Rattle.book_log.specs.Log.{Book, IsBook, logged_book}
+use Rattle.book_log.specs.Log.{Book, IsBook, logged_book, strangers_text}
+use Rattle.net_sim.specs.Book.{Kept}
 use Rattle.replay.specs.Replay.{Replays}
 use Rattle.world_replay.specs.Output as lines
 use Rattle.world_replay.specs.Replay as worlds
-use Rattle.command_line.specs.Events.{Asked}
 use Rattle.command_line.specs.Logs.{LogsRaw, LogsWorld}
+use Rattle.command_line.proofs.Verdicts.Judged.{joins}
 
 pub logs_raw : {C : Type 0} (calls : Calls C) (opening last : C) (events : List RawEvent) (detail : Detail) (log : List Crossing) (x y before after : Option (List ℕ))
     → Writes detail (Replays calls opening events last) x y
@@ -28,37 +32,47 @@ fated_back : (lives : List Life) (fates : List Fate) (others : List Life) (other
 fated_back lives fates others other e f are =
     subst (λ (xs : List Life). AreFated xs fates) (sym e) (subst (λ (fs : List Fate). AreFated others fs) (sym f) are)
 
-pub logs_world : {C : Type 0} (calls : Calls C) (opening : C) (first last : WorldState C) (events : List WorldEvent) (detail : Detail) (log : List Crossing) (lives : List Life) (handed : List (List Bool)) (fates : List Fate) (x y before after : Option (List ℕ))
-    → first ≡ opening_world (shown calls) opening → lines.Writes detail
-    (worlds.Replays (shown calls) first events last) x y → KeepsPromise calls.seen last
-    → log ≡ reverse last.kept.book.crossings → lives ≡ last.kept.book.lives → handed ≡ last.kept.handed → fates ≡
-    last.kept.fates → AreSuited last.kept.book.crossings last.kept.book.lives
-    last.kept.fates → Appends before after (log_text (logged_book log lives handed fates)) →
-    (AreFated lives fates → IsBook (logged_book log lives handed fates))
-    → LogsWorld calls opening events before after
-logs_world {C} calls opening first last events detail log lives handed fates x y before after begins w promise crossings alive given how suited written valid =
+-- what is written of a book is what a log says of a world
+pub book_logged : (k : Kept) (crossings : List Crossing) (lives : List Life) (handed : List (List Bool))
+    (fates : List Fate) → crossings ≡ reverse k.book.crossings → lives ≡ k.book.lives → handed ≡ k.handed
+    → fates ≡ k.fates → logged_book crossings lives handed fates ≡ world_book k
+book_logged k crossings lives handed fates p q r s = λ i. logged_book (p i) (q i) (r i) (s i)
+
+pub book_written : {E : Type 0} (k : Kept) (strangers : List Host) (crossings : List Crossing) (lives : List Life)
+    (handed : List (List Bool)) (fates : List Fate) (r : Result (Unit {0}) E) (a b c : Option (List ℕ))
+    → crossings ≡ reverse k.book.crossings → lives ≡ k.book.lives → handed ≡ k.handed → fates ≡ k.fates
+    → Appends a b (strangers_text strangers)
+    → OnOk r (Appends b c (log_text (logged_book crossings lives handed fates)))
+    → OnOk r (Appends a c (strangers_text strangers ++ log_text (world_book k)))
+book_written k strangers crossings lives handed fates r a b c p q x y before h =
+    on_ok r (λ (w : Appends b c (log_text (logged_book crossings lives handed fates))).
+    joins a b c (strangers_text strangers) (log_text (world_book k)) before
+    (subst (λ (o : Book). Appends b c (log_text o)) (book_logged k crossings lives handed fates p q x y) w)) h
+
+pub book_valid : {E : Type 0} (k : Kept) (crossings : List Crossing) (lives : List Life) (handed : List (List Bool))
+    (fates : List Fate) (r : Result (Unit {0}) E) → crossings ≡ reverse k.book.crossings → lives ≡ k.book.lives
+    → handed ≡ k.handed → fates ≡ k.fates
+    → OnOk r (AreFated lives fates → IsBook (logged_book crossings lives handed fates))
+    → OnOk r (AreFated k.book.lives k.fates → IsBook (world_book k))
+book_valid k crossings lives handed fates r p q x y h =
+    on_ok r (λ (v : AreFated lives fates → IsBook (logged_book crossings lives handed fates)).
+    λ are. subst IsBook (book_logged k crossings lives handed fates p q x y)
+    (v (fated_back lives fates k.book.lives k.fates q y are))) h
+
+pub logs_world : {C : Type 0} (calls : Calls C) (opening : C) (first last : WorldState C) (events : List WorldEvent)
+    (detail : Detail) (k : Kept) (x y before after : Option (List ℕ)) → first ≡ opening_world (shown calls) opening
+    → lines.Writes detail (worlds.Replays (shown calls) first events last) x y → KeepsPromise calls.seen last
+    → k ≡ last.kept → AreSuited last.kept.book.crossings last.kept.book.lives last.kept.fates
+    → Appends before after (log_text (world_book k))
+    → (AreFated k.book.lives k.fates → IsBook (world_book k)) → LogsWorld calls opening events before after
+logs_world {C} calls opening first last events detail k x y before after begins w promise is suited written valid =
     record {
       last = last;
       shows = w.shown;
       replayed = subst (λ (s : WorldState C). worlds.Replays (shown calls) s events last w.shown) begins w.is_shown;
       promise = promise;
       suited = suited;
-      written =
-          subst (λ (b : Book). Appends before after (log_text b))
-          (λ i. logged_book (crossings i) (alive i) (given i) (how i)) written;
-      valid =
-          subst IsBook (λ i. logged_book (crossings i) (alive i) (given i) (how i))
-          (valid (fated_back lives fates last.kept.book.lives last.kept.fates alive how promise.fated));
+      written = subst (λ (b : Kept). Appends before after (log_text (world_book b))) is written;
+      valid = subst (λ (b : Kept). IsBook (world_book b)) is
+          (valid (subst (λ (b : Kept). AreFated b.book.lives b.fates) (sym is) promise.fated));
     }
-
-pub logged : (network : TopologyFields) (events : Asked) (before after : Option (List ℕ))
-    → LogsOn network events before after → Logged before after
-logged network events before after h = record { network = network; events = events; logged = h }
-
-pub known_logged : (known : Option (List ℕ)) (octets : List ℕ) (network : TopologyFields) (events : Asked) (r : Result (Unit {0}) ScriptFault) (before after : Option (List ℕ))
-    → IfSome known (λ k. octets ≡ k) → IsInput octets network events → OnOk r (LogsOn network events before after) →
-    OnOk r (IfSome known (λ k. LogsInput k before after))
-known_logged None octets network events (Ok done) before after same read h = tt
-known_logged (Some k) octets network events (Ok done) before after same read h =
-    record { network = network; events = events; input = subst (λ o. IsInput o network events) same read; logged = h }
-known_logged known octets network events (Err f) before after same read h = tt

@@ -5,9 +5,11 @@ use Rattle.command_line.proofs.Common.{text_of, TopologyFields, CarrierKind, Raw
 use Rattle.command_line.proofs.Common.{LogsOver, raw_book, world_book, EndsTask, Sides, TracesOver, AuditFault}
 use Rattle.command_line.proofs.Common.{ScriptFault, Verdict, detail_of, ReplaysOver, MixedFields, MixedWorldEvent}
 use Rattle.command_line.proofs.Common.{RanEither, MixedReplaysOver, EndsReplay}
-use Rattle.book_log.specs.Log.{Book, handed_line, life_line, log_lines, logged_line, text_of_lines}
+use Rattle.book_log.specs.Log.{Book, handed_line, life_line, log_lines, logged_line, strangers_text, text_of_lines}
 use Rattle.topology.specs.declared.network.CarrierKind.TheVariants as kind
 use Rattle.command_line.specs.Events.{Asked}
+use Rattle.command_line.specs.MixedLogs.{LoggedEither, MixedLogsOver}
+use Rattle.command_line.specs.MixedTraced.{MixedTracesOver, TracedEither}
 use Rattle.command_line.specs.Program.{Closes, audited_as, finished_as}
 use Rattle.command_line.specs.WorkedSides.{Never, drained, no_options, only_check, out_of_memory, unread, wrote}
 use Rattle.command_line.specs.declared.auditing.AuditFault.TheVariants as log
@@ -87,8 +89,26 @@ nothing_logged kind.Plain t (World events) h = some_log (world_book h.last.kept)
 nothing_logged kind.Subnet t (Raw events) h = some_log (raw_book (subnet_calls.seen h.last).log) h.written
 nothing_logged kind.Subnet t (World events) h = some_log (world_book h.last.kept) h.written
 
+-- nor is it nothing after the lines of strangers
+no_rest : (front rest : List ℕ) → [] ≡ front ++ rest → [] ≡ rest
+no_rest [] rest e = e
+no_rest (x ∷ front) rest e = cc
+
+nothing_among : (carrier : CarrierKind) (t : MixedFields) (events : List MixedWorldEvent)
+    → MixedLogsOver carrier t events (Some []) (Some []) → ⊥
+nothing_among kind.Plain t events h =
+    let b : Book = world_book h.last.world.kept in
+    some_log b (no_rest (strangers_text t.strangers) (log_text b) h.written)
+nothing_among kind.Subnet t events h =
+    let b : Book = world_book h.last.world.kept in
+    some_log b (no_rest (strangers_text t.strangers) (log_text b) h.written)
+
+none_logged : LoggedEither (Some []) (Some []) → ⊥
+none_logged (inl h) = nothing_logged h.network.carrier h.network h.events h.logged
+none_logged (inr h) = nothing_among h.network.network.carrier h.network h.events h.logged
+
 pub no_log : Never task.Log (wrote []) (Ok did.Written)
-no_log o (Ok done, is, ends) = nothing_logged ends.ran.network.carrier ends.ran.network ends.ran.events ends.ran.logged
+no_log o (Ok done, is, ends) = none_logged ends.ran
 no_log o (Err f, is, ends) = cc
 
 -- and a trace its first one
@@ -109,9 +129,22 @@ nothing_traced kind.Subnet t numbers (Raw events) written h k =
 nothing_traced kind.Subnet t numbers (World events) written h k =
     nothing_written h.traced.shown _ h.traced.is_shown.0 written h.traced.is_shown.1 h.traced.written k
 
+nothing_traced_among : (carrier : CarrierKind) (t : MixedFields) (numbers : List ℕ) (events : List MixedWorldEvent)
+    (written : Option (List ℕ)) → MixedTracesOver carrier t numbers events (Some []) written
+    → Keeps written (Some []) → ⊥
+nothing_traced_among kind.Plain t numbers events written h k =
+    nothing_written h.traced.shown _ h.traced.is_shown.0 written h.traced.is_shown.1 h.traced.written k
+nothing_traced_among kind.Subnet t numbers events written h k =
+    nothing_written h.traced.shown _ h.traced.is_shown.0 written h.traced.is_shown.1 h.traced.written k
+
+none_traced : (written : Option (List ℕ)) → TracedEither (Some []) written → Keeps written (Some []) → ⊥
+none_traced written (inl h) kept =
+    nothing_traced h.network.carrier h.network h.lines h.events written h.traced kept
+none_traced written (inr h) kept =
+    nothing_traced_among h.network.network.carrier h.network h.lines h.events written h.traced kept
+
 pub no_trace : Never task.Trace (wrote []) (Ok did.Written)
-no_trace o (Ok done, written, inl (is, kept), ends) =
-    nothing_traced ends.ran.network.carrier ends.ran.network ends.ran.lines ends.ran.events written ends.ran.traced kept
+no_trace o (Ok done, written, inl (is, kept), ends) = none_traced written ends.ran kept
 no_trace o (Err f, written, inl (is, kept), ends) = cc
 no_trace o (ended, written, inr (is, other), ends) = cc
 

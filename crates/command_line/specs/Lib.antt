@@ -9,6 +9,7 @@ pub mod Joins
 pub mod Lived
 pub mod Logs
 pub mod Mixed
+pub mod MixedLogs
 pub mod MixedTraced
 pub mod Options
 pub mod Parser

@@ -5,8 +5,7 @@ use Rattle.command_line.specs.declared.verdict.Verdict.{Verdict}
 use Rattle.command_line.specs.Audits.{Audited, AuditsLog, IsAuditFault, IsSomeLog, audit_text, status_at, status_said}
 use Rattle.command_line.specs.Either.{IsEitherFault, IsEitherInput, RanEither, RanEitherInPart, ReplaysEither, StopsEither}
 use Rattle.command_line.specs.Faults.{script_text, status_of}
-use Rattle.command_line.specs.Input.{IsInputFault, IsSomeInput}
-use Rattle.command_line.specs.Logs.{Logged, LogsInput}
+use Rattle.command_line.specs.MixedLogs.{LoggedEither, LogsEither}
 use Rattle.command_line.specs.MixedTraced.{TraceStopsEither, TracedEither, TracedEitherInPart, TracesEither}
 use Rattle.command_line.specs.Options.{detail_of, options_of, task_of}
 use Rattle.command_line.specs.Reading.{ReadsAll, ReadsFirst}
@@ -76,9 +75,9 @@ pub record EndsReplay (options : Options) (s : Sides) (r : Result (Unit {0}) Scr
 
 -- an input is replayed and its log is written, or the first fault is given. Where memory runs out nothing is written
 pub record EndsLog (s : Sides) (r : Result (Unit {0}) ScriptFault) : Type 0 where
-  pub ran : OnOk r (Logged s.before s.after)
-  pub logged : OnOk r (IfSome s.input (λ octets. LogsInput octets s.before s.after))
-  pub read : s.unread ≡ false → IfSome s.input (λ octets. MatchResult r (λ _. IsSomeInput octets) (IsInputFault octets))
+  pub ran : OnOk r (LoggedEither s.before s.after)
+  pub logged : OnOk r (IfSome s.input (λ octets. LogsEither octets s.before s.after))
+  pub read : s.unread ≡ false → IfSome s.input (λ octets. MatchResult r (λ _. IsEitherInput octets) (IsEitherFault octets))
   pub options_read : IfErr r (λ f. f ≢ script.BadOptions)
   pub reads : ReadsFirst s.input s.left
   pub reads_all : r ≢ Err script.CannotRead → r ≢ Err script.OutOfMemory → ReadsAll s.input s.left

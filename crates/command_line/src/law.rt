@@ -25,7 +25,8 @@ ghost use Rattle.command_line.specs.Audits.{IsKeptLog, IsSafeLog, KeepsEnds, Say
 ghost use Rattle.command_line.specs.Events.{is_raw};
 ghost use Rattle.command_line.specs.Laws.{FirstPart, OneBook, OneOutput, OneReplay, WorkedLines, WorkedLives};
 ghost use Rattle.command_line.specs.Lived.{AreLived};
-ghost use Rattle.command_line.specs.Logs.{Logged, LogsInput};
+ghost use Rattle.command_line.specs.Logs.{Logged};
+ghost use Rattle.command_line.specs.MixedLogs.{LogsEither};
 ghost use Rattle.command_line.specs.MixedTraced.{TraceStopsEither, TracesEither};
 ghost use Rattle.command_line.specs.Printed.{PrintsBook, PrintsPart};
 ghost use Rattle.command_line.specs.Program.{Closes, EndsTask, Sides};
@@ -61,7 +62,7 @@ pub fn one_trace()
 
 /// The input determines its log.
 pub fn one_log()
-    ensures { (input before after other : List ℕ) → LogsInput input (Some before) (Some after) → LogsInput input (Some before) (Some other) → after ≡ other }
+    ensures { (input before after other : List ℕ) → LogsEither input (Some before) (Some after) → LogsEither input (Some before) (Some other) → after ≡ other }
 {}
 
 /// The outputs of one input are of one replay. Whether the book and texts are asked for only decides how much of it is

@@ -23,6 +23,7 @@ mod judging;
 pub mod law;
 mod logging;
 mod mixed;
+mod mixed_logging;
 mod mixed_tracing;
 mod options;
 mod program;

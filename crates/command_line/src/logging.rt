@@ -1,28 +1,30 @@
 //! The log of a replay's book, in place of what the replay shows.
 
-ghost use Rattle.std.specs.Prelude.{◌≡◌, ◌≢◌, ◌↔◌, Err, IfErr, IfSome, MatchResult, OnOk, None, [], false, true};
+ghost use Rattle.std.specs.Prelude.{◌≡◌, ◌≢◌, ◌≤◌, ◌↔◌, ◌++◌, Err, IfErr, IfSome, MatchResult, OnOk, None, [], false, length, true};
 ghost use Rattle.std.specs.Io.KnownBytes.{Appends};
-ghost use Rattle.book_log.specs.Log.{IsBook, log_text, logged_book};
+ghost use Rattle.book_log.specs.Log.{IsBook, log_text, logged_book, strangers_text};
 ghost use Rattle.promise.specs.Fates.{AreFated};
 ghost use Rattle.replay.specs.Failing.{TellsFailure};
+ghost use Rattle.command_line.specs.Either.{IsEitherFault, IsEitherInput};
 ghost use Rattle.command_line.specs.Events.{asked_of};
-ghost use Rattle.command_line.specs.Input.{IsInputFault, IsSomeInput};
-ghost use Rattle.command_line.specs.Logs.{Logged, LogsFrom, LogsInput, LogsOn, LogsRaw, LogsWorld};
+ghost use Rattle.command_line.specs.Logs.{LogsFrom, LogsOn, LogsRaw, LogsWorld, world_book};
+ghost use Rattle.command_line.specs.MixedLogs.{LoggedEither, LogsEither};
 ghost use Rattle.command_line.specs.Reading.{ReadsAll, ReadsFirst};
-ghost use Rattle.command_line.specs.Steps.{IsReplayFault};
+ghost use Rattle.command_line.specs.Steps.{IsFollowFault, IsReplayFault};
 
 use crate::carriers::subnet_of;
 use crate::fault::ScriptFault;
 use crate::input::{Events, Input, read_input, read_octets};
+use crate::mixed_logging::log_mixed;
 use crate::source::Source;
-use book_log::print_log;
+use book_log::{print_log, print_strangers};
 use headline::book_of;
-use interface::{Carrier, Crossing};
+use interface::{Carrier, Crossing, HostAddr};
 use leader1822::PlainBoxes;
-use net_sim::{BitLog, Life, World};
+use net_sim::{BitLog, Book, Life, World};
 use promise::Fate;
 use replay::{Detail, Output, WriteFailed};
-use script::RawEvent;
+use script::{MAX_INPUT, RawEvent};
 use std::alloc::Global;
 use std::fmt::Display;
 use topology::{CarrierKind, Topology};
@@ -30,9 +32,9 @@ use world_script::WorldEvent;
 
 /// An output that prints nothing, and never fails.
 #[derive(Drop)]
-struct Silent {
+pub(crate) struct Silent {
     /// Whether the last call was a flush.
-    flushed: bool,
+    pub flushed: bool,
 }
 
 impl Output for Silent {
@@ -63,6 +65,7 @@ impl Output for Silent {
 
 /// Reads a topology, the marker line `%` and a script, replays the script, and writes the log of the book that it
 /// leaves: what crossed with its texts, the lives of connections with their fates, and what was handed over in each.
+/// Where the topology names strangers, a line for each of them comes first.
 ///
 /// Errors: as [`crate::run_script`]. Nothing is written before the replay has come to its end.
 pub fn run_log<R: Source, W: Output>(
@@ -75,12 +78,12 @@ pub fn run_log<R: Source, W: Output>(
     requires more { R.ended reader.old ≡ false }
     requires writes { W.failed writer.old ≡ false }
 
-    // a script is replayed over the carrier of a topology, whatever the reader, and the log of the book that it leaves
-    // is written
-    ensures ran { OnOk result (Logged (W.contents writer.old) (W.contents writer.new)) }
+    // a script is replayed over the carrier of a topology, whatever the reader, among strangers or not, and the log of
+    // the book that it leaves is written
+    ensures ran { OnOk result (LoggedEither (W.contents writer.old) (W.contents writer.new)) }
 
     // and of a reader whose octets are known these are the script and the topology that were read
-    ensures logged { OnOk result (IfSome (R.remaining reader.old) (λ octets. LogsInput octets (W.contents writer.old) (W.contents writer.new))) }
+    ensures logged { OnOk result (IfSome (R.remaining reader.old) (λ octets. LogsEither octets (W.contents writer.old) (W.contents writer.new))) }
 
     // the reader is asked for the first octets only, and for an octet more than an input may have at most; unless a
     // read fails or memory runs out, it is asked for all of them
@@ -88,7 +91,7 @@ pub fn run_log<R: Source, W: Output>(
     ensures reads_all { result ≢ Err ScriptFault.CannotRead → result ≢ Err ScriptFault.OutOfMemory → ReadsAll (R.remaining reader.old) (R.remaining reader.new) }
 
     // what is read is an input, or the first fault is given
-    ensures read { R.failed reader.new ≡ false → IfSome (R.remaining reader.old) (λ octets. MatchResult result (λ _. IsSomeInput octets) (IsInputFault octets)) }
+    ensures read { R.failed reader.new ≡ false → IfSome (R.remaining reader.old) (λ octets. MatchResult result (λ _. IsEitherInput octets) (IsEitherFault octets)) }
     ensures options { IfErr result (λ f. f ≢ ScriptFault.BadOptions) }
 
     // where a read or a write fails it is reported, and nowhere else
@@ -102,14 +105,34 @@ pub fn run_log<R: Source, W: Output>(
     ensures untouched { IfErr result (λ f. f ≢ ScriptFault.CannotWrite → writer.new ≡ writer.old) }
 {
     let octets = read_octets(alloc, reader)?;
-    let Input { network, events } = read_input(alloc, &octets)?;
-    log_on(alloc, &network, events, writer)
+    follow(alloc, &octets, writer)
+}
+
+/// Writes the log of the input that octets are, with strangers or without. What is no input without strangers may be
+/// one with them.
+///
+/// Errors: `BadTopology`, `BadLine`, `CannotWrite`, `OutOfMemory`, as [`run_log`].
+fn follow<W: Output>(alloc: Global, octets: &[u8], writer: &mut W) -> Result<(), ScriptFault>
+    requires short { length octets.now ≤ MAX_INPUT }
+    requires writes { W.failed writer.old ≡ false }
+    ensures logged { OnOk result (LogsEither octets.now (W.contents writer.old) (W.contents writer.new)) }
+    ensures read { MatchResult result (λ _. IsEitherInput octets.now) (IsEitherFault octets.now) }
+    ensures fault { IfErr result IsFollowFault }
+    ensures failed { (result ≡ Err ScriptFault.CannotWrite) ↔ (W.failed writer.new ≡ true) }
+    ensures flushed { OnOk result (W.flushed writer.new ≡ true) }
+    ensures untouched { IfErr result (λ f. f ≢ ScriptFault.CannotWrite → writer.new ≡ writer.old) }
+{
+    match read_input(alloc, octets) {
+        Ok(Input { network, events }) => log_on(alloc, &network, events, writer),
+        Err(ScriptFault::BadTopology) => log_mixed(alloc, octets, writer),
+        Err(fault) => Err(fault),
+    }
 }
 
 /// Replays events over the carrier that a topology names, and writes the log of the book that they leave.
 ///
 /// Errors: `CannotWrite`; `OutOfMemory`, after which nothing is written.
-pub(crate) fn log_on<W: Output>(
+fn log_on<W: Output>(
     alloc: Global,
     network: &Topology,
     events: Events,
@@ -215,17 +238,34 @@ fn log_world<C: Carrier, W: Output>(
     ) {
         Ok(()) => {
             let book = book_of(&world);
-            let fates = world.fates();
-            Ok(write_log(
-                book.crossings(),
-                book.lives(),
-                world.handed(),
-                fates,
-                writer,
-            )?)
+            Ok(write_book(&[], book, writer)?)
         }
         Err(_) => Err(ScriptFault::OutOfMemory),
     }
+}
+
+/// Writes the log of a book, after a line for each of these strangers, and all that the writer still holds back.
+///
+/// Errors: `WriteFailed`.
+pub(crate) fn write_book<W: Output>(
+    strangers: &[HostAddr],
+    book: &Book,
+    writer: &mut W,
+) -> Result<(), WriteFailed>
+    requires { W.failed writer.old ≡ false }
+    ensures written { OnOk result (Appends (W.contents writer.old) (W.contents writer.new) (strangers_text strangers.now ++ log_text (world_book book.now))) }
+    ensures valid { OnOk result (AreFated book.now.book.lives book.now.fates → IsBook (world_book book.now)) }
+    ensures failed { TellsFailure result (W.failed writer.new) }
+    ensures flushed { OnOk result (W.flushed writer.new ≡ true) }
+{
+    print_strangers(strangers, writer)?;
+    write_log(
+        book.crossings(),
+        book.lives(),
+        book.handed(),
+        book.fates(),
+        writer,
+    )
 }
 
 /// Writes a log, and all that the writer still holds back.

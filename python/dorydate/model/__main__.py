@@ -33,8 +33,6 @@ def ends(octets: bytes, options: Sequence[str]) -> End:
         network, script = network_of("\n".join(lines[:marker])), lines[marker + 1 :]
     except (KeyError, ValueError):
         sys.exit("model: the topology isn't read here: one key with its value a line")
-    if [*options] == ["--log"] and network.foreign:
-        return BAD_TOPOLOGY  # there are no logs of strangers yet
     if [*options] == ["--log"] and network_is_good(network, ["worlds"]):
         return ends_log(network, script)
     if [*options] == ["--trace"] and network_is_good(network, ["worlds"]):

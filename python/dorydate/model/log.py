@@ -14,7 +14,7 @@ from typing import NamedTuple, Union
 from dorydate.model.bits import Bits, spell_bits, spelled_text
 from dorydate.model.book import Fate, Life
 from dorydate.model.crossings import Answer, Answered, Crossing, Passed, Turned, spell_crossing
-from dorydate.model.names import spell_flow
+from dorydate.model.names import spell_flow, spell_host
 from dorydate.model.runs import End, Place, log_of, opened
 from dorydate.model.script import FLOW, HOST, MOST_TEXT, BadLine, host_of, read_flow, read_line, read_number, read_text
 from dorydate.model.topology import Topology
@@ -179,13 +179,14 @@ def book_of(network: Topology, place: Place) -> Book:
 
 
 def ends_log(network: Topology, lines: Iterable[str]) -> End:
-    """How `--log` ends on a network that can be replayed and the lines of a script."""
+    """How `--log` ends on a network that can be replayed and the lines of a script: first who runs no program, where somebody doesn't."""
     place = opened(network)
+    foreign = "".join(f"foreign {spell_host(host)}\n" for host in sorted(network.strangers(), key=lambda host: (host.imp, host.number)))
     for number, line in enumerate(lines, 1):
         try:
-            event = read_line(line, network[1])
+            event = read_line(line, network[1], strangers=bool(network.foreign))
         except BadLine:
             return 2, "", f"arpasim: bad script line {number}\n"
         if event:
             place.happen(*event)
-    return 0, spelled_log(book_of(network, place)).decode(), ""
+    return 0, foreign + spelled_log(book_of(network, place)).decode(), ""

@@ -28,7 +28,6 @@ from concurrent.futures import ProcessPoolExecutor, ThreadPoolExecutor
 from dorydate.model.audit import PARTS
 from dorydate.model.chance.books import of_world, small
 from dorydate.model.chance.breaking import WAYS
-from dorydate.model.inputs import BAD_TOPOLOGY
 from dorydate.model.log import book_of, ends_log, read_log, spelled_log
 from dorydate.model.misread_logs import MISREADINGS
 from dorydate.model.verdict import Judge, ended, ends_audit, says
@@ -143,7 +142,7 @@ def owed_log(octets: bytes) -> End:
     lines = octets.decode("latin-1").split("\n")
     marker = lines.index("%")
     network = network_of("\n".join(lines[:marker]))
-    return BAD_TOPOLOGY if network.foreign else ends_log(network, lines[marker + 1 :])  # there are no logs of strangers yet
+    return ends_log(network, lines[marker + 1 :])
 
 
 def logged(case: Case) -> tuple[str | None, int]:
@@ -152,6 +151,8 @@ def logged(case: Case) -> tuple[str | None, int]:
     owed = owed_log(case.octets)
     if found != owed:
         return f"{case.name}: --log ends with {status} {words}and {different_line(log, owed[1])}", status
+    if status == 0 and log.startswith("foreign "):
+        return compared(case.name, log.encode("latin-1"), (2, "", "arpasim: bad log line 1\n")), status
     if status == 0:
         book = read_log(log.encode("latin-1"))
         if spelled_log(book) != log.encode("latin-1"):

@@ -11,7 +11,7 @@ plainest spelling.
 Networks with host programs are tried as far as the program runs them, which it is asked first: their scripts are made event by
 event, by looking at what the model has come to (python/dorydate/model/chance/worlds.py), and it is counted what they came to. So are scripts of raw
 networks in which IMPs ask what became of their messages (python/dorydate/model/chance/questions.py). Of these the log is compared too, since two answers
-are printed alike. And so are scripts of networks with strangers (python/dorydate/model/chance/strangers.py).
+are printed alike. And so are scripts of networks with strangers, some by their logs (python/dorydate/model/chance/strangers.py).
 `./check model asking RUNS` tries only those with questions, this many.
 
 It takes the proved program, or where ./build has not made that the one that was built without proofs. With `--try`, and perhaps the folder of another clone of the repository, it
@@ -71,7 +71,7 @@ def some_mixed_input(seed: int) -> Given:
     if chance.random() < 0.3:
         other = perhaps_refused(chance, network)
         lines[chance.randrange(len(lines))] = changed(chance, other) if chance.random() < 0.2 else other
-    options: list[list[str]] = [[], ["--book"], ["--texts", "--book"]]
+    options: list[list[str]] = [[], ["--book"], ["--texts", "--book"], ["--log"]]
     return chance.choice(options), naming(network, world.strangers), lines
 
 

@@ -4,7 +4,8 @@ use Rattle.command_line.proofs.Common.{subst, ◌∙◌, shown, Life, Calls, Are
 use Rattle.command_line.proofs.Common.{subnet_calls, plain_of, subnet_of, WritesWorld, book_text, plain_settled}
 use Rattle.command_line.proofs.Common.{subnet_settled, parted_once, MixedFields, MixedWorldEvent, ReplaysEither}
 use Rattle.command_line.proofs.Common.{StopsEither, MixedReplaysOn, MixedReplaysOver, MixedEndsOn, Host, Describes}
-use Rattle.command_line.proofs.Common.{TopologyFields, IsInput}
+use Rattle.command_line.proofs.Common.{TopologyFields, IsInput, log_text, world_book}
+use Rattle.book_log.specs.Log.{strangers_text}
 use Rattle.net_sim.specs.MixedWorlds.{MixedState, opening_mixed}
 use Rattle.script.proofs.lemmas.{SameInput}
 use Rattle.script.specs.Script.{lines_of}
@@ -21,7 +22,8 @@ use Rattle.command_line.specs.Events.{Asked}
 use Rattle.command_line.specs.Joins.{PrintTheSame, printed}
 use Rattle.command_line.specs.Mixed.{IsMixedInput, MixedEndsOver, MixedReplaysInput, MixedShowsFrom, MixedStopsFrom}
 use Rattle.command_line.specs.Mixed.{MixedStopsInput}
-use Rattle.command_line.proofs.Joins.{print_the_same}
+use Rattle.command_line.specs.MixedLogs.{LogsEither, MixedLogsFrom, MixedLogsInput, MixedLogsOn, MixedLogsOver}
+use Rattle.command_line.proofs.Joins.{one_log, print_the_same}
 use Rattle.command_line.proofs.Once.{begins, first_part, one_output}
 
 -- ---- the input
@@ -184,4 +186,46 @@ either_part book detail input before part whole (inr h) (inr k) = mixed_part boo
 either_part book detail input before part whole (inl h) (inr k) =
     absurd (not_both input h.network k.network h.events k.events h.input k.input)
 either_part book detail input before part whole (inr h) (inl k) =
+    absurd (not_both input k.network h.network k.events h.events k.input h.input)
+
+-- ---- a log
+
+log_from : {C : Type 0} (calls : Calls C) → AreSettled calls → (strangers : List Host) (opening : C)
+    (events : List MixedWorldEvent) (before after other : List ℕ)
+    → MixedLogsFrom calls strangers opening events (Some before) (Some after)
+    → MixedLogsFrom calls strangers opening events (Some before) (Some other) → after ≡ other
+log_from {C} calls settled strangers opening events before after other h k =
+    let one : (h.last ≡ k.last) × (h.shows ≡ k.shows) =
+    one_mixed_replay calls settled (opening_mixed (shown calls) opening strangers) h.last k.last events h.shows k.shows
+    h.replayed k.replayed in
+    h.written
+    ∙ ap (λ (s : MixedState C). before ++ (strangers_text strangers ++ log_text (world_book s.world.kept))) one.0
+    ∙ sym k.written
+
+log_over : (carrier : CarrierKind) (t : MixedFields) (events : List MixedWorldEvent) (before after other : List ℕ)
+    → MixedLogsOver carrier t events (Some before) (Some after)
+    → MixedLogsOver carrier t events (Some before) (Some other) → after ≡ other
+log_over kind.Plain t events before after other h k =
+    log_from plain_calls plain_settled t.strangers (plain_of t.network) events before after other h k
+log_over kind.Subnet t events before after other h k =
+    log_from subnet_calls subnet_settled t.strangers (subnet_of t.network) events before after other h k
+
+mixed_log : (input before after other : List ℕ) → MixedLogsInput input (Some before) (Some after)
+    → MixedLogsInput input (Some before) (Some other) → after ≡ other
+mixed_log input before after other h k =
+    let same : OneMixed h.network k.network h.events k.events =
+    mixed_once input h.network k.network h.events k.events h.input k.input in
+    let moved : MixedLogsOn k.network k.events (Some before) (Some after) =
+    subst (λ (t : MixedFields). MixedLogsOn t k.events (Some before) (Some after)) same.same_network
+    (subst (λ (events : List MixedWorldEvent). MixedLogsOn h.network events (Some before) (Some after))
+    same.same_events h.logged) in
+    log_over k.network.network.carrier k.network k.events before after other moved k.logged
+
+pub either_log : (input before after other : List ℕ) → LogsEither input (Some before) (Some after)
+    → LogsEither input (Some before) (Some other) → after ≡ other
+either_log input before after other (inl h) (inl k) = one_log input before after other h k
+either_log input before after other (inr h) (inr k) = mixed_log input before after other h k
+either_log input before after other (inl h) (inr k) =
+    absurd (not_both input h.network k.network h.events k.events h.input k.input)
+either_log input before after other (inr h) (inl k) =
     absurd (not_both input k.network h.network k.events h.events k.input h.input)

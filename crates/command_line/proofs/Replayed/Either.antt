@@ -1,15 +1,16 @@
 -- An input of either kind, read and replayed.
 use Rattle.command_line.proofs.Common.{◌≡◌, ◌⊎◌, ◌<◌, inl, inr, ℕ, Bool, true, false, List, Option, Some, None, Result}
 use Rattle.command_line.proofs.Common.{Ok, Err, IfSome, IfErr, MatchResult, OnOk, refl, sym, subst, ◌∙◌, false≢true}
-use Rattle.command_line.proofs.Common.{Keeps, IsReplayFault, IsInputFault, IsSomeInput, IsInput, ReplaysOn, ScriptFault}
+use Rattle.command_line.proofs.Common.{Keeps, IsReplayFault, IsInputFault, IsInput, ReplaysOn, ScriptFault}
 use Rattle.command_line.proofs.Common.{Detail, TopologyFields, on_ok, MixedFields, MixedWorldEvent, IsEitherFault}
 use Rattle.command_line.proofs.Common.{IsEitherInput, RanEither, RanEitherInPart, ReplaysEither, StopsEither}
-use Rattle.command_line.proofs.Common.{IsMixedFault, MixedEndsOn, MixedReplaysOn, IsReadFault}
+use Rattle.command_line.proofs.Common.{IsMixedFault, MixedEndsOn, MixedReplaysOn}
 use Rattle.std.proofs.Common.{length}
 use Rattle.command_line.specs.Events.{Asked}
+use Rattle.command_line.specs.Input.{IsSomeInput}
 use Rattle.command_line.specs.Mixed.{IsMixedInput, IsSomeMixed, MixedReplaysInput, MixedStopsInput}
 use Rattle.command_line.specs.Replayed.{EndsOn}
-use Rattle.command_line.specs.Steps.{IsFollowFault}
+use Rattle.command_line.specs.Steps.{IsFollowFault, IsReadFault}
 use Rattle.command_line.specs.declared.fault.ScriptFault.TheVariants as fault
 
 -- ---- of any octets, and of known ones

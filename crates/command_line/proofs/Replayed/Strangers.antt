@@ -116,7 +116,7 @@ mixed_over_all carrier t book detail events a b r is h =
     subst (λ (k : CarrierKind). OnOk r (MixedReplaysOver k t book detail events a b)) (sym is) h
 
 -- such a carrier, with such hosts as strangers, is what the topology names
-subnet_named : (t : MixedFields) (k : Kept) (named : List Host) (F : List Host → Kept → Type 0)
+pub subnet_named : (t : MixedFields) (k : Kept) (named : List Host) (F : List Host → Kept → Type 0)
     → k ≡ subnet_of t.network → named ≡ t.strangers → F named k → F t.strangers (subnet_of t.network)
 subnet_named t k named F at same h = subst (λ (hosts : List Host). F hosts (subnet_of t.network)) same
     (subst (λ (x : Kept). F named x) at h)

@@ -1,5 +1,4 @@
-use Rattle.command_line.proofs.Common.{Calls, Sizes, None, ap, subst, ◌∙◌, given, AreSuited}
-use Rattle.std.proofs.Common.{reverse}
+use Rattle.command_line.proofs.Common.{Calls, Sizes, None, subst, given, AreSuited}
 use Rattle.net_sim.specs.Book.{Kept}
 use Rattle.book_judge.proofs.lemmas.{suited_with}
 use Rattle.command_line.proofs.Logs.{logs_world}
@@ -9,13 +8,11 @@ pub returns-in-Ok-clause-logged : goal.returns-in-Ok-clause-logged
 returns-in-Ok-clause-logged g c =
     let calls : Calls g.row.C.Denot = g.C.Carrier.calls in
     logs_world calls c.args.carrier c.in_ok-world.world c.replay_events.new.world c.args.events.items Sizes
-    c.crossings.result.now c.lives.result.now c.handed.result.now c.fates-fates.result.now None None
-    (g.W.Output.contents c.args.writer.now) (g.W.Output.contents c.write_log.new.writer) c.in_ok-world.ensures
+    c.book_of-book.result.now None None
+    (g.W.Output.contents c.args.writer.now) (g.W.Output.contents c.write_book.new.writer) c.in_ok-world.ensures
     c.in-Ok.ensures.replayed
     (given calls.seen c.replay_events.new.world c.book_of-book.result.now c.book_of-book.ensures.value c.book_of-book.ensures.promise c.book_of-book.ensures.fated c.book_of-book.ensures.whole c.book_of-book.ensures.arrived c.book_of-book.ensures.over c.book_of-book.ensures.contacts c.book_of-book.ensures.within c.book_of-book.ensures.lawful)
-    (c.crossings.ensures ∙ ap (λ (k : Kept). reverse k.book.crossings) c.book_of-book.ensures.value)
-    (c.lives.ensures ∙ ap (λ (k : Kept). k.book.lives) c.book_of-book.ensures.value) c.handed.ensures.value
-    c.fates-fates.ensures.value
+    c.book_of-book.ensures.value
     (subst (λ (k : Kept). AreSuited k.book.crossings k.book.lives k.fates) c.book_of-book.ensures.value
     (suited_with c.book_of-book.result.now.book.contacts c.book_of-book.result.now.book.crossings c.book_of-book.result.now.book.lives c.book_of-book.result.now.fates c.book_of-book.ensures.contacts c.book_of-book.ensures.over))
-    c.in_ok-write_log-in-Ok.ensures.written c.in_ok-write_log-in-Ok.ensures.valid
+    c.in_ok-write_book-in-Ok.ensures.written c.in_ok-write_book-in-Ok.ensures.valid

@@ -1,0 +1,71 @@
+-- What `--log` writes among strangers, and of an input of either kind.
+use Rattle.command_line.proofs.Common.{◌≡◌, inl, inr, ℕ, List, ◌++◌, Option, Result, OnOk, subst, sym, Appends, Calls}
+use Rattle.command_line.proofs.Common.{AreFated, Detail, Host, log_text, shown, subnet_calls, subnet_of, CarrierKind}
+use Rattle.command_line.proofs.Common.{TopologyFields, MixedFields, MixedWorldEvent, ScriptFault, IsInput, LogsOn}
+use Rattle.command_line.proofs.Common.{on_ok, world_book}
+use Rattle.book_log.specs.Log.{IsBook, strangers_text}
+use Rattle.mixed_worlds.specs.Laws.{KeepsAmong, KeepsToward}
+use Rattle.net_sim.specs.Book.{Kept}
+use Rattle.net_sim.specs.MixedWorlds.{MixedState, opening_mixed, strange_in}
+use Rattle.subnet.specs.Calls as subnet
+use Rattle.topology.specs.declared.network.CarrierKind.TheVariants as kind
+use Rattle.world_replay.specs.Kinds.{ReplaysBy, mixed_kind}
+use Rattle.world_replay.specs.Output as lines
+use Rattle.command_line.specs.Events.{Asked}
+use Rattle.command_line.specs.Mixed.{IsMixedInput}
+use Rattle.command_line.specs.MixedLogs.{LoggedEither, LogsEither, MixedLogsFrom, MixedLogsInput, MixedLogsOn}
+use Rattle.command_line.specs.MixedLogs.{MixedLogsOver}
+use Rattle.command_line.proofs.Replayed.Strangers.{subnet_named}
+
+-- ---- over a carrier
+
+pub logs_among : {C : Type 0} (calls : Calls C) (strangers : List Host) (carrier : C) (opening last : MixedState C)
+    (events : List MixedWorldEvent) (detail : Detail) (k : Kept) (x y before after : Option (List ℕ))
+    → opening ≡ opening_mixed (shown calls) carrier strangers
+    → lines.Writes detail (ReplaysBy (mixed_kind (shown calls)) opening events last) x y
+    → KeepsAmong (strange_in last) (calls.seen last.world.carrier).hosts last.world
+    → KeepsToward (strange_in last) last.world
+    → k ≡ last.world.kept → AreFated last.world.kept.book.lives last.world.kept.fates
+    → Appends before after (strangers_text strangers ++ log_text (world_book k))
+    → (AreFated k.book.lives k.fates → IsBook (world_book k)) → MixedLogsFrom calls strangers carrier events before after
+logs_among {C} calls strangers carrier opening last events detail k x y before after begins w among toward is fated written valid =
+    record {
+      last = last;
+      shows = w.shown;
+      replayed = subst (λ (s : MixedState C). ReplaysBy (mixed_kind (shown calls)) s events last w.shown) begins w.is_shown;
+      among = among;
+      toward = toward;
+      written = subst (λ (b : Kept). Appends before after (strangers_text strangers ++ log_text (world_book b))) is written;
+      valid = subst (λ (b : Kept). IsBook (world_book b)) is
+          (valid (subst (λ (b : Kept). AreFated b.book.lives b.fates) (sym is) fated));
+    }
+
+pub subnet_logged : {A E : Type 0} (t : MixedFields) (k : subnet.Kept) (named : List Host)
+    (events : List MixedWorldEvent) (a b : Option (List ℕ)) (r : Result A E) → t.network.carrier ≡ kind.Subnet
+    → k ≡ subnet_of t.network → named ≡ t.strangers → OnOk r (MixedLogsFrom subnet_calls named k events a b)
+    → OnOk r (MixedLogsOn t events a b)
+subnet_logged t k named events a b r is at same h =
+    subst (λ (c : CarrierKind). OnOk r (MixedLogsOver c t events a b)) (sym is)
+    (subnet_named t k named (λ hosts x. OnOk r (MixedLogsFrom subnet_calls hosts x events a b)) at same h)
+
+-- ---- of an input, and of octets of either kind
+
+pub mixed_logged : (octets : List ℕ) (network : MixedFields) (events : List MixedWorldEvent)
+    (r : Result (Unit {0}) ScriptFault) (a b : Option (List ℕ)) → IsMixedInput octets network events
+    → OnOk r (MixedLogsOn network events a b) → OnOk r (MixedLogsInput octets a b)
+mixed_logged octets network events r a b read h = on_ok r (λ (k : MixedLogsOn network events a b).
+    record { network = network; events = events; input = read; logged = k }) h
+
+pub plain_logged : (octets : List ℕ) (network : TopologyFields) (events : Asked)
+    (r : Result (Unit {0}) ScriptFault) (a b : Option (List ℕ)) → IsInput octets network events
+    → OnOk r (LogsOn network events a b) → OnOk r (LogsEither octets a b)
+plain_logged octets network events r a b read h = on_ok r (λ (k : LogsOn network events a b).
+    inl (record { network = network; events = events; input = read; logged = k })) h
+
+pub either_logged : (octets : List ℕ) (r : Result (Unit {0}) ScriptFault) (a b : Option (List ℕ))
+    → OnOk r (MixedLogsInput octets a b) → OnOk r (LogsEither octets a b)
+either_logged octets r a b h = on_ok r (λ (k : MixedLogsInput octets a b). inr k) h
+
+pub any_logged : (octets : List ℕ) (a b : Option (List ℕ)) → LogsEither octets a b → LoggedEither a b
+any_logged octets a b (inl h) = inl (record { network = h.network; events = h.events; logged = h.logged })
+any_logged octets a b (inr h) = inr (record { network = h.network; events = h.events; logged = h.logged })
