@@ -566,8 +566,6 @@ class Replay:
         >>> net.out("UCLA", "SRI", 5, b"LO") and net.log.splitlines()
         ['out 0/1 0/2 5 16 4C4F', 'end']
         """
-        if self.network.strangers():
-            raise Stopped("a network with strangers has no log yet")
         return self.program.run(octets_of(self.text), "--log").output
 
     def audit(self) -> str:
@@ -576,6 +574,8 @@ class Replay:
         >>> net.out("UCLA", "SRI") and net.settle() and net.audit()
         'kept'
         """
+        if self.network.strangers():
+            raise Stopped("the audit reads no log of a network with strangers yet")
         ran = self.program.run(self.log.encode("latin-1"), "--audit")
         return ran.output.strip() or ran.said.strip()
 

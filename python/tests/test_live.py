@@ -93,11 +93,11 @@ class Live(unittest.TestCase):
         with self.assertRaisesRegex(Stopped, "`out` is an event of raw networks and of strangers"):
             Replay(Network.joined("A-B")).out("A", "B")
 
-    def test_a_log_is_refused_by_its_name(self) -> None:
+    def test_a_log_says_first_who_is_a_stranger(self) -> None:
         net = Replay(MIXED)
-        for call in (lambda: net.log, net.audit):
-            with self.assertRaisesRegex(Stopped, "a network with strangers has no log yet"):
-                call()
+        self.assertEqual(net.log.splitlines(), [*(f"foreign {it}" for it in MIXED.strangers()), "end"])
+        with self.assertRaisesRegex(Stopped, "the audit reads no log of a network with strangers yet"):
+            net.audit()
 
 
 class Insides(unittest.TestCase):

@@ -96,10 +96,9 @@ class Replayed:
 
 
 def replayed(script: Script, program: Program | None = None, with_trace: bool = False) -> Replayed:
-    """The replay of a script. What crossed is worded as in the log, which keeps `nottaken` apart from `incomplete`; in a
-    network with strangers, which has no log yet, as it is printed."""
+    """The replay of a script. What crossed is worded as in the log, which keeps `nottaken` apart from `incomplete`."""
     program = program or found()
-    log = output(program, script, "--texts" if script.network.strangers() else "--log")
+    log = output(program, script, "--log")
     crossings = iter([it for it in log if it.split(" ")[0] in CROSSINGS])
     events = []
     for second, (entry, printed) in enumerate(zip(script.entries, attributed(program, script.network, script.events))):

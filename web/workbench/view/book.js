@@ -11,7 +11,7 @@ import { h, keep, say } from "./dom.js";
 /** @typedef {import("../topology.js").Network} Network */
 
 const MOST_OCTETS = 4 * 2 ** 20;
-const NO_LOG = "A network with strangers has no log yet. “Printed” has the lives of its book.";
+const UNTOLD = "What each clause says among strangers isn’t told yet. “Printed” has the lives of the book.";
 const MOST_SHOWN = 300; // lives and messages
 
 const WORDS = "Lives of connections and messages of data, by their lines in the log (--log). "
@@ -55,7 +55,7 @@ export class BookView {
 
     async run() {
         const { text } = this;
-        if (this.network?.strangers.length) return say(this.status, NO_LOG);
+        if (this.network?.strangers.length) return say(this.status, UNTOLD);
         const limits = { seconds: LIMITS.seconds, octets: MOST_OCTETS };
         say(this.status, "runs…");
         const outcome = await this.runner.run(["--log"], octetsOf(text), limits);
