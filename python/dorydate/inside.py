@@ -14,9 +14,6 @@ class CannotFollow(Exception):
     """Why the state inside a network isn't known."""
 
 
-NOT_YET = "a network with strangers has no log and no trace yet"
-
-
 def state_of(program: Program, network: Network, events: Sequence[Event]) -> State:
     """The state after events, which were not refused."""
     return folded(network, trace_of(program, network, events))
@@ -24,8 +21,6 @@ def state_of(program: Program, network: Network, events: Sequence[Event]) -> Sta
 
 def trace_of(program: Program, network: Network, events: Sequence[Event]) -> str:
     """The trace of events; in a network with host programs a quiet round of the network is one of them."""
-    if network.strangers():
-        raise CannotFollow(NOT_YET)
     ran = program.run(Script.of(network, events).octets(), "--trace")
     if ran.status:
         raise CannotFollow(ran.said.strip())

@@ -12,7 +12,7 @@ from dataclasses import dataclass
 from dorydate import script as events
 from dorydate.deeds import Deed, Octets, Step, Stopped, text_of, together
 from dorydate.drawing import drawn
-from dorydate.inside import NOT_YET, CannotFollow, state_of, trace_of
+from dorydate.inside import CannotFollow, state_of, trace_of
 from dorydate.marks import LAST, Marked, Unmarked, each_printed, mark_for
 from dorydate.network import Host, HostName, ImpName, Network
 from dorydate.printed import flow_of, kind_of, matches, may_match, without_text
@@ -567,7 +567,7 @@ class Replay:
         ['out 0/1 0/2 5 16 4C4F', 'end']
         """
         if self.network.strangers():
-            raise Stopped(NOT_YET)
+            raise Stopped("a network with strangers has no log yet")
         return self.program.run(octets_of(self.text), "--log").output
 
     def audit(self) -> str:

@@ -171,6 +171,7 @@ class Dissected(unittest.TestCase):
 
 
 TRACED = ("first-message", "rerouted-over-a-triangle", "a-cut-line-and-the-way-round", "arpanet-of-december-1969", "lo-of-login")
+AMONG_STRANGERS = "data-past-the-grant"
 
 
 class Timelines(unittest.TestCase):
@@ -227,6 +228,15 @@ class Timelines(unittest.TestCase):
                 self.assertEqual(distances, known.distances)
                 self.assertEqual(last[f"imp {imp.number}: packets"], {"store": len(known.store), "channels": sum(map(len, known.sending))})
             self.assertEqual(last["messages without answer"]["messages"], len(state.outstanding()))
+
+    def test_what_programs_hold_beside_strangers(self) -> None:
+        what, events = self.events(AMONG_STRANGERS)
+        allocations = [it["args"] for it in events if it["ph"] == "C" and it["name"] == "0/1 socket 32: allocation"]
+        granted, taken = {"messages": 2, "bits": 16}, {"messages": 1, "bits": 0}
+        self.assertEqual(allocations[-2:], [granted, taken])
+        by_script = [str(it.event) for it in what.events]
+        self.assertEqual([it.event for it in what.moments()].count("take 0/2"), by_script.count("take 0/2"))
+        self.assertFalse([it["name"] for it in events if it["name"].startswith("0/2 socket")])
 
     def test_allocations_of_ends(self) -> None:
         ends = [{"socket": 33, "allocation": {"messages": 2, "bits": 80}}]

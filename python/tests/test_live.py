@@ -2,16 +2,20 @@
 
 from __future__ import annotations
 
+import json
 import re
 import unittest
 from collections.abc import Callable
 
 from dorydate import BadLine, BadNetwork, Host, Imp, Network, Replay, Script, Stopped, Text
-from dorydate.inside import CannotFollow
+from dorydate.script import Flow
+from dorydate.state import folded
+from dorydate.trace import opening, records
 from workshop.parts import ROOT, text_of
 
 MIXED = Network.joined("UCLA-MINE", foreign=["MINE"], carrier="plain")
 RST = bytes.fromhex("00080001000C")
+RRP = bytes.fromhex("00080001000D")
 
 
 def topology(foreign: str, raw: bool = False) -> str:
@@ -64,7 +68,7 @@ class Live(unittest.TestCase):
         self.assertEqual(net.offer("UCLA").printed, ["out 0/1 0/2 0 48"])
         answer, message, nothing = mine.take(), mine.take(), mine.take()
         self.assertEqual((answer.printed, answer.text), (["answer rfnm 0/2 0/1 0"], None))
-        self.assertEqual((message.printed, message.text), (["in 0/1 0/2 0 48"], Text.of(bytes.fromhex("00080001000D"))))
+        self.assertEqual((message.printed, message.text), (["in 0/1 0/2 0 48"], Text.of(RRP)))
         self.assertEqual((nothing.printed, nothing.text), ([], None))
         self.assertEqual(Replay.of(net.script).printed, net.printed)
 
@@ -89,15 +93,47 @@ class Live(unittest.TestCase):
         with self.assertRaisesRegex(Stopped, "`out` is an event of raw networks and of strangers"):
             Replay(Network.joined("A-B")).out("A", "B")
 
-    def test_what_strangers_do_not_have_yet(self) -> None:
+    def test_a_log_is_refused_by_its_name(self) -> None:
         net = Replay(MIXED)
         for call in (lambda: net.log, net.audit):
-            with self.assertRaisesRegex(Stopped, "no log and no trace yet"):
+            with self.assertRaisesRegex(Stopped, "a network with strangers has no log yet"):
                 call()
-        for call in (lambda: net.trace, lambda: str(net.state)):
-            with self.assertRaisesRegex(CannotFollow, "no log and no trace yet"):
-                call()
-        self.assertTrue(net._repr_svg_().endswith("</svg>"))
+
+
+class Insides(unittest.TestCase):
+    """What is inside a network with strangers, by its trace."""
+
+    def test_a_trace_says_who_is_a_stranger_and_has_programs_of_the_others(self) -> None:
+        first = opening(Replay(MIXED).trace)
+        self.assertEqual((first["foreign"], [*first["programs"]], [*first["services"]]), (["0/2"], ["0/1"], ["0/1"]))
+        self.assertNotIn("foreign", opening(Replay(Network.joined("A-B")).trace))
+
+    def test_events_of_a_stranger_are_traced(self) -> None:
+        net = Replay(MIXED)
+        mine = net.foreign("MINE")
+        self.assertTrue(mine.out("UCLA", text=RST) and net.calm(1) and mine.take())
+        told = [json.loads(it) for it in records(net.trace)]
+        self.assertEqual([it["event"].split(" ")[0] for it in told], ["out", "take", "offer", "take"])
+        printed = [it["printed"] for it in told if it["round"] == 0]
+        self.assertEqual(printed, [["out 0/2 0/1 0 48"], ["answer rfnm 0/2 0/1 0"]])
+        hers, mines = "host 0/1", "host 0/2"
+        self.assertEqual([[*it["parts"]] for it in told], [[hers], [hers, mines], [mines], [mines]])
+        self.assertEqual([[*it["programs"]] for it in told], [[], ["0/1"], ["0/1"], []])
+
+    def test_a_trace_is_folded_to_what_is_inside(self) -> None:
+        net = Replay(Network.joined("UCLA-MINE", foreign=["MINE"]))
+        net.calm(2)
+        net.foreign("MINE").out("UCLA", text=RST)
+        self.assertEqual([str(it) for it in net.state.outstanding()], ["0/2 0/1 0"])
+        self.assertEqual([str(it) for it in net.state.frames()], ["line 0 - 0: message 0 of flow 0/2 0/1 0"])
+        self.assertIn(">1</text>", net._repr_svg_())
+        net.calm(2)
+        imp = net.state.imp(2)
+        assert imp
+        waits = [(it.flow, it.text) for it in imp.hosts[0].messages]
+        self.assertEqual(waits, [(Flow(Host(0, 1), Host(0, 2), 0), Text.of(RRP))])
+        self.assertEqual([it.kind for it in imp.hosts[0].answers], ["rfnm"])
+        self.assertEqual(net.state, folded(net.network, net.trace))
 
     def test_the_examples_are_replayed(self) -> None:
         for name in ("a-stolen-socket", "a-request-that-takes-a-listener"):

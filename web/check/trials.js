@@ -127,6 +127,9 @@ export async function sending({ $, all, one, key, focused, load, changed, pause,
     want(!(await menuOf("0/1")), "a host with a program is asked what it sends");
     const asks = await menuOf("1/2");
     want(asks, "a stranger isn't asked what it sends");
+    want(one("#menu h2").textContent === "Host 1/2 (a stranger)", "a stranger's menu doesn't say what it is");
+    const strangers = all("#network .stranger title").map((it) => it.textContent);
+    want(/^Host 1\/2, a stranger\b/.test(strangers.join("; ")), "the map shows as strangers: " + strangers.join("; "));
     if (!asks) return;
     asks.click();
     await pause(100);

@@ -59,7 +59,8 @@ export function partTitle(state, part) {
             return capital(impName(network, part.imp));
     }
     const machine = machineOf(network, part.host);
-    return `${capital(hostName(network, part.host))}${machine ? ` (${machine}, host ${part.host})` : ""}`;
+    const name = `${capital(hostName(network, part.host))}${machine ? ` (${machine}, host ${part.host})` : ""}`;
+    return network.strangers.includes(part.host) ? `${name} (a stranger)` : name;
 }
 
 /**

@@ -21,10 +21,9 @@ import { isOfHost, isQuiet, put, REST, TraceReader } from "./trace.js";
 /** @typedef {{seconds: number, octets: number}} Limits */
 
 /**
- * The trace of a network with host programs: its parts at the opening, and its events with all that each changed. Where
- * there are strangers that isn't known, and they take nothing in a round (strangers.js).
+ * The trace of a network with host programs: its parts at the opening, and its events with all that each changed.
  *
- * @typedef {{opening: {[name: string]: Part}, steps: Moment[], isKnown: boolean}} Traced
+ * @typedef {{opening: {[name: string]: Part}, steps: Moment[]}} Traced
  */
 
 /** A line of a raw script, the step that it belongs to, and whether it is of a quiet round that is spelled out. */
@@ -36,7 +35,7 @@ const MOST_OCTETS = 1_048_576;
 /** Of how many moments a replay may be, and from how many on the uneventful ones of its rounds are joined. */
 const [MOST_MOMENTS, MOST_SPELLED] = [60_000, 20_000];
 
-/** What does a round in which no host sends. */
+/** What does a round in which no host sends, and all take. */
 const ROUND = "calm 1";
 
 const INNER = [
@@ -68,11 +67,11 @@ const INNER = [
  * @returns {Promise<Moment[] | null>}
  */
 export async function driven(run, input, network, traced, limits) {
-    if (network.plain && traced.isKnown) return traced.steps;
+    if (network.plain) return traced.steps;
     const head = rawHead(input);
     const frames = await framesOfRounds(run, head, network, traced, limits);
     if (!frames) return null;
-    const lines = rawScript(traced, (step) => quietRound(network, frames.get(step) ?? []));
+    const lines = rawScript(network, traced, (step) => quietRound(network, frames.get(step) ?? []));
     const text = [...head, ...lines.map((line) => line.text), ""].join("\n");
     if (text.length > MOST_OCTETS) return null;
     const joined = new Joined(network, lines, traced);
@@ -111,19 +110,21 @@ function endOfRound(steps, from) {
 }
 
 /**
- * The raw script. A quiet round is one line with the takings after it, unless some host sends in its round.
+ * The raw script. A quiet round is one line with the takings after it, unless some host sends in its round, or some are
+ * strangers, which take nothing in a round.
  *
+ * @param {Network} network
  * @param {Traced} traced
  * @param {(step: number) => string[]} quietLines the lines of a quiet round that is spelled out
  * @returns {Line[]}
  */
-function rawScript({ steps, isKnown }, quietLines) {
+function rawScript({ strangers }, { steps }, quietLines) {
     /** @type {Line[]} */
     const lines = [];
     for (let from = 0; from < steps.length; ) {
         const to = endOfRound(steps, from);
         const mine = steps.slice(from, to);
-        if (isKnown && isQuiet(mine[0]) && !mine.some((it) => it.words[0] === "offer")) {
+        if (!strangers.length && isQuiet(mine[0]) && !mine.some((it) => it.words[0] === "offer")) {
             lines.push({ text: ROUND, step: from, quiet: false });
         } else {
             mine.forEach((it, place) => {
@@ -154,7 +155,6 @@ function linesOf({ words, printed }) {
  * @param {number[]} frames how many arrive, line by line, first `+` and then `-`
  */
 function quietRound(network, frames) {
-    if (network.plain) return [];
     const lines = network.sites.flatMap(({ number }) => [`route ${number}`, `resend ${number}`]);
     frames.forEach((count, place) => {
         const way = `${place >> 1} ${place % 2 ? "-" : "+"} 0`;
@@ -175,11 +175,11 @@ function quietRound(network, frames) {
  * @returns {Promise<Map<number, number[]> | null>}
  */
 async function framesOfRounds(run, head, network, traced, limits) {
-    if (network.plain) return new Map();
-    const spelled = [...new Set(rawScript(traced, () => [ROUND]).flatMap((it) => (it.quiet ? [it.step] : [])))];
+    const inRounds = rawScript(network, traced, () => [ROUND]);
+    const spelled = [...new Set(inRounds.flatMap((it) => (it.quiet ? [it.step] : [])))];
     if (spelled.length === 0) return new Map();
     for (let most = 8; most <= 256; most *= 2) {
-        const padded = rawScript(traced, () => paddedRound(network, most));
+        const padded = rawScript(network, traced, () => paddedRound(network, most));
         const text = [...head, ...padded.map((line) => line.text), ""].join("\n");
         if (text.length > MOST_OCTETS) return null;
         const outcome = await run([], octetsOf(text), limits);
@@ -265,9 +265,8 @@ class Joined {
      * @param {Line[]} lines
      * @param {Traced} traced
      */
-    constructor(network, lines, { opening, steps, isKnown }) {
+    constructor(network, lines, { opening, steps }) {
         this.network = network;
-        this.isKnown = isKnown;
         this.lines = lines;
         this.steps = steps;
         this.isLarge = isLarge(network, steps);
@@ -308,7 +307,7 @@ class Joined {
         this.records = [];
         const parts = moments?.flatMap((it) => it.parts) ?? [];
         const shown = moments && this.isLarge && isQuiet(step) ? condensed(moments, this.inside) : moments;
-        const isAlike = areAlike(this.inside, parts, this.real, this.isKnown ? step.parts : parts);
+        const isAlike = areAlike(this.inside, parts, this.real, step.parts);
         if (!this.moments || !shown || !isAlike) this.moments = null;
         else this.moments.push(...shown);
         if (this.moments && this.moments.length > MOST_MOMENTS) this.moments = null;

@@ -551,6 +551,13 @@ const STRANGERS = {
             "None: the message is answered by ERR, and the whole grant is left.",
         ],
     ],
+    "a-trace-among-strangers": [
+        [
+            2,
+            "The stranger's RST waits for host 0/2. What waits for the stranger after this round?",
+            "The RFNM for its RST, and an RRP: in a calm a stranger takes nothing.",
+        ],
+    ],
 };
 
 /** The questions of each lesson, by its name. */

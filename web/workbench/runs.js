@@ -3,13 +3,12 @@
  * that it left.
  *
  * The trace of a raw network is all that is needed. Where hosts have programs it has a quiet round as one event;
- * `driven.js` finds out what happens within it. Networks with strangers have no trace yet (`strangers.js`).
+ * `driven.js` finds out what happens within it.
  */
 
 import { driven } from "./driven.js";
 import { octetsOf } from "./octets.js";
 import { readInput } from "./script.js";
-import { strangersReplay } from "./strangers.js";
 import { readTopology } from "./topology.js";
 import { TraceReader } from "./trace.js";
 
@@ -71,7 +70,6 @@ export async function replay(run, text, limits = LIMITS, opened = () => {}) {
     const { ended, status, stderr } = checked;
     if (ended !== "exit" || status !== 0) return { input, status, said: stderr };
     const network = readTopology(input.head.join("\n"));
-    if (network.strangers.length) return strangersReplay(run, input, network, limits);
     const nothing = { input, network, moments: [], opening: {}, cut: "" };
     const reader = new TraceReader(network.raw ? Infinity : MOST_STEPS, (opening) => opened({ ...nothing, opening }));
     const outcome = await run(["--trace"], octetsOf(text), limits, (octets) => reader.add(octets));
@@ -122,6 +120,6 @@ async function programReplay(run, { input, network, moments, opening, cut: why }
     const steps = moments.map((it) => (it.round ? it : { ...it, words: input.events[it.event].words }));
     const cut = why || (steps.length < MOST_STEPS ? "" : `Only the first ${MOST_STEPS} events are shown.`);
     const isLarge = octets > MOST_WITHIN;
-    const within = cut || isLarge ? null : await driven(run, input, network, { opening, steps, isKnown: true }, limits);
+    const within = cut || isLarge ? null : await driven(run, input, network, { opening, steps }, limits);
     return { input, network, moments: within ?? steps, opening, cut };
 }

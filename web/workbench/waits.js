@@ -271,7 +271,7 @@ function connectionWaits(state, talk, host) {
     const running = state.services(host)?.running ?? [];
     const users = running.filter((it) => it.kind === "user" && !it.over).map((it) => it.asked);
     const holes = (/** @type {string} */ peer) => ({ host: hostName(network, host), peer: hostName(network, peer) });
-    const facts = (/** @type {string} */ peer) => ({ "peer down": !state.program(peer) });
+    const facts = (/** @type {string} */ peer) => ({ "peer down": isDown(state, peer) });
     return [
         ...(state.program(host)?.pairs ?? []).flatMap(({ peer, phase, ends, busy }) => [
             ...(phase === "closed" || phase === "ready" ? [] : [wait("contact", facts(peer), holes(peer))]),
@@ -288,6 +288,16 @@ function connectionWaits(state, talk, host) {
         ]),
         ...users.map((it) => wait("initial", facts(it.host), { ...holes(it.host), socket: it.listen })),
     ];
+}
+
+/**
+ * Whether a host is down: one with a program has none then.
+ *
+ * @param {State} state
+ * @param {string} host
+ */
+function isDown(state, host) {
+    return state.network.strangers.includes(host) ? !state.isUp(host) : !state.program(host);
 }
 
 /**

@@ -60,7 +60,7 @@ world_front : {C : Type 0} (calls : Calls C) → AreSettled calls → (opening :
 world_front calls settled opening events part lives whole h k = worlds.first_part calls settled (opening_world (shown calls) opening) h.last k.last events part whole h.stopped k.replayed
 
 -- a text that begins with another
-begins : (before part whole first rest behind : List ℕ) → part ≡ before ++ first → whole ≡ before ++ ((first ++ rest) ++ behind) → (more : List ℕ) × (whole ≡ part ++ more)
+pub begins : (before part whole first rest behind : List ℕ) → part ≡ before ++ first → whole ≡ before ++ ((first ++ rest) ++ behind) → (more : List ℕ) × (whole ≡ part ++ more)
 begins before part whole first rest behind is all = (
   rest ++ behind,
   all ∙ ap (λ xs. before ++ xs) (append_assoc first rest behind) ∙ sym (append_assoc before first (rest ++ behind)) ∙ ap (λ xs. xs ++ (rest ++ behind)) (sym is),

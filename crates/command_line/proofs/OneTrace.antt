@@ -36,7 +36,7 @@ from_once calls inside settled t opening events before after other h k =
 -- ---- the first part of a trace
 
 -- lines of which some are the first
-text_front : (before part whole : List ℕ) (lines all more : List (List ℕ)) → part ≡ before ++ text_of (λ line. line) lines → whole ≡ before ++ text_of (λ line. line) all → all ≡ lines ++ more → (rest : List ℕ) × (whole ≡ part ++ rest)
+pub text_front : (before part whole : List ℕ) (lines all more : List (List ℕ)) → part ≡ before ++ text_of (λ line. line) lines → whole ≡ before ++ text_of (λ line. line) all → all ≡ lines ++ more → (rest : List ℕ) × (whole ≡ part ++ rest)
 text_front before part whole lines all more is are parts =
     let text : List (List ℕ) → List ℕ = text_of (λ line. line) in (
       text more,
@@ -93,7 +93,7 @@ in_calm calls members settled spot round old e new other lines more (inr h) (inr
 told_round : {C : Type 0} (calls : Calls C) (members : C → AllParts) → AreSettled calls → (spot : Spot) → HappensOnce (TellsRound calls members spot)
 told_round calls members settled spot old round new other lines more h k = round_once (TellsInCalm calls members spot round) (in_calm calls members settled spot round) old new other lines more h k
 
-at_once : {C : Type 0} (calls : Calls C) (members : C → AllParts) → AreSettled calls → HappensOnce (TellsIn calls members)
+pub at_once : {C : Type 0} (calls : Calls C) (members : C → AllParts) → AreSettled calls → HappensOnce (TellsIn calls members)
 at_once calls members settled old (spot, worlds.Happen e) new other lines more h k = told_once calls members settled spot 0 old (worlds.Happen e) new other lines more h k
 at_once calls members settled old (spot, worlds.Calm rounds) new other lines more h k = in_turn_once (TellsRound calls members spot) (told_round calls members settled spot) old (first_rounds rounds) new other lines more h k
 
@@ -117,7 +117,7 @@ in_round : {C : Type 0} (calls : Calls C) (members : C → AllParts) → AreSett
 in_round calls members settled spot old round new other part whole h k =
     round_front (TellsInCalm calls members spot round) (StopsOne calls) (in_calm calls members settled spot round) (λ before e after last some all ends whole. no_line calls before e after some all ends) old new other part whole h k
 
-at_front : {C : Type 0} (calls : Calls C) (members : C → AllParts) → AreSettled calls → ShowsFront (EndsIn calls members (StopsOne calls)) (TellsIn calls members)
+pub at_front : {C : Type 0} (calls : Calls C) (members : C → AllParts) → AreSettled calls → ShowsFront (EndsIn calls members (StopsOne calls)) (TellsIn calls members)
 at_front calls members settled old (spot, worlds.Happen e) new other part lines h k = no_line calls old e new part lines h
 at_front {C} calls members settled old (spot, worlds.Calm rounds) new other part lines h k =
     let Stops = λ (o : WorldState C) (n : ℕ) (w : WorldState C) (ls : List (List ℕ)). EndsRound (TellsInCalm calls members spot n) (StopsOne calls) o w ls in

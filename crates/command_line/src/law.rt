@@ -25,12 +25,13 @@ ghost use Rattle.command_line.specs.Audits.{IsKeptLog, IsSafeLog, KeepsEnds, Say
 ghost use Rattle.command_line.specs.Events.{is_raw};
 ghost use Rattle.command_line.specs.Laws.{FirstPart, OneBook, OneOutput, OneReplay, WorkedLines, WorkedLives};
 ghost use Rattle.command_line.specs.Lived.{AreLived};
-ghost use Rattle.command_line.specs.Logs.{Logged, LogsInput};
+ghost use Rattle.command_line.specs.Logs.{Logged};
+ghost use Rattle.command_line.specs.MixedLogs.{LogsEither};
+ghost use Rattle.command_line.specs.MixedTraced.{TraceStopsEither, TracesEither};
 ghost use Rattle.command_line.specs.Printed.{PrintsBook, PrintsPart};
 ghost use Rattle.command_line.specs.Program.{Closes, EndsTask, Sides};
 ghost use Rattle.command_line.specs.Recorded.{PrintsTrace};
 ghost use Rattle.command_line.specs.Replayed.{Ran, RanInPart};
-ghost use Rattle.command_line.specs.Traced.{TraceStops, TracesInput};
 ghost use Rattle.command_line.specs.Worked.{here, life_one, there, told_one, took_one};
 ghost use Rattle.command_line.specs.WorkedSides.{Never, NotSaid, matched_past, starts};
 ghost use Rattle.command_line.specs.WorkedSides.{drained, no_options, only_check, out_of_memory, unread, wrote};
@@ -43,7 +44,7 @@ ghost use Rattle.command_line.specs.declared.verdict.Verdict.{Verdict};
 
 /// The input determines the output, with the book and without it, with texts and without them. It asks for one list of
 /// events over the carrier of one topology, and neither plain mailboxes nor a subnet leave their replay a choice,
-/// without host programs or with them.
+/// without host programs or with them, nor where strangers are among them.
 pub fn one_output()
     ensures { OneOutput }
 {}
@@ -55,13 +56,13 @@ pub fn first_part()
 
 /// The input determines its trace, too; and what was written before memory ran out is a prefix of the whole trace.
 pub fn one_trace()
-    ensures whole { (input before after other : List ℕ) → TracesInput input (Some before) (Some after) → TracesInput input (Some before) (Some other) → after ≡ other }
-    ensures part { (input before part whole : List ℕ) → TraceStops input (Some before) (Some part) → TracesInput input (Some before) (Some whole) → (rest : List ℕ) × (whole ≡ part ++ rest) }
+    ensures whole { (input before after other : List ℕ) → TracesEither input (Some before) (Some after) → TracesEither input (Some before) (Some other) → after ≡ other }
+    ensures part { (input before part whole : List ℕ) → TraceStopsEither input (Some before) (Some part) → TracesEither input (Some before) (Some whole) → (rest : List ℕ) × (whole ≡ part ++ rest) }
 {}
 
 /// The input determines its log.
 pub fn one_log()
-    ensures { (input before after other : List ℕ) → LogsInput input (Some before) (Some after) → LogsInput input (Some before) (Some other) → after ≡ other }
+    ensures { (input before after other : List ℕ) → LogsEither input (Some before) (Some after) → LogsEither input (Some before) (Some other) → after ≡ other }
 {}
 
 /// The outputs of one input are of one replay. Whether the book and texts are asked for only decides how much of it is

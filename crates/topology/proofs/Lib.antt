@@ -1,6 +1,7 @@
 pub mod Described
 mod Documents
 mod Hosts
+mod OneKind
 mod Strangers
 pub mod Order
 pub mod Sites

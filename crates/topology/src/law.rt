@@ -1,13 +1,13 @@
 //! What topologies promise, as laws over their definitions. The functions here do nothing: their clauses are the
 //! laws.
 
-ghost use Rattle.std.specs.Prelude.{◌≡◌, ◌≤◌, length, true, false, Some, None, ◌∷◌, [], codes, option_map, pos, negsuc};
+ghost use Rattle.std.specs.Prelude.{◌≡◌, ◌≤◌, ℕ, List, length, true, false, Some, None, ◌∷◌, [], codes, option_map, pos, negsuc};
 ghost use Rattle.toml.specs.Data.{no_items, item, no_members, member, integer, array, table, string, boolean};
 ghost use Rattle.interface.specs.Host.{Host, is_host};
 ghost use Rattle.topology.specs.declared.network.CarrierKind.TheVariants as kind;
 ghost use Rattle.topology.specs.Examples.{document, naming, raw_document, imp_table, line_table, two_imps, alone, one_line, imp_hosts, line, five_lines, one_stranger, strangers_of};
-ghost use Rattle.topology.specs.Topology.{AreSites, TopologyFields, most_network_lines, IsTopology, hosts_from, hosts_of, has_host, has_ports, imp_of, sites_of, topology_of};
-ghost use Rattle.topology.specs.Mixed.{MixedFields, mixed_of};
+ghost use Rattle.topology.specs.Topology.{AreSites, TopologyFields, most_network_lines, IsTopology, hosts_from, hosts_of, has_host, has_ports, imp_of, sites_of, topology_in, topology_of};
+ghost use Rattle.topology.specs.Mixed.{MixedFields, mixed_in, mixed_of};
 ghost use Rattle.topology.specs.Laws.{WorkedSites};
 
 /// The hosts of a topology are those that its IMPs have.
@@ -18,6 +18,11 @@ pub fn hosts_of_imps()
 /// The hosts of a topology are those that its sites list, one IMP after the other.
 pub fn hosts_of_sites()
     ensures { (t : TopologyFields) → IsTopology t → hosts_of t ≡ hosts_from 0 (sites_of t) }
+{}
+
+/// A document describes a topology with strangers or one without, and never both.
+pub fn one_kind()
+    ensures { (text : List ℕ) (t : TopologyFields) (m : MixedFields) → topology_in text ≡ Some t → mixed_in text ≡ Some m → ⊥ }
 {}
 
 /// No IMP has the number 0, the others go up to the greatest, and none has more than four hosts.

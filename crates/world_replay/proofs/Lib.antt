@@ -11,6 +11,7 @@ pub mod Gained
 pub mod Grown
 pub mod ByKind
 pub mod Mixed
+mod MixedOnce
 pub mod News
 pub mod Replayable
 pub mod Replays

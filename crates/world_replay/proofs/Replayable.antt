@@ -32,7 +32,7 @@ pub lasts_there : (r : Result (Unit {0}) MixedFault) (a : Answer) → r ≡ mixe
     → stops a ≡ false
 lasts_there r a is on = sym (same_stops a) ∙ ap mixed_stops (sym is) ∙ on
 
-stops_there : (r : Result (Unit {0}) MixedFault) (a : Answer) → r ≡ mixed_answer a → mixed_stops r ≡ true
+pub stops_there : (r : Result (Unit {0}) MixedFault) (a : Answer) → r ≡ mixed_answer a → mixed_stops r ≡ true
     → stops a ≡ true
 stops_there r a is halts = sym (same_stops a) ∙ ap mixed_stops (sym is) ∙ halts
 

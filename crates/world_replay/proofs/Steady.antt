@@ -1,5 +1,5 @@
 -- A settled carrier leaves a world no choice.
-use Rattle.world_replay.proofs.Common.{◌≡◌, inl, inr, ℕ, zero, suc, Bool, true, false, List, [], ◌∷◌, length, nat_lt, Option, Some, None, Result, Ok, Err, refl, sym, ap, subst, ◌∙◌, false≢true, MatchBool, Calls, crossing_of, step_crossings, is_memory, Host, Kept, WorldState, seat_of, services_of, up_in, with_carrier, world_moved, changed, with_server, with_user, TypeGives, DoesOrHalts, stops, Refuses, Does, Halts, Passes, OfferEnds, OfferGives, TakeEnds, TakeGives, NetEnds, QuietEnds, AskGives, AtProgram, AtSeat, StepGives, Repeats, TurnsOf, Calms, CalmGives, Event, Net, Quiet, Offer, Take, Ask, Server, User, Typed, WorldFault, Carrier, Program, Seat, GoesOn, AreSettled, accepted, NcpState, refusal, next_out, offered, NcpFault, Request, line_bits}
+use Rattle.world_replay.proofs.Common.{FetchEnds, OutEnds, ◌≡◌, inl, inr, ℕ, zero, suc, Bool, true, false, List, [], ◌∷◌, length, nat_lt, Option, Some, None, Result, Ok, Err, refl, sym, ap, subst, ◌∙◌, false≢true, MatchBool, Calls, crossing_of, step_crossings, is_memory, Host, Kept, WorldState, seat_of, services_of, up_in, with_carrier, world_moved, changed, with_server, with_user, TypeGives, DoesOrHalts, stops, Refuses, Does, Halts, Passes, OfferEnds, OfferGives, TakeEnds, TakeGives, NetEnds, QuietEnds, AskGives, AtProgram, AtSeat, StepGives, Repeats, TurnsOf, Calms, CalmGives, Event, Net, Quiet, Offer, Take, Ask, Server, User, Typed, WorldFault, Carrier, Program, Seat, GoesOn, AreSettled, accepted, NcpState, refusal, next_out, offered, NcpFault, Request, line_bits}
 use Rattle.replay.specs.Replay.{outcome_of}
 use Rattle.std.proofs.Common.{◌||◌}
 use Rattle.interface.specs.Calls.{is_halt}
@@ -9,6 +9,7 @@ use Rattle.interface.specs.declared.crossing.Crossing.TheVariants as crossing
 use Rattle.interface.specs.declared.crossing.Inbound.{Inbound}
 use Rattle.interface.specs.declared.event.NetEvent.{NetEvent}
 use Rattle.interface.specs.declared.message.HostMessage.{HostMessage}
+use Rattle.net_sim.specs.MixedWorlds.{FetchGives, OutGives}
 use Rattle.net_sim.specs.World.{wants_memory, EventGives}
 use Rattle.replay.specs.Settled.{SameEnd}
 use Rattle.sockets.specs.declared.request.Request.TheVariants as request
@@ -23,7 +24,7 @@ pub record Steady {C : Type 0} (k : Kept) (P : Result (Unit {0}) WorldFault → 
   pub grows : (r : Result (Unit {0}) WorldFault) (new : WorldState C) → P r new → Grew k new.kept
   pub first : (r q : Result (Unit {0}) WorldFault) (new other : WorldState C) → P r new → stops r ≡ true → P q other → stops q ≡ false → Grew new.kept other.kept
 
-no_stop : (r : Result (Unit {0}) WorldFault) → stops r ≡ true → stops r ≡ false → ⊥
+pub no_stop : (r : Result (Unit {0}) WorldFault) → stops r ≡ true → stops r ≡ false → ⊥
 no_stop r h k = false≢true (sym k ∙ h)
 
 steady_done : {C : Type 0} (done : WorldState C) → Steady done.kept (Does done)
@@ -178,6 +179,56 @@ module _ {C : Type 0} (calls : Calls C) (settled : AreSettled calls) where
   take_once h s old r q new other g hg k kg =
       ends_once (calls.takes old.carrier h) (taken_by h s old) old r q new other (λ a b c d ca ga cb gb. settled.takes_once old.carrier h a b c d ca (goes_of a ga) cb (goes_of b gb))
       (take_ends h s old g.0 g.1 r new g.2 g.3 hg) (take_ends h s old k.0 k.1 q other k.2 k.3 kg)
+
+  -- what a stranger says, and what it takes
+  abbrev said_by : HostMessage → WorldState C → Unit {0} → C → WorldState C
+  said_by m old done c = changed c (crossing.Out m ∷ []) old
+
+  out_ends : (m : HostMessage) (old : WorldState C) (a : Result (Unit {0}) CarrierFault) (c : C)
+      (r : Result (Unit {0}) WorldFault) (new : WorldState C)
+      → calls.offers old.carrier m a c → OutEnds m a c old r new → stops r ≡ false
+      → Ends (calls.offers old.carrier m) (said_by m old) old r new
+  out_ends m old (Ok done) c r new call ends goes = elim ends [
+    | inl d ↦ record { answer = Ok done; c = c; called = call; goes = tt; is = d.0; leaves = d.1 }
+    | inr x ↦ absurd (halts_stop c old r new x goes)
+  ]
+  out_ends m old (Err f) c r new call ends goes =
+      let on = passes_goes f c old r new ends goes in
+      record { answer = Err f; c = c; called = call; goes = on; is = ends.0; leaves = ends.1 }
+
+  pub out_once : (m : HostMessage) (old : WorldState C) (r q : Result (Unit {0}) WorldFault) (new other : WorldState C)
+      → OutGives calls m old r new → stops r ≡ false → OutGives calls m old q other → stops q ≡ false
+      → (r ≡ q) × (new ≡ other)
+  out_once m old r q new other g hg k kg =
+      ends_once (calls.offers old.carrier m) (said_by m old) old r q new other
+      (λ a b c d ca ga cb gb. settled.offers_once old.carrier m a b c d ca (goes_as a ga) cb (goes_as b gb))
+      (out_ends m old g.0 g.1 r new g.2 g.3 hg) (out_ends m old k.0 k.1 q other k.2 k.3 kg)
+
+  abbrev fetched_by : WorldState C → Option Inbound → C → WorldState C
+  fetched_by old None c = with_carrier c old
+  fetched_by old (Some i) c = changed c (crossing_of i ∷ []) old
+
+  fetch_ends : (h : Host) (old : WorldState C) (a : Result (Option Inbound) CarrierFault) (c : C)
+      (r : Result (Unit {0}) WorldFault) (new : WorldState C)
+      → calls.takes old.carrier h a c → FetchEnds a c old r new → stops r ≡ false
+      → Ends (calls.takes old.carrier h) (fetched_by old) old r new
+  fetch_ends h old (Ok None) c r new call ends goes =
+      record { answer = Ok None; c = c; called = call; goes = tt; is = ends.0; leaves = ends.1 }
+  fetch_ends h old (Ok (Some i)) c r new call ends goes = elim ends [
+    | inl d ↦ record { answer = Ok (Some i); c = c; called = call; goes = tt; is = d.0; leaves = d.1 }
+    | inr x ↦ absurd (halts_stop c old r new x goes)
+  ]
+  fetch_ends h old (Err f) c r new call ends goes =
+      let on = passes_goes f c old r new ends goes in
+      record { answer = Err f; c = c; called = call; goes = on; is = ends.0; leaves = ends.1 }
+
+  pub fetch_once : (h : Host) (old : WorldState C) (r q : Result (Unit {0}) WorldFault) (new other : WorldState C)
+      → FetchGives calls h old r new → stops r ≡ false → FetchGives calls h old q other → stops q ≡ false
+      → (r ≡ q) × (new ≡ other)
+  fetch_once h old r q new other g hg k kg =
+      ends_once (calls.takes old.carrier h) (fetched_by old) old r q new other
+      (λ a b c d ca ga cb gb. settled.takes_once old.carrier h a b c d ca (goes_of a ga) cb (goes_of b gb))
+      (fetch_ends h old g.0 g.1 r new g.2 g.3 hg) (fetch_ends h old k.0 k.1 q other k.2 k.3 kg)
 
   -- an event of the network, and a quiet round
   abbrev changed_by : NetEvent → WorldState C → Unit {0} → C → WorldState C

@@ -5,6 +5,7 @@ use Rattle.interface.specs.Calls.{Calls}
 use Rattle.interface.specs.Host.{Host}
 use Rattle.interface.specs.declared.carrier.CarrierFault.TheVariants as fault
 use Rattle.net_sim.specs.Carriers.{shown}
+use Rattle.net_sim.specs.MixedWorlds.{MixedState}
 use Rattle.net_sim.specs.World.{StepGives, WorldState, stops}
 use Rattle.net_sim.specs.declared.event.Event.{Event}
 use Rattle.net_sim.specs.declared.event.WorldFault.TheVariants.{Carrier}
@@ -14,10 +15,12 @@ use Rattle.replay.specs.InTurn.{InTurn}
 use Rattle.replay.specs.Output as raw
 use Rattle.replay.specs.Replay.{GoesOn}
 use Rattle.replay.specs.Settled.{AreSettled}
+use Rattle.world_script.specs.declared.event.MixedWorldEvent.{MixedWorldEvent}
 use Rattle.world_script.specs.declared.event.WorldEvent.TheVariants.{Calm}
 use Rattle.world_script.specs.declared.event.WorldEvent.{WorldEvent}
 use Rattle.world_replay.specs.Apart.{IsAt, OthersStay, SameHosts}
 use Rattle.world_replay.specs.Driven.{Drive, Drives, Goes, IsDrivenIn, Round}
+use Rattle.world_replay.specs.Kinds.{ReplaysBy, RunsOutBy, mixed_kind}
 use Rattle.world_replay.specs.Output.{Crossed, Noticed, Refused, Said, Shown, notices_of, reports_of, shown_in_turn}
 use Rattle.world_replay.specs.Output.{told_in_turn}
 use Rattle.world_replay.specs.Replay.{EndsIn, Happens, HappensInCalm, IsOfCalm, Replays, StopsIn, quiet_rounds}
@@ -36,6 +39,17 @@ pub record OneReplay {C : Type 0} (calls : Calls C) : Type 0 where
       AreSettled calls → (old new other : WorldState C) (events : List WorldEvent) (part whole : List Shown) →
       EndsIn (shown calls) (StopsIn (shown calls)) old events new part → Replays (shown calls) old events other whole →
       (rest : List Shown) × (whole ≡ part ++ rest)
+
+-- The same where some hosts are strangers: nothing but the script says what these send and take.
+pub record OneMixedReplay {C : Type 0} (calls : Calls C) : Type 0 where
+  pub same :
+      AreSettled calls → (old new other : MixedState C) (events : List MixedWorldEvent) (lines more : List Shown) →
+      ReplaysBy (mixed_kind (shown calls)) old events new lines →
+      ReplaysBy (mixed_kind (shown calls)) old events other more → (new ≡ other) × (lines ≡ more)
+  pub first_part :
+      AreSettled calls → (old new other : MixedState C) (events : List MixedWorldEvent) (part whole : List Shown) →
+      RunsOutBy (mixed_kind (shown calls)) old events new part →
+      ReplaysBy (mixed_kind (shown calls)) old events other whole → (rest : List Shown) × (whole ≡ part ++ rest)
 
 -- A calm is its rounds, one after another: they leave the world that it leaves, and show the lines that it shows.
 pub record CalmRounds {C : Type 0} (calls : Calls C) : Type 0 where

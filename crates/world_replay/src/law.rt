@@ -1,7 +1,7 @@
 //! What the replay of a world's script promises, as laws over its definitions. The functions here do nothing: their
 //! clauses are the laws.
 
-ghost use Rattle.world_replay.specs.Laws.{Apart, CalmRounds, Driven, OneReplay};
+ghost use Rattle.world_replay.specs.Laws.{Apart, CalmRounds, Driven, OneMixedReplay, OneReplay};
 
 use interface::Carrier;
 
@@ -9,6 +9,11 @@ use interface::Carrier;
 /// one list of lines. What is shown where memory runs out is a prefix of that list.
 pub fn one_replay<C: Carrier>()
     ensures { OneReplay C.calls }
+{}
+
+/// Nor do strangers: what they say and take has one outcome and shows one list of lines, too.
+pub fn one_mixed_replay<C: Carrier>()
+    ensures { OneMixedReplay C.calls }
 {}
 
 /// A calm is its rounds, one after another: they leave the world that it leaves, and show the lines that it shows.

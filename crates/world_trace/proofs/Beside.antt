@@ -1,14 +1,13 @@
 -- An event beside a stranger has one line.
-use Rattle.world_trace.proofs.Common.{◌≡◌, List, [], ◌∷◌, ◌++◌, ℕ, ap, ap₂, sym, subst, ◌∙◌, reverse, reverse-reverse, append-nil, Calls, Crossing, Spot, AllParts}
+use Rattle.world_trace.proofs.Common.{◌≡◌, List, [], ◌∷◌, ℕ, ap, ap₂, refl, sym, ◌∙◌, append-nil, Calls, Crossing}
 use Rattle.interface.specs.Calls.{Seen}
 use Rattle.net_sim.specs.MixedWorlds.{MixedState}
 use Rattle.net_sim.specs.WorkedMixed.{beside_third}
 use Rattle.net_sim.specs.declared.mixed.MixedEvent.{MixedEvent}
 use Rattle.replay.specs.declared.print.Detail.TheVariants.{Sizes}
-use Rattle.world_replay.proofs.lemmas.Gained.{HaveGains, both_gained, mixed_refusal_gained, news_gained}
-use Rattle.world_replay.specs.Gains.{gained}
+use Rattle.world_replay.proofs.lemmas.Gained.{HaveGains, mixed_refusal_gained, replays_show}
 use Rattle.world_replay.specs.Kinds.{HappensBy, mixed_kind}
-use Rattle.world_replay.specs.Output.{Shown, crossings_of, mixed_refusal, output}
+use Rattle.world_replay.specs.Output.{Shown, crossings_of, output}
 use Rattle.world_replay.specs.WorkedMixed.{ShowsOnly}
 use Rattle.world_script.specs.declared.event.MixedWorldEvent.TheVariants as mixed
 use Rattle.world_trace.specs.MixedTraces.{mixed_text}
@@ -22,11 +21,9 @@ crossed_shown : (calls : Calls Seen) (e : MixedEvent) (new : MixedState Seen) (l
     (h : HappensBy (mixed_kind calls) beside_third (mixed.Happen e) new lines)
     → h.gains.crossings ≡ crossings_of lines
 crossed_shown calls e new lines h =
-    let all : HaveGains beside_third.world.kept new.world.kept (gained h.gains ++ mixed_refusal h.outcome) =
-    both_gained beside_third.world.kept new.world.kept new.world.kept (gained h.gains) (mixed_refusal h.outcome)
-    (news_gained beside_third.world.kept new.world.kept h.gains) (mixed_refusal_gained new.world.kept h.outcome) in
     let said : HaveGains beside_third.world.kept new.world.kept lines =
-    subst (λ (ls : List Shown). HaveGains beside_third.world.kept new.world.kept ls) (sym h.lines) all in
+    replays_show (mixed_kind calls) mixed_refusal_gained beside_third (mixed.Happen e ∷ []) new lines
+    (new, lines, [], h, (refl, refl), sym (append-nil lines)) in
     sym (crossings_gained [] new.world.kept.book.crossings h.gains.crossings h.gains.crossed)
     ∙ crossings_gained [] new.world.kept.book.crossings (crossings_of lines) said.crossed
 

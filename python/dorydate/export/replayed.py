@@ -64,7 +64,7 @@ class Moment:
 
 @dataclass(frozen=True)
 class Replayed:
-    """A replay to its end. The trace is empty where it wasn't asked for, or the program has none of such a network."""
+    """A replay to its end. The trace is empty where it wasn't asked for."""
 
     network: Network
     events: tuple[Happened, ...]
@@ -108,17 +108,7 @@ def replayed(script: Script, program: Program | None = None, with_trace: bool = 
             raise Stopped(f"line {entry.number}: the log says something else than what is printed")
         lines = tuple(Line(tuple(it.split(" ")), second * MICROSECONDS + place) for place, it in enumerate(said))
         events.append(Happened(second, entry.number, entry.event, lines))
-    return Replayed(script.network, tuple(events), traced(program, script) if with_trace else "")
-
-
-def traced(program: Program, script: Script) -> str:
-    """The trace of a script, empty where the program has none of such a network."""
-    if script.network.strangers():
-        return ""
-    ran = program.run(script.octets(), "--trace")
-    if ran.status and "no trace" not in ran.said:
-        raise Stopped(f"the program says: {ran.said.strip()} (status {ran.status})")
-    return ran.output
+    return Replayed(script.network, tuple(events), text(program, script, "--trace") if with_trace else "")
 
 
 def as_printed(line: str) -> str:
@@ -128,7 +118,12 @@ def as_printed(line: str) -> str:
 
 def output(program: Program, script: Script, option: str) -> list[str]:
     """The lines that the program prints for a script, without the last."""
+    return text(program, script, option).splitlines()[:-1]
+
+
+def text(program: Program, script: Script, option: str) -> str:
+    """What the program prints for a script."""
     ran = program.run(script.octets(), option)
     if ran.status:
         raise Stopped(f"the program says: {ran.said.strip()} (status {ran.status})")
-    return ran.output.splitlines()[:-1]
+    return ran.output

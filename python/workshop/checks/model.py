@@ -33,7 +33,7 @@ from typing import Protocol
 
 from dorydate.model.chance.inputs import Given, changed, some_input
 from dorydate.model.chance.questions import Counting, Questions
-from dorydate.model.chance.strangers import mixed_script
+from dorydate.model.chance.strangers import mixed_script, naming, perhaps_refused
 from dorydate.model.log import ends_log
 from dorydate.model.topology import Topology, spelled_input
 from dorydate.model.runs import End, expected
@@ -67,16 +67,12 @@ def some_world_input(seed: int, runs: Sequence[str]) -> Given:
 def some_mixed_input(seed: int) -> Given:
     """Options, a network with strangers, and the lines of a script that was made by looking at the model."""
     network, script, world = mixed_script(seed)
-    imps = sorted({it.imp for it in world.strangers})
-    foreign = [(imp, sorted(it.number for it in world.strangers if it.imp == imp)) for imp in imps]
     chance, lines = random.Random(f"mixed {seed}"), script.lines
     if chance.random() < 0.3:
-        source, to = (f"{chance.randrange(hosts)}/{imp}" for imp, hosts in chance.choices(network.imps, k=2))
-        others = [f"out {source} {to} 5 8 41", f"listen {source} 16 8", f"server {source} 7 100", f"offer {source}"]
-        other = chance.choice(others)
+        other = perhaps_refused(chance, network)
         lines[chance.randrange(len(lines))] = changed(chance, other) if chance.random() < 0.2 else other
     options: list[list[str]] = [[], ["--book"], ["--texts", "--book"], ["--log"]]
-    return chance.choice(options), network._replace(foreign=foreign), lines
+    return chance.choice(options), naming(network, world.strangers), lines
 
 
 def some_questions(seed: int, seen: Counter[str]) -> tuple[Topology, list[str]]:

@@ -13,7 +13,7 @@ The traces of all examples over raw networks, and of random scripts, as the mode
 - The worked examples of docs/trace.md are what the model has.
 - Each line is an object of JSON, in which no member is twice.
 - Of 256 flows a line has only those that change: the trace of a message on each link has at most 6 million octets.
-- Of networks with host programs, examples and as many random scripts, if the program traces them: see trace_worlds.
+- Of networks with host programs, examples and as many random scripts, and as many with strangers: see trace_worlds.
 
 Then rules are broken in turn, and some script has to show it: events left out of a calm or given as one, parts that changed and are not
 named, parts compared with another state than the one before, values left out of the texts of parts, lines left out of the first line, and other fates of frames; and of networks with host programs

@@ -1,5 +1,5 @@
 """What ./check trace says of networks with host programs: the program's trace is JSON, and its lines and crossings are those of a replay
-and of its log.
+and of its log. Where some hosts are strangers there is no log, and the crossings are those that are printed.
 
 - A calm has its lines in the order of its rounds: one quiet round at most, which comes first; then of each host, in order, 16 takings at
   most and then 32 offers at most. By each something is printed or changed, a taking and an offer are of what crossed, and nothing is named
@@ -16,15 +16,17 @@ import json
 import random
 import subprocess
 from collections import Counter
-from collections.abc import Callable, Iterator, Sequence
+from collections.abc import Callable, Container, Iterator, Sequence
 from glob import glob
 from itertools import count, groupby
 from operator import itemgetter
 from typing import Any
 
+from dorydate.export.replayed import as_printed
+from dorydate.model.chance.strangers import mixed_script, naming, perhaps_refused
 from dorydate.model.chance.worlds import Script, some_world
 from dorydate.model.runs import opened
-from dorydate.model.script import read_event, read_line
+from dorydate.model.script import Event, read_event, read_line
 from dorydate.model.topology import Topology, network_of
 from dorydate.model.topology import spelled as spelled_network
 from dorydate.model.trace import fold_in, text
@@ -32,6 +34,7 @@ from dorydate.model.trace_subnet import flow_named
 from dorydate.model.trace_values import Object
 from dorydate.model.trace_world import KINDS, opening_of, state_of, traced_world
 from dorydate.model.world import OFFERS, TAKES, World
+from dorydate.printed import CROSSINGS
 from workshop.parts import ROOT
 
 MOST_ROUNDS = 400  # of calms in an example that the model follows
@@ -47,12 +50,12 @@ class WrongWorld(Exception):
 
 
 def examples() -> Iterator[tuple[str, bytes]]:
-    """The inputs of examples whose hosts all have programs, by name."""
+    """The inputs of examples whose hosts have programs, strangers beside them or not, by name."""
     for path in sorted(glob(f"{ROOT}/examples/*.stdout")):
         name = path.removesuffix(".stdout")
         with open(name, "rb") as file:
             octets = file.read()
-        if b"raw = true" not in octets and b"\nforeign = " not in octets and not glob(f"{name}.status"):
+        if b"raw = true" not in octets and not glob(f"{name}.status"):
             yield name.rsplit("/", 1)[1], octets
 
 
@@ -60,7 +63,21 @@ def random_inputs(runs: int) -> Iterator[tuple[str, bytes]]:
     """Random inputs, by name."""
     made = (Script(chance, some_world(chance), EVENTS) for chance in (random.Random(f"trace of worlds {seed}") for seed in count()))
     for number, script in zip(range(runs), made):
-        yield f"random script {number}", "\n".join([spelled_network(script.network), "%", *script.lines, ""]).encode("latin-1")
+        yield f"random script {number}", input_of(script.network, script.lines)
+
+
+def mixed_inputs(runs: int) -> Iterator[tuple[str, bytes]]:
+    """Random inputs with strangers, by name. Each has a line that may be refused for what its host is."""
+    for number in range(runs):
+        network, script, world = mixed_script(f"traced {number}", most=EVENTS)
+        chance = random.Random(f"refused {number}")
+        script.lines.insert(chance.randrange(len(script.lines) + 1), perhaps_refused(chance, network))
+        yield f"random script with strangers {number}", input_of(naming(network, world.strangers), script.lines)
+
+
+def input_of(network: Topology, lines: Sequence[str]) -> bytes:
+    """The input of a network and a script."""
+    return "\n".join([spelled_network(network), "%", *lines, ""]).encode("latin-1")
 
 
 def printed(program: str, octets: bytes, option: str = "--texts") -> list[str]:
@@ -114,8 +131,8 @@ def held_up(program: str, octets: bytes) -> int:
     lines = [" ".join(it.split(" ")[:5]) if it.startswith(("out ", "in ")) else it for it in printed(program, octets)[:-1]]
     if [line for record in records for line in record["printed"]] != lines:
         raise WrongWorld("the lines are not those that are printed")
-    crossed = [it for it in printed(program, octets, "--log") if it.split(" ")[0] in ("out", "in", "answer", "down", "up")]
-    if [as_logged(it) for record in records for it in record["crossed"]] != crossed:
+    told = [as_logged(it) for record in records for it in record["crossed"]]
+    if (told if not network.foreign else [*map(as_printed, told)]) != crossings(program, octets, network):
         raise WrongWorld("the crossings are not those of the log")
     look_at(network, script.split("\n"), first, records)
     if all(it["event"] != "quiet" for it in records):
@@ -123,10 +140,16 @@ def held_up(program: str, octets: bytes) -> int:
     return len(records)
 
 
+def crossings(program: str, octets: bytes, network: Topology) -> list[str]:
+    """What crosses, by the log, or as it is printed where strangers have none."""
+    lines = printed(program, octets, *([] if network.foreign else ["--log"]))
+    return [it for it in lines if it.split(" ")[0] in CROSSINGS]
+
+
 def look_at(network: Topology, lines: Sequence[str], first: Object, records: Records) -> None:
     """Whether a trace has the lines that the rounds of its script have, and those of the model, where that comes to the end."""
-    in_order(lines, first, records)
-    if sum(event[1] for event in (read_line(it, False) for it in lines) if event and event[0] == "calm") <= MOST_ROUNDS:
+    in_order(network, lines, first, records)
+    if sum(event[1] for _, event, _ in events_of(network, lines) if event[0] == "calm") <= MOST_ROUNDS:
         follow(network, lines, first, records)
         if len(network.imps) <= MOST_IMPS:
             by_events(network, first, records)
@@ -135,9 +158,15 @@ def look_at(network: Topology, lines: Sequence[str], first: Object, records: Rec
 # ---- rounds
 
 
-def in_order(lines: Sequence[str], first: Object, records: Records) -> None:
+def events_of(network: Topology, lines: Sequence[str]) -> list[tuple[int, Event, str]]:
+    """The events of a script, each with the number of its line, and its text."""
+    told = ((line, read_line(it, False, strangers=bool(network.foreign)), it) for line, it in enumerate(lines, 1))
+    return [(line, event, it) for line, event, it in told if event]
+
+
+def in_order(network: Topology, lines: Sequence[str], first: Object, records: Records) -> None:
     """Whether each event has one line, and each calm those that its rounds may have; and nothing is named that is as it was."""
-    events = [(line, event, it) for line, it in enumerate(lines, 1) if (event := read_line(it, False))]
+    events = events_of(network, lines)
     held: Object = {key: dict(first[key]) for key in KINDS}
     of_events = {number: [*them] for number, them in groupby(records, itemgetter("number"))}
     if [number for number, them in of_events.items() for _ in them] != sorted(it["number"] for it in records) or not {*of_events} <= {*range(1, len(events) + 1)}:
@@ -256,7 +285,7 @@ def by_events(network: Topology, first: Object, records: Records) -> None:
         if record["event"] == "quiet":
             world.carry(world.carrier.quiet_round)
         else:
-            world.happen(*read_event(record["event"], False))
+            world.happen(*read_event(record["event"], False, bool(network.foreign)))
         put_in(held, record, f"line {record['line']}")
     if world.printed != [line for record in records for line in record["printed"]]:
         raise WrongWorld("the column of events prints other lines")
@@ -362,30 +391,54 @@ BROKEN: dict[str, Change] = {
 
 WITH_ALL = "two-users-at-one-server", "a-reset-that-fails-and-one-that-works", "a-service-that-is-not-there"  # in these traces is each of these
 
+AMONG: dict[str, Change] = {  # of all lines of a trace with strangers, the first one among them
+    "who is a stranger": lambda lines: [{key: it for key, it in lines[0].items() if key != "foreign"}, *lines[1:]],
+    "that a stranger runs nothing": lambda lines: [
+        {**lines[0], **{key: {**lines[0][key], **dict.fromkeys(lines[0]["foreign"])} for key in KINDS[1:]}},
+        *lines[1:],
+    ],
+    "what a stranger takes": lambda lines: [it for it in lines if it.get("event") != "take 1/2"],
+    "what a stranger changes": lambda lines: [
+        {**it, "parts": {}} if it.get("event") == "take 1/2" else it for it in lines
+    ],
+    "that a stranger is refused": lambda lines: [
+        {**it, "printed": []} if it.get("printed") == ["refused NoProgram"] else it for it in lines
+    ],
+    "that a calm has no turn of a stranger": lambda lines: [
+        {**it, "line": 2, "number": 2, "round": 1} if it.get("event") == "take 1/2" else it for it in lines
+    ],
+}
+WITH_STRANGERS = ("a-trace-among-strangers",)  # in this trace is each of these
 
-def is_found(program: str, change: Change, by_rounds: bool) -> bool:
+
+def whole(change: Change) -> Change:
+    """A change of records, as one of all lines."""
+    return lambda lines: [lines[0], *change(lines[1:])]
+
+
+def is_found(program: str, change: Change, by_rounds: bool, names: Container[str] = WITH_ALL) -> bool:
     """Whether a trace that is broken so is found to be wrong, perhaps by the order of its rounds without a model."""
-    for octets in (octets for name, octets in examples() if name in WITH_ALL):
+    for octets in (octets for name, octets in examples() if name in names):
         document, script = octets.decode("latin-1").split("\n%\n", 1)
-        first, *records = map(read_json, printed(program, octets, "--trace"))
+        first, *records = change([*map(read_json, printed(program, octets, "--trace"))])
         try:
-            if by_rounds:
-                in_order(script.split("\n"), first, change(records))
-            else:
-                look_at(network_of(document), script.split("\n"), first, change(records))
+            (in_order if by_rounds else look_at)(network_of(document), script.split("\n"), first, records)
         except WrongWorld:
             return True
     return False
 
 
 def faults(program: str, runs: int) -> tuple[int, list[str]]:
-    """How many lines the traces of all examples and of this many random scripts have, and what is wrong in them."""
+    """How many lines the traces of all examples have, and of this many random scripts and as many with strangers, and what
+    is wrong in them."""
     lines, wrong = 0, []
-    for name, octets in [*examples(), *random_inputs(runs)]:
+    for name, octets in [*examples(), *random_inputs(runs), *mixed_inputs(runs)]:
         try:
             lines += held_up(program, octets)
         except (WrongWorld, json.JSONDecodeError) as why:
             wrong.append(f"{name}: {why}")
-    passing = [name for name, change in BROKEN.items() if not is_found(program, change, False)]
-    passing += [f"{name}, by rounds," for name, change in OF_ROUNDS.items() if not is_found(program, change, True)]
+    passing = [name for name, change in BROKEN.items() if not is_found(program, whole(change), False)]
+    by_rounds = ((name, whole(change)) for name, change in OF_ROUNDS.items())
+    passing += [f"{name}, by rounds," for name, change in by_rounds if not is_found(program, change, True)]
+    passing += [name for name, change in AMONG.items() if not is_found(program, change, False, WITH_STRANGERS)]
     return lines, wrong + [f"traces without {name} pass" for name in passing]

@@ -30,7 +30,7 @@ from typing import Any
 from dorydate.model.chance.books import of_world, small
 from dorydate.model.log import BadLog, Book, read_log, spelled_log
 from dorydate.model.runs import opened
-from dorydate.model.script import read_event
+from dorydate.model.script import Event, read_event
 from dorydate.explain.inside import Inside
 from dorydate.explain.topology import of_model
 from dorydate.explore.named import SEARCHES
@@ -41,8 +41,7 @@ from dorydate.given import Input
 from dorydate.network import Network
 from dorydate.model.subnet import Subnet
 from dorydate.model.trace import all_parts
-from dorydate.model.trace_world import program_of
-from dorydate.model.names import spell_host
+from dorydate.model.trace_world import state_of
 from dorydate.model.world import World
 from dorydate.sentences import DEEDS, silence
 from workshop.parts import ROOT, any_program, read_octets, text_of
@@ -56,6 +55,7 @@ PAIR = 'carrier = "plain"\n[[imp]]\nid = 1\nhosts = 2\n%\ncontact 0/1 1/1\ncalm 
 LINKED = f"{PAIR}listen 1/1 33 8\nopenrecv 0/1 1/1 16 33\ncalm 2\n"
 FULL = "".join(f"out 0/2 0/3 {link} 8063 {'00' * 1008}\n" for link in range(4))
 TYPED = f"type 0/1 {'A' * 100}\n" * 6
+STRANGER = f"{IMPS}foreign = [0]\n[[line]]\na = 1\nb = 2\n[[line]]\na = 2\nb = 3\n%\ncalm 3\n"
 WAITING = [
     f"{CHAIN}{FULL}out 0/1 0/3 5 8 41\ndrop 0 + 0\n",
     "raw = true\n[[imp]]\nid = 1\nhosts = 2\n%\nout 0/1 1/1 5 8 41\nhostdown 1/1\n",
@@ -64,6 +64,8 @@ WAITING = [
     f"{LINKED}grant 0/1 16 9 99\ncalm 2\nsend 1/1 33 8 41\noffer 1/1\nsend 1/1 33 8 42\n",
     f"{LINKED}send 1/1 33 8 41\nclose 1/1 33\ncalm 2\nclose 0/1 16\noffer 0/1\ntake 1/1\ncalm 1\n",
     f"{PAIR}server 1/1 7 100\nuser 0/1 1/1 7 16\ncalm 30\n{TYPED}offer 0/1\ntake 1/1\n",
+    f"{STRANGER}contact 0/1 0/3\ncalm 3\ntake 0/3\ncalm 3\nhostdown 0/3\ncalm 3\nhostup 0/3\ncalm 3\n",
+    f"{STRANGER}out 0/3 0/1 0 48 00080001000C\ncalm 4\nuser 0/1 0/3 7 16\ncalm 3\nhostdown 0/3\ncalm 3\n",
 ]
 
 
@@ -77,9 +79,9 @@ def node() -> str | None:
 
 def states_of(text: bytes) -> list[dict[str, dict[str, Any] | None]] | None:
     """The parts of a subnet, and the programs of its hosts, after each event of an input, by the independent model; None for plain
-    mailboxes, for long calms, and among strangers, where the page doesn't know what programs hold."""
+    mailboxes, and for long calms."""
     network, lines = input_of(text)
-    if network.carrier == "plain" or network.strangers() or is_long(network, lines):
+    if network.carrier == "plain" or is_long(network, lines):
         return None
     place = opened(of_model(network))
     subnet = getattr(place, "carrier", place)
@@ -87,7 +89,7 @@ def states_of(text: bytes) -> list[dict[str, dict[str, Any] | None]] | None:
         return None
     states = []
     for line in lines:
-        place.happen(*read_event(line, network.raw))
+        place.happen(*event_of(network, line))
         states.append(all_parts(subnet) | programs_of(place))
     return states
 
@@ -98,22 +100,26 @@ def input_of(text: bytes) -> tuple[Network, list[str]]:
     return Network.read(head), [it for it in script.split("\n") if it and not it.startswith("#")]
 
 
+def event_of(network: Network, line: str) -> Event:
+    """The event of a line."""
+    return read_event(line, network.raw, bool(network.strangers()))
+
+
 def is_long(network: Network, lines: list[str]) -> bool:
     """Whether the model would be long at an input."""
     return sum(int(it.split(" ")[1]) for it in lines if it.startswith("calm ")) > MOST_ROUNDS or len(network.imps) > 16
 
 
 def waits_of(text: bytes) -> list[list[str]] | None:
-    """What waits after each event of an input, by ./explain, in one order; None where sites have names or calms are long, and
-    among strangers."""
+    """What waits after each event of an input, by ./explain, sorted; None where sites have names or calms are long."""
     network, lines = input_of(text)
-    if network.strangers() or is_long(network, lines) or any(it.name for it in network.imps):
+    if is_long(network, lines) or any(it.name for it in network.imps):
         return None
     place = opened(of_model(network))
     carrier = place.carrier if isinstance(place, World) else place
     found = []
     for line in lines:
-        place.happen(*read_event(line, network.raw))
+        place.happen(*event_of(network, line))
         all_waits = waits.waiting(place, carrier)
         spelled = ["|".join([it.what, it.where, it.reason, str(it.is_bad).lower(), *it.cures]) for it in all_waits]
         found.append(sorted(re.sub(r"(?:the )?message(?: \d+)? of flow", "message", it) for it in spelled))
@@ -122,8 +128,8 @@ def waits_of(text: bytes) -> list[list[str]] | None:
 
 def programs_of(place: object) -> dict[str, dict[str, Any] | None]:
     """What the programs of hosts hold, where hosts have programs."""
-    hosts = place.hosts.items() if isinstance(place, World) else ()
-    return {f"program {spell_host(host)}": program_of(program) for host, program in hosts}
+    programs = state_of(place)["programs"] if isinstance(place, World) else {}
+    return {f"program {host}": it for host, it in programs.items()}
 
 
 def told_of_deeds() -> dict[str, dict[str, str]]:
@@ -137,12 +143,12 @@ def told_of_deeds() -> dict[str, dict[str, str]]:
         network = Network.read(head)
         lines = script.split("\n")
         rounds = sum(int(it.split(" ")[1]) for it in lines if it.startswith("calm "))
-        if network.raw or network.strangers() or any(it.name for it in network.imps) or rounds > MOST_ROUNDS:
+        if network.raw or any(it.name for it in network.imps) or rounds > MOST_ROUNDS:
             continue
         goes = Inside(of_model(network))
         for number, line in enumerate(lines, 1):
             if line and not line.startswith("#"):
-                outcome = goes.happen(read_event(line, False))
+                outcome = goes.happen(event_of(network, line))
                 words = line.split(" ", 2) if line.startswith("type ") else line.split(" ")
                 if words[0] in DEEDS and not any(it.startswith("refused ") for it in outcome.printed):
                     found.setdefault(name, {})[str(number)] = f"{silence(words)} {' '.join(outcome.sentences)}".rstrip()

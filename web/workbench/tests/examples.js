@@ -86,6 +86,17 @@ export async function historyInRounds(text) {
 }
 
 /**
+ * The position behind an event of the script.
+ *
+ * @param {History} history
+ * @param {number} event
+ */
+export function behind(history, event) {
+    const at = history.replay.moments.findIndex((moment) => moment.event > event);
+    return at < 0 ? history.length : at;
+}
+
+/**
  * A raw network of two IMPs with a host each, and a script.
  *
  * @param {string[]} script

@@ -21,6 +21,18 @@ function crossesOnce({ words, kinds }) {
     return kinds.filter((kind) => kind !== "").length === (words[0] === "take" || words[0] === "offer" ? 1 : 0);
 }
 
+/**
+ * What is stored of the lines that crossings, notices and refusals of an example print, in its output or in its trace.
+ *
+ * @param {string} name
+ */
+function storedLines(name) {
+    const isOther = (/** @type {string} */ line) => /^(?:end|ok|life .*|)$/.test(line);
+    const lines = storedOutput(name).filter((line) => !isOther(line));
+    if (!lines[0]?.startsWith("{")) return lines;
+    return lines.slice(1).flatMap((line) => JSON.parse(line).printed);
+}
+
 for (const name of exampleNames()) {
     test(`${name}: the moments print what is stored, each stop once`, async () => {
         const history = await historyOf(name);
@@ -35,9 +47,7 @@ for (const name of exampleNames()) {
             /^(?:in|out) /.test(line) ? line.split(" ").slice(0, 5).join(" ") : line
         );
         const printed = moments.flatMap((moment) => moment.printed).map(brief);
-        const stored = storedOutput(name).filter(
-            (line) => line && line !== "end" && line !== "ok" && !line.startsWith("life "),
-        );
+        const stored = storedLines(name);
         if (!/--check|--log/.test(name) && stored.length) assert.deepEqual(printed, stored);
         for (const grain of /** @type {const} */ (["event", "arrival", "round"])) {
             const stops = stopsOf(history, grain);

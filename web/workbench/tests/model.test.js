@@ -10,7 +10,7 @@ import { test } from "node:test";
 import { wrongLine, wrongTopology } from "../faults.js";
 import { readInput } from "../script.js";
 import { partIn } from "../trace.js";
-import { historyOf } from "./examples.js";
+import { behind, historyOf } from "./examples.js";
 
 const file = process.env.STATES ?? "";
 /**
@@ -20,17 +20,6 @@ const file = process.env.STATES ?? "";
  */
 const given = file ? JSON.parse(readFileSync(file, "utf8")) : { states: {}, lines: [], topologies: [] };
 const model = given.states;
-
-/**
- * The position behind an event.
- *
- * @param {import("../fold.js").History} history
- * @param {number} event
- */
-function behind(history, event) {
-    const at = history.replay.moments.findIndex((moment) => moment.event > event);
-    return at < 0 ? history.length : at;
-}
 
 /**
  * A host's program with its pairs in one order and without those of which nothing is known; any other part as it is.

@@ -35,7 +35,6 @@ function leftOut(history, position, talk, waits) {
             if (it.state !== "idle" && !flows.has(it.flow)) found.push(it.flow);
         }
     }
-    if (history.network.strangers.length) return found; // what programs hold isn't known there
     const isSaid = (/** @type {number} */ socket) => waits.some((it) => it.what.includes(`socket ${socket} `));
     for (const end of talk.ends) {
         if (sends(end.socket) && end.state === "open" && end.handed > end.bits && !isSaid(end.socket)) {

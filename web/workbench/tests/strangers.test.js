@@ -3,43 +3,40 @@
 import assert from "node:assert/strict";
 import { test } from "node:test";
 
-import { choicesFor } from "../choices.js";
+import { choicesFor, partTitle } from "../choices.js";
 import { COMMANDS, FIELDS } from "../commands.js";
 import { candidates, possible } from "../possible.js";
+import { groupsOf } from "../programs.js";
+import { isReplay, replay } from "../runs.js";
 import { textOfWords } from "../spoken.js";
-import { parted } from "../strangers.js";
 import { Talk } from "../talk.js";
 import { saying } from "../texts.js";
 import { readTopology } from "../topology.js";
 import { spoken } from "../view/sending.js";
-import { historyOf, historyOfText, program } from "./examples.js";
+import { waitsOf } from "../waits.js";
+import { behind, historyInRounds, historyOf, historyOfText, PATIENT, program, run } from "./examples.js";
 
 const ROW = ["[[imp]]", "id = 1", "hosts = 1", "[[imp]]", "id = 2", "hosts = 2", "foreign = [1]"];
 const JOINED = ["[[line]]", "a = 1", "b = 2"];
 const RST = "out 1/2 0/1 0 48 00080001000C";
 
 /**
- * The history of a script between two IMPs, of which the second has a stranger.
+ * A script between two IMPs, of which the second has a stranger.
  *
  * @param {string[]} script
  */
+function inputOf(script) {
+    return [...ROW, ...JOINED, "%", ...script, ""].join("\n");
+}
+
+/** @param {string[]} script */
 function among(script) {
-    return historyOfText([...ROW, ...JOINED, "%", ...script, ""].join("\n"));
+    return historyOfText(inputOf(script));
 }
 
 test("a topology names strangers", () => {
     assert.deepEqual(readTopology(ROW.join("\n")).strangers, ["1/2"]);
     assert.deepEqual(readTopology(ROW.slice(0, 6).join("\n")).strangers, []);
-});
-
-test("marks part what is printed, beside refusals of the script itself", () => {
-    const mark = ["refused NoSuch", "refused NotOutstanding"];
-    assert.deepEqual(parted(["a", ...mark, ...mark, "refused NoSuch", ...mark, "refused Blocked", ...mark, "end"]), [
-        ["a"],
-        [],
-        ["refused NoSuch"],
-        ["refused Blocked"],
-    ]);
 });
 
 test("over a subnet each event has its lines and what it left, and a stranger takes only where the script says", async () => {
@@ -56,10 +53,49 @@ test("over a subnet each event has its lines and what it left, and a stranger ta
     assert.deepEqual(moments[moments.length - 1].printed, ["refused NoProgram"]);
 });
 
-test("a calm without an end is cut, and what came until then is shown", async () => {
-    const history = await historyOfText([...ROW, "%", "calm 4294967295", ""].join("\n"));
-    assert(/^Only the first \d+ rounds are shown\.$/.test(history.replay.cut), history.replay.cut);
-    assert(history.length > 100);
+test("what happens within rounds comes to what the trace of whole rounds has", async () => {
+    const more = ["out 0/1 1/2 0 0 -", "take 1/2", "hostdown 1/2", "calm 3", "contact 0/1 1/2", "calm 4"];
+    const script = ["calm 2", RST, "calm 2", ...more];
+    const history = await among(script);
+    const inRounds = await historyInRounds(inputOf(script));
+    assert(inRounds.replay.moments.some(({ words }) => words[0] === "quiet"));
+    assert(!history.replay.moments.some(({ words }) => words[0] === "quiet"));
+    script.forEach((line, event) => {
+        const [one, other] = [history, inRounds].map((it) => it.at(behind(it, event)).parts);
+        assert.deepEqual(one, other, line);
+    });
+});
+
+test("mailboxes and what hosts with programs hold are shown, and of a stranger what waits for it", async () => {
+    const plain = ['carrier = "plain"', ...ROW, "%", RST, "calm 1", ""].join("\n");
+    const history = await historyOfText(plain);
+    const state = history.at(history.length);
+    assert.deepEqual(state.box("1/2")?.messages.map(({ flow }) => flow), ["0/1 1/2 0"]);
+    const talk = new Talk(history.replay).goTo(history.length);
+    assert.deepEqual(groupsOf(state, talk, "0/1").map(({ cells }) => cells[0]), [["reset", "ready"]]);
+    assert.deepEqual(groupsOf(state, talk, "1/2"), []);
+});
+
+test("who contacts a stranger waits for its RRP, and not for it to start, unless it is down", async () => {
+    const script = ["calm 2", "contact 0/1 1/2", "calm 2"];
+    const whyOf = async (/** @type {string[]} */ lines) => {
+        const history = await among(lines);
+        const waits = waitsOf(history.at(history.length), new Talk(history.replay).goTo(history.length));
+        return waits.filter(({ what }) => what.includes("contact")).map(({ bad }) => bad);
+    };
+    assert.deepEqual(await whyOf(script), [false]);
+    assert.deepEqual(await whyOf([...script, "hostdown 1/2"]), [true]);
+});
+
+test("a calm ends with its rest; while something waits for a stranger it lasts, until the run is stopped", async () => {
+    const calm = "calm 4294967295";
+    const history = await among([calm]);
+    assert.equal(history.replay.cut, "");
+    assert(history.length > 5);
+    const waiting = ['carrier = "plain"', ...ROW, "%", "contact 0/1 1/2", calm, ""].join("\n");
+    const stopped = await replay(run, waiting, { ...PATIENT, seconds: 1 });
+    assert(isReplay(stopped));
+    assert(/^The program was stopped after 1 seconds\./.test(stopped.cut), stopped.cut);
 });
 
 test("a stranger is asked what it sends, and hosts with programs aren't", async () => {
@@ -67,6 +103,8 @@ test("a stranger is asked what it sends, and hosts with programs aren't", async 
     const talk = new Talk(history.replay).goTo(history.length);
     const state = history.at(history.length);
     const of = (/** @type {string} */ host) => choicesFor(state, talk, { kind: "host", host });
+    const titles = ["1/2", "0/2"].map((host) => partTitle(state, { kind: "host", host }));
+    assert.deepEqual(titles, ["Host 1/2 (a stranger)", "Host 0/2"]);
     assert.deepEqual(of("1/2").filter((it) => it.asks).length, 1);
     assert(of("1/2").some(({ lines }) => lines[0] === RST));
     assert(!of("1/2").some(({ lines }) => /^(?:offer|contact)/.test(lines[0] ?? "")));

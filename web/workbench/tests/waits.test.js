@@ -7,7 +7,7 @@ import { test } from "node:test";
 import { TABLE } from "../../../python/dorydate/sentences/table.mjs";
 import { Talk } from "../talk.js";
 import { waitsOf } from "../waits.js";
-import { historyOf, historyOfText } from "./examples.js";
+import { behind, historyOf, historyOfText } from "./examples.js";
 
 /** @type {{[input: string]: string[][]}} of each event of an example, or of a text, what waits after it, as `./check workbench` gives it */
 const told = process.env.STATES ? JSON.parse(readFileSync(process.env.STATES, "utf8")).waits : {};
@@ -20,11 +20,9 @@ const told = process.env.STATES ? JSON.parse(readFileSync(process.env.STATES, "u
 async function said(name) {
     const history = name.includes("\n") ? await historyOfText(name) : await historyOf(name);
     assert(history, name);
-    const { moments, input } = history.replay;
     const talk = new Talk(history.replay);
-    return input.events.map((_, event) => {
-        const next = moments.findIndex((it) => it.event > event);
-        const position = next < 0 ? moments.length : next;
+    return history.replay.input.events.map((_, event) => {
+        const position = behind(history, event);
         const found = waitsOf(history.at(position), talk.goTo(position));
         return found.map((it) => [it.what, it.where, it.for, it.bad, ...it.cures].join("|").replace(
             /host (\d\/\d+)'s message(?: \d+)? to host (\d\/\d+) on link (\d+)/g,

@@ -360,7 +360,9 @@ export class MapView {
                     : s("text", { class: "name", x, y: y + 3.5 }, host),
             );
             parts.push(badge(x + radius * 0.86, y - radius * 0.98, small ? 5 : 7.5));
-            this.hosts.append(this.part({ kind: "host", host }, `host ${host}`, parts));
+            const element = this.part({ kind: "host", host }, `host ${host}`, parts);
+            element.classList.toggle("stranger", this.network.strangers.includes(host));
+            this.hosts.append(element);
         }
     }
 
@@ -459,8 +461,14 @@ export class MapView {
             const box = state.box(host);
             const waits = box ? box.messages.length + box.answers.length : 0;
             updateBadge(element, waits);
-            const machine = machineOf(this.network, host);
-            label(element, `Host ${host}${machine ? `, ${machine}` : ""}${isUp ? "" : ", down"}${waits ? `, ${waits} wait for it` : ""}`);
+            const words = [
+                `Host ${host}`,
+                machineOf(this.network, host),
+                this.network.strangers.includes(host) ? "a stranger" : "",
+                isUp ? "" : "down",
+                waits ? `${waits} wait for it` : "",
+            ];
+            label(element, words.filter(Boolean).join(", "));
         });
     }
 

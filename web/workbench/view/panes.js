@@ -340,8 +340,6 @@ export class Panes {
             this.intro,
             network.raw
                 ? "Hosts, and messages without an answer."
-                : network.strangers.length
-                ? "Hosts, and messages without an answer. What programs hold isn't known in a network with strangers."
                 : "Hosts, and what their programs and services hold. What this step changed is framed.",
         );
         keep(

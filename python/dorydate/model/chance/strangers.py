@@ -8,7 +8,7 @@ any time, data past its grant, texts that are no messages.
 from __future__ import annotations
 
 import random
-from collections.abc import Callable
+from collections.abc import Callable, Collection
 from typing import Any, TypeVar
 
 from dorydate.model.bits import Bits, bits_of
@@ -217,12 +217,27 @@ class MixedScript(Script):
         return bytes([code])
 
 
-def mixed_script(seed: int | str, host_program: type[Host] = Host) -> tuple[Topology, MixedScript, MixedWorld]:
-    """A network with one stranger or two, and a script, with the world that it leads to."""
+def mixed_script(
+    seed: int | str, host_program: type[Host] = Host, most: int = 400
+) -> tuple[Topology, MixedScript, MixedWorld]:
+    """A network, a script of about this many events at most, and the world with a stranger or two that it leads to."""
     chance = random.Random(f"strangers {seed}")
     network = mixed_network(chance)
     carrier = opened_carrier(network)
     strangers = chance.sample(carrier.hosts(), chance.choice([1, 1, 2]) if len(carrier.hosts()) > 3 else 1)
     world = MixedWorld(carrier, strangers, chance.random() < 0.5, host_program)
     length = chance.choice([60, 150, 300, 400]) // (2 if network.carrier == "subnet" else 1)
-    return network, MixedScript(chance, network, length, world), world
+    return network, MixedScript(chance, network, min(length, most), world), world
+
+
+def naming(network: Topology, strangers: Collection[HostName]) -> Topology:
+    """A network whose topology names these strangers."""
+    imps = sorted({it.imp for it in strangers})
+    return network._replace(foreign=[(imp, sorted(it.number for it in strangers if it.imp == imp)) for imp in imps])
+
+
+def perhaps_refused(chance: random.Random, network: Topology) -> str:
+    """A line that only a stranger does, or only a host with a program, of any host."""
+    source, to = (f"{chance.randrange(hosts)}/{imp}" for imp, hosts in chance.choices(network.imps, k=2))
+    lines = [f"out {source} {to} 5 8 41", f"listen {source} 16 8", f"server {source} 7 100", f"offer {source}"]
+    return chance.choice(lines)

@@ -1,10 +1,11 @@
-use Rattle.command_line.proofs.Joins.{print_the_same, tell_the_same}
+use Rattle.command_line.proofs.Joins.{tell_the_same}
 use Rattle.command_line.proofs.Recorded.{prints_trace}
+use Rattle.command_line.proofs.Replayed.Determined.{either_options}
 use Rattle.command_line.proofs.law.one_replay.Goals as goal
 
 pub returns : goal.returns
 returns c = record {
-  options = print_the_same;
+  options = either_options;
   log = tell_the_same;
   trace = prints_trace;
 }

@@ -75,7 +75,7 @@ returns-clause-between c = record {
 
 pub returns-clause-link : goal.returns-clause-link
 unfolding octets_of orders_of read_of command_of packed_count accepted refusal served served_notices next_out offered first_link
-returns-clause-link c f = let e : 2 ≡ 3 = some_is 2 3 (ap first_link f.giver.one ∙ f.linked) in omega (arith, e)
+returns-clause-link c f = let e : 2 ≡ 3 = some_is {A = ℕ} 2 3 (ap first_link f.giver.one ∙ f.linked) in omega (arith, e)
 
 pub returns-clause-host : goal.returns-clause-host
 returns-clause-host c f = other_host f.host

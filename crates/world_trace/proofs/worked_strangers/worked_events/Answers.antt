@@ -1,4 +1,5 @@
 use Rattle.world_trace.proofs.Common.{[], ◌∷◌, codes, refl, first, second}
+use Rattle.std.specs.Fmt.{digits}
 use Rattle.interface.specs.declared.crossing.Crossing.TheVariants as crossing
 use Rattle.net_sim.specs.Worked.{accepting_carrier, any_carrier, message}
 use Rattle.net_sim.specs.declared.event.Event.TheVariants.{Offer}
@@ -10,6 +11,7 @@ use Rattle.world_trace.proofs.Beside.{traces_only}
 use Rattle.world_trace.proofs.worked_strangers.worked_events.Goals as goal
 
 pub returns-clause-said : goal.returns-clause-said
+unfolding digits
 returns-clause-said c = traces_only accepting_carrier (Out (message third first 2)) (Crossed (crossing.Out (message third first 2)) ∷ []) c.worked_strangers.ensures.says
 
 pub returns-clause-asked : goal.returns-clause-asked
