@@ -94,18 +94,18 @@ no_rest : (front rest : List ℕ) → [] ≡ front ++ rest → [] ≡ rest
 no_rest [] rest e = e
 no_rest (x ∷ front) rest e = cc
 
-nothing_among : (carrier : CarrierKind) (t : MixedFields) (events : List MixedWorldEvent)
+nothing_logged_among : (carrier : CarrierKind) (t : MixedFields) (events : List MixedWorldEvent)
     → MixedLogsOver carrier t events (Some []) (Some []) → ⊥
-nothing_among kind.Plain t events h =
+nothing_logged_among kind.Plain t events h =
     let b : Book = world_book h.last.world.kept in
     some_log b (no_rest (strangers_text t.strangers) (log_text b) h.written)
-nothing_among kind.Subnet t events h =
+nothing_logged_among kind.Subnet t events h =
     let b : Book = world_book h.last.world.kept in
     some_log b (no_rest (strangers_text t.strangers) (log_text b) h.written)
 
 none_logged : LoggedEither (Some []) (Some []) → ⊥
 none_logged (inl h) = nothing_logged h.network.carrier h.network h.events h.logged
-none_logged (inr h) = nothing_among h.network.network.carrier h.network h.events h.logged
+none_logged (inr h) = nothing_logged_among h.network.network.carrier h.network h.events h.logged
 
 pub no_log : Never task.Log (wrote []) (Ok did.Written)
 no_log o (Ok done, is, ends) = none_logged ends.ran
