@@ -13,16 +13,32 @@ import { COMMANDS, wide } from "./commands.js";
  * @property {string} by `reset`, `stopped` or `closed`, "" where it continues
  * @property {string} word what ended it
  * @property {number} place where that crossed
- * @property {Set<string>} closed the ways of the CLS that crossed
+ * @property {Set<string>} closed the ways of the CLS that crossed, the first of them first
+ * @property {boolean} early whether something that ends lives came between its two requests
  */
 
-/** The fates that each leaves a life: a contact doesn't cross. */
-export const LEAVES = /** @type {{[by: string]: string[]}} */ ({
+/**
+ * The fates that each leaves a life, and both CLS by whose was the first. A contact doesn't cross; but it can't have come
+ * before the own CLS, if that was the second.
+ */
+const LEAVES = /** @type {{[by: string]: string[]}} */ ({
     "": ["open", "reset"],
     reset: ["reset"],
     stopped: ["stopped", "reset"],
-    closed: ["closed", "ended", "reset"],
+    "closed out": ["closed", "reset"],
+    "closed in": ["closed", "ended"],
 });
+
+/**
+ * Whether what crossed leaves a life that has begun its fate.
+ *
+ * @param {Over} over
+ * @param {string} fate
+ */
+export function leaves({ by, closed, early }, fate) {
+    const way = by === "closed" ? ` ${[...closed][0]}` : "";
+    return !early && LEAVES[`${by}${way}`].includes(fate);
+}
 
 /**
  * By what a life is over by what crossed; null where it hasn't begun.
@@ -33,20 +49,22 @@ export const LEAVES = /** @type {{[by: string]: string[]}} */ ({
  */
 export function overBy(book, life) {
     const [asked, closed] = [new Set(), new Set()];
-    let owes = false;
+    let [owes, early] = [false, false];
     for (const { word, way, place } of deedsOf(book, life)) {
         const isReply = word === "rrp" && way === "out";
         const drops = word === "rst" || (!owes && (isReply || word === "fails"));
         owes = (owes || (word === "rst" && way === "in")) && word !== "down" && word !== "up" && !isReply;
+        const isCut = word === "down" || drops;
         if (asked.size < 2) {
+            early ||= asked.size === 1 && (isCut || word === "closes");
             if (word === "asks") asked.add(way);
-        } else if (word === "down" || drops) {
-            return { by: drops ? "reset" : "stopped", word, place, closed };
+        } else if (isCut) {
+            return { by: drops ? "reset" : "stopped", word, place, closed, early };
         } else if (word === "closes" && closed.add(way).size === 2) {
-            return { by: "closed", word, place, closed };
+            return { by: "closed", word, place, closed, early };
         }
     }
-    return asked.size === 2 ? { by: "", word: "", place: -1, closed } : null;
+    return asked.size === 2 ? { by: "", word: "", place: -1, closed, early } : null;
 }
 
 /**

@@ -3,7 +3,7 @@
 import { TABLE } from "../../python/dorydate/sentences/table.mjs";
 import { bitsOf, commandsOf } from "./book.js";
 import { COMMANDS } from "./commands.js";
-import { LEAVES, overBy } from "./over.js";
+import { leaves, overBy } from "./over.js";
 import { filled, listed } from "./words.js";
 
 /** @typedef {import("./book.js").Book} Book */
@@ -225,7 +225,7 @@ function over(book, life, names) {
     const { fate, host, peer, own, partner } = life;
     const found = overBy(book, life);
     const holes = { host: names(host), peer: names(peer), word: fate, line: Math.max(own, partner) + 1 };
-    if (!found || !LEAVES[found.by].includes(fate)) return said("over", "unfit", holes);
+    if (!found || !leaves(found, fate)) return said("over", "unfit", holes);
     if (!found.by || (fate === "reset" && found.by !== "reset")) {
         return said("over", fate === "reset" ? "contact" : "open", holes);
     }

@@ -551,6 +551,13 @@ const STRANGERS = {
             "None: the message is answered by ERR, and the whole grant is left.",
         ],
     ],
+    "a-log-among-strangers": [
+        [
+            17,
+            "The stranger sends two octets. Whose lives does the book have after this?",
+            "Only the life at 0/1, which takes them: what 0/2 has is its own.",
+        ],
+    ],
     "a-trace-among-strangers": [
         [
             2,

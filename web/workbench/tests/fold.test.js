@@ -48,7 +48,7 @@ for (const name of exampleNames()) {
         );
         const printed = moments.flatMap((moment) => moment.printed).map(brief);
         const stored = storedLines(name);
-        if (!/--check|--log/.test(name) && stored.length) assert.deepEqual(printed, stored);
+        if (!/--check|--log|^a-log-/.test(name) && stored.length) assert.deepEqual(printed, stored);
         for (const grain of /** @type {const} */ (["event", "arrival", "round"])) {
             const stops = stopsOf(history, grain);
             let from = 0;
