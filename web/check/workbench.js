@@ -20,7 +20,7 @@ const SIZES = /** @type {[number, number][]} */ (
 );
 const LARGE = /** @type {[number, number][]} */ ([[1280, 800], [360, 740]]);
 const LARGER = /** @type {[number, number][]} */ ([[1024, 768], WIDE]);
-const MOST_OCTETS = 1_000_000; // with an unproved program that traces strangers, too, it has 1,000,489
+const MOST_OCTETS = 1_000_000;
 const SHOWN = [
     "lo-of-login",
     "arpanet-of-december-1969",
