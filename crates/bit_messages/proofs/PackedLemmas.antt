@@ -6,13 +6,14 @@ use Rattle.std.proofs.lemmas.Nat.Bits.{bit_at-trailing_zeros}
 use Rattle.std.proofs.Math.Nat.{zero-div}
 use Rattle.std.specs.Bool.{beq}
 use Rattle.std.specs.Cmp.Lexicographic.{pointwise, same_text, other_text}
-use Rattle.std.proofs.lemmas.List.{take_at, take_all, drop_at, drop_all, length-append, length-replicate, length-take-le, take-replicate, length-drop, get_or-append-add, take-take, drop-take, drop-drop, drop-append-le, take-append-le, append_assoc, append-nil, take-append-drop, set_split, replicate-append-replicate}
+use Rattle.std.proofs.lemmas.List.{take_at, drop_at, drop_all, length-append, length-replicate, length-take-le, take-replicate, length-drop, get_or-append-add, take-take, drop-take, drop-drop, drop-append-le, take-append-le, append_assoc, append-nil, take-append-drop, set_split, replicate-append-replicate}
 use Rattle.std.proofs.Math.ListN.{get_or-append}
 use Rattle.std.proofs.Math.Seq.{drop-append-add, drop-nil, take-append-add, take-length}
 use Rattle.std.proofs.lemmas.Bool.{cases_lt}
 use Rattle.std.proofs.lemmas.Grind.{flat_map-append, get_or_default_zero}
 use Rattle.bit_messages.specs.Octets.{octet_bits, bits_of, octets_of, spare_bits}
 use Rattle.bit_messages.specs.Packed.{IsPacked, Packs}
+use Rattle.bit_messages.specs.Store.{Stored, octets_for}
 use Rattle.bit_messages.specs.Body.{body, filling, has_mark, text_of}
 use Rattle.bit_messages.proofs.BodyLemmas.{HasZerosFrom, IsMarkedAt, marked_at, IsSplit, IsStripped, split_text, stripped_padded, unmarked_behind}
 use Rattle.bit_messages.proofs.OctetLemmas.{length-bits_of, octets_again, octets_below, bits_again, first_bits, HasFirstBits}
@@ -377,34 +378,62 @@ part_octets octets part count from size bits k within small p =
     packs_octets part (take size (drop from (bits_of octets))) small p
     ∙ ap octets_of (part_of octets count from size within ∙ ap (λ (b : List Bool). drop from (take (from + size) b)) (keeps_view octets count bits k) ∙ drop-take from size bits)
 
-bits_of-zeros : (n : ℕ) → bits_of (replicate n 0) ≡ replicate (8 * n) false
-bits_of-zeros zero = refl
-bits_of-zeros (suc n) =
-    let sum : 8 + 8 * n ≡ 8 * suc n = omega arith in
-    ap (λ (b : List Bool). replicate 8 false ++ b) (bits_of-zeros n) ∙ replicate-append-replicate 8 (8 * n) false ∙ ap (λ (k : ℕ). replicate k false) sum
+-- the first bits of octets that begin with a 1 and have zeros after it
+pub mark_bits : (octets : List ℕ) (size count : ℕ) → bits_of octets ≡ true ∷ replicate size false → 0 < count → count ≤ size + 1
+    → take count (bits_of octets) ≡ true ∷ replicate (count - 1) false
+mark_bits octets size zero same some few = absurd (omega (arith, some))
+mark_bits octets size (suc n) same some few =
+    let rest : n ≡ suc n - 1 = omega arith in
+    ap (λ (b : List Bool). take (suc n) b) same ∙ ap (λ (b : List Bool). true ∷ b) (take-replicate n size false (omega (arith, few))) ∙ ap (λ (k : ℕ). true ∷ replicate k false) rest
 
--- a text with its mark, filled up with octets of zeros
-pub pad_keeps : (octets marked new : List ℕ) (count units : ℕ) (text : List Bool) → Keeps octets count text → Packs marked (take count (bits_of octets) ++ true ∷ [])
-    → new ≡ take (2 * units) marked ++ replicate (2 * units - length marked) 0 → count + 1 ≤ 16 * units → 16 * units < count + 17 → Keeps new (16 * units) (body text)
-pad_keeps octets marked new count units text k p is covered few =
-    let P : List Bool → Type 0 = λ v. Packs marked (v ++ true ∷ []) in
-    let m : Packs marked (text ++ true ∷ []) = subst P (keeps_view octets count text k) p in
-    let size : 8 * length marked ≡ length text + 1 + m.zeros = packs_size marked (text ++ true ∷ []) m ∙ ap (λ (n : ℕ). n + m.zeros) (length-append text (true ∷ [])) in
-    let rest : ℕ = 2 * units - length marked in
-    let all : take (2 * units) marked ≡ marked = take_all (2 * units) marked (omega (arith, size, k.size, covered, m.few)) in
-    let fill : m.zeros + 8 * (2 * units - length marked) ≡ filling (length text) = omega (arith, size, k.size, covered, few, m.few) in
-    let bits : bits_of new ≡ body text =
-    (ap bits_of (is ∙ ap (λ (v : List ℕ). v ++ replicate (2 * units - length marked) 0) all)
-    ∙ bits_of-append marked (replicate (2 * units - length marked) 0)
-    ∙ ap (λ (b : List Bool). b ++ bits_of (replicate (2 * units - length marked) 0)) m.same
-    ∙ ap (λ (b : List Bool). ((text ++ true ∷ []) ++ replicate m.zeros false) ++ b) (bits_of-zeros (2 * units - length marked))
-    ∙ append_assoc (text ++ true ∷ []) (replicate m.zeros false) (replicate (8 * (2 * units - length marked)) false)
-    ∙ ap (λ (b : List Bool). (text ++ true ∷ []) ++ b) (replicate-append-replicate m.zeros (8 * (2 * units - length marked)) false ∙ ap (λ (n : ℕ). replicate n false) fill)
-    ∙ append_assoc text (true ∷ []) (replicate (filling (length text)) false)) in
+pub mark_packed : (octets : List ℕ) (size count : ℕ) → bits_of octets ≡ true ∷ replicate size false → 0 < count → count ≤ size + 1 → size < count + 7 → IsPacked octets count
+mark_packed octets size count same some few much =
+    let bits : take count (bits_of octets) ≡ true ∷ replicate (count - 1) false = mark_bits octets size count same some few in
+    let size_of : size + 1 ≡ 8 * length octets = omega (arith, length-bits_of octets, ap length same, length-replicate size false) in
+    let sum : count - 1 + (size + 1 - count) ≡ size = omega (arith, some, few) in
     record {
-      size = omega (arith, k.size, covered, few, length-append text (true ∷ replicate (filling (length text)) false), length-replicate (filling (length text)) false);
-      packs = record { zeros = 0; same = bits ∙ sym (append-nil (body text)); few = omega arith };
+      within = omega (arith, few, size_of);
+      packs = record {
+        zeros = size + 1 - count;
+        same =
+            (same
+            ∙ ap (λ (n : ℕ). true ∷ replicate n false) (sym sum)
+            ∙ ap (λ (b : List Bool). true ∷ b) (sym (replicate-append-replicate (count - 1) (size + 1 - count) false))
+            ∙ ap (λ (b : List Bool). b ++ replicate (size + 1 - count) false) (sym bits));
+        few = omega (arith, some, few, much);
+      };
     }
+
+-- a text with its mark and zeros to the end of its last unit
+pub pad_keeps : (octets new : List ℕ) (count padding total : ℕ) (text : List Bool) → Keeps octets count text → padding ≡ 16 - count % 16
+    → Packs new (take count (bits_of octets) ++ true ∷ replicate (padding - 1) false) → total ≡ count + padding → Keeps new total (body text)
+pad_keeps octets new count padding total text k unit p sum =
+    let zeros : padding - 1 ≡ filling (length text) = omega (arith, unit, k.size) in
+    let P : ℕ → Type 0 = λ n. Packs new (text ++ true ∷ replicate n false) in
+    let Q : List Bool → Type 0 = λ v. Packs new (v ++ true ∷ replicate (padding - 1) false) in
+    record {
+      size = omega (arith, sum, unit, k.size, length-append text (true ∷ replicate (filling (length text)) false), length-replicate (filling (length text)) false);
+      packs = subst P zeros (subst Q (keeps_view octets count text k) p);
+    }
+
+-- octets that keep bits are as many as these need
+pub octets_needed : (octets : List ℕ) (count : ℕ) → IsPacked octets count → octets_for count ≡ length octets
+octets_needed octets count h =
+    let total : 8 * length octets ≡ count + h.packs.zeros = packs_size octets (take count (bits_of octets)) h.packs ∙ ap (λ (n : ℕ). n + h.packs.zeros) (length-kept octets count h) in
+    omega (arith, total, h.packs.few)
+
+-- what is stored of a list of bits
+abbrev pub KeepsIn : Stored → List Bool → Type 0
+KeepsIn s bits = Keeps s.octets s.len bits
+
+-- the same number in other words
+pub keeps_as : (octets : List ℕ) (count same : ℕ) (bits : List Bool) → same ≡ count → Keeps octets count bits → Keeps octets same bits
+keeps_as octets count same bits e k = record { size = e ∙ k.size; packs = k.packs }
+
+-- a part with octets has bits
+pub some_part : (part : List ℕ) (bits : List Bool) (n : ℕ) → Packs part (take (8 * n) bits) → 0 < length part → 0 < n
+some_part part bits zero p some = absurd (omega (arith, packs_size part [] p, p.few, some))
+some_part part bits (suc n) p some = omega arith
 
 -- what is before the mark of a list that is kept
 pub record IsMarked (mark : ℕ) (bits : List Bool) : Type 0 where

@@ -8,7 +8,8 @@ ghost use Rattle.bit_messages.specs.Packed.{IsPacked};
 ghost use Rattle.bit_messages.specs.declared.fault.BitFault.TheVariants as fault;
 
 use crate::BitFault;
-use crate::octets::{are_octets, bit_in, copied, last_one, part, put, put_bit};
+use crate::octets::{are_octets, bit_in, copied, last_one, part, put, put_bit, put_mark};
+use crate::store::Octets;
 use std::alloc::{AllocError, Global};
 use std::marker::Model;
 
@@ -24,16 +25,15 @@ pub const BODY_UNIT: usize = 16;
 /// last octet that the list doesn't use are zero.
 #[derive(Debug, Drop)]
 pub struct Bits {
-    octets: Vec<u8>,
-    len: usize,
+    octets: Octets,
 }
 
 impl Model for Bits {
     ghost Value = { List Bool };
 
-    ghost view = { λ b. take b.len (bits_of b.octets.items) };
+    ghost view = { λ b. take b.octets.len (bits_of b.octets.octets) };
 
-    ghost invariant = { λ b. IsPacked b.octets.items b.len };
+    ghost invariant = { λ b. IsPacked b.octets.octets b.octets.len };
 }
 
 impl Bits {
@@ -42,8 +42,7 @@ impl Bits {
         ensures { result ≡ [] }
     {
         Bits {
-            octets: Vec::new(alloc),
-            len: 0,
+            octets: Octets::new(alloc),
         }
     }
 
@@ -51,24 +50,24 @@ impl Bits {
     pub fn len(&self) -> usize
         ensures { result ≡ length self.now }
     {
-        self.len
+        self.octets.len()
     }
 
     /// Returns whether there are no bits.
     pub fn is_empty(&self) -> bool
         ensures { result ≡ (length self.now == 0) }
     {
-        self.len == 0
+        self.octets.len() == 0
     }
 
     /// Returns the bit at place `i`, counted from 0; `None` past the end.
     pub fn get(&self, i: usize) -> Option<bool>
         ensures { result ≡ slice_get self.now i }
     {
-        if i >= self.len {
+        if i >= self.octets.len() {
             return None;
         }
-        Some(bit_in(&self.octets, i))
+        Some(bit_in(self.octets.as_slice(), i))
     }
 
     /// Puts a bit at the end.
@@ -78,11 +77,7 @@ impl Bits {
         ensures decided { Decided None (λ _. self.new ≡ self.old ++ bit ∷ []) result }
         ensures err { OnErr result (self.new ≡ self.old) }
     {
-        let Some(len) = self.len.checked_add(1) else {
-            return Err(BitFault::OutOfMemory);
-        };
-        put_bit(&mut self.octets, self.len, bit)?;
-        self.len = len;
+        put_bit(&mut self.octets, bit)?;
         Ok(())
     }
 
@@ -94,11 +89,11 @@ impl Bits {
         ensures memory { result ≡ Err fault.OutOfMemory → 0 < length other.now }
         ensures err { OnErr result (self.new ≡ self.old) }
     {
-        let Some(len) = self.len.checked_add(other.len) else {
-            return Err(BitFault::OutOfMemory);
-        };
-        put(&mut self.octets, self.len, &other.octets, other.len)?;
-        self.len = len;
+        put(
+            &mut self.octets,
+            other.octets.as_slice(),
+            other.octets.len(),
+        )?;
         Ok(())
     }
 
@@ -113,8 +108,7 @@ impl Bits {
             return Err(BitFault::Range);
         }
         Ok(Bits {
-            octets: part(alloc, &self.octets, from, to - from)?,
-            len: to - from,
+            octets: part(alloc, self.octets.as_slice(), from, to - from)?,
         })
     }
 
@@ -130,7 +124,6 @@ impl Bits {
         }
         Ok(Bits {
             octets: part(alloc, octets, 0, count)?,
-            len: count,
         })
     }
 
@@ -138,8 +131,9 @@ impl Bits {
     pub fn as_octets(&self) -> &[u8]
         ensures { result.now ≡ octets_of self.now }
     {
-        are_octets(&self.octets);
-        &self.octets
+        let octets = self.octets.as_slice();
+        are_octets(octets);
+        octets
     }
 
     /// Returns the bits in octets, the last octet filled with zeros.
@@ -162,9 +156,10 @@ impl Bits {
         if from > self.len() || n > (self.len() - from) / 8 {
             return Err(BitFault::Range);
         }
-        let octets = part(alloc, &self.octets, from, 8 * n)?;
-        are_octets(&octets);
-        Ok(octets)
+        let part = part(alloc, self.octets.as_slice(), from, 8 * n)?;
+        let octets = part.as_slice();
+        are_octets(octets);
+        Ok(copied(alloc, octets)?)
     }
 
     /// Returns the body of this text: its bits, a 1, and the fewest zeros that make a multiple of sixteen bits.
@@ -177,14 +172,9 @@ impl Bits {
         if len > MAX_TEXT_BITS {
             return Err(BitFault::TooLong);
         }
-        let mut octets = copied(alloc, &self.octets)?;
-        put_bit(&mut octets, self.len, true)?;
-        let units = (len + 1).div_ceil(BODY_UNIT);
-        octets.resize(BODY_UNIT / 8 * units, 0)?;
-        Ok(Bits {
-            octets,
-            len: BODY_UNIT * units,
-        })
+        let mut octets = self.octets.copied(alloc)?;
+        put_mark(&mut octets, BODY_UNIT - len % BODY_UNIT)?;
+        Ok(Bits { octets })
     }
 
     /// Returns the text of this body: what precedes its last 1.
@@ -219,7 +209,7 @@ impl Bits {
         ensures none { result ≡ None → has_mark self.now ≡ false }
         ensures some { IfSome result (λ mark. (has_mark self.now ≡ true) × (mark < length self.now) × (text_of self.now ≡ take mark self.now)) }
     {
-        last_one(&self.octets, self.len)
+        last_one(self.octets.as_slice(), self.octets.len())
     }
 }
 
@@ -231,8 +221,7 @@ impl Clone for Bits {
 
     fn clone(&self) -> Result<Bits, AllocError> {
         Ok(Bits {
-            octets: copied(*self.octets.allocator(), &self.octets)?,
-            len: self.len,
+            octets: self.octets.copied(self.octets.alloc())?,
         })
     }
 }
@@ -249,7 +238,7 @@ impl PartialEq for Bits {
     ghost laws = { Prim.search (comparing, rules) };
 
     fn eq(&self, other: &Bits) -> bool {
-        if self.len != other.len {
+        if self.octets.len() != other.octets.len() {
             return false;
         }
         let ours = self.octets.as_slice();

@@ -13,6 +13,7 @@ mod bits;
 mod fault;
 pub mod law;
 mod octets;
+mod store;
 
 pub use bits::{BODY_UNIT, Bits, MAX_TEXT_BITS};
 pub use fault::BitFault;

@@ -7,7 +7,9 @@ ghost use Rattle.std.specs.Prelude.{◌≡◌, ℕ, ◌+◌, ◌-◌, ◌*◌, �
 ghost use Rattle.bit_messages.specs.Body.{has_mark, text_of};
 ghost use Rattle.bit_messages.specs.Octets.{bits_of, octet_bits};
 ghost use Rattle.bit_messages.specs.Packed.{IsPacked, Packs};
+ghost use Rattle.bit_messages.specs.Store.{octets_for};
 
+use crate::store::Octets;
 use std::alloc::{AllocError, Global};
 
 /// Returns the bit at a place.
@@ -34,9 +36,11 @@ pub(crate) fn part(
     octets: &[u8],
     from: usize,
     count: usize,
-) -> Result<Vec<u8>, AllocError>
+) -> Result<Octets, AllocError>
     requires there { from + count ≤ 8 * length octets.now }
-    ensures packed { IfOk result (λ part. Packs part.items (take count (drop from (bits_of octets.now)))) }
+    ensures packed { IfOk result (λ part. Packs part.octets (take count (drop from (bits_of octets.now)))) }
+    ensures size { IfOk result (λ part. length part.octets ≡ octets_for count) }
+    ensures len { IfOk result (λ part. part.len ≡ count) }
     ensures memory { OnErr result (0 < count) }
 {
     let mut part = begun(alloc, octets, from, count)?;
@@ -44,37 +48,41 @@ pub(crate) fn part(
     if used == 0 {
         return Ok(part);
     }
-    part[count / 8] = cleared(part[count / 8], used);
+    let last = cleared(part.as_slice()[count / 8], used);
+    part.set(count / 8, last);
     Ok(part)
 }
 
 /// Returns the octets that `count` bits from place `from` on begin; in the last octet other bits may follow them.
-fn begun(alloc: Global, octets: &[u8], from: usize, count: usize) -> Result<Vec<u8>, AllocError>
+fn begun(alloc: Global, octets: &[u8], from: usize, count: usize) -> Result<Octets, AllocError>
     requires there { from + count ≤ 8 * length octets.now }
-    ensures bits { IfOk result (λ part. take count (bits_of part.items) ≡ take count (drop from (bits_of octets.now))) }
-    ensures size { IfOk result (λ part. length part.items ≡ (count + 7) / 8) }
+    ensures bits { IfOk result (λ part. take count (bits_of part.octets) ≡ take count (drop from (bits_of octets.now))) }
+    ensures size { IfOk result (λ part. length part.octets ≡ octets_for count) }
+    ensures len { IfOk result (λ part. part.len ≡ count) }
     ensures memory { OnErr result (0 < count) }
 {
     let (_, rest) = octets.split_at(from / 8);
     let size = count.div_ceil(8);
     if from % 8 == 0 {
-        return copied(alloc, rest.split_at(size).0);
+        return Octets::from_slice(alloc, rest.split_at(size).0, count);
     }
-    shifted(alloc, rest, from % 8, size)
+    shifted(alloc, rest, from % 8, count)
 }
 
-/// Returns the first `size` octets of the bits after the first `by` bits, with zeros after the last bit.
-fn shifted(alloc: Global, octets: &[u8], by: usize, size: usize) -> Result<Vec<u8>, AllocError>
+/// Returns the octets of the bits after the first `by` bits that `count` bits need, with zeros after the last bit.
+fn shifted(alloc: Global, octets: &[u8], by: usize, count: usize) -> Result<Octets, AllocError>
     requires some { 0 < by }
     requires few { by < 8 }
-    requires there { size ≤ length octets.now }
-    ensures bits { IfOk result (λ part. bits_of part.items ≡ take (8 * size) (drop by (bits_of octets.now ++ replicate 8 false))) }
-    ensures size { IfOk result (λ part. length part.items ≡ size) }
-    ensures memory { OnErr result (0 < size) }
+    requires there { octets_for count ≤ length octets.now }
+    ensures bits { IfOk result (λ part. bits_of part.octets ≡ take (8 * octets_for count) (drop by (bits_of octets.now ++ replicate 8 false))) }
+    ensures size { IfOk result (λ part. length part.octets ≡ octets_for count) }
+    ensures len { IfOk result (λ part. part.len ≡ count) }
+    ensures memory { OnErr result (0 < count) }
 {
-    let mut part = Vec::new(alloc);
+    let size = count.div_ceil(8);
+    let mut part = Octets::from_slice(alloc, octets.split_at(size).0, count)?;
     for i in 0..size {
-        part.push(joined(octets[i], octet_at(octets, i + 1), by))?;
+        part.set(i, joined(octets[i], octet_at(octets, i + 1), by));
     }
     Ok(part)
 }
@@ -114,46 +122,56 @@ fn filled(octet: u8, used: usize, next: u8) -> u8
     octet | next >> used
 }
 
-/// Puts the first `more_len` bits of `more` after the first `len` bits of `octets`.
-pub(crate) fn put(
-    octets: &mut Vec<u8>,
-    len: usize,
-    more: &[u8],
-    more_len: usize,
-) -> Result<(), AllocError>
-    requires packed { IsPacked octets.old.items len }
+/// Puts the first `more_len` bits of `more` after those of `octets`.
+pub(crate) fn put(octets: &mut Octets, more: &[u8], more_len: usize) -> Result<(), AllocError>
+    requires packed { IsPacked octets.old.octets octets.old.len }
     requires more { IsPacked more.now more_len }
-    ensures ok { OnOk result (Packs octets.new.items (take len (bits_of octets.old.items) ++ take more_len (bits_of more.now))) }
-    ensures err { OnErr result (octets.new.items ≡ octets.old.items) }
+    ensures ok { OnOk result (Packs octets.new.octets (take octets.old.len (bits_of octets.old.octets) ++ take more_len (bits_of more.now))) }
+    ensures len { OnOk result (octets.new.len ≡ octets.old.len + more_len) }
+    ensures err { OnErr result (octets.new ≡ octets.old) }
     ensures memory { OnErr result (0 < more_len) }
 {
-    let used = len % 8;
-    if used == 0 {
-        octets.extend_from_slice(more)?;
-        return Ok(());
-    }
     if more.is_empty() {
         return Ok(());
     }
+    let len = octets.len();
+    let Some(all) = len.checked_add(more_len) else {
+        return Err(AllocError);
+    };
+    let used = len % 8;
+    if used == 0 {
+        return octets.append(more, all);
+    }
     let room = 8 - used;
-    let tail = part(
-        *octets.allocator(),
-        more,
-        room,
-        more_len.saturating_sub(room),
-    )?;
-    octets.extend_from_slice(&tail)?;
-    octets[len / 8] = filled(octets[len / 8], used, more[0]);
+    let tail = part(octets.alloc(), more, room, more_len.saturating_sub(room))?;
+    octets.append(tail.as_slice(), all)?;
+    let last = filled(octets.as_slice()[len / 8], used, more[0]);
+    octets.set(len / 8, last);
     Ok(())
 }
 
-/// Puts a bit after the first `len` bits of `octets`.
-pub(crate) fn put_bit(octets: &mut Vec<u8>, len: usize, bit: bool) -> Result<(), AllocError>
-    requires packed { IsPacked octets.old.items len }
-    ensures ok { OnOk result (Packs octets.new.items (take len (bits_of octets.old.items) ++ bit ∷ [])) }
-    ensures err { OnErr result (octets.new.items ≡ octets.old.items) }
+/// Puts a bit after those of `octets`.
+pub(crate) fn put_bit(octets: &mut Octets, bit: bool) -> Result<(), AllocError>
+    requires packed { IsPacked octets.old.octets octets.old.len }
+    ensures ok { OnOk result (Packs octets.new.octets (take octets.old.len (bits_of octets.old.octets) ++ bit ∷ [])) }
+    ensures len { OnOk result (octets.new.len ≡ octets.old.len + 1) }
+    ensures err { OnErr result (octets.new ≡ octets.old) }
 {
-    put(octets, len, &[octet_with(bit)], 1)
+    put(octets, &[octet_with(bit)], 1)
+}
+
+/// Puts a 1 and zeros after the bits of `octets`, which are `count` bits together.
+pub(crate) fn put_mark(octets: &mut Octets, count: usize) -> Result<(), AllocError>
+    requires packed { IsPacked octets.old.octets octets.old.len }
+    requires some { 0 < count }
+    requires few { count ≤ 16 }
+    ensures ok { OnOk result (Packs octets.new.octets (take octets.old.len (bits_of octets.old.octets) ++ true ∷ replicate (count - 1) false)) }
+    ensures len { OnOk result (octets.new.len ≡ octets.old.len + count) }
+{
+    if count > 8 {
+        return put(octets, &[128, 0], count);
+    }
+    put(octets, &[128], count)
 }
 
 /// Returns the octet that begins with this bit and has zeros after it.

@@ -561,7 +561,7 @@ impl Ends {
             self.gone += 1;
             self.make_room();
         } else {
-            let _ = self.ends.remove(self.gone + at);
+            drop(self.ends.remove(self.gone + at));
         }
     }
 

@@ -105,10 +105,17 @@ fn a_slice_shifts_across_octets(rt: HostRuntime) {
     }
 }
 
+/// More octets than lie in a list of bits itself.
+const MANY: [u8; 40] = [
+    0x41, 0x9A, 0x00, 0xFF, 0x5C, 0xE3, 0x17, 0x80, 0x01, 0x7E, 0x33, 0xCC, 0x0F, 0xF0, 0x55, 0xAA,
+    0x12, 0x34, 0x56, 0x78, 0x9B, 0xBC, 0xDE, 0xF1, 0x23, 0x45, 0x67, 0x89, 0xAB, 0xCD, 0xEF, 0x10,
+    0x32, 0x54, 0x76, 0x98, 0xBA, 0xDC, 0xFE, 0x21,
+];
+
 /// Whether this many bits from a place on, cut out at once, are those that are taken one at a time; and whether they and the bits
 /// before that place, appended at once, are all of these taken one at a time.
 fn agrees(alloc: Global, from: u8, count: u8) -> Result<[bool; 2], BitFault> {
-    let whole = Bits::from_octets(alloc, &[0x41, 0x9A, 0x00, 0xFF, 0x5C, 0xE3, 0x17], 56)?;
+    let whole = Bits::from_octets(alloc, &MANY, 320)?;
     let (from, to) = (usize::from(from), usize::from(from) + usize::from(count));
     let part = whole.slice(alloc, from, to)?;
     let (mut before, mut all, mut cut) = (Bits::new(alloc), Bits::new(alloc), Bits::new(alloc));
@@ -127,9 +134,36 @@ fn agrees(alloc: Global, from: u8, count: u8) -> Result<[bool; 2], BitFault> {
     Ok([part == cut, before == all])
 }
 
+/// Whether a copy of this many bits, and these put one at a time, are the same list; and whether one bit fewer is another.
+fn is_copied(alloc: Global, count: u16) -> Result<[bool; 3], BitFault> {
+    let count = usize::from(count);
+    let mut whole = Bits::from_octets(alloc, &MANY, count)?;
+    let copy = whole.clone()?;
+    let mut bits = Bits::new(alloc);
+    for place in 0..count {
+        let Some(bit) = whole.get(place) else {
+            return Err(BitFault::Range);
+        };
+        bits.push(bit)?;
+    }
+    let alike = [copy == whole, bits == whole];
+    whole.push(false)?;
+    Ok([alike[0], alike[1], copy != whole])
+}
+
+#[test]
+fn short_and_long_lists_are_copied(rt: HostRuntime) {
+    for count in [0u16, 1, 239, 240, 241, 248, 249, 320] {
+        let found = is_copied(rt.alloc(), count);
+        assert_eq!(rt; found, Ok([true; 3]), "{count} bits");
+    }
+}
+
 #[test]
 fn slices_and_appends_are_those_of_single_bits(rt: HostRuntime) {
-    for from in 0..16u8 {
+    for from in [
+        0u8, 1, 2, 3, 4, 5, 6, 7, 8, 9, 16, 199, 201, 231, 232, 239, 240, 241, 248,
+    ] {
         for count in 0..41u8 {
             let found = agrees(rt.alloc(), from, count);
             assert_eq!(rt; found, Ok([true; 2]), "{count} bits from {from}");

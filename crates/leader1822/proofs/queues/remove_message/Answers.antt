@@ -37,7 +37,7 @@ returns-then-eq-2 c =
     let at : slice_get q k ≡ Some c.index-in-places.result.now = slice_get_read q (length q) k c.index-in-places.result.now refl within c.index-in-places.ensures in
     let passes : is_of c.args.flow.now c.index-in-places.result.now ≡ true = search rules in
     let one : length (filter (is_of c.args.flow.now) q) ≡ 1 = ap (λ xs. length (filter (is_of c.args.flow.now) xs)) same ∙ c.requires in
-    on_some c.remove-then-eq-2.result _ (c.remove-then-eq-2.ensures.succeeds c.index-in-places.result.now short) c.remove-then-eq-2.ensures.items
+    on_some c.remove-then-eq-2-2.result _ (c.remove-then-eq-2-2.ensures.succeeds c.index-in-places.result.now short) c.remove-then-eq-2-2.ensures.items
     ∙ remove_only (is_of c.args.flow.now) q k c.index-in-places.result.now at passes one ∙ ap (filter (λ x. not (is_of c.args.flow.now x))) same
 
 pub returns : goal.returns

@@ -1,5 +1,8 @@
-use Rattle.bit_messages.proofs.PackedLemmas.{keeps, Keeps}
+use Rattle.std.proofs.Common.{◌∙◌}
+use Rattle.bit_messages.proofs.PackedLemmas.{keeps, KeepsIn}
 use Rattle.bit_messages.proofs.bits.Bits.len.Goals as goal
 
 pub returns : goal.returns
-returns c = let k : Keeps c.self.inside.octets.items c.self.inside.len c.args.self.now = keeps _ _ _ c.self.invariant c.self.view_is in k.size
+returns c =
+    let k : KeepsIn c.self.inside.octets c.args.self.now = keeps _ _ _ c.self.invariant c.self.view_is in
+    c.len.ensures ∙ k.size

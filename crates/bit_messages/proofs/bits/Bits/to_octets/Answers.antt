@@ -1,4 +1,4 @@
-use Rattle.std.proofs.Common.{ap, length, subst, sym, ◌<◌, ℕ, ◌∙◌}
+use Rattle.std.proofs.Common.{ap, length, subst, ◌<◌, ℕ}
 use Rattle.bit_messages.proofs.OctetLemmas.{some_octets}
 use Rattle.bit_messages.proofs.bits.Bits.to_octets.Goals as goal
 
