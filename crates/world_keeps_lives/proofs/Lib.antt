@@ -27,6 +27,7 @@ pub mod Texts
 pub mod Stamps
 pub mod Unopened
 pub mod Calms
+pub mod Never
 pub mod FirstEnds
 pub mod Firsts
 pub mod FirstBooks

@@ -15,7 +15,8 @@ use Rattle.host_pairs.specs.Parcels.{link_of}
 use Rattle.host_pairs.specs.declared.entry.Closing.TheVariants as closing
 use Rattle.host_pairs.specs.declared.notice.Notice.TheVariants as notice
 use Rattle.ncp_control.specs.declared.phase.Phase.TheVariants as phase
-use Rattle.world_keeps_lives.proofs.Walk.Rules.{Each, IsOther, Quiet, due_still, each_append, each_changed, each_filter, each_first, each_map, each_of, found_in, quiet_when, sockets_of}
+use Rattle.world_keeps_lives.proofs.Walk.Rules.{Each, IsOther, Quiet, each_append, each_changed, each_filter, each_first, each_map, each_of, found_in, quiet_when}
+use Rattle.host_keeps_pairing.proofs.lemmas.{sockets_of, due_still}
 
 -- ---- what has to be shown, leaf by leaf
 
