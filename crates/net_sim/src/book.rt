@@ -21,12 +21,14 @@ pub struct Book<'a> {
 }
 
 impl<'a> Model for Book<'a> {
-    ghost use Rattle.std.specs.Prelude.{reverse};
+    ghost use Rattle.std.specs.Prelude.{◌≡◌, reverse};
     ghost use Rattle.net_sim.specs.Book.{Kept};
 
     ghost Value = { Kept };
 
-    ghost view = { λ b. record b.notes.now { book = record b.notes.now.book { crossings = reverse b.log.now } } };
+    ghost view = { λ b. b.notes.now };
+
+    ghost invariant = { λ b. b.log.now ≡ reverse b.notes.now.book.crossings };
 }
 
 impl<'a> Book<'a> {
