@@ -20,8 +20,8 @@ use net_sim::{Book, MixedWorld};
 ///   granted.
 ///
 /// Nothing is promised to arrive, and of a stranger nothing at all.
-pub fn book_among<C: Carrier>(world: &MixedWorld<C>) -> &Book
-    ensures value { result.now ≡ world.now.world.kept }
+pub fn book_among<C: Carrier>(world: &MixedWorld<C>) -> Book<'_>
+    ensures value { result ≡ world.now.world.kept }
     ensures among { KeepsAmong (strange_in world.now) (C.calls.seen world.now.world.carrier).hosts world.now.world }
     ensures toward { KeepsToward (strange_in world.now) world.now.world }
 {

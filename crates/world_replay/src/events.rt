@@ -193,7 +193,7 @@ fn show_turn<C: Carrier, R: Turning<C>, W: Output>(
     let said = world.book().reports().len();
     let outcome = world.turn(event);
     let mut line = Line::new();
-    print_news(&mut line, world.book(), crossed, told, said, detail, writer)?;
+    print_news(&mut line, &world.book(), crossed, told, said, detail, writer)?;
     check_memory(outcome)
 }
 
@@ -323,6 +323,6 @@ fn replay_one<R: Replayed, W: Output>(
     let told = world.book().notices().len();
     let said = world.book().reports().len();
     let outcome = world.happen(event);
-    print_news(line, world.book(), crossed, told, said, detail, writer)?;
+    print_news(line, &world.book(), crossed, told, said, detail, writer)?;
     print_refusal(outcome, writer)
 }

@@ -48,8 +48,8 @@ pub(crate) trait Traced<C: Inspect> {
         ensures { result.now ≡ (state self.now).services };
 
     /// Returns what happened so far.
-    fn book(&self) -> &Book
-        ensures { result.now ≡ (state self.now).kept };
+    fn book(&self) -> Book<'_>
+        ensures { result ≡ (state self.now).kept };
 
     /// Lets one event happen as an event of a calm, and prints what it shows.
     ///
@@ -85,7 +85,7 @@ impl<C: Inspect> Traced<C> for World<C> {
         World::services(self)
     }
 
-    fn book(&self) -> &Book {
+    fn book(&self) -> Book<'_> {
         World::book(self)
     }
 
@@ -119,7 +119,7 @@ impl<C: Inspect> Traced<C> for MixedWorld<C> {
         MixedWorld::services(self)
     }
 
-    fn book(&self) -> &Book {
+    fn book(&self) -> Book<'_> {
         MixedWorld::book(self)
     }
 
