@@ -4,7 +4,6 @@ ghost use Rattle.std.specs.Prelude.{◌≡◌, ◌≢◌, ◌≤◌, ◌↔◌, 
 ghost use Rattle.net_sim.specs.MixedWorlds.{absent_in};
 ghost use Rattle.script.specs.Script.{lines_of};
 ghost use Rattle.topology.specs.Mixed.{MixedFields};
-ghost use Rattle.world_replay.specs.Output as lines;
 ghost use Rattle.world_script.specs.Mixed.{AskForMixed};
 ghost use Rattle.command_line.specs.Mixed.{DescribesMixed, IsMixedFault, IsMixedInput, MixedEndsOn, MixedReplaysOn, MixedShowsFrom, MixedWritesPart};
 ghost use Rattle.command_line.specs.Replayed.{WritesWorld};
