@@ -38,7 +38,7 @@ pub fn beside_lines<E: Drop>(
     events: Vec<E>,
 ) -> Result<Vec<(usize, E)>, AllocError>
     ensures placed { IfOk result (λ placed. placed.items ≡ zip lines.now events.items) }
-    ensures memory { OnErr result (0 < length (zip lines.now events.items)) }
+    ensures memory { OnErr result ((0 < length lines.now) × (0 < length events.items)) }
 {
     let places = lines.len().min(events.len());
     if places == 0 {
