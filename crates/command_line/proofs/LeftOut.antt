@@ -58,11 +58,11 @@ event_on : (a b c d e f : ℕ) (s t xs ys : List ℕ) → from_line a b c s xs �
     → (s ++ 34 ∷ []) ++ xs ≡ (t ++ 34 ∷ []) ++ ys
 event_on a b c d e f s t xs ys is =
     let number : from_number b c s xs ≡ from_number e f t ys = behind_number a d (from_number b c s xs) (from_number e f t ys)
-        (append_cancel_left (codes "{\"line\":") (decimal a ++ 44 ∷ from_number b c s xs) (decimal d ++ 44 ∷ from_number e f t ys) is) in
+    (append_cancel_left (codes "{\"line\":") (decimal a ++ 44 ∷ from_number b c s xs) (decimal d ++ 44 ∷ from_number e f t ys) is) in
     let round : from_round c s xs ≡ from_round f t ys = behind_number b e (from_round c s xs) (from_round f t ys)
-        (append_cancel_left (codes "\"number\":") (decimal b ++ 44 ∷ from_round c s xs) (decimal e ++ 44 ∷ from_round f t ys) number) in
+    (append_cancel_left (codes "\"number\":") (decimal b ++ 44 ∷ from_round c s xs) (decimal e ++ 44 ∷ from_round f t ys) number) in
     let event : from_event s xs ≡ from_event t ys = behind_number c f (from_event s xs) (from_event t ys)
-        (append_cancel_left (codes "\"round\":") (decimal c ++ 44 ∷ from_event s xs) (decimal f ++ 44 ∷ from_event t ys) round) in
+    (append_cancel_left (codes "\"round\":") (decimal c ++ 44 ∷ from_event s xs) (decimal f ++ 44 ∷ from_event t ys) round) in
     append_cancel_left (codes "\"event\":\"") ((s ++ 34 ∷ []) ++ xs) ((t ++ 34 ∷ []) ++ ys) event
 
 -- ---- the event of the worked line, and what is behind it
@@ -81,8 +81,8 @@ forget_lacks : (at from : ℕ) → Lacks 34 (net_spelling (net.Forget at from))
 forget_lacks at from = All-append P (codes "forget ") (decimal at ++ 32 ∷ decimal from) (unmarked_where 34 (codes "forget ") refl)
     (All-append P (decimal at) (32 ∷ decimal from) (decimal_lacks 34 at (lit< tt))
     (All-cons P 32 (decimal from) refl (decimal_lacks 34 from (lit< tt)))) where
-  P : ℕ → Type 0
-  P x = (x == 34) ≡ false
+      P : ℕ → Type 0
+      P x = (x == 34) ≡ false
 
 net_is : (e : NetEvent) (rest : List ℕ) → IsIt (net_spelling e) rest → behind ≡ rest
 net_is (net.Forget at from) rest is =

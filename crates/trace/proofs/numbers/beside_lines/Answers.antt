@@ -18,7 +18,7 @@ returns-then-places-eq0-clause-placed g c =
 pub returns-clause-placed : goal.returns-clause-placed
 returns-clause-placed g c =
     let lines = YieldsList-at c.zip.ensures.first (YieldsList-from_copied
-        (YieldsList-at c.copied.ensures.source (YieldsList-from_slice c.args.lines.now c.iter.ensures.rest))) in
+    (YieldsList-at c.copied.ensures.source (YieldsList-from_slice c.args.lines.now c.iter.ensures.rest))) in
     let events = YieldsList-from_vec c.args.events.items c.zip.ensures.second.0 (search rules) in
     let all = items_from_extend c.extend.result c.extend.ensures.ran (YieldsList-from_zip lines events) in
     search rules
