@@ -1,7 +1,10 @@
 -- An output leaves out no line that its trace has as printed: a line whose event printed something is read in no other way.
-use Rattle.command_line.proofs.Common.{◌≡◌, ℕ, List, [], ◌∷◌, ◌++◌, Bool, Option, None, Some, codes, arith, refl, sym, ap, ◌∙◌}
-use Rattle.command_line.proofs.Common.{Crossing, ended_line, text_of, length-append, length-map, map}
-use Rattle.std.proofs.Common.{append_assoc, length, lit<}
+use Rattle.std.proofs.Common.{◌≡◌, ℕ, ◌==◌, List, [], ◌∷◌, ◌++◌, Bool, false, Option, None, Some, codes, map, length, arith, refl, sym, ap, ◌∙◌}
+use Rattle.std.proofs.Common.{append_assoc, length-append, lit<}
+use Rattle.command_line.proofs.Common.{length-map}
+use Rattle.interface.specs.declared.crossing.Crossing.{Crossing}
+use Rattle.replay.specs.InTurn.{text_of}
+use Rattle.script.specs.Input.{ended_line}
 use Rattle.std.proofs.lemmas.List.{append_cancel_left}
 use Rattle.std.proofs.lemmas.List.Elements.{All-append, All-cons}
 use Rattle.std.specs.Fmt.{decimal}
