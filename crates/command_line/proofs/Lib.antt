@@ -3,6 +3,7 @@ mod Faults
 mod InCalm
 mod Joined
 mod Joins
+mod LeftOut
 mod Lived
 mod Logs
 mod MixedTraced
