@@ -30,7 +30,7 @@ pub use Rattle.masked_worlds.specs.Among.{is_of_stranger, without_strangers}
 pub use Rattle.masked_worlds.specs.Mixed.{IsMixed, closed, masked_crossing, masked_moments, stopped}
 pub use Rattle.masked_worlds.specs.Strangers.{masked_as, masked_log, strange_end, stranger_in, turn}
 pub use Rattle.masked_worlds.specs.Worked.{listener_taken}
-pub use Rattle.mixed_worlds.specs.Book.{beside_among, crossed_only, is_among, lives_among, mixed_kept}
+pub use Rattle.mixed_worlds.specs.Book.{beside_among, contacts_among, crossed_only, is_among, lives_among, mixed_kept}
 pub use Rattle.mixed_worlds.specs.Ends.{HasSome}
 pub use Rattle.mixed_worlds.specs.Promised.{Promises}
 pub use Rattle.mixed_worlds.specs.Told.{ToldAmong, told_among}
