@@ -1,4 +1,4 @@
-use Rattle.mixed_worlds.proofs.Common.{◌≡◌, Bool, true, false, List, [], ◌∷◌, ◌++◌, refl, sym, ap, ◌∙◌, Host, Flow, Crossing, on_link, second, third}
+use Rattle.mixed_worlds.proofs.Common.{◌≡◌, true, false, List, [], ◌∷◌, ◌++◌, refl, ap, ◌∙◌, arith, Flow, on_link, second, third}
 use Rattle.interface.specs.declared.crossing.Answer.TheVariants as answer
 use Rattle.interface.specs.declared.crossing.Crossing.TheVariants as crossing
 use Rattle.sockets.specs.Worked.{first}
@@ -32,7 +32,8 @@ returns-clause-source c = of_stranger (on_link third second 2)
 
 pub returns-clause-unsent : goal.returns-clause-unsent
 returns-clause-unsent c arrived =
-    absurd (let none = (arrived.answered [] [] (on_link first second 2) refl refl refl refl).there in cc)
+    let there = (arrived.answered [] [] (on_link first second 2) refl refl refl refl).there in
+    absurd (omega (arith, there.1))
 
 pub returns-clause-any : goal.returns-clause-any
 returns-clause-any c strange contacts log lives fates book = record {
