@@ -60,7 +60,7 @@ module _ (strange : Host → Bool) (f : Flow) (source : strange f.source ≡ fal
         ∙ some in cc)
     by false e = refl
 
-  last_step : ℕ → Crossing → Option ℕ → Option ℕ
+  abbrev last_step : ℕ → Crossing → Option ℕ → Option ℕ
   last_step place (crossing.Out m) last = if same_flow f m.flow then Some place else last
   last_step place c last = last
 
