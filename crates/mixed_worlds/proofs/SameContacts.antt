@@ -31,7 +31,7 @@ module _ (orders : Orders) (strange : Host → Bool) (hosts : List Host) where
   by_stranger : (c : Crossing) (moments ms : List Moment)
       → contacts_of (closed_by strange c moments ms) ≡ contacts_of ms
   by_stranger (crossing.In m) moments ms = by (strange m.flow.destination) where
-    abbrev sockets : List ℕ
+    sockets : List ℕ
     sockets = stopped (program m.flow.destination moments).listening
         (program m.flow.destination (Crossed (crossing.In m) ∷ moments)).listening
 
