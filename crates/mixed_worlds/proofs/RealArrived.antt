@@ -1,11 +1,10 @@
 -- What an open life between hosts with programs has, and what RFNM of data between them says, over the real log.
-use Rattle.mixed_worlds.proofs.Common.{◌≡◌, ℕ, ◌==◌, ◌<◌, ◌||◌, Bool, true, false, List, [], ◌∷◌, ◌++◌, length, Option, Some, None, refl, ap, sym, subst, ◌∙◌, or_false, Contains, Host, same_flow, is_up, Flow, Crossing, HostMessage, coming, flow_of, IsBeside, Match, Fate, Life, masked_as, masked_log, stranger_in, turn}
+use Rattle.mixed_worlds.proofs.Common.{◌≡◌, ℕ, ◌<◌, ◌||◌, Bool, false, List, [], ◌∷◌, ◌++◌, length, Option, Some, None, refl, ap, sym, subst, ◌∙◌, or_false, Contains, Host, same_flow, is_up, Flow, Crossing, HostMessage, coming, flow_of, Fate, Life, masked_as, masked_log, stranger_in, turn}
 use Rattle.std.specs.Prelude.{option_map}
 use Rattle.interface.specs.Messages.{went_out}
 use Rattle.interface.specs.declared.crossing.Answer.TheVariants as answer
 use Rattle.interface.specs.declared.crossing.Crossing.TheVariants as crossing
 use Rattle.promise.specs.Arrived.{ArrivedBook, HasArrived, IsCounted}
-use Rattle.promise.specs.Ends.{Going, stage}
 use Rattle.promise.specs.declared.book.Called.{Called}
 use Rattle.promise.specs.declared.life.Fate.TheVariants as fate
 use Rattle.mixed_worlds.specs.Arrived.{ArrivedAmong}
@@ -26,7 +25,8 @@ pub record WentLast (f : Flow) (m : HostMessage) (log : List Crossing) (place : 
 module _ (strange : Host → Bool) (hosts : List Host) where
   -- a crossing that stays keeps all that was before it
   split : (newer older : List Crossing) (c : Crossing) → stranger_in strange c ≡ None
-      → (more : List Crossing) × (masked_log strange hosts (newer ++ c ∷ older) ≡ more ++ c ∷ masked_log strange hosts older)
+      → (more : List Crossing)
+      × (masked_log strange hosts (newer ++ c ∷ older) ≡ more ++ c ∷ masked_log strange hosts older)
   split [] older c none = (
     [],
     ap
@@ -120,7 +120,8 @@ module _ (strange : Host → Bool) (hosts : List Host) (log : List Crossing) (co
         (same_stage strange hosts log contacts lives plain receiver here ∙ going) there
         (to_masked strange hosts log lives plain receiver sender here there m));
     answered = λ newer older f is off source destination. by newer older f is source destination
-        (arrived.answered (split strange hosts newer older (crossing.Answer answer.Rfnm f) (plain_flow f source destination)).0
+        (arrived.answered
+        (split strange hosts newer older (crossing.Answer answer.Rfnm f) (plain_flow f source destination)).0
         (masked_log strange hosts older) f
         (ap (masked_log strange hosts) is
         ∙ (split strange hosts newer older (crossing.Answer answer.Rfnm f) (plain_flow f source destination)).1) off);

@@ -1,6 +1,6 @@
--- How far a life between hosts with programs is, and what follows a contact among these, is read of the real log as it is
--- where its strangers are masked.
-use Rattle.mixed_worlds.proofs.Common.{◌≡◌, ℕ, suc, ◌==◌, ◌&&◌, ◌||◌, not, Bool, true, false, if◌then◌else◌, List, [], ◌∷◌, length, Option, Some, None, refl, ap, sym, subst, ◌∙◌, list_any, Contains, Host, same_host, is_up, Flow, Crossing, control_flow, orders_of, Legal, Fate, Life, masked_as, masked_log, strange_end, stranger_in, turn, if_is, other_host, same_host-sym, contacts_among}
+-- How far a life between hosts with programs is, and what follows a contact among these, is read of the real log as it
+-- is where its strangers are masked.
+use Rattle.mixed_worlds.proofs.Common.{◌≡◌, ℕ, suc, ◌==◌, ◌&&◌, ◌||◌, not, Bool, true, false, if◌then◌else◌, List, [], ◌∷◌, length, Option, Some, None, refl, ap, sym, subst, ◌∙◌, list_any, Contains, Host, same_host, Flow, Crossing, control_flow, orders_of, Legal, Fate, Life, masked_as, masked_log, strange_end, stranger_in, turn, if_is, other_host, same_host-sym, contacts_among}
 use Rattle.std.proofs.Common.{◌≤◌}
 use Rattle.std.proofs.Math.Bool.{and-false, and-true}
 use Rattle.interface.specs.declared.crossing.Crossing.TheVariants as crossing

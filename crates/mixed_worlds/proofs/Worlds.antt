@@ -63,8 +63,8 @@ module _ {C : Type 0} (strange : Host → Bool) (seen : C → Seen) (hosts : Lis
         (law.whole strange hosts moments world_mixed);
     fated = kept (λ xs k. AreFated (lives_among strange k.book.lives)
         (beside_among strange k.book.lives k.fates)) (law.fated strange hosts moments world_mixed);
-    arrived = kept_with (λ cs xs k. ArrivedAmong strange (contacts_among strange cs) xs (lives_among strange k.book.lives)
-        (beside_among strange k.book.lives k.fates)) (law.arrived strange hosts moments world_mixed);
+    arrived = kept_with (λ cs xs k. ArrivedAmong strange (contacts_among strange cs) xs
+        (lives_among strange k.book.lives) (beside_among strange k.book.lives k.fates)) (law.arrived strange hosts moments world_mixed);
     over = kept_with (λ cs xs k. AreLeft (contacts_among strange cs) xs (lives_among strange k.book.lives)
         (beside_among strange k.book.lives k.fates)) (law.over strange hosts moments world_mixed);
     contacts = kept_with (λ cs xs k. AreContacts (contacts_among strange cs) xs)

@@ -1,5 +1,5 @@
--- What an open life has, and what RFNM of data says, among hosts with programs (BBN Report 1822, RFNM; NIC 8246, messages
--- of data and CLS).
+-- What an open life has, and what RFNM of data says, among hosts with programs (BBN Report 1822, RFNM; NIC 8246,
+-- messages of data and CLS).
 use Rattle.std.specs.Prelude.{◌≡◌, ◌==◌, Bool, false, true, List, ◌∷◌, ◌++◌, length}
 use Rattle.std.specs.List.{Contains}
 use Rattle.interface.specs.Host.{Host}

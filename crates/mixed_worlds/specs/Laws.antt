@@ -6,6 +6,7 @@ use Rattle.interface.specs.Host.{Host, same_host}
 use Rattle.interface.specs.Mailboxes.{Empty, IsRun, box_of, is_up}
 use Rattle.interface.specs.Messages.{SafeMessages}
 use Rattle.interface.specs.declared.address.Flow.{Flow}
+use Rattle.interface.specs.declared.crossing.Crossing.{Crossing}
 use Rattle.interface.specs.declared.crossing.Crossing.TheVariants as crossing
 use Rattle.interface.specs.declared.crossing.Inbound.TheVariants as inbound
 use Rattle.interface.specs.declared.message.HostMessage.{HostMessage}
@@ -15,11 +16,14 @@ use Rattle.sockets.specs.Accepting.{accepted}
 use Rattle.sockets.specs.Pairs.{NcpState, pair_with}
 use Rattle.sockets.specs.Sending.{next_out}
 use Rattle.host_services.specs.declared.report.Reported.{Reported}
+use Rattle.promise.specs.Arrived.{ArrivedBook}
 use Rattle.promise.specs.Connections.{JoinedBook}
 use Rattle.promise.specs.Ends.{AreContacts, AreLeft}
 use Rattle.promise.specs.Fates.{AreFated, ClosesWhole, IsBeside}
 use Rattle.promise.specs.Formed.{FormedBook}
 use Rattle.promise.specs.Safe.{IsGranted, IsPrefix, SafeBook, receives, sends}
+use Rattle.promise.specs.declared.book.Called.{Called}
+use Rattle.promise.specs.declared.life.Fate.{Fate}
 use Rattle.promise.specs.declared.life.Life.{Life}
 use Rattle.net_sim.specs.MixedWorlds.{IsLawfulAmong}
 use Rattle.net_sim.specs.Reports.{IsBacked}
@@ -120,6 +124,15 @@ pub record Among : Type 0 where
   pub settled :
       (strange : Host → Bool) (hosts : List Host) (moments : List Moment) → IsMixed strange hosts moments →
       HaveSettled strange hosts moments → EachAgrees (masked_moments strange hosts moments)
+
+-- All but what RFNM says is of any lives as where there are no strangers, and RFNM says the same without them.
+pub record AsArrived : Type 0 where
+  pub any :
+      (strange : Host → Bool) (contacts : List Called) (log : List Crossing) (lives : List Life) (fates : List Fate) →
+      ArrivedBook contacts log lives fates → ArrivedAmong strange contacts log lives fates
+  pub nobody :
+      (contacts : List Called) (log : List Crossing) (lives : List Life) (fates : List Fate) →
+      ArrivedAmong (λ h. false) contacts log lives fates → ArrivedBook contacts log lives fates
 
 -- A host with a program, toward strangers and all others.
 pub record Toward : Type 0 where

@@ -1,25 +1,19 @@
 //! Networks with strangers. The functions here do nothing: each clause is a law.
 
-ghost use Rattle.std.specs.Prelude.{◌≡◌, Bool, true, false, List, [], ◌∷◌, Some, length, replicate};
+ghost use Rattle.std.specs.Prelude.{◌≡◌, true, false, [], ◌∷◌, Some, length, replicate};
 ghost use Rattle.host_pairs.specs.declared.notice.Notice.TheVariants as notice;
-ghost use Rattle.promise.specs.Arrived.{ArrivedBook};
 ghost use Rattle.promise.specs.Ends.{AreContacts, Dropped, Over, crosses};
 ghost use Rattle.promise.specs.Safe.{IsGranted};
-ghost use Rattle.promise.specs.declared.book.Called.{Called};
-ghost use Rattle.promise.specs.declared.life.Fate.{Fate};
-ghost use Rattle.promise.specs.declared.life.Life.{Life};
 ghost use Rattle.sockets.specs.Sending.{next_out};
 ghost use Rattle.sockets.specs.Worked.{STR, control, first, on_link, second, third};
-ghost use Rattle.interface.specs.Host.{Host};
 ghost use Rattle.interface.specs.declared.crossing.Answer.TheVariants as answer;
-ghost use Rattle.interface.specs.declared.crossing.Crossing.{Crossing};
 ghost use Rattle.interface.specs.declared.crossing.Crossing.TheVariants as crossing;
 ghost use Rattle.net_sim.specs.Book.{new_life};
 ghost use Rattle.net_sim.specs.Story.{Crossed, program};
 ghost use Rattle.net_sim.specs.Timeline.{crossings_of};
 ghost use Rattle.net_sim.specs.Told.{kept_in};
 ghost use Rattle.net_sim.specs.Worked.{eight};
-ghost use Rattle.net_sim.specs.WorkedResets.{rst};
+ghost use Rattle.net_sim.specs.WorkedResets.{rrp, rst};
 ghost use Rattle.masked_worlds.specs.Mixed.{AreMixed};
 ghost use Rattle.masked_worlds.specs.Worked.{is_third, listener_taken, three};
 ghost use Rattle.promise.specs.Formed.{IsFormed};
@@ -34,7 +28,7 @@ ghost use Rattle.mixed_worlds.specs.Worked.{odd_life, odd_size, sending_life};
 ghost use Rattle.mixed_worlds.specs.Worked.{all_called, begun, called_second, called_stranger};
 ghost use Rattle.mixed_worlds.specs.Worked.{plain_bits, plain_life, receiving_life};
 ghost use Rattle.mixed_worlds.specs.Worked.{stranger_contacted, stranger_granted, stranger_opened};
-ghost use Rattle.mixed_worlds.specs.Laws.{Among, HaveSettled, Toward, Worlds};
+ghost use Rattle.mixed_worlds.specs.Laws.{Among, AsArrived, HaveSettled, Toward, Worlds};
 
 use interface::Carrier;
 use masked_worlds::law::{masked, masked_logs};
@@ -199,7 +193,7 @@ pub fn worked_ends()
     ensures followed { AreContacts (contacts_among is_third called_second) (crossing.Out (rst first second) ∷ []) }
     ensures unfollowed { AreContacts (contacts_among is_third called_second) (crossing.Out plain_bits ∷ []) → ⊥ }
     ensures free { AreContacts (contacts_among is_third called_stranger) (crossing.Out (rst second first) ∷ []) }
-    ensures toward { AreContacts (contacts_among is_third called_stranger) (crossing.Out (control second third (STR 33 16 8)) ∷ []) }
+    ensures toward { AreContacts (contacts_among is_third called_stranger) (crossing.Out (rrp second third) ∷ []) }
 {}
 
 /// What RFNM of data says among hosts with programs.
@@ -211,6 +205,5 @@ pub fn worked_arrived()
     ensures unsent { ArrivedAmong is_third [] (crossing.Answer answer.Rfnm (on_link first second 2) ∷ []) [] [] → ⊥ }
 
     // all else is said of any lives as where there are no strangers
-    ensures any { (strange : Host → Bool) (contacts : List Called) (log : List Crossing) (lives : List Life) (fates : List Fate) → ArrivedBook contacts log lives fates → ArrivedAmong strange contacts log lives fates }
-    ensures nobody { (contacts : List Called) (log : List Crossing) (lives : List Life) (fates : List Fate) → ArrivedAmong (λ h. false) contacts log lives fates → ArrivedBook contacts log lives fates }
+    ensures as_any { AsArrived }
 {}

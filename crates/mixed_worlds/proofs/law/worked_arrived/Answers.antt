@@ -24,7 +24,8 @@ of_stranger f none = record {
 
 pub returns-clause-destination : goal.returns-clause-destination
 returns-clause-destination c = of_stranger (on_link second third 2)
-    (λ g is source destination. let no : true ≡ false = ap (λ (f : Flow). is_third f.destination) is ∙ destination in cc)
+    (λ g is source destination.
+    let no : true ≡ false = ap (λ (f : Flow). is_third f.destination) is ∙ destination in cc)
 
 pub returns-clause-source : goal.returns-clause-source
 returns-clause-source c = of_stranger (on_link third second 2)
@@ -35,16 +36,16 @@ returns-clause-unsent c arrived =
     let there = (arrived.answered [] [] (on_link first second 2) refl refl refl refl).there in
     absurd (omega (arith, there.1))
 
-pub returns-clause-any : goal.returns-clause-any
-returns-clause-any c strange contacts log lives fates book = record {
-  all = book.all;
-  closed = book.closed;
-  answered = λ newer older f is off source destination. book.answered newer older f is off;
-}
-
-pub returns-clause-nobody : goal.returns-clause-nobody
-returns-clause-nobody c contacts log lives fates among = record {
-  all = among.all;
-  closed = among.closed;
-  answered = λ newer older f is off. among.answered newer older f is off refl refl;
+pub returns-clause-as_any : goal.returns-clause-as_any
+returns-clause-as_any c = record {
+  any = λ strange contacts log lives fates book. record {
+    all = book.all;
+    closed = book.closed;
+    answered = λ newer older f is off source destination. book.answered newer older f is off;
+  };
+  nobody = λ contacts log lives fates among. record {
+    all = among.all;
+    closed = among.closed;
+    answered = λ newer older f is off. among.answered newer older f is off refl refl;
+  };
 }
