@@ -52,7 +52,7 @@ pub use Rattle.pairing_law.specs.Ends.{End}
 pub use Rattle.pairing_law.specs.Marks.{Ask, Close, Mark}
 pub use Rattle.promise.specs.Connections.{JoinedBook}
 pub use Rattle.promise.specs.Fates.{ClosesWhole, IsBeside}
-pub use Rattle.promise.specs.Formed.{CrossedAt, FormedBook, HasCrossed, IsFormed, coming, data_by, flow_of, going, own_named, partner_named}
+pub use Rattle.promise.specs.Formed.{CrossedAt, FormedBook, HasCrossed, coming, data_by, flow_of, going, own_named, partner_named}
 pub use Rattle.promise.specs.Notices.{data_told}
 pub use Rattle.promise.specs.Safe.{AreTwo, Match, Name, SafeBook, control_flow, partner_request, receives, sends}
 pub use Rattle.promise.specs.declared.book.Told.{Told}

@@ -1,8 +1,8 @@
 -- A life between hosts with programs is formed over the real log where it is over that whose strangers are masked.
-use Rattle.mixed_worlds.proofs.Common.{◌≡◌, ℕ, ◌==◌, ◌&&◌, Bool, true, false, if◌then◌else◌, List, [], ◌++◌, Option, Some, None, refl, ap, sym, subst, ◌∙◌, IsSome, Host, Flow, Crossing, IsFormed, flow_of, own_named, partner_named, control_flow, receives, Life, masked_log, stranger_in, turn}
+use Rattle.mixed_worlds.proofs.Common.{◌≡◌, ℕ, ◌==◌, ◌&&◌, Bool, true, false, if◌then◌else◌, List, [], ◌++◌, Option, Some, None, refl, ap, sym, subst, ◌∙◌, IsSome, Host, Flow, Crossing, flow_of, own_named, partner_named, control_flow, receives, Life, masked_log, stranger_in, turn}
 use Rattle.std.proofs.Common.{nat_lt}
 use Rattle.interface.specs.declared.crossing.Crossing.TheVariants as crossing
-use Rattle.promise.specs.Formed.{first_data, link_of, named_at, named_of}
+use Rattle.promise.specs.Formed.{IsFormed, first_data, link_of, named_at, named_of}
 use Rattle.promise.specs.Formed.{text_of, texts_of, texts_on}
 use Rattle.promise.specs.Safe.{before}
 use Rattle.mixed_worlds.proofs.RealLogs.{flow_off, masked_before, same_read}
