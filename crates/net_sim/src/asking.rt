@@ -14,8 +14,8 @@ ghost use Rattle.sockets.specs.declared.fault.NcpFault.{NcpFault};
 ghost use Rattle.sockets.specs.declared.fault.NcpFault.TheVariants as problem;
 
 use crate::WorldFault;
-use crate::notes::{Notes, Page};
 use crate::hosting::{tend, write_crossing};
+use crate::notes::{Notes, Page};
 use crate::seat::{Seat, ServiceSeat};
 use host_services::{Deeds, ServiceDesk, copy_of};
 use interface::HostAddr;

@@ -190,8 +190,12 @@ impl Hosts {
         ensures done { OfHostAt at self.old (λ h s x. OnOk result (AreTended h x (sending.offered s (length self.old.book.book.crossings)) (crossed_by news.now self.old) self.old self.new)) }
         ensures kept { IfErr result (LacksMemory self.old self.new) }
     {
-        let Ok(()) = self.services[at].go_out(self.alloc, &mut self.seats[at], &mut self.notes, news)
-        else {
+        let Ok(()) = self.services[at].go_out(
+            self.alloc,
+            &mut self.seats[at],
+            &mut self.notes,
+            news,
+        ) else {
             return Err(WorldFault::Program(NcpFault::OutOfMemory));
         };
         Ok(())

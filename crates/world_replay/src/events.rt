@@ -192,7 +192,15 @@ fn show_turn<C: Carrier, R: Turning<C>, W: Output>(
     let said = world.book().reports().len();
     let outcome = world.turn(event);
     let mut line = Line::new();
-    print_news(&mut line, &world.book(), crossed, told, said, detail, writer)?;
+    print_news(
+        &mut line,
+        &world.book(),
+        crossed,
+        told,
+        said,
+        detail,
+        writer,
+    )?;
     check_memory(outcome)
 }
 

@@ -16,5 +16,6 @@ lent k log shown later same is = record {
 } where
   all : log ≡ reverse k.book.crossings ++ reverse later
   all = same ∙ ap (λ (xs : List Crossing). reverse xs) is ∙ reverse-append later k.book.crossings
+
   long : length log ≡ length (reverse k.book.crossings ++ reverse later)
   long = ap (λ (xs : List Crossing). length xs) all
