@@ -182,12 +182,12 @@ crossed_so cs k after ns us ps l more n u p f =
 
 -- ---- what a host's user asked for, and what it was notified of, as what is in the notes then
 
-pub asked_so : (h : Host) (r : Request) (k : Kept) (place : ℕ) (ns : List Told) (us : List Called) (ps : List Reported) (l : LivesState) → place ≡ length k.book.crossings
+pub asked_so : (h : Host) (r : Request) (k : Kept) (now : List Crossing) (place : ℕ) (ns : List Told) (us : List Called) (ps : List Reported) (l : LivesState) → now ≡ k.book.crossings → place ≡ length k.book.crossings
     → ns ≡ k.book.notices → us ≡ k.book.contacts ++ contacts_asked h place r → ps ≡ k.book.reports → l ≡ all.asked h r (of_kept k)
-    → ◌≡◌ {A = Kept} (record { book = record { crossings = k.book.crossings; notices = ns; contacts = us; reports = ps; lives = l.lives }; handed = l.handed; fates = l.fates }) (asked h r k)
-asked_so h r k place ns us ps l is n u p f =
+    → ◌≡◌ {A = Kept} (record { book = record { crossings = now; notices = ns; contacts = us; reports = ps; lives = l.lives }; handed = l.handed; fates = l.fates }) (asked h r k)
+asked_so h r k now place ns us ps l same is n u p f =
     let calls : List Called = k.book.contacts ++ contacts_asked h (length k.book.crossings) r in
-    same_kept k.book.crossings k.book.crossings ns k.book.notices us calls ps k.book.reports l refl n (u ∙ ap (λ (m : ℕ). k.book.contacts ++ contacts_asked h m r) is) p
+    same_kept now k.book.crossings ns k.book.notices us calls ps k.book.reports l same n (u ∙ ap (λ (m : ℕ). k.book.contacts ++ contacts_asked h m r) is) p
     ∙ ap (λ (m : LivesState). let after : Kept = record { book = record { crossings = k.book.crossings; notices = k.book.notices; contacts = calls; reports = k.book.reports; lives = m.lives }; handed = m.handed; fates = m.fates } in after) f
 
 -- the last of all that users were notified of
