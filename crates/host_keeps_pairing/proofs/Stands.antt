@@ -1,8 +1,8 @@
 -- What a mark that goes out, or is heard, does to the one end of two sockets.
-use Rattle.host_keeps_pairing.proofs.Common.{◌≡◌, ℕ, ◌≤◌, Bool, true, false, not, ◌||◌, if◌then◌else◌, List, [], ◌∷◌, ◌++◌, Option, Some, None, is_some, refl, ap, sym, subst, ◌∙◌, ◌⊎◌, inl, inr, append-nil, End, nothing, gone, fits, mark_taken, Mark, Ask, Close, close_due, has_cls, is_due, Closing, MayAllGo, Standing, is_past, came_from, end_of, Stand}
+use Rattle.host_keeps_pairing.proofs.Common.{◌≡◌, ℕ, ◌≤◌, Bool, true, false, not, ◌||◌, if◌then◌else◌, List, [], ◌∷◌, ◌++◌, Option, Some, None, is_some, refl, ap, sym, subst, ◌∙◌, ◌⊎◌, inl, inr, append-nil, End, nothing, gone, fits, mark_taken, Mark, Ask, Close, close_due, is_due, Closing, MayAllGo, Standing, is_past, came_from, end_of, Stand}
 use Rattle.pairing_law.specs.Ends.{is_begun, MayGo}
 use Rattle.pairing_law.specs.Sides.{above}
-use Rattle.host_pairs.specs.Entries.{is_sent}
+use Rattle.host_pairs.specs.Entries.{is_sent, has_cls}
 use Rattle.host_pairs.specs.declared.entry.Closing.TheVariants as closing
 use Rattle.host_pairs.proofs.lemmas.{both, not_is}
 use Rattle.host_keeps_pairing.specs.Ends.{request_due, close_waits}

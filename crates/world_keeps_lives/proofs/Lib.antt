@@ -27,7 +27,6 @@ pub mod Texts
 pub mod Stamps
 pub mod Unopened
 pub mod Calms
-pub mod Never
 pub mod FirstEnds
 pub mod Firsts
 pub mod FirstBooks

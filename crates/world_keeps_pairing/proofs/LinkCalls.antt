@@ -1,5 +1,5 @@
 -- What users ask for and what is answered, and links.
-use Rattle.world_keeps_pairing.proofs.Common.{◌≡◌, ℕ, Bool, true, false, not, ◌&&◌, ◌||◌, if◌then◌else◌, List, [], ◌∷◌, ◌++◌, Option, Some, None, is_some, refl, sym, subst, ◌∙◌, Host, same_host, Flow, Answer, same_host-true, is_receive_socket, is_send_socket, Command, desk_of, entry_at, free_link, is_receiving, receiving_end, sending_end, PairState, link_of, is_ready, TurnState, Entry, Phase, turn_of, NcpState, pair_with, with_pair, Peer, Request}
+use Rattle.world_keeps_pairing.proofs.Common.{◌≡◌, ℕ, Bool, true, false, not, ◌&&◌, ◌||◌, if◌then◌else◌, List, [], ◌∷◌, ◌++◌, Option, Some, None, is_some, refl, sym, subst, ◌∙◌, Host, same_host, Flow, Answer, same_host-true, is_receive_socket, is_send_socket, Command, desk_of, entry_at, free_link, is_receiving, receiving_end, sending_end, PairState, link_of, is_ready, TurnState, Entry, Phase, turn_of, NcpState, pair_with, Peer, Request}
 use Rattle.interface.specs.declared.crossing.Answer.TheVariants as answer
 use Rattle.interface.specs.declared.crossing.Inbound.TheVariants as inbound
 use Rattle.interface.proofs.lemmas.{or_false, not_false}
@@ -12,7 +12,7 @@ use Rattle.host_pairs.specs.Turn.{answered_turn, failed, failed_by, freed, is_go
 use Rattle.ncp_control.specs.declared.phase.Phase.TheVariants as phase
 use Rattle.host_pairs.proofs.lemmas.{both}
 use Rattle.sockets.specs.Accepting.{accepted, accepted_answer}
-use Rattle.sockets.specs.Pairs.{owner_of}
+use Rattle.sockets.specs.Pairs.{owner_of, with_pair}
 use Rattle.sockets.specs.Requests.{at_owner, closed_socket, first_if, is_taken, is_used, refusal, served}
 use Rattle.sockets.specs.declared.request.Request.TheVariants as request
 use Rattle.sockets.proofs.lemmas.{not_first, others_stay}

@@ -1,5 +1,6 @@
 -- The lives of two hosts that stay, as a safe book asks for them.
-use Rattle.world_keeps_streams.proofs.Common.{◌≡◌, inl, inr, ℕ, zero, suc, ◌≤◌, ◌==◌, true, false, List, [], ◌∷◌, drop, refl, sym, subst, arith, Host, is_receive_socket, AreAllowed, gone_now, numbered, receiver_now, sender_now, Sockets, Who, Asks, Mark, Side, pair_with, Moment, events_of, program, crossings_of, Coupled, law_events, origin_in, ArePaired, are_origins, at_texts, even_odd, foreign_of, half, life_paired, other, own_of, receiver_half, sender_half, served_in, own_calls, numbered_by_peer}
+use Rattle.world_keeps_streams.proofs.Common.{◌≡◌, inl, inr, ℕ, zero, suc, ◌≤◌, ◌==◌, true, false, List, [], ◌∷◌, drop, refl, sym, subst, arith, Host, is_receive_socket, AreAllowed, gone_now, numbered, receiver_now, sender_now, Sockets, Who, Asks, Mark, Side, pair_with, Moment, events_of, program, crossings_of, Coupled, law_events, origin_in, are_origins, at_texts, even_odd, foreign_of, half, life_paired, other, own_of, receiver_half, sender_half, served_in, own_calls, numbered_by_peer}
+use Rattle.world_keeps_pairing.specs.Lives.{ArePaired}
 use Rattle.pairing_law.specs.Links.{Receiver, Sender}
 use Rattle.reset_law.specs.Stays as stay
 use Rattle.promise.specs.Safe.{receives, sends}

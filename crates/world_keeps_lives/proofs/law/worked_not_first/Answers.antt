@@ -7,7 +7,7 @@ use Rattle.sockets.specs.Accepting.{accepted}
 use Rattle.sockets.specs.Requests.{refusal, served, served_notices}
 use Rattle.sockets.specs.Sending.{next_out, offered}
 use Rattle.world_keeps_lives.specs.WorkedFormed.{closing_moments, taken_moments}
-use Rattle.world_keeps_lives.proofs.Never.{has_not, never_earlier, never_has, none_has}
+use Rattle.world_keeps_lives.proofs.Walk.Never.{has_not, never_earlier, never_has, none_has}
 use Rattle.world_keeps_lives.proofs.law.worked_not_first.Goals as goal
 
 -- ---- whether the user of a sending life has closed its end, with the partner's CLS not taken yet
