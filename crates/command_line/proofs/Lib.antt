@@ -3,7 +3,6 @@ mod Faults
 mod InCalm
 mod Joined
 mod Joins
-mod LeftOut
 mod Lived
 mod Logs
 mod MixedTraced

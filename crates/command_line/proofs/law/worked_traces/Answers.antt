@@ -1,4 +1,4 @@
-use Rattle.command_line.proofs.LeftOut.{left_out, one_each}
+use Rattle.command_line.proofs.Replayed.LeftOut.{left_out, one_each}
 use Rattle.command_line.proofs.Recorded.{none, swallowed}
 use Rattle.command_line.proofs.law.worked_traces.Goals as goal
 

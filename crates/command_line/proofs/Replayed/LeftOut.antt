@@ -68,7 +68,7 @@ event_on a b c d e f s t xs ys is =
     (append_cancel_left (codes "\"round\":") (decimal c ++ 44 ∷ from_event s xs) (decimal f ++ 44 ∷ from_event t ys) round) in
     append_cancel_left (codes "\"event\":\"") ((s ++ 34 ∷ []) ++ xs) ((t ++ 34 ∷ []) ++ ys) event
 
--- ---- the event of the worked line, and what is behind it
+-- ---- the event of the worked line, and what comes after it
 
 abbrev forgets : List ℕ
 forgets = net_spelling (net.Forget 1 2)
@@ -76,7 +76,7 @@ forgets = net_spelling (net.Forget 1 2)
 abbrev behind : List ℕ
 behind = codes ",\"crossed\":[],\"printed\":[\"refused Unsettled\"],\"parts\":{}}"
 
--- a text of an event, and what is behind it, are as in the worked line
+-- a text of an event, and what comes after it, are as in the worked line
 abbrev IsIt : List ℕ → List ℕ → Type 0
 IsIt text rest = (forgets ++ 34 ∷ []) ++ behind ≡ (text ++ 34 ∷ []) ++ rest
 
