@@ -20,7 +20,8 @@ pub use Rattle.world_keeps_lives.proofs.Moments.{acts, asked_away, crossed_holds
 pub use Rattle.world_keeps_lives.proofs.Moments.{held, idle_if, opening_holds, up_at}
 pub use Rattle.world_keeps_lives.proofs.Named.{NamedAt, Names, found_at, named_again, named_is, named_there, names_of, some_named, way_of}
 pub use Rattle.world_keeps_lives.proofs.Named.{none_some}
-pub use Rattle.world_keeps_lives.proofs.Walk.Never.{has_not, never_earlier, never_has, none_has}
+pub use Rattle.world_keeps_lives.proofs.Walk.Never.{has_not, never_earlier}
+unfoldable pub use Rattle.world_keeps_lives.proofs.Walk.Never.{never_has, none_has}
 pub use Rattle.world_keeps_lives.proofs.Notices.{world_told}
 pub use Rattle.world_keeps_lives.proofs.Owners.{owner_found}
 pub use Rattle.world_keeps_lives.proofs.Pairs.{goes_at, goes_on, goes_with, not_both, prefix_more}
