@@ -108,19 +108,19 @@ fn of_world<C: Carrier>(alloc: Global, carrier: C, script: &str) -> Option<Seen>
         }
     }
     let mut world = World::new(alloc, carrier).ok()?;
-    let mut sizes = sizes_of(world.book());
-    let mut before = told(alloc, world.book())?;
+    let mut sizes = sizes_of(&world.book());
+    let mut before = told(alloc, &world.book())?;
     for event in events {
         let is_asked = !matches!(event, Event::Quiet | Event::Take(_) | Event::Offer(_));
         let done = world.step(event);
         if done == Err(WorldFault::Carrier(CarrierFault::OutOfMemory)) || done == Err(WorldFault::Program(NcpFault::OutOfMemory)) {
-            let same = told(alloc, world.book())?.as_str() == before.as_str();
+            let same = told(alloc, &world.book())?.as_str() == before.as_str();
             return Some(if !same { Seen::Changed } else if is_stopped(&mut world)? { Seen::Stopped } else { Seen::GoesOn });
         }
-        let now = sizes_of(world.book());
+        let now = sizes_of(&world.book());
         if is_asked || now != sizes {
             sizes = now;
-            before = told(alloc, world.book())?;
+            before = told(alloc, &world.book())?;
         }
     }
     Some(Seen::End)
