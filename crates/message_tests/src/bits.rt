@@ -164,6 +164,9 @@ fn short_and_long_lists_are_copied(rt: HostRuntime) {
 /// them.
 fn are_given_back(alloc: Global, count: u8) -> Result<[bool; 3], BitFault> {
     let count = usize::from(count);
+    if count > MANY.len() {
+        return Err(BitFault::Range);
+    }
     let octets = MANY.split_at(count).0;
     let bits = Bits::from_octets(alloc, octets, 8 * count)?;
     let mut later = Bits::from_octets(alloc, &[0x80], 3)?;
