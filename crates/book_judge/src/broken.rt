@@ -2,6 +2,7 @@
 
 ghost use Rattle.std.specs.Prelude.{◌≡◌, IfOk, List, MatchOption, length, reverse};
 ghost use Rattle.interface.specs.declared.crossing.Crossing.{Crossing};
+ghost use Rattle.net_sim.specs.Audit.{IsWellFormed};
 ghost use Rattle.net_sim.specs.Findings.{ShowsMalformed};
 ghost use Rattle.book_judge.specs.Broken.{IsBroken};
 ghost use Rattle.book_judge.specs.Inside.Asked.{AreNamed};
@@ -61,6 +62,27 @@ fn uncounted(lives: &[Life], handed: &[BitLog]) -> Option<Finding>
         return Some(Finding::List(lives.len()));
     }
     None
+}
+
+/// Returns where it shows that the lives of a log, and what was handed over in them, are malformed: the first life that has no list, or
+/// the first list that has no life; else the first life with a stamp that names no request. The log is the oldest first.
+///
+/// Errors: `AllocError`.
+pub fn malformed_at(
+    alloc: Global,
+    log: &[Passage],
+    lives: &[Life],
+    handed: &[BitLog],
+) -> Result<Option<Finding>, AllocError>
+    ensures { IfOk result (λ found. MatchOption found (IsWellFormed (reverse log.now) lives.now handed.now) (λ at. ShowsMalformed at (reverse log.now) lives.now handed.now)) }
+{
+    if let Some(found) = uncounted(lives, handed) {
+        return Ok(Some(found));
+    }
+    match partners_of(alloc, log, lives)? {
+        Ok(_) => Ok(None),
+        Err(place) => Ok(Some(Finding::Life(place))),
+    }
 }
 
 /// Returns the first two lives that can't both be in one book.

@@ -3,6 +3,8 @@ mod Books
 mod Cuts
 mod Going
 mod Keywords
+mod Named
+mod Networks
 mod Numbers
 mod Once
 mod Printed

@@ -1,14 +1,21 @@
 //! What is said of a book: which part of it doesn't hold.
 
-ghost use Rattle.std.specs.Prelude.{IfOk, MatchOption, reverse};
+ghost use Rattle.std.specs.Prelude.{◌≡◌, IfOk, MatchOption, map, reverse};
+ghost use Rattle.book_judge.specs.Broken.{IfFormed};
 ghost use Rattle.book_judge.specs.Runs.{IsSomeRun, StraysAt};
-ghost use Rattle.command_line.specs.Audits.{Judged};
+ghost use Rattle.book_judge.specs.Toward.{AreToward, UntowardAt};
+ghost use Rattle.command_line.specs.Audits.{AreParts, Judged, counts_at, kept_by};
+ghost use Rattle.interface.specs.Host.{is_host};
 ghost use Rattle.interface.specs.Messages.{SafeMessages};
+ghost use Rattle.mixed_worlds.specs.Book.{is_among};
 ghost use Rattle.net_sim.specs.Findings.{ShowsCrossing};
 
 use crate::verdict::Verdict;
-use book_judge::{Broken, broken_at, broken_message, stray_at, unmade_at, unsuited_at};
-use interface::Crossing;
+use book_judge::{
+    Broken, broken_at, broken_message, malformed_at, stray_at, unmade_at, unsuited_at, untoward_at,
+};
+use book_log::BookLists;
+use interface::{Crossing, HostAddr};
 use net_sim::{BitLog, Finding, Life};
 use promise::Fate;
 use std::alloc::{AllocError, Global};
@@ -31,42 +38,109 @@ fn unkept(
     }
 }
 
-/// Returns what is wrong with a log, its lives with their fates, and what was handed over in them. The log is the
-/// oldest first.
-///
-/// Partners, streams, grants and closes are about the requests that stamps name, so nothing is said of them in a
-/// malformed book.
+/// Returns whether what is at a place counts: past the end all does.
+fn counts(counted: &[bool], place: usize) -> bool
+    ensures { result ≡ counts_at counted.now place }
+{
+    match counted.get(place) {
+        Some(counts) => *counts,
+        None => true,
+    }
+}
+
+/// Returns those of a list that count.
 ///
 /// Errors: `AllocError`.
-pub(crate) fn judge(
+fn keep_counted<T: Drop>(alloc: Global, counted: &[bool], all: Vec<T>) -> Result<Vec<T>, AllocError>
+    ensures { IfOk result (λ kept. kept.items ≡ kept_by counted.now all.items) }
+{
+    let mut kept = Vec::new(alloc);
+    for (place, item) in all.into_iter().enumerate() {
+        if counts(counted, place) {
+            kept.push(item)?;
+        }
+    }
+    Ok(kept)
+}
+
+/// Returns where partners, streams, grants and closes are broken; of a malformed book nothing is said of them.
+///
+/// Errors: `AllocError`.
+fn broken_parts(
     alloc: Global,
+    malformed: Option<Finding>,
     log: &[Crossing],
     lives: &[Life],
     handed: &[BitLog],
     fates: &[Fate],
-) -> Result<Verdict, AllocError>
-    ensures { IfOk result (λ v. Judged v log.now lives.now handed.now fates.now) }
+) -> Result<Broken, AllocError>
+    ensures { IfOk result (λ broken. AreParts malformed broken (reverse log.now) lives.now handed.now fates.now) }
 {
-    let stray = stray_at(alloc, log)?;
-    let unmade = unmade_at(alloc, log, lives)?;
-    let messages = unkept(alloc, log, stray)?;
-    let Broken {
-        malformed,
-        partners,
-        streams,
-        grants,
-        closes,
-    } = broken_at(alloc, log, lives, handed, fates)?;
-    let unsuited = unsuited_at(alloc, log, lives, fates)?;
+    match malformed {
+        None => broken_at(alloc, log, lives, handed, fates),
+        Some(found) => Ok(Broken {
+            malformed: Some(found),
+            partners: None,
+            streams: None,
+            grants: None,
+            closes: None,
+        }),
+    }
+}
+
+/// Returns the first life that is a stranger's, or that is toward one and isn't as it should be; of a malformed book
+/// nothing is said of that.
+fn untoward(
+    malformed: Option<Finding>,
+    strangers: &[HostAddr],
+    lives: &[Life],
+    handed: &[BitLog],
+) -> Option<usize>
+    ensures { IfFormed malformed result (AreToward (λ h. is_host strangers.now h) lives.now handed.now) (λ place. UntowardAt (λ h. is_host strangers.now h) lives.now handed.now place) }
+{
+    match malformed {
+        None => untoward_at(strangers, lives, handed),
+        Some(_) => None,
+    }
+}
+
+/// Returns what is wrong with a log of a network in which these hosts are strangers. Of each life it is known whether it
+/// is among hosts with programs.
+///
+/// Partners, streams, grants, closes and toward are about the requests that stamps name, or about lists of bits, so
+/// nothing is said of them in a malformed book.
+///
+/// Errors: `AllocError`.
+pub(crate) fn judge(
+    alloc: Global,
+    strangers: &[HostAddr],
+    among: &[bool],
+    lists: BookLists,
+) -> Result<Verdict, AllocError>
+    requires { among.now ≡ map (λ x. is_among (λ h. is_host strangers.now h) x) lists.lives.items }
+    ensures { IfOk result (λ v. Judged v (λ h. is_host strangers.now h) lists.crossings.items lists.lives.items lists.handed.items lists.fates.items) }
+{
+    let malformed = malformed_at(alloc, &lists.crossings, &lists.lives, &lists.handed)?;
+    let toward = untoward(malformed, strangers, &lists.lives, &lists.handed);
+    let log = lists.crossings;
+    let lives = keep_counted(alloc, among, lists.lives)?;
+    let handed = keep_counted(alloc, among, lists.handed)?;
+    let fates = keep_counted(alloc, among, lists.fates)?;
+    let stray = stray_at(alloc, &log)?;
+    let messages = unkept(alloc, &log, stray)?;
+    let unmade = unmade_at(alloc, &log, &lives)?;
+    let broken = broken_parts(alloc, malformed, &log, &lives, &handed, &fates)?;
+    let unsuited = unsuited_at(alloc, &log, &lives, &fates)?;
     Ok(Verdict {
         stray,
         unmade,
         malformed,
         messages,
-        partners,
-        streams,
-        grants,
-        closes,
+        partners: broken.partners,
+        streams: broken.streams,
+        grants: broken.grants,
+        closes: broken.closes,
         unsuited,
+        toward,
     })
 }

@@ -1,6 +1,6 @@
 use Rattle.std.proofs.Common.{◌∙◌, arith, sym}
 use Rattle.book_log.proofs.Going.{bad_behind, bad_end, bad_here, bad_place, line_more, shorter, whole}
-use Rattle.book_log.proofs.read.read_log.Goals as goal
+use Rattle.book_log.proofs.read.read_book.Goals as goal
 
 pub returns-in_default-2 : goal.returns-in_default-2
 returns-in_default-2 c = bad_here c.args.text.now c.lines.left.now c.in-Some.line.now c.in-Some.more.now c.lines.book c.lines.passed c.lines.invariant.0 c.in-Some.ensures.0 c.in-Some.ensures.1 (rw c.in_default-2.is at c.in_ok-told.ensures)
