@@ -363,12 +363,12 @@ fed_at names lives handed log n i are l fed a x h e f g =
 
 -- ---- grants
 
-granted_true : (x : Life) (count size : ℕ) → is_granted x count size ≡ true → IsGranted x count size
+pub granted_true : (x : Life) (count size : ℕ) → is_granted x count size ≡ true → IsGranted x count size
 granted_true x count size h =
     let t = and_true (nat_le (count + x.returned.messages) x.granted.messages) (nat_le (size + x.returned.bits) x.granted.bits) h in
     record { messages = leb-true (count + x.returned.messages) x.granted.messages t.0; bits = leb-true (size + x.returned.bits) x.granted.bits t.1 }
 
-granted_is : (x : Life) (count size : ℕ) → IsGranted x count size → is_granted x count size ≡ true
+pub granted_is : (x : Life) (count size : ℕ) → IsGranted x count size → is_granted x count size ≡ true
 granted_is x count size g =
     and_from (nat_le (count + x.returned.messages) x.granted.messages) (nat_le (size + x.returned.bits) x.granted.bits)
     (le-leb (count + x.returned.messages) x.granted.messages g.messages) (le-leb (size + x.returned.bits) x.granted.bits g.bits)

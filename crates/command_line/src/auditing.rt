@@ -3,7 +3,8 @@
 ghost use Rattle.std.specs.Prelude.{◌≡◌, ◌≢◌, ◌↔◌, Err, IfErr, IfOk, IfSome, MatchResult, OnOk, Some, [], false, true};
 ghost use Rattle.std.specs.Io.KnownBytes.{IsAtEnd};
 ghost use Rattle.book_log.specs.Log.{IsLog};
-ghost use Rattle.command_line.specs.Audits.{Audited, AuditsLog, IsAuditFault, IsBookFault, IsLogReadFault, IsSomeLog, SaysKept, status_at, status_said};
+ghost use Rattle.command_line.specs.Audits.{Audited, AuditsLog, IsAuditFault, IsBookFault, IsLogReadFault, IsSomeLog, SaysKept, SaysOf};
+ghost use Rattle.command_line.specs.Audits.{layout_of, status_at, status_said};
 ghost use Rattle.command_line.specs.Logs.{Logged};
 
 use crate::input::CHUNK;
@@ -171,9 +172,8 @@ pub fn run_audit<R: Source, W: Output>(
     ensures untouched { IfErr result (λ f. f ≢ AuditFault.CannotWrite → writer.new ≡ writer.old) }
 {
     let octets = read_octets(alloc, reader)?;
-    let Log { strangers, book } = read_book(alloc, &octets)?;
-    let layout = Layout::of(alloc, &strangers, &book)?;
-    let found = judge(alloc, &strangers, layout.among(), book.into_lists())?;
+    let log = read_book(alloc, &octets)?;
+    let (layout, found) = judged(alloc, log)?;
     write_found(&layout, found, writer)?;
     Ok(found)
 }
@@ -213,4 +213,16 @@ fn read_book(alloc: Global, octets: &[u8]) -> Result<Log, AuditFault>
         Err(LogFault::BadLine(number)) => Err(AuditFault::BadLog(number)),
         Err(LogFault::OutOfMemory) => Err(AuditFault::OutOfMemory),
     }
+}
+
+/// Returns what is wrong with a log, and where its lines are.
+///
+/// Errors: `AllocError`.
+fn judged(alloc: Global, log: Log) -> Result<(Layout, Verdict), AllocError>
+    ensures { IfOk result (λ r. (r.0 ≡ layout_of log.strangers.items log.book) × SaysOf r.1 log.strangers.items log.book) }
+{
+    let Log { strangers, book } = log;
+    let layout = Layout::of(alloc, &strangers, &book)?;
+    let found = judge(alloc, &strangers, layout.among(), book.into_lists())?;
+    Ok((layout, found))
 }

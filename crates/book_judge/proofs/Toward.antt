@@ -1,0 +1,77 @@
+-- Lives toward strangers, one after the other.
+use Rattle.book_judge.proofs.Common.{◌≡◌, ℕ, zero, suc, ◌+◌, ◌<◌, ◌≤◌, Bool, true, false, List, [], ◌∷◌, length, take, MatchBool, Some, None, sym, subst, ◌∙◌, arith, Host, receives, Life, IsHanded, is_granted}
+use Rattle.std.proofs.Common.{slice_get}
+use Rattle.book_judge.specs.Toward.{AreToward, IsToward, UntowardAt}
+use Rattle.promise.specs.Safe.{IsGranted}
+use Rattle.book_judge.proofs.Peace.{granted_is, granted_true}
+
+-- ---- the first lives
+
+pub toward_front : (strange : Host → Bool) (n : ℕ) (lives : List Life) (handed : List (List Bool)) → AreToward strange lives handed → AreToward strange (take n lives) (take n handed)
+toward_front strange zero lives handed h = tt
+toward_front strange (suc n) [] handed h = tt
+toward_front strange (suc n) (x ∷ lives) [] h = tt
+toward_front strange (suc n) (x ∷ lives) (text ∷ handed) h = (h.0, toward_front strange n lives handed h.1)
+
+some_same : {X : Type 0} {x y : X} → Some x ≡ Some y → x ≡ y
+some_same e = cc
+
+-- one more, and it is so where all are
+pub toward_more : (strange : Host → Bool) (n : ℕ) (lives : List Life) (handed : List (List Bool)) (x : Life) (text : List Bool) → slice_get lives n ≡ Some x → slice_get handed n ≡ Some text
+    → AreToward strange (take n lives) (take n handed) → IsToward strange x text → AreToward strange (take (n + 1) lives) (take (n + 1) handed)
+toward_more strange n [] handed x text p q h is = absurd (cc)
+toward_more strange n (y ∷ lives) [] x text p q h is = absurd (cc)
+toward_more strange zero (y ∷ lives) (t ∷ handed) x text p q h is =
+    (subst (λ (z : Life). IsToward strange z t) (sym (some_same p)) (subst (λ (z : List Bool). IsToward strange x z) (sym (some_same q)) is), tt)
+toward_more strange (suc n) (y ∷ lives) (t ∷ handed) x text p q h is = (h.0, toward_more strange n lives handed x text p q h.1 is)
+
+pub toward_here : (strange : Host → Bool) (n : ℕ) (lives : List Life) (handed : List (List Bool)) (x : Life) (text : List Bool) → slice_get lives n ≡ Some x → slice_get handed n ≡ Some text
+    → AreToward strange (take (n + 1) lives) (take (n + 1) handed) → IsToward strange x text
+toward_here strange n [] handed x text p q h = absurd (cc)
+toward_here strange n (y ∷ lives) [] x text p q h = absurd (cc)
+toward_here strange zero (y ∷ lives) (t ∷ handed) x text p q h =
+    subst (λ (z : Life). IsToward strange z text) (some_same p) (subst (λ (z : List Bool). IsToward strange y z) (some_same q) h.0)
+toward_here strange (suc n) (y ∷ lives) (t ∷ handed) x text p q h = toward_here strange n lives handed x text p q h.1
+
+pub untoward_here : (strange : Host → Bool) (n : ℕ) (lives : List Life) (handed : List (List Bool)) (x : Life) (text : List Bool) → slice_get lives n ≡ Some x → slice_get handed n ≡ Some text
+    → AreToward strange (take n lives) (take n handed) → (IsToward strange x text → ⊥) → UntowardAt strange lives handed n
+untoward_here strange n lives handed x text p q h not = (h, λ all. not (toward_here strange n lives handed x text p q all))
+
+-- all of them, where one list is over
+pub toward_lives : (strange : Host → Bool) (n : ℕ) (lives : List Life) (handed : List (List Bool)) → length lives ≤ n → AreToward strange (take n lives) (take n handed) → AreToward strange lives handed
+toward_lives strange n [] handed few h = tt
+toward_lives strange n (x ∷ lives) [] few h = tt
+toward_lives strange zero (x ∷ lives) (t ∷ handed) few h = absurd (omega (arith, few))
+toward_lives strange (suc n) (x ∷ lives) (t ∷ handed) few h = (h.0, toward_lives strange n lives handed (omega (arith, few)) h.1)
+
+pub toward_lists : (strange : Host → Bool) (n : ℕ) (lives : List Life) (handed : List (List Bool)) → slice_get handed n ≡ None → AreToward strange (take n lives) (take n handed) → AreToward strange lives handed
+toward_lists strange n [] handed none h = tt
+toward_lists strange n (x ∷ lives) [] none h = tt
+toward_lists strange zero (x ∷ lives) (t ∷ handed) none h = absurd (cc)
+toward_lists strange (suc n) (x ∷ lives) (t ∷ handed) none h = (h.0, toward_lists strange n lives handed none h.1)
+
+-- ---- one life
+
+pub of_stranger : (strange : Host → Bool) (x : Life) (text : List Bool) → strange x.host ≡ true → IsToward strange x text → ⊥
+of_stranger strange x text e is = true_false (sym e ∙ is.owner)
+  where
+    true_false : true ≡ false → ⊥
+    true_false f = cc
+
+pub with_program : (strange : Host → Bool) (x : Life) (text : List Bool) → strange x.host ≡ false → strange x.peer ≡ false → IsToward strange x text
+with_program strange x text own peer = record { owner = own; taken = λ e. absurd (false_true (sym peer ∙ e)); handed = λ e. absurd (false_true (sym peer ∙ e)) }
+  where
+    false_true : false ≡ true → ⊥
+    false_true f = cc
+
+pub ungranted : (strange : Host → Bool) (x : Life) (text : List Bool) → strange x.peer ≡ true → receives x ≡ true → is_granted x x.messages (length x.bits) ≡ false → IsToward strange x text → ⊥
+ungranted strange x text peer comes not is = true_false (sym (granted_is x x.messages (length x.bits) (is.taken peer comes)) ∙ not)
+  where
+    true_false : true ≡ false → ⊥
+    true_false f = cc
+
+pub toward_one : (strange : Host → Bool) (x : Life) (text : List Bool) (r : Bool) → strange x.host ≡ false → strange x.peer ≡ true → (receives x ≡ true → is_granted x x.messages (length x.bits) ≡ true)
+    → MatchBool r (IsHanded x text) (IsHanded x text → ⊥) → MatchBool r (IsToward strange x text) (IsToward strange x text → ⊥)
+toward_one strange x text true own peer granted has =
+    record { owner = own; taken = λ e comes. granted_true x x.messages (length x.bits) (granted comes); handed = λ e. has }
+toward_one strange x text false own peer granted has = λ is. has (is.handed peer)
