@@ -1,6 +1,7 @@
 -- Reading the lines of strangers.
-use Rattle.book_log.proofs.Common.{◌≡◌, ◌≢◌, ℕ, true, false, List, [], ◌∷◌, ◌++◌, Option, Some, None, codes, refl, sym, ap, ◌∙◌, subst, append_assoc, append-nil, false≢true, flat_map-append}
+use Rattle.book_log.proofs.Common.{◌≡◌, ◌≢◌, ℕ, ◌<◌, ◌+◌, arith, length, true, false, List, [], ◌∷◌, ◌++◌, Option, Some, None, codes, refl, sym, ap, ◌∙◌, subst, append_assoc, append-nil, false≢true, flat_map-append}
 use Rattle.book_log.proofs.Common.{Host, IsHost, Lacks, ReadsAs, SameCut, ended_line, host_text, same_cut, stranger_line, unmarked_where}
+use Rattle.std.proofs.lemmas.List.{length-append}
 use Rattle.script.proofs.lemmas.{uncut}
 use Rattle.book_log.specs.Log.{strangers_text}
 use Rattle.book_log.specs.Steps.{NamedAfter, Names, NamesNone, follows, last_of}
@@ -77,3 +78,10 @@ one_more text left more strangers all last h p is meant may e = subst (λ (hosts
 
 pub names : (text left : List ℕ) (strangers : List Host) (last : Option Host) → Passed text left strangers last → NamesNone last left → Names text strangers left
 names text left strangers last p none = record { parted = p.parted; named = p.named; none = subst (λ (o : Option Host). NamesNone o left) (sym p.last) none }
+
+-- a line less
+pub named_less : (left more : List ℕ) (h : Host) → left ≡ ended_line (stranger_line h) ++ more → length more < length left
+named_less left more h is =
+    let all : length left ≡ length (ended_line (stranger_line h)) + length more = ap length is ∙ length-append (ended_line (stranger_line h)) more in
+    let one : length (ended_line (stranger_line h)) ≡ length (stranger_line h) + 1 = length-append (stranger_line h) (10 ∷ []) in
+    omega (arith, all, one)

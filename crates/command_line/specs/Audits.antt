@@ -277,11 +277,10 @@ IsBookFault octets fault.OutOfMemory = Unit {0}
 IsBookFault octets fault.CannotRead = ⊥
 IsBookFault octets fault.CannotWrite = ⊥
 
--- whether what is at a place counts: past the end all does
-abbrev pub counts_at : List Bool → ℕ → Bool
-counts_at [] place = true
-counts_at (c ∷ counted) zero = c
-counts_at (c ∷ counted) (suc place) = counts_at counted place
+-- whether the first of a list counts: past the end all count
+abbrev pub first_counts : List Bool → Bool
+first_counts [] = true
+first_counts (c ∷ counted) = c
 
 -- those of a list that count
 abbrev pub kept_by : {A : Type 0} → List Bool → List A → List A

@@ -1,10 +1,10 @@
 //! What is said of a book: which part of it doesn't hold.
 
-ghost use Rattle.std.specs.Prelude.{◌≡◌, IfOk, MatchOption, map, reverse};
+ghost use Rattle.std.specs.Prelude.{◌≡◌, ◌∷◌, ◌++◌, [], IfOk, MatchOption, OnOk, drop, if◌then◌else◌, map, reverse};
 ghost use Rattle.book_judge.specs.Broken.{IfFormed};
 ghost use Rattle.book_judge.specs.Runs.{IsSomeRun, StraysAt};
 ghost use Rattle.book_judge.specs.Toward.{AreToward, UntowardAt};
-ghost use Rattle.command_line.specs.Audits.{AreParts, Judged, counts_at, kept_by};
+ghost use Rattle.command_line.specs.Audits.{AreParts, Judged, first_counts, kept_by};
 ghost use Rattle.interface.specs.Host.{is_host};
 ghost use Rattle.interface.specs.Messages.{SafeMessages};
 ghost use Rattle.mixed_worlds.specs.Book.{is_among};
@@ -38,14 +38,27 @@ fn unkept(
     }
 }
 
-/// Returns whether what is at a place counts: past the end all does.
-fn counts(counted: &[bool], place: usize) -> bool
-    ensures { result ≡ counts_at counted.now place }
+/// Returns whether the first of a list counts, and what is known of the others. Past the end all count.
+fn first_counts(counted: &[bool]) -> (bool, &[bool])
+    ensures first { result.0 ≡ first_counts counted.now }
+    ensures rest { result.1.now ≡ drop 1 counted.now }
 {
-    match counted.get(place) {
-        Some(counts) => *counts,
-        None => true,
+    match counted.split_first() {
+        Some((first, rest)) => (*first, rest),
+        None => (true, counted),
     }
+}
+
+/// Puts an item that counts at the end of a list.
+///
+/// Errors: `AllocError`.
+fn keep_one<T: Drop>(kept: &mut Vec<T>, counts: bool, item: T) -> Result<(), AllocError>
+    ensures { OnOk result (kept.new.items ≡ (if counts then kept.old.items ++ item ∷ [] else kept.old.items)) }
+{
+    if counts {
+        kept.push(item)?;
+    }
+    Ok(())
 }
 
 /// Returns those of a list that count.
@@ -55,10 +68,11 @@ fn keep_counted<T: Drop>(alloc: Global, counted: &[bool], all: Vec<T>) -> Result
     ensures { IfOk result (λ kept. kept.items ≡ kept_by counted.now all.items) }
 {
     let mut kept = Vec::new(alloc);
-    for (place, item) in all.into_iter().enumerate() {
-        if counts(counted, place) {
-            kept.push(item)?;
-        }
+    let mut left = counted;
+    for item in all {
+        let (counts, rest) = first_counts(left);
+        keep_one(&mut kept, counts, item)?;
+        left = rest;
     }
     Ok(kept)
 }

@@ -1,11 +1,12 @@
 -- The lives of a log among hosts with programs, and their places.
-use Rattle.command_line.proofs.Common.{◌≡◌, ℕ, Bool, true, false, List, [], ◌∷◌, length, map, refl, ap, arith, Contains, Crossing, Life, false≢true}
-use Rattle.std.proofs.Common.{zero, suc, inl, inr}
+use Rattle.command_line.proofs.Common.{◌≡◌, ℕ, ◌+◌, ◌<◌, ◌++◌, Bool, true, false, List, [], ◌∷◌, length, map, refl, sym, ap, ap₂, ◌∙◌, arith, append_assoc, if◌then◌else◌, Contains, Crossing, Life, false≢true}
+use Rattle.std.proofs.Common.{zero, suc, ◌-◌, ◌≤◌, drop, get_or, inl, inr, append-nil}
+use Rattle.std.proofs.lemmas.List.{drop_all, drop_more}
 use Rattle.book_judge.specs.Toward.{AreToward}
 use Rattle.interface.specs.Host.{Host, is_host}
 use Rattle.mixed_worlds.specs.Book.{beside_among, is_among, lives_among}
 use Rattle.net_sim.specs.Audit.{IsStamped, IsWellFormed}
-use Rattle.command_line.specs.Audits.{kept_by, place_in}
+use Rattle.command_line.specs.Audits.{first_counts, kept_by, place_in}
 
 -- of each life whether it is among hosts with programs
 abbrev pub among_these : (Host → Bool) → List Life → List Bool
@@ -29,6 +30,75 @@ counted_beside {A} strange (x ∷ lives) (a ∷ others) = by (is_among strange x
     by : (t : Bool) → is_among strange x ≡ t → kept_by (among_these strange (x ∷ lives)) (a ∷ others) ≡ beside_among strange (x ∷ lives) (a ∷ others)
     by true e = rw e (ap (λ (ys : List A). a ∷ ys) (counted_beside strange lives others))
     by false e = rw e (counted_beside strange lives others)
+
+-- one item after the other
+keeps_next : {A : Type 0} (counted : List Bool) (x : A) (xs : List A) → kept_by counted (x ∷ xs) ≡ (if first_counts counted then x ∷ kept_by (drop 1 counted) xs else kept_by (drop 1 counted) xs)
+keeps_next [] x xs = refl
+keeps_next (true ∷ counted) x xs = refl
+keeps_next (false ∷ counted) x xs = refl
+
+keeps_by : {A : Type 0} (t : Bool) (kept more : List A) (x : A) → (if t then kept ++ x ∷ [] else kept) ++ more ≡ kept ++ (if t then x ∷ more else more)
+keeps_by true kept more x = append_assoc kept (x ∷ []) more
+keeps_by false kept more x = refl
+
+pub keeps_one : {A : Type 0} (counted left rest : List Bool) (all kept now items more : List A) (x : A) (counts : Bool) → kept ++ kept_by left items ≡ kept_by counted all → items ≡ x ∷ more
+    → counts ≡ first_counts left → rest ≡ drop 1 left → now ≡ (if counts then kept ++ x ∷ [] else kept) → now ++ kept_by rest more ≡ kept_by counted all
+keeps_one {A} counted left rest all kept now items more x counts before is p q e =
+    ap₂ (λ (ys : List A) (bs : List Bool). ys ++ kept_by bs more) (e ∙ ap (λ (t : Bool). if t then kept ++ x ∷ [] else kept) p) q
+    ∙ keeps_by (first_counts left) kept (kept_by (drop 1 left) more) x
+    ∙ ap (λ (ys : List A). kept ++ ys) (sym (keeps_next left x more) ∙ ap (λ (ys : List A). kept_by left ys) (sym is)) ∙ before
+
+none_kept : {A : Type 0} (counted : List Bool) → kept_by {A} counted [] ≡ []
+none_kept [] = refl
+none_kept (true ∷ counted) = refl
+none_kept (false ∷ counted) = refl
+
+pub keeps_last : {A : Type 0} (counted left : List Bool) (all kept items : List A) → kept ++ kept_by left items ≡ kept_by counted all → items ≡ [] → kept ≡ kept_by counted all
+keeps_last {A} counted left all kept items before none =
+    sym (append-nil kept) ∙ ap (λ (ys : List A). kept ++ ys) (sym (ap (λ (ys : List A). kept_by left ys) none ∙ none_kept left)) ∙ before
+
+-- ---- the places of those that count
+
+counts_here : (counted : List Bool) (at : ℕ) (t : Bool) → at < length counted → t ≡ get_or counted at t → drop at counted ≡ t ∷ drop (at + 1) counted
+counts_here counted at t lt is = drop_more counted at t lt ∙ ap (λ (b : Bool). b ∷ drop (at + 1) counted) (sym is)
+
+pub place_found : (counted : List Bool) (place at left : ℕ) (t : Bool) → at < length counted → t ≡ get_or counted at t → t ≡ true → left ≡ 0
+    → place_in counted place ≡ at + place_in (drop at counted) left → at ≡ place_in counted place
+place_found counted place at left t lt is counts none before =
+    let here : drop at counted ≡ true ∷ drop (at + 1) counted = counts_here counted at t lt is ∙ ap (λ (b : Bool). b ∷ drop (at + 1) counted) counts in
+    let zero_of : place_in (drop at counted) left ≡ 0 = ap₂ (λ (bs : List Bool) (n : ℕ). place_in bs n) here none in
+    omega (arith, before, zero_of)
+
+counted_on : (bs : List Bool) (left : ℕ) → (left ≡ 0 → ⊥) → place_in (true ∷ bs) left ≡ suc (place_in bs (left - 1))
+counted_on bs zero some = absurd (some refl)
+counted_on bs (suc n) some = refl
+
+pub place_counted : (counted : List Bool) (place at left : ℕ) (t : Bool) → at < length counted → t ≡ get_or counted at t → t ≡ true → (left ≡ 0 → ⊥)
+    → place_in counted place ≡ at + place_in (drop at counted) left → place_in counted place ≡ (at + 1) + place_in (drop (at + 1) counted) (left - 1)
+place_counted counted place at left t lt is counts some before =
+    let here : drop at counted ≡ true ∷ drop (at + 1) counted = counts_here counted at t lt is ∙ ap (λ (b : Bool). b ∷ drop (at + 1) counted) counts in
+    let on : place_in (drop at counted) left ≡ suc (place_in (drop (at + 1) counted) (left - 1)) = ap (λ (bs : List Bool). place_in bs left) here ∙ counted_on (drop (at + 1) counted) left some in
+    omega (arith, before, on)
+
+pub place_passed : (counted : List Bool) (place at left : ℕ) (t : Bool) → at < length counted → t ≡ get_or counted at t → t ≡ false
+    → place_in counted place ≡ at + place_in (drop at counted) left → place_in counted place ≡ (at + 1) + place_in (drop (at + 1) counted) left
+place_passed counted place at left t lt is passes before =
+    let here : drop at counted ≡ false ∷ drop (at + 1) counted = counts_here counted at t lt is ∙ ap (λ (b : Bool). b ∷ drop (at + 1) counted) passes in
+    let on : place_in (drop at counted) left ≡ suc (place_in (drop (at + 1) counted) left) = ap (λ (bs : List Bool). place_in bs left) here in
+    omega (arith, before, on)
+
+pub place_past : (counted : List Bool) (place at left : ℕ) → length counted ≤ at → at ≤ length counted → place_in counted place ≡ at + place_in (drop at counted) left
+    → length counted + left ≡ place_in counted place
+place_past counted place at left high low before =
+    let none : drop at counted ≡ [] = drop_all at counted high in
+    let rest : place_in (drop at counted) left ≡ left = ap (λ (bs : List Bool). place_in bs left) none in
+    omega (arith, high, low, before, rest)
+
+pub place_small : (counted : List Bool) (place : ℕ) → place_in counted place ≤ length counted + place
+place_small [] n = omega arith
+place_small (false ∷ counted) n = let rest : place_in counted n ≤ length counted + n = place_small counted n in omega (arith, rest)
+place_small (true ∷ counted) zero = omega arith
+place_small (true ∷ counted) (suc n) = let rest : place_in counted n ≤ length counted + n = place_small counted n in omega (arith, rest)
 
 -- ---- a well-formed book is so among hosts with programs
 
