@@ -22,14 +22,16 @@ fn is_among(hosts: &[HostAddr], host: HostAddr) -> bool
 fn is_toward(strangers: &[HostAddr], life: &Life, handed: &BitLog) -> bool
     ensures { MatchBool result (IsToward (λ h. is_host strangers.now h) life.now handed.now) (IsToward (λ h. is_host strangers.now h) life.now handed.now → ⊥) }
 {
-    if is_among(strangers, life.host) {
+    let own = is_among(strangers, life.host);
+    let peer = is_among(strangers, life.peer);
+    if own {
         return false;
     }
-    if !is_among(strangers, life.peer) {
+    if !peer {
         return true;
     }
-    if receives(life) && !is_granted(life, life.messages, life.bits.len()) {
-        return false;
+    if receives(life) {
+        return is_granted(life, life.messages, life.bits.len());
     }
     is_handed(life, handed)
 }

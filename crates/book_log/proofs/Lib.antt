@@ -9,6 +9,6 @@ mod Numbers
 mod Once
 mod Printed
 mod Reading
-mod Strangers
+mod Others
 mod Bounds
 pub mod lemmas

@@ -2,7 +2,7 @@
 use Rattle.book_log.proofs.Common.{◌≡◌, ℕ, ◌≤◌, ◌+◌, ◌==◌, true, false, List, [], ◌∷◌, ◌++◌, Option, Some, None, codes, length, map, refl, sym, ap, ap₂, ◌∙◌, arith, subst, append_assoc}
 use Rattle.book_log.proofs.Common.{All, All-append, All-cons, All-head, All-nil, All-tail, Begins, Book, Host, IsBadBookLine, IsBadLine, IsBook, IsBookText, IsHost, IsLog, Lacks, SameCut}
 use Rattle.book_log.proofs.Common.{ended_line, host_text, log_lines, same_cut, stranger_line, text_of_lines, unmarked_where}
-use Rattle.std.proofs.lemmas.List.{length-append, length-map}
+use Rattle.std.proofs.lemmas.List.{append_cancel_left, length-append, length-map}
 use Rattle.std.specs.Prelude.{◌↔◌}
 use Rattle.interface.specs.Host.{InOrder, host_before}
 use Rattle.script.proofs.lemmas.{host_once}
@@ -10,7 +10,7 @@ use Rattle.book_log.specs.Log.{AreStrangers, log_text, network_lines, strangers_
 use Rattle.book_log.specs.Steps.{BeginsBook, NamedAfter, Names, NamesNone, follows, last_of}
 use Rattle.book_log.proofs.Books.{ended_more, front_of, log_ends, text_of_lines-append}
 use Rattle.book_log.proofs.Cuts.{first_same, host_word, rest_same}
-use Rattle.book_log.proofs.Strangers.{not_stranger, not_text}
+use Rattle.book_log.proofs.Others.{not_stranger, not_text}
 
 -- ---- who may be named
 
@@ -23,8 +23,8 @@ each_named last [] named = All-nil IsHost
 each_named last (h ∷ hosts) named = All-cons IsHost h hosts named.0 (each_named (Some h) hosts named.1.1)
 
 pub are_strangers : (hosts : List Host) → NamedAfter None hosts → AreStrangers hosts
-are_strangers [] named = record { hosts = All-nil IsHost; rising = tt }
-are_strangers (h ∷ hosts) named = record { hosts = each_named None (h ∷ hosts) named; rising = in_order h hosts named.1.1 }
+are_strangers [] named = record { valid = All-nil IsHost; rising = tt }
+are_strangers (h ∷ hosts) named = record { valid = each_named None (h ∷ hosts) named; rising = in_order h hosts named.1.1 }
 
 after_one : (last : Host) (hosts : List Host) → All IsHost hosts → InOrder (last ∷ hosts) → NamedAfter (Some last) hosts
 after_one last [] each rising = tt
@@ -32,16 +32,12 @@ after_one last (h ∷ hosts) each rising = (All-head IsHost h hosts each, rising
 
 pub after_named : (hosts : List Host) → AreStrangers hosts → NamedAfter None hosts
 after_named [] are = tt
-after_named (h ∷ hosts) are = (All-head IsHost h hosts are.hosts, refl, after_one h hosts (All-tail IsHost h hosts are.hosts) are.rising)
+after_named (h ∷ hosts) are = (All-head IsHost h hosts are.valid, refl, after_one h hosts (All-tail IsHost h hosts are.valid) are.rising)
 
 -- ---- their lines
 
 pub stranger_once : (g h : Host) → IsHost g → IsHost h → stranger_line g ≡ stranger_line h → g ≡ h
-stranger_once g h p q e = host_once g h p q (behind (codes "foreign ") (host_text g) (host_text h) e)
-  where
-    behind : (xs ys zs : List ℕ) → xs ++ ys ≡ xs ++ zs → ys ≡ zs
-    behind [] ys zs e = e
-    behind (x ∷ xs) ys zs e = behind xs ys zs (rest_same e)
+stranger_once g h p q e = host_once g h p q (append_cancel_left (codes "foreign ") (host_text g) (host_text h) e)
 
 pub stranger_ends : (h : Host) → IsHost h → Lacks 10 (stranger_line h)
 stranger_ends h is = All-append (λ x. (x == 10) ≡ false) (codes "foreign ") (host_text h) (unmarked_where 10 (codes "foreign ") refl) (host_word h is).ends
@@ -56,7 +52,7 @@ pub begins_ends : (lines : List (List ℕ)) → Begins lines → All (Lacks 10) 
 begins_ends lines h =
     front_of (Lacks 10) lines h.more
     (subst (All (Lacks 10)) h.whole
-    (All-append (Lacks 10) (map stranger_line h.strangers) (log_lines h.book) (strangers_end h.strangers h.named.hosts) (log_ends h.book h.valid)))
+    (All-append (Lacks 10) (map stranger_line h.strangers) (log_lines h.book) (strangers_end h.strangers h.named.valid) (log_ends h.book h.valid)))
 
 -- two texts that begin with lines of strangers
 lines_cut : (g h : Host) (gs hs : List Host) (a b : List ℕ) → IsHost g → IsHost h → strangers_text (g ∷ gs) ++ a ≡ strangers_text (h ∷ hs) ++ b
@@ -125,7 +121,7 @@ is_bad text left strangers number names bad = record {
       ∙ ap (λ (t : List ℕ). t ++ bad.rest) (sym (text_of_lines-append (map stranger_line strangers) bad.before));
   counted =
       let all : length (map stranger_line strangers ++ bad.before) ≡ length (map stranger_line strangers) + length bad.before = length-append (map stranger_line strangers) bad.before in
-      let long : length (map stranger_line strangers) ≡ length strangers = length-map stranger_line strangers in
+      let long : length (map stranger_line strangers) ≡ length strangers = length-map strangers stranger_line in
       omega (arith, all, long, bad.counted);
   begins = record {
     strangers = strangers;
@@ -164,7 +160,7 @@ lines_few (t ∷ lines) =
 pub bad_few : (text left : List ℕ) (strangers : List Host) (number : ℕ) → Names text strangers left → IsBadBookLine left number → length strangers + number ≤ length text + 1
 bad_few text left strangers number names bad =
     let few : length (map stranger_line strangers) ≤ length (text_of_lines (map stranger_line strangers)) = lines_few (map stranger_line strangers) in
-    let named : length (map stranger_line strangers) ≡ length strangers = length-map stranger_line strangers in
+    let named : length (map stranger_line strangers) ≡ length strangers = length-map strangers stranger_line in
     let same : length (text_of_lines (map stranger_line strangers)) ≡ length (strangers_text strangers) = ap length (lines_text strangers) in
     let before : length bad.before ≤ length (text_of_lines bad.before) = lines_few bad.before in
     let behind : length left ≡ length (text_of_lines bad.before) + length bad.rest = ap length bad.parted ∙ length-append (text_of_lines bad.before) bad.rest in

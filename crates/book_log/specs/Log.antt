@@ -148,7 +148,7 @@ pub record IsBook (b : Book) : Type 0 where
 
 -- hosts that exist, each once, by IMP and then by number
 pub record AreStrangers (hosts : List Host) : Type 0 where
-  pub hosts : All IsHost hosts
+  pub valid : All IsHost hosts
   pub rising : InOrder hosts
 
 -- ---- reading

@@ -1,6 +1,6 @@
 //! The lines of strangers, with which the log of a network begins.
 
-ghost use Rattle.std.specs.Prelude.{IfOk};
+ghost use Rattle.std.specs.Prelude.{◌≡◌, IfOk};
 ghost use Rattle.script.specs.Spelling.{IsHost, ReadsAs};
 ghost use Rattle.book_log.specs.Log.{stranger_line};
 ghost use Rattle.book_log.specs.Steps.{Names, NamesNext, follows};

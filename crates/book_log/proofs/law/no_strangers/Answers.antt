@@ -1,4 +1,4 @@
-use Rattle.book_log.proofs.Strangers.{not_text}
+use Rattle.book_log.proofs.Others.{not_text}
 use Rattle.book_log.proofs.Networks.{alone}
 use Rattle.book_log.proofs.law.no_strangers.Goals as goal
 

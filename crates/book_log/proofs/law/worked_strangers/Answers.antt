@@ -9,13 +9,13 @@ returns-clause-two c = refl
 
 pub returns-clause-by_imp : goal.returns-clause-by_imp
 returns-clause-by_imp c = record {
-  hosts = All-cons IsHost (record { host = 1; imp = 2 }) _ refl (All-cons IsHost (record { host = 0; imp = 13 }) [] refl (All-nil IsHost));
+  valid = All-cons IsHost (record { host = 1; imp = 2 }) _ refl (All-cons IsHost (record { host = 0; imp = 13 }) [] refl (All-nil IsHost));
   rising = (refl, tt);
 }
 
 pub returns-clause-by_number : goal.returns-clause-by_number
 returns-clause-by_number c = record {
-  hosts = All-cons IsHost (record { host = 0; imp = 2 }) _ refl (All-cons IsHost (record { host = 1; imp = 2 }) [] refl (All-nil IsHost));
+  valid = All-cons IsHost (record { host = 0; imp = 2 }) _ refl (All-cons IsHost (record { host = 1; imp = 2 }) [] refl (All-nil IsHost));
   rising = (refl, tt);
 }
 
@@ -29,7 +29,7 @@ pub returns-clause-twice : goal.returns-clause-twice
 returns-clause-twice c = λ are. false≢true are.rising.0
 
 pub returns-clause-no_host : goal.returns-clause-no_host
-returns-clause-no_host c = λ are. not_there (All-head IsHost (record { host = 4; imp = 2 }) [] are.hosts)
+returns-clause-no_host c = λ are. not_there (All-head IsHost (record { host = 4; imp = 2 }) [] are.valid)
   where
     not_there : IsHost (record { host = 4; imp = 2 }) → ⊥
     not_there e = absurd (cc)

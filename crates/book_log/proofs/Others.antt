@@ -4,7 +4,7 @@ use Rattle.book_log.proofs.Common.{Book, Host, Line, ended_line, line_text, log_
 use Rattle.interface.specs.declared.crossing.Crossing.TheVariants as crossing
 use Rattle.book_log.specs.Log.{log_text}
 use Rattle.book_log.specs.declared.lines.Line.TheVariants as line
-use Rattle.book_log.proofs.Books.{all_told, lines_are, texts}
+use Rattle.book_log.proofs.Books.{all_told, lines_are, nil_not, texts}
 use Rattle.book_log.proofs.Cuts.{first_same, rest_same}
 
 -- the first octet of a text
@@ -32,8 +32,8 @@ unfolding begins
 not_its l h e = other_line l (ap begins e)
 
 in_lines : (ls : List Line) (before : List (List ℕ)) (h : Host) (more : List (List ℕ)) → texts ls ≡ before ++ stranger_line h ∷ more → ⊥
-in_lines [] [] h more e = absurd (cc)
-in_lines [] (t ∷ before) h more e = absurd (cc)
+in_lines [] [] h more e = absurd (nil_not e)
+in_lines [] (t ∷ before) h more e = absurd (nil_not e)
 in_lines (l ∷ ls) [] h more e = not_its l h (first_same e)
 in_lines (l ∷ ls) (t ∷ before) h more e = in_lines ls before h more (rest_same e)
 

@@ -1,8 +1,8 @@
 -- Lives toward strangers, one after the other.
-use Rattle.book_judge.proofs.Common.{◌≡◌, ℕ, zero, suc, ◌+◌, ◌<◌, ◌≤◌, Bool, true, false, List, [], ◌∷◌, length, take, MatchBool, Some, None, sym, subst, ◌∙◌, arith, Host, receives, Life, IsHanded, is_granted}
-use Rattle.std.proofs.Common.{slice_get}
+use Rattle.book_judge.proofs.Common.{◌≡◌, ℕ, zero, suc, ◌+◌, ◌<◌, ◌≤◌, Bool, true, false, List, [], ◌∷◌, length, take, MatchBool, Some, None, sym, subst, ◌∙◌, arith, Host, receives, sends, Life, IsHanded, is_granted}
+use Rattle.std.proofs.Common.{slice_get, ◌%◌, ◌==◌}
 use Rattle.book_judge.specs.Toward.{AreToward, IsToward, UntowardAt}
-use Rattle.promise.specs.Safe.{IsGranted}
+use Rattle.std.proofs.lemmas.Bool.{eqb-true}
 use Rattle.book_judge.proofs.Peace.{granted_is, granted_true}
 
 -- ---- the first lives
@@ -64,14 +64,26 @@ with_program strange x text own peer = record { owner = own; taken = λ e. absur
     false_true : false ≡ true → ⊥
     false_true f = cc
 
-pub ungranted : (strange : Host → Bool) (x : Life) (text : List Bool) → strange x.peer ≡ true → receives x ≡ true → is_granted x x.messages (length x.bits) ≡ false → IsToward strange x text → ⊥
-ungranted strange x text peer comes not is = true_false (sym (granted_is x x.messages (length x.bits) (is.taken peer comes)) ∙ not)
+no_kind : (n : ℕ) → (n == 0) ≡ true → (n == 1) ≡ true → ⊥
+no_kind n p q = let none : n ≡ 0 = eqb-true n 0 p in let one : n ≡ 1 = eqb-true n 1 q in omega (arith, none, one)
+
+-- one that receives doesn't send
+one_kind : (x : Life) → receives x ≡ true → sends x ≡ true → ⊥
+one_kind x comes goes = no_kind (x.socket % 2) comes goes
+
+pub toward_taken : (strange : Host → Bool) (x : Life) (text : List Bool) (r : Bool) → strange x.host ≡ false → strange x.peer ≡ true → receives x ≡ true
+    → r ≡ is_granted x x.messages (length x.bits) → MatchBool r (IsToward strange x text) (IsToward strange x text → ⊥)
+toward_taken strange x text true own peer comes granted =
+    record { owner = own; taken = λ e receiving. granted_true x x.messages (length x.bits) (sym granted); handed = λ e goes. absurd (one_kind x comes goes) }
+toward_taken strange x text false own peer comes granted = λ is. true_false (sym (granted_is x x.messages (length x.bits) (is.taken peer comes)) ∙ sym granted)
   where
     true_false : true ≡ false → ⊥
     true_false f = cc
 
-pub toward_one : (strange : Host → Bool) (x : Life) (text : List Bool) (r : Bool) → strange x.host ≡ false → strange x.peer ≡ true → (receives x ≡ true → is_granted x x.messages (length x.bits) ≡ true)
+pub toward_sent : (strange : Host → Bool) (x : Life) (text : List Bool) (r : Bool) → strange x.host ≡ false → strange x.peer ≡ true → receives x ≡ false
     → MatchBool r (IsHanded x text) (IsHanded x text → ⊥) → MatchBool r (IsToward strange x text) (IsToward strange x text → ⊥)
-toward_one strange x text true own peer granted has =
-    record { owner = own; taken = λ e comes. granted_true x x.messages (length x.bits) (granted comes); handed = λ e. has }
-toward_one strange x text false own peer granted has = λ is. has (is.handed peer)
+toward_sent strange x text true own peer comes has = record { owner = own; taken = λ e receiving. absurd (false_true (sym comes ∙ receiving)); handed = λ e. has }
+  where
+    false_true : false ≡ true → ⊥
+    false_true f = cc
+toward_sent strange x text false own peer comes has = λ is. has (is.handed peer)
