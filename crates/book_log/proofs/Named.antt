@@ -52,11 +52,11 @@ not_next last text line more h meant is lacks same not = λ g behind other may e
 pub record Passed (text left : List ℕ) (strangers : List Host) (last : Option Host) : Type 0 where
   pub parted : text ≡ strangers_text strangers ++ left
   pub named : NamedAfter None strangers
-  pub last : last_of None strangers ≡ last
+  pub ends : last_of None strangers ≡ last
 
 named_more : (from : Option Host) (hosts : List Host) (h : Host) → NamedAfter from hosts → IsHost h → follows (last_of from hosts) h ≡ true → NamedAfter from (hosts ++ h ∷ [])
 named_more from [] h named is may = (is, may, tt)
-named_more from (g ∷ hosts) h named is may = (named.0, named.1.0, named_more (Some g) hosts h named.1.1 is may)
+named_more from (g ∷ hosts) h named is may = (named.0, named.1, named_more (Some g) hosts h named.2 is may)
 
 last_more : (from : Option Host) (hosts : List Host) (h : Host) → last_of from (hosts ++ h ∷ []) ≡ Some h
 last_more from [] h = refl
@@ -72,12 +72,12 @@ pub one_more : (text left more : List ℕ) (strangers all : List Host) (last : O
     → all ≡ strangers ++ h ∷ [] → Passed text more all (Some h)
 one_more text left more strangers all last h p is meant may e = subst (λ (hosts : List Host). Passed text more hosts (Some h)) (sym e) (record {
   parted = p.parted ∙ ap (λ (t : List ℕ). strangers_text strangers ++ t) is ∙ strangers_more strangers h more;
-  named = named_more None strangers h p.named meant (ap (λ (o : Option Host). follows o h) p.last ∙ may);
-  last = last_more None strangers h;
+  named = named_more None strangers h p.named meant (ap (λ (o : Option Host). follows o h) p.ends ∙ may);
+  ends = last_more None strangers h;
 })
 
 pub names : (text left : List ℕ) (strangers : List Host) (last : Option Host) → Passed text left strangers last → NamesNone last left → Names text strangers left
-names text left strangers last p none = record { parted = p.parted; named = p.named; none = subst (λ (o : Option Host). NamesNone o left) (sym p.last) none }
+names text left strangers last p none = record { parted = p.parted; named = p.named; none = subst (λ (o : Option Host). NamesNone o left) (sym p.ends) none }
 
 -- a line less
 pub named_less : (left more : List ℕ) (h : Host) → left ≡ ended_line (stranger_line h) ++ more → length more < length left

@@ -1,13 +1,15 @@
 -- The log of a network: the lines of its strangers, and then those of its book.
-use Rattle.book_log.proofs.Common.{◌≡◌, ℕ, ◌≤◌, ◌+◌, ◌==◌, true, false, List, [], ◌∷◌, ◌++◌, Option, Some, None, codes, length, map, refl, sym, ap, ap₂, ◌∙◌, arith, subst, append_assoc}
+use Rattle.book_log.proofs.Common.{◌≡◌, ℕ, ◌<◌, ◌≤◌, ◌+◌, ◌^◌, ◌==◌, true, false, List, [], ◌∷◌, ◌++◌, Option, Some, None, codes, length, map, refl, sym, ap, ap₂, ◌∙◌, arith, subst, append_assoc}
 use Rattle.book_log.proofs.Common.{All, All-append, All-cons, All-head, All-nil, All-tail, Begins, Book, Host, IsBadBookLine, IsBadLine, IsBook, IsBookText, IsHost, IsLog, Lacks, SameCut}
 use Rattle.book_log.proofs.Common.{ended_line, host_text, log_lines, same_cut, stranger_line, text_of_lines, unmarked_where}
 use Rattle.std.proofs.lemmas.List.{append_cancel_left, length-append, length-map}
 use Rattle.std.specs.Prelude.{◌↔◌}
 use Rattle.interface.specs.Host.{InOrder, host_before}
 use Rattle.script.proofs.lemmas.{host_once}
-use Rattle.book_log.specs.Log.{AreStrangers, log_text, network_lines, strangers_text}
-use Rattle.book_log.specs.Steps.{BeginsBook, NamedAfter, Names, NamesNone, follows, last_of}
+use Rattle.book_log.specs.Log.{AreStrangers, IsLogFault, log_text, network_lines, strangers_text}
+use Rattle.book_log.specs.declared.fault.LogFault.{LogFault}
+use Rattle.book_log.specs.declared.fault.LogFault.TheVariants as fault
+use Rattle.book_log.specs.Steps.{BeginsBook, FitsAfter, IsBookFault, fault_after, NamedAfter, Names, NamesNone, follows, last_of}
 use Rattle.book_log.proofs.Books.{ended_more, front_of, log_ends, text_of_lines-append}
 use Rattle.book_log.proofs.Cuts.{first_same, host_word, rest_same}
 use Rattle.book_log.proofs.Others.{not_stranger, not_text}
@@ -16,15 +18,15 @@ use Rattle.book_log.proofs.Others.{not_stranger, not_text}
 
 in_order : (last : Host) (hosts : List Host) → NamedAfter (Some last) hosts → InOrder (last ∷ hosts)
 in_order last [] named = tt
-in_order last (h ∷ hosts) named = (named.1.0, in_order h hosts named.1.1)
+in_order last (h ∷ hosts) named = (named.1, in_order h hosts named.2)
 
 each_named : (last : Option Host) (hosts : List Host) → NamedAfter last hosts → All IsHost hosts
 each_named last [] named = All-nil IsHost
-each_named last (h ∷ hosts) named = All-cons IsHost h hosts named.0 (each_named (Some h) hosts named.1.1)
+each_named last (h ∷ hosts) named = All-cons IsHost h hosts named.0 (each_named (Some h) hosts named.2)
 
 pub are_strangers : (hosts : List Host) → NamedAfter None hosts → AreStrangers hosts
 are_strangers [] named = record { valid = All-nil IsHost; rising = tt }
-are_strangers (h ∷ hosts) named = record { valid = each_named None (h ∷ hosts) named; rising = in_order h hosts named.1.1 }
+are_strangers (h ∷ hosts) named = record { valid = each_named None (h ∷ hosts) named; rising = in_order h hosts named.2 }
 
 after_one : (last : Host) (hosts : List Host) → All IsHost hosts → InOrder (last ∷ hosts) → NamedAfter (Some last) hosts
 after_one last [] each rising = tt
@@ -69,13 +71,13 @@ pub one_rest : (last : Option Host) (strangers others : List Host) (left : List 
     → NamesNone (last_of last strangers) left → strangers_text strangers ++ left ≡ strangers_text others ++ log_text b → (strangers ≡ others) × (left ≡ log_text b)
 one_rest last [] [] left b p q none e = (refl, e)
 one_rest last [] (h ∷ others) left b p q none e =
-    absurd (none h (strangers_text others ++ log_text b) q.0 q.1.0 (e ∙ append_assoc (ended_line (stranger_line h)) (strangers_text others) (log_text b)))
+    absurd (none h (strangers_text others ++ log_text b) q.0 q.1 (e ∙ append_assoc (ended_line (stranger_line h)) (strangers_text others) (log_text b)))
 one_rest last (g ∷ strangers) [] left b p q none e =
     absurd (not_text b g (strangers_text strangers ++ left) (sym e ∙ append_assoc (ended_line (stranger_line g)) (strangers_text strangers) left))
 one_rest last (g ∷ strangers) (h ∷ others) left b p q none e =
     let cut : SameCut (stranger_line g) (strangers_text strangers ++ left) (stranger_line h) (strangers_text others ++ log_text b) = lines_cut g h strangers others left (log_text b) p.0 q.0 e in
     let same : g ≡ h = stranger_once g h p.0 q.0 cut.front in
-    let rest = one_rest (Some g) strangers others left b p.1.1 (subst (λ (x : Host). NamedAfter (Some x) others) (sym same) q.1.1) none cut.back in
+    let rest = one_rest (Some g) strangers others left b p.2 (subst (λ (x : Host). NamedAfter (Some x) others) (sym same) q.2) none cut.back in
     (ap₂ (λ (x : Host) (xs : List Host). x ∷ xs) same rest.0, rest.1)
 
 -- the text of a book names no stranger
@@ -102,14 +104,14 @@ begins_behind : (last : Option Host) (strangers others : List Host) (before : Li
     → network_lines others b ≡ (map stranger_line strangers ++ (before ++ line ∷ [])) ++ more → log_lines b ≡ (before ++ line ∷ []) ++ more
 begins_behind last [] [] before line more left rest behind b p q none begins parted next e = e
 begins_behind last [] (h ∷ others) [] line more left rest behind b p q none begins parted next e =
-    absurd (none h behind q.0 q.1.0 (parted ∙ next ∙ ap (λ (t : List ℕ). ended_line t ++ behind) (sym (first_same e))))
+    absurd (none h behind q.0 q.1 (parted ∙ next ∙ ap (λ (t : List ℕ). ended_line t ++ behind) (sym (first_same e))))
 begins_behind last [] (h ∷ others) (t ∷ before) line more left rest behind b p q none begins parted next e =
     absurd (not_stranger begins.book [] h (before ++ begins.more) (begins.whole ∙ ap (λ (x : List ℕ). x ∷ (before ++ begins.more)) (sym (first_same e))))
 begins_behind last (g ∷ strangers) [] before line more left rest behind b p q none begins parted next e =
     absurd (not_stranger b [] g ((map stranger_line strangers ++ (before ++ line ∷ [])) ++ more) e)
 begins_behind last (g ∷ strangers) (h ∷ others) before line more left rest behind b p q none begins parted next e =
     let same : h ≡ g = stranger_once h g q.0 p.0 (first_same e) in
-    begins_behind (Some g) strangers others before line more left rest behind b p.1.1 (subst (λ (x : Host). NamedAfter (Some x) others) same q.1.1) none begins parted next (rest_same e)
+    begins_behind (Some g) strangers others before line more left rest behind b p.2 (subst (λ (x : Host). NamedAfter (Some x) others) same q.2) none begins parted next (rest_same e)
 
 pub is_bad : (text left : List ℕ) (strangers : List Host) (number : ℕ) → Names text strangers left → IsBadBookLine left number → IsBadLine text (length strangers + number)
 is_bad text left strangers number names bad = record {
@@ -167,6 +169,15 @@ bad_few text left strangers number names bad =
     let all : length text ≡ length (strangers_text strangers) + length left = ap length names.parted ∙ length-append (strangers_text strangers) left in
     omega (arith, few, named, same, before, behind, all, bad.counted)
 
+-- whatever is wrong with what comes after the strangers
+pub is_fault : (text left : List ℕ) (strangers : List Host) (f : LogFault) → Names text strangers left → IsBookFault left f → IsLogFault text (fault_after (length strangers) f)
+is_fault text left strangers (fault.BadLine number) names bad = is_bad text left strangers number names bad
+is_fault text left strangers fault.OutOfMemory names bad = tt
+
+pub fault_fits : (text left : List ℕ) (strangers : List Host) (f : LogFault) → length text < 2 ^ 63 → Names text strangers left → IsBookFault left f → FitsAfter (length strangers) f
+fault_fits text left strangers (fault.BadLine number) short names bad = omega (arith, bad_few text left strangers number names bad, short)
+fault_fits text left strangers fault.OutOfMemory short names bad = tt
+
 -- ---- a line of a stranger
 
 -- what is before it
@@ -176,9 +187,9 @@ only_strangers [] last b before line h more is named e =
     absurd (not_stranger b (before ++ line ∷ []) h more (e ∙ append_assoc before (line ∷ stranger_line h ∷ []) more ∙ sym (append_assoc before (line ∷ []) (stranger_line h ∷ more))))
 only_strangers (g ∷ []) last b [] line h more is named e = absurd (not_stranger b [] h more (rest_same e))
 only_strangers (g ∷ k ∷ strangers) last b [] line h more is named e =
-    let same : k ≡ h = stranger_once k h named.1.1.0 is (first_same (rest_same e)) in
-    (g, sym (first_same e), subst (λ (x : Host). host_before g x ≡ true) same named.1.1.1.0)
-only_strangers (g ∷ strangers) last b (t ∷ before) line h more is named e = only_strangers strangers (Some g) b before line h more is named.1.1 (rest_same e)
+    let same : k ≡ h = stranger_once k h named.2.0 is (first_same (rest_same e)) in
+    (g, sym (first_same e), subst (λ (x : Host). host_before g x ≡ true) same named.2.1)
+only_strangers (g ∷ strangers) last b (t ∷ before) line h more is named e = only_strangers strangers (Some g) b before line h more is named.2 (rest_same e)
 
 -- ---- no strangers
 

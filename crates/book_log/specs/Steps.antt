@@ -242,6 +242,15 @@ abbrev pub IsBookFault : List ℕ → LogFault → Type 0
 IsBookFault octets (fault.BadLine number) = IsBadBookLine octets number
 IsBookFault octets fault.OutOfMemory = Unit {0}
 
+-- a fault of the lines after this many, as one of all lines; its number has 64 bits
+abbrev pub fault_after : ℕ → LogFault → LogFault
+fault_after before (fault.BadLine number) = fault.BadLine (before + number)
+fault_after before fault.OutOfMemory = fault.OutOfMemory
+
+abbrev pub FitsAfter : ℕ → LogFault → Type 0
+FitsAfter before (fault.BadLine number) = before + number < 2 ^ 64
+FitsAfter before fault.OutOfMemory = Unit {0}
+
 -- ---- the lines of strangers
 
 -- whether a stranger may come after the last one that was named

@@ -1,8 +1,8 @@
 //! Reading a log.
 
-ghost use Rattle.std.specs.Prelude.{MatchResult};
+ghost use Rattle.std.specs.Prelude.{◌≡◌, MatchResult};
 ghost use Rattle.book_log.specs.Log.{IsLog, IsLogFault};
-ghost use Rattle.book_log.specs.Steps.{IsBookFault, IsBookText};
+ghost use Rattle.book_log.specs.Steps.{FitsAfter, IsBookFault, IsBookText, fault_after};
 
 use crate::book::LoggedBook;
 use crate::fault::LogFault;
@@ -29,8 +29,18 @@ pub fn read_log(alloc: Global, text: &[u8]) -> Result<Log, LogFault>
     let (strangers, left) = read_strangers(alloc, text)?;
     match read_book(alloc, left) {
         Ok(book) => Ok(Log { strangers, book }),
-        Err(LogFault::BadLine(number)) => Err(LogFault::BadLine(strangers.len() + number)),
-        Err(LogFault::OutOfMemory) => Err(LogFault::OutOfMemory),
+        Err(fault) => Err(fault_after(strangers.len(), fault)),
+    }
+}
+
+/// Returns a fault of the lines after this many, as one of all lines.
+fn fault_after(before: usize, fault: LogFault) -> LogFault
+    requires { FitsAfter before fault }
+    ensures { result ≡ fault_after before fault }
+{
+    match fault {
+        LogFault::BadLine(number) => LogFault::BadLine(before + number),
+        LogFault::OutOfMemory => LogFault::OutOfMemory,
     }
 }
 

@@ -22,10 +22,10 @@ pub(crate) fn read_strangers(
     let mut strangers = Vec::new(alloc);
     let mut last = None;
     let mut left = text;
-    'lines: while let Some((stranger, more)) = next_stranger(last, left) {
-        strangers.push(stranger)?;
-        last = Some(stranger);
-        left = more;
+    'lines: while let Some(next) = next_stranger(last, left) {
+        strangers.push(next.0)?;
+        last = Some(next.0);
+        left = next.1;
     }
     Ok((strangers, left))
 }
@@ -59,8 +59,8 @@ fn read_stranger(line: &[u8]) -> Option<HostAddr>
     ensures { ReadsAs stranger_line IsHost line.now result }
 {
     let (word, rest) = cut(line, b' ')?;
-    if word != b"foreign".as_slice() {
-        return None;
+    if word == b"foreign".as_slice() {
+        return read_host(rest);
     }
-    read_host(rest)
+    None
 }

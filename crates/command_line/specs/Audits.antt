@@ -277,6 +277,12 @@ IsBookFault octets fault.OutOfMemory = Unit {0}
 IsBookFault octets fault.CannotRead = ⊥
 IsBookFault octets fault.CannotWrite = ⊥
 
+-- how many of those that are counted are left before one, after one more; none where this is the one
+abbrev pub passed_one : Bool → ℕ → Option ℕ
+passed_one false left = Some left
+passed_one true zero = None
+passed_one true (suc left) = Some left
+
 -- whether the first of a list counts: past the end all count
 abbrev pub first_counts : List Bool → Bool
 first_counts [] = true

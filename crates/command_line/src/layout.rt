@@ -4,7 +4,7 @@ ghost use Rattle.std.specs.Prelude.{◌≡◌, ◌≤◌, ◌+◌, [], IfOk, len
 ghost use Rattle.interface.specs.Host.{is_host};
 ghost use Rattle.mixed_worlds.specs.Book as mixed;
 ghost use Rattle.command_line.specs.Audits as audits;
-ghost use Rattle.command_line.specs.Audits.{crossing_at, layout_of, life_at, lines_of, list_at, place_in};
+ghost use Rattle.command_line.specs.Audits.{crossing_at, layout_of, life_at, lines_of, list_at, passed_one, place_in};
 
 use crate::verdict::Lines;
 use book_log::LoggedBook;
@@ -121,6 +121,19 @@ impl Layout {
     }
 }
 
+/// Returns how many of those that are counted are left before one, after one more; `None` where this is the one.
+fn pass_one(counts: bool, left: usize) -> Option<usize>
+    ensures { result ≡ passed_one counts left }
+{
+    if !counts {
+        return Some(left);
+    }
+    if left == 0 {
+        return None;
+    }
+    Some(left - 1)
+}
+
 /// Returns the place among all of the one that has this place among those that are counted.
 fn place_in(counted: &[bool], place: usize) -> u128
     ensures same { result ≡ place_in counted.now place }
@@ -128,12 +141,10 @@ fn place_in(counted: &[bool], place: usize) -> u128
 {
     let mut left = place;
     for (at, counts) in counted.iter().enumerate() {
-        if *counts {
-            if left == 0 {
-                return at as u128;
-            }
-            left -= 1;
-        }
+        let Some(next) = pass_one(*counts, left) else {
+            return at as u128;
+        };
+        left = next;
     }
     counted.len() as u128 + left as u128
 }

@@ -1,12 +1,12 @@
 -- The lives of a log among hosts with programs, and their places.
 use Rattle.command_line.proofs.Common.{◌≡◌, ℕ, ◌+◌, ◌<◌, ◌++◌, Bool, true, false, List, [], ◌∷◌, length, map, refl, sym, ap, ap₂, ◌∙◌, arith, append_assoc, if◌then◌else◌, Contains, Crossing, Life, false≢true}
-use Rattle.std.proofs.Common.{zero, suc, ◌-◌, ◌≤◌, drop, get_or, inl, inr, append-nil}
+use Rattle.std.proofs.Common.{zero, suc, Some, None, ◌-◌, ◌≤◌, drop, get_or, inl, inr, append-nil}
 use Rattle.std.proofs.lemmas.List.{drop_all, drop_more}
 use Rattle.book_judge.specs.Toward.{AreToward}
 use Rattle.interface.specs.Host.{Host, is_host}
 use Rattle.mixed_worlds.specs.Book.{beside_among, is_among, lives_among}
 use Rattle.net_sim.specs.Audit.{IsStamped, IsWellFormed}
-use Rattle.command_line.specs.Audits.{first_counts, kept_by, place_in}
+use Rattle.command_line.specs.Audits.{first_counts, kept_by, passed_one, place_in}
 
 -- of each life whether it is among hosts with programs
 abbrev pub among_these : (Host → Bool) → List Life → List Bool
@@ -62,29 +62,47 @@ keeps_last {A} counted left all kept items before none =
 counts_here : (counted : List Bool) (at : ℕ) (t : Bool) → at < length counted → t ≡ get_or counted at t → drop at counted ≡ t ∷ drop (at + 1) counted
 counts_here counted at t lt is = drop_more counted at t lt ∙ ap (λ (b : Bool). b ∷ drop (at + 1) counted) (sym is)
 
-pub place_found : (counted : List Bool) (place at left : ℕ) (t : Bool) → at < length counted → t ≡ get_or counted at t → t ≡ true → left ≡ 0
+pub pass_some : (counts : Bool) (left : ℕ) → counts ≡ false → Some left ≡ passed_one counts left
+pass_some true left e = absurd (false≢true (sym e))
+pass_some false left e = refl
+
+pub pass_none : (counts : Bool) (left : ℕ) → counts ≡ true → left ≡ 0 → None ≡ passed_one counts left
+pass_none true zero p q = refl
+pass_none true (suc left) p q = absurd (omega (arith, q))
+pass_none false left p q = absurd (false≢true p)
+
+pub pass_less : (counts : Bool) (left : ℕ) → counts ≡ true → (left ≡ 0 → ⊥) → Some (left - 1) ≡ passed_one counts left
+pass_less true zero p q = absurd (q refl)
+pass_less true (suc left) p q = refl
+pass_less false left p q = absurd (false≢true p)
+
+none_some : {X : Type 0} {x : X} → None ≡ Some x → ⊥
+none_some e = cc
+
+some_same : {X : Type 0} {x y : X} → Some x ≡ Some y → x ≡ y
+some_same e = cc
+
+one_on : (t : Bool) (bs : List Bool) (left next : ℕ) → Some next ≡ passed_one t left → place_in (t ∷ bs) left ≡ suc (place_in bs next)
+one_on false bs left next e = ap (λ (n : ℕ). suc (place_in bs n)) (sym (some_same e))
+one_on true bs zero next e = absurd (none_some (sym e))
+one_on true bs (suc left) next e = ap (λ (n : ℕ). suc (place_in bs n)) (sym (some_same e))
+
+one_found : (t : Bool) (bs : List Bool) (left : ℕ) → None ≡ passed_one t left → place_in (t ∷ bs) left ≡ 0
+one_found false bs left e = absurd (none_some e)
+one_found true bs zero e = refl
+one_found true bs (suc left) e = absurd (none_some e)
+
+pub place_found : (counted : List Bool) (place at left : ℕ) (t : Bool) → at < length counted → t ≡ get_or counted at t → None ≡ passed_one t left
     → place_in counted place ≡ at + place_in (drop at counted) left → at ≡ place_in counted place
-place_found counted place at left t lt is counts none before =
-    let here : drop at counted ≡ true ∷ drop (at + 1) counted = counts_here counted at t lt is ∙ ap (λ (b : Bool). b ∷ drop (at + 1) counted) counts in
-    let zero_of : place_in (drop at counted) left ≡ 0 = ap₂ (λ (bs : List Bool) (n : ℕ). place_in bs n) here none in
-    omega (arith, before, zero_of)
+place_found counted place at left t lt is none before =
+    let found : place_in (drop at counted) left ≡ 0 = ap (λ (bs : List Bool). place_in bs left) (counts_here counted at t lt is) ∙ one_found t (drop (at + 1) counted) left none in
+    omega (arith, before, found)
 
-counted_on : (bs : List Bool) (left : ℕ) → (left ≡ 0 → ⊥) → place_in (true ∷ bs) left ≡ suc (place_in bs (left - 1))
-counted_on bs zero some = absurd (some refl)
-counted_on bs (suc n) some = refl
-
-pub place_counted : (counted : List Bool) (place at left : ℕ) (t : Bool) → at < length counted → t ≡ get_or counted at t → t ≡ true → (left ≡ 0 → ⊥)
-    → place_in counted place ≡ at + place_in (drop at counted) left → place_in counted place ≡ (at + 1) + place_in (drop (at + 1) counted) (left - 1)
-place_counted counted place at left t lt is counts some before =
-    let here : drop at counted ≡ true ∷ drop (at + 1) counted = counts_here counted at t lt is ∙ ap (λ (b : Bool). b ∷ drop (at + 1) counted) counts in
-    let on : place_in (drop at counted) left ≡ suc (place_in (drop (at + 1) counted) (left - 1)) = ap (λ (bs : List Bool). place_in bs left) here ∙ counted_on (drop (at + 1) counted) left some in
-    omega (arith, before, on)
-
-pub place_passed : (counted : List Bool) (place at left : ℕ) (t : Bool) → at < length counted → t ≡ get_or counted at t → t ≡ false
-    → place_in counted place ≡ at + place_in (drop at counted) left → place_in counted place ≡ (at + 1) + place_in (drop (at + 1) counted) left
-place_passed counted place at left t lt is passes before =
-    let here : drop at counted ≡ false ∷ drop (at + 1) counted = counts_here counted at t lt is ∙ ap (λ (b : Bool). b ∷ drop (at + 1) counted) passes in
-    let on : place_in (drop at counted) left ≡ suc (place_in (drop (at + 1) counted) left) = ap (λ (bs : List Bool). place_in bs left) here in
+pub place_on : (counted : List Bool) (place at left next : ℕ) (t : Bool) → at < length counted → t ≡ get_or counted at t → Some next ≡ passed_one t left
+    → place_in counted place ≡ at + place_in (drop at counted) left → place_in counted place ≡ (at + 1) + place_in (drop (at + 1) counted) next
+place_on counted place at left next t lt is some before =
+    let on : place_in (drop at counted) left ≡ suc (place_in (drop (at + 1) counted) next) =
+    ap (λ (bs : List Bool). place_in bs left) (counts_here counted at t lt is) ∙ one_on t (drop (at + 1) counted) left next some in
     omega (arith, before, on)
 
 pub place_past : (counted : List Bool) (place at left : ℕ) → length counted ≤ at → at ≤ length counted → place_in counted place ≡ at + place_in (drop at counted) left

@@ -1,4 +1,4 @@
-use Rattle.std.proofs.Common.{[], refl}
+use Rattle.std.proofs.Common.{[], ◌∷◌, refl}
 use Rattle.std.specs.Fmt.{digits}
 use Rattle.book_log.proofs.Common.{All-cons, All-head, All-nil, Host, IsHost, false≢true}
 use Rattle.book_log.proofs.law.worked_strangers.Goals as goal
@@ -9,13 +9,13 @@ returns-clause-two c = refl
 
 pub returns-clause-by_imp : goal.returns-clause-by_imp
 returns-clause-by_imp c = record {
-  valid = All-cons IsHost (record { host = 1; imp = 2 }) _ refl (All-cons IsHost (record { host = 0; imp = 13 }) [] refl (All-nil IsHost));
+  valid = All-cons IsHost (record { host = 1; imp = 2 }) (record { host = 0; imp = 13 } ∷ []) refl (All-cons IsHost (record { host = 0; imp = 13 }) [] refl (All-nil IsHost));
   rising = (refl, tt);
 }
 
 pub returns-clause-by_number : goal.returns-clause-by_number
 returns-clause-by_number c = record {
-  valid = All-cons IsHost (record { host = 0; imp = 2 }) _ refl (All-cons IsHost (record { host = 1; imp = 2 }) [] refl (All-nil IsHost));
+  valid = All-cons IsHost (record { host = 0; imp = 2 }) (record { host = 1; imp = 2 } ∷ []) refl (All-cons IsHost (record { host = 1; imp = 2 }) [] refl (All-nil IsHost));
   rising = (refl, tt);
 }
 

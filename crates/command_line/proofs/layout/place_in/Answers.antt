@@ -1,0 +1,14 @@
+use Rattle.std.proofs.Common.{arith, subst, sym, ◌∙◌, ◌≤◌}
+use Rattle.command_line.proofs.Verdicts.Among.{place_found, place_on, place_past, place_small}
+use Rattle.command_line.proofs.layout.place_in.Goals as goal
+
+pub loop-at-preserved : goal.loop-at-preserved
+loop-at-preserved c =
+    place_on c.args.counted.now c.args.place c.loop-at.at c.loop-at.left c.in-Some.next c.index-counted-at.result c.loop-at-test.true c.index-counted-at.is c.in-Some.ensures c.loop-at.invariant
+
+pub returns-in_default-clause-same : goal.returns-in_default-clause-same
+returns-in_default-clause-same c =
+    place_found c.args.counted.now c.args.place c.loop-at.at c.loop-at.left c.index-counted-at.result c.loop-at-test.true c.index-counted-at.is c.in_default.ensures c.loop-at.invariant
+
+pub returns-clause-same : goal.returns-clause-same
+returns-clause-same c = ?
