@@ -3,3 +3,4 @@ pub mod Among
 pub mod Judged
 pub mod LastWord
 pub mod Named
+pub mod Parts

@@ -134,17 +134,18 @@ pub(crate) fn judge(
     requires { among.now ≡ map (λ x. is_among (λ h. is_host strangers.now h) x) lists.lives.items }
     ensures { IfOk result (λ v. Judged v (λ h. is_host strangers.now h) lists.crossings.items lists.lives.items lists.handed.items lists.fates.items) }
 {
-    let malformed = malformed_at(alloc, &lists.crossings, &lists.lives, &lists.handed)?;
+    let log = lists.crossings.as_slice();
+    let malformed = malformed_at(alloc, log, &lists.lives, &lists.handed)?;
     let toward = untoward(malformed, strangers, &lists.lives, &lists.handed);
-    let log = lists.crossings;
-    let lives = keep_counted(alloc, among, lists.lives)?;
-    let handed = keep_counted(alloc, among, lists.handed)?;
-    let fates = keep_counted(alloc, among, lists.fates)?;
-    let stray = stray_at(alloc, &log)?;
-    let messages = unkept(alloc, &log, stray)?;
-    let unmade = unmade_at(alloc, &log, &lives)?;
-    let broken = broken_parts(alloc, malformed, &log, &lives, &handed, &fates)?;
-    let unsuited = unsuited_at(alloc, &log, &lives, &fates)?;
+    let some = keep_counted(alloc, among, lists.lives)?;
+    let texts = keep_counted(alloc, among, lists.handed)?;
+    let ends = keep_counted(alloc, among, lists.fates)?;
+    let (lives, handed, fates) = (some.as_slice(), texts.as_slice(), ends.as_slice());
+    let stray = stray_at(alloc, log)?;
+    let messages = unkept(alloc, log, stray)?;
+    let unmade = unmade_at(alloc, log, lives)?;
+    let broken = broken_parts(alloc, malformed, log, lives, handed, fates)?;
+    let unsuited = unsuited_at(alloc, log, lives, fates)?;
     Ok(Verdict {
         stray,
         unmade,

@@ -131,13 +131,13 @@ shown_closes found log lives handed fates w h = h.first.1 (closed_front log live
 -- ---- named or not
 
 -- a part isn't named exactly where it holds
-unnamed : {F A : Type 0} (r : Option F) (ShowsAt : F → Type 0) → ((found : F) → A → ShowsAt found → ⊥)
+pub unnamed : {F A : Type 0} (r : Option F) (ShowsAt : F → Type 0) → ((found : F) → A → ShowsAt found → ⊥)
     → MatchOption r A ShowsAt → (r ≡ None) ↔ A
 unnamed None ShowsAt never m = (λ e. m, λ a. refl)
 unnamed (Some found) ShowsAt never m = (λ e. absurd (cc), λ a. absurd (never found a m))
 
 -- where a book is well-formed, the parts that are about its requests are looked at
-looked_at : {F : Type 0} (malformed : Option Finding) (found : Option F) (A : Type 0) (ShowsAt : F → Type 0) → malformed ≡ None
+pub looked_at : {F : Type 0} (malformed : Option Finding) (found : Option F) (A : Type 0) (ShowsAt : F → Type 0) → malformed ≡ None
     → IfFormed malformed found A ShowsAt → MatchOption found A ShowsAt
 looked_at None found A ShowsAt e h = h
 looked_at (Some at) found A ShowsAt e h = absurd (cc)

@@ -7,4 +7,4 @@ loop-item-preserved g c =
     c.in-Some.item c.first_counts.result.0 c.loop-item.invariant c.in-Some.ensures.steps.0 c.first_counts.ensures.first c.first_counts.ensures.rest c.in_ok-keep_one.ensures
 
 pub returns : goal.returns
-returns g c = ?
+returns g c = keeps_last c.args.counted.now c.loop-item.left.now c.args.all.items c.loop-item.kept.items c.loop-item.item-iterator.rest.items c.loop-item.invariant c.in-None.ensures.rest
