@@ -17,21 +17,33 @@ some_same : {X : Type 0} {x y : X} → Some x ≡ Some y → x ≡ y
 some_same e = cc
 
 -- one more, and it is so where all are
+toward_next : (strange : Host → Bool) (n : ℕ) (lives : List Life) (handed : List (List Bool)) (x : Life) (text : List Bool) → slice_get lives n ≡ Some x → slice_get handed n ≡ Some text
+    → AreToward strange (take n lives) (take n handed) → IsToward strange x text → AreToward strange (take (suc n) lives) (take (suc n) handed)
+toward_next strange n [] handed x text p q h is = absurd (cc)
+toward_next strange n (y ∷ lives) [] x text p q h is = absurd (cc)
+toward_next strange zero (y ∷ lives) (t ∷ handed) x text p q h is =
+    (subst (λ (z : Life). IsToward strange z t) (sym (some_same p)) (subst (λ (z : List Bool). IsToward strange x z) (sym (some_same q)) is), tt)
+toward_next strange (suc n) (y ∷ lives) (t ∷ handed) x text p q h is = (h.0, toward_next strange n lives handed x text p q h.1 is)
+
 pub toward_more : (strange : Host → Bool) (n : ℕ) (lives : List Life) (handed : List (List Bool)) (x : Life) (text : List Bool) → slice_get lives n ≡ Some x → slice_get handed n ≡ Some text
     → AreToward strange (take n lives) (take n handed) → IsToward strange x text → AreToward strange (take (n + 1) lives) (take (n + 1) handed)
-toward_more strange n [] handed x text p q h is = absurd (cc)
-toward_more strange n (y ∷ lives) [] x text p q h is = absurd (cc)
-toward_more strange zero (y ∷ lives) (t ∷ handed) x text p q h is =
-    (subst (λ (z : Life). IsToward strange z t) (sym (some_same p)) (subst (λ (z : List Bool). IsToward strange x z) (sym (some_same q)) is), tt)
-toward_more strange (suc n) (y ∷ lives) (t ∷ handed) x text p q h is = (h.0, toward_more strange n lives handed x text p q h.1 is)
+toward_more strange n lives handed x text p q h is =
+    let on : suc n ≡ n + 1 = omega arith in
+    subst (λ (k : ℕ). AreToward strange (take k lives) (take k handed)) on (toward_next strange n lives handed x text p q h is)
 
-pub toward_here : (strange : Host → Bool) (n : ℕ) (lives : List Life) (handed : List (List Bool)) (x : Life) (text : List Bool) → slice_get lives n ≡ Some x → slice_get handed n ≡ Some text
-    → AreToward strange (take (n + 1) lives) (take (n + 1) handed) → IsToward strange x text
-toward_here strange n [] handed x text p q h = absurd (cc)
-toward_here strange n (y ∷ lives) [] x text p q h = absurd (cc)
-toward_here strange zero (y ∷ lives) (t ∷ handed) x text p q h =
+toward_last : (strange : Host → Bool) (n : ℕ) (lives : List Life) (handed : List (List Bool)) (x : Life) (text : List Bool) → slice_get lives n ≡ Some x → slice_get handed n ≡ Some text
+    → AreToward strange (take (suc n) lives) (take (suc n) handed) → IsToward strange x text
+toward_last strange n [] handed x text p q h = absurd (cc)
+toward_last strange n (y ∷ lives) [] x text p q h = absurd (cc)
+toward_last strange zero (y ∷ lives) (t ∷ handed) x text p q h =
     subst (λ (z : Life). IsToward strange z text) (some_same p) (subst (λ (z : List Bool). IsToward strange y z) (some_same q) h.0)
-toward_here strange (suc n) (y ∷ lives) (t ∷ handed) x text p q h = toward_here strange n lives handed x text p q h.1
+toward_last strange (suc n) (y ∷ lives) (t ∷ handed) x text p q h = toward_last strange n lives handed x text p q h.1
+
+toward_here : (strange : Host → Bool) (n : ℕ) (lives : List Life) (handed : List (List Bool)) (x : Life) (text : List Bool) → slice_get lives n ≡ Some x → slice_get handed n ≡ Some text
+    → AreToward strange (take (n + 1) lives) (take (n + 1) handed) → IsToward strange x text
+toward_here strange n lives handed x text p q h =
+    let on : n + 1 ≡ suc n = omega arith in
+    toward_last strange n lives handed x text p q (subst (λ (k : ℕ). AreToward strange (take k lives) (take k handed)) on h)
 
 pub untoward_here : (strange : Host → Bool) (n : ℕ) (lives : List Life) (handed : List (List Bool)) (x : Life) (text : List Bool) → slice_get lives n ≡ Some x → slice_get handed n ≡ Some text
     → AreToward strange (take n lives) (take n handed) → (IsToward strange x text → ⊥) → UntowardAt strange lives handed n

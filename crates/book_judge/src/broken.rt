@@ -5,7 +5,7 @@ ghost use Rattle.interface.specs.declared.crossing.Crossing.{Crossing};
 ghost use Rattle.net_sim.specs.Audit.{IsWellFormed};
 ghost use Rattle.net_sim.specs.Findings.{ShowsMalformed};
 ghost use Rattle.book_judge.specs.Broken.{IsBroken};
-ghost use Rattle.book_judge.specs.Inside.Asked.{AreNamed};
+ghost use Rattle.book_judge.specs.Inside.Asked.{AreNamed, unstamped};
 ghost use Rattle.book_judge.specs.Inside.Chains.{AreChained};
 ghost use Rattle.book_judge.specs.Inside.Said.{TellsCloses, TellsGrants, TellsPartners, TellsStreams};
 
@@ -79,9 +79,17 @@ pub fn malformed_at(
     if let Some(found) = uncounted(lives, handed) {
         return Ok(Some(found));
     }
-    match partners_of(alloc, log, lives)? {
-        Ok(_) => Ok(None),
-        Err(place) => Ok(Some(Finding::Life(place))),
+    let named = partners_of(alloc, log, lives)?;
+    Ok(unstamped(named))
+}
+
+/// Returns the first life whose stamps don't name requests, if there is one.
+fn unstamped(named: Result<Vec<Name>, usize>) -> Option<Finding>
+    ensures { result ≡ unstamped named }
+{
+    match named {
+        Ok(_) => None,
+        Err(place) => Some(Finding::Life(place)),
     }
 }
 
