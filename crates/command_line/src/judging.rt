@@ -140,7 +140,9 @@ pub(crate) fn judge(
     let some = keep_counted(alloc, among, lists.lives)?;
     let texts = keep_counted(alloc, among, lists.handed)?;
     let ends = keep_counted(alloc, among, lists.fates)?;
-    let (lives, handed, fates) = (some.as_slice(), texts.as_slice(), ends.as_slice());
+    let lives = some.as_slice();
+    let handed = texts.as_slice();
+    let fates = ends.as_slice();
     let stray = stray_at(alloc, log)?;
     let messages = unkept(alloc, log, stray)?;
     let unmade = unmade_at(alloc, log, lives)?;
