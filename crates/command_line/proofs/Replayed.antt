@@ -1,7 +1,9 @@
 -- What a replay writes: without strangers (Written), with them (Strangers), of an input of either kind (Either), as a log
--- (MixedLogs), and that such an input leaves no choice to its output (Determined) and to its trace (Traces).
+-- (MixedLogs), that such an input leaves no choice to its output (Determined) and to its trace (Traces), and that an output
+-- leaves out no line that its trace has as printed (LeftOut).
 pub mod Determined
 pub mod Either
+pub mod LeftOut
 pub mod MixedLogs
 pub mod Strangers
 pub mod Traces

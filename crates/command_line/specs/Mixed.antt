@@ -92,6 +92,12 @@ pub record MixedStopsFrom {C : Type 0} (calls : Calls C) (strangers : List Host)
   pub among : KeepsAmong (strange_in last) (calls.seen last.world.carrier).hosts last.world
   pub toward : KeepsToward (strange_in last) last.world
 
+-- these lines are written
+abbrev pub MixedWritesPart : {C : Type 0} → Detail → Calls C → List Host → C → List MixedWorldEvent → Option (List ℕ)
+    → Option (List ℕ) → Type 0
+MixedWritesPart detail calls strangers opening events before after = lines.Writes detail
+    (MixedStopsFrom calls strangers opening events) before after
+
 -- over the carrier that a topology names: plain mailboxes between its hosts, or the subnet of its IMPs and lines
 abbrev pub MixedReplaysOver : CarrierKind → MixedFields → Bool → Detail → List MixedWorldEvent → Option (List ℕ)
     → Option (List ℕ) → Type 0
@@ -102,10 +108,10 @@ MixedReplaysOver kind.Subnet t book detail events before after = WritesWorld boo
 
 abbrev pub MixedEndsOver : CarrierKind → MixedFields → Detail → List MixedWorldEvent → Option (List ℕ) → Option (List ℕ)
     → Type 0
-MixedEndsOver kind.Plain t detail events before after = lines.Writes detail
-    (MixedStopsFrom plain_calls t.strangers (plain_of t.network) events) before after
-MixedEndsOver kind.Subnet t detail events before after = lines.Writes detail
-    (MixedStopsFrom subnet_calls t.strangers (subnet_of t.network) events) before after
+MixedEndsOver kind.Plain t detail events before after = MixedWritesPart detail plain_calls t.strangers
+    (plain_of t.network) events before after
+MixedEndsOver kind.Subnet t detail events before after = MixedWritesPart detail subnet_calls t.strangers
+    (subnet_of t.network) events before after
 
 abbrev pub MixedReplaysOn : MixedFields → Bool → Detail → List MixedWorldEvent → Option (List ℕ) → Option (List ℕ)
     → Type 0

@@ -30,6 +30,12 @@ pub record MixedTraceEndsFrom {C : Type 0} (calls : Calls C) (members : C → Al
   pub last : MixedState C
   pub traced : WritesMixedPart calls members t.network (opening_mixed calls opening t.strangers) events last before after
 
+-- in one of them, or before the first line
+abbrev pub MixedTraceStopsFrom : {C : Type 0} → Calls C → (C → AllParts) → MixedFields → C
+    → List (ℕ × MixedWorldEvent) → Option (List ℕ) → Option (List ℕ) → Type 0
+MixedTraceStopsFrom calls members t opening events before after =
+    NothingOr (MixedTraceEndsFrom calls members t opening events) before after
+
 -- over the carrier that a topology names, of events in these lines of a script
 abbrev pub MixedTracesOver : CarrierKind → MixedFields → List ℕ → List MixedWorldEvent → Option (List ℕ) → Option (List ℕ) → Type 0
 MixedTracesOver kind.Plain t lines events before after = MixedTracesFrom (shown plain_calls) plain_inside.members t (plain_of t.network) (zip lines events) before after

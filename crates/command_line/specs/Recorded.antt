@@ -1,11 +1,14 @@
 -- What a trace has as printed, line by line.
-use Rattle.std.specs.Prelude.{◌≡◌, ℕ, Bool, List, ◌∷◌, ◌++◌, Option, codes, map}
+use Rattle.std.specs.Prelude.{◌≡◌, ℕ, Bool, List, [], ◌∷◌, ◌++◌, Option, None, codes, map}
 use Rattle.std.specs.List.{flat_map}
+use Rattle.interface.specs.declared.carrier.CarrierFault.TheVariants as fault
 use Rattle.interface.specs.declared.crossing.Crossing.{Crossing}
+use Rattle.interface.specs.declared.event.NetEvent.TheVariants as net
 use Rattle.promise.specs.declared.life.Life.{Life}
 use Rattle.replay.specs.InTurn.{text_of}
 use Rattle.replay.specs.Output as raw
 use Rattle.replay.specs.declared.print.Detail.TheVariants.{Sizes}
+use Rattle.script.specs.declared.event.RawEvent.TheVariants as event
 use Rattle.trace.specs.Texts.{trace_line}
 use Rattle.trace.specs.declared.element.Element.{Element}
 use Rattle.trace.specs.declared.element.Spot.{Spot}
@@ -69,3 +72,9 @@ told_over kind.Subnet t numbers events before after h =
 abbrev pub told_lines : (octets : List ℕ) (before after : Option (List ℕ)) → TracesInput octets before after →
     List (List ℕ)
 told_lines octets before after h = told_over h.network.carrier h.network h.lines h.events before after h.traced
+
+-- ---- a worked line: `forget 1 2` is refused
+
+abbrev pub unforgotten : Recorded
+unforgotten = OfElement (record { line = 5; number = 1 }) (record { round = 0; event = event.Net (net.Forget 1 2) })
+    None (raw.Refused fault.Unsettled ∷ []) (codes "{}")

@@ -19,6 +19,7 @@ use Rattle.subnet.specs.Working.{subnet_calls}
 use Rattle.command_line.specs.Carriers.{plain_of, subnet_of}
 use Rattle.command_line.specs.Events.{Asked, Raw, World}
 use Rattle.command_line.specs.Input.{IsInput}
+use Rattle.command_line.specs.Stopping.{NothingOr}
 
 -- events, of which each comes after the number of its line in a script, are replayed over a carrier with such calls and such an inside, and their trace is
 -- written, first the network and then a line for each elementary event, and nothing else
@@ -41,6 +42,12 @@ pub record WorldTracesFrom {C : Type 0} (calls : Calls C) (members : C → AllPa
 pub record WorldEndsFrom {C : Type 0} (calls : Calls C) (members : C → AllParts) (t : TopologyFields) (opening : C) (events : List (ℕ × WorldEvent)) (before after : Option (List ℕ)) : Type 0 where
   pub last : WorldState C
   pub traced : WritesTrace (worlds.AfterOpening members t (opening_world calls opening) (WorldTraceEnds calls members (StopsOne calls) (opening_world calls opening) events last)) before after
+
+-- in one of them, or before the first line
+abbrev pub WorldStopsFrom : {C : Type 0} → Calls C → (C → AllParts) → TopologyFields → C → List (ℕ × WorldEvent)
+    → Option (List ℕ) → Option (List ℕ) → Type 0
+WorldStopsFrom calls members t opening events before after =
+    NothingOr (WorldEndsFrom calls members t opening events) before after
 
 -- events of either kind, which are in these lines of a script
 abbrev pub TracesAll : {C : Type 0} → Calls C → Inside C → TopologyFields → C → List ℕ → Asked → Option (List ℕ) → Option (List ℕ) → Type 0

@@ -1,7 +1,7 @@
 //! What the simulator promises, as laws over its definitions. The functions here do nothing: their clauses
 //! are the laws.
 
-ghost use Rattle.std.specs.Prelude.{◌≡◌, ◌↔◌, ◌++◌, ◌+◌, ℕ, Bool, true, false, List, [], ◌∷◌, reverse};
+ghost use Rattle.std.specs.Prelude.{◌≡◌, ◌↔◌, ◌++◌, ◌+◌, ℕ, Bool, true, false, List, [], ◌∷◌, length, reverse};
 ghost use Rattle.std.specs.Prelude.{Ok, Err, Option, Some, None, codes};
 ghost use Rattle.book_judge.specs.Fates.{AreSuited};
 ghost use Rattle.book_judge.specs.Lives.{AreMade};
@@ -33,7 +33,7 @@ ghost use Rattle.command_line.specs.MixedLogs.{LogsEither};
 ghost use Rattle.command_line.specs.MixedTraced.{TraceStopsEither, TracesEither};
 ghost use Rattle.command_line.specs.Printed.{PrintsBook, PrintsPart};
 ghost use Rattle.command_line.specs.Program.{Closes, EndsTask, Sides};
-ghost use Rattle.command_line.specs.Recorded.{PrintsTrace};
+ghost use Rattle.command_line.specs.Recorded.{PrintsTrace, recorded_text, unforgotten};
 ghost use Rattle.command_line.specs.Replayed.{Ran, RanInPart};
 ghost use Rattle.command_line.specs.Worked.{here, life_one, there, told_one, took_one};
 ghost use Rattle.command_line.specs.WorkedSides.{Never, NotSaid, matched_past, starts};
@@ -82,6 +82,12 @@ pub fn worked_traces()
 
     // a trace without its first line
     ensures none { (book : Bool) (out trace : List ℕ) → PrintsTrace book out trace [] → ⊥ }
+
+    // no line of an event that printed something, where the trace has one
+    ensures left_out { (book : Bool) (opening trace : List ℕ) → PrintsTrace book (codes "end\n") trace (opening ∷ recorded_text unforgotten ∷ []) → ⊥ }
+
+    // whatever the output: no line of the trace has swallowed another one
+    ensures one_each { (book : Bool) (out opening trace : List ℕ) (lines : List (List ℕ)) (h : PrintsTrace book out trace (opening ∷ lines)) → length h.recorded ≡ length lines }
 {}
 
 /// What is printed is one book, of whatever network and events, with the book or without it: all that lines show is in

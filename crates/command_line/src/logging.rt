@@ -238,7 +238,7 @@ fn log_world<C: Carrier, W: Output>(
     ) {
         Ok(()) => {
             let book = book_of(&world);
-            Ok(write_book(&[], book, writer)?)
+            Ok(write_book(&[], &book, writer)?)
         }
         Err(_) => Err(ScriptFault::OutOfMemory),
     }
@@ -249,7 +249,7 @@ fn log_world<C: Carrier, W: Output>(
 /// Errors: `WriteFailed`.
 pub(crate) fn write_book<W: Output>(
     strangers: &[HostAddr],
-    book: &Book,
+    book: &Book<'_>,
     writer: &mut W,
 ) -> Result<(), WriteFailed>
     requires { W.failed writer.old ≡ false }

@@ -4,9 +4,8 @@ ghost use Rattle.std.specs.Prelude.{◌≡◌, ◌≢◌, ◌≤◌, ◌↔◌, 
 ghost use Rattle.net_sim.specs.MixedWorlds.{absent_in};
 ghost use Rattle.script.specs.Script.{lines_of};
 ghost use Rattle.topology.specs.Mixed.{MixedFields};
-ghost use Rattle.world_replay.specs.Output as lines;
 ghost use Rattle.world_script.specs.Mixed.{AskForMixed};
-ghost use Rattle.command_line.specs.Mixed.{DescribesMixed, IsMixedFault, IsMixedInput, MixedEndsOn, MixedReplaysOn, MixedShowsFrom, MixedStopsFrom};
+ghost use Rattle.command_line.specs.Mixed.{DescribesMixed, IsMixedFault, IsMixedInput, MixedEndsOn, MixedReplaysOn, MixedShowsFrom, MixedWritesPart};
 ghost use Rattle.command_line.specs.Replayed.{WritesWorld};
 ghost use Rattle.command_line.specs.Steps.{IsMixedEventsFault, IsNetworkFault, IsReplayFault};
 ghost use Rattle.command_line.specs.Stopping.{NothingOr};
@@ -143,7 +142,7 @@ fn replay_mixed<C: Carrier, W: Output>(
     // strangers are hosts of the network
     requires there { absent_in (C.calls.seen carrier).hosts strangers.now ≡ None }
     ensures replayed { OnOk result (WritesWorld book detail (MixedShowsFrom C.calls strangers.now carrier events.items) (W.contents writer.old) (W.contents writer.new)) }
-    ensures stopped { result ≡ Err ScriptFault.OutOfMemory → NothingOr (lines.Writes detail (MixedStopsFrom C.calls strangers.now carrier events.items)) (W.contents writer.old) (W.contents writer.new) }
+    ensures stopped { result ≡ Err ScriptFault.OutOfMemory → NothingOr (MixedWritesPart detail C.calls strangers.now carrier events.items) (W.contents writer.old) (W.contents writer.new) }
     ensures fault { IfErr result IsReplayFault }
     ensures failed { (result ≡ Err ScriptFault.CannotWrite) ↔ (W.failed writer.new ≡ true) }
     ensures flushed { OnOk result (W.flushed writer.new ≡ true) }

@@ -111,7 +111,7 @@ fn log_among<C: Carrier, W: Output>(
             // for the proof only: each fate says whether its life is over
             world.fates();
             let book = book_among(&world);
-            Ok(write_book(strangers, book, writer)?)
+            Ok(write_book(strangers, &book, writer)?)
         }
         Err(_) => Err(ScriptFault::OutOfMemory),
     }

@@ -4,7 +4,7 @@ ghost use Rattle.std.specs.Prelude.{◌≡◌, ◌≢◌, ◌≤◌, ◌↔◌, 
 ghost use Rattle.net_sim.specs.Carriers.{shown};
 ghost use Rattle.net_sim.specs.MixedWorlds.{absent_in};
 ghost use Rattle.command_line.specs.Mixed.{IsMixedFault, IsSomeMixed};
-ghost use Rattle.command_line.specs.MixedTraced.{IsMixedScripted, MixedTraceEndsFrom, MixedTraceEndsOn, MixedTraceStops, MixedTracesFrom, MixedTracesInput, MixedTracesOn};
+ghost use Rattle.command_line.specs.MixedTraced.{IsMixedScripted, MixedTraceEndsOn, MixedTraceStops, MixedTraceStopsFrom, MixedTracesFrom, MixedTracesInput, MixedTracesOn};
 ghost use Rattle.command_line.specs.Steps.{IsReplayFault};
 ghost use Rattle.command_line.specs.Stopping.{NothingOr};
 
@@ -136,7 +136,7 @@ fn trace_among<C: Inspect, W: Output>(
     requires there { absent_in (C.calls.seen carrier).hosts network.now.strangers ≡ None }
     requires whole { W.failed writer.old ≡ false }
     ensures traced { OnOk result (MixedTracesFrom (shown C.calls) C.inside.members network.now carrier events.items (W.contents writer.old) (W.contents writer.new)) }
-    ensures stopped { result ≡ Err ScriptFault.OutOfMemory → NothingOr (MixedTraceEndsFrom (shown C.calls) C.inside.members network.now carrier events.items) (W.contents writer.old) (W.contents writer.new) }
+    ensures stopped { result ≡ Err ScriptFault.OutOfMemory → MixedTraceStopsFrom (shown C.calls) C.inside.members network.now carrier events.items (W.contents writer.old) (W.contents writer.new) }
     ensures fault { IfErr result IsReplayFault }
     ensures failed { (result ≡ Err ScriptFault.CannotWrite) ↔ (W.failed writer.new ≡ true) }
     ensures flushed { OnOk result (W.flushed writer.new ≡ true) }

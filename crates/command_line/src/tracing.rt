@@ -9,7 +9,7 @@ ghost use Rattle.command_line.specs.MixedTraced.{TraceStopsEither, TraceStopsKno
 ghost use Rattle.command_line.specs.Reading.{ReadsAll, ReadsFirst};
 ghost use Rattle.command_line.specs.Steps.{IsFollowFault, IsReplayFault};
 ghost use Rattle.command_line.specs.Stopping.{NothingOr};
-ghost use Rattle.command_line.specs.Traced.{EndsAll, EndsFrom, EndsOn, IsScripted, TracesAll, TracesFrom, TracesOn, WorldEndsFrom, WorldTracesFrom};
+ghost use Rattle.command_line.specs.Traced.{EndsAll, EndsFrom, EndsOn, IsScripted, TracesAll, TracesFrom, TracesOn, WorldStopsFrom, WorldTracesFrom};
 
 use crate::carriers::subnet_of;
 use crate::fault::ScriptFault;
@@ -223,7 +223,7 @@ fn trace_hosts<C: Inspect, W: Output>(
     requires running { (C.calls.seen carrier).stopped ≡ false }
     requires whole { W.failed writer.old ≡ false }
     ensures traced { OnOk result (WorldTracesFrom (shown C.calls) C.inside.members network.now carrier events.items (W.contents writer.old) (W.contents writer.new)) }
-    ensures stopped { result ≡ Err ScriptFault.OutOfMemory → NothingOr (WorldEndsFrom (shown C.calls) C.inside.members network.now carrier events.items) (W.contents writer.old) (W.contents writer.new) }
+    ensures stopped { result ≡ Err ScriptFault.OutOfMemory → WorldStopsFrom (shown C.calls) C.inside.members network.now carrier events.items (W.contents writer.old) (W.contents writer.new) }
     ensures fault { IfErr result IsReplayFault }
     ensures failed { (result ≡ Err ScriptFault.CannotWrite) ↔ (W.failed writer.new ≡ true) }
     ensures flushed { OnOk result (W.flushed writer.new ≡ true) }

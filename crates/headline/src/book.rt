@@ -26,16 +26,16 @@ use net_sim::{Book, World};
 ///
 /// By `lawful` the world is exact (`IsExact`): the book says what the programs of all hosts make of what crossed and of
 /// what their users asked for.
-pub fn book_of<C: Carrier>(world: &World<C>) -> &Book
-    ensures value { result.now ≡ world.now.kept }
-    ensures promise { Promised (C.calls.seen world.now.carrier).hosts result.now.book result.now.handed }
+pub fn book_of<C: Carrier>(world: &World<C>) -> Book<'_>
+    ensures value { result ≡ world.now.kept }
+    ensures promise { Promised (C.calls.seen world.now.carrier).hosts result.book result.handed }
     ensures lawful { IsExact C.calls.seen world.now }
-    ensures fated { AreFated result.now.book.lives result.now.fates }
-    ensures whole { ClosesWhole result.now.book.crossings result.now.book.lives result.now.handed result.now.fates }
-    ensures arrived { ArrivedBook result.now.book.contacts result.now.book.crossings result.now.book.lives result.now.fates }
-    ensures over { AreLeft result.now.book.contacts result.now.book.crossings result.now.book.lives result.now.fates }
-    ensures contacts { AreContacts result.now.book.contacts result.now.book.crossings }
-    ensures within { CountNothingLater result.now.book.contacts result.now.book.crossings result.now.book.lives }
+    ensures fated { AreFated result.book.lives result.fates }
+    ensures whole { ClosesWhole result.book.crossings result.book.lives result.handed result.fates }
+    ensures arrived { ArrivedBook result.book.contacts result.book.crossings result.book.lives result.fates }
+    ensures over { AreLeft result.book.contacts result.book.crossings result.book.lives result.fates }
+    ensures contacts { AreContacts result.book.contacts result.book.crossings }
+    ensures within { CountNothingLater result.book.contacts result.book.crossings result.book.lives }
 {
     world.book()
 }

@@ -10,7 +10,7 @@ pub use Rattle.host_pairs.specs.Commands.{Ending, Open, Unconnected, asked_on_li
 pub use Rattle.host_pairs.specs.Control.{ERRONEOUS, Legal, Order, Wrong, error, orders_of}
 pub use Rattle.host_pairs.specs.Data.{arrived_if, data_found, data_taken, is_acceptable}
 pub use Rattle.host_pairs.specs.Desk.{DeskState, command_queued, desk_of, listener_on, settled, swept}
-pub use Rattle.host_pairs.specs.Entries.{changed_at, changed_first, close_due, closed_by_partner, closed_when, cls_of, ending, entry_at, free_link, has_cls, is_at, is_busy, is_due, is_ending, is_over, must_close, opening_by, opening_notices, receiving_end, sending_end, sends_on}
+pub use Rattle.host_pairs.specs.Entries.{changed_at, changed_first, close_due, closed_by_partner, closed_when, cls_of, ending, entry_at, free_link, is_at, is_busy, is_due, is_ending, is_over, must_close, opening_by, opening_notices, receiving_end, sending_end, sends_on}
 pub use Rattle.host_pairs.specs.Pair.{PairState}
 pub use Rattle.host_pairs.specs.Parcels.{Parcel, cls_sent, command_gone, commands_gone, link_of, pair_after, parcel_gone, request_gone}
 pub use Rattle.host_pairs.specs.Turn.{TurnState, answered_turn, failed, failed_by, freed, if_ready, is_gone, message_taken, order_taken, orders_taken, reply_notices, reset_notices, settled_turn, with_desk}

@@ -1,5 +1,6 @@
 -- The ends of two sockets, and what waits to be said of them, where a host's ends and its queue change.
-use Rattle.host_keeps_pairing.proofs.Common.{◌≡◌, ℕ, Bool, true, ◌&&◌, ◌==◌, if◌then◌else◌, List, [], ◌∷◌, ◌++◌, map, filter, Option, Some, None, refl, ap, sym, ◌∙◌, eqb-true, append-nil, Command, Mark, changed_first, changed_at, entry_at, is_at, Entry, mark_of, marks, Standing, standing, at}
+pub use Rattle.std.proofs.lemmas.Option.{same_Some as found_same}
+use Rattle.host_keeps_pairing.proofs.Common.{◌≡◌, ℕ, Bool, true, ◌&&◌, ◌==◌, if◌then◌else◌, List, [], ◌∷◌, ◌++◌, map, filter, Some, None, refl, ap, sym, ◌∙◌, eqb-true, append-nil, Command, Mark, changed_first, changed_at, entry_at, is_at, Entry, mark_of, marks, Standing, standing, at}
 use Rattle.std.proofs.Common.{false, eq-eqb}
 use Rattle.std.proofs.lemmas.List.{map-append}
 use Rattle.std.proofs.lemmas.List.Elements.{filter-append}
@@ -68,7 +69,7 @@ abbrev pub Is : (Standing → Standing) → (Entry → Entry) → Type 0
 Is to change = (e : Entry) → ((change e).own ≡ e.own) × ((change e).foreign ≡ e.foreign) × (standing (change e) ≡ to (standing e))
 
 -- the two sockets of an end
-sockets_of : (own foreign : ℕ) (x : Entry) → is_at own foreign x ≡ true → (x.own ≡ own) × (x.foreign ≡ foreign)
+pub sockets_of : (own foreign : ℕ) (x : Entry) → is_at own foreign x ≡ true → (x.own ≡ own) × (x.foreign ≡ foreign)
 sockets_of own foreign x e = let h : ((x.own == own) ≡ true) × ((x.foreign == foreign) ≡ true) = both (x.own == own) (x.foreign == foreign) e in (eqb-true x.own own h.0, eqb-true x.foreign foreign h.1)
 
 turned : (a b : ℕ) (s t : Bool) → (a == b) ≡ s → (b == a) ≡ t → s ≡ t
@@ -138,14 +139,6 @@ none_at own foreign (x ∷ xs) e = none_step own foreign x xs (none_at own forei
 pub record Found (own foreign : ℕ) (xs : List Entry) (e : Entry) : Type 0 where
   pub rest : List Standing
   pub first : at own foreign xs ≡ standing e ∷ rest
-
-entry_or : Entry → Option Entry → Entry
-entry_or d None = d
-entry_or d (Some e) = e
-
-pub found_same : (x e : Entry) → Some x ≡ Some e → x ≡ e
-unfolding entry_or
-found_same x e is = ap (entry_or x) is
 
 found_step : (own foreign : ℕ) (x e : Entry) (xs : List Entry) → (entry_at own foreign xs ≡ Some e → Found own foreign xs e) → (b : Bool) → is_at own foreign x ≡ b → entry_at own foreign (x ∷ xs) ≡ Some e → Found own foreign (x ∷ xs) e
 found_step own foreign x e xs rest true f is =

@@ -1,5 +1,5 @@
 -- What a user asks for, at one pair of sockets.
-use Rattle.host_keeps_pairing.proofs.Common.{◌≡◌, ◌⊎◌, inl, inr, ℕ, Bool, true, false, not, ◌&&◌, if◌then◌else◌, cond, List, [], ◌∷◌, Option, Some, None, is_some, refl, sym, subst, Host, same_host, same_host-true, Command, End, nothing, Mark, changed_first, close_due, entry_at, free_link, has_cls, is_at, receiving_end, sending_end, PairState, NcpState, pair_with, with_pair, desk_of, is_ready, link_of, Closing, Entry, Peer, Request, pair_changed, mark_of, marks, Standing, at, HasEnd, Stand, after_request}
+use Rattle.host_keeps_pairing.proofs.Common.{◌≡◌, ◌⊎◌, inl, inr, ℕ, Bool, true, false, not, ◌&&◌, if◌then◌else◌, cond, List, [], ◌∷◌, Option, Some, None, is_some, refl, sym, subst, Host, same_host, same_host-true, Command, End, nothing, Mark, changed_first, close_due, entry_at, free_link, is_at, receiving_end, sending_end, PairState, NcpState, pair_with, with_pair, desk_of, is_ready, link_of, Closing, Entry, Peer, Request, pair_changed, mark_of, marks, Standing, at, HasEnd, Stand, after_request}
 use Rattle.interface.proofs.lemmas.{or_false}
 use Rattle.ncp_control.specs.Numbers.{is_receive_socket, is_send_socket}
 use Rattle.ncp_control.specs.declared.command.Command.TheVariants as command
@@ -31,7 +31,7 @@ kept P g h q peers p work = kept_by P g h q peers p work (same_host h g) refl
 
 -- ---- no refusal
 
-none_is : {A : Type 0} (o : Option A) → is_some o ≡ false → o ≡ None
+pub none_is : {A : Type 0} (o : Option A) → is_some o ≡ false → o ≡ None
 none_is None e = refl
 none_is (Some x) e = absurd (cc)
 

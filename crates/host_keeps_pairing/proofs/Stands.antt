@@ -1,8 +1,8 @@
 -- What a mark that goes out, or is heard, does to the one end of two sockets.
-use Rattle.host_keeps_pairing.proofs.Common.{◌≡◌, ℕ, ◌≤◌, Bool, true, false, not, ◌||◌, if◌then◌else◌, List, [], ◌∷◌, ◌++◌, Option, Some, None, is_some, refl, ap, sym, subst, ◌∙◌, ◌⊎◌, inl, inr, append-nil, End, nothing, gone, fits, mark_taken, Mark, Ask, Close, close_due, has_cls, is_due, Closing, MayAllGo, Standing, is_past, came_from, end_of, Stand}
+use Rattle.host_keeps_pairing.proofs.Common.{◌≡◌, ℕ, ◌≤◌, Bool, true, false, not, ◌||◌, if◌then◌else◌, List, [], ◌∷◌, ◌++◌, Option, Some, None, is_some, refl, ap, sym, subst, ◌∙◌, ◌⊎◌, inl, inr, append-nil, End, nothing, gone, fits, mark_taken, Mark, Ask, Close, close_due, is_due, Closing, MayAllGo, Standing, is_past, came_from, end_of, Stand}
 use Rattle.pairing_law.specs.Ends.{is_begun, MayGo}
 use Rattle.pairing_law.specs.Sides.{above}
-use Rattle.host_pairs.specs.Entries.{is_sent}
+use Rattle.host_pairs.specs.Entries.{is_sent, has_cls}
 use Rattle.host_pairs.specs.declared.entry.Closing.TheVariants as closing
 use Rattle.host_pairs.proofs.lemmas.{both, not_is}
 use Rattle.host_keeps_pairing.specs.Ends.{request_due, close_waits}
@@ -44,9 +44,9 @@ stand_asked origin place stamp s words x h fit =
 abbrev pub closed_by : Standing → Standing
 closed_by s = record s { closing = close_due s.closing; partner_closed = true }
 
-due_cls : (c : Closing) → has_cls c ≡ true → has_cls (close_due c) ≡ true
-due_cls closing.No e = absurd (cc)
-due_cls c e = e
+pub due_still : (c : Closing) → has_cls c ≡ true → has_cls (close_due c) ≡ true
+due_still closing.No e = absurd (cc)
+due_still c e = e
 
 due_sent : (c : Closing) → is_sent (close_due c) ≡ is_sent c
 due_sent closing.No = refl
@@ -68,7 +68,7 @@ stand_closed origin place s words x h fit =
     let parts : (is_begun (plain origin s) ≡ true) × (not s.partner_closed ≡ true) = both (is_begun (plain origin s)) (not s.partner_closed) fit_plain in (
       not_is s.partner_closed parts.1,
       (
-        record { live = λ e. absurd (cc); refused = λ m. ((h.0.refused m).0, due_cls s.closing (h.0.refused m).1); asked = λ e m. h.0.asked (sym (due_sent s.closing) ∙ e) m; own = h.0.own },
+        record { live = λ e. absurd (cc); refused = λ m. ((h.0.refused m).0, due_still s.closing (h.0.refused m).1); asked = λ e m. h.0.asked (sym (due_sent s.closing) ∙ e) m; own = h.0.own },
         h.1 ∙ ap (λ (l : List Mark). request_due place s.mine s.asked ++ l) (sym (due_waits s.closing)),
         ap (mark_taken Close) is ∙ closed_end origin s (is_sent s.closing) refl (due_sent s.closing),
       ),

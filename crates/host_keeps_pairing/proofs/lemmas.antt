@@ -4,12 +4,12 @@ pub use Rattle.host_keeps_pairing.proofs.Calls.{answer_keeps, message_data, mess
 pub use Rattle.host_keeps_pairing.proofs.Desks.{On, change_away, change_here, ends_swept, found_here, loose, none_here, on_queued, on_settled}
 pub use Rattle.host_keeps_pairing.proofs.Endings.{answer_knows, data_told_same, idle_leaves, message_knows, offer_knows, others_leave, request_knows, rrp_leaves, rst_knows}
 pub use Rattle.host_keeps_pairing.proofs.Fronts.{untagged_is}
-pub use Rattle.host_keeps_pairing.proofs.Lists.{Found, Is, are, at_append, at_one}
+pub use Rattle.host_keeps_pairing.proofs.Lists.{Found, Is, are, at_append, at_one, sockets_of}
 pub use Rattle.host_keeps_pairing.proofs.Lists.{eqb-sym, found_at, found_same, marks_append, none_at}
 pub use Rattle.host_keeps_pairing.proofs.Partners.{known_match}
 pub use Rattle.host_keeps_pairing.proofs.Passes.{one_gone}
-pub use Rattle.host_keeps_pairing.proofs.Requests.{peer_here, request_keeps}
-pub use Rattle.host_keeps_pairing.proofs.Stands.{asked_by, closed_by, heads, live_end, plain, stand_asked}
+pub use Rattle.host_keeps_pairing.proofs.Requests.{none_is, peer_here, request_keeps}
+pub use Rattle.host_keeps_pairing.proofs.Stands.{asked_by, closed_by, due_still, heads, live_end, plain, stand_asked}
 pub use Rattle.host_keeps_pairing.proofs.Takes.{on_taken}
 pub use Rattle.host_keeps_pairing.proofs.Told.{answer_other, data_told, idle_other, message_tells, offer_tells, rrp_other, rst_other}
 pub use Rattle.host_keeps_pairing.proofs.Turns.{after_data, after_reply, after_reset, fit_first, one_order, orders_idle, ready_when, reply_idle, rfnm_idle, same_kept, work_of}

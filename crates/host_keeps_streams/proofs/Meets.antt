@@ -1,6 +1,7 @@
 -- Each call concerns only connections that have an end before it, or after it.
-use Rattle.host_keeps_streams.proofs.Common.{◌≡◌, ◌⊎◌, ℕ, ◌*◌, take, Bool, true, false, not, ◌&&◌, ◌||◌, ◌==◌, if◌then◌else◌, List, ◌∷◌, ◌++◌, Option, Some, None, is_some, refl, subst, inl, inr, list_any, Host, header_of, data_bits, Command, DataHeader, Sender, receiver_requested, asked_on_link, asked_with_size, rts_heard, rts_taken, rts_taken_by, str_heard, str_linked, str_taken_by, data_of, DeskState, desk_of, listener_on, called_off, changed_first, closed_by_partner, entry_at, free_link, is_at, is_mine_on, is_receiving, must_close, receiving_end, receives_on, refused_end, sending_end, sends_on, PairState, freed, Closing, Entry, Listener, received_close, received_gone, received_open, sent_open, Call, Hears, Takes, Says, Sends, Answered, OpensReceiver, OpensSender, Grants, AsksBack, Closes, ends_by, received_at, sent_at, answers_str, asked_received, asked_sent, asks_for, closed_received, closes, closes_on, cls_received, data_received, hears_rts, of_end, received_out, rts_sent, sent_out, str_received, told_on, named, numbers, is_among}
+use Rattle.host_keeps_streams.proofs.Common.{◌≡◌, ◌⊎◌, ℕ, ◌*◌, take, Bool, true, false, not, ◌&&◌, ◌==◌, if◌then◌else◌, List, ◌∷◌, ◌++◌, Option, Some, None, is_some, refl, subst, inl, inr, list_any, Host, header_of, data_bits, Command, DataHeader, Sender, receiver_requested, asked_on_link, asked_with_size, rts_heard, rts_taken, rts_taken_by, str_heard, str_linked, str_taken_by, data_of, DeskState, desk_of, listener_on, called_off, changed_first, closed_by_partner, entry_at, free_link, is_at, is_mine_on, is_receiving, must_close, receiving_end, receives_on, refused_end, sending_end, sends_on, PairState, freed, Closing, Entry, Listener, received_close, received_gone, received_open, sent_open, Call, Hears, Takes, Says, Sends, Answered, OpensReceiver, OpensSender, Grants, AsksBack, Closes, ends_by, received_at, sent_at, answers_str, asked_received, asked_sent, asks_for, closed_received, closes, closes_on, cls_received, data_received, hears_rts, of_end, received_out, rts_sent, sent_out, str_received, told_on, named, numbers, is_among}
 use Rattle.std.proofs.Common.{[], eq-eqb}
+use Rattle.std.proofs.lemmas.Bool.{or_right}
 use Rattle.ncp_control.specs.declared.command.Command.TheVariants as command
 use Rattle.stream_law.specs.Words as words
 use Rattle.stream_law.specs.Receivers as receivers
@@ -15,14 +16,10 @@ use Rattle.host_keeps_streams.proofs.ReceiverHears.{own_name}
 abbrev pub Meets : (ℕ → ℕ → ℕ) → List Entry → List Entry → ℕ → Type 0
 Meets name before after c = (is_among c (numbers name before) ≡ true) ⊎ (is_among c (numbers name after) ≡ true)
 
-or_true : (a : Bool) → (a || true) ≡ true
-or_true true = refl
-or_true false = refl
-
 module _ (name : ℕ → ℕ → ℕ) where
   among_last : (es : List Entry) (e : Entry) → is_among (named name e) (numbers name (es ++ e ∷ [])) ≡ true
   among_last [] e = let same : (named name e == named name e) ≡ true = eq-eqb (named name e) (named name e) refl in rw same refl
-  among_last (y ∷ ys) e = let rest : is_among (named name e) (numbers name (ys ++ e ∷ [])) ≡ true = among_last ys e in rw rest (or_true (named name y == named name e))
+  among_last (y ∷ ys) e = let rest : is_among (named name e) (numbers name (ys ++ e ∷ [])) ≡ true = among_last ys e in rw rest (or_right (named name y == named name e) true refl)
 
   found_name : (own foreign : ℕ) (e : Entry) (es : List Entry) → entry_at own foreign es ≡ Some e → is_among (name own foreign) (numbers name es) ≡ true
   found_name own foreign e es found = subst (λ (c : ℕ). is_among c (numbers name es) ≡ true) (own_name name own own foreign e es found) (found_among name (is_at own foreign) e es found)
@@ -35,7 +32,7 @@ module _ (name : ℕ → ℕ → ℕ) where
   closes_among P busy [] f = tt
   closes_among P busy (y ∷ ys) f =
       let same : (named name y == named name y) ≡ true = eq-eqb (named name y) (named name y) refl in
-      closes_step P busy y ys (f (named name y) (rw same refl)) (closes_among P busy ys (λ k t. f k (rw t (or_true (named name y == k))))) (must_close busy y && not (is_receiving y)) refl
+      closes_step P busy y ys (f (named name y) (rw same refl)) (closes_among P busy ys (λ k t. f k (rw t (or_right (named name y == k) true refl)))) (must_close busy y && not (is_receiving y)) refl
 
   -- ends that are changed have the numbers that they had
   closes_meet : (busy : List ℕ) (test : Entry → Bool) (change : Entry → Entry) (es after : List Entry) → ((x : Entry) → named name (change x) ≡ named name x) → AllConcernSent (Meets name es after) (closes name busy (changed_first test change es))

@@ -112,8 +112,8 @@ const MANY: [u8; 40] = [
     0x32, 0x54, 0x76, 0x98, 0xBA, 0xDC, 0xFE, 0x21,
 ];
 
-/// Whether this many bits from a place on, cut out at once, are those that are taken one at a time; and whether they and the bits
-/// before that place, appended at once, are all of these taken one at a time.
+/// Whether this many bits from a place on, cut out at once, are those that are taken one at a time; and whether they
+/// and the bits before that place, appended at once, are all of these taken one at a time.
 fn agrees(alloc: Global, from: u8, count: u8) -> Result<[bool; 2], BitFault> {
     let whole = Bits::from_octets(alloc, &MANY, 320)?;
     let (from, to) = (usize::from(from), usize::from(from) + usize::from(count));
@@ -134,7 +134,8 @@ fn agrees(alloc: Global, from: u8, count: u8) -> Result<[bool; 2], BitFault> {
     Ok([part == cut, before == all])
 }
 
-/// Whether a copy of this many bits, and these put one at a time, are the same list; and whether one bit fewer is another.
+/// Whether a copy of this many bits, and these put one at a time, are the same list; and whether one bit fewer is
+/// another.
 fn is_copied(alloc: Global, count: u16) -> Result<[bool; 3], BitFault> {
     let count = usize::from(count);
     let mut whole = Bits::from_octets(alloc, &MANY, count)?;
@@ -156,6 +157,29 @@ fn short_and_long_lists_are_copied(rt: HostRuntime) {
     for count in [0u16, 1, 239, 240, 241, 248, 249, 320] {
         let found = is_copied(rt.alloc(), count);
         assert_eq!(rt; found, Ok([true; 3]), "{count} bits");
+    }
+}
+
+/// Whether this many octets, put as bits, are given back copied, lent and from a place on, where a 1 and zeros precede
+/// them.
+fn are_given_back(alloc: Global, count: u8) -> Result<[bool; 3], BitFault> {
+    let count = usize::from(count);
+    let octets = MANY.split_at(count).0;
+    let bits = Bits::from_octets(alloc, octets, 8 * count)?;
+    let mut later = Bits::from_octets(alloc, &[0x80], 3)?;
+    later.append(&bits)?;
+    Ok([
+        bits.to_octets(alloc)?.as_slice() == octets,
+        bits.as_octets() == octets,
+        later.octets_at(alloc, 3, count)?.as_slice() == octets,
+    ])
+}
+
+#[test]
+fn short_and_long_lists_give_their_octets(rt: HostRuntime) {
+    for count in [0u8, 1, 29, 30, 31, 40] {
+        let found = are_given_back(rt.alloc(), count);
+        assert_eq!(rt; found, Ok([true; 3]), "{count} octets");
     }
 }
 
@@ -274,6 +298,11 @@ fn the_longest_text_fills_its_body(rt: HostRuntime) {
         (0, 16, Ok([true; 4])),
         (15, 16, Ok([true; 4])),
         (16, 32, Ok([true; 4])),
+        (223, 224, Ok([true; 4])),
+        (224, 240, Ok([true; 4])),
+        (239, 240, Ok([true; 4])),
+        (240, 256, Ok([true; 4])),
+        (241, 256, Ok([true; 4])),
         (1007, 1008, Ok([true; 4])),
         (1008, 1024, Ok([true; 4])),
         (8063, 8064, Ok([true; 4])),

@@ -30,7 +30,7 @@ pub use Rattle.masked_worlds.specs.Among.{is_of_stranger, without_strangers}
 pub use Rattle.masked_worlds.specs.Mixed.{IsMixed, closed, masked_crossing, masked_moments, stopped}
 pub use Rattle.masked_worlds.specs.Strangers.{masked_as, masked_log, strange_end, stranger_in, turn}
 pub use Rattle.masked_worlds.specs.Worked.{listener_taken}
-pub use Rattle.mixed_worlds.specs.Book.{beside_among, crossed_only, is_among, lives_among, mixed_kept}
+pub use Rattle.mixed_worlds.specs.Book.{beside_among, contacts_among, crossed_only, is_among, lives_among, mixed_kept}
 pub use Rattle.mixed_worlds.specs.Ends.{HasSome}
 pub use Rattle.mixed_worlds.specs.Promised.{Promises}
 pub use Rattle.mixed_worlds.specs.Told.{ToldAmong, told_among}
@@ -52,7 +52,7 @@ pub use Rattle.pairing_law.specs.Ends.{End}
 pub use Rattle.pairing_law.specs.Marks.{Ask, Close, Mark}
 pub use Rattle.promise.specs.Connections.{JoinedBook}
 pub use Rattle.promise.specs.Fates.{ClosesWhole, IsBeside}
-pub use Rattle.promise.specs.Formed.{CrossedAt, FormedBook, HasCrossed, IsFormed, coming, data_by, flow_of, going, own_named, partner_named}
+pub use Rattle.promise.specs.Formed.{CrossedAt, FormedBook, HasCrossed, coming, data_by, flow_of, going, own_named, partner_named}
 pub use Rattle.promise.specs.Notices.{data_told}
 pub use Rattle.promise.specs.Safe.{AreTwo, Match, Name, SafeBook, control_flow, partner_request, receives, sends}
 pub use Rattle.promise.specs.declared.book.Told.{Told}

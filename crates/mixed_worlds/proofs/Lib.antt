@@ -10,6 +10,8 @@ pub mod RealLogs
 pub mod RealFormed
 pub mod RealBooks
 pub mod Settled
+pub mod SameContacts
+pub mod RealEnds
 pub mod RealAmong
 pub mod Joined
 pub mod EndMoments
@@ -31,3 +33,4 @@ pub mod OnceLives
 pub mod Worlds
 pub mod SameTold
 pub mod RealTold
+pub mod RealArrived

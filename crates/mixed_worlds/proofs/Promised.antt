@@ -4,6 +4,7 @@ use Rattle.interface.specs.declared.crossing.Answer.TheVariants as answer
 use Rattle.interface.specs.declared.crossing.Crossing.TheVariants as crossing
 use Rattle.net_sim.specs.Clean.{HaveAddresses}
 use Rattle.net_sim.specs.Timeline.{IsTimeline}
+use Rattle.net_sim.proofs.lemmas.{kept_fated}
 use Rattle.world_keeps_pairing.specs.Laws.Worlds.{Lives}
 use Rattle.world_keeps_lives.specs.Laws.{Programs}
 use Rattle.world_keeps_streams.specs.Laws as ends
@@ -42,6 +43,11 @@ promised pairing programs connections hosts moments addresses run time = record 
   };
   firsts = connections.firsts hosts moments addresses run time;
   whole = connections.whole hosts moments addresses run time;
+  fated = kept_fated moments;
+  arrived = connections.arrived hosts moments addresses run time;
+  over = connections.over hosts moments addresses run time;
+  contacts = connections.contacts hosts moments addresses run time;
+  within = connections.within hosts moments addresses run time;
   arrives = λ m later earlier is receiver comes.
       (let h : IsLater hosts (Crossed (crossing.In m) ∷ earlier) = older later (Crossed (crossing.In m) ∷ earlier) is
       in connections.arrives hosts earlier m addresses h.run h.time receiver comes);

@@ -45,7 +45,7 @@ module _ (strange : Host → Bool) (hosts : List Host) (log : List Crossing) (li
   to_real x y here there m = real_match strange hosts log x y (plain x here).0 (plain x here).1 (plain y there).0
       (plain y there).1 m
 
-  to_masked : (x y : Life) → Contains lives x → Contains lives y → Match log x y
+  pub to_masked : (x y : Life) → Contains lives x → Contains lives y → Match log x y
       → Match (masked_log strange hosts log) x y
   to_masked x y here there m = record {
     receiving = m.receiving;

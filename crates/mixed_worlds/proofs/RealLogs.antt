@@ -17,11 +17,35 @@ masked_drop strange hosts (suc n) [] = refl
 masked_drop strange hosts (suc n) (c ∷ log) = masked_drop strange hosts n log
 
 -- what crossed before a place
-masked_before : (strange : Host → Bool) (hosts : List Host) (place : ℕ) (log : List Crossing)
+pub masked_before : (strange : Host → Bool) (hosts : List Host) (place : ℕ) (log : List Crossing)
     → before place (masked_log strange hosts log) ≡ masked_log strange hosts (before place log)
 masked_before strange hosts place log =
     ap (λ (n : ℕ). drop (n - place) (masked_log strange hosts log)) (masked_length strange hosts log)
     ∙ masked_drop strange hosts (length log - place) log
+
+-- what is read of a log crossing by crossing, each at its place, is the same where its strangers are masked, if what a
+-- stranger does counts as its stop or start does
+module _ {A : Type 0} (strange : Host → Bool) (hosts : List Host) (read : List Crossing → A)
+    (step : ℕ → Crossing → A → A)
+    (is : (c : Crossing) (log : List Crossing) → read (c ∷ log) ≡ step (length log) c (read log))
+    (aside : (place : ℕ) (c : Crossing) (g : Host) (b : Bool) (a : A) → stranger_in strange c ≡ Some g
+    → step place (turn b g) a ≡ step place c a) where
+  pub same_read : (log : List Crossing) → read (masked_log strange hosts log) ≡ read log
+  same_read [] = refl
+  same_read (c ∷ log) =
+      is (masked_as hosts (stranger_in strange c) c (masked_log strange hosts log)) (masked_log strange hosts log)
+      ∙ ap
+      (λ (n : ℕ). step n (masked_as hosts (stranger_in strange c) c (masked_log strange hosts log))
+      (read (masked_log strange hosts log))) (masked_length strange hosts log)
+      ∙ ap
+      (λ (a : A). step (length log) (masked_as hosts (stranger_in strange c) c (masked_log strange hosts log)) a)
+      (same_read log)
+      ∙ by (stranger_in strange c) refl ∙ sym (is c log) where
+        by : (o : Option Host) → stranger_in strange c ≡ o
+            → step (length log) (masked_as hosts o c (masked_log strange hosts log)) (read log)
+            ≡ step (length log) c (read log)
+        by None e = refl
+        by (Some g) e = aside (length log) c g (is_up hosts g (masked_log strange hosts log)) (read log) e
 
 module _ (strange : Host → Bool) (f : Flow) (source : strange f.source ≡ false)
     (destination : strange f.destination ≡ false) where
@@ -36,40 +60,29 @@ module _ (strange : Host → Bool) (f : Flow) (source : strange f.source ≡ fal
         ∙ some in cc)
     by false e = refl
 
-  turned : (b : Bool) (g : Host) (log : List Crossing) → last_out f (turn b g ∷ log) ≡ last_out f log
-  turned true g log = refl
-  turned false g log = refl
+  abbrev last_step : ℕ → Crossing → Option ℕ → Option ℕ
+  last_step place (crossing.Out m) last = if same_flow f m.flow then Some place else last
+  last_step place c last = last
 
-  aside : (c : Crossing) (g : Host) (log : List Crossing) → stranger_in strange c ≡ Some g
-      → last_out f (c ∷ log) ≡ last_out f log
-  aside (crossing.Out m) g log e = rw (flow_off m.flow g e) refl
-  aside (crossing.In m) g log e = refl
-  aside (crossing.Answer kind k) g log e = refl
-  aside (crossing.Down h) g log e = refl
-  aside (crossing.Up h) g log e = refl
+  last_is : (c : Crossing) (log : List Crossing) → last_out f (c ∷ log) ≡ last_step (length log) c (last_out f log)
+  last_is (crossing.Out m) log = refl
+  last_is c log = refl
 
-  same_there : (c : Crossing) (log masked : List Crossing) → length masked ≡ length log
-      → last_out f masked ≡ last_out f log → last_out f (c ∷ masked) ≡ last_out f (c ∷ log)
-  same_there (crossing.Out m) log masked long same =
-      ap (λ (n : ℕ). if same_flow f m.flow then Some n else last_out f masked) long
-      ∙ ap (λ (o : Option ℕ). if same_flow f m.flow then Some (length log) else o) same
-  same_there (crossing.In m) log masked long same = same
-  same_there (crossing.Answer kind k) log masked long same = same
-  same_there (crossing.Down h) log masked long same = same
-  same_there (crossing.Up h) log masked long same = same
+  turned : (place : ℕ) (g : Host) (b : Bool) (last : Option ℕ) → last_step place (turn b g) last ≡ last
+  turned place g true last = refl
+  turned place g false last = refl
+
+  aside : (place : ℕ) (c : Crossing) (g : Host) (last : Option ℕ) → stranger_in strange c ≡ Some g
+      → last_step place c last ≡ last
+  aside place (crossing.Out m) g last e = rw (flow_off m.flow g e) refl
+  aside place c g last e = refl
 
   -- the last message of a flow between hosts with programs went out where it did
   pub masked_last : (hosts : List Host) (log : List Crossing)
       → last_out f (masked_log strange hosts log) ≡ last_out f log
-  masked_last hosts [] = refl
-  masked_last hosts (c ∷ log) = by (stranger_in strange c) refl (masked_last hosts log) where
-    by : (o : Option Host) → stranger_in strange c ≡ o → last_out f (masked_log strange hosts log) ≡ last_out f log
-        → last_out f (masked_as hosts o c (masked_log strange hosts log) ∷ masked_log strange hosts log)
-        ≡ last_out f (c ∷ log)
-    by None e rest = same_there c log (masked_log strange hosts log) (masked_length strange hosts log) rest
-    by (Some g) e rest =
-        turned (is_up hosts g (masked_log strange hosts log)) g (masked_log strange hosts log) ∙ rest
-        ∙ sym (aside c g log e)
+  masked_last hosts log =
+      same_read strange hosts (last_out f) last_step last_is
+      (λ place c g b last e. turned place g b last ∙ sym (aside place c g last e)) log
 
 module _ (strange : Host → Bool) (hosts : List Host) (log : List Crossing) where
   pub same_request : (x : Life) → strange x.host ≡ false → strange x.peer ≡ false

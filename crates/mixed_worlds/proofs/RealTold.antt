@@ -8,14 +8,14 @@ use Rattle.mixed_worlds.proofs.RealLogs.{masked_length}
 use Rattle.mixed_worlds.proofs.SameTold.{same_told}
 
 -- a message is no stop and no start
-abbrev Never : (HostMessage → Crossing) → Type 0
+abbrev pub Never : (HostMessage → Crossing) → Type 0
 Never way = (m : HostMessage) (b : Bool) (g : Host) → way m ≡ turn b g → ⊥
 
-never_going : Never going
+pub never_going : Never going
 never_going m true g is = absurd (let no : crossing.Out m ≡ crossing.Down g = is in cc)
 never_going m false g is = absurd (let no : crossing.Out m ≡ crossing.Up g = is in cc)
 
-never_coming : Never coming
+pub never_coming : Never coming
 never_coming m true g is = absurd (let no : crossing.In m ≡ crossing.Down g = is in cc)
 never_coming m false g is = absurd (let no : crossing.In m ≡ crossing.Up g = is in cc)
 
@@ -28,7 +28,7 @@ abbrev tells_at : Bool → Host → ℕ → List Bool → ℕ → Told
 tells_at takes h socket bits n = record { host = h; place = 1 + n; notice = data_notice takes socket bits }
 
 module _ (strange : Host → Bool) (hosts : List Host) where
-  real_crossed : (way : HostMessage → Crossing) → Never way → (m : HostMessage) (place : ℕ) (log : List Crossing)
+  pub real_crossed : (way : HostMessage → Crossing) → Never way → (m : HostMessage) (place : ℕ) (log : List Crossing)
       → CrossedAt place (way m) (masked_log strange hosts log) → CrossedAt place (way m) log
   real_crossed way never m place [] at = at
   real_crossed way never m place (c ∷ log) at = by (stranger_in strange c) at

@@ -1,13 +1,19 @@
 -- The book of a world with strangers.
-use Rattle.mixed_worlds.proofs.Common.{◌≡◌, Bool, true, false, List, length, subst, sym, Contains, Host, Crossing, safe_messages, ClosesWhole, IsBeside, SafeBook, receives, sends, Life, IsMixed, Kept, Moment, crossings_of, beside_among, lives_among, mixed_kept, IsRun, JoinedBook, FormedBook, IsBacked, ToldAmong, HasAsked, IsCarried}
+use Rattle.mixed_worlds.proofs.Common.{◌≡◌, Bool, true, false, List, length, subst, sym, Contains, Host, Crossing, safe_messages, ClosesWhole, IsBeside, SafeBook, receives, sends, Life, IsMixed, Kept, Moment, crossings_of, beside_among, contacts_among, lives_among, mixed_kept, IsRun, JoinedBook, FormedBook, IsBacked, ToldAmong, HasAsked, IsCarried}
 use Rattle.interface.proofs.lemmas.{run_below}
 use Rattle.interface.specs.Calls.{Seen}
+use Rattle.promise.specs.Ends.{AreContacts, AreLeft}
+use Rattle.promise.specs.Fates.{AreFated}
 use Rattle.promise.specs.Safe.{IsGranted, IsPrefix}
+use Rattle.promise.specs.declared.book.Called.{Called}
 use Rattle.net_sim.specs.MixedWorlds.{IsLawfulAmong}
 use Rattle.std.proofs.Common.{All}
+use Rattle.net_sim.specs.Timeline.{contacts_of}
 use Rattle.net_sim.specs.Told.{without_reports}
 use Rattle.net_sim.specs.World.{WorldState}
 use Rattle.world_keeps_lives.specs.Lives.{IsBounded}
+use Rattle.world_keeps_streams.specs.Within.{CountNothingLater}
+use Rattle.mixed_worlds.specs.Arrived.{ArrivedAmong}
 use Rattle.mixed_worlds.specs.Laws.{Among, KeepsAmong, KeepsToward, Toward}
 use Rattle.mixed_worlds.specs.Toward.{AreOnce}
 
@@ -37,6 +43,14 @@ module _ {C : Type 0} (strange : Host → Bool) (seen : C → Seen) (hosts : Lis
   kept P x = subst (λ (xs : List Crossing). P xs (without_reports w.kept)) (sym lawful.whole.crossings)
       (subst (λ (k : Kept). P (crossings_of moments) k) (sym lawful.whole.kept) x)
 
+  -- and so it is with the contacts
+  kept_with : (P : List Called → List Crossing → Kept → Type 0)
+      → P (contacts_of moments) (crossings_of moments) (mixed_kept strange moments)
+      → P w.kept.book.contacts log (without_reports w.kept)
+  kept_with P x = kept (λ xs k. P w.kept.book.contacts xs k)
+      (subst (λ (cs : List Called). P cs (crossings_of moments) (mixed_kept strange moments))
+      (sym lawful.whole.contacts) x)
+
   pub keeps_among : Among → KeepsAmong strange hosts w
   keeps_among law = record {
     run = book_run;
@@ -47,6 +61,16 @@ module _ {C : Type 0} (strange : Host → Bool) (seen : C → Seen) (hosts : Lis
     whole = kept (λ xs k. ClosesWhole xs (lives_among strange k.book.lives)
         (beside_among strange k.book.lives k.handed) (beside_among strange k.book.lives k.fates))
         (law.whole strange hosts moments world_mixed);
+    fated = kept (λ xs k. AreFated (lives_among strange k.book.lives)
+        (beside_among strange k.book.lives k.fates)) (law.fated strange hosts moments world_mixed);
+    arrived = kept_with (λ cs xs k. ArrivedAmong strange (contacts_among strange cs) xs
+        (lives_among strange k.book.lives) (beside_among strange k.book.lives k.fates)) (law.arrived strange hosts moments world_mixed);
+    over = kept_with (λ cs xs k. AreLeft (contacts_among strange cs) xs (lives_among strange k.book.lives)
+        (beside_among strange k.book.lives k.fates)) (law.over strange hosts moments world_mixed);
+    contacts = kept_with (λ cs xs k. AreContacts (contacts_among strange cs) xs)
+        (law.contacts strange hosts moments world_mixed);
+    within = kept_with (λ cs xs k. CountNothingLater (contacts_among strange cs) xs
+        (lives_among strange k.book.lives)) (law.within strange hosts moments world_mixed);
     joined = kept (λ xs k. JoinedBook (record k.book {
       reports = w.kept.book.reports;
       lives = lives_among strange k.book.lives;

@@ -3,6 +3,7 @@ use Rattle.std.specs.Prelude.{◌&&◌, Bool, not, if◌then◌else◌, List, []
 use Rattle.interface.specs.Host.{Host}
 use Rattle.host_services.specs.declared.report.Reported.{Reported}
 use Rattle.promise.specs.Book.{Book}
+use Rattle.promise.specs.declared.book.Called.{Called}
 use Rattle.promise.specs.declared.life.Life.{Life}
 pub use Rattle.net_sim.specs.Mixed.{crossed_only, mixed_kept}
 use Rattle.net_sim.specs.Story.{Moment}
@@ -27,3 +28,7 @@ beside_among strange [] others = others
 beside_among strange (x ∷ lives) [] = []
 beside_among strange (x ∷ lives) (a ∷ others) = if is_among strange x then a ∷ beside_among strange lives others
     else beside_among strange lives others
+
+-- the contacts of such a host with such a peer
+abbrev pub contacts_among : (Host → Bool) → List Called → List Called
+contacts_among strange contacts = filter (λ c. not (strange c.host) && not (strange c.peer)) contacts

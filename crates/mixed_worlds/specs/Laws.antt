@@ -6,6 +6,7 @@ use Rattle.interface.specs.Host.{Host, same_host}
 use Rattle.interface.specs.Mailboxes.{Empty, IsRun, box_of, is_up}
 use Rattle.interface.specs.Messages.{SafeMessages}
 use Rattle.interface.specs.declared.address.Flow.{Flow}
+use Rattle.interface.specs.declared.crossing.Crossing.{Crossing}
 use Rattle.interface.specs.declared.crossing.Crossing.TheVariants as crossing
 use Rattle.interface.specs.declared.crossing.Inbound.TheVariants as inbound
 use Rattle.interface.specs.declared.message.HostMessage.{HostMessage}
@@ -15,22 +16,28 @@ use Rattle.sockets.specs.Accepting.{accepted}
 use Rattle.sockets.specs.Pairs.{NcpState, pair_with}
 use Rattle.sockets.specs.Sending.{next_out}
 use Rattle.host_services.specs.declared.report.Reported.{Reported}
+use Rattle.promise.specs.Arrived.{ArrivedBook}
 use Rattle.promise.specs.Connections.{JoinedBook}
-use Rattle.promise.specs.Fates.{ClosesWhole, IsBeside}
+use Rattle.promise.specs.Ends.{AreContacts, AreLeft}
+use Rattle.promise.specs.Fates.{AreFated, ClosesWhole, IsBeside}
 use Rattle.promise.specs.Formed.{FormedBook}
 use Rattle.promise.specs.Safe.{IsGranted, IsPrefix, SafeBook, receives, sends}
+use Rattle.promise.specs.declared.book.Called.{Called}
+use Rattle.promise.specs.declared.life.Fate.{Fate}
 use Rattle.promise.specs.declared.life.Life.{Life}
 use Rattle.net_sim.specs.MixedWorlds.{IsLawfulAmong}
 use Rattle.net_sim.specs.Reports.{IsBacked}
 use Rattle.net_sim.specs.Story.{Crossed, Moment, program}
-use Rattle.net_sim.specs.Timeline.{crossings_of}
+use Rattle.net_sim.specs.Timeline.{contacts_of, crossings_of}
 use Rattle.net_sim.specs.Told.{host_in, kept_in, notices_by}
 use Rattle.net_sim.specs.World.{WorldState}
 use Rattle.masked_worlds.specs.Among.{without_strangers}
 use Rattle.masked_worlds.specs.Mixed.{IsMixed, masked_moments}
 use Rattle.world_keeps_lives.specs.Lives.{HasOpenEnd, IsBounded, IsFreeSocket, IsOwned}
 use Rattle.world_keeps_streams.specs.Settled.{EachAgrees}
-use Rattle.mixed_worlds.specs.Book.{beside_among, book_among, lives_among, mixed_kept}
+use Rattle.world_keeps_streams.specs.Within.{CountNothingLater}
+use Rattle.mixed_worlds.specs.Arrived.{ArrivedAmong}
+use Rattle.mixed_worlds.specs.Book.{beside_among, book_among, contacts_among, lives_among, mixed_kept}
 use Rattle.mixed_worlds.specs.Ends.{HasSome}
 use Rattle.mixed_worlds.specs.Promised.{Promises}
 use Rattle.mixed_worlds.specs.Told.{ToldAmong}
@@ -44,6 +51,7 @@ pub record HasAmong (strange : Host → Bool) (hosts : List Host) (moments : Lis
       (kept_in (masked_moments strange hosts moments)).handed
   pub fates : beside_among strange (mixed_kept strange moments).book.lives (mixed_kept strange moments).fates ≡
       (kept_in (masked_moments strange hosts moments)).fates
+  pub contacts : contacts_among strange (contacts_of moments) ≡ contacts_of (masked_moments strange hosts moments)
 
 -- of the hosts with programs none that is up has anything to say to another, and each message between two that are up
 -- was answered. What a stranger still has to take or to answer doesn't matter
@@ -60,7 +68,8 @@ pub record Among : Type 0 where
   pub promise :
       (strange : Host → Bool) (hosts : List Host) (moments : List Moment) → IsMixed strange hosts moments →
       Promises hosts (masked_moments strange hosts moments)
-  -- the lives among these hosts, with what was handed over in them and their fates, are those of the masked moments
+  -- the lives among these hosts, with what was handed over in them and their fates, are those of the masked moments,
+  -- and so are the contacts
   pub lives :
       (strange : Host → Bool) (hosts : List Host) (moments : List Moment) → IsMixed strange hosts moments →
       HasAmong strange hosts moments
@@ -78,6 +87,30 @@ pub record Among : Type 0 where
       ClosesWhole (crossings_of moments) (lives_among strange (mixed_kept strange moments).book.lives)
       (beside_among strange (mixed_kept strange moments).book.lives (mixed_kept strange moments).handed)
       (beside_among strange (mixed_kept strange moments).book.lives (mixed_kept strange moments).fates)
+  -- each of these lives has its fate, and is over by what its fate says (`over`), of what really crossed and of contacts
+  -- among these hosts. After each of these an RST goes out next (`contacts`). What a life counts had crossed before it
+  -- was over (`within`), and an open one has all that came for it (`arrived`)
+  pub fated :
+      (strange : Host → Bool) (hosts : List Host) (moments : List Moment) → IsMixed strange hosts moments →
+      AreFated (lives_among strange (mixed_kept strange moments).book.lives)
+      (beside_among strange (mixed_kept strange moments).book.lives (mixed_kept strange moments).fates)
+  pub arrived :
+      (strange : Host → Bool) (hosts : List Host) (moments : List Moment) → IsMixed strange hosts moments →
+      ArrivedAmong strange (contacts_among strange (contacts_of moments)) (crossings_of moments)
+      (lives_among strange (mixed_kept strange moments).book.lives)
+      (beside_among strange (mixed_kept strange moments).book.lives (mixed_kept strange moments).fates)
+  pub over :
+      (strange : Host → Bool) (hosts : List Host) (moments : List Moment) → IsMixed strange hosts moments →
+      AreLeft (contacts_among strange (contacts_of moments)) (crossings_of moments)
+      (lives_among strange (mixed_kept strange moments).book.lives)
+      (beside_among strange (mixed_kept strange moments).book.lives (mixed_kept strange moments).fates)
+  pub contacts :
+      (strange : Host → Bool) (hosts : List Host) (moments : List Moment) → IsMixed strange hosts moments →
+      AreContacts (contacts_among strange (contacts_of moments)) (crossings_of moments)
+  pub within :
+      (strange : Host → Bool) (hosts : List Host) (moments : List Moment) → IsMixed strange hosts moments →
+      CountNothingLater (contacts_among strange (contacts_of moments)) (crossings_of moments)
+      (lives_among strange (mixed_kept strange moments).book.lives)
   -- what their users are notified of data are the messages of data that crossed among them
   pub told :
       (strange : Host → Bool) (hosts : List Host) (moments : List Moment) → IsMixed strange hosts moments →
@@ -91,6 +124,15 @@ pub record Among : Type 0 where
   pub settled :
       (strange : Host → Bool) (hosts : List Host) (moments : List Moment) → IsMixed strange hosts moments →
       HaveSettled strange hosts moments → EachAgrees (masked_moments strange hosts moments)
+
+-- All but what RFNM says is of any lives as where there are no strangers, and RFNM says the same without them.
+pub record AsArrived : Type 0 where
+  pub any :
+      (strange : Host → Bool) (contacts : List Called) (log : List Crossing) (lives : List Life) (fates : List Fate) →
+      ArrivedBook contacts log lives fates → ArrivedAmong strange contacts log lives fates
+  pub nobody :
+      (contacts : List Called) (log : List Crossing) (lives : List Life) (fates : List Fate) →
+      ArrivedAmong (λ h. false) contacts log lives fates → ArrivedBook contacts log lives fates
 
 -- A host with a program, toward strangers and all others.
 pub record Toward : Type 0 where
@@ -158,7 +200,10 @@ pub record Toward : Type 0 where
 
 -- What the book of a world with strangers promises among hosts with programs: all that crossed is a run of the
 -- mailboxes; the lives among these hosts are formed and safe over it, and so are the notices of data; an orderly close
--- among them loses nothing, and a finished initial connection pairs the right four sockets
+-- among them loses nothing, and a finished initial connection pairs the right four sockets. Each of these lives has its
+-- fate (`fated`), which what crossed and the contacts among these hosts leave it (`over`); a contact among them is
+-- followed by an RST (`contacts`); what a life counts crossed before it was over (`within`); and an open one has all
+-- that came for it, so RFNM of data among these hosts means that they have arrived (`arrived`)
 pub record KeepsAmong {C : Type 0} (strange : Host → Bool) (hosts : List Host) (w : WorldState C) : Type 0 where
   pub run : IsRun hosts w.kept.book.crossings
   pub formed : FormedBook w.kept.book.crossings (lives_among strange w.kept.book.lives)
@@ -167,6 +212,15 @@ pub record KeepsAmong {C : Type 0} (strange : Host → Bool) (hosts : List Host)
       (beside_among strange w.kept.book.lives w.kept.handed)
   pub whole : ClosesWhole w.kept.book.crossings (lives_among strange w.kept.book.lives)
       (beside_among strange w.kept.book.lives w.kept.handed) (beside_among strange w.kept.book.lives w.kept.fates)
+  pub fated : AreFated (lives_among strange w.kept.book.lives)
+      (beside_among strange w.kept.book.lives w.kept.fates)
+  pub arrived : ArrivedAmong strange (contacts_among strange w.kept.book.contacts) w.kept.book.crossings
+      (lives_among strange w.kept.book.lives) (beside_among strange w.kept.book.lives w.kept.fates)
+  pub over : AreLeft (contacts_among strange w.kept.book.contacts) w.kept.book.crossings
+      (lives_among strange w.kept.book.lives) (beside_among strange w.kept.book.lives w.kept.fates)
+  pub contacts : AreContacts (contacts_among strange w.kept.book.contacts) w.kept.book.crossings
+  pub within : CountNothingLater (contacts_among strange w.kept.book.contacts) w.kept.book.crossings
+      (lives_among strange w.kept.book.lives)
   pub joined : JoinedBook (record w.kept.book { lives = lives_among strange w.kept.book.lives })
 
 -- What it promises of each host with a program, toward strangers and all others

@@ -1,6 +1,7 @@
 pub mod Promised
 pub mod Ends
 pub mod Book
+pub mod Arrived
 pub mod Laws
 pub mod Worked
 pub mod Toward

@@ -1,11 +1,13 @@
 -- Small networks with a stranger, `third`: words for worked examples.
-use Rattle.std.specs.Prelude.{ℕ, List, [], ◌∷◌, ◌++◌}
+use Rattle.std.specs.Prelude.{ℕ, false, List, [], ◌∷◌, ◌++◌}
 use Rattle.interface.specs.Host.{Host}
 use Rattle.host_pairs.specs.declared.notice.Notice.TheVariants as notice
 use Rattle.interface.specs.declared.crossing.Answer.TheVariants as answer
 use Rattle.interface.specs.declared.crossing.Crossing.{Crossing}
 use Rattle.interface.specs.declared.crossing.Crossing.TheVariants as crossing
 use Rattle.interface.specs.declared.message.HostMessage.{HostMessage}
+use Rattle.promise.specs.Ends.{Course, Going}
+use Rattle.promise.specs.declared.book.Called.{Called}
 use Rattle.promise.specs.declared.book.Told.{Told}
 use Rattle.promise.specs.declared.life.Amount.{Amount}
 use Rattle.promise.specs.declared.life.Life.{Life}
@@ -14,7 +16,7 @@ use Rattle.sockets.specs.declared.request.Request.TheVariants as request
 use Rattle.net_sim.specs.Book.{carried, granted, new_life}
 use Rattle.net_sim.specs.Story.{Asked, Crossed, Moment}
 use Rattle.net_sim.specs.Worked.{eight}
-use Rattle.net_sim.specs.WorkedResets.{rst}
+use Rattle.net_sim.specs.WorkedResets.{call, rst}
 use Rattle.masked_worlds.specs.Worked.{listener_taken, stranger_ready}
 
 -- the second host answers the stranger that took its listening socket, and so the end is open there
@@ -107,3 +109,17 @@ eight_told place = record { host = second; place = place; notice = notice.Arrive
 -- the stranger's came in, and then the other host's
 abbrev pub both_in : List Crossing
 both_in = crossing.In plain_bits ∷ crossing.In eight_bits ∷ []
+
+-- how far a life is once it has begun
+abbrev pub begun : Course
+begun = record { stage = Going false false; owes = false; early = false }
+
+-- contacts of the other two hosts, with each other and with the stranger, and one of the stranger
+abbrev pub called_second : List Called
+called_second = call first 0 second ∷ []
+
+abbrev pub called_stranger : List Called
+called_stranger = call second 0 third ∷ []
+
+abbrev pub all_called : List Called
+all_called = call third 0 first ∷ call first 0 second ∷ call second 0 third ∷ []

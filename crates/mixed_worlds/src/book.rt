@@ -12,7 +12,9 @@ use net_sim::{Book, MixedWorld};
 /// whatever strangers send and take:
 ///
 /// - `among`: `KeepsAmong`, of hosts that run the program among each other. What crossed is a run of the mailboxes;
-///   lives and notices of data are made of what crossed; the lives are safe; an orderly close loses nothing; and a
+///   lives and notices of data are made of what crossed; the lives are safe; an orderly close loses nothing; what
+///   crossed leaves each life its fate, after a contact an RST goes out next, and a life that is over counts nothing
+///   later; RFNM of data among these hosts means that they arrived, unless the receiving end was closing or gone; and a
 ///   finished initial connection pairs the right four sockets.
 /// - `toward`: `KeepsToward`, of each such host toward all others, strangers too. Both requests of a life crossed, and are
 ///   no other life's; its bits are those of messages on one link, which one of the two names; what was sent is a prefix
@@ -20,8 +22,8 @@ use net_sim::{Book, MixedWorld};
 ///   granted.
 ///
 /// Nothing is promised to arrive, and of a stranger nothing at all.
-pub fn book_among<C: Carrier>(world: &MixedWorld<C>) -> &Book
-    ensures value { result.now ≡ world.now.world.kept }
+pub fn book_among<C: Carrier>(world: &MixedWorld<C>) -> Book<'_>
+    ensures value { result ≡ world.now.world.kept }
     ensures among { KeepsAmong (strange_in world.now) (C.calls.seen world.now.world.carrier).hosts world.now.world }
     ensures toward { KeepsToward (strange_in world.now) world.now.world }
 {

@@ -2,29 +2,33 @@
 
 ghost use Rattle.std.specs.Prelude.{◌≡◌, true, false, [], ◌∷◌, Some, length, replicate};
 ghost use Rattle.host_pairs.specs.declared.notice.Notice.TheVariants as notice;
+ghost use Rattle.promise.specs.Ends.{AreContacts, Dropped, Over, crosses};
 ghost use Rattle.promise.specs.Safe.{IsGranted};
 ghost use Rattle.sockets.specs.Sending.{next_out};
 ghost use Rattle.sockets.specs.Worked.{STR, control, first, on_link, second, third};
+ghost use Rattle.interface.specs.declared.crossing.Answer.TheVariants as answer;
 ghost use Rattle.interface.specs.declared.crossing.Crossing.TheVariants as crossing;
 ghost use Rattle.net_sim.specs.Book.{new_life};
 ghost use Rattle.net_sim.specs.Story.{Crossed, program};
 ghost use Rattle.net_sim.specs.Timeline.{crossings_of};
 ghost use Rattle.net_sim.specs.Told.{kept_in};
 ghost use Rattle.net_sim.specs.Worked.{eight};
-ghost use Rattle.net_sim.specs.WorkedResets.{rst};
+ghost use Rattle.net_sim.specs.WorkedResets.{rrp, rst};
 ghost use Rattle.masked_worlds.specs.Mixed.{AreMixed};
 ghost use Rattle.masked_worlds.specs.Worked.{is_third, listener_taken, three};
 ghost use Rattle.promise.specs.Formed.{IsFormed};
-ghost use Rattle.mixed_worlds.specs.Book.{beside_among, lives_among, mixed_kept};
+ghost use Rattle.mixed_worlds.specs.Arrived.{ArrivedAmong};
+ghost use Rattle.mixed_worlds.specs.Book.{beside_among, contacts_among, lives_among, mixed_kept};
 ghost use Rattle.mixed_worlds.specs.Toward.{AreOf, AreOnce, HasAsked, IsCarried, IsNamed, IsWithin, NamesItself};
 ghost use Rattle.mixed_worlds.specs.Toward.{ReportsData, granted_to};
 ghost use Rattle.mixed_worlds.specs.Told.{ToldAmong, told_among};
 ghost use Rattle.mixed_worlds.specs.Worked.{both_in, contacts, eight_bits, eight_taken, eight_told, granting_life};
 ghost use Rattle.mixed_worlds.specs.Worked.{amount, asking_life, granted_beside, one_as_data, one_more};
 ghost use Rattle.mixed_worlds.specs.Worked.{odd_life, odd_size, sending_life};
+ghost use Rattle.mixed_worlds.specs.Worked.{all_called, begun, called_second, called_stranger};
 ghost use Rattle.mixed_worlds.specs.Worked.{plain_bits, plain_life, receiving_life};
 ghost use Rattle.mixed_worlds.specs.Worked.{stranger_contacted, stranger_granted, stranger_opened};
-ghost use Rattle.mixed_worlds.specs.Laws.{Among, HaveSettled, Toward, Worlds};
+ghost use Rattle.mixed_worlds.specs.Laws.{Among, AsArrived, HaveSettled, Toward, Worlds};
 
 use interface::Carrier;
 use masked_worlds::law::{masked, masked_logs};
@@ -171,4 +175,35 @@ pub fn worked_told()
     // what goes out among hosts with programs has to be reported, and what a stranger sends needn't
     ensures unreported { ToldAmong is_third (crossing.Out plain_bits ∷ []) [] → ⊥ }
     ensures free { ToldAmong is_third (crossing.Out eight_bits ∷ []) [] }
+{}
+
+/// What ends a life among hosts with programs: nothing that a stranger does.
+pub fn worked_ends()
+    // a stranger's RST doesn't, nor its stop, nor a message to it that fails
+    ensures spared { crosses plain_life 11 (crossing.In (rst third first)) begun ≡ begun }
+    ensures stopped { crosses plain_life 11 (crossing.Down third) begun ≡ begun }
+    ensures failed { crosses plain_life 11 (crossing.Answer answer.Dead (on_link first third 0)) begun ≡ begun }
+    ensures reset { (crosses plain_life 11 (crossing.In (rst second first)) begun).stage ≡ Over Dropped 11 }
+
+    // of several contacts those of such a host with such a peer
+    ensures among { contacts_among is_third all_called ≡ called_second }
+
+    // what goes out next after one of these is an RST. One with a stranger asks nothing of what goes to others, and
+    // toward the stranger nothing is said
+    ensures followed { AreContacts (contacts_among is_third called_second) (crossing.Out (rst first second) ∷ []) }
+    ensures unfollowed { AreContacts (contacts_among is_third called_second) (crossing.Out plain_bits ∷ []) → ⊥ }
+    ensures free { AreContacts (contacts_among is_third called_stranger) (crossing.Out (rst second first) ∷ []) }
+    ensures toward { AreContacts (contacts_among is_third called_stranger) (crossing.Out (rrp second third) ∷ []) }
+{}
+
+/// What RFNM of data says among hosts with programs.
+pub fn worked_arrived()
+    // where a stranger is the destination, or the source, it says nothing of lives. Between two others it needs a life
+    // that sent them
+    ensures destination { ArrivedAmong is_third [] (crossing.Answer answer.Rfnm (on_link second third 2) ∷ []) [] [] }
+    ensures source { ArrivedAmong is_third [] (crossing.Answer answer.Rfnm (on_link third second 2) ∷ []) [] [] }
+    ensures unsent { ArrivedAmong is_third [] (crossing.Answer answer.Rfnm (on_link first second 2) ∷ []) [] [] → ⊥ }
+
+    // all else is said of any lives as where there are no strangers
+    ensures as_any { AsArrived }
 {}

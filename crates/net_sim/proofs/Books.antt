@@ -10,6 +10,7 @@ pub mod Fated
 pub mod Held
 pub mod HeldMixed
 pub mod InOrder
+pub mod Lent
 pub mod LifeLoops
 pub mod Machines
 pub mod Marks

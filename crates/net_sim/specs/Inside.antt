@@ -9,6 +9,7 @@ pub mod Parts
 pub mod Growing
 pub mod Held
 pub mod Mixed
+pub mod Notes
 pub mod Calm
 pub mod Core
 pub mod Undo

@@ -14,8 +14,8 @@ ghost use Rattle.sockets.specs.declared.fault.NcpFault.{NcpFault};
 ghost use Rattle.sockets.specs.declared.fault.NcpFault.TheVariants as problem;
 
 use crate::WorldFault;
-use crate::book::{Book, Page};
 use crate::hosting::{tend, write_crossing};
+use crate::notes::{Notes, Page};
 use crate::seat::{Seat, ServiceSeat};
 use host_services::{Deeds, ServiceDesk, copy_of};
 use interface::HostAddr;
@@ -110,20 +110,20 @@ pub(crate) fn called_in(
 /// Writes down what a host's user asked for, what it was notified of it, and what the host's services did then.
 fn write_asked(
     alloc: Global,
-    book: &mut Book,
+    notes: &mut Notes,
     host: HostAddr,
     request: Request,
     notices: Vec<Notice>,
     deeds: Deeds,
 ) -> Result<(), AllocError>
-    ensures done { OnOk result (book.new ≡ all_reported deeds.reports.items (all_asked host deeds.asked.items (all_told host notices.items (asked host request book.old)))) }
-    ensures kept { OnErr result (book.new ≡ book.old) }
+    ensures done { OnOk result (notes.new ≡ all_reported deeds.reports.items (all_asked host deeds.asked.items (all_told host notices.items (asked host request notes.old)))) }
+    ensures kept { OnErr result (notes.new ≡ notes.old) }
 {
-    let place = book.crossings().len();
+    let place = notes.crossed();
     let mut called = Vec::new(alloc);
     add_called(&mut called, host, place, &request)?;
     called.append(&mut called_in(alloc, host, place, &deeds.asked)?)?;
-    book.write(
+    notes.write(
         &[],
         Page {
             host,
@@ -139,14 +139,14 @@ fn write_asked(
 /// Writes down what a host's services did.
 fn write_deeds(
     alloc: Global,
-    book: &mut Book,
+    notes: &mut Notes,
     host: HostAddr,
     deeds: Deeds,
 ) -> Result<(), AllocError>
-    ensures done { OnOk result (book.new ≡ all_reported deeds.reports.items (all_asked host deeds.asked.items book.old)) }
-    ensures kept { OnErr result (book.new ≡ book.old) }
+    ensures done { OnOk result (notes.new ≡ all_reported deeds.reports.items (all_asked host deeds.asked.items notes.old)) }
+    ensures kept { OnErr result (notes.new ≡ notes.old) }
 {
-    write_crossing(alloc, book, host, &[], Vec::new(alloc), deeds)
+    write_crossing(alloc, notes, host, &[], Vec::new(alloc), deeds)
 }
 
 /// Asks the program in a seat for something, which it refuses or serves. Returns its notices.
@@ -171,16 +171,16 @@ impl ServiceSeat {
     fn attend(
         &mut self,
         alloc: Global,
-        book: &mut Book,
+        notes: &mut Notes,
         program: Ncp,
         request: &Request,
         notices: Vec<Notice>,
     ) -> Result<Ncp, AllocError>
         ensures host { self.new.host ≡ self.old.host }
-        ensures done { IfOk result (λ after. Attends self.old (program, notices.items) book.old (asked self.old.host request.now book.old) after self.new book.new) }
-        ensures kept { OnErr result (book.new ≡ book.old) }
+        ensures done { IfOk result (λ after. Attends self.old (program, notices.items) notes.old (asked self.old.host request.now notes.old) after self.new notes.new) }
+        ensures kept { OnErr result (notes.new ≡ notes.old) }
     {
-        let before = book.notices().len();
+        let before = notes.notices().len();
         let desk = tend(
             alloc,
             self.host,
@@ -190,7 +190,7 @@ impl ServiceSeat {
             &notices,
         )?;
         let (program, deeds) = desk.into_parts();
-        write_asked(alloc, book, self.host, copy_of(request)?, notices, deeds)?;
+        write_asked(alloc, notes, self.host, copy_of(request)?, notices, deeds)?;
         Ok(program)
     }
 
@@ -200,22 +200,22 @@ impl ServiceSeat {
         &mut self,
         alloc: Global,
         seat: &mut Seat,
-        book: &mut Book,
+        notes: &mut Notes,
         request: &Request,
         notices: Vec<Notice>,
     ) -> Result<(), AllocError>
         ensures host { self.new.host ≡ self.old.host }
         ensures seat { seat.new.host ≡ seat.old.host }
-        ensures done { OnOk result (OfProgram seat.old (λ s. Settles self.old seat.old (s, notices.items) book.old (asked self.old.host request.now book.old) seat.new self.new book.new)) }
-        ensures kept { OnErr result (book.new ≡ book.old) }
+        ensures done { OnOk result (OfProgram seat.old (λ s. Settles self.old seat.old (s, notices.items) notes.old (asked self.old.host request.now notes.old) seat.new self.new notes.new)) }
+        ensures kept { OnErr result (notes.new ≡ notes.old) }
     {
         if notices.is_empty() {
-            return book.ask(self.host, request);
+            return notes.ask(self.host, request);
         }
         let Some(program) = seat.program.take() else {
             return Ok(());
         };
-        let program = self.attend(alloc, book, program, request, notices)?;
+        let program = self.attend(alloc, notes, program, request, notices)?;
         seat.program = Some(program);
         Ok(())
     }
@@ -225,17 +225,17 @@ impl ServiceSeat {
         &mut self,
         alloc: Global,
         seat: &mut Seat,
-        book: &mut Book,
+        notes: &mut Notes,
         request: &Request,
     ) -> Result<(), WorldFault>
         requires live { IfSome seat.old.program (λ p. p.spent ≡ false) }
         ensures host { self.new.host ≡ self.old.host }
         ensures seat { seat.new.host ≡ seat.old.host }
-        ensures refused { OfProgram seat.old (λ s. (f : NcpFault) → refusal s request.now ≡ Some f → RefusedIn f result self.old seat.old book.old seat.new self.new book.new) }
-        ensures served { OfProgram seat.old (λ s. refusal s request.now ≡ None → SettlesAsked self.old seat.old s request.now book.old result seat.new self.new book.new) }
+        ensures refused { OfProgram seat.old (λ s. (f : NcpFault) → refusal s request.now ≡ Some f → RefusedIn f result self.old seat.old notes.old seat.new self.new notes.new) }
+        ensures served { OfProgram seat.old (λ s. refusal s request.now ≡ None → SettlesAsked self.old seat.old s request.now notes.old result seat.new self.new notes.new) }
     {
         let notices = asked_of(seat, request)?;
-        let Ok(()) = self.answer(alloc, seat, book, request, notices) else {
+        let Ok(()) = self.answer(alloc, seat, notes, request, notices) else {
             return Err(WorldFault::Program(NcpFault::OutOfMemory));
         };
         Ok(())
@@ -245,19 +245,19 @@ impl ServiceSeat {
     pub(crate) fn begin_server(
         &mut self,
         alloc: Global,
-        book: &mut Book,
+        notes: &mut Notes,
         program: Ncp,
         listen: u32,
         base: u32,
     ) -> Result<Ncp, AllocError>
         ensures host { self.new.host ≡ self.old.host }
-        ensures done { IfOk result (λ after. Begins (server_begun listen base) self.old program book.old after self.new book.new) }
-        ensures kept { OnErr result (book.new ≡ book.old) }
+        ensures done { IfOk result (λ after. Begins (server_begun listen base) self.old program notes.old after self.new notes.new) }
+        ensures kept { OnErr result (notes.new ≡ notes.old) }
     {
-        let mut desk = ServiceDesk::new(alloc, self.host, book.notices().len(), program);
+        let mut desk = ServiceDesk::new(alloc, self.host, notes.notices().len(), program);
         self.services.serve(&mut desk, listen, base)?;
         let (program, deeds) = desk.into_parts();
-        write_deeds(alloc, book, self.host, deeds)?;
+        write_deeds(alloc, notes, self.host, deeds)?;
         Ok(program)
     }
 
@@ -265,20 +265,20 @@ impl ServiceSeat {
     pub(crate) fn begin_user(
         &mut self,
         alloc: Global,
-        book: &mut Book,
+        notes: &mut Notes,
         program: Ncp,
         peer: HostAddr,
         listen: u32,
         own: u32,
     ) -> Result<Ncp, AllocError>
         ensures host { self.new.host ≡ self.old.host }
-        ensures done { IfOk result (λ after. Begins (user_begun peer listen own) self.old program book.old after self.new book.new) }
-        ensures kept { OnErr result (book.new ≡ book.old) }
+        ensures done { IfOk result (λ after. Begins (user_begun peer listen own) self.old program notes.old after self.new notes.new) }
+        ensures kept { OnErr result (notes.new ≡ notes.old) }
     {
-        let mut desk = ServiceDesk::new(alloc, self.host, book.notices().len(), program);
+        let mut desk = ServiceDesk::new(alloc, self.host, notes.notices().len(), program);
         self.services.connect(&mut desk, peer, listen, own)?;
         let (program, deeds) = desk.into_parts();
-        write_deeds(alloc, book, self.host, deeds)?;
+        write_deeds(alloc, notes, self.host, deeds)?;
         Ok(program)
     }
 }

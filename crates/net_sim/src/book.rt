@@ -1,296 +1,94 @@
-//! What a world writes down.
+//! The book of a world, as it is shown.
 
-ghost use Rattle.std.specs.Prelude.{◌≡◌, ◌+◌, ◌++◌, OnErr, OnOk, length, map, reverse, take};
-ghost use Rattle.net_sim.specs.Book.{all_crossed, all_told, asked, opening_kept};
-ghost use Rattle.net_sim.specs.Inside.Lives.{entered, told_at};
+ghost use Rattle.std.specs.Prelude.{◌≡◌, reverse};
+ghost use Rattle.net_sim.specs.Inside.Notes.{BeginsWith};
 
-use crate::asking::add_called;
-use crate::hosting::copy_of;
-use crate::lives::Lives;
+use crate::notes::Notes;
 use host_services::Reported;
-use interface::{Crossing, HostAddr};
+use interface::Crossing;
 use promise::{BitLog, Called, Fate, Life, Told};
-use sockets::{Notice, Request};
-use std::alloc::{AllocError, Global};
 use std::marker::Model;
 
-/// What happened at a host in one step after something crossed, in this order.
-#[derive(Drop)]
-pub(crate) struct Page {
-    /// The host.
-    pub(crate) host: HostAddr,
-    /// What a user asked for.
-    pub(crate) asked: Option<(HostAddr, Request)>,
-    /// Which contacts were asked for.
-    pub(crate) called: Vec<Called>,
-    /// The notices to the host's user.
-    pub(crate) notices: Vec<Notice>,
-    /// What the host's services asked for in their turns.
-    pub(crate) ran: Vec<Request>,
-    /// What these services reported.
-    pub(crate) reports: Vec<Reported>,
-}
-
-/// What a world writes down: all that crossed, the notices to users, the contacts that they asked for, what services
-/// reported, a life for each opened end of a connection, what was handed over to be sent in each, and how far each is. All of them are
-/// in their order, the oldest first.
+/// The book of a world: all that crossed, the notices to users, the contacts that they asked for, what services reported, a life for
+/// each opened end of a connection, what was handed over to be sent in each, and how far each is. All of them are in their order, the
+/// oldest first.
 ///
-/// What is written at one time is written whole or not at all: where memory runs out in the lives, they are taken back to what they
-/// were, and so is what crossed. For all else there is room before anything is written.
+/// What crossed lies in the carrier's log, which the book borrows; all else is the world's own.
 #[derive(Drop)]
-pub struct Book {
-    crossings: Vec<Crossing>,
-    notices: Vec<Told>,
-    contacts: Vec<Called>,
-    reports: Vec<Reported>,
-    lives: Lives,
+pub struct Book<'a> {
+    log: &'a [Crossing],
+    notes: &'a Notes,
 }
 
-impl Model for Book {
-    ghost use Rattle.std.specs.Prelude.{reverse};
+impl<'a> Model for Book<'a> {
+    ghost use Rattle.std.specs.Prelude.{◌≡◌, reverse};
     ghost use Rattle.net_sim.specs.Book.{Kept};
 
     ghost Value = { Kept };
 
-    ghost view = { λ b. record { book = record { crossings = reverse b.crossings.items; notices = b.notices.items; contacts = b.contacts.items; reports = b.reports.items; lives = b.lives.lives }; handed = b.lives.handed; fates = b.lives.fates } };
+    ghost view = { λ b. b.notes.now };
+
+    ghost invariant = { λ b. b.log.now ≡ reverse b.notes.now.book.crossings };
 }
 
-/// Copies of what crossed are put after what had crossed before, one after another.
-fn push_copies(all: &mut Vec<Crossing>, news: &[Crossing]) -> Result<(), AllocError>
-    ensures done { OnOk result (all.new.items ≡ all.old.items ++ news.now) }
-    ensures before { take (length all.old.items) all.new.items ≡ all.old.items }
-{
-    for crossing in news {
-        all.push(copy_of(crossing)?)?;
-    }
-    Ok(())
-}
-
-/// Copies of what crossed are put after what had crossed before, or memory runs out, and none is.
-fn add_copies(all: &mut Vec<Crossing>, news: &[Crossing]) -> Result<(), AllocError>
-    ensures done { OnOk result (all.new.items ≡ all.old.items ++ news.now) }
-    ensures kept { OnErr result (all.new.items ≡ all.old.items) }
-{
-    let before = all.len();
-    if push_copies(all, news).is_err() {
-        all.truncate(before);
-        return Err(AllocError);
-    }
-    Ok(())
-}
-
-/// Adds notices to a host's user after the earlier ones, with the number of crossings.
-fn push_told(
-    all: &mut Vec<Told>,
-    host: HostAddr,
-    place: usize,
-    notices: Vec<Notice>,
-) -> Result<(), AllocError>
-    ensures done { OnOk result (all.new.items ≡ all.old.items ++ map (told_at host place) notices.items) }
-    ensures before { take (length all.old.items) all.new.items ≡ all.old.items }
-{
-    for notice in notices {
-        all.push(Told {
-            host,
-            place,
-            notice,
-        })?;
-    }
-    Ok(())
-}
-
-/// Adds all of these notices, or none if memory runs out.
-#[inline(always)]
-fn add_told(
-    all: &mut Vec<Told>,
-    host: HostAddr,
-    place: usize,
-    notices: Vec<Notice>,
-) -> Result<(), AllocError>
-    ensures done { OnOk result (all.new.items ≡ all.old.items ++ map (told_at host place) notices.items) }
-    ensures kept { OnErr result (all.new.items ≡ all.old.items) }
-{
-    let before = all.len();
-    if push_told(all, host, place, notices).is_err() {
-        all.truncate(before);
-        return Err(AllocError);
-    }
-    Ok(())
-}
-
-/// Adds what crossed, and then notices to a host's user, with the number of crossings; or nothing, if memory runs out.
-#[inline(always)]
-fn add_heard(
-    crossings: &mut Vec<Crossing>,
-    told: &mut Vec<Told>,
-    host: HostAddr,
-    news: &[Crossing],
-    notices: Vec<Notice>,
-) -> Result<(), AllocError>
-    ensures crossings { OnOk result (crossings.new.items ≡ crossings.old.items ++ news.now) }
-    ensures told { OnOk result (told.new.items ≡ told.old.items ++ map (told_at host (length crossings.new.items)) notices.items) }
-    ensures crossings_kept { OnErr result (crossings.new.items ≡ crossings.old.items) }
-    ensures told_kept { OnErr result (told.new.items ≡ told.old.items) }
-{
-    let before = crossings.len();
-    add_copies(crossings, news)?;
-    let place = crossings.len();
-    if add_told(told, host, place, notices).is_err() {
-        crossings.truncate(before);
-        return Err(AllocError);
-    }
-    Ok(())
-}
-
-impl Book {
-    /// Returns a book in which nothing has happened.
-    pub(crate) fn new(alloc: Global) -> Book
-        ensures { result ≡ opening_kept }
+impl<'a> Book<'a> {
+    /// Returns the book of these notes. What crossed is the oldest of the log.
+    pub(crate) fn over(log: &'a [Crossing], notes: &'a Notes) -> Book<'a>
+        requires { BeginsWith notes.now log.now }
+        ensures { result ≡ notes.now }
     {
         Book {
-            crossings: Vec::new(alloc),
-            notices: Vec::new(alloc),
-            contacts: Vec::new(alloc),
-            reports: Vec::new(alloc),
-            lives: Lives::new(alloc),
+            log: &log[..notes.crossed()],
+            notes,
         }
     }
 
     /// Returns all that crossed, the oldest first.
-    pub fn crossings(&self) -> &[Crossing]
+    pub fn crossings(&self) -> &'a [Crossing]
         ensures { result.now ≡ reverse self.now.book.crossings }
     {
-        &self.crossings
-    }
-
-    /// Returns how many crossings there will be once these are written, too.
-    pub(crate) fn place_after(&self, news: &[Crossing]) -> usize
-        ensures { result ≡ length self.now.book.crossings + length news.now }
-    {
-        self.crossings.len() + news.len()
+        self.log
     }
 
     /// Returns the notices to users.
-    pub fn notices(&self) -> &[Told]
+    pub fn notices(&self) -> &'a [Told]
         ensures { result.now ≡ self.now.book.notices }
     {
-        &self.notices
+        self.notes.notices()
     }
 
     /// Returns the contacts that users asked for.
-    pub fn contacts(&self) -> &[Called]
+    pub fn contacts(&self) -> &'a [Called]
         ensures { result.now ≡ self.now.book.contacts }
     {
-        &self.contacts
+        self.notes.contacts()
     }
 
     /// Returns what services reported.
-    pub fn reports(&self) -> &[Reported]
+    pub fn reports(&self) -> &'a [Reported]
         ensures { result.now ≡ self.now.book.reports }
     {
-        &self.reports
+        self.notes.reports()
     }
 
     /// Returns the lives of connections.
-    pub fn lives(&self) -> &[Life]
+    pub fn lives(&self) -> &'a [Life]
         ensures { result.now ≡ self.now.book.lives }
     {
-        self.lives.lives()
+        self.notes.lives()
     }
 
     /// Returns what was handed over to be sent, a list of bits for each life.
-    pub fn handed(&self) -> &[BitLog]
+    pub fn handed(&self) -> &'a [BitLog]
         ensures { result.now ≡ self.now.handed }
     {
-        self.lives.handed()
+        self.notes.handed()
     }
 
     /// Returns how far each life is, and how those ended that are over.
-    pub fn fates(&self) -> &[Fate]
+    pub fn fates(&self) -> &'a [Fate]
         ensures { result.now ≡ self.now.fates }
     {
-        self.lives.fates()
-    }
-
-    /// Writes down what crossed, of which no user was notified.
-    pub(crate) fn cross(&mut self, news: &[Crossing]) -> Result<(), AllocError>
-        ensures done { OnOk result (self.new ≡ all_crossed (reverse news.now) self.old) }
-        ensures kept { OnErr result (self.new ≡ self.old) }
-    {
-        let count = self.crossings.len();
-        add_copies(&mut self.crossings, news)?;
-        if self.lives.cross_only(news).is_err() {
-            self.crossings.truncate(count);
-            return Err(AllocError);
-        }
-        Ok(())
-    }
-
-    /// Writes down what the user of a host asked for, of which it gets no notice.
-    pub(crate) fn ask(&mut self, host: HostAddr, request: &Request) -> Result<(), AllocError>
-        ensures done { OnOk result (self.new ≡ asked host request.now self.old) }
-        ensures kept { OnErr result (self.new ≡ self.old) }
-    {
-        let count = self.contacts.len();
-        let place = self.crossings.len();
-        add_called(&mut self.contacts, host, place, request)?;
-        if self.lives.ask_only(host, request).is_err() {
-            self.contacts.truncate(count);
-            return Err(AllocError);
-        }
-        Ok(())
-    }
-
-    /// Writes down what crossed, and what the user of a host was notified of it.
-    #[inline(never)]
-    pub(crate) fn tell(
-        &mut self,
-        host: HostAddr,
-        news: &[Crossing],
-        notices: Vec<Notice>,
-    ) -> Result<(), AllocError>
-        ensures done { OnOk result (self.new ≡ all_told host notices.items (all_crossed (reverse news.now) self.old)) }
-        ensures kept { OnErr result (self.new ≡ self.old) }
-    {
-        let crossed = self.crossings.len();
-        let told = self.notices.len();
-        add_heard(&mut self.crossings, &mut self.notices, host, news, notices)?;
-        if self.lives.hear(news, &self.notices[told..]).is_err() {
-            self.notices.truncate(told);
-            self.crossings.truncate(crossed);
-            return Err(AllocError);
-        }
-        Ok(())
-    }
-
-    /// Writes down what crossed, and what happened at a host then.
-    pub(crate) fn write(&mut self, news: &[Crossing], page: Page) -> Result<(), AllocError>
-        ensures done { OnOk result (self.new ≡ entered news.now page.asked page.called.items page.host page.notices.items page.ran.items page.reports.items self.old) }
-        ensures kept { OnErr result (self.new ≡ self.old) }
-    {
-        let Page {
-            host,
-            asked,
-            mut called,
-            notices,
-            ran,
-            mut reports,
-        } = page;
-        self.contacts.reserve(called.len())?;
-        self.reports.reserve(reports.len())?;
-        let crossed = self.crossings.len();
-        let told = self.notices.len();
-        add_heard(&mut self.crossings, &mut self.notices, host, news, notices)?;
-        let followed = self
-            .lives
-            .follow(news, &asked, &self.notices[told..], host, &ran);
-        if followed.is_err() {
-            self.notices.truncate(told);
-            self.crossings.truncate(crossed);
-            return Err(AllocError);
-        }
-        self.contacts.append(&mut called)?;
-        self.reports.append(&mut reports)?;
-        Ok(())
+        self.notes.fates()
     }
 }

@@ -86,7 +86,7 @@ impl<C: Carrier> WorldCore<C> {
             return Err(WorldFault::Carrier(CarrierFault::Stopped));
         }
         for _ in 0..rounds {
-            let before = self.book().crossings().len();
+            let before = self.crossed();
             let answer = self.pass_round();
             if stops(&answer) {
                 return answer;
@@ -105,7 +105,7 @@ impl<C: Carrier> WorldCore<C> {
         ensures unchanged { result ≡ true → (n : ℕ) → CalmGives (shown C.calls) n self.now (Ok tt) self.now }
         ensures running { result ≡ true → self.now.stopped ≡ false }
     {
-        self.has_calmed(self.book().crossings().len())
+        self.has_calmed(self.crossed())
     }
 
     /// Returns whether it is known that no host that is up has anything to say.
@@ -120,7 +120,7 @@ impl<C: Carrier> WorldCore<C> {
     fn has_calmed(&self, before: usize) -> bool
         ensures { result ≡ true → IsAtRest (shown C.calls) self.now }
     {
-        if self.book().crossings().len() > before {
+        if self.crossed() > before {
             return false;
         }
         if self.is_stopped() {
@@ -189,12 +189,12 @@ impl<C: Carrier> WorldCore<C> {
         ensures { Repeats (shown C.calls) (Take host) 16 self.old result self.new }
     {
         for _ in 0..TAKINGS {
-            let before = self.book().crossings().len();
+            let before = self.crossed();
             let answer = self.take_near(at, host);
             if stops(&answer) {
                 return answer;
             }
-            if self.book().crossings().len() <= before {
+            if self.crossed() <= before {
                 return Ok(());
             }
         }
@@ -206,12 +206,12 @@ impl<C: Carrier> WorldCore<C> {
         ensures { Repeats (shown C.calls) (Offer host) 32 self.old result self.new }
     {
         for _ in 0..OFFERS {
-            let before = self.book().crossings().len();
+            let before = self.crossed();
             let answer = self.offer_near(at, host);
             if stops(&answer) {
                 return answer;
             }
-            if self.book().crossings().len() <= before {
+            if self.crossed() <= before {
                 return Ok(());
             }
         }

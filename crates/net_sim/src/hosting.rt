@@ -13,7 +13,7 @@ ghost use Rattle.sockets.specs.Pairs.{NcpState};
 ghost use Rattle.sockets.specs.Sending.{offered};
 
 use crate::asking::called_in;
-use crate::book::{Book, Page};
+use crate::notes::{Notes, Page};
 use crate::seat::{Seat, ServiceSeat};
 use host_services::{Deeds, ServiceDesk, Services};
 use interface::{Crossing, HostAddr, Inbound};
@@ -60,20 +60,6 @@ pub(crate) fn place(seats: &[Seat], likely: usize, host: HostAddr) -> Option<usi
     first_place(seats, host)
 }
 
-/// Returns a copy of something that crossed.
-pub(crate) fn copy_of(crossing: &Crossing) -> Result<Crossing, AllocError>
-    ensures { IfOk result (λ copy. copy ≡ crossing.now) }
-{
-    let copy = match crossing {
-        Crossing::Out(message) => Crossing::Out(message.clone()?),
-        Crossing::In(message) => Crossing::In(message.clone()?),
-        Crossing::Answer(kind, flow) => Crossing::Answer(*kind, *flow),
-        Crossing::Down(host) => Crossing::Down(*host),
-        Crossing::Up(host) => Crossing::Up(*host),
-    };
-    Ok(copy)
-}
-
 /// Passes what its program notifies to the services of a host. Returns the host as they leave it.
 pub(crate) fn tend(
     alloc: Global,
@@ -93,17 +79,18 @@ pub(crate) fn tend(
 /// Writes down what crossed at a host, the notices to its user about it, and what its services did then.
 pub(crate) fn write_crossing(
     alloc: Global,
-    book: &mut Book,
+    notes: &mut Notes,
     host: HostAddr,
     news: &[Crossing],
     notices: Vec<Notice>,
     deeds: Deeds,
 ) -> Result<(), AllocError>
-    ensures done { OnOk result (book.new ≡ all_reported deeds.reports.items (all_asked host deeds.asked.items (all_told host notices.items (all_crossed (reverse news.now) book.old)))) }
-    ensures kept { OnErr result (book.new ≡ book.old) }
+    ensures done { OnOk result (notes.new ≡ all_reported deeds.reports.items (all_asked host deeds.asked.items (all_told host notices.items (all_crossed (reverse news.now) notes.old)))) }
+    ensures kept { OnErr result (notes.new ≡ notes.old) }
 {
-    let called = called_in(alloc, host, book.place_after(news), &deeds.asked)?;
-    book.write(
+    let place = notes.place_after(news)?;
+    let called = called_in(alloc, host, place, &deeds.asked)?;
+    notes.write(
         news,
         Page {
             host,
@@ -123,16 +110,16 @@ impl ServiceSeat {
     fn tell(
         &mut self,
         alloc: Global,
-        book: &mut Book,
+        notes: &mut Notes,
         news: &[Crossing],
         program: Ncp,
         notices: Vec<Notice>,
     ) -> Result<Ncp, AllocError>
         ensures host { self.new.host ≡ self.old.host }
-        ensures done { IfOk result (λ after. Attends self.old (program, notices.items) book.old (all_crossed (reverse news.now) book.old) after self.new book.new) }
-        ensures kept { OnErr result (book.new ≡ book.old) }
+        ensures done { IfOk result (λ after. Attends self.old (program, notices.items) notes.old (all_crossed (reverse news.now) notes.old) after self.new notes.new) }
+        ensures kept { OnErr result (notes.new ≡ notes.old) }
     {
-        let before = book.notices().len();
+        let before = notes.notices().len();
         let desk = tend(
             alloc,
             self.host,
@@ -142,7 +129,7 @@ impl ServiceSeat {
             &notices,
         )?;
         let (program, deeds) = desk.into_parts();
-        write_crossing(alloc, book, self.host, news, notices, deeds)?;
+        write_crossing(alloc, notes, self.host, news, notices, deeds)?;
         Ok(program)
     }
 
@@ -152,25 +139,25 @@ impl ServiceSeat {
         &mut self,
         alloc: Global,
         seat: &mut Seat,
-        book: &mut Book,
+        notes: &mut Notes,
         news: &[Crossing],
         notices: Vec<Notice>,
     ) -> Result<(), AllocError>
         ensures host { self.new.host ≡ self.old.host }
         ensures seat { seat.new.host ≡ seat.old.host }
-        ensures done { OnOk result (OfProgram seat.old (λ s. SettlesNews news.now self.old seat.old (s, notices.items) book.old seat.new self.new book.new)) }
-        ensures kept { OnErr result (book.new ≡ book.old) }
+        ensures done { OnOk result (OfProgram seat.old (λ s. SettlesNews news.now self.old seat.old (s, notices.items) notes.old seat.new self.new notes.new)) }
+        ensures kept { OnErr result (notes.new ≡ notes.old) }
     {
         if notices.is_empty() {
-            return book.cross(news);
+            return notes.cross(news);
         }
         if !self.services.hear_any(&notices) {
-            return book.tell(self.host, news, notices);
+            return notes.tell(self.host, news, notices);
         }
         let Some(program) = seat.program.take() else {
             return Ok(());
         };
-        let program = self.tell(alloc, book, news, program, notices)?;
+        let program = self.tell(alloc, notes, news, program, notices)?;
         seat.program = Some(program);
         Ok(())
     }
@@ -180,23 +167,23 @@ impl ServiceSeat {
         &mut self,
         alloc: Global,
         seat: &mut Seat,
-        book: &mut Book,
+        notes: &mut Notes,
         news: &[Crossing],
         inbound: Inbound,
     ) -> Result<(), AllocError>
         requires live { IfSome seat.old.program (λ p. p.spent ≡ false) }
         ensures host { self.new.host ≡ self.old.host }
         ensures seat { seat.new.host ≡ seat.old.host }
-        ensures done { OnOk result (OfProgram seat.old (λ s. SettlesNews news.now self.old seat.old (accepted s inbound (length book.old.book.crossings)) book.old seat.new self.new book.new)) }
-        ensures kept { OnErr result (book.new ≡ book.old) }
+        ensures done { OnOk result (OfProgram seat.old (λ s. SettlesNews news.now self.old seat.old (accepted s inbound (length notes.old.book.crossings)) notes.old seat.new self.new notes.new)) }
+        ensures kept { OnErr result (notes.new ≡ notes.old) }
     {
         let Some(program) = &mut seat.program else {
             return Ok(());
         };
-        let Ok(notices) = program.accept(inbound, book.crossings().len()) else {
+        let Ok(notices) = program.accept(inbound, notes.crossed()) else {
             return Err(AllocError);
         };
-        self.settle(alloc, seat, book, news, notices)
+        self.settle(alloc, seat, notes, news, notices)
     }
 
     /// Lets the program in a seat of the host know that its next message went out.
@@ -204,21 +191,21 @@ impl ServiceSeat {
         &mut self,
         alloc: Global,
         seat: &mut Seat,
-        book: &mut Book,
+        notes: &mut Notes,
         news: &[Crossing],
     ) -> Result<(), AllocError>
         requires live { IfSome seat.old.program (λ p. p.spent ≡ false) }
         ensures host { self.new.host ≡ self.old.host }
         ensures seat { seat.new.host ≡ seat.old.host }
-        ensures done { OnOk result (OfProgram seat.old (λ s. SettlesNews news.now self.old seat.old (offered s (length book.old.book.crossings)) book.old seat.new self.new book.new)) }
-        ensures kept { OnErr result (book.new ≡ book.old) }
+        ensures done { OnOk result (OfProgram seat.old (λ s. SettlesNews news.now self.old seat.old (offered s (length notes.old.book.crossings)) notes.old seat.new self.new notes.new)) }
+        ensures kept { OnErr result (notes.new ≡ notes.old) }
     {
         let Some(program) = &mut seat.program else {
             return Ok(());
         };
-        let Ok(notices) = program.offered(book.crossings().len()) else {
+        let Ok(notices) = program.offered(notes.crossed()) else {
             return Err(AllocError);
         };
-        self.settle(alloc, seat, book, news, notices)
+        self.settle(alloc, seat, notes, news, notices)
     }
 }

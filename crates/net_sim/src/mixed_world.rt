@@ -86,8 +86,8 @@ impl<C: Carrier> MixedWorld<C> {
 
     /// Returns what happened so far. It is that of a lawful world with strangers, of which the laws of `mixed_worlds` speak: what is
     /// promised where every host runs the program is promised between any two that do, whatever strangers send.
-    pub fn book(&self) -> &Book
-        ensures value { result.now ≡ self.now.world.kept }
+    pub fn book(&self) -> Book<'_>
+        ensures value { result ≡ self.now.world.kept }
         ensures lawful { IsLawfulAmong (strange_in self.now) C.calls.seen (C.calls.seen self.now.world.carrier).hosts self.now.world }
     {
         self.core.book()

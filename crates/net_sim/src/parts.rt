@@ -6,6 +6,7 @@ ghost use Rattle.host_services.specs.Services.{ServicesState, opening_desk};
 ghost use Rattle.host_services.specs.Turns.{server_begun, user_begun};
 ghost use Rattle.host_services.specs.TypedLines.{line_bits};
 ghost use Rattle.net_sim.specs.Book.{all_told, all_crossed, asked};
+ghost use Rattle.net_sim.specs.Inside.Notes.{BeginsWith};
 ghost use Rattle.net_sim.specs.Inside.Parts.{Sits, Serves, IsAway, IsOnce, IsUpAt, AreLive, hosts_of, opening_hosts, OfHostAt, SaysNext, AreTended, AreAnswered, AreBegun, AreRefused, LacksMemory, crossed_by, line_sent};
 ghost use Rattle.net_sim.specs.World as world;
 ghost use Rattle.net_sim.specs.World.{turn_of};
@@ -20,6 +21,7 @@ ghost use Rattle.sockets.specs.declared.request.Request.TheVariants as requests;
 use crate::WorldFault;
 use crate::book::Book;
 use crate::hosting::{likely_place, place};
+use crate::notes::Notes;
 use crate::seat::{Seat, ServiceSeat, empty_all, opening_seats, opening_services, turn_all};
 use host_services::TypedLine;
 use interface::{CarrierFault, Crossing, HostAddr, HostMessage, Inbound};
@@ -35,7 +37,7 @@ use std::marker::Model;
 pub(crate) struct Hosts {
     seats: Vec<Seat>,
     services: Vec<ServiceSeat>,
-    book: Book,
+    notes: Notes,
     alloc: Global,
 }
 
@@ -44,7 +46,7 @@ impl Model for Hosts {
 
     ghost Value = { HostsState };
 
-    ghost view = { λ h. record { seats = h.seats.items; services = h.services.items; book = h.book } };
+    ghost view = { λ h. record { seats = h.seats.items; services = h.services.items; book = h.notes } };
 
     ghost invariant = { λ h. AreHosts h.seats.items h.services.items };
 }
@@ -100,7 +102,7 @@ impl Hosts {
         Ok(Hosts {
             seats,
             services,
-            book: Book::new(alloc),
+            notes: Notes::new(alloc),
             alloc,
         })
     }
@@ -120,11 +122,19 @@ impl Hosts {
         &self.services
     }
 
-    /// Returns what happened so far.
-    pub(crate) fn book(&self) -> &Book
-        ensures { result.now ≡ self.now.book }
+    /// Returns what happened so far, where what crossed is the oldest of this log.
+    pub(crate) fn book<'a>(&'a self, log: &'a [Crossing]) -> Book<'a>
+        requires { BeginsWith self.now.book log.now }
+        ensures { result ≡ self.now.book }
     {
-        &self.book
+        Book::over(log, &self.notes)
+    }
+
+    /// Returns how many crossings there were.
+    pub(crate) fn crossed(&self) -> usize
+        ensures { result ≡ length self.now.book.book.crossings }
+    {
+        self.notes.crossed()
     }
 
     /// Returns the place where a host's program runs.
@@ -164,7 +174,7 @@ impl Hosts {
         let Ok(()) = self.services[at].hear(
             self.alloc,
             &mut self.seats[at],
-            &mut self.book,
+            &mut self.notes,
             news,
             inbound,
         ) else {
@@ -180,8 +190,12 @@ impl Hosts {
         ensures done { OfHostAt at self.old (λ h s x. OnOk result (AreTended h x (sending.offered s (length self.old.book.book.crossings)) (crossed_by news.now self.old) self.old self.new)) }
         ensures kept { IfErr result (LacksMemory self.old self.new) }
     {
-        let Ok(()) = self.services[at].go_out(self.alloc, &mut self.seats[at], &mut self.book, news)
-        else {
+        let Ok(()) = self.services[at].go_out(
+            self.alloc,
+            &mut self.seats[at],
+            &mut self.notes,
+            news,
+        ) else {
             return Err(WorldFault::Program(NcpFault::OutOfMemory));
         };
         Ok(())
@@ -195,7 +209,7 @@ impl Hosts {
         ensures told { OnOk result (self.new.book ≡ all_crossed (reverse news.now) self.old.book) }
         ensures kept { IfErr result (LacksMemory self.old self.new) }
     {
-        let Ok(()) = self.book.cross(news) else {
+        let Ok(()) = self.notes.cross(news) else {
             return Err(WorldFault::Program(NcpFault::OutOfMemory));
         };
         turn_all(self.alloc, &mut self.seats, news);
@@ -210,7 +224,7 @@ impl Hosts {
         ensures refused { (h : Host) (s : NcpState) (f : NcpFault) → Sits h at s self.old.seats → refusal s request.now ≡ Some f → AreRefused f result self.old self.new }
         ensures served { OfHostAt at self.old (λ h s x. refusal s request.now ≡ None → AreAnswered h s x request.now result self.old self.new) }
     {
-        self.services[at].ask(self.alloc, &mut self.seats[at], &mut self.book, request)
+        self.services[at].ask(self.alloc, &mut self.seats[at], &mut self.notes, request)
     }
 
     /// Types a line at a host, at the terminal that came last.
@@ -242,7 +256,7 @@ impl Hosts {
         };
         let Ok(program) = self.services[at].begin_server(
             self.alloc,
-            &mut self.book,
+            &mut self.notes,
             program,
             listen,
             base,
@@ -270,7 +284,7 @@ impl Hosts {
         };
         let Ok(program) = self.services[at].begin_user(
             self.alloc,
-            &mut self.book,
+            &mut self.notes,
             program,
             peer,
             listen,

@@ -62,8 +62,8 @@ impl<C: Carrier> World<C> {
     /// Returns what happened so far. It is that of a lawful world, of which `law::clean_resets` speaks: a host that is
     /// through a reset with a peer takes of it, RST and RRP aside, only what went out after its last clean point. And
     /// by `law::books` a message that was answered by RFNM was taken exactly once, and none was taken twice.
-    pub fn book(&self) -> &Book
-        ensures value { result.now ≡ self.now.kept }
+    pub fn book(&self) -> Book<'_>
+        ensures value { result ≡ self.now.kept }
         ensures lawful { IsLawful C.calls.seen (C.calls.seen self.now.carrier).hosts self.now }
     {
         self.core.book()

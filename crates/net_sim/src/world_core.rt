@@ -1,7 +1,7 @@
 //! What a world and one with strangers have in common: a carrier, hosts with programs over it, and whether memory has
 //! run out.
 
-ghost use Rattle.std.specs.Prelude.{◌≡◌, false};
+ghost use Rattle.std.specs.Prelude.{◌≡◌, false, length};
 ghost use Rattle.interface.specs.Mailboxes.{IsRun};
 ghost use Rattle.net_sim.specs.Carriers.{shown};
 ghost use Rattle.net_sim.specs.Inside.Core.{IsSomeWorld};
@@ -61,10 +61,17 @@ impl<C: Carrier> WorldCore<C> {
     }
 
     /// Returns what happened so far.
-    pub(crate) fn book(&self) -> &Book
-        ensures { result.now ≡ self.now.kept }
+    pub(crate) fn book(&self) -> Book<'_>
+        ensures { result ≡ self.now.kept }
     {
-        self.hosts.book()
+        self.hosts.book(self.carrier.log())
+    }
+
+    /// Returns how many crossings there were.
+    pub(crate) fn crossed(&self) -> usize
+        ensures { result ≡ length self.now.kept.book.crossings }
+    {
+        self.hosts.crossed()
     }
 
     /// Returns the carrier.

@@ -1,5 +1,6 @@
 -- Nothing that was granted is lost while both hosts stay: an end that opens by its own request does so before the other's is open.
 use Rattle.pair_keeps_streams.proofs.Common.{◌≡◌, inl, inr, ℕ, suc, ◌==◌, ◌&&◌, not, Bool, true, false, if◌then◌else◌, List, [], ◌∷◌, ◌++◌, filter, Option, Some, None, is_some, refl, ap, sym, subst, ◌∙◌, eq-eqb, Host, is_receive_socket, Command, Word, Rts, All, Cls, Receiver, Sender, Stream, Receives, happens, Exact, Inv, kept, some_is, changed_at, changed_first, closed_by_partner, entry_at, is_at, is_link, is_receiving, must_close, receives_on, sends_on, PairState, asked_at, Entry, Listener, both, MayAllReceive, MayAllSend, sent_open, AreReceiver, has_opened, Says, IsTelling, ends_by, gone_by, asked_sent, closes, hears_rts, of_end, rts_sent, sent_out, AreApart, named, numbers, Holds, apart_changed, find_passes, first_is, name_of, own_name, own_parity, stays, unlike}
+use Rattle.std.proofs.lemmas.Option.{same_Some}
 use Rattle.ncp_control.specs.declared.command.Command.TheVariants as command
 use Rattle.stream_law.specs.Receivers as receivers
 use Rattle.stream_law.specs.Senders as senders
@@ -168,9 +169,6 @@ module _ (number : ℕ → ℕ → ℕ → ℕ) (tells : IsTelling number) (link
 abbrev pub WasThere : List Entry → List Entry → Type 0
 WasThere es after = (own foreign : ℕ) (f : Entry) → entry_at own foreign after ≡ Some f → f.asked ≡ None → (e : Entry) × (entry_at own foreign es ≡ Some e) × (e.asked ≡ None)
 
-some_same : (e f : Entry) → Some e ≡ Some f → e ≡ f
-some_same e f s = cc
-
 changed_was : (test : Entry → Bool) (change : Entry → Entry) → Stays change → ((e : Entry) → (change e).asked ≡ None → e.asked ≡ None) → (es : List Entry) → WasThere es (changed_first test change es)
 changed_was test change s back [] own foreign f found none = (f, found, none)
 changed_was test change s back (z ∷ zs) own foreign f found none = by (test z) (is_at own foreign z) refl refl (changed_was test change s back zs own foreign f) where
@@ -179,14 +177,14 @@ changed_was test change s back (z ∷ zs) own foreign f found none = by (test z)
   by true true t a rest =
       let after : is_at own foreign (change z) ≡ true = at_changed change s own foreign z ∙ a in
       let is : Some (change z) ≡ Some f = (rw (t, after) at found) in
-      (z, rw a refl, back z (ap (λ (e : Entry). e.asked) (some_same (change z) f is) ∙ none))
+      (z, rw a refl, back z (ap (λ (e : Entry). e.asked) (same_Some (change z) f is) ∙ none))
   by true false t a rest =
       let after : is_at own foreign (change z) ≡ false = at_changed change s own foreign z ∙ a in
       let later : entry_at own foreign zs ≡ Some f = (rw (t, after) at found) in
       (f, rw a later, none)
   by false true t a rest =
       let is : Some z ≡ Some f = (rw (t, a) at found) in
-      (z, rw a refl, ap (λ (e : Entry). e.asked) (some_same z f is) ∙ none)
+      (z, rw a refl, ap (λ (e : Entry). e.asked) (same_Some z f is) ∙ none)
   by false false t a rest =
       let r : (e : Entry) × (entry_at own foreign zs ≡ Some e) × (e.asked ≡ None) = rest (rw (t, a) at found) none in
       (r.0, rw a r.1, r.2)

@@ -188,7 +188,7 @@ takes_same : (a b : Host) (e : Event) (events : List Event) → takes_reset a b 
 takes_same a b (In x y l m) events = box_reset a b x y l m (boxes x y events l)
 takes_same a b e events = refl
 
-ready_same : (a b : Host) (events : List Event) → ready a b (placed events) ≡ ready a b events
+pub ready_same : (a b : Host) (events : List Event) → ready a b (placed events) ≡ ready a b events
 ready_same a b events = ap (λ (p : Pair). is_ready p.phase) (pair_same a b events)
 
 six : (r r' s s' t t' u u' k k' v v' : Bool) → r ≡ r' → s ≡ s' → t ≡ t' → u ≡ u' → k ≡ k' → v ≡ v' → (((r && s) && not (t && u)) || (r && not k && v)) ≡ (((r' && s') && not (t' && u')) || (r' && not k' && v'))

@@ -17,7 +17,7 @@ put_join : (here : Bool) (m : Mark) (xs ys : List Mark) → put here m (xs ++ ys
 put_join true m xs ys = refl
 put_join false m xs ys = refl
 
-at_join : (s : Sockets) (new words : List Word) → at s (new ++ words) ≡ at s new ++ at s words
+pub at_join : (s : Sockets) (new words : List Word) → at s (new ++ words) ≡ at s new ++ at s words
 at_join s [] words = refl
 at_join s (w ∷ new) words = ap (λ (z : List Mark). put (same s w.sockets) w.mark z) (at_join s new words) ∙ put_join (same s w.sockets) w.mark (at s new) (at s words)
 

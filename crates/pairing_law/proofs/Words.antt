@@ -2,7 +2,7 @@
 use Rattle.std.proofs.Common.{◌≡◌, ℕ, ◌+◌, ◌<◌, ◌≤◌, List, [], ◌∷◌, ◌++◌, sym, subst, ◌∙◌, inl, inr, arith}
 use Rattle.pairing_law.specs.Marks.{Mark, Ask, Close, closes, Asks, IsOlder}
 
-closes_more : (new word : List Mark) → closes word ≤ closes (new ++ word)
+pub closes_more : (new word : List Mark) → closes word ≤ closes (new ++ word)
 closes_more [] word = omega arith
 closes_more (Ask p ∷ new) word = closes_more new word
 closes_more (Close ∷ new) word = let l : closes word ≤ closes (new ++ word) = closes_more new word in omega (arith, l)

@@ -1,6 +1,6 @@
 -- Amounts of messages and of bits, by connection.
 pub use Rattle.std.proofs.lemmas.Option.{same_Some as some_is}
-use Rattle.std.proofs.Common.{◌≡◌, ◌≢◌, ◌⊎◌, ℕ, ◌+◌, ◌-◌, ◌<◌, ◌≤◌, ◌==◌, ◌&&◌, not, Bool, true, false, List, [], ◌∷◌, ◌++◌, length, Option, Some, None, refl, ap, sym, subst, ◌∙◌, inl, inr, if◌then◌else◌, eq-eqb, nat_lt, nat_le, arith}
+use Rattle.std.proofs.Common.{◌≡◌, ◌≢◌, ◌⊎◌, ℕ, ◌+◌, ◌-◌, ◌<◌, ◌≤◌, ◌==◌, Bool, true, false, List, [], ◌∷◌, ◌++◌, length, Option, Some, None, refl, ap, sym, subst, ◌∙◌, inl, inr, if◌then◌else◌, eq-eqb, nat_lt, nat_le, arith}
 use Rattle.std.proofs.lemmas.Bool.{eqb-true, leb-true, ltb-true, false_from_ne_true, and_parts}
 use Rattle.std.proofs.Math.Nat.{min-le_left, min-eq_left}
 use Rattle.ncp_control.specs.Allocation as counters
@@ -8,10 +8,6 @@ use Rattle.ncp_control.specs.declared.allocation.Allocation.{Allocation}
 use Rattle.ncp_control.proofs.lemmas.{share-le}
 use Rattle.stream_law.specs.Words.{Word, All, Ret, for, covers, holds}
 use Rattle.stream_law.specs.Within.{message_bits, IsPrefix}
-
-pub not_true : (a : Bool) → not a ≡ true → a ≡ false
-not_true true e = absurd (cc)
-not_true false e = refl
 
 pub unlike : (a : Bool) → a ≡ true → a ≡ false → ⊥
 unlike a e f = let same : true ≡ false = sym e ∙ f in absurd (cc)

@@ -1,5 +1,5 @@
 -- While both ends of a connection are open nothing that was granted is lost.
-use Rattle.std.proofs.Common.{◌≡◌, ◌≢◌, ℕ, suc, ◌+◌, ◌-◌, ◌≤◌, ◌==◌, Bool, true, false, ◌&&◌, List, [], ◌∷◌, ◌++◌, length, Option, Some, None, refl, ap, sym, subst, ◌∙◌, inl, inr, if◌then◌else◌, eq-eqb, append-nil, nat_le, ◌⊎◌, arith}
+use Rattle.std.proofs.Common.{◌≡◌, ◌≢◌, ℕ, suc, ◌+◌, ◌-◌, ◌≤◌, ◌==◌, Bool, true, false, ◌&&◌, List, [], ◌∷◌, ◌++◌, length, Option, Some, None, refl, ap, sym, subst, ◌∙◌, inl, inr, if◌then◌else◌, eq-eqb, append-nil, nat_le, ◌⊎◌, arith, ne_eqb}
 use Rattle.std.proofs.lemmas.Bool.{eqb-true, le-leb, false_from_ne_true, and_parts}
 use Rattle.std.proofs.Math.Nat.{min-eq_left}
 use Rattle.ncp_control.specs.Allocation as counters
@@ -72,7 +72,7 @@ other_by true n e = absurd (cc)
 other_by false n e = refl
 
 mine_other : (k c n : ℕ) → k ≢ c → mine k c n ≡ 0
-mine_other k c n other = other_by (k == c) n (sends.away k c other)
+mine_other k c n other = other_by (k == c) n (ne_eqb k c other)
 
 fits_in : (u : Counter) (a : Allocation) (m n : ℕ) → number u a + amount u m n ≤ number u (record { messages = 65535; bits = 4294967295 }) → number u (counters.granted a m n) ≡ number u a + amount u m n
 fits_in Messages a m n l = min-eq_left l

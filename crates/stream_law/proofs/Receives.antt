@@ -1,6 +1,6 @@
 -- What the receiver does keeps all of it.
 use Rattle.std.proofs.Common.{◌≡◌, ℕ, suc, ◌==◌, ◌+◌, ◌-◌, ◌≤◌, Bool, true, false, not, ◌&&◌, List, [], ◌∷◌, ◌++◌, length, Option, Some, None, is_some, refl, ap, sym, subst, ◌∙◌, inl, inr, if◌then◌else◌, append-nil, eqb-true, arith}
-use Rattle.std.proofs.lemmas.Bool.{and_parts}
+use Rattle.std.proofs.lemmas.Bool.{and_parts, not-true}
 use Rattle.ncp_control.specs.Allocation as counters
 use Rattle.stream_law.specs.Words.{Word, Rts, Str, All, Gvb, Ret, Cls, for, covers, holds, is_size}
 use Rattle.stream_law.specs.Receivers as receivers
@@ -8,7 +8,7 @@ use Rattle.stream_law.specs.Receivers.{Receiver}
 use Rattle.stream_law.specs.Senders.{Sender}
 use Rattle.stream_law.specs.Streams.{Stream, Box, Empty, Waiting, Taken}
 use Rattle.stream_law.specs.Within.{IsPrefix, waiting_in}
-use Rattle.stream_law.proofs.Amounts.{not_true, unlike, some_is, both_are, at, for_here, for_more, for_less, mine, mine_same, mine_most, Counter, number, amount, cost, total, number_all, number_spent, number_less, number_for, total_for, granted_in, granted_more}
+use Rattle.stream_law.proofs.Amounts.{unlike, some_is, both_are, at, for_here, for_more, for_less, mine, mine_same, mine_most, Counter, number, amount, cost, total, number_all, number_spent, number_less, number_for, total_for, granted_in, granted_more}
 use Rattle.stream_law.proofs.Words.{unless, unless_none, DownFits, down_more, no_rts_said, down_said, down_asked, up_more, closed_more}
 use Rattle.stream_law.proofs.Keeps.{made, Account, Inv, all_over, sole, waits_for, waits_of, acceptable}
 
@@ -20,7 +20,7 @@ pub opens : (c : ℕ) (r : Receiver) → receivers.is_open c r ≡ true → (r.o
 opens c r e =
     let p : ((r.opened && not r.closed) ≡ true) × (not (r.over c) ≡ true) = and_parts (r.opened && not r.closed) (not (r.over c)) e in
     let q : (r.opened ≡ true) × (not r.closed ≡ true) = and_parts r.opened (not r.closed) p.0 in
-    (q.0, not_true r.closed q.1, not_true (r.over c) p.1)
+    (q.0, not-true r.closed q.1, not-true (r.over c) p.1)
 
 no_front : (xs : List (List Bool)) → IsPrefix xs [] → xs ≡ []
 no_front [] f = refl

@@ -1,7 +1,8 @@
 -- What the sender does keeps all of it.
 use Rattle.std.proofs.Common.{◌≡◌, ◌≢◌, ℕ, ◌+◌, ◌≤◌, ◌==◌, Bool, true, false, not, ◌&&◌, List, [], ◌∷◌, ◌++◌, length, Option, Some, None, refl, ap, sym, subst, ◌∙◌, inl, inr, if◌then◌else◌, eq-eqb, append-nil, arith}
-use Rattle.std.proofs.lemmas.Bool.{eqb-true, false_from_ne_true, and_parts}
+use Rattle.std.proofs.lemmas.Bool.{eqb-true, false_from_ne_true, and_parts, and_right, not-true}
 use Rattle.std.proofs.lemmas.List.{append_assoc, length-append}
+use Rattle.std.proofs.Common.{ne_eqb}
 use Rattle.ncp_control.specs.Allocation as counters
 use Rattle.ncp_control.specs.declared.allocation.Allocation.{Allocation}
 use Rattle.stream_law.specs.Words.{Word, Rts, Str, All, Gvb, Ret, Cls, for, covers}
@@ -10,7 +11,7 @@ use Rattle.stream_law.specs.Senders as senders
 use Rattle.stream_law.specs.Senders.{Sender}
 use Rattle.stream_law.specs.Streams.{Box, Empty, Waiting, Taken, word_queued}
 use Rattle.stream_law.specs.Within.{IsPrefix}
-use Rattle.stream_law.proofs.Amounts.{not_true, unlike, some_is, both_are, at, for_here, for_more, for_less, mine, mine_add, mine_within, Counter, number, amount, cost, total, number_granted, number_spent, number_back, number_nothing, total_for, returned_in, returned_more, held, held_is}
+use Rattle.stream_law.proofs.Amounts.{unlike, some_is, both_are, at, for_here, for_more, for_less, mine, mine_add, mine_within, Counter, number, amount, cost, total, number_granted, number_spent, number_back, number_nothing, total_for, returned_in, returned_more, held, held_is}
 use Rattle.stream_law.proofs.Words.{unless, unless_none, unless_some, NoRts, DownFits, UpFits, up_more, up_said}
 use Rattle.stream_law.proofs.Keeps.{made, Down, Waits, Account, Inv, sole, link_free}
 
@@ -18,7 +19,7 @@ pub opens : (c : ℕ) (s : Sender) → senders.is_open c s ≡ true → (s.opene
 opens c s e =
     let p : ((s.opened && not s.shut) ≡ true) × (not (s.closed c) ≡ true) = and_parts (s.opened && not s.shut) (not (s.closed c)) e in
     let q : (s.opened ≡ true) × (not s.shut ≡ true) = and_parts s.opened (not s.shut) p.0 in
-    (q.0, not_true s.shut q.1, not_true (s.closed c) p.1)
+    (q.0, not-true s.shut q.1, not-true (s.closed c) p.1)
 
 -- a size that is said once stays so
 size_more : (c z : ℕ) (size : ℕ → Option ℕ) → size c ≡ None → (k y : ℕ) → size k ≡ Some y → for c (Some z) size k ≡ Some y
@@ -43,22 +44,12 @@ goes_some c v (Some own) k e =
     let t : (own ≡ k) × ((own == c && v) ≡ false) = goes_by (own == c && v) own k e in
     (ap (λ (n : ℕ). Some n) t.0, subst (λ (n : ℕ). (n == c && v) ≡ false) t.0 t.1)
 
-pub away : (k c : ℕ) → k ≢ c → (k == c) ≡ false
-away k c other = by (k == c) refl where
-  by : (v : Bool) → (k == c) ≡ v → (k == c) ≡ false
-  by true e = absurd (other (eqb-true k c e))
-  by false e = e
-
 pub goes_other : (c : ℕ) (v : Bool) (o : Option ℕ) (k : ℕ) → k ≢ c → o ≡ Some k → senders.goes c v o ≡ Some k
-goes_other c v o k other e = subst (λ (p : Option ℕ). senders.goes c v p ≡ Some k) (sym e) (let f : (k == c) ≡ false = away k c other in rw f refl)
-
-and_false : (v : Bool) → (v && false) ≡ false
-and_false true = refl
-and_false false = refl
+goes_other c v o k other e = subst (λ (p : Option ℕ). senders.goes c v p ≡ Some k) (sym e) (let f : (k == c) ≡ false = ne_eqb k c other in rw f refl)
 
 goes_open : (c : ℕ) (o : Option ℕ) → senders.goes c false o ≡ o
 goes_open c None = refl
-goes_open c (Some own) = let f : (own == c && false) ≡ false = and_false (own == c) in rw f refl
+goes_open c (Some own) = let f : (own == c && false) ≡ false = and_right (own == c) false refl in rw f refl
 
 view_same : (c : ℕ) (v : Bool) (o : Option ℕ) → unless v (senders.goes c v o) ≡ unless v o
 view_same c true o = refl

@@ -209,12 +209,12 @@ fn lose(frames: &mut VecDeque<Frame>, place: usize)
     ensures { frames.new.items ≡ net.without_at place frames.old.items }
 {
     if place == 0 {
-        let _ = frames.pop_front();
+        drop(frames.pop_front());
         if frames.is_empty() {
             rewind(frames);
         }
     } else {
-        let _ = frames.remove(place);
+        drop(frames.remove(place));
     }
 }
 

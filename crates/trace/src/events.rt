@@ -140,6 +140,7 @@ fn trace_calm<C: Inspect, W: Output>(
     'rounds: while let Some((element, _)) = carrier.next_in_calm(place) {
         let begun = begin_round(alloc, carrier, known)?;
         place = trace_round(alloc, carrier, spot, element.round, place, known, writer)?;
+        drop(element);
         if is_still(carrier, known, &begun) {
             return Ok(());
         }
@@ -253,6 +254,7 @@ fn trace_round<C: Inspect, W: Output>(
             known,
             writer,
         )?;
+        drop(element);
         place = next;
     }
     Ok(place)

@@ -1,6 +1,6 @@
 //! The numbers of a script's lines.
 
-ghost use Rattle.std.specs.Prelude.{◌≡◌, ◌≤◌, IfOk, length, zip};
+ghost use Rattle.std.specs.Prelude.{◌≡◌, ◌<◌, ◌≤◌, IfOk, OnErr, length, zip};
 ghost use Rattle.trace.specs.Traces.{event_lines};
 
 use script::MAX_INPUT;
@@ -28,15 +28,23 @@ pub fn event_lines(alloc: Global, script: &[u8]) -> Result<Vec<usize>, AllocErro
     Ok(numbers)
 }
 
-/// Returns events, each after the number of its line. What is more of the one than of the other is left out.
+/// Returns events, each after the number of its line. What is more of the one than of the other is left out. It takes
+/// all its room at once.
 ///
-/// Errors: `AllocError`.
+/// Errors: `AllocError`, and only if there is an event to keep.
 pub fn beside_lines<E: Drop>(
     alloc: Global,
     lines: &[usize],
     events: Vec<E>,
 ) -> Result<Vec<(usize, E)>, AllocError>
-    ensures { IfOk result (λ placed. placed.items ≡ zip lines.now events.items) }
+    ensures placed { IfOk result (λ placed. placed.items ≡ zip lines.now events.items) }
+    ensures memory { OnErr result ((0 < length lines.now) × (0 < length events.items)) }
 {
-    lines.iter().copied().zip(events).collect(alloc)
+    let places = lines.len().min(events.len());
+    if places == 0 {
+        return Ok(Vec::new(alloc));
+    }
+    let mut placed = Vec::with_capacity(alloc, places)?;
+    placed.extend(lines.iter().copied().zip(events))?;
+    Ok(placed)
 }

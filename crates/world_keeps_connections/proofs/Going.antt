@@ -13,10 +13,7 @@ use Rattle.net_sim.specs.Book.{Kept, all_told, carried, changed_when, life_ended
 use Rattle.promise.specs.declared.life.Life as book
 use Rattle.net_sim.specs.Told.{kept_by, kept_in, notices_by}
 use Rattle.interface.proofs.lemmas.{not_true, unlike}
-
-never : (b : Bool) → (b && false) ≡ true → ⊥
-never true e = absurd (let r : false ≡ true = e in cc)
-never false e = absurd (let r : false ≡ true = e in cc)
+use Rattle.world_keeps_pairing.proofs.lemmas.{and_never}
 
 -- an opening upon what is known, where it is of these ends
 abbrev upon : Bool → Bool → Life → List Life → List Life
@@ -73,11 +70,11 @@ module _ (origin : ℕ → ℕ) (h p : Host) (own foreign : ℕ) where
   where_ends test [] all = tt
   where_ends test (x ∷ xs) all = (by (test x) refl, where_ends test xs all) where
     by : (b : Bool) → test x ≡ b → goes (changed_when b life_ended x) ≡ true → IsIn (life_of origin (changed_when b life_ended x)) []
-    by true e g = absurd (never (is_between h p own foreign x) g)
+    by true e g = absurd (and_never (is_between h p own foreign x) g)
     by false e g = absurd (unlike (test x) (all x g) e)
 
   ended_keeps : Keeps life_ended
-  ended_keeps x e = absurd (never (is_between h p own foreign x) e)
+  ended_keeps x e = absurd (and_never (is_between h p own foreign x) e)
 
   same_if : (b : Bool) (k : List Life) (xs : List book.Life) → AreKnown k xs → AreKnown (if b then k else k) xs
   same_if true k xs a = a

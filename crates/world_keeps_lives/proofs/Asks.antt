@@ -1,5 +1,6 @@
 -- What a user asks for, at one socket of the host.
-use Rattle.world_keeps_lives.proofs.Common.{◌≡◌, inl, inr, ℕ, ◌+◌, ◌≤◌, ◌==◌, ◌&&◌, Bool, true, false, not, nat_lt, if◌then◌else◌, List, [], ◌∷◌, ◌++◌, map, find, length, Option, Some, None, is_some, refl, ap, sym, subst, ◌∙◌, arith, eqb-true, ltb-false, append_assoc, Host, not_false, or_false, is_receive_socket, is_send_socket, Allocation, Command, closed_end, commanded, contacted, interrupt_of, receiver_requested, requested, with_end, with_more_bits, listens_on, without_listener, called_off, changed_first, closed_when, entry_at, free_link, has_cls, is_mine_on, is_open, must_close, receiving_end, sending_end, PairState, is_ready, Entry, Listener, both, NcpState, owner_of, pair_with, AreInOrder, at_owner, closed_socket, is_used, on_open, send_fault, Request, not_first, pair_changed, Life, Kept, all_told, asked, handed_to, lives_at, where_it, IsPrefix, receives, AddsUp, AreRefusing, EachIn, EachOn, IsFresh, IsLifeOf, IsOwned, IsSafe, NoneOf, has_opened, mine_on}
+use Rattle.world_keeps_lives.proofs.Common.{◌≡◌, inl, inr, ℕ, ◌+◌, ◌≤◌, ◌==◌, ◌&&◌, Bool, true, false, not, nat_lt, if◌then◌else◌, List, [], ◌∷◌, ◌++◌, map, find, length, Option, Some, None, is_some, refl, ap, sym, subst, ◌∙◌, arith, eqb-true, append_assoc, Host, not_false, or_false, is_receive_socket, is_send_socket, Allocation, Command, closed_end, commanded, contacted, interrupt_of, receiver_requested, requested, with_end, with_more_bits, listens_on, without_listener, called_off, changed_first, closed_when, entry_at, free_link, has_cls, is_mine_on, is_open, must_close, receiving_end, sending_end, PairState, is_ready, Entry, Listener, both, NcpState, owner_of, pair_with, AreInOrder, at_owner, closed_socket, is_used, on_open, send_fault, Request, not_first, pair_changed, Life, Kept, all_told, asked, handed_to, lives_at, where_it, IsPrefix, receives, AddsUp, AreRefusing, EachIn, EachOn, IsFresh, IsLifeOf, IsOwned, IsSafe, NoneOf, has_opened, mine_on}
+use Rattle.std.proofs.lemmas.Bool.{ltb-false}
 use Rattle.std.proofs.lemmas.List.{append-nil}
 use Rattle.ncp_control.specs.declared.command.Command.TheVariants as command
 use Rattle.host_pairs.specs.Asked.{contact_notices, passes}

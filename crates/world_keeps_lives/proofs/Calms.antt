@@ -1,5 +1,6 @@
 -- What moments of no data do to lives: all keep what they carried, and new ones begin where a request of theirs crosses.
 use Rattle.world_keeps_lives.proofs.Common.{◌≡◌, ℕ, Bool, true, false, if◌then◌else◌, List, [], ◌∷◌, ◌++◌, map, refl, ap, sym, subst, ◌∙◌, append_assoc, map-append, Host, Crossing, Notice, Request, Kept, all_told, book_told, changed_when, life_ended, lives_asked, lives_at, lives_between, lives_crossed, lives_on, lives_told, lives_with, new_life, where_it, Asked, Crossed, Moment, host_in, kept_by, kept_in, notices_by, Amount, Life}
+use Rattle.std.proofs.Common.{append-nil}
 use Rattle.interface.specs.declared.crossing.Crossing.TheVariants as crossing
 use Rattle.host_pairs.specs.declared.notice.Notice.TheVariants as notice
 use Rattle.sockets.specs.declared.request.Request.TheVariants as request
@@ -19,13 +20,9 @@ map_is : (f g : Life → Life) → ((x : Life) → f x ≡ g x) → (xs : List L
 map_is f g k [] = refl
 map_is f g k (x ∷ xs) = ap (λ (y : Life). y ∷ map f xs) (k x) ∙ ap (λ (ys : List Life). g x ∷ ys) (map_is f g k xs)
 
-map_two : (f g : Life → Life) (xs : List Life) → map g (map f xs) ≡ map (λ (x : Life). g (f x)) xs
+pub map_two : (f g : Life → Life) (xs : List Life) → map g (map f xs) ≡ map (λ (x : Life). g (f x)) xs
 map_two f g [] = refl
 map_two f g (x ∷ xs) = ap (λ (ys : List Life). g (f x) ∷ ys) (map_two f g xs)
-
-nil_right : (xs : List Life) → xs ++ [] ≡ xs
-nil_right [] = refl
-nil_right (x ∷ xs) = ap (λ (ys : List Life). x ∷ ys) (nil_right xs)
 
 all_itself : (xs : List Life) → xs ≡ map (λ (x : Life). kept_as x.granted x.returned x.ended x) xs
 all_itself [] = refl
@@ -46,7 +43,7 @@ module _ (lives : List Life) (here : ℕ) (log : List Crossing) where
     pub born : Each Born more
 
   calm_none : (xs : List Life) → Calm xs xs
-  calm_none xs = record { given = λ x. x.granted; back = λ x. x.returned; over = λ x. x.ended; more = []; is = all_itself xs ∙ sym (nil_right _); still = λ x e. e; born = tt }
+  calm_none xs = record { given = λ x. x.granted; back = λ x. x.returned; over = λ x. x.ended; more = []; is = all_itself xs ∙ sym (append-nil _); still = λ x e. e; born = tt }
 
   calm_on : (xs ys zs : List Life) → Calm xs ys → Calm ys zs → Calm xs zs
   calm_on xs ys zs c d = record {
@@ -67,7 +64,7 @@ module _ (lives : List Life) (here : ℕ) (log : List Crossing) where
     back = λ x. x.returned;
     over = λ x. if test x then true else x.ended;
     more = [];
-    is = map_is (λ x. changed_when (test x) life_ended x) (kept_so (λ x. x.granted) (λ x. x.returned) (λ x. if test x then true else x.ended)) (λ x. by x (test x)) xs ∙ sym (nil_right _);
+    is = map_is (λ x. changed_when (test x) life_ended x) (kept_so (λ x. x.granted) (λ x. x.returned) (λ x. if test x then true else x.ended)) (λ x. by x (test x)) xs ∙ sym (append-nil _);
     still = λ x e. off x (test x) e;
     born = tt;
   } where
@@ -85,7 +82,7 @@ module _ (lives : List Life) (here : ℕ) (log : List Crossing) where
     back = λ x. if test x then more m n x.returned else x.returned;
     over = λ x. x.ended;
     more = [];
-    is = map_is (λ x. changed_when (test x) (returned m n) x) (kept_so (λ x. x.granted) (λ x. if test x then more m n x.returned else x.returned) (λ x. x.ended)) (λ x. by x (test x)) xs ∙ sym (nil_right _);
+    is = map_is (λ x. changed_when (test x) (returned m n) x) (kept_so (λ x. x.granted) (λ x. if test x then more m n x.returned else x.returned) (λ x. x.ended)) (λ x. by x (test x)) xs ∙ sym (append-nil _);
     still = λ x e. e;
     born = tt;
   } where
@@ -99,7 +96,7 @@ module _ (lives : List Life) (here : ℕ) (log : List Crossing) where
     back = λ x. x.returned;
     over = λ x. x.ended;
     more = [];
-    is = map_is (λ x. changed_when (test x) (granted m n) x) (kept_so (λ x. if test x then more m n x.granted else x.granted) (λ x. x.returned) (λ x. x.ended)) (λ x. by x (test x)) xs ∙ sym (nil_right _);
+    is = map_is (λ x. changed_when (test x) (granted m n) x) (kept_so (λ x. if test x then more m n x.granted else x.granted) (λ x. x.returned) (λ x. x.ended)) (λ x. by x (test x)) xs ∙ sym (append-nil _);
     still = λ x e. e;
     born = tt;
   } where

@@ -7,15 +7,14 @@ pub use Rattle.host_keeps_streams.proofs.lemmas.{find_passes}
 pub use Rattle.host_pairs.proofs.lemmas.{both, not_is, what_goes}
 pub use Rattle.host_pairs.specs.Allowed.{MayGo}
 pub use Rattle.host_pairs.specs.Asked.{closed_end, commanded, contacted, interrupt_of, receiver_requested, requested, with_end, with_more_bits}
-pub use Rattle.host_pairs.specs.Commands.{Ending, Open, Unconnected, answered_on, asked_on_link, asked_with_size, at_end, changed, cls_taken_by, desk_taken, gvb_taken, interrupted, matched_once, receiver_on, ret_taken, rts_heard, rts_taken, rts_taken_by, sender_on, str_heard, str_linked, str_taken_by}
+pub use Rattle.host_pairs.specs.Commands.{Ending, Open, Unconnected, answered_on, asked_on_link, asked_with_size, at_end, changed, cls_taken_by, desk_taken, gvb_taken, interrupted, matched_once, ret_taken, rts_heard, rts_taken, rts_taken_by, str_heard, str_linked, str_taken_by}
 pub use Rattle.host_pairs.specs.Control.{ERRONEOUS, Legal, NOT_CONNECTED, NO_SOCKET, Order, Wrong, error, orders_of}
 pub use Rattle.host_pairs.specs.Data.{arrived, arrived_if, data_found, data_of, data_taken, is_acceptable, spent, text_faulted}
 pub use Rattle.host_pairs.specs.Desk.{DeskState, command_queued, desk_of, desk_told, listener_on, listens_on, settled, swept, without_listener}
-pub use Rattle.host_pairs.specs.Entries.{called_off, changed_first, close_due, closed_by_partner, closed_when, ending, entry_at, free_link, has_cls, is_at, is_busy, is_ending, is_link, is_mine_on, is_open, is_over, is_receiving, must_close, opening_by, opening_notices, receives_on, receiving_end, refused_end, sending_end, sends_on}
+pub use Rattle.host_pairs.specs.Entries.{called_off, changed_first, closed_by_partner, closed_when, ending, entry_at, free_link, has_cls, is_at, is_busy, is_ending, is_link, is_mine_on, is_open, is_over, is_receiving, must_close, opening_by, opening_notices, receives_on, receiving_end, refused_end, sending_end, sends_on}
 pub use Rattle.host_pairs.specs.Pair.{PairState}
 pub use Rattle.host_pairs.specs.Parcels.{Parcel, asked_at, bits_gone, cls_sent, command_gone, commands_gone, link_for, may_send_on, next_of, pair_after, parcel_gone}
 pub use Rattle.host_pairs.specs.Turn.{TurnState, answered_turn, closed, command_taken, failed, failed_by, freed, if_ready, is_gone, message_taken, order_taken, orders_taken, reply_notices, reset_notices, settled_turn, with_desk}
-pub use Rattle.host_pairs.specs.declared.entry.Closing.{Closing}
 pub use Rattle.host_pairs.specs.declared.entry.Entry.{Entry}
 pub use Rattle.host_pairs.specs.declared.listener.Listener.{Listener}
 pub use Rattle.host_pairs.specs.declared.notice.Notice.{Notice}
@@ -66,7 +65,7 @@ pub use Rattle.sockets.specs.declared.request.Request.{Request}
 pub use Rattle.std.proofs.Common.{Bool, List, None, Option, Some, [], ap, arith, drop, eq-eqb, false, filter, find, if◌then◌else◌, inl, inr, is_some, length, map, max, nat_lt, not, refl, slice_index_or, subst, suc, sym, take, true, zero, ℕ, ◌&&◌, ◌*◌, ◌++◌, ◌+◌, ◌-◌, ◌<◌, ◌==◌, ◌||◌, ◌∙◌, ◌∷◌, ◌≡◌, ◌≤◌, ◌⊎◌}
 pub use Rattle.std.proofs.Math.Nat.{max-le}
 pub use Rattle.std.proofs.Math.Seq.{drop-append_seam}
-pub use Rattle.std.proofs.lemmas.Bool.{eqb-true, ltb-false, ltb-true}
+pub use Rattle.std.proofs.lemmas.Bool.{eqb-true, ltb-true}
 pub use Rattle.std.proofs.lemmas.List.{append_assoc, length-append, map-append, take-append-drop}
 pub use Rattle.std.proofs.lemmas.List.Elements.{Contains-append_left}
 pub use Rattle.std.specs.List.{Contains, flat_map, list_any}

@@ -1,5 +1,6 @@
 -- The own ends on a socket, and those that refuse, where a list of ends changes.
-use Rattle.world_keeps_lives.proofs.Common.{◌≡◌, ℕ, Bool, false, if◌then◌else◌, List, [], ◌∷◌, ◌++◌, map, filter, find, Some, None, refl, ap, sym, subst, ◌∙◌, changed_first, has_cls, is_mine_on, Entry, AreRefusing, mine_on}
+pub use Rattle.host_keeps_streams.proofs.lemmas.{unchanged as none_changed}
+use Rattle.world_keeps_lives.proofs.Common.{◌≡◌, ℕ, Bool, false, if◌then◌else◌, List, [], ◌∷◌, ◌++◌, map, filter, find, Some, refl, ap, sym, subst, ◌∙◌, changed_first, has_cls, is_mine_on, Entry, AreRefusing, mine_on}
 use Rattle.std.proofs.Common.{true}
 use Rattle.std.proofs.lemmas.List.Elements.{filter-append}
 use Rattle.host_keeps_pairing.proofs.lemmas.{found_same}
@@ -26,14 +27,6 @@ split_step test change x xs e rest false t f =
 pub split : (test : Entry → Bool) (change : Entry → Entry) (xs : List Entry) (e : Entry) → find test xs ≡ Some e → IsSplit test change xs e
 split test change [] e f = absurd (cc)
 split test change (x ∷ xs) e f = split_step test change x xs e (split test change xs e) (test x) refl f
-
-none_step : (test : Entry → Bool) (change : Entry → Entry) (x : Entry) (xs : List Entry) → (find test xs ≡ None → changed_first test change xs ≡ xs) → (b : Bool) → test x ≡ b → find test (x ∷ xs) ≡ None → changed_first test change (x ∷ xs) ≡ x ∷ xs
-none_step test change x xs rest true t f = absurd (let r : Some x ≡ None = rw t at f in cc)
-none_step test change x xs rest false t f = rw t (ap (λ (ys : List Entry). x ∷ ys) (rest (rw t at f)))
-
-pub none_changed : (test : Entry → Bool) (change : Entry → Entry) (xs : List Entry) → find test xs ≡ None → changed_first test change xs ≡ xs
-none_changed test change [] f = refl
-none_changed test change (x ∷ xs) f = none_step test change x xs (none_changed test change xs) (test x) refl f
 
 found_step : (test : Entry → Bool) (change : Entry → Entry) (x : Entry) (xs : List Entry) (e : Entry) → (find test xs ≡ Some e → find test (changed_first test change xs) ≡ Some (change e)) → test (change e) ≡ true
     → (b : Bool) → test x ≡ b → find test (x ∷ xs) ≡ Some e → find test (changed_first test change (x ∷ xs)) ≡ Some (change e)

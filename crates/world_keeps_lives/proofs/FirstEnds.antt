@@ -10,7 +10,7 @@ use Rattle.host_pairs.specs.declared.notice.Notice.TheVariants as notice
 use Rattle.promise.specs.Formed.{flow_of}
 use Rattle.world_keeps_lives.proofs.Facts.{no, no_place}
 use Rattle.world_keeps_lives.proofs.Desks.{open_mine}
-use Rattle.world_keeps_lives.proofs.FirstLists.{Pairwise, each_all, life_of, mapped}
+use Rattle.world_keeps_lives.proofs.FirstLists.{Pairwise, each_all, life_of}
 use Rattle.world_keeps_lives.proofs.Begun.{alone_on, one_is}
 use Rattle.world_keeps_lives.proofs.Grounds.{Grounded, Nothing, May, crossed_below, grounds}
 use Rattle.world_keeps_lives.proofs.Laws.{live}
@@ -37,7 +37,7 @@ orders_each (o ∷ os) h = (h.0, orders_each os h.1)
 order_there : (text : List Bool) (c : Command) → Contains (orders_of text) (Legal c) → IsCommand c
 order_there text c there = each_in IsOrder (orders_of text) (Legal c) there (orders_each (orders_of text) (text_good text))
 
-not_zero : (link : ℕ) → is_connection_link link ≡ true → (link == 0) ≡ false
+pub not_zero : (link : ℕ) → is_connection_link link ≡ true → (link == 0) ≡ false
 not_zero link e = by (link == 0) refl where
   by : (v : Bool) → (link == 0) ≡ v → v ≡ false
   by true f = absurd (let r : is_connection_link 0 ≡ true = subst (λ (n : ℕ). is_connection_link n ≡ true) (eqb-true link 0 f) e in let t : false ≡ true = r in cc)

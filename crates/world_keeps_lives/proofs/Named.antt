@@ -126,23 +126,23 @@ if_text : (comes : Bool) (f : Flow) (own foreign n : ℕ) (m : HostMessage) (v :
 if_text comes f own foreign n m true e k = record { message = m; same = refl; flow = sym (same_flow-true f m.flow e); named = k }
 if_text comes f own foreign n m false e k = absurd (let none : None ≡ Some n = k in cc)
 
-no_text : {A : Type 0} (n : ℕ) → None ≡ Some n → A
-no_text n e = absurd (let none : None ≡ Some n = e in cc)
+pub none_some : {A : Type 0} (n : ℕ) → None ≡ Some n → A
+none_some n e = absurd (let none : None ≡ Some n = e in cc)
 
 has_text : (comes : Bool) (f : Flow) (own foreign n : ℕ) (c : Crossing) → named_of own foreign (text_of comes f c) ≡ Some n → HasText comes f own foreign n c
 has_text true f own foreign n (crossing.In m) k = if_text true f own foreign n m (same_flow f m.flow) refl k
 has_text false f own foreign n (crossing.Out m) k = if_text false f own foreign n m (same_flow f m.flow) refl k
-has_text false f own foreign n (crossing.In m) k = no_text n k
-has_text true f own foreign n (crossing.Out m) k = no_text n k
-has_text true f own foreign n (crossing.Answer kind g) k = no_text n k
-has_text false f own foreign n (crossing.Answer kind g) k = no_text n k
-has_text true f own foreign n (crossing.Down g) k = no_text n k
-has_text false f own foreign n (crossing.Down g) k = no_text n k
-has_text true f own foreign n (crossing.Up g) k = no_text n k
-has_text false f own foreign n (crossing.Up g) k = no_text n k
+has_text false f own foreign n (crossing.In m) k = none_some n k
+has_text true f own foreign n (crossing.Out m) k = none_some n k
+has_text true f own foreign n (crossing.Answer kind g) k = none_some n k
+has_text false f own foreign n (crossing.Answer kind g) k = none_some n k
+has_text true f own foreign n (crossing.Down g) k = none_some n k
+has_text false f own foreign n (crossing.Down g) k = none_some n k
+has_text true f own foreign n (crossing.Up g) k = none_some n k
+has_text false f own foreign n (crossing.Up g) k = none_some n k
 
 pub found_at : (comes : Bool) (from to : Host) (own foreign place n : ℕ) (log : List Crossing) → named_at comes from to own foreign place log ≡ Some n → NamedAt comes from to own foreign place n log
-found_at comes from to own foreign place n [] k = no_text n k
+found_at comes from to own foreign place n [] k = none_some n k
 found_at comes from to own foreign place n (c ∷ log) k = by (place == length log) refl k (found_at comes from to own foreign place n log) where
   by : (v : Bool) → (place == length log) ≡ v → (if v then named_of own foreign (text_of comes (control_flow from to) c) else named_at comes from to own foreign place log) ≡ Some n
       → (named_at comes from to own foreign place log ≡ Some n → NamedAt comes from to own foreign place n log) → NamedAt comes from to own foreign place n (c ∷ log)

@@ -1,5 +1,5 @@
 -- The notices of data in a book are those of messages that crossed.
-use Rattle.world_keeps_lives.proofs.Common.{◌≡◌, inl, inr, ℕ, ◌+◌, ◌*◌, ◌==◌, Bool, true, false, if◌then◌else◌, List, [], ◌∷◌, ◌++◌, take, drop, length, Option, Some, None, is_some, refl, ap, sym, subst, ◌∙◌, arith, eq-eqb, Contains, eqb-true, drop-append_seam, Seen, Host, Crossing, HostMessage, data_bits, header_bits, is_receive_socket, MayGo, data_of, is_link, is_open, is_receiving, receives_on, PairState, Parcel, may_send_on, next_of, Entry, Notice, both, what_goes, find_passes, pair, pair_with, Request, message_for, next_in, next_is, next_pair, Told, Kept, all_told, asked, book_told, crossed, HaveAddresses, IsLawful, HasCrossed, coming, data_by, going, request, AreTold, FormedNotices, HasLink, data_told, Agrees, Asked, Crossed, IsNext, IsStory, Moment, places, program, events_of, IsTimeline, crossings_of, host_in, kept_by, kept_in, notices_by, WorldState, coupled, data_away, places_same, story_agrees, book_run}
+use Rattle.world_keeps_lives.proofs.Common.{◌≡◌, inl, inr, ℕ, ◌+◌, ◌*◌, ◌==◌, Bool, true, false, if◌then◌else◌, List, [], ◌∷◌, ◌++◌, take, drop, length, Some, refl, ap, sym, subst, ◌∙◌, arith, eq-eqb, Contains, drop-append_seam, Seen, Host, Crossing, HostMessage, data_bits, header_bits, is_receive_socket, MayGo, data_of, is_link, is_open, is_receiving, receives_on, PairState, Parcel, may_send_on, next_of, Entry, Notice, both, what_goes, find_passes, pair, pair_with, Request, message_for, next_in, next_is, next_pair, Told, Kept, all_told, asked, book_told, crossed, HaveAddresses, IsLawful, HasCrossed, coming, data_by, going, request, AreTold, FormedNotices, HasLink, data_told, Agrees, Asked, Crossed, IsNext, IsStory, Moment, places, program, events_of, IsTimeline, crossings_of, host_in, kept_by, kept_in, notices_by, WorldState, coupled, data_away, places_same, story_agrees, book_run}
 use Rattle.std.proofs.lemmas.Option.{same_Some}
 use Rattle.interface.specs.Mailboxes as mail
 use Rattle.interface.specs.declared.crossing.Crossing.TheVariants as crossing
@@ -14,6 +14,8 @@ use Rattle.world_keeps_lives.proofs.Walk.Rules.{Each, each_in, each_of, each_wea
 use Rattle.world_keeps_lives.proofs.Grounds.{Grounded, IsAnswered, IsAsked, Tells, goes_of, grounds}
 use Rattle.world_keeps_lives.proofs.DataTold.{TakesIf, answer_told, asking_told, bytes_told, control_told, message_takes, offer_told}
 use Rattle.world_keeps_lives.proofs.FirstBooks.{some_link}
+use Rattle.host_keeps_streams.proofs.lemmas.{link_is}
+use Rattle.world_keeps_pairing.proofs.lemmas.{some_is}
 
 -- ---- lists of notices
 
@@ -96,10 +98,6 @@ data_crossing c moments n told d tells old =
 
 -- ---- the link of an open end
 
-some_is : (o : Option ℕ) → is_some o ≡ true → (n : ℕ) × (o ≡ Some n)
-some_is None e = absurd (cc)
-some_is (Some n) e = (n, refl)
-
 linked : (h p : Host) (log : List Crossing) (e : Entry) (link : ℕ) → Grounded h p log e → is_open e ≡ true → e.link ≡ Some link → HasLink h p e.own link log
 linked h p log e link g opened is = by (is_receive_socket e.own) refl where
   parts : IsAnOpen e
@@ -139,10 +137,6 @@ linked h p log e link g opened is = by (is_receive_socket e.own) refl where
     partner = subst (λ (t : Bool). HasCrossed coming p h b.0 (request e.foreign e.own (if t then own.named else link)) log) (sym r)
         (subst (λ (n : ℕ). HasCrossed coming p h b.0 (request e.foreign e.own n) log) (same_Some partner.named link (sym (partner.link r) ∙ is)) partner.crossed);
   }
-
-link_is : (link : ℕ) (o : Option ℕ) → is_link link o ≡ true → o ≡ Some link
-link_is link None e = absurd (cc)
-link_is link (Some l) e = ap (λ (n : ℕ). Some n) (eqb-true l link e)
 
 -- ---- all moments
 

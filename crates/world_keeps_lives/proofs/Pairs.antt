@@ -8,7 +8,7 @@ use Rattle.net_sim.specs.Book.{granted, handed_asked, returned}
 
 -- ---- prefixes
 
-prefix_more : (xs ys zs : List Bool) → IsPrefix xs ys → IsPrefix ys zs → IsPrefix xs zs
+pub prefix_more : (xs ys zs : List Bool) → IsPrefix xs ys → IsPrefix ys zs → IsPrefix xs zs
 prefix_more xs ys zs p q =
     (p.0 ++ q.0, sym (append_assoc xs p.0 q.0) ∙ ap (λ (bs : List Bool). bs ++ q.0) p.1 ∙ q.1)
 
@@ -153,10 +153,10 @@ returned_then m n x goes = going_then x (returned m n x) goes refl refl refl ref
 
 -- ---- each test is passed only by lives that aren't over
 
-not_both : (b c : Bool) → (b && not c) ≡ true → c ≡ false
+pub not_both : (b c : Bool) → (b && not c) ≡ true → c ≡ false
 not_both b c t = not_is c (both b (not c) t).1
 
-goes_at : (h : Host) (socket : ℕ) (x : Life) → lives_at h socket x ≡ true → x.ended ≡ false
+pub goes_at : (h : Host) (socket : ℕ) (x : Life) → lives_at h socket x ≡ true → x.ended ≡ false
 goes_at h socket x t = not_both (same_host h x.host && x.socket == socket) x.ended t
 
 goes_between : (h : Host) (socket : ℕ) (p : Host) (foreign : ℕ) (x : Life) → lives_between h socket p foreign x ≡ true
@@ -166,10 +166,10 @@ goes_between h socket p foreign x t =
     (both (lives_at h socket x) (same_host p x.peer)
     (both (lives_at h socket x && same_host p x.peer) (x.foreign == foreign) t).0).0
 
-goes_with : (h p : Host) (x : Life) → lives_with h p x ≡ true → x.ended ≡ false
+pub goes_with : (h p : Host) (x : Life) → lives_with h p x ≡ true → x.ended ≡ false
 goes_with h p x t = not_both (same_host h x.host && same_host p x.peer) x.ended t
 
-goes_on : (h : Host) (x : Life) → lives_on h x ≡ true → x.ended ≡ false
+pub goes_on : (h : Host) (x : Life) → lives_on h x ≡ true → x.ended ≡ false
 goes_on h x t = not_both (same_host h x.host) x.ended t
 
 -- ---- both lists later

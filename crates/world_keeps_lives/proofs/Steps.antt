@@ -1,12 +1,12 @@
 -- Each thing that is done to the connections of a pair, at one socket of the host.
-use Rattle.world_keeps_lives.proofs.Common.{◌≡◌, ◌⊎◌, inl, inr, ℕ, ◌==◌, ◌&&◌, ◌||◌, Bool, true, false, not, if◌then◌else◌, List, [], ◌∷◌, ◌++◌, length, filter, find, Option, Some, None, is_some, refl, ap, sym, subst, ◌∙◌, eq-eqb, arith, eqb-true, flat_map, Host, same_host, same_host-refl, is_receive_socket, is_send_socket, Allocation, Command, called_off, changed_first, close_due, closed_by_partner, closed_when, ending, entry_at, has_cls, is_at, is_ending, is_mine_on, is_over, is_receiving, must_close, opening_notices, opening_by, answered_on, changed, cls_sent, DeskState, listener_on, listens_on, command_queued, settled, swept, desk_told, Closing, Entry, Listener, Notice, both, Life, Kept, all_told, lives_between, new_life, AddsUp, AreRefusing, EachIn, IsFresh, IsLifeOf, IsSafe, NoneOf, at_socket, has_opened, mine_on}
+use Rattle.world_keeps_lives.proofs.Common.{◌≡◌, ◌⊎◌, inl, inr, ℕ, ◌==◌, ◌&&◌, ◌||◌, Bool, true, false, not, if◌then◌else◌, List, [], ◌∷◌, ◌++◌, length, filter, find, Option, Some, None, is_some, refl, ap, sym, subst, ◌∙◌, eq-eqb, arith, eqb-true, flat_map, Host, same_host, same_host-refl, is_receive_socket, is_send_socket, Allocation, Command, called_off, changed_first, closed_by_partner, closed_when, ending, entry_at, has_cls, is_at, is_ending, is_mine_on, is_over, is_receiving, must_close, opening_notices, opening_by, answered_on, changed, cls_sent, DeskState, listener_on, listens_on, command_queued, settled, swept, desk_told, Entry, Listener, Notice, both, Life, Kept, all_told, lives_between, new_life, AddsUp, AreRefusing, EachIn, IsFresh, IsLifeOf, IsSafe, NoneOf, at_socket, has_opened, mine_on}
 use Rattle.host_pairs.specs.Commands.{entry_joined}
-use Rattle.std.proofs.lemmas.List.{append-nil}
+use Rattle.std.proofs.lemmas.List.{append-nil, nil_from_length}
 use Rattle.ncp_control.specs.Allocation as counters
 use Rattle.host_pairs.specs.Entries.{is_answered, is_drained, is_due}
 use Rattle.host_pairs.specs.declared.entry.Closing.TheVariants as closing
 use Rattle.host_pairs.specs.declared.notice.Notice.TheVariants as notice
-use Rattle.host_keeps_streams.proofs.lemmas.{odd_is}
+use Rattle.host_keeps_streams.proofs.lemmas.{odd_is, due_open, due_cls}
 use Rattle.world_keeps_lives.proofs.Ends.{IsRefusing, split, found_changed, mine_append, mine_one, refusing_append, refusing_changed, refusing_filtered, refusing_found, refusing_mapped}
 use Rattle.world_keeps_lives.proofs.Books.{all_told_append, each_ended, each_more, each_weaker}
 use Rattle.world_keeps_lives.proofs.Desks.{AreAside, At, Drains, Elsewhere, IsLess, Near, Place, at_aside, at_changed, at_lessened, at_mapped, clash, each_all_aside, listens_found, open_parts, own_is, own_off, without_other, without_same}
@@ -24,10 +24,6 @@ closed_less true e = record {
   fresh = λ f. f;
 }
 closed_less false e = record { mine = (refl, refl); foreign = refl; asked = refl; partner = refl; allocation = refl; waits = λ o. (o, refl); fresh = λ f. f }
-
-due_cls : (c : Closing) → has_cls c ≡ has_cls (close_due c)
-due_cls closing.No = refl
-due_cls c = refl
 
 pub called_less : (e : Entry) → IsLess e (called_off e)
 called_less e = record {
@@ -64,22 +60,12 @@ sent_less e = record {
 
 -- ---- what the CLS of a sending end finds sent
 
-due_only : (c : Closing) → is_due c ≡ true → has_cls c ≡ false
-due_only closing.No d = refl
-due_only closing.Due d = refl
-due_only closing.Queued d = absurd (let no : false ≡ true = d in cc)
-due_only closing.Sent d = absurd (let no : false ≡ true = d in cc)
-
-none_left : (bits : List Bool) → (length bits == 0) ≡ true → bits ≡ []
-none_left [] e = refl
-none_left (b ∷ bits) e = let no : length (b ∷ bits) ≡ 0 = eqb-true (length (b ∷ bits)) 0 e in absurd (omega (arith, no))
-
 must_drain : (busy : List ℕ) (e : Entry) → must_close busy e ≡ true → is_send_socket e.own ≡ true → (has_cls e.closing ≡ false) × (e.bits ≡ [])
 must_drain busy e must kind =
     let sends : is_receiving e ≡ false = odd_is e.own kind in
     let m : (is_due e.closing ≡ true) × (is_drained busy e ≡ true) = both (is_due e.closing) (is_drained busy e) must in
     let d : (length e.bits == 0 && is_answered busy e.link) ≡ true = sym (rw sends refl) ∙ m.1 in
-    (due_only e.closing m.0, none_left e.bits (both (length e.bits == 0) (is_answered busy e.link) d).0)
+    (due_open e.closing m.0, nil_from_length e.bits (eqb-true (length e.bits) 0 (both (length e.bits == 0) (is_answered busy e.link) d).0))
 
 pub closed_drains : (busy : List ℕ) (e : Entry) → Drains e (closed_when (must_close busy e) e)
 closed_drains busy e q r c f = by (must_close busy e) refl c where

@@ -1,11 +1,8 @@
 -- What a command or data of the peer does, at one socket of the host.
-use Rattle.world_keeps_lives.proofs.Common.{◌≡◌, ℕ, ◌+◌, ◌-◌, ◌≤◌, ◌<◌, ◌==◌, ◌&&◌, ◌||◌, Bool, true, false, not, nat_lt, if◌then◌else◌, List, [], ◌∷◌, find, length, take, Option, Some, None, is_some, refl, ap, sym, subst, ◌∙◌, arith, eqb-true, ltb-false, ltb-true, length-append, list_any, Host, same_host, spelling, data_bits, header_of, is_receive_socket, is_send_socket, Allocation, Command, DataHeader, answered_on, asked_on_link, asked_with_size, at_end, changed, cls_taken_by, gvb_taken, interrupted, matched_once, receiver_on, ret_taken, rts_heard, rts_taken, rts_taken_by, sender_on, str_heard, str_linked, str_taken_by, desk_taken, ERRONEOUS, NOT_CONNECTED, NO_SOCKET, error, arrived, arrived_if, data_found, data_of, data_taken, is_acceptable, spent, text_faulted, DeskState, listener_on, settled, swept, desk_told, closed_by_partner, entry_at, free_link, is_at, is_ending, is_link, is_mine_on, is_open, is_receiving, receiving_end, receives_on, refused_end, sending_end, sends_on, Entry, Listener, both, not_is, Life, Kept, all_told, carried, lives_at, where_it, receives, sends, AddsUp, EachOn, IsLifeOf, IsSafe, at_socket, has_opened}
-use Rattle.host_pairs.specs.Commands.{closed_once}
+use Rattle.world_keeps_lives.proofs.Common.{◌≡◌, ℕ, ◌-◌, ◌≤◌, ◌<◌, ◌==◌, ◌&&◌, Bool, true, false, not, nat_lt, if◌then◌else◌, List, [], ◌∷◌, find, length, Option, Some, None, is_some, refl, ap, sym, subst, ◌∙◌, arith, eqb-true, ltb-true, length-append, list_any, Host, same_host, spelling, data_bits, header_of, is_receive_socket, is_send_socket, Allocation, Command, DataHeader, answered_on, asked_on_link, asked_with_size, at_end, changed, cls_taken_by, gvb_taken, interrupted, matched_once, ret_taken, rts_heard, rts_taken, rts_taken_by, str_heard, str_linked, str_taken_by, desk_taken, ERRONEOUS, NOT_CONNECTED, NO_SOCKET, error, arrived, arrived_if, data_found, data_of, data_taken, is_acceptable, spent, text_faulted, DeskState, listener_on, settled, swept, desk_told, closed_by_partner, entry_at, free_link, is_at, is_ending, is_link, is_mine_on, is_open, is_receiving, receiving_end, receives_on, refused_end, sending_end, sends_on, Entry, Listener, both, not_is, Life, Kept, all_told, carried, lives_at, where_it, receives, sends, AddsUp, EachOn, IsLifeOf, IsSafe, at_socket, has_opened}
 use Rattle.std.proofs.Common.{nat_le}
 use Rattle.std.proofs.lemmas.Bool.{leb-true}
-use Rattle.std.proofs.lemmas.List.{length-drop, length-take-le}
 use Rattle.ncp_control.specs.Allocation as counters
-use Rattle.ncp_control.specs.DataHeader.{fields_of}
 use Rattle.ncp_control.specs.declared.command.Command.TheVariants as command
 use Rattle.host_pairs.specs.Commands as commands
 use Rattle.host_pairs.specs.Commands.{found_in, returned}
@@ -18,6 +15,7 @@ use Rattle.world_keeps_lives.proofs.Books.{each_here, each_weaker}
 use Rattle.world_keeps_lives.proofs.Desks.{At, Elsewhere, Near, Place, clash, open_mine, open_opened, own_is, own_off}
 use Rattle.world_keeps_lives.proofs.Steps.{Good, good_aside, good_changed, good_foreign, good_if, good_joined, good_less, good_opening, good_queued, good_quiet, good_settled, good_swept, heard_drains, heard_less, refuses_due}
 use Rattle.interface.proofs.lemmas.{and_none}
+use Rattle.host_keeps_streams.proofs.lemmas.{bits_there}
 
 -- ---- receiving ends and sending ones
 
@@ -64,22 +62,6 @@ sender_still p e c x t off i = record { peers = i.peers; foreign = i.foreign; ow
 
 covered : (bits : ℕ) (c : Allocation) → is_covered bits c ≡ true → (0 < c.messages) × (bits ≤ c.bits)
 covered bits c is = let h : (nat_lt 0 c.messages ≡ true) × (nat_le bits c.bits ≡ true) = both (nat_lt 0 c.messages) (nat_le bits c.bits) is in (ltb-true 0 c.messages h.0, leb-true bits c.bits h.1)
-
-abbrev header_or : DataHeader → Option DataHeader → DataHeader
-header_or d None = d
-header_or d (Some h) = h
-
--- a text with a header holds all the data that this announces
-data_whole : (text : List Bool) (h : DataHeader) → header_of text ≡ Some h → length (data_of (data_bits h) text) ≡ data_bits h
-data_whole text h is = by (nat_lt (length text) 40) (nat_lt (length text) (40 + data_bits (fields_of text))) refl refl is where
-  by : (b c : Bool) → nat_lt (length text) 40 ≡ b → nat_lt (length text) (40 + data_bits (fields_of text)) ≡ c → (if b || c then None else Some (fields_of text)) ≡ Some h → length (data_of (data_bits h) text) ≡ data_bits h
-  by true c e f g = absurd (cc)
-  by false true e f g = absurd (cc)
-  by false false e f g =
-      let same : fields_of text ≡ h = ap (header_or h) g in
-      let long : 40 + data_bits (fields_of text) ≤ length text = ltb-false (length text) (40 + data_bits (fields_of text)) f in
-      let many : 40 + data_bits h ≤ length text = subst (λ (f : DataHeader). 40 + data_bits f ≤ length text) same long in
-      length-drop 40 (take (40 + data_bits h) text) ∙ ap (λ (n : ℕ). n - 40) (length-take-le (40 + data_bits h) text many) ∙ omega arith
 
 -- a message is taken
 taken_safe : (x : Life) (t ds : List Bool) (bits : ℕ) (c : Allocation) → (sends x ≡ true → ⊥) → (0 < c.messages) × (bits ≤ c.bits) → length ds ≡ bits → AddsUp x c → IsSafe x t → IsSafe (carried ds x) t
@@ -264,7 +246,7 @@ module _ (a : Host) (k : ℕ) (m : Place) (p : Host) (k0 : Kept) where
     by true fits =
         let ok : (0 < e.allocation.messages) × (data_bits g ≤ e.allocation.bits) = covered (data_bits g) e.allocation (both (is_size g.size e.size) (is_covered (data_bits g) e.allocation) fits).1 in
         let ds : List Bool = data_of (data_bits g) text in
-        let whole : length ds ≡ data_bits g = data_whole text g headed in
+        let whole : length ds ≡ data_bits g = bits_there text g headed in
         good_changed a k m p k0 (receives_on link) (spent (data_bits g)) (notice.Arrived e.own ds ∷ []) d e f refl (λ e r. r)
         (λ is l κ i. at_here a k m p (carried ds) e (spent (data_bits g) e) l κ (all_told a (notice.Arrived e.own ds ∷ []) κ) is (open_opened e o) (λ x. refl)
         (λ x t there s j. let off : sends x ≡ true → ⊥ = λ q. life_sends a k ⊥ e x is there (receiving_found link d e f) q in

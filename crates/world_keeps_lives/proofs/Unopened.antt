@@ -1,6 +1,7 @@
 -- No end opens of which a CLS was queued or taken: so no life begins then.
-use Rattle.world_keeps_lives.proofs.Common.{◌≡◌, ◌⊎◌, inl, inr, ℕ, ◌||◌, Bool, List, ◌∷◌, None, refl, ap, sym, subst, ◌∙◌, Contains, Host, HostMessage, Command, Order, has_cls, is_ending, Parcel, Entry, Notice, pair_with, HaveAddresses, Asked, Crossed, IsNext, IsStory, Moment, places, program, IsTimeline, crossings_of, host_in, notices_by, queued_commands}
+use Rattle.world_keeps_lives.proofs.Common.{◌≡◌, ◌⊎◌, inl, inr, ℕ, Bool, List, ◌∷◌, None, refl, ap, sym, subst, ◌∙◌, Contains, Host, HostMessage, Command, Order, has_cls, is_ending, Parcel, Entry, Notice, pair_with, HaveAddresses, Asked, Crossed, IsNext, IsStory, Moment, places, program, IsTimeline, crossings_of, host_in, notices_by, queued_commands}
 use Rattle.std.proofs.Common.{true, false}
+use Rattle.std.proofs.lemmas.Bool.{or_right}
 use Rattle.interface.specs.Mailboxes as mail
 use Rattle.interface.specs.declared.crossing.Crossing.TheVariants as crossing
 use Rattle.host_pairs.specs.Parcels as parcel
@@ -14,16 +15,12 @@ abbrev pub IsNoOpening : Host → ℕ → ℕ → Notice → Type 0
 IsNoOpening p own foreign (notice.Opened s q f a b) = q ≡ p → s ≡ own → f ≡ foreign → ⊥
 IsNoOpening p own foreign n = Unit {0}
 
-or_true : (v : Bool) → (v || true) ≡ true
-or_true true = refl
-or_true false = refl
-
 -- an end that is ending stays so
 ending_still : (e f : Entry) → Quiet e f → is_ending e ≡ true → is_ending f ≡ true
 ending_still e f q h = by (has_cls e.closing) e.partner_closed refl refl where
   by : (v w : Bool) → has_cls e.closing ≡ v → e.partner_closed ≡ w → is_ending f ≡ true
   by true w g k = let t : has_cls f.closing ≡ true = q.closing g in rw t refl
-  by false true g k = let t : f.partner_closed ≡ true = q.off k in rw t (or_true (has_cls f.closing))
+  by false true g k = let t : f.partner_closed ≡ true = q.off k in rw t (or_right (has_cls f.closing) true refl)
   by false false g k = let none : is_ending e ≡ false = (rw (g, k) refl) in no (is_ending e) h none
 
 module _ (p : Host) (own foreign : ℕ) where

@@ -87,7 +87,7 @@ some_name : (x : book.Life) (o : Option ℕ) → IsSome o → IsSome (named x o)
 some_name x None i = absurd (let no_place : false ≡ true = i in cc)
 some_name x (Some place) i = refl
 
-other_sends : (x : book.Life) → receives x ≡ true → ArePaired x → is_send_socket x.foreign ≡ true
+pub other_sends : (x : book.Life) → receives x ≡ true → ArePaired x → is_send_socket x.foreign ≡ true
 other_sends x here (inl p) = p.1
 other_sends x here (inr p) = absurd (even_odd x.socket here p.0)
 

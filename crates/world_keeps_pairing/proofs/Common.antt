@@ -53,7 +53,7 @@ pub use Rattle.reset_law.specs.Events.{Event, In, Message, Other, Out, Reply, Re
 pub use Rattle.reset_law.specs.Pairs.{Pair, pair}
 pub use Rattle.sockets.proofs.lemmas.{answer_about, message_about, message_leaves, next_is, next_pair, offer_about, offer_leaves}
 pub use Rattle.sockets.specs.Accepting.{accepted, turn_of}
-pub use Rattle.sockets.specs.Pairs.{NcpState, opening_state, pair_with, with_pair}
+pub use Rattle.sockets.specs.Pairs.{NcpState, opening_state, pair_with}
 pub use Rattle.sockets.specs.Requests.{refusal, served}
 pub use Rattle.sockets.specs.Sending.{next_in, offered}
 pub use Rattle.sockets.specs.declared.peer.Peer.{Peer}

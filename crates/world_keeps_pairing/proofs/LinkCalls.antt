@@ -1,5 +1,5 @@
 -- What users ask for and what is answered, and links.
-use Rattle.world_keeps_pairing.proofs.Common.{◌≡◌, ℕ, Bool, true, false, not, ◌&&◌, ◌||◌, if◌then◌else◌, List, [], ◌∷◌, ◌++◌, Option, Some, None, is_some, refl, sym, subst, ◌∙◌, Host, same_host, Flow, Answer, same_host-true, is_receive_socket, is_send_socket, Command, desk_of, entry_at, free_link, is_receiving, receiving_end, sending_end, PairState, link_of, is_ready, TurnState, Entry, Phase, turn_of, NcpState, pair_with, with_pair, Peer, Request}
+use Rattle.world_keeps_pairing.proofs.Common.{◌≡◌, ℕ, Bool, true, false, not, ◌&&◌, ◌||◌, if◌then◌else◌, List, [], ◌∷◌, ◌++◌, Option, Some, None, is_some, refl, sym, subst, ◌∙◌, Host, same_host, Flow, Answer, same_host-true, is_receive_socket, is_send_socket, Command, desk_of, entry_at, free_link, is_receiving, receiving_end, sending_end, PairState, link_of, is_ready, TurnState, Entry, Phase, turn_of, NcpState, pair_with, Peer, Request}
 use Rattle.interface.specs.declared.crossing.Answer.TheVariants as answer
 use Rattle.interface.specs.declared.crossing.Inbound.TheVariants as inbound
 use Rattle.interface.proofs.lemmas.{or_false, not_false}
@@ -12,13 +12,13 @@ use Rattle.host_pairs.specs.Turn.{answered_turn, failed, failed_by, freed, is_go
 use Rattle.ncp_control.specs.declared.phase.Phase.TheVariants as phase
 use Rattle.host_pairs.proofs.lemmas.{both}
 use Rattle.sockets.specs.Accepting.{accepted, accepted_answer}
-use Rattle.sockets.specs.Pairs.{owner_of}
+use Rattle.sockets.specs.Pairs.{owner_of, with_pair}
 use Rattle.sockets.specs.Requests.{at_owner, closed_socket, first_if, is_taken, is_used, refusal, served}
 use Rattle.sockets.specs.declared.request.Request.TheVariants as request
 use Rattle.sockets.proofs.lemmas.{not_first, others_stay}
-use Rattle.host_keeps_pairing.proofs.lemmas.{peer_here}
+use Rattle.host_keeps_pairing.proofs.lemmas.{peer_here, none_is}
 use Rattle.world_keeps_pairing.proofs.Claims.{Claim}
-use Rattle.world_keeps_pairing.proofs.LinkDesks.{linked_settled, receiver_joined, off_link}
+use Rattle.world_keeps_pairing.proofs.LinkDesks.{linked_settled, receiver_joined, and_never}
 use Rattle.world_keeps_pairing.proofs.LinkTurns.{send_odd}
 use Rattle.world_keeps_pairing.proofs.Local.{IsQuiet, Links, all_claims, claim_of, claims_join, links_changed, links_joined}
 
@@ -33,10 +33,6 @@ kept P g h q peers p work = by (same_host h g) refl where
   by : (b : Bool) → same_host h g ≡ b → P (pair_with h (with_pair g q peers))
   by true e = peer_here P g h q peers e (work (subst (λ (x : Host). P (pair_with x peers)) (same_host-true h g e) p))
   by false e = subst P (sym (others_stay g h q peers e)) p
-
-none_is : (o : Option Entry) → is_some o ≡ false → o ≡ None
-none_is None e = refl
-none_is (Some x) e = absurd (let no : true ≡ false = e in cc)
 
 module _ (said taken : List Claim) where
   -- a command that is no RTS is queued
@@ -53,8 +49,8 @@ module _ (said taken : List Claim) where
   sender_links : (a b size : ℕ) (q : PairState) → is_send_socket a ≡ true → LinksOf said taken q → LinksOf said taken (requested (sending_end a b size) (command.Str a b size) q)
   sender_links a b size q odd h =
       subst (λ (claims : List Claim). Links claims taken (q.entries ++ sending_end a b size ∷ [])) (sym (claims_join q.queue (command.Str a b size ∷ []) said))
-      (links_joined (all_claims q.queue said) taken (sending_end a b size) q.entries (λ l on. absurd (off_link (not (is_receive_socket a)) on)) (λ even mine. absurd (let no : true ≡ false = sym even ∙ send_odd a odd in cc)) (λ asked. refl)
-      (λ l on. absurd (off_link (is_receive_socket a) on)) h)
+      (links_joined (all_claims q.queue said) taken (sending_end a b size) q.entries (λ l on. absurd (and_never (not (is_receive_socket a)) on)) (λ even mine. absurd (let no : true ≡ false = sym even ∙ send_odd a odd in cc)) (λ asked. refl)
+      (λ l on. absurd (and_never (is_receive_socket a) on)) h)
 
   receiver_links : (a b : ℕ) (l : Option ℕ) (q : PairState) → is_receive_socket a ≡ true → is_send_socket b ≡ true → free_link q.entries ≡ l → entry_at a b q.entries ≡ None → LinksOf said taken q → LinksOf said taken (receiver_requested a b l q)
   receiver_links a b None q even odd free none h = h

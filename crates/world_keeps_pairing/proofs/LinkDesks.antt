@@ -27,9 +27,9 @@ cls_claims : (es : List Entry) (claims : List Claim) → all_claims (map cls_of 
 cls_claims [] claims = refl
 cls_claims (e ∷ es) claims = cls_claims es claims
 
-pub off_link : (b : Bool) → (b && false) ≡ true → ⊥
-off_link true e = absurd (let both : false ≡ true = e in cc)
-off_link false e = absurd (let both : false ≡ true = e in cc)
+pub and_never : (b : Bool) → (b && false) ≡ true → ⊥
+and_never true e = absurd (let both : false ≡ true = e in cc)
+and_never false e = absurd (let both : false ≡ true = e in cc)
 
 find_some : (test : ℕ → Bool) (xs : List ℕ) (x : ℕ) → find test xs ≡ Some x → test x ≡ true
 find_some test [] x e = absurd (let both : None ≡ Some x = e in cc)
@@ -65,8 +65,8 @@ module _ (said taken_claims : List Claim) where
   -- an end that is refused has no link
   refused_joined : (own foreign stamp : ℕ) (claims taken : List Claim) (es : List Entry) → Links claims taken es → Links claims taken (es ++ refused_end own foreign stamp ∷ [])
   refused_joined own foreign stamp claims taken es h =
-      links_joined claims taken (refused_end own foreign stamp) es (λ l on. absurd (off_link (not (is_receive_socket own)) on)) (λ even mine. absurd (let both : false ≡ true = mine in cc)) (λ asked. absurd (let both : false ≡ true = asked in cc))
-      (λ l on. absurd (off_link (is_receive_socket own) on)) h
+      links_joined claims taken (refused_end own foreign stamp) es (λ l on. absurd (and_never (not (is_receive_socket own)) on)) (λ even mine. absurd (let both : false ≡ true = mine in cc)) (λ asked. absurd (let both : false ≡ true = asked in cc))
+      (λ l on. absurd (and_never (is_receive_socket own) on)) h
 
   linked_refused : (own foreign stamp : ℕ) (d : DeskState) → Linked said taken_claims d → Linked said taken_claims (commands.refused own foreign stamp d)
   linked_refused own foreign stamp d h =

@@ -1,5 +1,5 @@
 -- A message that goes out, and links: each RTS in it names one that no receiving end has.
-use Rattle.world_keeps_pairing.proofs.Common.{◌≡◌, ◌⊎◌, inl, inr, ℕ, ◌==◌, Bool, true, ◌&&◌, if◌then◌else◌, List, [], ◌∷◌, ◌++◌, map, Option, Some, None, is_some, refl, ap, sym, subst, ◌∙◌, eq-eqb, eqb-true, append_assoc, list_any, is_receive_socket, is_send_socket, Command, is_at, is_link, receives_on, Closing, Entry, mark_of, marks, Stand, Standing, close_waits, request_due, standing, at_one, eqb-sym, live_end, End, nothing, Mark, Ask, Close, Sockets, Word, Receiver, Step, receiver, said_words, IsAmong, AreSteps}
+use Rattle.world_keeps_pairing.proofs.Common.{◌≡◌, ◌⊎◌, inl, inr, ℕ, ◌==◌, Bool, true, ◌&&◌, if◌then◌else◌, List, [], ◌∷◌, ◌++◌, map, Option, Some, None, is_some, refl, ap, sym, subst, ◌∙◌, eq-eqb, append_assoc, list_any, is_receive_socket, is_send_socket, Command, is_at, is_link, receives_on, Closing, Entry, mark_of, marks, Stand, Standing, close_waits, request_due, standing, at_one, eqb-sym, live_end, End, nothing, Mark, Ask, Close, Sockets, Word, Receiver, Step, receiver, said_words, IsAmong, AreSteps}
 use Rattle.std.proofs.Common.{false}
 use Rattle.ncp_control.specs.declared.command.Command.TheVariants as command
 use Rattle.host_pairs.specs.declared.entry.Closing.TheVariants as closing
@@ -10,7 +10,7 @@ use Rattle.world_keeps_pairing.proofs.Claims.{Claim, asked_last, last_link, said
 use Rattle.world_keeps_pairing.proofs.LinkTurns.{Split, any_split, each_split, stands_alone}
 use Rattle.world_keeps_pairing.proofs.Local.{AllOff, AsksOwn, claim_first, Each, Links, One, ReceivesBy, all_claims, claim_of}
 use Rattle.world_keeps_pairing.proofs.Marks.{AllPairs, IsPair}
-use Rattle.world_keeps_pairing.proofs.Local.{at_sockets}
+use Rattle.host_keeps_pairing.proofs.lemmas.{sockets_of}
 
 -- ---- what waits of an end that has asked
 
@@ -160,7 +160,7 @@ module _ (origin : ℕ → ℕ) where
       let none : NoAsk (marks 0 s.receive s.send (command.Rts r n l ∷ rest)) =
       subst NoAsk (sym (asks.stand.1 ∙ ap (λ (o : Option ℕ). request_due 0 asks.end.mine o ++ close_waits asks.end.closing) asked)) (asked_none asks.end.mine named.0 asks.end.closing) in
       let last : last_link s (all_claims (command.Rts r n l ∷ rest) (said_claims xs)) ≡ Some l = last_same s (command.Rts r n l ∷ rest) (said_claims xs) (said_claims xs) refl none ∙ asked_last s xs steps named.0 l (named.1, named.2) in
-      let s_is : (asks.end.own ≡ s.receive) × (asks.end.foreign ≡ s.send) = at_sockets s.receive s.send asks.end asks.here in
+      let s_is : (asks.end.own ≡ s.receive) × (asks.end.foreign ≡ s.send) = sockets_of s.receive s.send asks.end asks.here in
       let owns : asks.end.mine ≡ true = each_split AsksOwn asks.front asks.end asks.rest (subst (λ (k : List Entry). Each AsksOwn k) asks.is h.own) (ap (λ (o : Option ℕ). is_some o) asked) in
       let even_e : is_receive_socket asks.end.own ≡ true = ap is_receive_socket s_is.0 ∙ q.0 in
       let one : is_link l asks.end.link ≡ true =
@@ -180,7 +180,7 @@ module _ (origin : ℕ → ℕ) where
       ap (λ (b : Bool). last_link (record { receive = r; send = n }) (if b then record { sockets = record { receive = r; send = n }; link = l } ∷ said_claims xs else said_claims xs)) good ∙ claim_first (record { receive = r; send = n }) l (said_claims xs) in
       let later : last_link (record { receive = r; send = n }) (all_claims (command.Rts r n l ∷ rest) (said_claims xs)) ≡ Some l =
       last_same (record { receive = r; send = n }) rest (claim_of (command.Rts r n l) (said_claims xs)) (claim_of (command.Rts r n l) (said_claims xs)) refl d.none ∙ first in
-      let t_is : (goes.end.own ≡ r) × (goes.end.foreign ≡ n) = at_sockets r n goes.end goes.here in
+      let t_is : (goes.end.own ≡ r) × (goes.end.foreign ≡ n) = sockets_of r n goes.end goes.here in
       let even_f : is_receive_socket goes.end.own ≡ true = ap is_receive_socket t_is.0 ∙ even in
       let two : is_link l goes.end.link ≡ true =
       each_split (ReceivesBy (all_claims (command.Rts r n l ∷ rest) (said_claims xs))) goes.front goes.end goes.rest (subst (λ (k : List Entry). Each (ReceivesBy (all_claims (command.Rts r n l ∷ rest) (said_claims xs))) k) goes.is h.names) even_f d.own l

@@ -10,9 +10,10 @@ use Rattle.world_keeps_pairing.proofs.Claims.{Claim, said_claims}
 use Rattle.world_keeps_pairing.proofs.LinkGoes.{Receives, is_free, mine_by}
 use Rattle.world_keeps_pairing.proofs.LinkTurns.{one_at}
 use Rattle.world_keeps_pairing.proofs.Local.{Links, all_claims, claim_of, links_asked, links_changed, links_filter}
-use Rattle.world_keeps_pairing.proofs.Marks.{AllPairs, IsPair, at_join, order_at, order_pairs}
+use Rattle.world_keeps_pairing.proofs.Marks.{AllPairs, IsPair, order_at, order_pairs}
 use Rattle.world_keeps_pairing.proofs.Moves.{receiver_speaks, says_end}
 use Rattle.world_keeps_pairing.proofs.Sides.{all_says, receiver_says}
+use Rattle.pairing_law.proofs.lemmas.{at_join}
 
 -- ---- lists of marks and words
 

@@ -1,16 +1,14 @@
 -- Two programs with all that crosses between them: links are free, and all is tied to the law.
-use Rattle.world_keeps_pairing.proofs.Common.{◌≡◌, ℕ, ◌==◌, Bool, true, false, ◌&&◌, if◌then◌else◌, List, [], ◌∷◌, Some, refl, ap, sym, subst, ◌∙◌, Host, same_host, HostMessage, same_host-refl, same_host-true, Order, orders_of, data_taken, desk_of, PairState, Parcel, link_for, pair_after, parcel_gone, text_for, TurnState, orders_taken, with_desk, IsRanged, offer_read, pair_range, text_good, MayAllGo, marks, HasEnd, Stand, AreFree, AreJoint, eqb-sym, turn_of, NcpState, pair_with, with_pair, next_in, Peer, next_is, next_pair, End, Side, AreSteps, Receiver, Sender, Sockets, Step, Word, receiver, said_words, placed_event, tagged, with_place, Event, Message, Other, Out, Reply, Reset, are, place, In, pair, Agrees, event_of, message_on, IsApart, Crossed, IsNext, IsStory, Moment, events_of, places, program, program_own, story_agrees, NameFree, TakesFreeAt, law_events, all_heard, all_said, heard_in, onto, steps, words_by, words_of, Waiting, boxes}
-use Rattle.std.proofs.Common.{cond}
+use Rattle.world_keeps_pairing.proofs.Common.{◌≡◌, ℕ, ◌==◌, Bool, true, false, ◌&&◌, if◌then◌else◌, List, [], ◌∷◌, Some, refl, ap, sym, subst, ◌∙◌, Host, same_host, HostMessage, same_host-refl, same_host-true, Order, orders_of, data_taken, desk_of, PairState, Parcel, link_for, pair_after, parcel_gone, text_for, TurnState, orders_taken, with_desk, IsRanged, offer_read, pair_range, text_good, MayAllGo, marks, HasEnd, Stand, AreFree, AreJoint, eqb-sym, turn_of, NcpState, pair_with, next_in, Peer, next_is, next_pair, End, Side, AreSteps, Receiver, Sender, Sockets, Step, Word, receiver, said_words, placed_event, tagged, with_place, Event, Message, Other, Out, Reply, Reset, are, place, In, pair, Agrees, event_of, message_on, IsApart, Crossed, IsNext, IsStory, Moment, events_of, places, program, program_own, story_agrees, NameFree, TakesFreeAt, law_events, all_heard, all_said, heard_in, onto, steps, words_by, words_of, Waiting, boxes}
 use Rattle.interface.specs.declared.crossing.Crossing.TheVariants as crossing
 use Rattle.interface.specs.declared.crossing.Inbound.TheVariants as inbound
 use Rattle.ncp_control.specs.Phases as phases
 use Rattle.host_pairs.specs.Turn.{if_ready, message_taken}
 use Rattle.host_keeps_ranges.specs.Ranges as ranges
 use Rattle.host_keeps_pairing.specs.Ends.{at}
-use Rattle.host_keeps_pairing.proofs.lemmas.{orders_idle}
+use Rattle.host_keeps_pairing.proofs.lemmas.{orders_idle, put}
 use Rattle.sockets.specs.Accepting.{accepted, accepted_message}
 use Rattle.sockets.specs.Sending.{offered}
-use Rattle.sockets.proofs.lemmas.{pair_changed}
 use Rattle.pairing_law.proofs.lemmas.Seen as words
 use Rattle.reset_law.specs.Runs.{IsRun}
 use Rattle.reset_law.specs.Stays as stay
@@ -40,9 +38,6 @@ onto_pairs (w ∷ ws) base h k = onto_pairs ws (w ∷ base) h.1 (h.0, k)
 said_are : (a b : Host) (events : List Event) → AllPairs (said_words Receiver (steps a b events))
 said_are a b events =
     subst AllPairs (sym (ap (λ (v : View). v.receiver_said) (same_view a b events))) (onto_pairs (words_of Receiver (stay.said_in_stay a b 0 events)) [] (texts_pairs Receiver (stay.said_in_stay a b 0 events)) tt)
-
-put : (g : Host) (q : PairState) (peers : List Peer) → pair_with g (with_pair g q peers) ≡ q
-put g q peers = pair_changed g g q peers ∙ ap (λ (b : Bool). cond b q (pair_with g peers)) (same_host-refl g)
 
 pub offered_pair : (s : NcpState) (stamp : ℕ) (g : Peer) (x : Parcel) → next_in s.peers ≡ Some (g, x) → pair_with g.host (offered s stamp).0.peers ≡ pair_after x g.pair (parcel_gone g.host stamp g.pair.busy x (desk_of g.pair s.listening))
 unfolding offered

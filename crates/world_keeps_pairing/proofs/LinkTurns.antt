@@ -101,7 +101,7 @@ own_at e = ap (λ (b : Bool). b && e.foreign == e.foreign) (eq-eqb e.own e.own r
 end_partner : (origin : ℕ → ℕ) (place : ℕ) (e : Entry) (ws : List Mark) (x : End) (n : ℕ) → Stand true origin place (standing e ∷ []) ws x → e.partner ≡ Some n → x.partner ≡ Some (origin n)
 end_partner origin place e ws x n h is = ap (λ (y : End). y.partner) (h.2 ∙ live_end origin (standing e) (h.0.live refl)) ∙ ap (came_from origin) is
 
-some_is : (o : Option ℕ) → is_some o ≡ true → (n : ℕ) × (o ≡ Some n)
+pub some_is : (o : Option ℕ) → is_some o ≡ true → (n : ℕ) × (o ≡ Some n)
 some_is None e = absurd (let both : false ≡ true = e in cc)
 some_is (Some n) e = (n, refl)
 

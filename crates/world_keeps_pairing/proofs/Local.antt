@@ -5,6 +5,7 @@ use Rattle.ncp_control.specs.declared.command.Command.TheVariants as command
 use Rattle.host_pairs.specs.Entries.{changed_first}
 use Rattle.host_pairs.proofs.lemmas.{both}
 use Rattle.world_keeps_pairing.proofs.Claims.{Claim, last_link}
+use Rattle.host_keeps_pairing.proofs.lemmas.{sockets_of}
 
 -- ---- requests that wait
 
@@ -279,9 +280,6 @@ each_first Q R test change (e ∷ es) one here there h = by (test e) refl (λ k.
       (here e t h.0, each_both (λ x. test x ≡ false) Q R es (λ x f k. there x f k) (off_each test es off) h.1)
   by false t rest = let more : One (map test es) = rw t at one in (there e t h.0, rest more)
 
-pub at_sockets : (own foreign : ℕ) (e : Entry) → is_at own foreign e ≡ true → (e.own ≡ own) × (e.foreign ≡ foreign)
-at_sockets own foreign e t = let h : ((e.own == own) ≡ true) × ((e.foreign == foreign) ≡ true) = both (e.own == own) (e.foreign == foreign) t in (eqb-true e.own own h.0, eqb-true e.foreign foreign h.1)
-
 link_same : (l link : ℕ) (own : Bool) → (own && is_link l (Some link)) ≡ true → Some link ≡ Some l
 link_same l link own t = ap (λ (n : ℕ). Some n) (eqb-true link l (both own (link == l) t).1)
 
@@ -294,7 +292,7 @@ pub links_linked : (said taken : List Claim) (own foreign link : ℕ) (change : 
     → One (map (is_at own foreign) es) → Links said taken es → Links said (record { sockets = record { receive = foreign; send = own }; link = link } ∷ taken) (changed_at own foreign change es)
 links_linked said taken own foreign link change es odd even is one h = record {
   sends = each_first (SendsBy taken) (SendsBy (record { sockets = record { receive = foreign; send = own }; link = link } ∷ taken)) (is_at own foreign) change es one
-      (λ e t k l on. (let s : (e.own ≡ own) × (e.foreign ≡ foreign) = at_sockets own foreign e t in
+      (λ e t k l on. (let s : (e.own ≡ own) × (e.foreign ≡ foreign) = sockets_of own foreign e t in
       let o : (change e).own ≡ own = (is e).0 ∙ s.0 in
       let f : (change e).foreign ≡ foreign = (is e).1 ∙ s.1 in
       let there : (not (is_receive_socket (change e).own) && is_link l (Some link)) ≡ true = ap (λ (x : Option ℕ). not (is_receive_socket (change e).own) && is_link l x) (sym (is e).2) ∙ on in (
@@ -313,11 +311,11 @@ links_linked said taken own foreign link change es odd even is one h = record {
         j.2,
       ))) h.sends;
   names = each_changed (ReceivesBy said) (is_at own foreign) change es
-      (λ e t k on. absurd (let both : true ≡ false = sym on ∙ ap is_receive_socket ((is e).0 ∙ (at_sockets own foreign e t).0) ∙ odd in cc)) h.names;
+      (λ e t k on. absurd (let both : true ≡ false = sym on ∙ ap is_receive_socket ((is e).0 ∙ (sockets_of own foreign e t).0) ∙ odd in cc)) h.names;
   own = each_changed AsksOwn (is_at own foreign) change es (λ e t k asked. (is e).5 ∙ k (ap (λ (o : Option ℕ). is_some o) (sym (is e).4) ∙ asked)) h.own;
   single = λ l. subst One (sym (flags_changed (receives_on l) (is_at own foreign) change es
-      (λ e t. (let o : (change e).own ≡ own = (is e).0 ∙ (at_sockets own foreign e t).0 in
-      ap (λ (b : Bool). b && is_link l (change e).link) (ap is_receive_socket o ∙ odd) ∙ sym (ap (λ (b : Bool). b && is_link l e.link) (ap is_receive_socket (at_sockets own foreign e t).0 ∙ odd)))))) (h.single l);
+      (λ e t. (let o : (change e).own ≡ own = (is e).0 ∙ (sockets_of own foreign e t).0 in
+      ap (λ (b : Bool). b && is_link l (change e).link) (ap is_receive_socket o ∙ odd) ∙ sym (ap (λ (b : Bool). b && is_link l e.link) (ap is_receive_socket (sockets_of own foreign e t).0 ∙ odd)))))) (h.single l);
 }
 
 -- a request goes out for an end that is this host's own

@@ -1,8 +1,8 @@
 -- What orders say at one pair of sockets, by words and by marks.
-use Rattle.world_keeps_pairing.proofs.Common.{◌≡◌, ℕ, ◌%◌, ◌==◌, Bool, true, false, ◌&&◌, if◌then◌else◌, List, [], ◌∷◌, ◌++◌, refl, ap, sym, ◌∙◌, arith, eqb-true, append-nil, is_receive_socket, is_send_socket, Order, Legal, Wrong, orders_of, IsOrder, AreOrders, text_good, mark_in, marks_in, untagged, eqb-sym, untagged_is, Mark, Ask, Close, tagged, Sockets, same, Word, Who, Receiver, Sender, put, word_by, words_by, words_of}
+use Rattle.world_keeps_pairing.proofs.Common.{◌≡◌, ℕ, ◌%◌, ◌==◌, Bool, true, false, ◌&&◌, if◌then◌else◌, List, [], ◌∷◌, ◌++◌, refl, ap, sym, ◌∙◌, arith, eqb-true, append-nil, is_receive_socket, is_send_socket, Order, Legal, Wrong, orders_of, IsOrder, AreOrders, text_good, mark_in, marks_in, untagged, eqb-sym, untagged_is, Mark, Ask, Close, tagged, Sockets, Word, Who, Receiver, Sender, word_by, words_by, words_of}
 use Rattle.ncp_control.specs.declared.command.Command.TheVariants as command
 use Rattle.host_pairs.proofs.lemmas.{both}
-use Rattle.pairing_law.proofs.lemmas.{at}
+use Rattle.pairing_law.proofs.lemmas.{at, at_join}
 use Rattle.world_keeps_pairing.specs.Steps.{word}
 use Rattle.world_keeps_pairing.proofs.Sides.{at_texts}
 use Rattle.interface.proofs.lemmas.{and_turned}
@@ -29,13 +29,6 @@ apart_by m n a b never false e = refl
 
 apart : (m n a b : ℕ) → (m ≡ a → ⊥) → (m == a && n == b) ≡ false
 apart m n a b never = apart_by m n a b never (m == a && n == b) refl
-
-pub at_join : (s : Sockets) (xs ys : List Word) → at s (xs ++ ys) ≡ at s xs ++ at s ys
-at_join s [] ys = refl
-at_join s (w ∷ xs) ys = by (same s w.sockets) (at_join s xs ys) where
-  by : (b : Bool) → at s (xs ++ ys) ≡ at s xs ++ at s ys → put b w.mark (at s (xs ++ ys)) ≡ put b w.mark (at s xs) ++ at s ys
-  by true h = ap (λ (l : List Mark). w.mark ∷ l) h
-  by false h = h
 
 module _ (s : Sockets) (pair : IsPair s) where
   word_at : (r n link : ℕ) (m : Mark) (b c : Bool) → (is_receive_socket r && is_send_socket n) ≡ b → (r == s.receive && n == s.send) ≡ c

@@ -9,17 +9,13 @@ use Rattle.ncp_control.specs.declared.phase.Phase as host
 use Rattle.ncp_control.specs.declared.phase.Phase.TheVariants as phase
 use Rattle.reset_law.specs.Runs.{IsRun}
 use Rattle.reset_law.specs.Stays as stay
-use Rattle.reset_law.proofs.lemmas.{stays_ready}
+use Rattle.reset_law.proofs.lemmas.{stays_ready, ready_phase}
 use Rattle.world_keeps_pairing.proofs.Sides.{all_hears, at_texts, before, hears_if, met_if}
 use Rattle.world_keeps_pairing.proofs.Marks.{IsPair, foreign_of, own_of}
 use Rattle.world_keeps_pairing.proofs.Moves.{hears_end}
 use Rattle.world_keeps_pairing.proofs.Programs.{AnRrp, AnRst, AText, Has, Sort, after_text, in_has, plain_joint, sort_of}
 use Rattle.world_keeps_pairing.proofs.Turns.{IsQuiet, heard_is, other, ready_is, tie_by, tie_quiet, tie_reset}
 use Rattle.world_keeps_pairing.proofs.Moments.{Side_of, Tie, in_away, waiting}
-
-ready_phase : (ph : host.Phase) → program_phases.is_ready ph ≡ true → ph ≡ phase.Ready
-ready_phase phase.Ready e = refl
-ready_phase ph e = absurd (let both : false ≡ true = e in cc)
 
 pub are_same : (x y : Host) → are x y x y ≡ true
 are_same x y = ap (λ (b : Bool). b && same_host y y) (same_host-refl x) ∙ same_host-refl y

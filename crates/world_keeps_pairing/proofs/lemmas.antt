@@ -1,10 +1,12 @@
 -- The lemmas of this crate that others may use: the proofs of headline, world_keeps_connections, world_keeps_lives and world_keeps_streams do. All others in proofs/ are its own.
 pub use Rattle.world_keeps_pairing.proofs.BookPartners.{life_in, life_matches, life_paired, one_own, partner_named, place_there, safe_partners}
+pub use Rattle.world_keeps_pairing.proofs.BookPartners.{other_sends}
 pub use Rattle.world_keeps_pairing.proofs.LifeLists.{between_itself, in_among, told_in}
+pub use Rattle.world_keeps_pairing.proofs.LinkDesks.{and_never}
 pub use Rattle.world_keeps_pairing.proofs.LinkGone.{some_commands}
 pub use Rattle.world_keeps_pairing.proofs.LinkRun.{AllTied, all_tied, heard_off_in, queued_commands, queued_link, queued_once, takes}
 pub use Rattle.world_keeps_pairing.proofs.LinkTied.{message_pair, offered_pair}
-pub use Rattle.world_keeps_pairing.proofs.LinkTurns.{odd_send, send_odd}
+pub use Rattle.world_keeps_pairing.proofs.LinkTurns.{odd_send, send_odd, some_is}
 pub use Rattle.world_keeps_pairing.proofs.LivesAmong.{by_sockets, lives_among}
 pub use Rattle.world_keeps_pairing.proofs.Marks.{IsPair, even_odd, foreign_of, own_of}
 pub use Rattle.world_keeps_pairing.proofs.Messages.{Hears, IsFrom, are_same}

@@ -59,7 +59,7 @@ pub use Rattle.net_sim.specs.World.{WorldState}
 pub use Rattle.net_sim.specs.declared.seat.Seat.{Seat}
 pub use Rattle.pair_keeps_streams.proofs.lemmas.{AreSeparate, Fetched, Free, IsAsking, IsFirst, IsHeard, IsPaired, IsPairedCall, IsPosted, IsWordless, Joint, Lies, NotTaken, OfOne, Party, Post, Stepped, Steps, all_steps, mirror, opened, queue_by, receives_receiver, receives_sender, sends_receiver, sends_sender, separate, x_after, y_after}
 pub use Rattle.pair_keeps_streams.specs.Words.{counted, has_heard, heard_from}
-pub use Rattle.pairing_law.proofs.lemmas.{Fresh, Half, Joined, Stands, Stood, asks_once, asks_said, begins_fresh, count, every_in, from_asks, pair_same, run_at, stays_same, takes_in_stay}
+pub use Rattle.pairing_law.proofs.lemmas.{Fresh, Half, Joined, Stands, Stood, asks_once, asks_said, begins_fresh, count, every_in, from_asks, run_at, stays_same, takes_in_stay}
 pub use Rattle.pairing_law.specs.Ends.{End, fits, is_begun, mark_taken}
 pub use Rattle.pairing_law.specs.Links.{Sockets, Who, events_at, receiver, sender}
 pub use Rattle.pairing_law.specs.Marks.{Ask, Asks, Close, Mark}
@@ -103,7 +103,7 @@ pub use Rattle.world_keeps_lives.specs.Lives.{AreRefusing, HasOpenEnd, IsLifeOf,
 pub use Rattle.world_keeps_lives.specs.WorkedFormed.{gave, sent_log}
 pub use Rattle.world_keeps_pairing.proofs.lemmas.{AText, AllBare, AllTied, AnRrp, AnRst, AreOrigins, IsUnpaired, Side_of, Sort, Tie, all_bare, all_hears, all_says, all_tied, are_origins, at_texts, book_lives, book_run, even_odd, foreign_of, half, heard_is, hears_if, left_if, life_in, life_paired, mail_below, message_pair, met_if, odd_send, offered_pair, other, own_of, plain_joint, programs_ranged, receiver_half, safe_partners, send_odd, sender_half, served_in, sort_of, takes, waiting}
 pub use Rattle.world_keeps_pairing.specs.Free.{TakesFreeAt, law_events, origin_in, place_or}
-pub use Rattle.world_keeps_pairing.specs.Lives.{ArePaired, life_of, openings}
+pub use Rattle.world_keeps_pairing.specs.Lives.{life_of, openings}
 pub use Rattle.world_keeps_pairing.specs.Steps.{keeps, steps}
 pub use Rattle.world_keeps_streams.specs.Arrivals.{Arrives, ComesFor}
 pub use Rattle.world_keeps_streams.specs.Calls.{answer_calls, calls_by, commands_said, message_calls, next_calls, numbered_by_peer, orders_heard, own_calls, owner_calls, parcel_calls, request_calls}

@@ -77,6 +77,10 @@ pub record HappensInCalm {C : Type 0} (calls : Calls C) (old : WorldState C) (e 
 abbrev pub StopsIn : {C : Type 0} → Calls C → WorldState C → WorldEvent → WorldState C → List Shown → Type 0
 StopsIn calls old e new shown = StopsBy (world_kind calls) old e new shown
 
+-- at an event of a calm
+abbrev pub StopsInCalm : {C : Type 0} → Calls C → WorldState C → Event → WorldState C → List Shown → Type 0
+StopsInCalm calls old e new shown = StopsIn calls old (event.Happen e) new shown
+
 -- the world processed this event, or the first rounds of a calm, and may have answered anything; how much was written of what it showed the writer
 -- only knows
 abbrev pub MayDo : {C : Type 0} → Calls C → WorldState C → WorldEvent → WorldState C → List Shown → Type 0

@@ -8,10 +8,9 @@ ghost use Rattle.net_sim.specs.World.{CalmGives};
 ghost use Rattle.replay.specs.Failing.{TellsCannotWrite};
 ghost use Rattle.world_replay.specs.Kinds.{BreaksOffBy, EndsSeenBy, IsSeenBy, ReplaysBy, RunsOutBy, mixed_kind};
 ghost use Rattle.world_replay.specs.Output.{Shown, Writes};
-ghost use Rattle.world_replay.specs.Replay.{EndsIn, HappensInCalm, MayDo, MayStep, Replays, StopsIn};
+ghost use Rattle.world_replay.specs.Replay.{EndsIn, HappensInCalm, MayDo, MayStep, Replays, StopsIn, StopsInCalm};
 ghost use Rattle.world_replay.specs.Seen.{EndsSeen};
 ghost use Rattle.world_replay.specs.Steps.{EventEnds, OneEnds};
-ghost use Rattle.world_script.specs.declared.event.WorldEvent.TheVariants as world_event;
 
 use crate::print::{check_memory, print_news, print_refusal};
 use crate::replayed::Replayed;
@@ -132,7 +131,7 @@ pub fn replay_in_calm<C: Carrier, W: Output>(
     ensures replayed { OnOk result (Writes detail (HappensInCalm (shown C.calls) world.old event world.new) (W.contents writer.old) (W.contents writer.new)) }
 
     // memory ran out at it
-    ensures memory { result ≡ Err ReplayFault.OutOfMemory → Writes detail (StopsIn (shown C.calls) world.old (world_event.Happen event) world.new) (W.contents writer.old) (W.contents writer.new) }
+    ensures memory { result ≡ Err ReplayFault.OutOfMemory → Writes detail (StopsInCalm (shown C.calls) world.old event world.new) (W.contents writer.old) (W.contents writer.new) }
 
     // `CannotWrite` is answered where a write failed, and nowhere else
     ensures failed { TellsCannotWrite result (W.failed writer.new) }
@@ -160,7 +159,7 @@ pub fn replay_mixed_in_calm<C: Carrier, W: Output>(
     ensures replayed { OnOk result (Writes detail (HappensInCalm (shown C.calls) world.old.world event world.new.world) (W.contents writer.old) (W.contents writer.new)) }
 
     // memory ran out at it
-    ensures memory { result ≡ Err ReplayFault.OutOfMemory → Writes detail (StopsIn (shown C.calls) world.old.world (world_event.Happen event) world.new.world) (W.contents writer.old) (W.contents writer.new) }
+    ensures memory { result ≡ Err ReplayFault.OutOfMemory → Writes detail (StopsInCalm (shown C.calls) world.old.world event world.new.world) (W.contents writer.old) (W.contents writer.new) }
 
     // `CannotWrite` is answered where a write failed, and nowhere else
     ensures failed { TellsCannotWrite result (W.failed writer.new) }
@@ -183,7 +182,7 @@ fn show_turn<C: Carrier, R: Turning<C>, W: Output>(
 ) -> Result<(), ReplayFault>
     requires { W.failed writer.old ≡ false }
     ensures replayed { OnOk result (Writes detail (HappensInCalm (shown C.calls) (R.state world.old) event (R.state world.new)) (W.contents writer.old) (W.contents writer.new)) }
-    ensures memory { result ≡ Err ReplayFault.OutOfMemory → Writes detail (StopsIn (shown C.calls) (R.state world.old) (world_event.Happen event) (R.state world.new)) (W.contents writer.old) (W.contents writer.new) }
+    ensures memory { result ≡ Err ReplayFault.OutOfMemory → Writes detail (StopsInCalm (shown C.calls) (R.state world.old) event (R.state world.new)) (W.contents writer.old) (W.contents writer.new) }
     ensures failed { TellsCannotWrite result (W.failed writer.new) }
     ensures cannot_write { result ≡ Err ReplayFault.CannotWrite → MayStep (shown C.calls) (R.state world.old) event (R.state world.new) }
     ensures strangers { R.strangers world.new ≡ R.strangers world.old }
@@ -193,7 +192,15 @@ fn show_turn<C: Carrier, R: Turning<C>, W: Output>(
     let said = world.book().reports().len();
     let outcome = world.turn(event);
     let mut line = Line::new();
-    print_news(&mut line, world.book(), crossed, told, said, detail, writer)?;
+    print_news(
+        &mut line,
+        &world.book(),
+        crossed,
+        told,
+        said,
+        detail,
+        writer,
+    )?;
     check_memory(outcome)
 }
 
@@ -323,6 +330,6 @@ fn replay_one<R: Replayed, W: Output>(
     let told = world.book().notices().len();
     let said = world.book().reports().len();
     let outcome = world.happen(event);
-    print_news(line, world.book(), crossed, told, said, detail, writer)?;
+    print_news(line, &world.book(), crossed, told, said, detail, writer)?;
     print_refusal(outcome, writer)
 }

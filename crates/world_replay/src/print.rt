@@ -26,7 +26,7 @@ use sockets::NcpFault;
 /// Errors: `WriteFailed`.
 pub(crate) fn print_news<W: Output>(
     line: &mut Line,
-    book: &Book,
+    book: &Book<'_>,
     crossed: usize,
     told: usize,
     said: usize,

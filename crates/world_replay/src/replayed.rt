@@ -20,8 +20,8 @@ pub(crate) trait Replayed {
     ghost kind: { Kind Self Self.Event };
 
     /// Returns what happened so far.
-    fn book(&self) -> &Book
-        ensures { result.now ≡ kind.kept self.now };
+    fn book(&self) -> Book<'_>
+        ensures { result ≡ kind.kept self.now };
 
     /// Lets one event happen, or refuses it.
     ///
@@ -54,7 +54,7 @@ impl<C: Carrier> Replayed for World<C> {
 
     ghost kind = { world_kind (shown C.calls) };
 
-    fn book(&self) -> &Book {
+    fn book(&self) -> Book<'_> {
         World::book(self)
     }
 
@@ -86,7 +86,7 @@ impl<C: Carrier> Replayed for MixedWorld<C> {
 
     ghost kind = { mixed_kind (shown C.calls) };
 
-    fn book(&self) -> &Book {
+    fn book(&self) -> Book<'_> {
         MixedWorld::book(self)
     }
 

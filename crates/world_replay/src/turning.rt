@@ -18,8 +18,8 @@ pub(crate) trait Turning<C: Carrier> {
     ghost strangers: { Self → List Host };
 
     /// Returns what happened so far.
-    fn book(&self) -> &Book
-        ensures { result.now ≡ (state self.now).kept };
+    fn book(&self) -> Book<'_>
+        ensures { result ≡ (state self.now).kept };
 
     /// Lets one event happen, or refuses it, as in a world in which its strangers aren't there.
     ///
@@ -36,7 +36,7 @@ impl<C: Carrier> Turning<C> for World<C> {
 
     ghost strangers = { λ w. [] };
 
-    fn book(&self) -> &Book {
+    fn book(&self) -> Book<'_> {
         World::book(self)
     }
 
@@ -50,7 +50,7 @@ impl<C: Carrier> Turning<C> for MixedWorld<C> {
 
     ghost strangers = { λ w. w.strangers };
 
-    fn book(&self) -> &Book {
+    fn book(&self) -> Book<'_> {
         MixedWorld::book(self)
     }
 

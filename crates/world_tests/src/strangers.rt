@@ -197,7 +197,7 @@ fn harry(
 type Counts = [usize; 5];
 
 /// What a book comes to.
-fn counts(book: &Book) -> Counts {
+fn counts(book: &Book<'_>) -> Counts {
     [
         book.crossings().len(),
         book.notices().len(),
@@ -221,7 +221,7 @@ fn outcome(alloc: Global, acts: &[Act]) -> Option<(Refused, Counts)> {
             Act::Harries(times, octets) => harry(alloc, &mut world, *times, octets, refused)?,
         };
     }
-    Some((refused, counts(world.book())))
+    Some((refused, counts(&world.book())))
 }
 
 /// 0/1 is through a reset with 0/2: it contacts it, its RST crosses and is answered, and so is the RRP.
@@ -360,7 +360,7 @@ fn calmed_among(alloc: Global, rounds: u32) -> Option<(Counts, bool, bool)> {
         world.step(MixedEvent::Any(event)).ok()?;
     }
     world.calm(rounds).ok()?;
-    Some((counts(world.book()), world.rests(), world.is_silent()))
+    Some((counts(&world.book()), world.rests(), world.is_silent()))
 }
 
 /// The same in a world of hosts with programs.
@@ -374,7 +374,7 @@ fn calmed(alloc: Global, rounds: u32) -> Option<(Counts, bool, bool)> {
         world.step(event).ok()?;
     }
     world.calm(rounds).ok()?;
-    Some((counts(world.book()), world.rests(), world.is_silent()))
+    Some((counts(&world.book()), world.rests(), world.is_silent()))
 }
 
 /// 0/1 contacts 0/2.

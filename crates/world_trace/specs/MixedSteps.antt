@@ -34,10 +34,14 @@ foreign_text programs services strangers =
     programs ++ (codes
     ",\"services\":" ++ (object services ++ (codes ",\"foreign\":" ++ (array strangers ++ codes "}\n")))))
 
+-- those of a state
+abbrev pub mixed_hosts : {C : Type 0} → MixedState C → List ℕ
+mixed_hosts s = foreign_text (map seat_member s.world.seats) (map services_member s.world.services)
+    (map stranger_text s.strangers)
+
+-- after the parts of its carrier
 abbrev pub mixed_end : {C : Type 0} → (C → AllParts) → MixedState C → List ℕ
-mixed_end members s =
-    object (members_of (members s.world.carrier)) ++ foreign_text (map seat_member s.world.seats)
-    (map services_member s.world.services) (map stranger_text s.strangers)
+mixed_end members s = object (members_of (members s.world.carrier)) ++ mixed_hosts s
 
 -- ---- an event that is no calm
 

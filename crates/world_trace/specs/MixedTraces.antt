@@ -82,17 +82,25 @@ AtSpot Tells old e new lines = Tells e.0 old e.1 new lines
 
 -- ---- all events, numbered from 1, each of which comes after the number of its line in a script
 
+-- they go one after the other
+abbrev pub AllTell : {S E : Type 0} → (Spot → Happening S E (List ℕ)) → Happening S (List (ℕ × E)) (List ℕ)
+AllTell Tells old events new lines = InTurn (AtSpot Tells) old (numbered_from 1 events) new lines
+
+-- those before one do, and that one goes otherwise
+abbrev pub AllEnd : {S E : Type 0} → (Spot → Happening S E (List ℕ)) → (Spot → Happening S E (List ℕ))
+    → Happening S (List (ℕ × E)) (List ℕ)
+AllEnd Tells Goes old events new lines =
+    EndsInTurn (AtSpot Tells) (AtSpot Goes) old (numbered_from 1 events) new lines
+
 abbrev pub TracesMixed : {C : Type 0} → Calls C → (C → AllParts) → MixedState C → List (ℕ × MixedWorldEvent)
     → MixedState C → List (List ℕ) → Type 0
-TracesMixed calls members old events new lines = InTurn (AtSpot (TellsMixedAt calls members)) old
-    (numbered_from 1 events) new lines
+TracesMixed calls members old events new lines = AllTell (TellsMixedAt calls members) old events new lines
 
 abbrev pub MixedTraceEnds : {C : Type 0} → Calls C → (C → AllParts) → Happening (WorldState C) Event (List ℕ)
     → Happening (MixedState C) MixedEvent (List ℕ) → MixedState C → List (ℕ × MixedWorldEvent) → MixedState C
     → List (List ℕ) → Type 0
 MixedTraceEnds calls members Goes GoesMixed old events new lines =
-    EndsInTurn (AtSpot (TellsMixedAt calls members)) (AtSpot (MixedEndsAt calls members Goes GoesMixed)) old
-    (numbered_from 1 events) new lines
+    AllEnd (TellsMixedAt calls members) (MixedEndsAt calls members Goes GoesMixed) old events new lines
 
 -- memory ran out in one of the events, or for its line; a write failed for the line of one of them
 abbrev pub MixedTraceStops : {C : Type 0} → Calls C → (C → AllParts) → MixedState C → List (ℕ × MixedWorldEvent)

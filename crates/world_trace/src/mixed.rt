@@ -1,14 +1,14 @@
 //! Tracing the events of a world some of whose hosts are strangers.
 
-ghost use Rattle.std.specs.Prelude.{◌≡◌, ◌⊎◌, [], Err, IfErr, IfOk, IfSome, OnOk, false, map};
+ghost use Rattle.std.specs.Prelude.{◌≡◌, ◌⊎◌, [], Err, IfErr, IfOk, IfSome, OnOk, false};
 ghost use Rattle.std.specs.Io.KnownBytes.{Appends};
 ghost use Rattle.net_sim.specs.Carriers.{shown};
 ghost use Rattle.replay.specs.Failing.{TellsCannotWrite, TellsFailure};
+ghost use Rattle.replay.specs.declared.events.ReplayFault.TheVariants as fault;
 ghost use Rattle.script.specs.Input.{ended_line};
-ghost use Rattle.world_trace.specs.MixedSteps.{HasPassedMixed, MixedEnds, MixedEventEnds, ShowsMixed, foreign_text, mixed_end, mixed_reach};
-ghost use Rattle.world_trace.specs.MixedTraces.{MixedTraceFails, StopsMixed, WritesMixed, WritesMixedPart, mixed_opening, mixed_text, stranger_text};
+ghost use Rattle.world_trace.specs.MixedSteps.{HasPassedMixed, MixedEnds, MixedEventEnds, ShowsMixed, mixed_end, mixed_hosts, mixed_reach};
+ghost use Rattle.world_trace.specs.MixedTraces.{MixedTraceFails, StopsMixed, WritesMixed, WritesMixedPart, mixed_opening, mixed_text};
 ghost use Rattle.world_trace.specs.Steps.{AreTextsOf};
-ghost use Rattle.world_trace.specs.Texts.{seat_member, services_member};
 
 use crate::calm::trace_calm;
 use crate::line::{Passed, print_line};
@@ -45,13 +45,13 @@ pub fn trace_mixed_world<C: Inspect, W: Output>(
     ensures traced { OnOk result (WritesMixed (shown C.calls) C.inside.members network.now world.old events.items world.new (W.contents writer.old) (W.contents writer.new)) }
 
     // memory ran out at one of them: the first line and those before it were written, and nothing else
-    ensures memory { result ≡ Err ReplayFault.OutOfMemory → WritesMixedPart (shown C.calls) C.inside.members network.now world.old events.items world.new (W.contents writer.old) (W.contents writer.new) }
+    ensures memory { result ≡ Err fault.OutOfMemory → WritesMixedPart (shown C.calls) C.inside.members network.now world.old events.items world.new (W.contents writer.old) (W.contents writer.new) }
 
     // `CannotWrite` is answered where a write failed, and nowhere else
     ensures failed { TellsCannotWrite result (W.failed writer.new) }
 
     // a write failed: the event had already happened, or none had
-    ensures cannot_write { result ≡ Err ReplayFault.CannotWrite → (world.new ≡ world.old) ⊎ MixedTraceFails (shown C.calls) C.inside.members world.old events.items world.new }
+    ensures cannot_write { result ≡ Err fault.CannotWrite → (world.new ≡ world.old) ⊎ MixedTraceFails (shown C.calls) C.inside.members world.old events.items world.new }
 {
     print_opening(network, world, writer)?;
     trace_all(alloc, world, events, writer)
@@ -77,7 +77,7 @@ fn print_hosts<C: Inspect, W: Output>(
     writer: &mut W,
 ) -> Result<(), WriteFailed>
     requires { W.failed writer.old ≡ false }
-    ensures written { OnOk result (Appends (W.contents writer.old) (W.contents writer.new) (foreign_text (map seat_member world.now.world.seats) (map services_member world.now.world.services) (map stranger_text world.now.strangers))) }
+    ensures written { OnOk result (Appends (W.contents writer.old) (W.contents writer.new) (mixed_hosts world.now)) }
     ensures failed { TellsFailure result (W.failed writer.new) }
 {
     let (programs, services) = (Object(world.seats()), Object(world.services()));

@@ -4,13 +4,12 @@ ghost use Rattle.std.specs.Prelude.{◌≡◌, ◌⊎◌, ℕ, [], Err, IfErr, I
 ghost use Rattle.net_sim.specs.Carriers.{shown};
 ghost use Rattle.replay.specs.Failing.{TellsCannotWrite};
 ghost use Rattle.replay.specs.declared.print.Detail.TheVariants.{Sizes};
-ghost use Rattle.replay.specs.InTurn.{EndsInTurn, InTurn};
-ghost use Rattle.trace.specs.Traces.{WritesTrace, numbered_from};
+ghost use Rattle.trace.specs.Traces.{WritesTrace};
 ghost use Rattle.world_replay.specs.Output.{output};
 ghost use Rattle.world_script.specs.declared.event.WorldEvent.TheVariants as world_event;
 ghost use Rattle.world_trace.specs.Steps as step;
 ghost use Rattle.world_trace.specs.Steps.{AreTextsOf, EventEnds, HasPassed, OneEnds, Shows, at_one};
-ghost use Rattle.world_trace.specs.MixedTraces.{AtSpot};
+ghost use Rattle.world_trace.specs.MixedTraces.{AllEnd, AllTell};
 ghost use Rattle.world_trace.specs.Traces.{StopsOne, WorldTraceFails, WritesPart, WritesWorld};
 
 use crate::calm::trace_calm;
@@ -75,10 +74,10 @@ pub(crate) fn trace_all<C: Inspect, T: Scripted<C>, W: Output>(
     writer: &mut W,
 ) -> Result<(), ReplayFault>
     requires whole { W.failed writer.old ≡ false }
-    ensures traced { OnOk result (WritesTrace (InTurn (AtSpot T.tells) world.old (numbered_from 1 events.items) world.new) (W.contents writer.old) (W.contents writer.new)) }
-    ensures memory { result ≡ Err ReplayFault.OutOfMemory → WritesTrace (EndsInTurn (AtSpot T.tells) (AtSpot T.stops) world.old (numbered_from 1 events.items) world.new) (W.contents writer.old) (W.contents writer.new) }
+    ensures traced { OnOk result (WritesTrace (AllTell T.tells world.old events.items world.new) (W.contents writer.old) (W.contents writer.new)) }
+    ensures memory { result ≡ Err ReplayFault.OutOfMemory → WritesTrace (AllEnd T.tells T.stops world.old events.items world.new) (W.contents writer.old) (W.contents writer.new) }
     ensures failed { TellsCannotWrite result (W.failed writer.new) }
-    ensures cannot_write { result ≡ Err ReplayFault.CannotWrite → (lines : List (List ℕ)) × EndsInTurn (AtSpot T.tells) (AtSpot T.fails) world.old (numbered_from 1 events.items) world.new lines }
+    ensures cannot_write { result ≡ Err ReplayFault.CannotWrite → (lines : List (List ℕ)) × AllEnd T.tells T.fails world.old events.items world.new lines }
 {
     let mut passed: usize = 0;
     let mut known = None;

@@ -10,8 +10,7 @@ ghost use Rattle.replay.specs.InTurn.{Happening};
 ghost use Rattle.replay.specs.declared.print.Detail.TheVariants.{Sizes};
 ghost use Rattle.trace.specs.declared.element.Spot.{Spot};
 ghost use Rattle.world_replay.specs.Output.{Writes};
-ghost use Rattle.world_replay.specs.Replay.{HappensInCalm, MayStep, StopsIn};
-ghost use Rattle.world_script.specs.declared.event.WorldEvent.TheVariants as world_event;
+ghost use Rattle.world_replay.specs.Replay.{HappensInCalm, MayStep, StopsInCalm};
 ghost use Rattle.world_trace.specs.MixedTraces.{MayTellMixed, MixedEndsAt, StopsMixed, TellsMixedAt};
 ghost use Rattle.world_trace.specs.Steps.{AreTextsOf, EndsAs};
 ghost use Rattle.world_trace.specs.Traces.{EndsAt, MayTell, StopsOne, TellsAt};
@@ -48,8 +47,8 @@ pub(crate) trait Traced<C: Inspect> {
         ensures { result.now ≡ (state self.now).services };
 
     /// Returns what happened so far.
-    fn book(&self) -> &Book
-        ensures { result.now ≡ (state self.now).kept };
+    fn book(&self) -> Book<'_>
+        ensures { result ≡ (state self.now).kept };
 
     /// Lets one event happen as an event of a calm, and prints what it shows.
     ///
@@ -57,7 +56,7 @@ pub(crate) trait Traced<C: Inspect> {
     fn replay_in_calm<W: Output>(&mut self, event: Event, writer: &mut W) -> Result<(), ReplayFault>
         requires { W.failed writer.old ≡ false }
         ensures replayed { OnOk result (Writes Sizes (HappensInCalm (shown C.calls) (state self.old) event (state self.new)) (W.contents writer.old) (W.contents writer.new)) }
-        ensures memory { result ≡ Err ReplayFault.OutOfMemory → Writes Sizes (StopsIn (shown C.calls) (state self.old) (world_event.Happen event) (state self.new)) (W.contents writer.old) (W.contents writer.new) }
+        ensures memory { result ≡ Err ReplayFault.OutOfMemory → Writes Sizes (StopsInCalm (shown C.calls) (state self.old) event (state self.new)) (W.contents writer.old) (W.contents writer.new) }
         ensures failed { TellsCannotWrite result (W.failed writer.new) }
         ensures cannot_write { result ≡ Err ReplayFault.CannotWrite → MayStep (shown C.calls) (state self.old) event (state self.new) }
         ensures strangers { strangers self.new ≡ strangers self.old };
@@ -85,7 +84,7 @@ impl<C: Inspect> Traced<C> for World<C> {
         World::services(self)
     }
 
-    fn book(&self) -> &Book {
+    fn book(&self) -> Book<'_> {
         World::book(self)
     }
 
@@ -119,7 +118,7 @@ impl<C: Inspect> Traced<C> for MixedWorld<C> {
         MixedWorld::services(self)
     }
 
-    fn book(&self) -> &Book {
+    fn book(&self) -> Book<'_> {
         MixedWorld::book(self)
     }
 

@@ -13,8 +13,7 @@ and writes are whole ones, as big as the program asks for. Of the other short ex
 examples in LONG, whose output is longer than what the program gathers before it writes, reads and writes move 500 octets, and
 then are whole ones; not each of their allocations fails.
 
-So no refused allocation may end with status 0, but for one in a trace: std's `collect`, by which each event comes after the
-number of its line, asks for room for all of them, and where that is refused takes it piece by piece. Nothing is lost.
+So no refused allocation may end with status 0.
 
 Then it runs the program on an input that never ends, and on one of two million octets, of which it may read 1,048,577; and
 with an output that takes nothing.
@@ -95,7 +94,6 @@ class Trial:
         self.path = path
         self.words = self.beside(".args").decode().split()
         self.wrong: list[str] = []
-        self.asked_again = 0  # refused allocations after which the run was whole
         self.whole = (int(self.beside(".status") or 0), self.beside(".stderr")), self.beside(".stdout")
         if self.run({}) != self.whole:
             self.wrong.append("without a failure it ends otherwise than it should")
@@ -125,9 +123,7 @@ class Trial:
         with open(told, encoding="utf-8") as lines:
             _, *later = lines.read().splitlines()
         os.remove(told)
-        if way.kind == "allocations" and "--trace" in self.words and (ended, output) == self.whole:
-            self.asked_again += 1
-        elif not self.is_right(way, ended, output, later):
+        if not self.is_right(way, ended, output, later):
             self.wrong.append(f"{way.name}, {number}: {ended}, written again: {len(later)}, output: {output!r}")
         return True
 
@@ -188,8 +184,6 @@ def main() -> int:
         for path in paths:
             trial = Trial(program, before, room, path)
             failed = [(trial.all_of(way, threads), way) for way in ways_of(trial.name)]
-            if trial.asked_again > 1:
-                trial.wrong.append(f"{trial.asked_again} refused allocations made no difference")
             for number, way in failed:
                 total[way.kind] += number
             print(f"{trial.name}: failed in turn {'; '.join(f'{number} {way.name}' for number, way in failed)}")

@@ -43,13 +43,12 @@ same_kept : (xs ys : List Crossing) (ns ms : List Told) (us vs : List Called) (p
 same_kept xs ys ns ms us vs ps qs l x n a p = cc
 
 -- what is in a book once all of that is written down
-written_so : (cs : List Crossing) (a : Option (Host × Request)) (calls : List Called) (ts : List Told) (h : Option Host) (rs : List Request) (reports : List Reported) (k : Kept) (before after : List Crossing) (ns : List Told) (us : List Called)
-    (ps : List Reported) (l : LivesState) → k.book.crossings ≡ reverse before → after ≡ before ++ cs → ns ≡ k.book.notices ++ ts → us ≡ k.book.contacts ++ calls → ps ≡ k.book.reports ++ reports
+written_so : (cs : List Crossing) (a : Option (Host × Request)) (calls : List Called) (ts : List Told) (h : Option Host) (rs : List Request) (reports : List Reported) (k : Kept) (after : List Crossing) (ns : List Told) (us : List Called)
+    (ps : List Reported) (l : LivesState) → after ≡ reverse cs ++ k.book.crossings → ns ≡ k.book.notices ++ ts → us ≡ k.book.contacts ++ calls → ps ≡ k.book.reports ++ reports
     → l ≡ followed cs a ts h rs (of_kept k)
-    → ◌≡◌ {A = Kept} (record { book = record { crossings = reverse after; notices = ns; contacts = us; reports = ps; lives = l.lives }; handed = l.handed; fates = l.fates }) (written cs a calls ts h rs reports k)
-written_so cs a calls ts h rs reports k before after ns us ps l was more n u p f =
-    let x : reverse after ≡ reverse cs ++ k.book.crossings = ap (λ (xs : List Crossing). reverse xs) more ∙ reverse-append before cs ∙ ap (λ (xs : List Crossing). reverse cs ++ xs) (sym was) in
-    same_kept (reverse after) (reverse cs ++ k.book.crossings) ns (k.book.notices ++ ts) us (k.book.contacts ++ calls) ps (k.book.reports ++ reports) l x n u p
+    → ◌≡◌ {A = Kept} (record { book = record { crossings = after; notices = ns; contacts = us; reports = ps; lives = l.lives }; handed = l.handed; fates = l.fates }) (written cs a calls ts h rs reports k)
+written_so cs a calls ts h rs reports k after ns us ps l more n u p f =
+    same_kept after (reverse cs ++ k.book.crossings) ns (k.book.notices ++ ts) us (k.book.contacts ++ calls) ps (k.book.reports ++ reports) l more n u p
     ∙ ap (λ (m : LivesState). let after : Kept = record { book = record { crossings = reverse cs ++ k.book.crossings; notices = k.book.notices ++ ts; contacts = k.book.contacts ++ calls; reports = k.book.reports ++ reports; lives = m.lives }; handed = m.handed; fates = m.fates } in after) f
 
 -- crossings and what users were notified of, and nothing else
@@ -173,29 +172,23 @@ written_alone cs k =
     ∙ same_kept after.book.crossings after.book.crossings (after.book.notices ++ []) after.book.notices (after.book.contacts ++ []) after.book.contacts (after.book.reports ++ []) after.book.reports (of_kept after) refl
     (append-nil after.book.notices) (append-nil after.book.contacts) (append-nil after.book.reports)
 
--- the same, as what is in a book then
-pub crossed_so : (cs : List Crossing) (k : Kept) (before after : List Crossing) (ns : List Told) (us : List Called) (ps : List Reported) (l : LivesState) → k.book.crossings ≡ reverse before → after ≡ before ++ cs
+-- the same, as what is in the notes then
+pub crossed_so : (cs : List Crossing) (k : Kept) (after : List Crossing) (ns : List Told) (us : List Called) (ps : List Reported) (l : LivesState) → after ≡ reverse cs ++ k.book.crossings
     → ns ≡ k.book.notices → us ≡ k.book.contacts → ps ≡ k.book.reports → l ≡ all.all_crossed cs (of_kept k)
-    → ◌≡◌ {A = Kept} (record { book = record { crossings = reverse after; notices = ns; contacts = us; reports = ps; lives = l.lives }; handed = l.handed; fates = l.fates }) (all_crossed (reverse cs) k)
-crossed_so cs k before after ns us ps l was more n u p f =
-    written_so cs None [] [] None [] [] k before after ns us ps l was more (n ∙ sym (append-nil k.book.notices)) (u ∙ sym (append-nil k.book.contacts)) (p ∙ sym (append-nil k.book.reports)) f
+    → ◌≡◌ {A = Kept} (record { book = record { crossings = after; notices = ns; contacts = us; reports = ps; lives = l.lives }; handed = l.handed; fates = l.fates }) (all_crossed (reverse cs) k)
+crossed_so cs k after ns us ps l more n u p f =
+    written_so cs None [] [] None [] [] k after ns us ps l more (n ∙ sym (append-nil k.book.notices)) (u ∙ sym (append-nil k.book.contacts)) (p ∙ sym (append-nil k.book.reports)) f
     ∙ written_alone cs k
 
--- ---- what a host's user asked for, and what it was notified of, as what is in a book then
+-- ---- what a host's user asked for, and what it was notified of, as what is in the notes then
 
-pub asked_so : (h : Host) (r : Request) (k : Kept) (before : List Crossing) (place : ℕ) (ns : List Told) (us : List Called) (ps : List Reported) (l : LivesState) → k.book.crossings ≡ reverse before → place ≡ length before
+pub asked_so : (h : Host) (r : Request) (k : Kept) (now : List Crossing) (place : ℕ) (ns : List Told) (us : List Called) (ps : List Reported) (l : LivesState) → now ≡ k.book.crossings → place ≡ length k.book.crossings
     → ns ≡ k.book.notices → us ≡ k.book.contacts ++ contacts_asked h place r → ps ≡ k.book.reports → l ≡ all.asked h r (of_kept k)
-    → ◌≡◌ {A = Kept} (record { book = record { crossings = reverse before; notices = ns; contacts = us; reports = ps; lives = l.lives }; handed = l.handed; fates = l.fates }) (asked h r k)
-asked_so h r k before place ns us ps l was is n u p f =
-    let many : place ≡ length k.book.crossings = is ∙ sym (length-reverse before) ∙ ap (λ (xs : List Crossing). length xs) (sym was) in
+    → ◌≡◌ {A = Kept} (record { book = record { crossings = now; notices = ns; contacts = us; reports = ps; lives = l.lives }; handed = l.handed; fates = l.fates }) (asked h r k)
+asked_so h r k now place ns us ps l same is n u p f =
     let calls : List Called = k.book.contacts ++ contacts_asked h (length k.book.crossings) r in
-    same_kept (reverse before) k.book.crossings ns k.book.notices us calls ps k.book.reports l (sym was) n (u ∙ ap (λ (m : ℕ). k.book.contacts ++ contacts_asked h m r) many) p
+    same_kept now k.book.crossings ns k.book.notices us calls ps k.book.reports l same n (u ∙ ap (λ (m : ℕ). k.book.contacts ++ contacts_asked h m r) is) p
     ∙ ap (λ (m : LivesState). let after : Kept = record { book = record { crossings = k.book.crossings; notices = k.book.notices; contacts = calls; reports = k.book.reports; lives = m.lives }; handed = m.handed; fates = m.fates } in after) f
-
--- how many crossings there are once these are written, too
-place_of : (cs : List Crossing) (k : Kept) (before after : List Crossing) → k.book.crossings ≡ reverse before → after ≡ before ++ cs → length after ≡ length k.book.crossings + length cs
-place_of cs k before after was more =
-    ap (λ (xs : List Crossing). length xs) more ∙ length-append before cs ∙ ap (λ (m : ℕ). m + length cs) (sym (length-reverse before) ∙ ap (λ (xs : List Crossing). length xs) (sym was))
 
 -- the last of all that users were notified of
 last_of : (old news seen : List Told) (n : ℕ) → seen ≡ old ++ news → n ≡ length old → take (length seen - n) (drop n seen) ≡ news
@@ -204,24 +197,24 @@ last_of old news seen n same many =
     let long : length seen ≡ length old + length news = ap (λ (xs : List Told). length xs) same ∙ length-append old news in
     ap (λ (xs : List Told). take (length seen - n) xs) cut ∙ take_all (length seen - n) news (omega (arith, long, many))
 
-pub told_so : (h : Host) (cs : List Crossing) (ns : List Notice) (k : Kept) (before after : List Crossing) (n : ℕ) (ts seen : List Told) (us : List Called) (ps : List Reported) (l : LivesState) → k.book.crossings ≡ reverse before
-    → after ≡ before ++ cs → ts ≡ k.book.notices ++ map (told_at h (length after)) ns → us ≡ k.book.contacts → ps ≡ k.book.reports → n ≡ length k.book.notices → seen ≡ ts
+pub told_so : (h : Host) (cs : List Crossing) (ns : List Notice) (k : Kept) (after : List Crossing) (place n : ℕ) (ts seen : List Told) (us : List Called) (ps : List Reported) (l : LivesState)
+    → after ≡ reverse cs ++ k.book.crossings → place ≡ length k.book.crossings + length cs → ts ≡ k.book.notices ++ map (told_at h place) ns → us ≡ k.book.contacts → ps ≡ k.book.reports → n ≡ length k.book.notices → seen ≡ ts
     → l ≡ all.all_told (take (length seen - n) (drop n seen)) (all.all_crossed cs (of_kept k))
-    → ◌≡◌ {A = Kept} (record { book = record { crossings = reverse after; notices = ts; contacts = us; reports = ps; lives = l.lives }; handed = l.handed; fates = l.fates }) (all_told h ns (all_crossed (reverse cs) k))
-told_so h cs ns k before after n ts seen us ps l was more t u p many same f =
-    let news : List Told = map (told_at h (length after)) ns in
-    written_so cs None [] news None [] [] k before after ts us ps l was more t (u ∙ sym (append-nil k.book.contacts)) (p ∙ sym (append-nil k.book.reports))
+    → ◌≡◌ {A = Kept} (record { book = record { crossings = after; notices = ts; contacts = us; reports = ps; lives = l.lives }; handed = l.handed; fates = l.fates }) (all_told h ns (all_crossed (reverse cs) k))
+told_so h cs ns k after place n ts seen us ps l more is t u p many same f =
+    let news : List Told = map (told_at h place) ns in
+    written_so cs None [] news None [] [] k after ts us ps l more t (u ∙ sym (append-nil k.book.contacts)) (p ∙ sym (append-nil k.book.reports))
     (f ∙ ap (λ (xs : List Told). all.all_told xs (all.all_crossed cs (of_kept k))) (last_of k.book.notices news seen n (same ∙ t) many))
-    ∙ written_before h (length after) cs ns k (place_of cs k before after was more)
+    ∙ written_before h place cs ns k is
 
 -- the same, of all that happens at a host
-pub entered_so : (cs : List Crossing) (a : Option (Host × Request)) (calls : List Called) (h : Host) (ns : List Notice) (rs : List Request) (reports : List Reported) (k : Kept) (before after : List Crossing) (n : ℕ)
-    (ts seen : List Told) (us : List Called) (ps : List Reported) (l : LivesState) → k.book.crossings ≡ reverse before
-    → after ≡ before ++ cs → ts ≡ k.book.notices ++ map (told_at h (length after)) ns → us ≡ k.book.contacts ++ calls → ps ≡ k.book.reports ++ reports → n ≡ length k.book.notices → seen ≡ ts
+pub entered_so : (cs : List Crossing) (a : Option (Host × Request)) (calls : List Called) (h : Host) (ns : List Notice) (rs : List Request) (reports : List Reported) (k : Kept) (after : List Crossing) (place n : ℕ)
+    (ts seen : List Told) (us : List Called) (ps : List Reported) (l : LivesState) → after ≡ reverse cs ++ k.book.crossings → place ≡ length k.book.crossings + length cs
+    → ts ≡ k.book.notices ++ map (told_at h place) ns → us ≡ k.book.contacts ++ calls → ps ≡ k.book.reports ++ reports → n ≡ length k.book.notices → seen ≡ ts
     → l ≡ followed cs a (take (length seen - n) (drop n seen)) (Some h) rs (of_kept k)
-    → ◌≡◌ {A = Kept} (record { book = record { crossings = reverse after; notices = ts; contacts = us; reports = ps; lives = l.lives }; handed = l.handed; fates = l.fates }) (entered cs a calls h ns rs reports k)
-entered_so cs a calls h ns rs reports k before after n ts seen us ps l was more t u p many same f =
-    let news : List Told = map (told_at h (length after)) ns in
-    written_so cs a calls news (Some h) rs reports k before after ts us ps l was more t u p
+    → ◌≡◌ {A = Kept} (record { book = record { crossings = after; notices = ts; contacts = us; reports = ps; lives = l.lives }; handed = l.handed; fates = l.fates }) (entered cs a calls h ns rs reports k)
+entered_so cs a calls h ns rs reports k after place n ts seen us ps l more is t u p many same f =
+    let news : List Told = map (told_at h place) ns in
+    written_so cs a calls news (Some h) rs reports k after ts us ps l more t u p
     (f ∙ ap (λ (xs : List Told). followed cs a xs (Some h) rs (of_kept k)) (last_of k.book.notices news seen n (same ∙ t) many))
-    ∙ ap (λ (m : ℕ). written cs a calls (map (told_at h m) ns) (Some h) rs reports k) (place_of cs k before after was more)
+    ∙ ap (λ (m : ℕ). written cs a calls (map (told_at h m) ns) (Some h) rs reports k) is

@@ -89,10 +89,6 @@ or_left : (a b : Bool) → (a || b) ≡ false → a ≡ false
 or_left true b h = absurd (cc)
 or_left false b h = refl
 
--- how many crossings a book shows
-shown_count : (k b : Kept) (xs : List Crossing) → b ≡ k → xs ≡ reverse b.book.crossings → length xs ≡ length k.book.crossings
-shown_count k b xs same is = ap (λ (cs : List Crossing). length cs) is ∙ length-reverse b.book.crossings ∙ ap (λ (x : Kept). length x.book.crossings) same
-
 module _ {C : Type 0} (calls : Calls C) where
   pub no_halt : {P : Type 0} (c : C) (old : WorldState C) (r : Answer) (new : WorldState C) → stops r ≡ false → Halts c old r new → P
   no_halt c old r new on h = absurd (apart (stops r) (ap stops h.answer ∙ memory_stops h.fault h.memory) on)
@@ -211,16 +207,15 @@ module _ {C : Type 0} (calls : Calls C) where
       let no : nat_lt (length old.kept.book.crossings) (length mid.kept.book.crossings) ≡ false = le-ltb (length old.kept.book.crossings) (length mid.kept.book.crossings) same in
       one_left e total count begin old lt so (Ok tt) mid (answer, mid, step, rw (on, no) (refl, refl))
 
-  -- by the counts of what is shown before and after
+  -- by the counts of crossings before and after
   module _ (e : Event) (total count : ℕ) (begin old mid : WorldState C) (answer : Answer) (lt : count < total)
       (so : Repeated e total count begin old) (step : StepGives calls old e answer mid) (on : stops answer ≡ false)
-      (b d : Kept) (xs ys : List Crossing) (before : b ≡ old.kept) (was : xs ≡ reverse b.book.crossings)
-      (after : d ≡ mid.kept) (is : ys ≡ reverse d.book.crossings) where
-    pub one_shown : length xs < length ys → Repeated e total (count + 1) begin mid
-    one_shown grew = one_repeated e total count begin old mid answer lt so step on (omega (arith, shown_count old.kept b xs before was, shown_count mid.kept d ys after is, grew))
+      (n m : ℕ) (before : n ≡ length old.kept.book.crossings) (after : m ≡ length mid.kept.book.crossings) where
+    pub one_counted : n < m → Repeated e total (count + 1) begin mid
+    one_counted grew = one_repeated e total count begin old mid answer lt so step on (omega (arith, before, after, grew))
 
-    pub none_shown : length ys ≤ length xs → Repeats calls e total begin (Ok tt) mid
-    none_shown same = none_repeated e total count begin old mid answer lt so step on (omega (arith, shown_count old.kept b xs before was, shown_count mid.kept d ys after is, same))
+    pub none_counted : m ≤ n → Repeats calls e total begin (Ok tt) mid
+    none_counted same = none_repeated e total count begin old mid answer lt so step on (omega (arith, before, after, same))
 
   pub stop_repeated : (e : Event) (total count : ℕ) (begin old mid : WorldState C) (answer : Answer) → count < total → Repeated e total count begin old → StepGives calls old e answer mid → stops answer ≡ true
       → Repeats calls e total begin answer mid

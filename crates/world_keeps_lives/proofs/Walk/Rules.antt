@@ -1,11 +1,12 @@
 -- What holds of each end of a pair, by rules that take all changes alike that name no request: for the walk of Leaves.antt.
-use Rattle.world_keeps_lives.proofs.Common.{◌≡◌, ℕ, zero, suc, ◌*◌, ◌<◌, ◌==◌, Bool, false, if◌then◌else◌, List, [], ◌∷◌, ◌++◌, map, filter, find, take, length, slice_index_or, Some, None, refl, subst, arith, eqb-true, Contains, Host, is_receive_socket, is_send_socket, Command, asked_on_link, asked_with_size, Legal, Order, changed_first, close_due, closed_by_partner, closed_when, has_cls, is_at, is_ending, is_open, refused_end, PairState, Parcel, asked_at, cls_sent, Closing, Entry, Notice, both}
+use Rattle.world_keeps_lives.proofs.Common.{◌≡◌, ℕ, zero, suc, ◌*◌, ◌<◌, Bool, false, if◌then◌else◌, List, [], ◌∷◌, ◌++◌, map, filter, find, take, length, slice_index_or, Some, None, refl, subst, arith, Contains, Host, is_receive_socket, is_send_socket, Command, asked_on_link, asked_with_size, Legal, Order, changed_first, closed_by_partner, closed_when, has_cls, is_ending, is_open, refused_end, PairState, Parcel, asked_at, cls_sent, Entry, Notice, both}
 use Rattle.std.proofs.Common.{true}
 use Rattle.ncp_control.specs.declared.command.Command.TheVariants as command
 use Rattle.host_pairs.specs.Parcels as parcel
 use Rattle.host_pairs.specs.declared.entry.Closing.TheVariants as closing
 use Rattle.host_pairs.specs.declared.notice.Notice.TheVariants as notice
 use Rattle.interface.proofs.lemmas.{contains_head, contains_tail}
+use Rattle.host_keeps_pairing.proofs.lemmas.{due_still}
 
 -- ---- lists
 
@@ -82,20 +83,12 @@ pub record Quiet (e f : Entry) : Type 0 where
   pub closing : has_cls e.closing ≡ true → has_cls f.closing ≡ true
   pub off : e.partner_closed ≡ true → f.partner_closed ≡ true
 
-pub due_still : (c : Closing) → has_cls c ≡ true → has_cls (close_due c) ≡ true
-due_still closing.No e = e
-due_still c e = e
-
 pub quiet_when : (b : Bool) (e : Entry) → Quiet e (closed_when b e)
 quiet_when true e = record { own = refl; foreign = refl; mine = refl; asked = refl; partner = refl; link = refl; closing = λ c. refl; off = λ c. c }
 quiet_when false e = record { own = refl; foreign = refl; mine = refl; asked = refl; partner = refl; link = refl; closing = λ c. c; off = λ c. c }
 
 pub quiet_off : (e : Entry) → Quiet e (closed_by_partner e)
 quiet_off e = record { own = refl; foreign = refl; mine = refl; asked = refl; partner = refl; link = refl; closing = λ c. due_still e.closing c; off = λ c. refl }
-
--- whatever is at two sockets has them
-pub sockets_of : (own foreign : ℕ) (e : Entry) → is_at own foreign e ≡ true → (e.own ≡ own) × (e.foreign ≡ foreign)
-sockets_of own foreign e t = let parts : ((e.own == own) ≡ true) × ((e.foreign == foreign) ≡ true) = both (e.own == own) (e.foreign == foreign) t in (eqb-true e.own own parts.0, eqb-true e.foreign foreign parts.1)
 
 -- a notice of no opening, of no data, and of nothing that is returned
 abbrev pub IsOther : Notice → Type 0

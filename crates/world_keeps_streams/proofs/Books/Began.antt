@@ -17,12 +17,13 @@ use Rattle.world_keeps_streams.proofs.Requests.Sides.{Heard, Lawful, Own, begins
 use Rattle.world_keeps_streams.proofs.Books.Arrives.{end_at, rest_lawful, stays_of}
 use Rattle.world_keeps_streams.proofs.Books.Closes.{AtLink, known}
 use Rattle.world_keeps_streams.proofs.Books.Counts as counts_of
-use Rattle.world_keeps_streams.proofs.Books.Counts.{Counted, closes_said, side_of}
+use Rattle.world_keeps_streams.proofs.Books.Counts.{Counted, side_of}
 use Rattle.world_keeps_streams.proofs.Books.Ended.{all_crossings}
 use Rattle.world_keeps_streams.proofs.Books.Given.{counts}
 use Rattle.world_keeps_streams.proofs.Books.Later.{one_number}
 use Rattle.world_keeps_streams.proofs.Books.Parted.{grows_by, said_now}
 use Rattle.world_keeps_streams.proofs.Books.Unasked.{asked_by, of_event, own_below, said_new}
+use Rattle.pairing_law.proofs.lemmas.{closes_said}
 
 pub sent_cls : (c : Closing) → is_sent c ≡ true → has_cls c ≡ true
 sent_cls closing.Queued e = refl

@@ -1,5 +1,6 @@
 -- The clauses of a safe book that are about two hosts: what was taken has a source, and what was sent is granted.
-use Rattle.world_keeps_streams.proofs.Common.{◌≡◌, ◌⊎◌, inl, inr, ℕ, ◌+◌, ◌≤◌, Bool, true, List, [], length, take, drop, Option, Some, None, refl, ap, sym, subst, ◌∙◌, arith, Contains, Seen, Host, Crossing, IsLawful, IsGranted, Match, Name, SafePartners, Source, own_request, Moment, crossings_of, WorldState, Coupled, book_lives, book_run, safe_partners, served_in}
+use Rattle.world_keeps_streams.proofs.Common.{◌≡◌, ◌⊎◌, inl, inr, ℕ, ◌+◌, ◌≤◌, Bool, true, List, [], length, take, drop, refl, ap, sym, subst, ◌∙◌, arith, Contains, Seen, Host, Crossing, IsLawful, IsGranted, Match, SafePartners, Source, own_request, Moment, crossings_of, WorldState, Coupled, book_lives, book_run, safe_partners, served_in}
+use Rattle.std.proofs.lemmas.Option.{same_Some}
 use Rattle.promise.specs.Safe.{receives}
 use Rattle.promise.specs.declared.life.Life.{Life}
 use Rattle.world_keeps_lives.proofs.lemmas.{taken}
@@ -9,14 +10,6 @@ use Rattle.world_keeps_streams.proofs.Books.Whole.{since, Whole}
 use Rattle.world_keeps_streams.proofs.Books.Source.{Granter, Sourced, granted_of, source_of}
 use Rattle.world_keeps_streams.proofs.Books.Run.{Given, whole}
 use Rattle.world_keeps_streams.proofs.Books.Clauses.{OldGranter, OldSource, settled_r, settled_s}
-
-out_name : Name → Option Name → Name
-out_name d None = d
-out_name d (Some n) = n
-
-pub same_name : (m n : Name) → Some m ≡ Some n → m ≡ n
-unfolding out_name
-same_name m n e = ap (out_name m) e
 
 module _ (hosts : List Host) (Own Heard : Host → Host → List Moment → ℕ → ℕ → ℕ → ℕ → Type 0) (given : (a b : Host) → Given hosts a b (Own a b) (Heard a b)) where
   module _ (ms : List Moment) (l : Lawful hosts ms) where
@@ -55,11 +48,11 @@ module _ (hosts : List Host) (Own Heard : Host → Host → List Moment → ℕ 
 
     -- a sending life matches one receiving life at most
     pub one_receiver : (x y s : Life) → IsOf x (lives_in ms) → IsOf y (lives_in ms) → Match (crossings_of ms) x s → Match (crossings_of ms) y s → x ≡ y
-    one_receiver x y s i j m n = one_own x y i j (same_name (own_request x) (own_request y) (sym m.answered ∙ n.answered))
+    one_receiver x y s i j m n = one_own x y i j (same_Some (own_request x) (own_request y) (sym m.answered ∙ n.answered))
 
     -- and a receiving life matches one sending life at most
     pub one_sender : (x s t : Life) → IsOf s (lives_in ms) → IsOf t (lives_in ms) → Match (crossings_of ms) x s → Match (crossings_of ms) x t → s ≡ t
-    one_sender x s t i j m n = one_own s t i j (same_name (own_request s) (own_request t) (sym m.asked ∙ n.asked))
+    one_sender x s t i j m n = one_own s t i j (same_Some (own_request s) (own_request t) (sym m.asked ∙ n.asked))
 
     granted_none : (x s : Life) → Contains (lives_in ms) x → receives x ≡ true → (s.messages ≡ 0) × (s.bits ≡ []) → IsGranted x s.messages (length s.bits)
     granted_none x s there q none =

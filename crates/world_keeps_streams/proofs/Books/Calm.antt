@@ -15,9 +15,9 @@ use Rattle.world_keeps_streams.proofs.Books.Unclosed.{all_answered, taker_open, 
 use Rattle.world_keeps_streams.proofs.Deeds.Effects.{Among}
 use Rattle.world_keeps_streams.proofs.Requests.Sides.{Lawful, coupled_in}
 use Rattle.world_keeps_streams.proofs.Stays.Resets.{up_ready}
-use Rattle.world_keeps_streams.proofs.Steps.GoesOut.{ready_phase}
 use Rattle.world_keeps_streams.proofs.Tidy.Mute.{none_in, none_next, none_queued, not_busy, nothing_goes}
 use Rattle.world_keeps_streams.proofs.Calls.Chain.{ready_both}
+use Rattle.reset_law.proofs.lemmas.{ready_phase}
 
 -- ---- a program that has nothing to say
 

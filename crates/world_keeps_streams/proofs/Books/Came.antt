@@ -1,12 +1,13 @@
 -- Where the end of a receiving life has taken its partner's CLS, all that its partner sent has come in; and it sends nothing more.
 use Rattle.world_keeps_streams.proofs.Common.{◌≡◌, ◌⊎◌, inl, inr, ℕ, zero, suc, ◌+◌, ◌≤◌, ◌==◌, Bool, true, false, List, [], ◌∷◌, ◌++◌, length, map, Option, Some, None, refl, ap, sym, subst, ◌∙◌, eq-eqb, arith, Contains, Seen, Host, Crossing, is_receive_socket, IsSafe, came_inv, safe_inv, numbered, receiver_now, Match, Name, control_flow, last_out, own_request, partner_request, IsLawful, Moment, crossings_of, WorldState, texts_for, book_run, own_calls, HasTakenCls}
+use Rattle.std.proofs.lemmas.Option.{same_Some}
 use Rattle.stream_law.specs.Receivers.{Receiver}
 use Rattle.promise.specs.Safe.{before, named, receives}
 use Rattle.promise.specs.declared.life.Life.{Life}
 use Rattle.world_keeps_streams.specs.Came.{AllCame, CameAll}
 use Rattle.world_keeps_streams.proofs.Books.All.{all_given}
 use Rattle.world_keeps_streams.proofs.Books.Arrives.{rest_lawful}
-use Rattle.world_keeps_streams.proofs.Books.Books.{one_own, same_name}
+use Rattle.world_keeps_streams.proofs.Books.Books.{one_own}
 use Rattle.world_keeps_streams.proofs.Books.CameIn.{came_as}
 use Rattle.world_keeps_streams.proofs.Books.Clauses.{OldGranter, settled_s}
 use Rattle.world_keeps_streams.proofs.Books.Closes as closes
@@ -98,7 +99,7 @@ module _ (hosts : List Host) (ms : List Moment) (l : Lawful hosts ms) (x : Life)
     nothing : (s : Life) → Answers hosts x.host x.peer ms s (own_request x) → ((s.messages ≡ 0) × (s.bits ≡ [])) ⊎ OldGranter ms s → (s.messages ≡ 0) × (s.bits ≡ [])
     nothing s k (inl none) = none
     nothing s k (inr o) =
-        let same : o.receiver ≡ x = one_own hosts Own Heard (λ v w. all_given hosts v w) ms l o.receiver x o.there (is_of x (lives_in ms) f.there) (same_name (own_request o.receiver) (own_request x) (sym o.matches.answered ∙ k.is)) in
+        let same : o.receiver ≡ x = one_own hosts Own Heard (λ v w. all_given hosts v w) ms l o.receiver x o.there (is_of x (lives_in ms) f.there) (same_Some (own_request o.receiver) (own_request x) (sym o.matches.answered ∙ k.is)) in
         absurd (unlike x.ended (ap (λ (y : Life). y.ended) (sym same) ∙ o.over) f.goes)
 
 -- ---- whatever happens later

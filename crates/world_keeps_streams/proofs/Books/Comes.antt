@@ -1,5 +1,5 @@
 -- Data of a sending life come for the receiving life that it matches.
-use Rattle.world_keeps_streams.proofs.Common.{◌≡◌, ℕ, ◌==◌, true, false, List, ◌∷◌, Option, Some, None, ap, sym, subst, ◌∙◌, eqb-true, Seen, Host, HostMessage, some_is, is_link, numbered, numbered_tells, HaveAddresses, IsLawful, Crossed, Moment, IsTimeline, crossings_of, WorldState, linked_end, book_run, mail_below, numbered_by_peer, ComesFor}
+use Rattle.world_keeps_streams.proofs.Common.{◌≡◌, ℕ, ◌==◌, true, false, List, ◌∷◌, Some, sym, subst, ◌∙◌, Seen, Host, HostMessage, some_is, is_link, numbered, numbered_tells, HaveAddresses, IsLawful, Crossed, Moment, IsTimeline, crossings_of, WorldState, linked_end, book_run, mail_below, numbered_by_peer, ComesFor}
 use Rattle.interface.specs.Mailboxes as mail
 use Rattle.interface.specs.declared.crossing.Crossing.TheVariants as crossing
 use Rattle.pair_keeps_streams.proofs.lemmas.{linked_waiting}
@@ -14,10 +14,7 @@ use Rattle.world_keeps_streams.proofs.Books.One.{HasPartner}
 use Rattle.world_keeps_streams.proofs.Requests.Sides.{Lawful}
 use Rattle.world_keeps_streams.proofs.Steps.Joined.{Joined, party, turned_tells}
 use Rattle.world_keeps_streams.proofs.Steps.JoinedAll.{joined}
-
-known_link : (link : ℕ) (o : Option ℕ) → is_link link o ≡ true → o ≡ Some link
-known_link link None e = absurd (let no : false ≡ true = e in cc)
-known_link link (Some k) e = ap (λ (n : ℕ). Some n) (eqb-true k link e)
+use Rattle.host_keeps_streams.proofs.lemmas.{link_is}
 
 module _ (hosts : List Host) (addresses : HaveAddresses hosts) (m : HostMessage) (ms : List Moment) (run : mail.IsRun hosts (crossings_of (Crossed (crossing.In m) ∷ ms))) (time : IsTimeline hosts (Crossed (crossing.In m) ∷ ms)) (x s : Life) (f : ComesBetween m ms x s) where
   abbrev lawful : Lawful hosts ms
@@ -66,7 +63,7 @@ module _ (hosts : List Host) (addresses : HaveAddresses hosts) (m : HostMessage)
     host = host;
     peer = peer;
     end = f.end;
-    link = known_link link f.end.end.link linked;
+    link = link_is link f.end.end.link linked;
     unclosed = f.unclosed;
     off_control = off;
   }

@@ -1,20 +1,12 @@
 -- How many CLS a host has said and heard of a connection, by the end that it has of it.
-use Rattle.world_keeps_streams.proofs.Common.{◌≡◌, ℕ, ◌+◌, ◌≤◌, ◌&&◌, Bool, true, false, List, [], ◌∷◌, ◌++◌, refl, ap, sym, subst, ◌∙◌, arith, Host, is_sent, Entry, end_of, is_past, standing, End, Sockets, Who, Ask, Close, Mark, Side, Half, count, stays_same, pair_with, Moment, events_of, program, crossings_of, law_events, origin_in, Tie, at_texts, foreign_of, half, other, own_of}
-use Rattle.pairing_law.specs.Marks.{IsOlder, closes}
+use Rattle.world_keeps_streams.proofs.Common.{◌≡◌, ℕ, ◌+◌, ◌≤◌, ◌&&◌, Bool, true, false, List, refl, ap, ◌∙◌, arith, Host, is_sent, Entry, end_of, is_past, standing, End, Sockets, Who, Mark, Side, Half, count, stays_same, pair_with, Moment, events_of, program, crossings_of, law_events, origin_in, Tie, at_texts, foreign_of, half, other, own_of}
+use Rattle.pairing_law.specs.Marks.{closes}
 use Rattle.reset_law.specs.Stays as stay
 use Rattle.world_keeps_pairing.proofs.lemmas.{IsPair}
 use Rattle.world_keeps_streams.proofs.Deeds.Effects.{Among}
 use Rattle.world_keeps_streams.proofs.Lives.Left.{entry_end}
 use Rattle.world_keeps_streams.proofs.Requests.Now.{side_stays}
 use Rattle.world_keeps_streams.proofs.Requests.Sides.{Lawful}
-
-closes_more : (new word : List Mark) → closes word ≤ closes (new ++ word)
-closes_more [] word = omega arith
-closes_more (Ask p ∷ new) word = closes_more new word
-closes_more (Close ∷ new) word = let l : closes word ≤ closes (new ++ word) = closes_more new word in omega (arith, l)
-
-pub closes_said : (heard said : List Mark) → IsOlder heard said → closes heard ≤ closes said
-closes_said heard said o = subst (λ (w : List Mark). closes heard ≤ closes w) (sym o.1) (closes_more o.0 heard)
 
 -- ---- one host
 

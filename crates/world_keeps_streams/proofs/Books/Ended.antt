@@ -10,7 +10,7 @@ use Rattle.promise.specs.declared.life.Life.{Life}
 use Rattle.world_keeps_pairing.proofs.lemmas.{IsPair}
 use Rattle.world_keeps_streams.proofs.Books.All.{all_given}
 use Rattle.world_keeps_streams.proofs.Books.Arrives.{rest_lawful}
-use Rattle.world_keeps_streams.proofs.Books.Counts.{closes_said, side_of}
+use Rattle.world_keeps_streams.proofs.Books.Counts.{side_of}
 use Rattle.world_keeps_streams.proofs.Books.Given.{counts}
 use Rattle.world_keeps_streams.proofs.Books.Parted.{HasLeft, grows_on, no_begin, stands}
 use Rattle.world_keeps_streams.proofs.Books.Run.{Given, below}
@@ -21,6 +21,7 @@ use Rattle.world_keeps_streams.proofs.Lives.Lists.{IsOf, Named, contains, named_
 use Rattle.world_keeps_streams.proofs.Requests.Names.{origin_grows}
 use Rattle.world_keeps_streams.proofs.Requests.Now.{joined_halves}
 use Rattle.world_keeps_streams.proofs.Requests.Sides.{Heard, Lawful, Own, coupled_in, law_joined, lives_in, own_on}
+use Rattle.pairing_law.proofs.lemmas.{closes_said}
 
 -- ---- the last moment at which the peer of a host that stays did
 

@@ -18,7 +18,6 @@ use Rattle.world_keeps_streams.proofs.Lives.Fates.{Came, IsBegun, IsClose, Moved
 use Rattle.world_keeps_streams.proofs.Lives.LeavesEnds.{still_stays}
 use Rattle.world_keeps_streams.proofs.Lives.Lists.{IsOf, Named, contains, drop_grown, grown, of_left, of_map, of_parts}
 use Rattle.world_keeps_streams.proofs.Lives.Opened.{lasts, was_open}
-use Rattle.world_keeps_streams.proofs.Requests.Own.{foreign_sends}
 use Rattle.world_keeps_streams.proofs.Requests.Sides.{Heard, Lawful, Own, coupled_in, lives_in}
 use Rattle.world_keeps_streams.proofs.Stays.Resets.{stays_on}
 use Rattle.world_keeps_streams.proofs.Steps.Kinds.{closed_by, kinds}
@@ -39,6 +38,7 @@ use Rattle.world_keeps_streams.proofs.Books.Run.{below, whole}
 use Rattle.world_keeps_streams.proofs.Books.Whole.{GoesOn, PresentR, Receives, Whole, present_in, since}
 use Rattle.world_keeps_streams.proofs.Facts.{no_zero, own_if}
 use Rattle.interface.proofs.lemmas.{unlike}
+use Rattle.world_keeps_pairing.proofs.lemmas.{other_sends}
 
 -- ---- a receiving life that isn't over
 
@@ -302,7 +302,7 @@ module _ (hosts : List Host) (y : Moment) (ms : List Moment) (l : Lawful hosts (
   sends : is_send_socket x.foreign ≡ true
   sends =
       let c : Coupled hosts (y ∷ ms) = coupled_in hosts (y ∷ ms) l in
-      foreign_sends x kind (life_paired hosts (y ∷ ms) c.story c.run l.1 (served_in hosts (y ∷ ms) l.2) x (contains x (lives_in (y ∷ ms)) i))
+      other_sends x kind (life_paired hosts (y ∷ ms) c.story c.run l.1 (served_in hosts (y ∷ ms) l.2) x (contains x (lives_in (y ∷ ms)) i))
 
   abbrev its : ℕ
   its = name_now numbered x.peer (own_calls x.host x.peer (y ∷ ms)) x.socket x.foreign
@@ -374,7 +374,7 @@ module _ (hosts : List Host) (y : Moment) (ms : List Moment) (l : Lawful hosts (
   z_sends : is_send_socket z.foreign ≡ true
   z_sends =
       let c : Coupled hosts (y ∷ ms) = coupled_in hosts (y ∷ ms) l in
-      foreign_sends z kind (life_paired hosts (y ∷ ms) c.story c.run l.1 (served_in hosts (y ∷ ms) l.2) z (contains z (lives_in (y ∷ ms)) z_in))
+      other_sends z kind (life_paired hosts (y ∷ ms) c.story c.run l.1 (served_in hosts (y ∷ ms) l.2) z (contains z (lives_in (y ∷ ms)) z_in))
 
   fated_new : IsBegun (host_in y) (notices_by y ms) z g → IsFated hosts (y ∷ ms) z g
   fated_new b = record {

@@ -1,5 +1,6 @@
 -- What was sent to a receiving life when its end had taken its partner's CLS stays all that is sent to it, whatever becomes of both lives later.
 use Rattle.world_keeps_streams.proofs.Common.{◌≡◌, ◌⊎◌, inl, inr, ℕ, suc, ◌+◌, ◌≤◌, ◌==◌, Bool, true, false, List, [], ◌∷◌, ◌++◌, length, map, take, drop, Some, refl, ap, sym, subst, ◌∙◌, arith, eqb-true, Host, IsSafe, safe_inv, numbered, receiver_now, sender_now, numbered_tells, Fresh, begins_either, Match, Name, own_request, Moment, event_in, events_of, crossings_of, keeps, calls_by, own_calls}
+use Rattle.std.proofs.lemmas.Option.{same_Some}
 use Rattle.stream_law.specs.Receivers.{Receiver}
 use Rattle.stream_law.specs.Senders.{Sender}
 use Rattle.host_keeps_streams.specs.Histories as calls
@@ -7,7 +8,7 @@ use Rattle.reset_law.specs.Stays as stay
 use Rattle.promise.specs.Safe.{receives}
 use Rattle.promise.specs.declared.life.Life.{Life}
 use Rattle.world_keeps_streams.proofs.Books.All.{all_given}
-use Rattle.world_keeps_streams.proofs.Books.Books.{one_own, one_sender, same_name}
+use Rattle.world_keeps_streams.proofs.Books.Books.{one_own, one_sender}
 use Rattle.world_keeps_streams.proofs.Books.Clauses.{match_grows, stays_in}
 use Rattle.world_keeps_streams.proofs.Books.Goes.{since_bound, since_on}
 use Rattle.world_keeps_streams.proofs.Books.Later.{Answers, Before, answers_before, at_now, before, early_on, fresh, named_request, none_on, one_number}
@@ -104,7 +105,7 @@ module _ (hosts : List Host) (a b : Host) (T : ℕ → List (List Bool)) (n : �
             pairs = one_matches a b (Own a b) (Heard a b) ms (given.matched ms l) w r.life s r.is.g u.g r.there i (r.host, r.peer) (k.host, k.peer) r.kind (sym r.name) r.is.own u.heard
 
             same : r.life ≡ t
-            same = one_own hosts Own Heard (λ v w. all_given hosts v w) ms l r.life t (of_drop (since a b ms) r.life (lives_in ms) r.there) t_in (same_name (own_request r.life) (own_request t) (sym pairs.answered ∙ k.is))
+            same = one_own hosts Own Heard (λ v w. all_given hosts v w) ms l r.life t (of_drop (since a b ms) r.life (lives_in ms) r.there) t_in (same_Some (own_request r.life) (own_request t) (sym pairs.answered ∙ k.is))
 
             known : (q : PresentR a b (Own a b) (Heard a b) ms w.j t) → numbered t.socket t.foreign q.g ≡ numbered s.foreign s.socket u.g → ⊥
             known q name =

@@ -7,8 +7,9 @@ use Rattle.world_keeps_streams.proofs.Steps.Joined.{IsSettled, Joined, Keeps}
 use Rattle.world_keeps_streams.proofs.Carried.Streams.{all_bits}
 use Rattle.world_keeps_streams.proofs.Lives.Lists.{IsOf, Grown, grown, of_drop}
 use Rattle.world_keeps_streams.proofs.Requests.Sides.{lives_in}
-use Rattle.world_keeps_streams.proofs.Books.Streams.{front_bits, front_on}
+use Rattle.world_keeps_streams.proofs.Books.Streams.{front_bits}
 use Rattle.world_keeps_streams.proofs.Books.Whole.{since, present_in, Away, Was, PresentR, PresentS, HasR, HasS, was_there, still_there}
+use Rattle.world_keeps_lives.proofs.lemmas.{prefix_more}
 
 map_length : (f : Life → Life) (xs : List Life) → length (map f xs) ≡ length xs
 map_length f [] = refl
@@ -42,7 +43,7 @@ module _ (a b : Host) (Own Heard : List Moment → ℕ → ℕ → ℕ → ℕ �
   leaving_r x off p = record {
     link = p.link;
     g = p.g;
-    bits = front_on x.bits (all_bits ((j p.link).x.receiver.taken (numbered x.socket x.foreign p.g))) (all_bits ((k p.link).x.receiver.taken (numbered x.socket x.foreign p.g))) p.bits
+    bits = prefix_more x.bits (all_bits ((j p.link).x.receiver.taken (numbered x.socket x.foreign p.g))) (all_bits ((k p.link).x.receiver.taken (numbered x.socket x.foreign p.g))) p.bits
         (front_bits ((j p.link).x.receiver.taken (numbered x.socket x.foreign p.g)) ((k p.link).x.receiver.taken (numbered x.socket x.foreign p.g)) ((keeps p.link).taken off (numbered x.socket x.foreign p.g)));
     granted_messages = p.granted_messages ∙ ap (λ (v : Allocation). v.messages) (sym ((keeps p.link).granted off (numbered x.socket x.foreign p.g)));
     granted_bits = p.granted_bits ∙ ap (λ (v : Allocation). v.bits) (sym ((keeps p.link).granted off (numbered x.socket x.foreign p.g)));

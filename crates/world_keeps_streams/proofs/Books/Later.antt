@@ -1,5 +1,6 @@
 -- A receiving life that its partner has closed, and no user of its host, has all that its partner sent, whatever becomes of both later.
 use Rattle.world_keeps_streams.proofs.Common.{◌≡◌, ◌⊎◌, inl, inr, ℕ, zero, suc, ◌+◌, ◌≤◌, Bool, true, false, List, [], ◌∷◌, ◌++◌, length, map, take, drop, Some, refl, ap, sym, subst, ◌∙◌, arith, Contains, Seen, Host, is_receive_socket, is_send_socket, Allocation, IsSafe, safe_inv, HasClosed, name_now, numbered, receiver_now, closed_first, numbered_tells, receiver, Fresh, asks_once, begins_fresh, IsLawful, Match, Name, own_request, partner_request, Asked, Crossed, Moment, event_in, events_of, crossings_of, WorldState, law_events, keeps, steps, book_run, calls_by, own_calls, IsClosedByPartner, WasClosedByPartner}
+use Rattle.std.proofs.lemmas.Option.{same_Some}
 use Rattle.stream_law.specs.Receivers.{Receiver}
 use Rattle.host_keeps_streams.specs.Histories as calls
 use Rattle.reset_law.specs.Stays as stay
@@ -17,7 +18,7 @@ use Rattle.world_keeps_streams.proofs.Steps.Overs.{Kept, kept_calls, over_alike}
 use Rattle.world_keeps_streams.proofs.Steps.Streams.{all_allowed}
 use Rattle.world_keeps_streams.proofs.Books.All.{all_given}
 use Rattle.world_keeps_streams.proofs.Books.Arrives.{rest_lawful}
-use Rattle.world_keeps_streams.proofs.Books.Books.{one_own, one_place, one_sender, same_name}
+use Rattle.world_keeps_streams.proofs.Books.Books.{one_own, one_place, one_sender}
 use Rattle.world_keeps_streams.proofs.Books.Clauses.{OldGranter, Older, match_grows, older, settled_s, stays_in}
 use Rattle.world_keeps_streams.proofs.Books.Closes as closes
 use Rattle.world_keeps_streams.proofs.Books.Closes.{AtLink}
@@ -161,7 +162,7 @@ module _ (hosts : List Host) (a b : Host) where
                 one_matches a b (Own a b) (Heard a b) ms (given.matched ms l) (at_now ms l) r.life s r.is.g u.g r.there i (r.host, r.peer) (k.host, k.peer) r.kind (sym r.name) r.is.own u.heard
 
             same : r.life ≡ t
-            same = one_own hosts Own Heard (λ v w. all_given hosts v w) ms l r.life t (of_drop (since a b ms) r.life (lives_in ms) r.there) t_in (same_name (own_request r.life) (own_request t) (sym pairs.answered ∙ k.is))
+            same = one_own hosts Own Heard (λ v w. all_given hosts v w) ms l r.life t (of_drop (since a b ms) r.life (lives_in ms) r.there) t_in (same_Some (own_request r.life) (own_request t) (sym pairs.answered ∙ k.is))
 
             known : (q : PresentR a b (Own a b) (Heard a b) ms (at_now ms l).j t) → q.link ≡ u.link → numbered t.socket t.foreign q.g ≡ numbered s.foreign s.socket u.g → ⊥
             known q on name =
@@ -263,7 +264,7 @@ module _ (hosts : List Host) (a b : Host) where
       new s k (inr o) =
           let same : o.receiver ≡ t =
           one_own hosts Own Heard (λ v w. all_given hosts v w) (z ∷ ms) l o.receiver t (of_drop (since a b (z ∷ ms)) o.receiver (lives_in (z ∷ ms)) o.there) (of_take (since a b (z ∷ ms)) t (lives_in (z ∷ ms)) early)
-          (same_name (own_request o.receiver) (own_request t) (sym o.matches.answered ∙ k.is)) in
+          (same_Some (own_request o.receiver) (own_request t) (sym o.matches.answered ∙ k.is)) in
           absurd (one_place hosts Own Heard (λ v w. all_given hosts v w) (z ∷ ms) l (since a b (z ∷ ms)) t early (subst (λ (v : Life). IsOf v (drop (since a b (z ∷ ms)) (lives_in (z ∷ ms)))) same o.there))
 
       each : (s : Life) → Answers (z ∷ ms) s (own_request t) → IsOf s (take (since a b (z ∷ ms)) (lives_in (z ∷ ms))) ⊎ IsOf s (drop (since a b (z ∷ ms)) (lives_in (z ∷ ms))) → IsNothing s
@@ -504,7 +505,7 @@ module _ (hosts : List Host) (ms : List Moment) (l : Lawful hosts ms) (x : Life)
     nothing : (s : Life) → Answers hosts x.host x.peer ms s (own_request x) → ((s.messages ≡ 0) × (s.bits ≡ [])) ⊎ OldGranter ms s → (s.messages ≡ 0) × (s.bits ≡ [])
     nothing s k (inl none) = none
     nothing s k (inr o) =
-        let same : o.receiver ≡ x = one_own hosts Own Heard (λ v w. all_given hosts v w) ms l o.receiver x o.there x_in (same_name (own_request o.receiver) (own_request x) (sym o.matches.answered ∙ k.is)) in
+        let same : o.receiver ≡ x = one_own hosts Own Heard (λ v w. all_given hosts v w) ms l o.receiver x o.there x_in (same_Some (own_request o.receiver) (own_request x) (sym o.matches.answered ∙ k.is)) in
         absurd (unlike x.ended (ap (λ (y : Life). y.ended) (sym same) ∙ o.over) f.goes)
 
 -- ---- whatever happens later

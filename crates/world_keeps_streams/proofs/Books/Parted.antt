@@ -6,10 +6,11 @@ use Rattle.pairing_law.specs.Marks.{closes}
 use Rattle.reset_law.specs.Events.{Reply, Reset}
 use Rattle.reset_law.specs.Stays as stay
 use Rattle.world_keeps_pairing.proofs.lemmas.{IsPair, before}
-use Rattle.world_keeps_streams.proofs.Books.Counts.{Counted, bounds, closes_said, counted, side_of}
+use Rattle.world_keeps_streams.proofs.Books.Counts.{Counted, bounds, counted, side_of}
 use Rattle.world_keeps_streams.proofs.Deeds.Effects.{Among}
 use Rattle.world_keeps_streams.proofs.Requests.Now.{joined_halves, side_stays}
 use Rattle.world_keeps_streams.proofs.Requests.Sides.{Lawful, begins_same, coupled_in}
+use Rattle.pairing_law.proofs.lemmas.{closes_said}
 
 -- at none of these moments, after older ones, is a host together with its peer: its pair was reset, or it has stopped
 abbrev pub HasLeft : Host → Host → List Moment → List Moment → Type 0

@@ -1,7 +1,7 @@
 -- Where messages of a run crossed: what was before a place, the texts that came in since, and what a message that
 -- comes in was when it went out.
-use Rattle.world_keeps_streams.proofs.Common.{◌≡◌, inl, inr, ℕ, suc, ◌+◌, ◌<◌, ◌≤◌, ◌==◌, ◌&&◌, nat_lt, Bool, true, false, if◌then◌else◌, List, ◌∷◌, ◌++◌, drop, length, Some, refl, ap, sym, subst, ◌∙◌, arith, eqb-true, length-append, Host, box_of, went_out, Flow, Crossing, HostMessage, or_false, same_flow-refl, waits_with, CrossedAt, text_of, texts_of, last_out, texts_one}
-use Rattle.std.proofs.Common.{◌-◌, []}
+use Rattle.world_keeps_streams.proofs.Common.{◌≡◌, inl, inr, ℕ, ◌+◌, ◌<◌, ◌≤◌, ◌==◌, ◌&&◌, nat_lt, Bool, true, false, if◌then◌else◌, List, ◌∷◌, ◌++◌, drop, length, Some, refl, ap, sym, subst, ◌∙◌, arith, length-append, Host, box_of, went_out, Flow, Crossing, HostMessage, or_false, same_flow-refl, waits_with, CrossedAt, text_of, texts_of, last_out, texts_one}
+use Rattle.std.proofs.Common.{◌-◌, [], ne_eqb}
 use Rattle.std.proofs.Math.Seq.{drop-append_seam}
 use Rattle.std.proofs.lemmas.Option.{same_Some}
 use Rattle.interface.specs.Flow.{same_flow}
@@ -11,7 +11,7 @@ use Rattle.promise.specs.Formed.{link_of, named_at}
 use Rattle.promise.specs.Safe.{before, receives}
 use Rattle.promise.specs.declared.life.Life.{Life}
 use Rattle.world_keeps_streams.proofs.Books.Answered.{Waits, waiting}
-use Rattle.world_keeps_streams.proofs.Books.Unasked.{crossed_less}
+use Rattle.world_keeps_lives.proofs.lemmas.{crossed_below, before_still}
 
 -- ---- places
 
@@ -25,24 +25,19 @@ pub crossed_one : (place : ℕ) (c d : Crossing) (log : List Crossing) → Cross
 crossed_one place c d [] i j = absurd i
 crossed_one place c d (e ∷ log) (inl i) (inl j) = i.0 ∙ sym j.0
 crossed_one place c d (e ∷ log) (inl i) (inr j) = absurd
-    (let less : place < length log = crossed_less place d log j in let is : place ≡ length log =
+    (let less : place < length log = crossed_below place d log j in let is : place ≡ length log =
     i.1 in omega (arith, less, is))
 crossed_one place c d (e ∷ log) (inr i) (inl j) = absurd
-    (let less : place < length log = crossed_less place c log i in let is : place ≡ length log =
+    (let less : place < length log = crossed_below place c log i in let is : place ≡ length log =
     j.1 in omega (arith, less, is))
 crossed_one place c d (e ∷ log) (inr i) (inr j) = crossed_one place c d log i j
-
-before_more : (place : ℕ) (c : Crossing) (log : List Crossing) → place ≤ length log
-    → before place (c ∷ log) ≡ before place log
-before_more place c log less = let e : suc (length log) - place ≡ suc (length log - place) =
-    omega (arith, less) in ap (λ (k : ℕ). drop k (c ∷ log)) e
 
 -- what was before a place stays
 pub before_later : (xs ys : List Crossing) (place : ℕ) → place ≤ length ys → before place (xs ++ ys) ≡ before place ys
 before_later [] ys place less = refl
 before_later (x ∷ xs) ys place less =
     let more : length (xs ++ ys) ≡ length xs + length ys = length-append xs ys in
-    before_more place x (xs ++ ys) (omega (arith, less, more)) ∙ before_later xs ys place less
+    before_still place x (xs ++ ys) (omega (arith, less, more)) ∙ before_later xs ys place less
 
 pub before_end : (xs ys : List Crossing) → before (length ys) (xs ++ ys) ≡ ys
 before_end xs ys =
@@ -52,18 +47,12 @@ before_end xs ys =
 
 -- ---- what a life's requests name
 
-not_there : (place n : ℕ) → place < n → (place == n) ≡ false
-not_there place n less = by (place == n) refl where
-  by : (v : Bool) → (place == n) ≡ v → v ≡ false
-  by false e = refl
-  by true e = absurd (let same : place ≡ n = eqb-true place n e in omega (arith, less, same))
-
 named_later : (comes : Bool) (from to : Host) (own foreign place : ℕ) (xs ys : List Crossing) → place < length ys
     → named_at comes from to own foreign place (xs ++ ys) ≡ named_at comes from to own foreign place ys
 named_later comes from to own foreign place [] ys less = refl
 named_later comes from to own foreign place (x ∷ xs) ys less =
     let more : length (xs ++ ys) ≡ length xs + length ys = length-append xs ys in
-    let off : (place == length (xs ++ ys)) ≡ false = not_there place (length (xs ++ ys)) (omega (arith, less, more)) in
+    let off : (place == length (xs ++ ys)) ≡ false = ne_eqb place (length (xs ++ ys)) (λ e. absurd (omega (arith, less, more, e))) in
     rw off (named_later comes from to own foreign place xs ys less)
 
 pub link_later : (xs ys : List Crossing) (x : Life) → x.own_stamp < length ys → x.partner_stamp < length ys
@@ -161,7 +150,7 @@ went_at hosts (c ∷ log) run taken place m (inl i) last =
       text = w.text_is;
     }
 went_at hosts (c ∷ log) run taken place m (inr i) last =
-    let less : taken < length log = crossed_less taken (crossing.In m) log i in
+    let less : taken < length log = crossed_below taken (crossing.In m) log i in
     let w : WentAt m place log = went_at hosts log run.1 taken place m i
-    (ap (last_out m.flow) (sym (before_more taken c log (omega (arith, less)))) ∙ last) in
+    (ap (last_out m.flow) (sym (before_still taken c log (omega (arith, less)))) ∙ last) in
     record { message = w.message; crossed = inr w.crossed; text = w.text }

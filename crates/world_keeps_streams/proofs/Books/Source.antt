@@ -7,8 +7,9 @@ use Rattle.world_keeps_streams.proofs.Steps.Joined.{Joined}
 use Rattle.world_keeps_streams.proofs.Carried.Streams.{all_bits}
 use Rattle.world_keeps_streams.proofs.Lives.Lists.{IsOf, of_drop}
 use Rattle.world_keeps_streams.proofs.Requests.Sides.{lives_in}
-use Rattle.world_keeps_streams.proofs.Books.Streams.{all_bits_length, front_bits, front_on, front_none, fronts_none}
+use Rattle.world_keeps_streams.proofs.Books.Streams.{all_bits_length, front_bits, front_none, fronts_none}
 use Rattle.world_keeps_streams.proofs.Books.Whole.{since, present_in, PresentR, PresentS, HasR, HasS, Whole}
+use Rattle.world_keeps_lives.proofs.lemmas.{prefix_more}
 
 module _ (a b : Host) (Own Heard : List Moment → ℕ → ℕ → ℕ → ℕ → Type 0) (ms : List Moment) where
   -- whom a receiving life took from
@@ -59,7 +60,7 @@ module _ (a b : Host) (Own Heard : List Moment → ℕ → ℕ → ℕ → ℕ �
           is = h.is;
           matches = one_matches x h.life p.g h.is.g i h.there (f, g) (h.host, h.peer) q h.name p.own h.is.heard;
           front = subst (λ (bs : List Bool). book.IsPrefix x.bits bs) (sym bits)
-              (front_on x.bits (all_bits ((w.j p.link).x.receiver.taken (numbered x.socket x.foreign p.g))) (all_bits ((w.j p.link).x.sender.sent (numbered x.socket x.foreign p.g))) p.bits
+              (prefix_more x.bits (all_bits ((w.j p.link).x.receiver.taken (numbered x.socket x.foreign p.g))) (all_bits ((w.j p.link).x.sender.sent (numbered x.socket x.foreign p.g))) p.bits
               (front_bits ((w.j p.link).x.receiver.taken (numbered x.socket x.foreign p.g)) ((w.j p.link).x.sender.sent (numbered x.socket x.foreign p.g)) safe.front));
         }
 

@@ -15,9 +15,6 @@ all_bits_length (x ∷ xs) = length-append x (all_bits xs) ∙ ap (λ (n : ℕ).
 pub front_bits : (xs ys : List (List Bool)) → IsPrefix xs ys → book.IsPrefix (all_bits xs) (all_bits ys)
 front_bits xs ys f = (all_bits f.0, sym (all_bits_append xs f.0) ∙ ap all_bits f.1)
 
-pub front_on : (xs ys zs : List Bool) → book.IsPrefix xs ys → book.IsPrefix ys zs → book.IsPrefix xs zs
-front_on xs ys zs f g = (f.0 ++ g.0, sym (append_assoc xs f.0 g.0) ∙ ap (λ (bs : List Bool). bs ++ g.0) f.1 ∙ g.1)
-
 pub front_none : (xs ys : List Bool) → book.IsPrefix xs ys → ys ≡ [] → xs ≡ []
 front_none [] ys f e = refl
 front_none (x ∷ xs) ys f e = absurd (let none : x ∷ (xs ++ f.0) ≡ [] = f.1 ∙ e in cc)

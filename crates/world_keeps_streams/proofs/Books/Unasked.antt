@@ -1,5 +1,5 @@
 -- The requests that a host said since it met its peer last aren't those of lives from before.
-use Rattle.world_keeps_streams.proofs.Common.{◌≡◌, ◌⊎◌, inl, inr, ℕ, suc, ◌<◌, ◌==◌, ◌&&◌, if◌then◌else◌, Bool, true, false, List, [], ◌∷◌, ◌++◌, length, map, take, refl, ap, sym, subst, ◌∙◌, arith, Contains, Host, Crossing, is_send_socket, Command, Legal, Order, Wrong, orders_of, mark_of, marks_in, Sockets, Who, Ask, Asks, Close, Mark, placed_event, tagged, Side, says, Contact, Event, Other, Out, are, place, begins_either, CrossedAt, Moment, event_in, events_of, crossings_of, place_same, Linked, LinkedBook, law_events, all_says, at_texts, foreign_of, heard_is, met_if, other, own_of}
+use Rattle.world_keeps_streams.proofs.Common.{◌≡◌, ◌⊎◌, inl, inr, ℕ, suc, ◌<◌, ◌==◌, ◌&&◌, if◌then◌else◌, Bool, true, false, List, [], ◌∷◌, ◌++◌, length, map, take, refl, ap, sym, subst, ◌∙◌, arith, Contains, Host, is_send_socket, Command, Legal, Order, Wrong, orders_of, mark_of, marks_in, Sockets, Who, Ask, Asks, Close, Mark, placed_event, tagged, Side, says, Contact, Event, Other, Out, are, place, begins_either, CrossedAt, Moment, event_in, events_of, crossings_of, place_same, Linked, LinkedBook, law_events, all_says, at_texts, foreign_of, heard_is, met_if, other, own_of}
 use Rattle.interface.specs.declared.crossing.Crossing.TheVariants as crossing
 use Rattle.ncp_control.specs.declared.command.Command.TheVariants as command
 use Rattle.pairing_law.specs.Links.{Receiver, Sender}
@@ -18,6 +18,7 @@ use Rattle.world_keeps_streams.proofs.Books.Run.{below}
 use Rattle.world_keeps_streams.proofs.Books.Whole.{since}
 use Rattle.world_keeps_streams.proofs.Lives.Lists.{IsOf, of_take}
 use Rattle.world_keeps_streams.proofs.Requests.Sides.{Heard, Lawful, Own, begins_same, lives_in}
+use Rattle.world_keeps_lives.proofs.lemmas.{crossed_below}
 
 -- ---- where a request went out
 
@@ -75,11 +76,6 @@ asked_by k n there (Close ∷ ms) x at a = elim (asked_by k n there ms (says Clo
 
 -- ---- a life's own request went out before
 
-pub crossed_less : (n : ℕ) (c : Crossing) (log : List Crossing) → CrossedAt n c log → n < length log
-crossed_less n c [] h = absurd h
-crossed_less n c (d ∷ log) (inl here) = let e : n ≡ length log = here.1 in omega (arith, e)
-crossed_less n c (d ∷ log) (inr older) = let l : n < length log = crossed_less n c log older in omega (arith, l)
-
 pub life_of_link : (x : Life) (links : List Linked) → IsOf x (map (λ (p : Linked). p.life) links) → (p : Linked) × Contains links p × (p.life ≡ x)
 life_of_link x [] i = absurd i
 life_of_link x (p ∷ links) (inl e) = (p, (0, omega arith, refl), sym e)
@@ -92,14 +88,14 @@ own_below hosts ms l x i =
     let b : LinkedBook (crossings_of ms) (lives_in ms) = linked hosts ms l in
     let r : (p : Linked) × Contains b.links p × (p.life ≡ x) = life_of_link x b.links (subst (λ (ys : List Life). IsOf x ys) (sym b.all) i) in
     let c : CrossedAt r.0.life.own_stamp (crossing.Out (b.first r.0 r.1).asked.own.message) (crossings_of ms) = (b.first r.0 r.1).asked.own.crossed in
-    subst (λ (y : Life). y.own_stamp < length (crossings_of ms)) r.2 (crossed_less r.0.life.own_stamp (crossing.Out (b.first r.0 r.1).asked.own.message) (crossings_of ms) c)
+    subst (λ (y : Life). y.own_stamp < length (crossings_of ms)) r.2 (crossed_below r.0.life.own_stamp (crossing.Out (b.first r.0 r.1).asked.own.message) (crossings_of ms) c)
 
 pub partner_below : (hosts : List Host) (ms : List Moment) → Lawful hosts ms → (x : Life) → IsOf x (lives_in ms) → x.partner_stamp < length (crossings_of ms)
 partner_below hosts ms l x i =
     let b : LinkedBook (crossings_of ms) (lives_in ms) = linked hosts ms l in
     let r : (p : Linked) × Contains b.links p × (p.life ≡ x) = life_of_link x b.links (subst (λ (ys : List Life). IsOf x ys) (sym b.all) i) in
     let c : CrossedAt r.0.life.partner_stamp (crossing.In (b.first r.0 r.1).asked.partner.message) (crossings_of ms) = (b.first r.0 r.1).asked.partner.crossed in
-    subst (λ (y : Life). y.partner_stamp < length (crossings_of ms)) r.2 (crossed_less r.0.life.partner_stamp (crossing.In (b.first r.0 r.1).asked.partner.message) (crossings_of ms) c)
+    subst (λ (y : Life). y.partner_stamp < length (crossings_of ms)) r.2 (crossed_below r.0.life.partner_stamp (crossing.In (b.first r.0 r.1).asked.partner.message) (crossings_of ms) c)
 
 -- ---- lives from before both met last
 

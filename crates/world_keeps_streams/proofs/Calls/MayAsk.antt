@@ -12,6 +12,7 @@ use Rattle.sockets.specs.declared.request.Request.TheVariants as request
 use Rattle.world_keeps_streams.specs.Calls.{called}
 use Rattle.world_keeps_streams.proofs.Calls.May.{AllMay, MayCall}
 use Rattle.world_keeps_streams.proofs.Calls.MayTurns.{said_may}
+use Rattle.host_keeps_pairing.proofs.lemmas.{none_is}
 
 -- ---- byte sizes
 
@@ -61,10 +62,6 @@ module _ (origin : ℕ → ℕ) (peer : Host) (stamp : ℕ) where
 
 -- ---- what a user asks for
 
-is_none : (o : Option Entry) → is_some o ≡ false → o ≡ None
-is_none None e = refl
-is_none (Some x) e = absurd (cc)
-
 module _ (s : NcpState) (b : Host) where
   owner_may : (socket : ℕ) (o : Option (Host × Entry)) (k : Entry → Call) → AreInOrder s.peers → owner_of socket s.peers ≡ o
       → ((g : Host) (e : Entry) → o ≡ Some (g, e) → find (is_mine_on socket) (pair_with b s.peers).entries ≡ Some e → MayCall (k e) (pair_with b s.peers)) → AllMay (owner_calls b k (pair_with b s.peers) s.listening o)
@@ -97,14 +94,14 @@ module _ (s : NcpState) (b : Host) where
       let kinds : (is_send_socket own ≡ true) × (is_receive_socket foreign ≡ true) = both (is_send_socket own) (is_receive_socket foreign) (not_false (is_send_socket own && is_receive_socket foreign) second.0) in
       let free : is_some (entry_at own foreign (pair_with peer s.peers).entries) ≡ false = (or_false (is_used s own) _ (not_first (is_taken s peer own foreign) _ _ second.1).0).1 in
       if_same peer (OpensSender own foreign size)
-      (λ is. (kinds.0, kinds.1, subst (λ (h : Host). entry_at own foreign (pair_with h s.peers).entries ≡ None) (sym is) (is_none (entry_at own foreign (pair_with peer s.peers).entries) free))) (same_host b peer) refl
+      (λ is. (kinds.0, kinds.1, subst (λ (h : Host). entry_at own foreign (pair_with h s.peers).entries ≡ None) (sym is) (none_is (entry_at own foreign (pair_with peer s.peers).entries) free))) (same_host b peer) refl
   request_may (request.OpenReceive peer own foreign) order may =
       let first : (not (is_ready (pair_with peer s.peers).phase) ≡ false) × _ = not_first (not (is_ready (pair_with peer s.peers).phase)) _ _ may in
       let second : (not (is_receive_socket own && is_send_socket foreign) ≡ false) × _ = not_first (not (is_receive_socket own && is_send_socket foreign)) _ _ first.1 in
       let kinds : (is_receive_socket own ≡ true) × (is_send_socket foreign ≡ true) = both (is_receive_socket own) (is_send_socket foreign) (not_false (is_receive_socket own && is_send_socket foreign) second.0) in
       let free : is_some (entry_at own foreign (pair_with peer s.peers).entries) ≡ false = (or_false (is_used s own) _ (not_first (is_taken s peer own foreign) _ _ second.1).0).1 in
       if_same peer (OpensReceiver own foreign)
-      (λ is. (kinds.0, kinds.1, subst (λ (h : Host). entry_at own foreign (pair_with h s.peers).entries ≡ None) (sym is) (is_none (entry_at own foreign (pair_with peer s.peers).entries) free))) (same_host b peer) refl
+      (λ is. (kinds.0, kinds.1, subst (λ (h : Host). entry_at own foreign (pair_with h s.peers).entries ≡ None) (sym is) (none_is (entry_at own foreign (pair_with peer s.peers).entries) free))) (same_host b peer) refl
   request_may (request.Send socket bits) order may =
       let first : (not (is_send_socket socket) ≡ false) × _ = not_first (not (is_send_socket socket)) _ _ may in
       owner_may socket (owner_of socket s.peers) (Gives socket bits) order refl (λ g e f found. (found, send_odd socket (not_false (is_send_socket socket) first.0)))

@@ -13,9 +13,10 @@ use Rattle.host_keeps_streams.proofs.lemmas.{numbers_changed, received_is}
 use Rattle.host_keeps_streams.proofs.lemmas.Senders as senders
 use Rattle.world_keeps_lives.proofs.lemmas.{IsLess, IsRefusing, called_less, closed_less, found_changed, heard_less, none_changed, sent_less}
 use Rattle.world_keeps_streams.proofs.Deeds.Effects as deeds
-use Rattle.world_keeps_streams.proofs.Deeds.Effects.{Among, Becomes, Comes, Deed, From, HasLink, IsLinked, IsNew, OpensAs, Stays, among_filter, changed_comes, changed_stays, filtered_stays, found_among, joined_comes, mapped_stays, stays_comes, stays_same, stays_then}
+use Rattle.world_keeps_streams.proofs.Deeds.Effects.{Among, Becomes, Comes, Deed, HasLink, IsLinked, IsNew, OpensAs, Stays, among_filter, changed_comes, changed_stays, filtered_stays, found_among, joined_comes, mapped_stays, stays_comes, stays_same, stays_then}
 use Rattle.world_keeps_streams.proofs.Deeds.Kinds.{arrives, arrives_if, closings, deed_of, hears, matches, opens, opens_by, returns, says, sweeps}
 use Rattle.interface.proofs.lemmas.{and_none}
+use Rattle.world_keeps_lives.proofs.lemmas.{not_zero}
 
 -- ---- at which ends
 
@@ -91,12 +92,6 @@ found_cases (Some e) P u v w = by (is_open e) (is_ending e) refl where
   by false false o = u
 
 -- ---- an end that opens
-
-not_zero : (link : ℕ) → is_connection_link link ≡ true → (link == 0) ≡ false
-not_zero link e = by (link == 0) refl where
-  by : (v : Bool) → (link == 0) ≡ v → v ≡ false
-  by true f = absurd (let r : is_connection_link 0 ≡ true = subst (λ (n : ℕ). is_connection_link n ≡ true) (eqb-true link 0 f) e in let t : false ≡ true = r in cc)
-  by false f = refl
 
 module _ (x y : ℕ) (change : Entry → Entry) (es : List Entry) (e : Entry) (found : entry_at x y es ≡ Some e) (lacks : has_opened e ≡ false) (own : (change e).own ≡ e.own) (foreign : (change e).foreign ≡ e.foreign)
     (mine : (change e).mine ≡ e.mine) (refuses : IsRefusing (change e)) (linked : IsLinked e → IsLinked (change e)) where

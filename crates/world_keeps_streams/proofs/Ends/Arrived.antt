@@ -12,7 +12,7 @@ use Rattle.promise.specs.declared.life.Fate.TheVariants as fate
 use Rattle.promise.specs.declared.life.Life.{Life}
 use Rattle.net_sim.specs.Told.{kept_in}
 use Rattle.world_keeps_lives.specs.Firsts.{IsSentIn}
-use Rattle.world_keeps_lives.proofs.lemmas.{end_link, named_there}
+use Rattle.world_keeps_lives.proofs.lemmas.{end_link, named_there, same_out}
 use Rattle.world_keeps_streams.specs.Answered as moments
 use Rattle.world_keeps_streams.proofs.Books.All.{all_given}
 use Rattle.world_keeps_streams.proofs.Books.Answered.{answered}
@@ -175,9 +175,6 @@ some_place s (Some p) name e = ap (λ (k : ℕ). Some k)
     (at (record { place = p; own = s.foreign; foreign = s.socket }) name e) where
       at : (a b : Name) → Some a ≡ Some b → a.place ≡ b.place
       at a b f = let same : a ≡ b = cc in ap (λ (z : Name). z.place) same
-
-same_out : (m n : HostMessage) → crossing.Out m ≡ crossing.Out n → m ≡ n
-same_out m n e = cc
 
 -- a life's own request went out, and its partner's came in
 record OwnAt (log : List Crossing) (x : Life) : Type 0 where

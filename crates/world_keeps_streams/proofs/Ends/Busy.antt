@@ -3,7 +3,6 @@
 use Rattle.world_keeps_streams.proofs.Common.{◌≡◌, ◌⊎◌, inl, inr, ℕ, zero, suc, ◌==◌, ◌&&◌, not, Bool, true, false, if◌then◌else◌, List, [], ◌∷◌, ◌++◌, Option, Some, None, is_some, refl, ap, sym, subst, ◌∙◌, eqb-true, eq-eqb, Host, same_host, Flow, Answer, HostMessage, same_host-true, has_cls, is_busy, is_link, is_receiving, PairState, Parcel, may_send_on, Entry, both, has_opened, AreAllowed, IsHistory, Answered, ends_now, numbered, is_ready, Phase, Pair, pair, pair_moved, pair_with, turn_of, Request, Asked, Crossed, IsNext, Moment, events_of, event_in, places, program, Agrees, story_agrees, calls_by, message_calls, own_calls, request_calls, MaySend, next_calls, next_of, Message, message_on, when, Send, Take, Hear, Begin, Other, MayGo, what_goes, open_parts, next_is, next_in, is_ending, same_host-refl, link_for, answer_calls}
 use Rattle.reset_law.specs.Pairs.{Plain}
 use Rattle.host_keeps_streams.specs.Histories as calls
-use Rattle.host_keeps_streams.specs.Histories.{Call}
 use Rattle.host_pairs.specs.Parcels.{link_of}
 use Rattle.ncp_control.specs.declared.phase.Phase.TheVariants as phase
 use Rattle.interface.specs.declared.crossing.Answer.TheVariants as answer
@@ -27,10 +26,10 @@ use Rattle.world_keeps_streams.proofs.Deeds.Effects.{Among, found_among}
 use Rattle.world_keeps_streams.proofs.Ends.Marks.{never}
 use Rattle.world_keeps_streams.proofs.Ends.Owes.{AData, AReply, AReset, Outs, Several, outs, pair_is}
 use Rattle.world_keeps_streams.proofs.Requests.Sides.{Lawful, coupled_in}
-use Rattle.world_keeps_streams.proofs.Steps.GoesOut.{ready_phase}
 use Rattle.world_keeps_streams.proofs.Steps.Streams.{all_allowed}
 use Rattle.world_keeps_streams.proofs.Ends.Holds.{AllOn, Has, has_calls, holds, on_if, on_message, on_next, on_request}
 use Rattle.world_keeps_streams.proofs.Facts.{no_zero}
+use Rattle.reset_law.proofs.lemmas.{ready_phase}
 
 -- ---- one moment, by the law of resets
 

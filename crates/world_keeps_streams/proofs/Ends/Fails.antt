@@ -22,7 +22,7 @@ use Rattle.world_keeps_streams.proofs.Lives.Fates.{TellsEnd, TellsOpening, Tells
 use Rattle.world_keeps_streams.proofs.Lives.LeavesEnds.{answer_quiet, quiet_tells, request_quiet}
 use Rattle.world_keeps_streams.proofs.Requests.Sides.{Lawful, coupled_in}
 use Rattle.world_keeps_streams.proofs.Ends.Kinds.{Kind, ItDrops, ItIdles, ItStays, ItStops, away, end_of, openings_some, pace}
-use Rattle.world_keeps_streams.proofs.Steps.GoesOut.{ready_phase}
+use Rattle.reset_law.proofs.lemmas.{ready_phase}
 
 if_ready_end : (v : Bool) (e : End) → v ≡ true → (if v then e else nothing) ≡ e
 if_ready_end true e t = refl

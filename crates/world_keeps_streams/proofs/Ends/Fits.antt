@@ -21,7 +21,7 @@ use Rattle.world_keeps_streams.proofs.Ends.Every.{kind_here}
 use Rattle.world_keeps_streams.proofs.Ends.Halves.{asked_below, begun_stays, half_own, half_partner, over_stays}
 use Rattle.world_keeps_streams.proofs.Ends.Kinds.{Hears, ItDrops, ItHears, ItIdles, ItSays, ItStays, ItStops, Kind, Pace, Says, among_none, end_of, openings_some, stage_of}
 use Rattle.world_keeps_streams.proofs.Ends.MarkedEnds.{HearsOn, HearsOver, SaysOn, SaysOver, asked_heard, asks_here, begin_hears, begin_hears_early, begin_says, begin_says_early, hears_here, hears_lock, none_hears, none_says, partner_said, says_lock}
-use Rattle.world_keeps_streams.proofs.Ends.Marks.{is_asking, never, none_some, own_early, own_marks, partner_early, partner_marks}
+use Rattle.world_keeps_streams.proofs.Ends.Marks.{is_asking, never, own_early, own_marks, partner_early, partner_marks}
 use Rattle.world_keeps_streams.proofs.Ends.Opens.{one_end, undue_asked, undue_heard, unshut_end}
 use Rattle.world_keeps_streams.proofs.Ends.Ties.{IsGoing, entry_is, going, itself, law_end}
 use Rattle.world_keeps_streams.proofs.Ends.Unshut.{Unshut, is_shut, unshut_next}
@@ -30,6 +30,7 @@ use Rattle.world_keeps_streams.proofs.Lives.Lists.{Named, contains}
 use Rattle.world_keeps_streams.proofs.Lives.Opened.{contains_among, no_openings}
 use Rattle.world_keeps_streams.proofs.Requests.Sides.{Lawful, coupled_in}
 use Rattle.world_keeps_streams.proofs.Books.Began.{sent_cls}
+use Rattle.world_keeps_lives.proofs.lemmas.{none_some}
 
 -- ---- stages and fates
 

@@ -13,8 +13,9 @@ use Rattle.world_keeps_streams.proofs.Books.Run.{below}
 use Rattle.world_keeps_streams.proofs.Ends.Courses.{contacted_if, course_in, moved}
 use Rattle.world_keeps_streams.proofs.Ends.Kinds.{ItDrops, ItHears, ItIdles, ItSays, ItStays, ItStops, Kind, Pace, end_of, pace, stage_of}
 use Rattle.world_keeps_streams.proofs.Ends.MarkedEnds.{asked_heard, heard_from, heard_gone, heard_open, heard_still, heard_taken, own_first, own_stays, own_unclosed, partner_first, partner_said, partner_stays, partner_unclosed, said_from, said_gone, said_none, said_open, said_taken}
-use Rattle.world_keeps_streams.proofs.Ends.Marks.{NoClose, begun_own, begun_own_closed, begun_partner, begun_partner_closed, is_asking, none_some, not_half, own_early, own_marks, partner_early, partner_marks}
+use Rattle.world_keeps_streams.proofs.Ends.Marks.{NoClose, begun_own, begun_own_closed, begun_partner, begun_partner_closed, is_asking, not_half, own_early, own_marks, partner_early, partner_marks}
 use Rattle.world_keeps_streams.proofs.Requests.Sides.{Lawful}
+use Rattle.world_keeps_lives.proofs.lemmas.{none_some}
 
 -- ---- what each step keeps
 

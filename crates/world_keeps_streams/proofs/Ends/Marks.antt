@@ -1,5 +1,5 @@
 -- A life's stage by what is said and heard of its two sockets, beside the end that the law of pairing has there.
-use Rattle.world_keeps_streams.proofs.Common.{◌≡◌, ℕ, ◌==◌, ◌&&◌, ◌||◌, Bool, true, false, if◌then◌else◌, List, [], ◌∷◌, ◌++◌, map, Some, None, refl, ap, sym, ◌∙◌, Legal, Order, Wrong, Command, Ask, Close, Mark, mark_in, mark_of, marks, marks_in, AllPlain, ArePlain, is_rrp, is_rst, Asking, Course, Going, Over, Stage, each, ended_by, heard, own_asked, own_closed, own_step, partner_asked, partner_closed, partner_step, said}
+use Rattle.world_keeps_streams.proofs.Common.{◌≡◌, ℕ, ◌==◌, ◌&&◌, ◌||◌, Bool, true, false, if◌then◌else◌, List, [], ◌∷◌, ◌++◌, map, refl, ap, sym, ◌∙◌, Legal, Order, Wrong, Command, Ask, Close, Mark, mark_in, mark_of, marks, marks_in, AllPlain, ArePlain, is_rrp, is_rst, Asking, Course, Going, Over, Stage, each, ended_by, heard, own_asked, own_closed, own_step, partner_asked, partner_closed, partner_step, said}
 use Rattle.ncp_control.specs.declared.command.Command.TheVariants as command
 use Rattle.promise.specs.Ends.{Closed, is_half}
 use Rattle.promise.specs.declared.life.Life.{Life}
@@ -7,9 +7,6 @@ use Rattle.interface.proofs.lemmas.{or_nothing}
 
 pub never : {A : Type 0} → true ≡ false → A
 never e = absurd (let no : true ≡ false = e in cc)
-
-pub none_some : {A : Type 0} (n : ℕ) → None ≡ Some n → A
-none_some n e = absurd (let no : None ≡ Some n = e in cc)
 
 -- ---- requests at one place
 

@@ -1,6 +1,6 @@
 -- How far lives are, and how a moment changes it: an open life ends by CLS only where its host's user is notified of that, and one begins where the user is
 -- notified of an opening.
-use Rattle.world_keeps_streams.proofs.Common.{◌≡◌, ◌⊎◌, inl, inr, ℕ, ◌==◌, ◌&&◌, Bool, true, false, not, if◌then◌else◌, List, [], ◌∷◌, ◌++◌, refl, ap, sym, subst, ◌∙◌, eqb-true, Host, same_host, Crossing, Notice, both, not_is, Request, same_host-true, IsBeside, Fate, Kept, all_told, book_told, carried, changed_when, life_ended, lives_asked, lives_at, lives_between, lives_crossed, lives_on, lives_told, lives_with, new_life, where_it, Moment, Crossed, Asked, host_in, kept_by, notices_by, kept_fated}
+use Rattle.world_keeps_streams.proofs.Common.{◌≡◌, ◌⊎◌, inl, inr, ℕ, ◌==◌, ◌&&◌, Bool, true, false, not, if◌then◌else◌, List, [], ◌∷◌, ◌++◌, refl, ap, sym, subst, ◌∙◌, eqb-true, Host, same_host, Crossing, Notice, both, Request, same_host-true, IsBeside, Fate, Kept, all_told, book_told, carried, changed_when, life_ended, lives_asked, lives_at, lives_between, lives_crossed, lives_on, lives_told, lives_with, new_life, where_it, Moment, Crossed, Asked, host_in, kept_by, notices_by, kept_fated}
 use Rattle.interface.specs.declared.crossing.Crossing.TheVariants as crossing
 use Rattle.host_pairs.specs.declared.notice.Notice.TheVariants as notice
 use Rattle.sockets.specs.declared.request.Request.TheVariants as request
@@ -11,6 +11,7 @@ use Rattle.net_sim.specs.Book.{closing, fates_asked, fates_crossed, fates_told, 
 use Rattle.net_sim.specs.Told.{kept_in}
 use Rattle.net_sim.proofs.lemmas.{by_fated, told_fated}
 use Rattle.world_keeps_streams.proofs.Lives.Lists.{IsOf, Named, named_itself}
+use Rattle.world_keeps_lives.proofs.lemmas.{goes_at, goes_with, goes_on}
 
 -- ---- lists that are changed
 
@@ -232,9 +233,6 @@ turned_over h ns false turn x f goes never ends fated how = turned_same h ns x f
 
 -- ---- which lives those are
 
-at_goes : (h : Host) (socket : ℕ) (x : Life) → lives_at h socket x ≡ true → x.ended ≡ false
-at_goes h socket x e = not_is x.ended (both (same_host h x.host && x.socket == socket) (not x.ended) e).1
-
 -- the life that an end is of
 between_at : (h : Host) (socket : ℕ) (peer : Host) (foreign : ℕ) (x : Life) → lives_between h socket peer foreign x ≡ true
     → (lives_at h socket x ≡ true) × IsEnd x (notice.Ended socket peer foreign)
@@ -250,9 +248,6 @@ at_host h socket x e =
     let p : ((same_host h x.host && x.socket == socket) ≡ true) × (not x.ended ≡ true) = both (same_host h x.host && x.socket == socket) (not x.ended) e in
     same_host-true h x.host (both (same_host h x.host) (x.socket == socket) p.0).0
 
-with_goes : (h peer : Host) (x : Life) → lives_with h peer x ≡ true → x.ended ≡ false
-with_goes h peer x e = not_is x.ended (both (same_host h x.host && same_host peer x.peer) (not x.ended) e).1
-
 -- those with a peer
 with_names : (h peer : Host) (x : Life) → lives_with h peer x ≡ true → (h ≡ x.host) × (peer ≡ x.peer)
 with_names h peer x e =
@@ -261,9 +256,6 @@ with_names h peer x e =
 
 on_host : (h : Host) (x : Life) → lives_on h x ≡ true → h ≡ x.host
 on_host h x e = same_host-true h x.host (both (same_host h x.host) (not x.ended) e).0
-
-on_goes : (h : Host) (x : Life) → lives_on h x ≡ true → x.ended ≡ false
-on_goes h x e = not_is x.ended (both (same_host h x.host) (not x.ended) e).1
 
 -- ---- fates
 
@@ -363,22 +355,22 @@ told_comes h (notice.Opened socket peer foreign own partner) lives fates y g a i
   })
 ]
 told_comes h (notice.Ended socket peer foreign) lives fates y g a i =
-    over_comes h (notice.Ended socket peer foreign ∷ []) (lives_between h socket peer foreign) over_by_cls lives fates y g (λ z e. at_goes h socket z (between_at h socket peer foreign z e).0) over_never
+    over_comes h (notice.Ended socket peer foreign ∷ []) (lives_between h socket peer foreign) over_by_cls lives fates y g (λ z e. goes_at h socket z (between_at h socket peer foreign z e).0) over_never
     (λ x k there e turns.
     (let p : (lives_at h socket x ≡ true) × IsEnd x (notice.Ended socket peer foreign) = between_at h socket peer foreign x e in
-    let over : is_over k ≡ false = sym (beside_over lives fates x k a there) ∙ at_goes h socket x p.0 in
+    let over : is_over k ≡ false = sym (beside_over lives fates x k a there) ∙ goes_at h socket x p.0 in
     (over_open k over turns, at_host h socket x p.0, inl p.1))) a
     (λ x k e. (let p : (lives_at h socket x ≡ true) × IsEnd x (notice.Ended socket peer foreign) = between_at h socket peer foreign x e in inr (inl (over_cls k, at_host h socket x p.0, inl p.1)))) i
 told_comes h (notice.PairReset peer) lives fates y g a i =
-    over_comes h (notice.PairReset peer ∷ []) (lives_with h peer) (λ f. fate.Reset) lives fates y g (with_goes h peer) (λ k e. absurd (let no : fate.Reset ≡ fate.Open = e in cc))
+    over_comes h (notice.PairReset peer ∷ []) (lives_with h peer) (λ f. fate.Reset) lives fates y g (goes_with h peer) (λ k e. absurd (let no : fate.Reset ≡ fate.Open = e in cc))
     (λ x k there e turns. absurd (let no : fate.Reset ≡ fate.Ended = turns in cc)) a
     (λ x k e. (let p : (h ≡ x.host) × (peer ≡ x.peer) = with_names h peer x e in inr (inr (refl, p.0, inl p.1)))) i
 told_comes h (notice.Sent socket bits) lives fates y g a i =
-    lives_come h (notice.Sent socket bits ∷ []) (lives_at h socket) (carried bits) lives fates y g (λ z. record { host = refl; socket = refl; peer = refl; foreign = refl; own = refl; partner = refl }) (λ z. refl) (at_goes h socket) i
+    lives_come h (notice.Sent socket bits ∷ []) (lives_at h socket) (carried bits) lives fates y g (λ z. record { host = refl; socket = refl; peer = refl; foreign = refl; own = refl; partner = refl }) (λ z. refl) (goes_at h socket) i
 told_comes h (notice.Arrived socket bits) lives fates y g a i =
-    lives_come h (notice.Arrived socket bits ∷ []) (lives_at h socket) (carried bits) lives fates y g (λ z. record { host = refl; socket = refl; peer = refl; foreign = refl; own = refl; partner = refl }) (λ z. refl) (at_goes h socket) i
+    lives_come h (notice.Arrived socket bits ∷ []) (lives_at h socket) (carried bits) lives fates y g (λ z. record { host = refl; socket = refl; peer = refl; foreign = refl; own = refl; partner = refl }) (λ z. refl) (goes_at h socket) i
 told_comes h (notice.Returned socket messages bits) lives fates y g a i =
-    lives_come h (notice.Returned socket messages bits ∷ []) (lives_at h socket) (returned messages bits) lives fates y g (λ z. record { host = refl; socket = refl; peer = refl; foreign = refl; own = refl; partner = refl }) (λ z. refl) (at_goes h socket) i
+    lives_come h (notice.Returned socket messages bits ∷ []) (lives_at h socket) (returned messages bits) lives fates y g (λ z. record { host = refl; socket = refl; peer = refl; foreign = refl; own = refl; partner = refl }) (λ z. refl) (goes_at h socket) i
 told_comes h n lives fates y g a i = inl (y, g, i, turned_same h (n ∷ []) y g)
 
 turned_back : (x y : Life) → Named x y → Named y x
@@ -462,8 +454,8 @@ crossed_step (crossing.Down h) lives fates y g a i =
       w.how,
       w.there,
       subst (λ (k : Fate). Stepped (Crossed (crossing.Down h)) w.life w.how y k) (sym w.fate_is)
-          (subst (λ (z : Life). Stepped (Crossed (crossing.Down h)) w.life w.how z (if lives_on h w.life then fate.Stopped else w.how)) (sym w.is) (down_step h (lives_on h w.life) w.life w.how (on_goes h w.life)
-          (λ e. sym (beside_over lives fates w.life w.how a w.there) ∙ on_goes h w.life e) (on_host h w.life))),
+          (subst (λ (z : Life). Stepped (Crossed (crossing.Down h)) w.life w.how z (if lives_on h w.life then fate.Stopped else w.how)) (sym w.is) (down_step h (lives_on h w.life) w.life w.how (goes_on h w.life)
+          (λ e. sym (beside_over lives fates w.life w.how a w.there) ∙ goes_on h w.life e) (on_host h w.life))),
     )
 crossed_step c lives fates y g a i = (y, g, i, same_step (Crossed c) y g (λ e. e))
 
@@ -499,7 +491,7 @@ asked_step h (request.Close socket) lives fates y g i =
     (y, w.0, w.1, subst (λ (k : Fate). Stepped (Asked h (request.Close socket)) y w.0 y k) (sym w.2) (close_step h socket (lives_at h socket y) y w.0 refl))
 asked_step h (request.Grant socket messages bits) lives fates y g i =
     let w : (x : Life) × IsBeside x g lives fates × (y ≡ changed_when (lives_at h socket x) (granted messages bits) x) = was_life (lives_at h socket) (granted messages bits) lives fates y g i in
-    (w.0, g, w.1, subst (λ (z : Life). Stepped (Asked h (request.Grant socket messages bits)) w.0 g z g) (sym w.2) (grant_step h socket messages bits (lives_at h socket w.0) w.0 g (at_goes h socket w.0)))
+    (w.0, g, w.1, subst (λ (z : Life). Stepped (Asked h (request.Grant socket messages bits)) w.0 g z g) (sym w.2) (grant_step h socket messages bits (lives_at h socket w.0) w.0 g (goes_at h socket w.0)))
 asked_step h r lives fates y g i = (y, g, i, same_step (Asked h r) y g (λ e. e))
 
 by_step : (m : Moment) (k : Kept) (y : Life) (g : Fate) → AreFated k.book.lives k.fates → IsBeside y g (kept_by m k).book.lives (kept_by m k).fates → CameBy m k.book.lives k.fates y g

@@ -1,12 +1,14 @@
 -- Lives of one host with one peer, where a moment lets them be or ends them, and begins none.
 use Rattle.world_keeps_streams.proofs.Common.{◌≡◌, ◌⊎◌, inl, inr, ℕ, Bool, true, false, List, [], ◌∷◌, ◌++◌, map, refl, ap, sym, subst, ◌∙◌, append_assoc, map-append, Host, same_host, same_host-refl, Notice, Request, Kept, all_told, carried, changed_when, life_ended, lives_asked, lives_at, lives_between, lives_on, lives_told, lives_with, new_life, book_told, where_it, Moment, Crossed, Asked, host_in, kept_by, notices_by, clash}
+use Rattle.std.proofs.Common.{append-nil}
 use Rattle.interface.specs.declared.crossing.Crossing.TheVariants as crossing
 use Rattle.host_pairs.specs.declared.notice.Notice.TheVariants as notice
 use Rattle.sockets.specs.declared.request.Request.TheVariants as request
 use Rattle.promise.specs.declared.life.Life.{Life}
 use Rattle.net_sim.specs.Book.{granted, returned}
 use Rattle.net_sim.specs.Told.{kept_in}
-use Rattle.world_keeps_streams.proofs.Lives.Lists.{IsOf, grown, of_either, of_mapped, map_itself, nil_right, map_both}
+use Rattle.world_keeps_streams.proofs.Lives.Lists.{IsOf, grown, of_either, of_mapped, map_itself}
+use Rattle.world_keeps_lives.proofs.lemmas.{map_two}
 
 -- ---- notices
 
@@ -61,7 +63,7 @@ module _ (calm : Bool) (h p : Host) where
   bare_none xs = record {
     change = λ x. x;
     more = [];
-    is = sym (nil_right (map (λ (x : Life). x) xs) ∙ map_itself xs);
+    is = sym (append-nil (map (λ (x : Life). x) xs) ∙ map_itself xs);
     host = λ x. refl;
     peer = λ x. refl;
     quiet = λ c x f g. inl refl;
@@ -87,7 +89,7 @@ module _ (calm : Bool) (h p : Host) where
     change = λ x. k.change (g.change x);
     more = map k.change g.more ++ k.more;
     is = k.is ∙ ap (λ (l : List Life). map k.change l ++ k.more) g.is
-        ∙ ap (λ (l : List Life). l ++ k.more) (map-append k.change (map g.change xs) g.more ∙ ap (λ (l : List Life). l ++ map k.change g.more) (map_both g.change k.change xs))
+        ∙ ap (λ (l : List Life). l ++ k.more) (map-append k.change (map g.change xs) g.more ∙ ap (λ (l : List Life). l ++ map k.change g.more) (map_two g.change k.change xs))
         ∙ append_assoc (map (λ (x : Life). k.change (g.change x)) xs) (map k.change g.more) k.more;
     host = λ x. k.host (g.change x) ∙ g.host x;
     peer = λ x. k.peer (g.change x) ∙ g.peer x;
@@ -106,7 +108,7 @@ module _ (calm : Bool) (h p : Host) where
   bare_where test f xs names quiet = record {
     change = λ x. changed_when (test x) f x;
     more = [];
-    is = sym (nil_right (where_it test f xs));
+    is = sym (append-nil (where_it test f xs));
     host = λ x. host (test x) x;
     peer = λ x. peer (test x) x;
     quiet = λ c x e g. by (test x) x (quiet c x e g);

@@ -1,5 +1,6 @@
 -- Lists of lives: what is in them, and how they grow by a moment.
 use Rattle.world_keeps_streams.proofs.Common.{◌≡◌, ◌⊎◌, inl, inr, ℕ, zero, suc, ◌<◌, ◌≤◌, ◌==◌, ◌&&◌, Bool, true, false, not, List, [], ◌∷◌, ◌++◌, length, map, take, drop, slice_index_or, refl, ap, sym, ◌∙◌, arith, Contains, append_assoc, map-append, Host, same_host, Crossing, Notice, Request, Kept, all_told, carried, changed_when, life_ended, lives_asked, lives_at, lives_between, lives_crossed, lives_on, lives_told, lives_with, new_life, book_told, where_it, Moment, Crossed, Asked, host_in, kept_by, notices_by}
+use Rattle.std.proofs.Common.{append-nil}
 use Rattle.interface.specs.declared.crossing.Crossing.TheVariants as crossing
 use Rattle.host_pairs.specs.declared.notice.Notice.TheVariants as notice
 use Rattle.sockets.specs.declared.request.Request.TheVariants as request
@@ -7,6 +8,7 @@ use Rattle.promise.specs.declared.life.Life.{Life}
 use Rattle.net_sim.specs.Book.{granted, returned}
 use Rattle.promise.specs.Safe.{AreTwo}
 use Rattle.net_sim.specs.Told.{kept_in}
+use Rattle.world_keeps_lives.proofs.lemmas.{map_two}
 
 -- ---- a life of a list
 
@@ -151,26 +153,18 @@ pub map_itself : (xs : List Life) → map (λ (x : Life). x) xs ≡ xs
 map_itself [] = refl
 map_itself (x ∷ xs) = ap (λ (ys : List Life). x ∷ ys) (map_itself xs)
 
-pub nil_right : (xs : List Life) → xs ++ [] ≡ xs
-nil_right [] = refl
-nil_right (x ∷ xs) = ap (λ (ys : List Life). x ∷ ys) (nil_right xs)
-
-pub map_both : (f g : Life → Life) (xs : List Life) → map g (map f xs) ≡ map (λ (x : Life). g (f x)) xs
-map_both f g [] = refl
-map_both f g (x ∷ xs) = ap (λ (ys : List Life). g (f x) ∷ ys) (map_both f g xs)
-
 grown_more : (xs ys : List Life) → Grown xs (xs ++ ys)
 grown_more xs ys = record { change = λ x. x; more = ys; is = ap (λ (l : List Life). l ++ ys) (sym (map_itself xs)); names = named_itself; still = λ x e. refl; counts = λ x. omega arith }
 
 grown_none : (xs : List Life) → Grown xs xs
-grown_none xs = record { change = λ x. x; more = []; is = sym (nil_right (map (λ (x : Life). x) xs) ∙ map_itself xs); names = named_itself; still = λ x e. refl; counts = λ x. omega arith }
+grown_none xs = record { change = λ x. x; more = []; is = sym (append-nil (map (λ (x : Life). x) xs) ∙ map_itself xs); names = named_itself; still = λ x e. refl; counts = λ x. omega arith }
 
 grown_on : (xs ys zs : List Life) → Grown xs ys → Grown ys zs → Grown xs zs
 grown_on xs ys zs g h = record {
   change = λ x. h.change (g.change x);
   more = map h.change g.more ++ h.more;
   is = h.is ∙ ap (λ (l : List Life). map h.change l ++ h.more) g.is
-      ∙ ap (λ (l : List Life). l ++ h.more) (map-append h.change (map g.change xs) g.more ∙ ap (λ (l : List Life). l ++ map h.change g.more) (map_both g.change h.change xs))
+      ∙ ap (λ (l : List Life). l ++ h.more) (map-append h.change (map g.change xs) g.more ∙ ap (λ (l : List Life). l ++ map h.change g.more) (map_two g.change h.change xs))
       ∙ append_assoc (map (λ (x : Life). h.change (g.change x)) xs) (map h.change g.more) h.more;
   names = λ x. record {
     host = (h.names (g.change x)).host ∙ (g.names x).host;
@@ -192,7 +186,7 @@ grown_where : (test : Life → Bool) (f : Life → Life) (xs : List Life) → ((
 grown_where test f xs names more off = record {
   change = λ x. changed_when (test x) f x;
   more = [];
-  is = sym (nil_right (where_it test f xs));
+  is = sym (append-nil (where_it test f xs));
   names = λ x. when x (test x);
   still = λ x e. ap (λ (v : Bool). changed_when v f x) (off x e);
   counts = λ x. no_less x (test x);

@@ -1,10 +1,11 @@
 -- The lives of two hosts that stay, as a safe book asks for them.
-use Rattle.world_keeps_streams.proofs.Common.{◌≡◌, inl, inr, ℕ, zero, suc, ◌≤◌, ◌==◌, true, false, List, [], ◌∷◌, drop, refl, sym, subst, arith, Host, is_receive_socket, AreAllowed, gone_now, numbered, receiver_now, sender_now, Sockets, Who, Asks, Mark, Side, pair_with, Moment, events_of, program, crossings_of, Coupled, law_events, origin_in, ArePaired, are_origins, at_texts, even_odd, foreign_of, half, life_paired, other, own_of, receiver_half, sender_half, served_in, own_calls, numbered_by_peer}
+use Rattle.world_keeps_streams.proofs.Common.{◌≡◌, inl, inr, ℕ, zero, suc, ◌≤◌, ◌==◌, true, false, List, [], ◌∷◌, drop, refl, sym, subst, arith, Host, is_receive_socket, AreAllowed, gone_now, numbered, receiver_now, sender_now, Sockets, Who, Asks, Mark, Side, pair_with, Moment, events_of, program, crossings_of, Coupled, law_events, origin_in, are_origins, at_texts, even_odd, foreign_of, half, life_paired, other, own_of, receiver_half, sender_half, served_in, own_calls, numbered_by_peer}
+use Rattle.world_keeps_pairing.specs.Lives.{ArePaired}
 use Rattle.pairing_law.specs.Links.{Receiver, Sender}
 use Rattle.reset_law.specs.Stays as stay
 use Rattle.promise.specs.Safe.{receives, sends}
 use Rattle.promise.specs.declared.life.Life.{Life}
-use Rattle.world_keeps_pairing.proofs.lemmas.{IsPair}
+use Rattle.world_keeps_pairing.proofs.lemmas.{IsPair, other_sends}
 use Rattle.world_keeps_streams.proofs.Carried.Streams.{IsSent, IsTaken}
 use Rattle.world_keeps_streams.proofs.Carried.Calls as carried
 use Rattle.world_keeps_streams.proofs.Carried.Calls.{Carries, Named}
@@ -14,7 +15,7 @@ use Rattle.world_keeps_streams.proofs.Deeds.Effects.{Among}
 use Rattle.world_keeps_streams.proofs.Books.Given.{Lives}
 use Rattle.world_keeps_streams.proofs.Lives.Lists.{IsOf, contains, of_drop}
 use Rattle.world_keeps_streams.proofs.Lives.Since.{NoneBegin, drop_more, dropped_first, recent_present, since_either}
-use Rattle.world_keeps_streams.proofs.Requests.Own.{foreign_sends, own_is_of}
+use Rattle.world_keeps_streams.proofs.Requests.Own.{own_is_of}
 use Rattle.world_keeps_streams.proofs.Requests.Sides.{Heard, Lawful, Own, coupled_in, lives_in}
 use Rattle.world_keeps_streams.proofs.Books.Whole.{Away, HasReceives, HasSends, Receives, Sends, present_in, since}
 use Rattle.world_keeps_streams.proofs.Heard.Alike.{heard_marks}
@@ -73,7 +74,7 @@ module _ (hosts : List Host) (a b : Host) (mine : (ms : List Moment) → Lawful 
         let allowed : AreAllowed numbered b 1 (own_calls a b ms) = (joined 1 refl hosts l.0 a b ms l.1 l.2).allowed_a stays in
         own_is_of hosts ms l a b x g i (f, k) r
         (subst (λ (y : Side). Asks g (origin_in (crossings_of ms) a b x.partner_stamp) y.heard) (sym (receiver_half (record { receive = x.socket; send = x.foreign }) a b (law_events ms)))
-        (law_heard hosts ms l a b numbered allowed stays (record { receive = x.socket; send = x.foreign }) (r, foreign_sends x r (life_pair hosts ms l x i)) Receiver g x.partner_stamp c.named))
+        (law_heard hosts ms l a b numbered allowed stays (record { receive = x.socket; send = x.foreign }) (r, other_sends x r (life_pair hosts ms l x i)) Receiver g x.partner_stamp c.named))
 
     heard_request : stay.stays b a (events_of ms) ≡ true → (link g : ℕ) (x : Life) → IsOf x (lives_in ms) → sends x ≡ true → Theirs ms link g x → Heard a b ms x.foreign x.socket x.partner_stamp g
     heard_request stays link g x i r c =

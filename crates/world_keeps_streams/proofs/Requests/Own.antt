@@ -1,10 +1,11 @@
 -- The own request of a receiving life: it is that of the connection whose partner's request its host took.
-use Rattle.world_keeps_streams.proofs.Common.{◌≡◌, inl, inr, ℕ, ◌<◌, ◌≤◌, ◌&&◌, Bool, true, if◌then◌else◌, List, [], ap, sym, subst, ◌∙◌, arith, Contains, Host, is_receive_socket, is_send_socket, receiver, sender, Asks, IsIn, Side, Joined, Stands, Stood, asks_once, asks_said, every_in, from_asks, Moment, crossings_of, Coupled, law_events, origin_in, ArePaired, life_of, openings, steps, even_odd, life_in, life_paired, served_in}
+use Rattle.world_keeps_streams.proofs.Common.{◌≡◌, inl, inr, ℕ, ◌<◌, ◌≤◌, ◌&&◌, Bool, true, if◌then◌else◌, List, [], ap, sym, subst, ◌∙◌, arith, Contains, Host, is_receive_socket, is_send_socket, receiver, sender, Asks, IsIn, Side, Joined, Stands, Stood, asks_once, asks_said, every_in, from_asks, Moment, crossings_of, Coupled, law_events, origin_in, life_of, openings, steps, life_in, life_paired, served_in}
 use Rattle.pairing_law.specs.Sides as law
 use Rattle.promise.specs.declared.life.Life.{Life}
 use Rattle.promise.specs.Safe.{receives}
 use Rattle.world_keeps_streams.proofs.Lives.Lists.{IsOf, contains}
 use Rattle.world_keeps_streams.proofs.Requests.Sides.{Lawful, Own, coupled_in, law_joined, lives_in}
+use Rattle.world_keeps_pairing.proofs.lemmas.{other_sends}
 
 -- an opened end whose partner's request of connection `g` was heard in this stay asked for `g` itself
 stood_own : (a b : Side) (x : law.Life) (g : ℕ) → Joined a b → IsIn x a.lives → Asks g x.partner a.heard → Asks g x.own a.said
@@ -18,10 +19,6 @@ stood_own a b x g j i heard =
       by (inr new) =
           subst (λ (k : ℕ). Asks k x.own a.said)
           (asks_once new.0 g x.partner b.said j.there.grows (asks_said new.0 x.partner a.heard b.said j.here.older new.2) said) new.1
-
-pub foreign_sends : (x : Life) → receives x ≡ true → ArePaired x → is_send_socket x.foreign ≡ true
-foreign_sends x r (inl p) = p.1
-foreign_sends x r (inr p) = absurd (even_odd x.socket r p.0)
 
 -- a receiving life is one of the receiver's ends
 receiver_in : (y : law.Life) (x : Life) (ms : List Moment) → receives x ≡ true → is_send_socket x.foreign ≡ true → IsIn y (openings x.host x.peer x.socket x.foreign ms)
@@ -41,7 +38,7 @@ module _ (hosts : List Host) (ms : List Moment) (l : Lawful hosts ms) where
       let c : Coupled hosts ms = coupled_in hosts ms l in
       stood_own (receiver (record { receive = x.socket; send = x.foreign }) (steps x.host x.peer (law_events ms))) (sender (record { receive = x.socket; send = x.foreign }) (steps x.host x.peer (law_events ms)))
       (life_of (origin_in (crossings_of ms) x.host x.peer) x) g (law_joined hosts ms l x.host x.peer (record { receive = x.socket; send = x.foreign }))
-      (receiver_in (life_of (origin_in (crossings_of ms) x.host x.peer) x) x ms r (foreign_sends x r (life_paired hosts ms c.story c.run l.1 (served_in hosts ms l.2) x there))
+      (receiver_in (life_of (origin_in (crossings_of ms) x.host x.peer) x) x ms r (other_sends x r (life_paired hosts ms c.story c.run l.1 (served_in hosts ms l.2) x there))
       (life_in hosts ms c.story c.run l.1 (served_in hosts ms l.2) 0 x there)) took
 
   pub own_of : (a b : Host) (x : Life) (g : ℕ) → Contains (lives_in ms) x → (x.host ≡ a) × (x.peer ≡ b) → receives x ≡ true → Took a b ms x.socket x.foreign x.partner_stamp g → Own a b ms x.socket x.foreign x.own_stamp g

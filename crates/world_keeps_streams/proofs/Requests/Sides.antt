@@ -1,9 +1,9 @@
 -- Requests of two hosts beside the law of pairing: each is where this many connections of its sockets were closed before it.
-use Rattle.world_keeps_streams.proofs.Common.{◌≡◌, inr, ℕ, ◌&&◌, not, Bool, true, false, List, [], ◌∷◌, if◌then◌else◌, refl, ap, sym, subst, ◌∙◌, Host, Sockets, events_at, receiver, sender, Mark, Ask, Close, Asks, placed_event, Side, hears, says, Joined, asks_said, pair_same, run_at, Event, Pair, begins_either, HaveAddresses, Moment, event_in, events_of, IsTimeline, crossings_of, Coupled, coupled, law_events, origin_in, keeps, steps, all_hears, all_says, all_tied, are_origins, at_texts, half, hears_if, left_if, met_if, receiver_half, sender_half, served_in}
+use Rattle.world_keeps_streams.proofs.Common.{◌≡◌, inr, ℕ, ◌&&◌, not, Bool, true, false, List, [], ◌∷◌, if◌then◌else◌, refl, sym, subst, ◌∙◌, Host, Sockets, events_at, receiver, sender, Mark, Ask, Close, Asks, placed_event, Side, hears, says, Joined, asks_said, run_at, Event, begins_either, HaveAddresses, Moment, event_in, events_of, IsTimeline, crossings_of, Coupled, coupled, law_events, origin_in, keeps, steps, all_hears, all_says, all_tied, are_origins, at_texts, half, hears_if, left_if, met_if, receiver_half, sender_half, served_in}
 use Rattle.interface.specs.Mailboxes as mail
 use Rattle.pairing_law.specs.Links.{Receiver, Sender}
 use Rattle.pairing_law.specs.Places.{placed}
-use Rattle.pairing_law.proofs.lemmas.{joined_run}
+use Rattle.pairing_law.proofs.lemmas.{joined_run, ready_same}
 use Rattle.ncp_control.specs.Phases as phases
 use Rattle.reset_law.specs.Stays as stay
 use Rattle.net_sim.specs.Told.{kept_in}
@@ -83,9 +83,6 @@ module _ (h p : Host) (spoken heard : List (List Bool) → List Mark) (k n : ℕ
         took false ms y b = b
 
 -- ---- the law of resets sees the same where texts carry places
-
-ready_same : (a b : Host) (events : List Event) → stay.ready a b (placed events) ≡ stay.ready a b events
-ready_same a b events = ap (λ (p : Pair). phases.is_ready p.phase) (pair_same a b events)
 
 pub begins_same : (a b : Host) (e : Event) (events : List Event) → stay.begins a b (placed_event e events) (placed events) ≡ stay.begins a b e events
 begins_same a b e events =

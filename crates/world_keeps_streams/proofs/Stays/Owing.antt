@@ -1,5 +1,5 @@
 -- A host that stays and owes an RRP has said nothing since its stay began; so a text fails only where its sender leaves.
-use Rattle.world_keeps_streams.proofs.Common.{◌≡◌, ◌⊎◌, ℕ, Bool, false, not, ◌&&◌, List, [], ◌∷◌, Some, refl, inl, inr, Host, same_host, Answer, failed_phase, is_ready, Phase, Want, Gone, Heard, Ready, Message, Other, Event, Contact, Out, In, Told, Down, Up, Idle, Take, Hear, when, are, place, Put, Fetch, Clear, ClearAll, boxes, Pair, MaySend, pair_moved, pair, kind_in, ready, begins, takes_reset, NoPlain, begin_quiet, carry, keeps}
+use Rattle.world_keeps_streams.proofs.Common.{◌≡◌, ◌⊎◌, ℕ, Bool, false, List, [], ◌∷◌, Some, refl, inl, inr, Host, same_host, Answer, failed_phase, is_ready, Phase, Want, Gone, Heard, Ready, Message, Other, Event, Contact, Out, In, Told, Down, Up, Idle, Take, Hear, when, are, place, Put, Fetch, Clear, ClearAll, boxes, Pair, MaySend, pair_moved, pair, kind_in, ready, begins, takes_reset, NoPlain, begin_quiet, carry, keeps}
 use Rattle.reset_law.specs.Pairs.{Plain}
 use Rattle.std.proofs.Common.{true}
 use Rattle.interface.specs.declared.crossing.Answer.TheVariants as answer
@@ -9,6 +9,7 @@ use Rattle.reset_law.specs.Runs.{IsRun}
 use Rattle.reset_law.specs.Stays.{stays}
 use Rattle.reset_law.proofs.lemmas.{owed_begin, owed_call, owed_sent, owed_told, plain_cleared, plain_fetched, plain_if, plain_put, sends_signal}
 use Rattle.world_keeps_streams.proofs.Stays.Resets.{stays_on}
+use Rattle.world_keeps_lives.proofs.lemmas.{not_both}
 
 -- ---- but for an RST that is taken nothing makes a host owe
 
@@ -22,11 +23,6 @@ pub not_taken : (a b x y : Host) (l : ℕ) (m : Message) → takes_reset a b (In
 not_taken a b x y l Reset e is = e
 not_taken a b x y l Reply e is = absurd (cc)
 not_taken a b x y l (Other text) e is = absurd (cc)
-
-no_reset : (s t : Bool) → (s && not t) ≡ true → t ≡ false
-no_reset true true e = absurd (cc)
-no_reset true false e = refl
-no_reset false t e = absurd (cc)
 
 -- ---- one event of a stay
 
@@ -57,7 +53,7 @@ owes_silent hosts (e ∷ events) r a b s owed = by (begins a b e events) refl (o
   by true begun rest = (begin_quiet hosts e events r a b begun).0
   by false old rest =
       let kept : (keeps a b e events ≡ true) × (stays a b events ≡ true) = stays_on a b e events s old in
-      owes_step hosts e events r a b (no_reset (ready a b (e ∷ events)) (takes_reset a b e) kept.0) (rest kept.1) owed
+      owes_step hosts e events r a b (not_both (ready a b (e ∷ events)) (takes_reset a b e) kept.0) (rest kept.1) owed
 
 -- ---- answers
 

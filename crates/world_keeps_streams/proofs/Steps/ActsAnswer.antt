@@ -14,13 +14,14 @@ use Rattle.sockets.specs.Accepting.{accepted}
 use Rattle.net_sim.proofs.lemmas.{freed_busy}
 use Rattle.world_keeps_streams.specs.Calls.{called}
 use Rattle.world_keeps_streams.proofs.Steps.Going.{Goes, answered_here, elsewhere_here, stays_as}
-use Rattle.world_keeps_streams.proofs.Steps.GoesOut.{IsCleared, box_is_free, out_cleared, ready_phase}
+use Rattle.world_keeps_streams.proofs.Steps.GoesOut.{IsCleared, box_is_free, out_cleared}
 use Rattle.world_keeps_streams.proofs.Steps.Held.{Acted, Held, HereIn, act_by}
 use Rattle.world_keeps_streams.proofs.Steps.Joined.{commands_in, post_in}
 use Rattle.world_keeps_streams.proofs.Stays.Owing.{told_rfnm}
 use Rattle.world_keeps_streams.proofs.Calls.Chain.{ready_both}
 use Rattle.world_keeps_streams.proofs.Moments.Answer.{accepted_pair}
 use Rattle.world_keeps_streams.proofs.Steps.ActsAsked.{kept_stop}
+use Rattle.reset_law.proofs.lemmas.{ready_phase}
 
 cleared_all : (t : Bool) (here : ℕ) (X : ℕ → Box) (l : ℕ) → IsCleared (X l) (posted here (when t ClearAll) X l)
 cleared_all true here X l = inr refl

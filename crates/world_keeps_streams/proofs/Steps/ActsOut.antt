@@ -8,14 +8,15 @@ use Rattle.reset_law.specs.Runs.{IsRun}
 use Rattle.ncp_control.specs.Phases as phases
 use Rattle.reset_law.specs.Stays as stay
 use Rattle.world_keeps_streams.proofs.Steps.Going.{Goes, stays_as}
-use Rattle.world_keeps_streams.proofs.Steps.GoesOut.{box_is_free, ready_phase}
+use Rattle.world_keeps_streams.proofs.Steps.GoesOut.{box_is_free}
 use Rattle.world_keeps_streams.proofs.Steps.GoesSaid.{parcel_goes}
 use Rattle.world_keeps_streams.proofs.Steps.Held.{Acted, Held, HereIn, act_by, acted_out, side}
 use Rattle.world_keeps_streams.proofs.Steps.Joined.{commands_in, post_in}
 use Rattle.world_keeps_streams.proofs.Calls.MayCalls.{MayCalls}
 use Rattle.world_keeps_streams.proofs.Stays.Resets.{leaves_by}
-use Rattle.world_keeps_streams.proofs.Steps.GoesHeard.{clash}
 use Rattle.world_keeps_streams.proofs.Calls.Chain.{ready_both}
+use Rattle.reset_law.proofs.lemmas.{ready_phase}
+use Rattle.world_keeps_lives.proofs.lemmas.{clash}
 
 -- where a request of the one hasn't gone out, the other hasn't taken it
 abbrev pub FindsNone : (ℕ → ℕ → ℕ → ℕ) → (ℕ → ℕ → ℕ → ℕ) → Host → Host → List Moment → Party → Type 0

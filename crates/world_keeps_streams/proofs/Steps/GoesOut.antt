@@ -1,5 +1,5 @@
 -- What a host that doesn't stay leaves in its boxes; and what a host that stays knows of them.
-use Rattle.world_keeps_streams.proofs.Common.{◌≡◌, ◌⊎◌, inl, inr, ℕ, Bool, true, false, List, ◌++◌, refl, ap, sym, subst, ◌∙◌, Host, Command, Stream, is_busy, IsTelling, boxes, stays_ready, pair_with, Moment, IsStory, events_of, program, story_agrees, Free, Joint, Lies, Party, Post, Steps}
+use Rattle.world_keeps_streams.proofs.Common.{◌≡◌, ◌⊎◌, inl, inr, ℕ, Bool, true, false, List, ◌++◌, ap, sym, subst, ◌∙◌, Host, Command, Stream, is_busy, IsTelling, boxes, stays_ready, pair_with, Moment, IsStory, events_of, program, story_agrees, Free, Joint, Lies, Party, Post, Steps}
 use Rattle.ncp_control.specs.Phases as program_phases
 use Rattle.ncp_control.specs.declared.phase.Phase as host
 use Rattle.ncp_control.specs.declared.phase.Phase.TheVariants as phase
@@ -11,10 +11,6 @@ use Rattle.world_keeps_streams.proofs.Steps.Joined.{commands_in, post_in}
 use Rattle.world_keeps_streams.proofs.Stays.Resets.{box_busy, up_ready}
 
 -- ---- phases
-
-pub ready_phase : (ph : host.Phase) → program_phases.is_ready ph ≡ true → ph ≡ phase.Ready
-ready_phase phase.Ready e = refl
-ready_phase ph e = absurd (let no : false ≡ true = e in cc)
 
 -- where a link is free by the program nothing is outstanding
 pub box_is_free : (hosts : List Host) (h p : Host) (moments : List Moment) → IsRun hosts (events_of moments) → IsStory moments → stay.stays h p (events_of moments) ≡ true

@@ -1,3 +1,4 @@
+use Rattle.command_line.proofs.Replayed.LeftOut.{left_out, one_each}
 use Rattle.command_line.proofs.Recorded.{none, swallowed}
 use Rattle.command_line.proofs.law.worked_traces.Goals as goal
 
@@ -6,3 +7,9 @@ returns-clause-swallowed c = swallowed
 
 pub returns-clause-none : goal.returns-clause-none
 returns-clause-none c = none
+
+pub returns-clause-left_out : goal.returns-clause-left_out
+returns-clause-left_out c = left_out
+
+pub returns-clause-one_each : goal.returns-clause-one_each
+returns-clause-one_each c = one_each

@@ -32,7 +32,7 @@ returns-in_ok-subnet_of-in-Subnet-clause-traced g c =
     (g.W.Output.contents c.trace_among-in-Subnet.new.writer) c.trace_among-in-Subnet.result is
     (subst
     (λ (k : Kept). OnOk c.trace_among-in-Subnet.result (MixedTracesFrom (shown subnet_calls) subnet_inside.members c.args.network.now k (zip c.args.lines.now c.args.events.items) (g.W.Output.contents c.args.writer.now) (g.W.Output.contents c.trace_among-in-Subnet.new.writer))) opening
-    (rw c.in_ok-events.ensures at c.trace_among-in-Subnet.ensures.traced))
+    (rw c.in_ok-events.ensures.placed at c.trace_among-in-Subnet.ensures.traced))
 
 pub returns-in_ok-subnet_of-in-Subnet-clause-stopped : goal.returns-in_ok-subnet_of-in-Subnet-clause-stopped
 returns-in_ok-subnet_of-in-Subnet-clause-stopped g c = λ e.
@@ -44,4 +44,4 @@ returns-in_ok-subnet_of-in-Subnet-clause-stopped g c = λ e.
     (g.W.Output.contents c.trace_among-in-Subnet.new.writer) is
     (subst
     (λ (k : Kept). Keeps (g.W.Output.contents c.args.writer.now) (g.W.Output.contents c.trace_among-in-Subnet.new.writer) ⊎ MixedTraceEndsFrom (shown subnet_calls) subnet_inside.members c.args.network.now k (zip c.args.lines.now c.args.events.items) (g.W.Output.contents c.args.writer.now) (g.W.Output.contents c.trace_among-in-Subnet.new.writer)) opening
-    (rw c.in_ok-events.ensures at (c.trace_among-in-Subnet.ensures.stopped e)))
+    (rw c.in_ok-events.ensures.placed at (c.trace_among-in-Subnet.ensures.stopped e)))

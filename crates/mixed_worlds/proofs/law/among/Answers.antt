@@ -2,8 +2,10 @@ use Rattle.mixed_worlds.proofs.Common.{Bool, List, Host, Moment, IsMixed, masked
 use Rattle.mixed_worlds.proofs.Books.{SameBook, same_book}
 use Rattle.mixed_worlds.proofs.Joined.{joins}
 use Rattle.mixed_worlds.proofs.Promised.{promised}
-use Rattle.mixed_worlds.proofs.RealAmong.{formed_among, safe_among, whole_among}
+use Rattle.mixed_worlds.proofs.RealAmong.{arrived_among, fated_among, followed_among, formed_among, over_among}
+use Rattle.mixed_worlds.proofs.RealAmong.{safe_among, whole_among, within_among}
 use Rattle.mixed_worlds.proofs.RealTold.{told_real}
+use Rattle.mixed_worlds.proofs.SameContacts.{same_contacts}
 use Rattle.mixed_worlds.proofs.Settled.{settles}
 use Rattle.mixed_worlds.proofs.law.among.Goals as goal
 
@@ -24,13 +26,28 @@ returns c =
       promise = promise;
       lives = λ strange hosts moments mixed.
           let same : SameBook strange _ _ = same_book orders strange hosts moments mixed in
-          record { lives = same.lives; handed = same.handed; fates = same.fates };
+          record {
+            lives = same.lives;
+            handed = same.handed;
+            fates = same.fates;
+            contacts = same_contacts orders strange hosts moments;
+          };
       formed = λ strange hosts moments mixed.
-          formed_among orders strange hosts moments mixed (promise strange hosts moments mixed).formed;
+          formed_among orders strange hosts moments mixed (promise strange hosts moments mixed);
       safe = λ strange hosts moments mixed.
-          safe_among orders strange hosts moments mixed (promise strange hosts moments mixed).safe;
+          safe_among orders strange hosts moments mixed (promise strange hosts moments mixed);
       whole = λ strange hosts moments mixed.
-          whole_among orders strange hosts moments mixed (promise strange hosts moments mixed).whole;
+          whole_among orders strange hosts moments mixed (promise strange hosts moments mixed);
+      fated = λ strange hosts moments mixed.
+          fated_among orders strange hosts moments mixed (promise strange hosts moments mixed);
+      arrived = λ strange hosts moments mixed.
+          arrived_among orders strange hosts moments mixed (promise strange hosts moments mixed);
+      over = λ strange hosts moments mixed.
+          over_among orders strange hosts moments mixed (promise strange hosts moments mixed);
+      contacts = λ strange hosts moments mixed.
+          followed_among orders strange hosts moments mixed (promise strange hosts moments mixed);
+      within = λ strange hosts moments mixed.
+          within_among orders strange hosts moments mixed (promise strange hosts moments mixed);
       told = λ strange hosts moments mixed.
           told_real orders strange hosts moments mixed (promise strange hosts moments mixed).told;
       joined = λ strange hosts moments mixed reports backed.

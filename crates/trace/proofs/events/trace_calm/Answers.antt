@@ -65,21 +65,6 @@ returns-then-is_still-clause-ends g c =
     (g.W.Output.contents c.trace_round.new.writer) c.rounds.invariant.0 c.in_ok-place.ensures.ends
     c.in_ok-begun.ensures.begun c.if-is_still.ensures.still
 
--- an elementary event that holds a message is dropped in another way than any other: the goal is there twice
-pub rounds-preserved-else-is_still : goal.rounds-preserved-else-is_still
-rounds-preserved-else-is_still g c =
-    let calls : Calls g.row.C.Denot = g.C.Carrier.calls in
-    let inside : Inside g.row.C.Denot = g.C.Inspect.inside in (
-      moving_told calls inside g.C.Inspect.left c.args.spot c.args.carrier.now c.rounds.carrier
-          c.trace_round.new.carrier c.rounds.place c.in_ok-place.place
-          (by_round (inside.calm c.args.carrier.now c.args.rounds)) c.in_ok-begun.begun.parts c.in_ok-begun.begun.booked
-          (g.W.Output.contents c.args.writer.now) (g.W.Output.contents c.rounds.writer)
-          (g.W.Output.contents c.trace_round.new.writer) c.rounds.invariant.0 c.in_ok-place.ensures.ends
-          c.in_ok-begun.ensures.begun c.if-is_still.ensures.moved,
-      c.in_ok-place.ensures.failed,
-      c.in_ok-place.ensures.known,
-    )
-
 pub rounds-preserved : goal.rounds-preserved
 rounds-preserved g c =
     let calls : Calls g.row.C.Denot = g.C.Carrier.calls in

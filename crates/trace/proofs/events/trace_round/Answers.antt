@@ -42,8 +42,6 @@ returns-in_err-trace_element-clause-ends g c =
     (is_fault c.trace_element.result c.from_residual.result c.in_err-trace_element.field-0.0 c.in_err-trace_element.was
     told)
 
--- an elementary event that holds a message is dropped in another way than any other: each of the two goals is there
--- twice
 pub elements-preserved : goal.elements-preserved
 elements-preserved g c =
     let calls : Calls g.row.C.Denot = g.C.Carrier.calls in
@@ -59,32 +57,8 @@ elements-preserved g c =
       c.in_ok-trace_element.ensures.some,
     )
 
-pub elements-preserved-in_ok-trace_element : goal.elements-preserved-in_ok-trace_element
-elements-preserved-in_ok-trace_element g c =
-    let calls : Calls g.row.C.Denot = g.C.Carrier.calls in
-    let inside : Inside g.row.C.Denot = g.C.Inspect.inside in
-    let same : c.in-Some.element.round ≡ c.args.round = omega (arith, c.if-element-round.false) in (
-      round_more calls inside g.C.Inspect.left c.args.spot c.args.round c.args.carrier.now c.elements.carrier
-          c.trace_element.new.carrier c.args.begin c.elements.place c.in-Some.next c.in-Some.element
-          (g.W.Output.contents c.args.writer.now) (g.W.Output.contents c.elements.writer)
-          (g.W.Output.contents c.trace_element.new.writer) c.in-Some.ensures same c.elements.invariant.0
-          c.in_ok-trace_element.ensures.ends,
-      c.in_ok-trace_element.ensures.failed,
-      c.in_ok-trace_element.ensures.known,
-      c.in_ok-trace_element.ensures.some,
-    )
-
 pub elements-smaller : goal.elements-smaller
 elements-smaller g c =
-    let calls : Calls g.row.C.Denot = g.C.Carrier.calls in
-    let inside : Inside g.row.C.Denot = g.C.Inspect.inside in
-    round_shorter calls inside g.C.Inspect.left c.args.spot c.elements.carrier c.trace_element.new.carrier
-    c.elements.place c.in-Some.next c.in-Some.element
-    (g.W.Output.contents c.elements.writer)
-    (g.W.Output.contents c.trace_element.new.writer) c.in-Some.ensures c.in_ok-trace_element.ensures.ends
-
-pub elements-smaller-in_ok-trace_element : goal.elements-smaller-in_ok-trace_element
-elements-smaller-in_ok-trace_element g c =
     let calls : Calls g.row.C.Denot = g.C.Carrier.calls in
     let inside : Inside g.row.C.Denot = g.C.Inspect.inside in
     round_shorter calls inside g.C.Inspect.left c.args.spot c.elements.carrier c.trace_element.new.carrier

@@ -1,4 +1,4 @@
-use Rattle.world_keeps_streams.proofs.Common.{◌≡◌, ◌⊎◌, inl, inr, ◌<◌, ℕ, suc, Bool, true, false, List, [], ◌∷◌, ◌++◌, if◌then◌else◌, Option, None, drop, length, slice_index_or, refl, ap, sym, subst, ◌∙◌, arith, Contains, is_receive_socket, some_is, Entry, HasClosed, name_now, numbered, pair_with, first, second, Crossed, Moment, program, sent_moments, mine_on, own_calls, IsClosedByPartner, WasClosedByPartner, quit_moments}
+use Rattle.world_keeps_streams.proofs.Common.{◌≡◌, ◌⊎◌, inl, inr, ◌<◌, ℕ, suc, Bool, true, false, List, [], ◌∷◌, ◌++◌, Option, None, drop, length, slice_index_or, refl, ap, sym, subst, ◌∙◌, arith, is_receive_socket, some_is, Entry, HasClosed, name_now, numbered, pair_with, first, second, Crossed, Moment, program, sent_moments, mine_on, own_calls, IsClosedByPartner, WasClosedByPartner, quit_moments}
 use Rattle.std.proofs.Common.{zero}
 use Rattle.bit_messages.specs.Octets.{octets_of}
 use Rattle.interface.specs.declared.crossing.Crossing.TheVariants as crossing
@@ -12,6 +12,7 @@ use Rattle.promise.specs.Safe.{receives}
 use Rattle.net_sim.specs.Told.{kept_in}
 use Rattle.promise.specs.declared.life.Life.{Life}
 use Rattle.world_keeps_streams.specs.Worked.{close_sent, took}
+use Rattle.world_keeps_lives.proofs.lemmas.{has_not, never_earlier, never_has, none_has}
 use Rattle.world_keeps_streams.proofs.worked.worked_past_closes.Goals as goal
 
 -- ---- whether the partner of a life has closed its end
@@ -23,53 +24,15 @@ first_closed (e ∷ es) = e.partner_closed
 has_closed : List Moment → Life → Bool
 has_closed ms x = first_closed (mine_on x.socket (pair_with x.peer (program x.host ms).peers).entries)
 
-none_closed : List Moment → List Life → Bool
-none_closed ms [] = true
-none_closed ms (x ∷ xs) = if has_closed ms x then false else none_closed ms xs
-
--- of no life up to now
-never_closed : List Moment → Bool
-never_closed [] = true
-never_closed (m ∷ ms) = if none_closed (m ∷ ms) (kept_in (m ∷ ms)).book.lives then never_closed ms else false
-
--- ---- what these say
-
-by_two : (a b : Bool) → (if a then b else false) ≡ true → (a ≡ true) × (b ≡ true)
-by_two true b e = (refl, e)
-by_two false b e = absurd (cc)
-
-not_one : (closed others : Bool) → (if closed then false else others) ≡ true → (closed ≡ false) × (others ≡ true)
-not_one true others e = absurd (cc)
-not_one false others e = (refl, e)
-
-none_of : (ms : List Moment) (xs : List Life) (x : Life) → none_closed ms xs ≡ true → Contains xs x → has_closed ms x ≡ false
-unfolding none_closed
-none_of ms [] x none (k, lt, is) = absurd (omega (arith, lt))
-none_of ms (y ∷ ys) x none (zero, lt, is) = subst (λ (z : Life). has_closed ms z ≡ false) is (not_one (has_closed ms y) (none_closed ms ys) none).0
-none_of ms (y ∷ ys) x none (suc k, lt, is) = none_of ms ys x (not_one (has_closed ms y) (none_closed ms ys) none).1 (k, omega (arith, lt), is)
-
-none_now : (ms : List Moment) (x : Life) → never_closed ms ≡ true → Contains (kept_in ms).book.lives x → has_closed ms x ≡ false
-unfolding never_closed
-none_now [] x never (k, lt, is) = absurd (omega (arith, lt))
-none_now (m ∷ ms) x never there = none_of (m ∷ ms) (kept_in (m ∷ ms)).book.lives x (by_two (none_closed (m ∷ ms) (kept_in (m ∷ ms)).book.lives) (never_closed ms) never).0 there
-
-earlier_too : (m : Moment) (ms : List Moment) → never_closed (m ∷ ms) ≡ true → never_closed ms ≡ true
-unfolding never_closed
-earlier_too m ms never = (by_two (none_closed (m ∷ ms) (kept_in (m ∷ ms)).book.lives) (never_closed ms) never).1
-
-all_earlier : (later earlier : List Moment) → never_closed (later ++ earlier) ≡ true → never_closed earlier ≡ true
-all_earlier [] earlier never = never
-all_earlier (m ∷ later) earlier never = all_earlier later earlier (earlier_too m (later ++ earlier) never)
-
-not_then : (ms : List Moment) (x : Life) → never_closed ms ≡ true → IsClosedByPartner ms x → ⊥
+not_then : (ms : List Moment) (x : Life) → never_has has_closed ms ≡ true → IsClosedByPartner ms x → ⊥
 unfolding has_closed first_closed
 not_then ms x never f =
-    let unclosed : has_closed ms x ≡ false = none_now ms x never f.there in
+    let unclosed : has_closed ms x ≡ false = has_not has_closed ms x never f.there in
     let both : false ≡ true = sym unclosed ∙ ap first_closed f.end.one ∙ f.closed in
     absurd (cc)
 
-not_so_far : (ms : List Moment) (x : Life) → never_closed ms ≡ true → WasClosedByPartner ms x → ⊥
-not_so_far ms x never f = not_then f.earlier f.receiver (all_earlier f.later f.earlier (subst (λ (all : List Moment). never_closed all ≡ true) f.is never)) f.then
+not_so_far : (ms : List Moment) (x : Life) → never_has has_closed ms ≡ true → WasClosedByPartner ms x → ⊥
+not_so_far ms x never f = not_then f.earlier f.receiver (never_earlier has_closed f.later f.earlier (subst (λ (all : List Moment). never_has has_closed all ≡ true) f.is never)) f.then
 
 -- it is so now, or it was
 since : (m : Moment) (ms later earlier : List Moment) → m ∷ ms ≡ later ++ earlier → (m ∷ ms ≡ earlier) ⊎ ((more : List Moment) × (ms ≡ more ++ earlier))
@@ -79,7 +42,7 @@ since m ms (x ∷ later) earlier is = inr (later, ap (drop 1) is)
 -- ---- the two connections
 
 pub returns-clause-never : goal.returns-clause-never
-unfolding octets_of orders_of read_of command_of packed_count accepted refusal served served_notices next_out offered first_closed has_closed none_closed never_closed
+unfolding octets_of orders_of read_of command_of packed_count accepted refusal served served_notices next_out offered first_closed has_closed none_has never_has
 returns-clause-never c = not_so_far sent_moments _ refl
 
 first_link : List Entry → Option ℕ
@@ -101,21 +64,21 @@ quit_there (suc zero) x lt is f = quit_life (subst (λ (y : Life). IsClosedByPar
 quit_there (suc (suc k)) x lt is f = absurd (omega (arith, lt))
 
 pub returns-clause-quit : goal.returns-clause-quit
-unfolding octets_of orders_of read_of command_of packed_count accepted refusal served served_notices next_out offered first_closed has_closed none_closed never_closed
+unfolding octets_of orders_of read_of command_of packed_count accepted refusal served served_notices next_out offered first_closed has_closed none_has never_has
 returns-clause-quit c f = elim (since (Crossed (crossing.In close_sent)) (drop 1 quit_moments) f.later f.earlier f.is) [
   | inl now ↦
       let g : IsClosedByPartner quit_moments f.receiver = subst (λ (ms : List Moment). IsClosedByPartner ms f.receiver) (sym now) f.then in
       quit_there g.there.0 f.receiver g.there.1 g.there.2 g
   | inr (more, is) ↦
-      let never : never_closed (drop 1 quit_moments) ≡ true = refl in
-      not_then f.earlier f.receiver (all_earlier more f.earlier (subst (λ (all : List Moment). never_closed all ≡ true) is never)) f.then
+      let never : never_has has_closed (drop 1 quit_moments) ≡ true = refl in
+      not_then f.earlier f.receiver (never_earlier has_closed more f.earlier (subst (λ (all : List Moment). never_has has_closed all ≡ true) is never)) f.then
 ]
 
 pub returns-clause-sending : goal.returns-clause-sending
 returns-clause-sending c = λ ms x f. ap (λ n. is_receive_socket n.own) f.same ∙ f.then.receiving
 
 pub returns-clause-none : goal.returns-clause-none
-unfolding octets_of orders_of read_of command_of packed_count accepted refusal served served_notices next_out offered first_closed has_closed none_closed never_closed
+unfolding octets_of orders_of read_of command_of packed_count accepted refusal served served_notices next_out offered first_closed has_closed none_has never_has
 returns-clause-none c = λ sender f. not_so_far sent_moments _ refl f.closed
 
 pub returns-clause-another : goal.returns-clause-another

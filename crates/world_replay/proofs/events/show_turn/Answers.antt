@@ -12,9 +12,9 @@ print_news-requires-clause-crossed g c =
     step_gains calls c.args.event (g.R.Turning.state c.args.world.now) c.turn-outcome.result
     (g.R.Turning.state c.turn-outcome.new.self) c.turn-outcome.ensures.gives in
     let was : length c.crossings-crossed.result.now ≡ length (g.R.Turning.state c.args.world.now).kept.book.crossings =
-    ap length c.crossings-crossed.ensures ∙ length-reverse c.book.result.now.book.crossings
+    ap length c.crossings-crossed.ensures ∙ length-reverse c.book.result.book.crossings
     ∙ ap (λ (k : Kept). length k.book.crossings) c.book.ensures in
-    let is : length c.book-4.result.now.book.crossings ≡ length
+    let is : length c.book-4.result.book.crossings ≡ length
     (g.R.Turning.state c.turn-outcome.new.self).kept.book.crossings = ap (λ (k : Kept). length k.book.crossings)
     c.book-4.ensures in
     let more : length (g.R.Turning.state c.args.world.now).kept.book.crossings ≤ length
@@ -30,7 +30,7 @@ print_news-requires-clause-told g c =
     (g.R.Turning.state c.turn-outcome.new.self) c.turn-outcome.ensures.gives in
     let was : length c.notices-told.result.now ≡ length (g.R.Turning.state c.args.world.now).kept.book.notices =
     ap length c.notices-told.ensures ∙ ap (λ (k : Kept). length k.book.notices) c.book-2.ensures in
-    let is : length c.book-4.result.now.book.notices ≡ length
+    let is : length c.book-4.result.book.notices ≡ length
     (g.R.Turning.state c.turn-outcome.new.self).kept.book.notices = ap (λ (k : Kept). length k.book.notices)
     c.book-4.ensures in
     let more : length (g.R.Turning.state c.args.world.now).kept.book.notices ≤ length
@@ -46,7 +46,7 @@ print_news-requires-clause-said g c =
     (g.R.Turning.state c.turn-outcome.new.self) c.turn-outcome.ensures.gives in
     let was : length c.reports-said.result.now ≡ length (g.R.Turning.state c.args.world.now).kept.book.reports =
     ap length c.reports-said.ensures ∙ ap (λ (k : Kept). length k.book.reports) c.book-3.ensures in
-    let is : length c.book-4.result.now.book.reports ≡ length
+    let is : length c.book-4.result.book.reports ≡ length
     (g.R.Turning.state c.turn-outcome.new.self).kept.book.reports = ap (λ (k : Kept). length k.book.reports)
     c.book-4.ensures in
     let more : length (g.R.Turning.state c.args.world.now).kept.book.reports ≤ length
@@ -59,7 +59,7 @@ returns-clause-replayed g c =
     let calls : Calls g.row.C.Denot = shown g.C.Carrier.calls in
     let crossed : length c.crossings-crossed.result.now ≡ length
     (g.R.Turning.state c.args.world.now).kept.book.crossings =
-    ap length c.crossings-crossed.ensures ∙ length-reverse c.book.result.now.book.crossings
+    ap length c.crossings-crossed.ensures ∙ length-reverse c.book.result.book.crossings
     ∙ ap (λ (k : Kept). length k.book.crossings) c.book.ensures in
     let told : length c.notices-told.result.now ≡ length (g.R.Turning.state c.args.world.now).kept.book.notices =
     ap length c.notices-told.ensures ∙ ap (λ (k : Kept). length k.book.notices) c.book-2.ensures in
@@ -83,7 +83,7 @@ returns-clause-memory g c = λ e.
     let calls : Calls g.row.C.Denot = shown g.C.Carrier.calls in
     let crossed : length c.crossings-crossed.result.now ≡ length
     (g.R.Turning.state c.args.world.now).kept.book.crossings =
-    ap length c.crossings-crossed.ensures ∙ length-reverse c.book.result.now.book.crossings
+    ap length c.crossings-crossed.ensures ∙ length-reverse c.book.result.book.crossings
     ∙ ap (λ (k : Kept). length k.book.crossings) c.book.ensures in
     let told : length c.notices-told.result.now ≡ length (g.R.Turning.state c.args.world.now).kept.book.notices =
     ap length c.notices-told.ensures ∙ ap (λ (k : Kept). length k.book.notices) c.book-2.ensures in

@@ -5,8 +5,8 @@ use Rattle.net_sim.proofs.parts.Hosts.server_at.Goals as goal
 
 pub returns-clause-done : goal.returns-clause-done
 returns-clause-done c = rw (← c.self.view_is) (λ h s x sits serves.
-    call_done h c.args.at s c.in-Some.program c.in-Ok.program x c.take.new.self c.self.inside.seats.items c.self.inside.services.items c.index_mut.result.now c.index_mut-3.result.now c.index_mut-2.result.now c.begin_server.new.self c.begin_server.new.book
-    (λ (g : Host) (z : ServicesState) (u : NcpState). server_begun c.args.listen c.args.base z (opening_desk g (length c.self.inside.book.book.notices) u)) (λ (g : Host) (u : NcpState). c.self.inside.book) sits serves c.index_mut.ensures.value c.index_mut-3.ensures.value c.index_mut-2.ensures.value (search rules) (search rules) (search rules))
+    call_done h c.args.at s c.in-Some.program c.in-Ok.program x c.take.new.self c.self.inside.seats.items c.self.inside.services.items c.index_mut.result.now c.index_mut-3.result.now c.index_mut-2.result.now c.begin_server.new.self c.begin_server.new.notes
+    (λ (g : Host) (z : ServicesState) (u : NcpState). server_begun c.args.listen c.args.base z (opening_desk g (length c.self.inside.notes.book.notices) u)) (λ (g : Host) (u : NcpState). c.self.inside.notes) sits serves c.index_mut.ensures.value c.index_mut-3.ensures.value c.index_mut-2.ensures.value (search rules) (search rules) (search rules))
 
 pub invariant_of-self-in_default-begin_server : goal.invariant_of-self-in_default-begin_server
 invariant_of-self-in_default-begin_server c =

@@ -6,6 +6,6 @@ use Rattle.net_sim.proofs.seat.ServiceSeat.tell.Goals as goal
 
 pub returns-clause-done : goal.returns-clause-done
 returns-clause-done c =
-    done_of c.args.self.now.host (turn_of c.args.self.now.host (length c.args.book.now.book.notices) c.args.self.now.services (c.args.program, c.args.notices.items)) c.tend.new.services c.in_ok-desk.desk
-    (all_told c.args.self.now.host c.args.notices.items (all_crossed (reverse c.args.news.now) c.args.book.now)) c.write_crossing.new.book c.into_parts-program.result.0 c.into_parts-program.result.1.asked.items
+    done_of c.args.self.now.host (turn_of c.args.self.now.host (length c.args.notes.now.book.notices) c.args.self.now.services (c.args.program, c.args.notices.items)) c.tend.new.services c.in_ok-desk.desk
+    (all_told c.args.self.now.host c.args.notices.items (all_crossed (reverse c.args.news.now) c.args.notes.now)) c.write_crossing.new.notes c.into_parts-program.result.0 c.into_parts-program.result.1.asked.items
     c.into_parts-program.result.1.reports.items (search rules) (search rules) (search rules) (search rules) (search rules)

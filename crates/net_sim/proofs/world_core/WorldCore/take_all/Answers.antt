@@ -1,6 +1,6 @@
 use Rattle.net_sim.proofs.Common.{sym, ◌∙◌, arith, shown, Calls}
 use Rattle.net_sim.specs.World.{Take}
-use Rattle.net_sim.proofs.Hosts.Calming.{one_shown, none_shown, stop_repeated, all_repeated}
+use Rattle.net_sim.proofs.Hosts.Calming.{one_counted, none_counted, stop_repeated, all_repeated}
 use Rattle.net_sim.proofs.world_core.WorldCore.take_all.Goals as goal
 
 pub returns-then-stops : goal.returns-then-stops
@@ -9,19 +9,19 @@ returns-then-stops g c =
     stop_repeated calls (Take c.args.host) 16 c.loop.counter c.args.self.now c.loop.self c.take_near-answer.new.self c.take_near-answer.result
     c.loop-test.true c.loop.invariant c.take_near-answer.ensures (sym c.stops.ensures ∙ c.if-stops.true)
 
-pub returns-then-crossings-before : goal.returns-then-crossings-before
-returns-then-crossings-before g c =
+pub returns-then-crossed-before : goal.returns-then-crossed-before
+returns-then-crossed-before g c =
     let calls : Calls g.row.C.Denot = shown g.C.Carrier.calls in
-    none_shown calls (Take c.args.host) 16 c.loop.counter c.args.self.now c.loop.self c.take_near-answer.new.self c.take_near-answer.result
-    c.loop-test.true c.loop.invariant c.take_near-answer.ensures (sym c.stops.ensures ∙ c.if-stops.false) _ _ _ _
-    c.book.ensures c.crossings-before.ensures c.book-in-loop.ensures c.crossings.ensures (omega (arith, c.if-crossings-before.true))
+    none_counted calls (Take c.args.host) 16 c.loop.counter c.args.self.now c.loop.self c.take_near-answer.new.self c.take_near-answer.result
+    c.loop-test.true c.loop.invariant c.take_near-answer.ensures (sym c.stops.ensures ∙ c.if-stops.false) _ _
+    c.crossed-before.ensures c.crossed.ensures (omega (arith, c.if-crossed-before.true))
 
 pub loop-preserved : goal.loop-preserved
 loop-preserved g c =
     let calls : Calls g.row.C.Denot = shown g.C.Carrier.calls in
-    one_shown calls (Take c.args.host) 16 c.loop.counter c.args.self.now c.loop.self c.take_near-answer.new.self c.take_near-answer.result
-    c.loop-test.true c.loop.invariant c.take_near-answer.ensures (sym c.stops.ensures ∙ c.if-stops.false) _ _ _ _
-    c.book.ensures c.crossings-before.ensures c.book-in-loop.ensures c.crossings.ensures (omega (arith, c.if-crossings-before.false))
+    one_counted calls (Take c.args.host) 16 c.loop.counter c.args.self.now c.loop.self c.take_near-answer.new.self c.take_near-answer.result
+    c.loop-test.true c.loop.invariant c.take_near-answer.ensures (sym c.stops.ensures ∙ c.if-stops.false) _ _
+    c.crossed-before.ensures c.crossed.ensures (omega (arith, c.if-crossed-before.false))
 
 pub returns : goal.returns
 returns g c =
