@@ -1,8 +1,10 @@
 -- The lives of a log among hosts with programs, and their places.
-use Rattle.command_line.proofs.Common.{◌≡◌, ℕ, ◌+◌, ◌<◌, ◌++◌, Bool, true, false, List, [], ◌∷◌, length, map, refl, sym, ap, ap₂, ◌∙◌, arith, append_assoc, if◌then◌else◌, Contains, Crossing, Life, false≢true}
-use Rattle.std.proofs.Common.{zero, suc, Some, None, ◌-◌, ◌≤◌, drop, get_or, inl, inr, append-nil}
+use Rattle.command_line.proofs.Common.{◌≡◌, ℕ, ◌+◌, ◌<◌, ◌++◌, Bool, true, false, List, [], ◌∷◌, map, refl, sym, ap, ap₂, subst, ◌∙◌, arith, append_assoc, if◌then◌else◌, Contains, Crossing, Life, false≢true}
+use Rattle.std.proofs.Common.{length, zero, suc, Some, None, ◌-◌, ◌≤◌, drop, get_or, inl, inr, append-nil}
 use Rattle.std.proofs.lemmas.List.{drop_all, drop_more}
+use Rattle.book_judge.proofs.lemmas.{contains_cases}
 use Rattle.book_judge.specs.Toward.{AreToward}
+use Rattle.interface.proofs.lemmas.{contains_head, contains_tail}
 use Rattle.interface.specs.Host.{Host, is_host}
 use Rattle.mixed_worlds.specs.Book.{beside_among, is_among, lives_among}
 use Rattle.net_sim.specs.Audit.{IsStamped, IsWellFormed}
@@ -16,20 +18,22 @@ among_these strange lives = map (λ x. is_among strange x) lives
 
 pub counted_lives : (strange : Host → Bool) (lives : List Life) → kept_by (among_these strange lives) lives ≡ lives_among strange lives
 counted_lives strange [] = refl
-counted_lives strange (x ∷ lives) = by (is_among strange x) refl
+counted_lives strange (x ∷ lives) = by (is_among strange x) refl (counted_lives strange lives)
   where
-    by : (t : Bool) → is_among strange x ≡ t → kept_by (among_these strange (x ∷ lives)) (x ∷ lives) ≡ lives_among strange (x ∷ lives)
-    by true e = rw e (ap (λ (ys : List Life). x ∷ ys) (counted_lives strange lives))
-    by false e = rw e (counted_lives strange lives)
+    by : (t : Bool) → is_among strange x ≡ t → kept_by (among_these strange lives) lives ≡ lives_among strange lives
+        → kept_by (among_these strange (x ∷ lives)) (x ∷ lives) ≡ lives_among strange (x ∷ lives)
+    by true e rest = rw e (ap (λ (ys : List Life). x ∷ ys) rest)
+    by false e rest = rw e rest
 
 pub counted_beside : {A : Type 0} (strange : Host → Bool) (lives : List Life) (others : List A) → kept_by (among_these strange lives) others ≡ beside_among strange lives others
 counted_beside strange [] others = refl
 counted_beside strange (x ∷ lives) [] = refl
-counted_beside {A} strange (x ∷ lives) (a ∷ others) = by (is_among strange x) refl
+counted_beside {A} strange (x ∷ lives) (a ∷ others) = by (is_among strange x) refl (counted_beside strange lives others)
   where
-    by : (t : Bool) → is_among strange x ≡ t → kept_by (among_these strange (x ∷ lives)) (a ∷ others) ≡ beside_among strange (x ∷ lives) (a ∷ others)
-    by true e = rw e (ap (λ (ys : List A). a ∷ ys) (counted_beside strange lives others))
-    by false e = rw e (counted_beside strange lives others)
+    by : (t : Bool) → is_among strange x ≡ t → kept_by (among_these strange lives) others ≡ beside_among strange lives others
+        → kept_by (among_these strange (x ∷ lives)) (a ∷ others) ≡ beside_among strange (x ∷ lives) (a ∷ others)
+    by true e rest = rw e (ap (λ (ys : List A). a ∷ ys) rest)
+    by false e rest = rw e rest
 
 -- one item after the other
 keeps_next : {A : Type 0} (counted : List Bool) (x : A) (xs : List A) → kept_by counted (x ∷ xs) ≡ (if first_counts counted then x ∷ kept_by (drop 1 counted) xs else kept_by (drop 1 counted) xs)
@@ -48,7 +52,7 @@ keeps_one {A} counted left rest all kept now items more x counts before is p q e
     ∙ keeps_by (first_counts left) kept (kept_by (drop 1 left) more) x
     ∙ ap (λ (ys : List A). kept ++ ys) (sym (keeps_next left x more) ∙ ap (λ (ys : List A). kept_by left ys) (sym is)) ∙ before
 
-none_kept : {A : Type 0} (counted : List Bool) → kept_by {A} counted [] ≡ []
+none_kept : {A : Type 0} (counted : List Bool) → kept_by {A = A} counted [] ≡ []
 none_kept [] = refl
 none_kept (true ∷ counted) = refl
 none_kept (false ∷ counted) = refl
@@ -58,9 +62,6 @@ keeps_last {A} counted left all kept items before none =
     sym (append-nil kept) ∙ ap (λ (ys : List A). kept ++ ys) (sym (ap (λ (ys : List A). kept_by left ys) none ∙ none_kept left)) ∙ before
 
 -- ---- the places of those that count
-
-counts_here : (counted : List Bool) (at : ℕ) (t : Bool) → at < length counted → t ≡ get_or counted at t → drop at counted ≡ t ∷ drop (at + 1) counted
-counts_here counted at t lt is = drop_more counted at t lt ∙ ap (λ (b : Bool). b ∷ drop (at + 1) counted) (sym is)
 
 pub pass_some : (counts : Bool) (left : ℕ) → counts ≡ false → Some left ≡ passed_one counts left
 pass_some true left e = absurd (false≢true (sym e))
@@ -73,7 +74,7 @@ pass_none false left p q = absurd (false≢true p)
 
 pub pass_less : (counts : Bool) (left : ℕ) → counts ≡ true → (left ≡ 0 → ⊥) → Some (left - 1) ≡ passed_one counts left
 pass_less true zero p q = absurd (q refl)
-pass_less true (suc left) p q = refl
+pass_less true (suc left) p q = ap (λ (n : ℕ). Some n) (omega arith)
 pass_less false left p q = absurd (false≢true p)
 
 none_some : {X : Type 0} {x : X} → None ≡ Some x → ⊥
@@ -92,17 +93,18 @@ one_found false bs left e = absurd (none_some e)
 one_found true bs zero e = refl
 one_found true bs (suc left) e = absurd (none_some e)
 
-pub place_found : (counted : List Bool) (place at left : ℕ) (t : Bool) → at < length counted → t ≡ get_or counted at t → None ≡ passed_one t left
+pub place_found : (counted : List Bool) (place at left : ℕ) (d : Bool) → at < length counted → None ≡ passed_one (get_or counted at d) left
     → place_in counted place ≡ at + place_in (drop at counted) left → at ≡ place_in counted place
-place_found counted place at left t lt is none before =
-    let found : place_in (drop at counted) left ≡ 0 = ap (λ (bs : List Bool). place_in bs left) (counts_here counted at t lt is) ∙ one_found t (drop (at + 1) counted) left none in
+place_found counted place at left d lt none before =
+    let found : place_in (drop at counted) left ≡ 0 =
+    ap (λ (bs : List Bool). place_in bs left) (drop_more counted at d lt) ∙ one_found (get_or counted at d) (drop (at + 1) counted) left none in
     omega (arith, before, found)
 
-pub place_on : (counted : List Bool) (place at left next : ℕ) (t : Bool) → at < length counted → t ≡ get_or counted at t → Some next ≡ passed_one t left
+pub place_on : (counted : List Bool) (place at left next : ℕ) (d : Bool) → at < length counted → Some next ≡ passed_one (get_or counted at d) left
     → place_in counted place ≡ at + place_in (drop at counted) left → place_in counted place ≡ (at + 1) + place_in (drop (at + 1) counted) next
-place_on counted place at left next t lt is some before =
+place_on counted place at left next d lt some before =
     let on : place_in (drop at counted) left ≡ suc (place_in (drop (at + 1) counted) next) =
-    ap (λ (bs : List Bool). place_in bs left) (counts_here counted at t lt is) ∙ one_on t (drop (at + 1) counted) left next some in
+    ap (λ (bs : List Bool). place_in bs left) (drop_more counted at d lt) ∙ one_on (get_or counted at d) (drop (at + 1) counted) left next some in
     omega (arith, before, on)
 
 pub place_past : (counted : List Bool) (place at left : ℕ) → length counted ≤ at → at ≤ length counted → place_in counted place ≡ at + place_in (drop at counted) left
@@ -125,25 +127,23 @@ same_count : {A : Type 0} (strange : Host → Bool) (lives : List Life) (others 
 same_count strange [] [] e = refl
 same_count strange [] (a ∷ others) e = absurd (omega (arith, e))
 same_count strange (x ∷ lives) [] e = absurd (omega (arith, e))
-same_count strange (x ∷ lives) (a ∷ others) e = by (is_among strange x) refl
+same_count strange (x ∷ lives) (a ∷ others) e = by (is_among strange x) refl (same_count strange lives others (omega (arith, e)))
   where
-    rest : length lives ≡ length others
-    rest = omega (arith, e)
-
-    by : (t : Bool) → is_among strange x ≡ t → length (lives_among strange (x ∷ lives)) ≡ length (beside_among strange (x ∷ lives) (a ∷ others))
-    by true e = rw e (ap suc (same_count strange lives others rest))
-    by false e = rw e (same_count strange lives others rest)
+    by : (t : Bool) → is_among strange x ≡ t → length (lives_among strange lives) ≡ length (beside_among strange lives others)
+        → length (lives_among strange (x ∷ lives)) ≡ length (beside_among strange (x ∷ lives) (a ∷ others))
+    by true is rest = rw is (ap suc rest)
+    by false is rest = rw is rest
 
 pub is_one_of : (strange : Host → Bool) (lives : List Life) (y : Life) → Contains (lives_among strange lives) y → Contains lives y
 is_one_of strange [] y c = c
-is_one_of strange (x ∷ lives) y c = by (is_among strange x) refl
+is_one_of strange (x ∷ lives) y c = by (is_among strange x) refl (is_one_of strange lives y)
   where
-    by : (t : Bool) → is_among strange x ≡ t → Contains (x ∷ lives) y
-    by true e = elim (rw e at c) [
-      | inl same ↦ inl same
-      | inr rest ↦ inr (is_one_of strange lives y rest)
+    by : (t : Bool) → is_among strange x ≡ t → (Contains (lives_among strange lives) y → Contains lives y) → Contains (x ∷ lives) y
+    by true e rest = elim (contains_cases x (lives_among strange lives) y (rw e at c)) [
+      | inl same ↦ subst (λ (z : Life). Contains (x ∷ lives) z) same (contains_head x lives)
+      | inr there ↦ contains_tail x lives y (rest there)
     ]
-    by false e = inr (is_one_of strange lives y (rw e at c))
+    by false e rest = contains_tail x lives y (rest (rw e at c))
 
 pub formed_among : (strange : Host → Bool) (log : List Crossing) (lives : List Life) (handed : List (List Bool)) → IsWellFormed log lives handed
     → IsWellFormed log (lives_among strange lives) (beside_among strange lives handed)
