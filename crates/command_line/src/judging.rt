@@ -134,20 +134,28 @@ pub(crate) fn judge(
     requires { among.now ≡ map (λ x. is_among (λ h. is_host strangers.now h) x) lists.lives.items }
     ensures { IfOk result (λ v. Judged v (λ h. is_host strangers.now h) lists.crossings.items lists.lives.items lists.handed.items lists.fates.items) }
 {
-    let log = lists.crossings.as_slice();
-    let malformed = malformed_at(alloc, log, &lists.lives, &lists.handed)?;
-    let toward = untoward(malformed, strangers, &lists.lives, &lists.handed);
-    let some = keep_counted(alloc, among, lists.lives)?;
-    let texts = keep_counted(alloc, among, lists.handed)?;
-    let ends = keep_counted(alloc, among, lists.fates)?;
-    let lives = some.as_slice();
+    let BookLists {
+        crossings,
+        lives: all,
+        fates: words,
+        handed: texts,
+    } = lists;
+    let log = crossings.as_slice();
+    let lives = all.as_slice();
     let handed = texts.as_slice();
-    let fates = ends.as_slice();
+    let malformed = malformed_at(alloc, log, lives, handed)?;
+    let toward = untoward(malformed, strangers, lives, handed);
+    let lives_kept = keep_counted(alloc, among, all)?;
+    let lists_kept = keep_counted(alloc, among, texts)?;
+    let fates_kept = keep_counted(alloc, among, words)?;
+    let some = lives_kept.as_slice();
+    let some_lists = lists_kept.as_slice();
+    let ends = fates_kept.as_slice();
     let stray = stray_at(alloc, log)?;
     let messages = unkept(alloc, log, stray)?;
-    let unmade = unmade_at(alloc, log, lives)?;
-    let broken = broken_parts(alloc, malformed, log, lives, handed, fates)?;
-    let unsuited = unsuited_at(alloc, log, lives, fates)?;
+    let unmade = unmade_at(alloc, log, some)?;
+    let broken = broken_parts(alloc, malformed, log, some, some_lists, ends)?;
+    let unsuited = unsuited_at(alloc, log, some, ends)?;
     Ok(Verdict {
         stray,
         unmade,

@@ -57,9 +57,10 @@ none_kept [] = refl
 none_kept (true ∷ counted) = refl
 none_kept (false ∷ counted) = refl
 
-pub keeps_last : {A : Type 0} (counted left : List Bool) (all kept items : List A) → kept ++ kept_by left items ≡ kept_by counted all → items ≡ [] → kept ≡ kept_by counted all
-keeps_last {A} counted left all kept items before none =
-    sym (append-nil kept) ∙ ap (λ (ys : List A). kept ++ ys) (sym (ap (λ (ys : List A). kept_by left ys) none ∙ none_kept left)) ∙ before
+pub keeps_last : {A : Type 0} (counted left : List Bool) (all kept items : List A) → kept ++ kept_by left items ≡ kept_by counted all → length items ≡ 0 → kept ≡ kept_by counted all
+keeps_last {A} counted left all kept [] before none =
+    sym (append-nil kept) ∙ ap (λ (ys : List A). kept ++ ys) (sym (none_kept left)) ∙ before
+keeps_last counted left all kept (x ∷ items) before none = absurd (omega (arith, none))
 
 -- ---- the places of those that count
 

@@ -59,36 +59,54 @@ verdict_of stray unmade malformed messages b unsuited toward = record {
   toward = toward;
 }
 
-pub judged_of : (strange : Host → Bool) (log : List Crossing) (lives some : List Life) (handed lists : List (List Bool)) (fates ends : List Fate) (stray unmade : Option ℕ) (malformed messages : Option Finding)
-    (b : Broken) (unsuited toward : Option ℕ) → some ≡ lives_among strange lives → lists ≡ beside_among strange lives handed → ends ≡ beside_among strange lives fates
-    → MatchOption stray (IsSomeRun (reverse log)) (λ place. StraysAt log place)
-    → MatchOption unmade (AreMade (reverse log) some) (λ n. UnmadeAt (reverse log) some n)
-    → MatchOption malformed (IsWellFormed (reverse log) lives handed) (λ found. ShowsMalformed found (reverse log) lives handed)
-    → MatchOption messages (SafeMessages (reverse log)) (λ found. ShowsCrossing found (reverse log))
-    → AreParts malformed b (reverse log) some lists ends
-    → MatchOption unsuited (AreSuited (reverse log) some ends) (λ place. UnsuitedAt (reverse log) some ends place)
-    → IfFormed malformed toward (AreToward strange lives handed) (λ place. UntowardAt strange lives handed place)
+-- what was found of these lists, and of the lives that are kept of them
+pub record Found (strange : Host → Bool) (stray unmade : Option ℕ) (malformed messages : Option Finding) (b : Broken) (unsuited toward : Option ℕ) (log : List Crossing)
+    (lives : List Life) (handed : List (List Bool)) (some : List Life) (lists : List (List Bool)) (ends : List Fate) : Type 0 where
+  pub run : MatchOption stray (IsSomeRun (reverse log)) (λ place. StraysAt log place)
+  pub made : MatchOption unmade (AreMade (reverse log) some) (λ n. UnmadeAt (reverse log) some n)
+  pub formed : MatchOption malformed (IsWellFormed (reverse log) lives handed) (λ found. ShowsMalformed found (reverse log) lives handed)
+  pub safe : MatchOption messages (SafeMessages (reverse log)) (λ found. ShowsCrossing found (reverse log))
+  pub parts : AreParts malformed b (reverse log) some lists ends
+  pub suited : MatchOption unsuited (AreSuited (reverse log) some ends) (λ place. UnsuitedAt (reverse log) some ends place)
+  pub to : IfFormed malformed toward (AreToward strange lives handed) (λ place. UntowardAt strange lives handed place)
+
+found_judged : (strange : Host → Bool) (stray unmade : Option ℕ) (malformed messages : Option Finding) (b : Broken) (unsuited toward : Option ℕ) (log : List Crossing) (lives : List Life)
+    (handed : List (List Bool)) (fates : List Fate)
+    → Found strange stray unmade malformed messages b unsuited toward log lives handed (lives_among strange lives) (beside_among strange lives handed) (beside_among strange lives fates)
     → Judged (verdict_of stray unmade malformed messages b unsuited toward) strange log lives handed fates
-judged_of strange log lives some handed lists fates ends stray unmade malformed messages b unsuited toward p q r run made formed safe parts suited to =
+found_judged strange stray unmade malformed messages b unsuited toward log lives handed fates f =
     let xs : List Life = lives_among strange lives in
     let hs : List (List Bool) = beside_among strange lives handed in
     let fs : List Fate = beside_among strange lives fates in
-    let there : AreParts malformed b (reverse log) xs hs fs =
-    subst (λ (ys : List Life). AreParts malformed b (reverse log) ys hs fs) p
-    (subst (λ (ys : List (List Bool)). AreParts malformed b (reverse log) some ys fs) q (subst (λ (ys : List Fate). AreParts malformed b (reverse log) some lists ys) r parts)) in
     let all : Parts malformed b (reverse log) xs hs fs =
-    parts_of malformed b (reverse log) xs hs fs (λ e. formed_among strange (reverse log) lives handed (formed_of malformed (reverse log) lives handed formed e)) there in
+    parts_of malformed b (reverse log) xs hs fs (λ e. formed_among strange (reverse log) lives handed (formed_of malformed (reverse log) lives handed f.formed e)) f.parts in
     record {
-      run = run;
-      made = subst (λ (ys : List Life). MatchOption unmade (AreMade (reverse log) ys) (λ n. UnmadeAt (reverse log) ys n)) p made;
-      formed = formed;
-      messages = safe;
+      run = f.run;
+      made = f.made;
+      formed = f.formed;
+      messages = f.safe;
       partners = all.partners;
       streams = all.streams;
       grants = all.grants;
       closes = all.closes;
-      suited =
-          subst (λ (ys : List Life). MatchOption unsuited (AreSuited (reverse log) ys fs) (λ place. UnsuitedAt (reverse log) ys fs place)) p
-          (subst (λ (ys : List Fate). MatchOption unsuited (AreSuited (reverse log) some ys) (λ place. UnsuitedAt (reverse log) some ys place)) r suited);
-      toward = to;
+      suited = f.suited;
+      toward = f.to;
     }
+
+-- where each list is the one that was judged
+pub judged_of : (strange : Host → Bool) (stray unmade : Option ℕ) (malformed messages : Option Finding) (b : Broken) (unsuited toward : Option ℕ) (now log : List Crossing) (all lives : List Life)
+    (texts handed : List (List Bool)) (fates : List Fate) (some : List Life) (lists : List (List Bool)) (ends : List Fate) → now ≡ log → all ≡ lives → texts ≡ handed
+    → some ≡ lives_among strange lives → lists ≡ beside_among strange lives handed → ends ≡ beside_among strange lives fates
+    → Found strange stray unmade malformed messages b unsuited toward now all texts some lists ends
+    → Judged (verdict_of stray unmade malformed messages b unsuited toward) strange log lives handed fates
+judged_of strange stray unmade malformed messages b unsuited toward now log all lives texts handed fates some lists ends p q r s t u f =
+    let xs : List Life = lives_among strange lives in
+    let hs : List (List Bool) = beside_among strange lives handed in
+    let fs : List Fate = beside_among strange lives fates in
+    found_judged strange stray unmade malformed messages b unsuited toward log lives handed fates
+    (subst (λ (cs : List Crossing). Found strange stray unmade malformed messages b unsuited toward cs lives handed xs hs fs) p
+    (subst (λ (ys : List Life). Found strange stray unmade malformed messages b unsuited toward now ys handed xs hs fs) q
+    (subst (λ (ys : List (List Bool)). Found strange stray unmade malformed messages b unsuited toward now all ys xs hs fs) r
+    (subst (λ (ys : List Life). Found strange stray unmade malformed messages b unsuited toward now all texts ys hs fs) s
+    (subst (λ (ys : List (List Bool)). Found strange stray unmade malformed messages b unsuited toward now all texts some ys fs) t
+    (subst (λ (ys : List Fate). Found strange stray unmade malformed messages b unsuited toward now all texts some lists ys) u f))))))
