@@ -143,7 +143,7 @@ class ToldOfItsList(Judge):
 class LineOfItsNumber(Judge):
     """The line of a life is that of its number."""
 
-    def line(self, log: Sequence[Crossing], place: int) -> int:
+    def line(self, book: Book, place: int) -> int:
         return place
 
 
@@ -298,7 +298,7 @@ class LostWithoutPartner(Judge):
 class NoRun(Judge):
     """The run is not looked at."""
 
-    def of_run(self, log: Log) -> str | None:
+    def of_run(self, book: Book) -> str | None:
         return None
 
 
@@ -334,8 +334,8 @@ class TwoSenders(Judge):
 class RunBefore(Judge):
     """A break of the run is put at the line before it."""
 
-    def of_run(self, log: Log) -> str | None:
-        found = super().of_run(log)
+    def of_run(self, book: Book) -> str | None:
+        found = super().of_run(book)
         return found and f"broken run line {int(found.split()[-1]) - 1}"
 
 
