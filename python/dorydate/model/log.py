@@ -52,10 +52,6 @@ class Book(NamedTuple):
         """The line of the list at a place, counted from 0."""
         return self.life_line(len(self.lives) + place)
 
-    def names_stranger(self, life: Life) -> bool:
-        """Whether a life's host or its peer is a stranger."""
-        return life.host in self.strangers or life.peer in self.strangers
-
 
 Entry = Union[HostName, Crossing, Life, Bits]  # a host is a stranger's
 PART_OF: dict[type, int] = {HostName: 0, Passed: 1, Answered: 1, Turned: 1, Life: 2, str: 3}

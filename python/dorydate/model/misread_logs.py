@@ -15,6 +15,8 @@ from dorydate.model.fates import LEAVES, Begun, Fates, Over
 from dorydate.model.firsts import Data, Firsts, Placed, on_link
 from dorydate.model.log import BadLog, Book, LogReader
 from dorydate.model.mailboxes import Mailboxes
+from dorydate.model.misread_strangers import JUDGES as OF_STRANGERS
+from dorydate.model.misread_strangers import READERS as READERS_OF_STRANGERS
 from dorydate.model.names import Flow, HostName
 from dorydate.model.verdict import Judge
 
@@ -947,4 +949,6 @@ def judge_with(reader: type[LogReader]) -> Judge:
     return judge
 
 
-MISREADINGS: dict[str, Judge] = {str(it.__doc__): judge_with(it) for it in READERS} | {str(it.__doc__): it() for it in JUDGES}
+MISREADINGS: dict[str, Judge] = {str(it.__doc__): judge_with(it) for it in [*READERS, *READERS_OF_STRANGERS]} | {
+    str(it.__doc__): it() for it in [*JUDGES, *OF_STRANGERS]
+}

@@ -7,7 +7,7 @@ that crossed; the others by what is promised toward a stranger.
 
 from __future__ import annotations
 
-from collections.abc import Callable, Collection, Iterable, Sequence
+from collections.abc import Callable, Iterable, Sequence
 from dataclasses import replace
 from typing import TypeVar
 
@@ -68,7 +68,8 @@ class Judge:
 
     def of_lives(self, book: Book) -> str | None:
         """The first life among programs that isn't made of messages that crossed before it was over, None where all are."""
-        place = next((place for place in self.among(book) if not self.is_made(book.log, book.lives[place - 1])), None)
+        places = self.judged("lives", book)
+        place = next((place for place in places if not self.is_made(book.log, book.lives[place - 1])), None)
         return None if place is None else f"broken lives line {self.line(book, place)}"
 
     def is_made(self, log: Log, life: Life) -> bool:
@@ -83,9 +84,9 @@ class Judge:
     def of_fates(self, book: Book) -> str | None:
         """The first life among programs whose fate isn't one that what crossed leaves it, or that disagrees with an earlier
         one on a contact; None where there is none."""
-        among = self.among(book)
-        place = self.fates().first_strange(book.log, [book.lives[place - 1] for place in among])
-        return None if place is None else f"broken fates line {self.line(book, among[place - 1])}"
+        places = self.judged("fates", book)
+        found = self.fates().first_strange(book.log, [book.lives[place - 1] for place in places])
+        return None if found is None else f"broken fates line {self.line(book, places[found - 1])}"
 
     def of_book(self, book: Book) -> list[str | None]:
         """What is wrong with a book. Partners, streams, grants and closes are about requests, so they are judged where each stamp names one."""
@@ -107,41 +108,51 @@ class Judge:
 
     def of_part(self, part: str, book: Book) -> str | None:
         """The one or two lives among programs that break a part."""
-        among = self.among(book)
-        places = self.shown(part, book.log, [self.with_list(book, place) for place in among])
-        return f"broken {part} {in_words(self.line(book, among[place - 1]) for place in places)}" if places else None
+        places = self.judged(part, book)
+        found = self.shown(part, book.log, [self.with_list(book, place) for place in places])
+        return f"broken {part} {in_words(self.line(book, places[it - 1]) for it in found)}" if found else None
 
     # ---- strangers
 
-    def among(self, book: Book) -> list[int]:
-        """The places, counted from 1, of the lives of hosts with programs whose peers have one, too."""
-        return [place for place, life in enumerate(book.lives, 1) if not self.is_of_stranger(book, life)]
+    def judged(self, part: str, book: Book) -> list[int]:
+        """The places, counted from 1, of the lives that a part is about: those of hosts with programs whose peers run one, too."""
+        return [place for place, life in enumerate(book.lives, 1) if self.is_among(book, life)]
 
-    def is_of_stranger(self, book: Book, life: Life) -> bool:
-        """Whether a stranger is at an end of a life."""
-        return book.names_stranger(life)
+    def is_among(self, book: Book, life: Life) -> bool:
+        """Whether no stranger is at an end of a life."""
+        return not self.is_strange(book, life.host) and not self.is_strange(book, life.peer)
+
+    def is_strange(self, book: Book, host: HostName) -> bool:
+        """Whether a host is a stranger."""
+        return host in book.strangers
 
     def with_list(self, book: Book, place: int) -> Life:
         """The life at a place, with what was handed over in it."""
         return replace(book.lives[place - 1], handed=book.handed[place - 1])
 
     def of_toward(self, book: Book) -> str | None:
-        """The first life that breaks what is promised toward a stranger. As it is about lists, it is judged where each life has one."""
-        if self.of_form(book):
+        """The first life that breaks what is promised toward a stranger, None where there is none or nothing is asked."""
+        if not self.is_asked_toward(book):
             return None
         lives = [self.with_list(book, place) for place in range(1, len(book.lives) + 1)]
-        place = next((place for place, life in enumerate(lives, 1) if self.is_broken_toward(book.strangers, life)), None)
-        return None if place is None else f"broken toward line {self.line(book, place)}"
+        broken = [place for place, life in enumerate(lives, 1) if self.is_broken_toward(book, life)]
+        return f"broken toward line {self.line(book, self.named_toward(broken))}" if broken else None
 
-    def is_broken_toward(self, strangers: Collection[HostName], life: Life) -> bool:
+    def is_asked_toward(self, book: Book) -> bool:
+        """Whether what is promised toward a stranger is judged: where partners are."""
+        return self.of_form(book) is None
+
+    def named_toward(self, broken: Sequence[int]) -> int:
+        """Which of the lives that break what is promised toward a stranger is named."""
+        return broken[0]
+
+    def is_broken_toward(self, book: Book, life: Life) -> bool:
         """Whether a life is a stranger's, who has none, or is toward one and breaks what is promised there."""
-        return life.host in strangers or life.peer in strangers and not self.keeps_toward(life)
+        return self.is_strange(book, life.host) or self.is_strange(book, life.peer) and not self.keeps_toward(life)
 
     def keeps_toward(self, life: Life) -> bool:
-        """Whether a life toward a stranger took no more than it granted, or sent a beginning of what was handed over in it."""
-        if life.receives():
-            return is_granted(life, life.messages, len(life.bits))
-        return life.handed.startswith(life.bits)
+        """Whether a life toward a stranger took no more than it granted, or sent a prefix of what was handed over in it."""
+        return is_granted(life, life.messages, len(life.bits)) if life.receives() else life.handed.startswith(life.bits)
 
     # ---- lines
 

@@ -9,6 +9,7 @@ import re
 import subprocess
 from collections.abc import Iterator
 
+from workshop.checks import stranger_rows
 from workshop.parts import ROOT
 
 with open(f"{ROOT}/logs/two-octets", encoding="utf-8") as log, open(f"{ROOT}/docs/audit.md", encoding="utf-8") as page:
@@ -450,3 +451,4 @@ def rows() -> Iterator[tuple[bytes, str]]:
     yield from ((f"{line}\nend\n".encode("latin-1"), "bad log line 1") for line in BAD_LINES)
     yield from ((f"down 0/1\n{line}\nend\n".encode("latin-1"), "bad log line 2") for line in BAD_LINES)
     yield from ((octets, f"bad log line {said}" if isinstance(said, int) else said) for octets, said in OCTETS)
+    yield from stranger_rows.rows()
