@@ -10,7 +10,7 @@ import subprocess
 from collections.abc import Iterator
 
 from workshop.checks import stranger_rows
-from workshop.parts import ROOT
+from workshop.parts import ROOT, text_of
 
 with open(f"{ROOT}/logs/two-octets", encoding="utf-8") as log, open(f"{ROOT}/docs/audit.md", encoding="utf-8") as page:
     SHORT, PAGE = log.read(), page.read()
@@ -431,12 +431,15 @@ OCTETS: list[tuple[bytes, int | str]] = [
 
 
 def rows_of_page() -> Iterator[tuple[bytes, str]]:
-    """The changes of the page's log, as sed makes them, and what the program prints of each."""
-    if f"```text\n{SHORT}```" not in PAGE:
-        raise ValueError("docs/audit.md has another log than logs/two-octets")
-    for script, cell in re.findall(r"^\| `sed '(.*)'` \| ([^|]*?) \|", PAGE, re.MULTILINE):
-        changed = subprocess.run(["sed", script], input=SHORT.encode(), capture_output=True, check=True).stdout
-        yield changed, "\n".join(re.findall("`([^`]*)`", cell)) or cell
+    """The changes of the page's logs, as sed makes them, and what the program prints of each."""
+    _, *parts = re.split(r"^```text\n(.*?)^```$", PAGE, flags=re.MULTILINE | re.DOTALL)
+    for text, following in zip(parts[::2], parts[1::2]):
+        name = re.findall("`logs/([a-z-]+)`", PAGE[: PAGE.index(text)])[-1]
+        if text != text_of(f"{ROOT}/logs/{name}"):
+            raise ValueError(f"docs/audit.md has another log than logs/{name}")
+        for script, cell in re.findall(r"^\| `sed '(.*)'` \| ([^|]*?) \|", following, re.MULTILINE):
+            changed = subprocess.run(["sed", script], input=text.encode(), capture_output=True, check=True).stdout
+            yield changed, "\n".join(re.findall("`([^`]*)`", cell)) or cell
 
 
 def rows() -> Iterator[tuple[bytes, str]]:
