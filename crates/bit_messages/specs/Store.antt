@@ -6,6 +6,7 @@ pub record Stored : Type 0 where
   pub octets : List ℕ
   pub len : ℕ
 
+-- this many bits in these octets
 abbrev pub stored : List ℕ → ℕ → Stored
 stored octets len = record { octets = octets; len = len }
 

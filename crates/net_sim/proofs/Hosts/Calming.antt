@@ -1,6 +1,6 @@
 -- A calm, part by part: a host's takings and offers, its turn, a round, and the rounds.
-use Rattle.net_sim.proofs.Common.{inl, inr, ◌≡◌, ℕ, ◌+◌, ◌-◌, ◌<◌, ◌≤◌, Bool, true, false, ◌||◌, zero, suc, nat_lt, cond, List, [], ◌∷◌, length, map, filter, drop, find, if◌then◌else◌, add-one, Option, Some, None, Ok, Err, refl, ap, sym, subst, ◌∙◌, arith, length-map, length-reverse, MatchBool, Host, same_host, Calls, is_memory, is_halt, CarrierFault, Crossing, Inbound, HostMessage, accepted, NcpState, next_out, offered, Kept, IsOnce, hosts_of, WorldState, WorldFault, Carrier, Program, Quiet, Offer, Seat, seat_of, seated, services_of, noticed, Refuses, Does, Halts, OfferEnds, OfferGives, TakeEnds, TakeGives, QuietEnds, AtProgram, AtSeat, EventGives, StepGives, wants_memory, stops, Repeats, TurnsOf, up_in, Calms, CalmGives}
-use Rattle.std.proofs.Common.{is_some, reverse, slice_get, lt-ltb, le-ltb, Result}
+use Rattle.net_sim.proofs.Common.{inl, inr, ◌≡◌, ℕ, ◌+◌, ◌-◌, ◌<◌, ◌≤◌, Bool, true, false, ◌||◌, zero, suc, nat_lt, cond, List, [], ◌∷◌, length, map, filter, drop, find, if◌then◌else◌, add-one, Option, Some, None, Ok, Err, refl, ap, sym, subst, ◌∙◌, arith, length-map, MatchBool, Host, same_host, Calls, is_memory, is_halt, CarrierFault, Inbound, HostMessage, accepted, NcpState, next_out, offered, IsOnce, hosts_of, WorldState, WorldFault, Carrier, Program, Quiet, Offer, Seat, seat_of, seated, services_of, noticed, Refuses, Does, Halts, OfferEnds, OfferGives, TakeEnds, TakeGives, QuietEnds, AtProgram, AtSeat, EventGives, StepGives, wants_memory, stops, Repeats, TurnsOf, up_in, Calms, CalmGives}
+use Rattle.std.proofs.Common.{is_some, slice_get, lt-ltb, le-ltb, Result}
 use Rattle.std.proofs.lemmas.List.{drop_all}
 use Rattle.interface.specs.declared.carrier.CarrierFault.TheVariants as fault
 use Rattle.net_sim.specs.Inside.Calm.{CalmTurn, Round}

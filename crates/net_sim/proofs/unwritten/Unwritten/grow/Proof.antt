@@ -48,7 +48,7 @@ module _ {M : Type 1} {𝓤 : Ura M} (𝓛 : Logic 𝓤) (at_mem : Memory → SP
   abbrev x : Arg
   x = (record { ref_ptr = (b, o); ghost_name = γ; now = h }, (news, tt))
 
-  -- what crossed is now behind what had crossed before
+  -- what crossed now, in front of what had crossed before
   abbrev h' : Unwritten
   h' = record { crossings = reverse news.now ++ h.crossings }
 

@@ -1,4 +1,3 @@
-use Rattle.net_sim.proofs.Common.{rules}
 use Rattle.net_sim.proofs.Books.Lent.{lent}
 use Rattle.net_sim.proofs.world_core.WorldCore.book.Goals as goal
 
