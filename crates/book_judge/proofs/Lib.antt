@@ -10,6 +10,7 @@ pub mod Fed
 pub mod Shown
 pub mod Peace
 pub mod Lost
+pub mod Strangers
 pub mod Worked
 pub mod Crossed
 pub mod Ends

@@ -6,7 +6,10 @@ use Rattle.std.specs.declared.alloc.AllocError.{AllocError}
 use Rattle.std.proofs.lemmas.Bool.{leb-true, and_from, false_from_ne_true, true_from_ne_false}
 use Rattle.interface.specs.declared.crossing.Crossing.TheVariants as crossing
 use Rattle.net_sim.specs.Audit.{IsWellFormed}
-use Rattle.net_sim.specs.Findings.{AreAtPeace, AreFed, AreUnmatched, HaveGranted, ShowsTwo, first_fed, first_granted}
+use Rattle.net_sim.specs.Findings.{AreAtPeace, AreFed, AreUnmatched, HaveGranted, ShowsMalformed, ShowsTwo, first_fed, first_granted}
+use Rattle.std.specs.Global.{Vec}
+use Rattle.std.specs.Prelude.{MatchOption}
+use Rattle.book_judge.specs.Inside.Asked.{Names, unstamped}
 use Rattle.net_sim.specs.declared.auditing.findings.Finding.TheVariants as finding
 use Rattle.promise.specs.Safe.{IsGranted, SafeGrants, SafePartners, Source}
 use Rattle.book_judge.specs.Broken.{IsBroken}
@@ -363,12 +366,12 @@ fed_at names lives handed log n i are l fed a x h e f g =
 
 -- ---- grants
 
-granted_true : (x : Life) (count size : ℕ) → is_granted x count size ≡ true → IsGranted x count size
+pub granted_true : (x : Life) (count size : ℕ) → is_granted x count size ≡ true → IsGranted x count size
 granted_true x count size h =
     let t = and_true (nat_le (count + x.returned.messages) x.granted.messages) (nat_le (size + x.returned.bits) x.granted.bits) h in
     record { messages = leb-true (count + x.returned.messages) x.granted.messages t.0; bits = leb-true (size + x.returned.bits) x.granted.bits t.1 }
 
-granted_is : (x : Life) (count size : ℕ) → IsGranted x count size → is_granted x count size ≡ true
+pub granted_is : (x : Life) (count size : ℕ) → IsGranted x count size → is_granted x count size ≡ true
 granted_is x count size g =
     and_from (nat_le (count + x.returned.messages) x.granted.messages) (nat_le (size + x.returned.bits) x.granted.bits)
     (le-leb (count + x.returned.messages) x.granted.messages g.messages) (le-leb (size + x.returned.bits) x.granted.bits g.bits)
@@ -412,6 +415,12 @@ pub well_formed : (names : List Name) (lives : List Life) (handed : List (List B
 well_formed names lives handed log are counts =
     let P : List Life → Type 0 = λ zs. AreStamped log zs in
     record { counts = counts; stamped = subst P (take_all (length lives) lives (omega arith)) are.stamped }
+
+-- lists are as many as lives, so where it shows that a book is malformed a stamp names no request
+pub formed_by : (named : Result (Vec Name) ℕ) (lives : List Life) (handed : List (List Bool)) (log : List Crossing) → length lives ≡ length handed → Names named lives log
+    → MatchOption (unstamped named) (IsWellFormed log lives handed) (λ found. ShowsMalformed found log lives handed)
+formed_by (Ok names) lives handed log counts are = well_formed names.items lives handed log are counts
+formed_by (Err place) lives handed log counts at = inr (counts, at)
 
 pub fed_none : (names : List Name) (lives : List Life) (handed : List (List Bool)) (log : List Crossing) → AreNamed (length lives) names lives log
     → length handed ≡ length lives → FoundFirst (FedAt names lives handed) (length lives) None → AreFed log lives lives handed

@@ -11,9 +11,9 @@ use Rattle.promise.specs.declared.life.Life.{Life}
 use Rattle.book_judge.specs.declared.broken.Broken.{Broken}
 
 -- partners, streams, grants and closes are about the requests that stamps name: of a malformed book nothing is said of them
-abbrev pub IfFormed : Option Finding → Option Finding → Type 0 → (Finding → Type 0) → Type 0
-IfFormed None found Holds ShowsAt = MatchOption found Holds ShowsAt
-IfFormed (Some malformed) found Holds ShowsAt = found ≡ None
+abbrev pub IfFormed : {F : Type 0} → Option Finding → Option F → Type 0 → (F → Type 0) → Type 0
+IfFormed {F} None found Holds ShowsAt = MatchOption found Holds ShowsAt
+IfFormed {F} (Some malformed) found Holds ShowsAt = found ≡ None
 
 -- what closes promise of the first lives, each with its fate
 abbrev pub first_closed : List Crossing → List Life → List (List Bool) → List Fate → ℕ → Type 0

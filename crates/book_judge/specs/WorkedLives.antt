@@ -1,5 +1,5 @@
 -- A life whose host stops, second lives of a host with its peer, and one with another: words for worked examples.
-use Rattle.std.specs.Prelude.{List, [], ◌∷◌}
+use Rattle.std.specs.Prelude.{◌≡◌, Bool, true, false, List, [], ◌∷◌}
 use Rattle.interface.specs.Host.{Host}
 use Rattle.interface.specs.declared.crossing.Crossing.{Crossing}
 use Rattle.interface.specs.declared.crossing.Crossing.TheVariants as crossing
@@ -9,8 +9,9 @@ use Rattle.net_sim.specs.WorkedMoments.{bits_sent, eight_sent, rts, str}
 use Rattle.net_sim.specs.WorkedResets.{rst}
 use Rattle.host_pairs.specs.Control.{control_text}
 use Rattle.promise.specs.Safe.{control_flow}
+use Rattle.promise.specs.declared.life.Amount.{Amount}
 use Rattle.promise.specs.declared.life.Life.{Life}
-use Rattle.world_keeps_lives.specs.WorkedFormed.{close_taken, sent_log, took}
+use Rattle.world_keeps_lives.specs.WorkedFormed.{close_taken, gave, sent_log, took}
 
 -- eight bits come in for its host after that has stopped
 abbrev pub stopped_log : List Crossing
@@ -72,3 +73,17 @@ reset_log = crossing.In str ∷ crossing.Out rts ∷ crossing.Out (rst took.host
 
 abbrev pub took_after : Life
 took_after = record took_nothing { own_stamp = 20; partner_stamp = 21 }
+
+-- ---- toward a stranger
+
+-- it took two bits in one message, where this was granted, and nothing was given back
+abbrev pub took_two : Amount → Life
+took_two granted = record took { messages = 1; bits = true ∷ false ∷ []; granted = granted; returned = record { messages = 0; bits = 0 } }
+
+-- it sent these bits
+abbrev pub gave_these : List Bool → Life
+gave_these bits = record gave { bits = bits }
+
+-- this host runs a program, and this one doesn't
+abbrev pub AreApart : (Host → Bool) → Host → Host → Type 0
+AreApart strange own peer = (strange own ≡ false) × (strange peer ≡ true)

@@ -2,9 +2,10 @@
 
 ghost use Rattle.std.specs.Prelude.{◌≡◌, IfOk, List, MatchOption, length, reverse};
 ghost use Rattle.interface.specs.declared.crossing.Crossing.{Crossing};
+ghost use Rattle.net_sim.specs.Audit.{IsWellFormed};
 ghost use Rattle.net_sim.specs.Findings.{ShowsMalformed};
 ghost use Rattle.book_judge.specs.Broken.{IsBroken};
-ghost use Rattle.book_judge.specs.Inside.Asked.{AreNamed};
+ghost use Rattle.book_judge.specs.Inside.Asked.{AreNamed, unstamped};
 ghost use Rattle.book_judge.specs.Inside.Chains.{AreChained};
 ghost use Rattle.book_judge.specs.Inside.Said.{TellsCloses, TellsGrants, TellsPartners, TellsStreams};
 
@@ -61,6 +62,35 @@ fn uncounted(lives: &[Life], handed: &[BitLog]) -> Option<Finding>
         return Some(Finding::List(lives.len()));
     }
     None
+}
+
+/// Returns where it shows that the lives of a log, and what was handed over in them, are malformed: the first life that has no list, or
+/// the first list that has no life; else the first life with a stamp that names no request. The log is the oldest first.
+///
+/// Errors: `AllocError`.
+pub fn malformed_at(
+    alloc: Global,
+    log: &[Passage],
+    lives: &[Life],
+    handed: &[BitLog],
+) -> Result<Option<Finding>, AllocError>
+    ensures { IfOk result (λ found. MatchOption found (IsWellFormed (reverse log.now) lives.now handed.now) (λ at. ShowsMalformed at (reverse log.now) lives.now handed.now)) }
+{
+    if let Some(found) = uncounted(lives, handed) {
+        return Ok(Some(found));
+    }
+    let named = partners_of(alloc, log, lives)?;
+    Ok(unstamped(named))
+}
+
+/// Returns the first life whose stamps don't name requests, if there is one.
+fn unstamped(named: Result<Vec<Name>, usize>) -> Option<Finding>
+    ensures { result ≡ unstamped named }
+{
+    match named {
+        Ok(_) => None,
+        Err(place) => Some(Finding::Life(place)),
+    }
 }
 
 /// Returns the first two lives that can't both be in one book.

@@ -16,6 +16,7 @@ ghost use Rattle.net_sim.specs.Worked.{eight, four};
 ghost use Rattle.net_sim.specs.WorkedMoments.{rts, str};
 ghost use Rattle.book_judge.specs.WorkedLives.{again_log, down_log, late_answer, reset_log, stopped_log, third_down_log, third_log};
 ghost use Rattle.book_judge.specs.WorkedLives.{took_after, took_again, took_from_third, took_nothing, unasked};
+ghost use Rattle.book_judge.specs.WorkedLives.{AreApart, gave_these, took_two};
 ghost use Rattle.promise.specs.Ends.{CanBeLeft, Closed, Dropped, Going, Over, Stopped};
 ghost use Rattle.promise.specs.Fates.{ClosesWhole};
 ghost use Rattle.promise.specs.Formed.{FormedBook};
@@ -27,6 +28,7 @@ ghost use Rattle.book_judge.specs.Broken.{IsBroken, first_closed, only_malformed
 ghost use Rattle.book_judge.specs.Fates.{AreSuited, UnsuitedAt, suits};
 ghost use Rattle.book_judge.specs.Lives.{AreMade, UnmadeAt};
 ghost use Rattle.book_judge.specs.Runs.{IsSomeRun, StraysAt};
+ghost use Rattle.book_judge.specs.Toward.{AreToward, UntowardAt};
 
 use world_keeps_lives::law::worked_formed;
 
@@ -164,3 +166,22 @@ pub fn worked_lives()
 {
     worked_formed();
 }
+
+/// Lives toward strangers, and others: which keep what may be asked of them.
+pub fn worked_toward()
+    // a stranger's, whatever it is, and one between hosts with programs, whatever it took and sent
+    ensures owner { (strange : Host → Bool) (x : Life) (text : List Bool) → strange x.host ≡ true → UntowardAt strange (x ∷ []) (text ∷ []) 0 }
+    ensures among { (strange : Host → Bool) (x : Life) (text : List Bool) → strange x.host ≡ false → strange x.peer ≡ false → AreToward strange (x ∷ []) (text ∷ []) }
+
+    // two bits in one message, where just so much was granted, a bit less, and no message
+    ensures granted { (strange : Host → Bool) (text : List Bool) → AreApart strange took.host took.peer → AreToward strange (took_two (record { messages = 1; bits = 2 }) ∷ []) (text ∷ []) }
+    ensures bits { (strange : Host → Bool) (text : List Bool) → AreApart strange took.host took.peer → AreToward strange (took_two (record { messages = 1; bits = 1 }) ∷ []) (text ∷ []) → ⊥ }
+    ensures messages { (strange : Host → Bool) (text : List Bool) → AreApart strange took.host took.peer → AreToward strange (took_two (record { messages = 0; bits = 2 }) ∷ []) (text ∷ []) → ⊥ }
+
+    // what was handed over, and another bit
+    ensures handed { (strange : Host → Bool) (text : List Bool) → AreApart strange gave.host gave.peer → AreToward strange (gave_these text ∷ []) (text ∷ []) }
+    ensures other { (strange : Host → Bool) → AreApart strange gave.host gave.peer → AreToward strange (gave_these (true ∷ []) ∷ []) ((false ∷ []) ∷ []) → ⊥ }
+
+    // what is named is the first that isn't so, and not one after it
+    ensures later { (strange : Host → Bool) (x y : Life) (text more : List Bool) → strange x.host ≡ true → UntowardAt strange (x ∷ y ∷ []) (text ∷ more ∷ []) 1 → ⊥ }
+{}

@@ -4,7 +4,8 @@
 //! [`stray_at`] finds nothing, and else what it finds is the first crossing with which it is none. The lives are made of what
 //! crossed exactly where [`unmade_at`] finds nothing, messages are kept exactly where [`broken_message`] does, of
 //! [`broken_at`] each part holds that isn't named, and each life has a fate that what crossed leaves it exactly where
-//! [`unsuited_at`] finds nothing.
+//! [`unsuited_at`] finds nothing. Of a network with strangers, [`untoward_at`] finds nothing exactly where its lives toward
+//! these keep what may be asked of any host's program.
 //!
 //! Nothing here reads lines: a log is a list of crossings, the oldest first.
 #![tactic(auto)]
@@ -32,10 +33,12 @@ mod sought;
 mod stamps;
 mod streams;
 mod texts;
+mod toward;
 pub mod worked_places;
 
-pub use broken::{Broken, broken_at};
+pub use broken::{Broken, broken_at, malformed_at};
 pub use fates::unsuited_at;
 pub use lives::unmade_at;
 pub use messages::broken_message;
 pub use runs::stray_at;
+pub use toward::untoward_at;

@@ -33,7 +33,7 @@ fn is_sourced(
 }
 
 /// Returns whether what a life sent was handed over.
-fn is_handed(life: &Life, handed: &BitLog) -> bool
+pub(crate) fn is_handed(life: &Life, handed: &BitLog) -> bool
     ensures { MatchBool result (IsHanded life.now handed.now) (IsHanded life.now handed.now → ⊥) }
 {
     if !sends(life) {

@@ -1,10 +1,10 @@
 -- The lines of a book, in their order, and the first bad one.
-use Rattle.book_log.proofs.Common.{◌≡◌, ℕ, ◌<◌, ◌≤◌, ◌==◌, ◌&&◌, Bool, true, false, suc, List, [], ◌∷◌, ◌++◌, Some, None, codes, length, map, refl, sym, ap, ap₂, ◌∙◌, arith, subst, append_assoc, append-nil, if◌then◌else◌, eqb-true, false≢true, map-append, All-append, All-cons, All-head, All-nil, All-tail, All-weaker, flat_map-append, All, zip, Crossing, Fate, Life, ended_line, Lacks, SameCut, same_cut, Book, IsBadLine, IsBook, IsCrossing, IsHanded, IsLived, IsLog, log_lines, text_of_lines, IsLine, added, is_bare, line_text, Line}
+use Rattle.book_log.proofs.Common.{◌≡◌, ℕ, ◌<◌, ◌≤◌, ◌==◌, ◌&&◌, Bool, true, false, suc, List, [], ◌∷◌, ◌++◌, Some, None, codes, length, map, refl, sym, ap, ap₂, ◌∙◌, arith, subst, append_assoc, append-nil, if◌then◌else◌, eqb-true, false≢true, map-append, All-append, All-cons, All-head, All-nil, All-tail, All-weaker, flat_map-append, All, zip, Crossing, Fate, Life, ended_line, Lacks, SameCut, same_cut, Book, IsBadBookLine, IsBook, IsCrossing, IsHanded, IsLived, IsBookText, log_lines, text_of_lines, IsLine, added, is_bare, line_text, Line}
 use Rattle.std.proofs.lemmas.List.Elements.{All-map}
 use Rattle.std.proofs.lemmas.Bool.{and_parts}
 use Rattle.interface.specs.declared.crossing.Crossing.TheVariants as crossing
 use Rattle.script.proofs.lemmas.{uncut}
-use Rattle.book_log.specs.Log.{Begins}
+use Rattle.book_log.specs.Steps.{BeginsBook}
 use Rattle.book_log.specs.declared.lines.Line.TheVariants as line
 use Rattle.book_log.proofs.Keywords.{line_ends}
 use Rattle.book_log.proofs.Cuts.{first_same, rest_same}
@@ -211,7 +211,7 @@ next_of b valid front text more e =
       order = text_order cut.before front cut.here cut.fronts (order_before cut.before cut.here cut.behind (subst InOrder cut.whole (book_in_order b)));
     }
 
-pub next : (front : List (List ℕ)) (text : List ℕ) → Begins (front ++ text ∷ []) → Next front text
+pub next : (front : List (List ℕ)) (text : List ℕ) → BeginsBook (front ++ text ∷ []) → Next front text
 next front text h = next_of h.book h.valid front text h.more (h.whole ∙ append_assoc front (text ∷ []) h.more)
 
 -- a log has a last line
@@ -234,10 +234,10 @@ not_whole b c e =
     absurd (omega (arith, high))
 
 -- some log begins with the lines of a book
-pub begins_told : (b : Book) → IsBook b → Begins (texts (told b))
+pub begins_told : (b : Book) → IsBook b → BeginsBook (texts (told b))
 begins_told b valid = record { book = b; valid = valid; more = codes "end" ∷ []; whole = last_line b }
 
-pub begins_all : (b : Book) → IsBook b → Begins (texts (told b) ++ codes "end" ∷ [])
+pub begins_all : (b : Book) → IsBook b → BeginsBook (texts (told b) ++ codes "end" ∷ [])
 begins_all b valid = record { book = b; valid = valid; more = []; whole = last_line b ∙ sym (append-nil (texts (told b) ++ codes "end" ∷ [])) }
 
 -- ---- the octets of lines
@@ -283,17 +283,17 @@ pub front_of : {X : Type 0} (P : X → Type 0) (xs ys : List X) → All P (xs ++
 front_of P [] ys h = All-nil P
 front_of P (x ∷ xs) ys h = All-cons P x xs (All-head P x (xs ++ ys) h) (front_of P xs ys (All-tail P x (xs ++ ys) h))
 
-pub begins_ends : (lines : List (List ℕ)) → Begins lines → All (Lacks 10) lines
+pub begins_ends : (lines : List (List ℕ)) → BeginsBook lines → All (Lacks 10) lines
 begins_ends lines h = front_of (Lacks 10) lines h.more (subst (All (Lacks 10)) h.whole (log_ends h.book h.valid))
 
 -- ---- the first bad line
 
 -- where no log begins so, and the lines before it are no whole log with nothing after it, there is no log
-pub bad_line : (octets rest : List ℕ) (before : List (List ℕ)) (number : ℕ) → octets ≡ text_of_lines before ++ rest → number ≡ suc (length before) → Begins before
-    → ((line more : List ℕ) → rest ≡ ended_line line ++ more → Begins (before ++ line ∷ []) → ⊥) → ((b : Book) → IsBook b → log_lines b ≡ before → rest ≡ [] → ⊥) → IsBadLine octets number
+pub bad_line : (octets rest : List ℕ) (before : List (List ℕ)) (number : ℕ) → octets ≡ text_of_lines before ++ rest → number ≡ suc (length before) → BeginsBook before
+    → ((line more : List ℕ) → rest ≡ ended_line line ++ more → BeginsBook (before ++ line ∷ []) → ⊥) → ((b : Book) → IsBook b → log_lines b ≡ before → rest ≡ [] → ⊥) → IsBadBookLine octets number
 bad_line octets rest before number parted counted begins bad whole = record { before = before; rest = rest; parted = parted; counted = counted; begins = begins; bad = bad; none = λ b is. by b is (longer before (log_lines b) rest (begins_ends before begins) (log_ends b is.valid) (sym parted ∙ is.spelled)) }
   where
-    by : (b : Book) → IsLog octets b → Longer before (log_lines b) rest → ⊥
+    by : (b : Book) → IsBookText octets b → Longer before (log_lines b) rest → ⊥
     by b is h = cases h.more h.whole h.left
       where
         cases : (more : List (List ℕ)) → log_lines b ≡ before ++ more → rest ≡ text_of_lines more → ⊥
@@ -301,7 +301,7 @@ bad_line octets rest before number parted counted begins bad whole = record { be
         cases (line ∷ more) e left = bad line (text_of_lines more) left (record { book = b; valid = is.valid; more = more; whole = e ∙ sym (append_assoc before (line ∷ []) more) })
 
 -- the line that was read
-pub this_line : (rest line more : List ℕ) (before : List (List ℕ)) → rest ≡ line ++ 10 ∷ more → Lacks 10 line → (Next before line → ⊥) → (other rest_of : List ℕ) → rest ≡ ended_line other ++ rest_of → Begins (before ++ other ∷ []) → ⊥
+pub this_line : (rest line more : List ℕ) (before : List (List ℕ)) → rest ≡ line ++ 10 ∷ more → Lacks 10 line → (Next before line → ⊥) → (other rest_of : List ℕ) → rest ≡ ended_line other ++ rest_of → BeginsBook (before ++ other ∷ []) → ⊥
 this_line rest line more before is lacks none other rest_of e begins =
     let ends : Lacks 10 other = middle_of (Lacks 10) before other [] (begins_ends (before ++ other ∷ []) begins) in
     let cut : SameCut line more other rest_of = same_cut 10 line more other rest_of lacks ends (sym is ∙ e ∙ ended_more other rest_of) in

@@ -3,10 +3,12 @@ mod Books
 mod Cuts
 mod Going
 mod Keywords
+mod Named
+mod Networks
 mod Numbers
 mod Once
 mod Printed
 mod Reading
-mod Strangers
+mod Others
 mod Bounds
 pub mod lemmas

@@ -1,15 +1,17 @@
--- Octets are read in one way: no two books are spelled alike, and no two lines are the first bad one.
-use Rattle.book_log.proofs.Common.{◌≡◌, ◌≢◌, ℕ, ◌<◌, ◌≤◌, ◌^◌, Bool, true, false, List, [], ◌∷◌, ◌++◌, codes, length, map, refl, sym, ap, ap₂, ◌∙◌, arith, subst, append_assoc, append-nil, false≢true, All-append, All-head, All-tail, All-weaker, decimal, All, bytes_eq, Flow, Answer, Crossing, HostMessage, Fate, Life, ended_line, IsFlow, IsMessage, octets_text, Lacks, SameCut, same_cut, Book, IsBadLine, IsLived, IsLog, answer_name, fate_name, log_lines, logged_fate, text_of_lines, IsLine, flow_words, life_words, line_text, message_words, words_in, Line}
+-- Octets are read in one way: no two networks or books are spelled alike, and no two lines are the first bad one.
+use Rattle.book_log.proofs.Common.{◌≡◌, ◌≢◌, ℕ, ◌<◌, ◌≤◌, ◌^◌, Bool, true, false, None, List, [], ◌∷◌, ◌++◌, codes, length, map, refl, sym, ap, ap₂, ◌∙◌, arith, subst, append_assoc, append-nil, false≢true, All-append, All-head, All-tail, All-weaker, decimal, All, bytes_eq, Flow, Answer, Crossing, HostMessage, Fate, Life, ended_line, IsFlow, IsMessage, octets_text, Lacks, SameCut, same_cut, Book, Host, IsBadLine, IsBookText, IsLived, IsLog, answer_name, fate_name, log_lines, logged_fate, text_of_lines, IsLine, flow_words, life_words, line_text, message_words, words_in, Line}
 use Rattle.interface.specs.declared.crossing.Answer.TheVariants as answer
 use Rattle.promise.specs.declared.life.Amount.{Amount}
 use Rattle.promise.specs.Fates.{is_over}
 use Rattle.promise.specs.declared.life.Fate.TheVariants as fate
 use Rattle.script.proofs.lemmas.{host_once, text_once}
-use Rattle.book_log.specs.Log.{IsAmount}
+use Rattle.book_log.specs.Log.{IsAmount, log_text}
+use Rattle.book_log.specs.Steps.{last_of}
 use Rattle.book_log.specs.declared.lines.Line.TheVariants as line
-use Rattle.book_log.proofs.Books.{Longer, all_of, all_told, all_told_are, begins_ends, ended_more, lines_are, lived, log_ends, longer, nil_not, not_ended, rank, texts, told}
+use Rattle.book_log.proofs.Books.{Longer, all_of, all_told, all_told_are, ended_more, lines_are, lived, log_ends, longer, nil_not, not_ended, rank, texts, told}
 use Rattle.book_log.proofs.Cuts.{first_same, rest_same}
 use Rattle.book_log.proofs.Keywords.{Answers, Downs, Ends, Ins, IsMeant, Kind, Lists, Lives, OperandOf, Outs, Ups, cut_line, is_meant, keyword, made, made_again, make, operand, words_are, words_of}
+use Rattle.book_log.proofs.Networks.{after_named, begins_ends, names_none, one_rest}
 use Rattle.book_log.proofs.Numbers.{decimal_once}
 
 -- ---- the first bad line
@@ -38,6 +40,8 @@ not_before octets number other p q less =
     let on : Further p.before q.before p.rest q.rest = further p.before q.before p.rest q.rest (begins_ends p.before p.begins) (begins_ends q.before q.begins) less (sym p.parted ∙ q.parted) in
     p.bad on.line (text_of_lines on.more ++ q.rest) on.begins
     (record {
+      strangers = q.begins.strangers;
+      named = q.begins.named;
       book = q.begins.book;
       valid = q.begins.valid;
       more = on.more ++ q.begins.more;
@@ -304,8 +308,23 @@ whole_once front all p q e = by h.more h.whole h.left
     by [] is none = sym (is ∙ append-nil front)
     by (m ∷ more) is none = absurd (not_ended m (text_of_lines more) none)
 
-pub book_once : (octets : List ℕ) (book other : Book) → IsLog octets book → IsLog octets other → book ≡ other
-book_once octets book other h k =
+text_of_one : (octets : List ℕ) (book other : Book) → IsBookText octets book → IsBookText octets other → book ≡ other
+text_of_one octets book other h k =
     let lines : log_lines book ≡ log_lines other = whole_once (log_lines book) (log_lines other) (log_ends book h.valid) (log_ends other k.valid) (sym h.spelled ∙ k.spelled) in
     let all : all_told book ≡ all_told other = lines_once (all_told book) (all_told other) (all_told_are book h.valid) (all_told_are other k.valid) (sym (lines_are book) ∙ lines ∙ lines_are other) in
     told_once book other (last_off (told book) (told other) all (none_last book) (none_last other))
+
+-- ---- the log of a network
+
+-- what one log names of strangers the other names, and then they have the text of one book
+same_rest : (octets : List ℕ) (strangers others : List Host) (book other : Book) → IsLog octets strangers book → IsLog octets others other → (strangers ≡ others) × (log_text book ≡ log_text other)
+same_rest octets strangers others book other h k =
+    one_rest None strangers others (log_text book) other (after_named strangers h.named) (after_named others k.named) (names_none (last_of None strangers) book) (sym h.spelled ∙ k.spelled)
+
+pub strangers_once : (octets : List ℕ) (strangers others : List Host) (book other : Book) → IsLog octets strangers book → IsLog octets others other → strangers ≡ others
+strangers_once octets strangers others book other h k = (same_rest octets strangers others book other h k).0
+
+pub book_once : (octets : List ℕ) (strangers others : List Host) (book other : Book) → IsLog octets strangers book → IsLog octets others other → book ≡ other
+book_once octets strangers others book other h k =
+    text_of_one (log_text book) book other (record { spelled = refl; valid = h.valid })
+    (record { spelled = (same_rest octets strangers others book other h k).1; valid = k.valid })

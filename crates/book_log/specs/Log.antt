@@ -2,7 +2,7 @@
 use Rattle.std.specs.Prelude.{◌≡◌, ℕ, ◌^◌, ◌<◌, Bool, List, [], ◌∷◌, ◌++◌, length, map, codes, suc, zip}
 use Rattle.std.specs.Fmt.{decimal}
 use Rattle.std.specs.List.{All, flat_map}
-use Rattle.interface.specs.Host.{Host}
+use Rattle.interface.specs.Host.{Host, InOrder}
 use Rattle.interface.specs.Printed.{flow_text, host_text}
 use Rattle.interface.specs.declared.crossing.Answer.{Answer}
 use Rattle.interface.specs.declared.crossing.Answer.TheVariants as answer
@@ -92,13 +92,19 @@ text_of_lines lines = flat_map ended_line lines
 abbrev pub log_text : Book → List ℕ
 log_text b = text_of_lines (log_lines b)
 
+-- ---- strangers
+
 -- the line of a stranger: a host that runs no program of these
 abbrev pub stranger_line : Host → List ℕ
 stranger_line h = codes "foreign " ++ host_text h
 
--- what precedes the log of a network with these strangers
+-- what precedes the lines of a book in the log of a network with these strangers
 abbrev pub strangers_text : List Host → List ℕ
 strangers_text hosts = text_of stranger_line hosts
+
+-- the lines of the log of a network: those of its strangers, and then those of its book
+abbrev pub network_lines : List Host → Book → List (List ℕ)
+network_lines strangers b = map stranger_line strangers ++ log_lines b
 
 -- ---- which values a log describes
 
@@ -140,19 +146,27 @@ pub record IsBook (b : Book) : Type 0 where
   pub lives : All IsLived b.lives
   pub handed : All IsHanded b.handed
 
+-- hosts that exist, each once, by IMP and then by number
+pub record AreStrangers (hosts : List Host) : Type 0 where
+  pub valid : All IsHost hosts
+  pub rising : InOrder hosts
+
 -- ---- reading
 
--- octets are the log of this book
-pub record IsLog (octets : List ℕ) (b : Book) : Type 0 where
-  pub spelled : octets ≡ log_text b
+-- octets are the log of a network with these strangers and this book
+pub record IsLog (octets : List ℕ) (strangers : List Host) (b : Book) : Type 0 where
+  pub spelled : octets ≡ strangers_text strangers ++ log_text b
+  pub named : AreStrangers strangers
   pub valid : IsBook b
 
 -- some log begins with these lines
 pub record Begins (lines : List (List ℕ)) : Type 0 where
+  pub strangers : List Host
+  pub named : AreStrangers strangers
   pub book : Book
   pub valid : IsBook book
   pub more : List (List ℕ)
-  pub whole : log_lines book ≡ lines ++ more
+  pub whole : network_lines strangers book ≡ lines ++ more
 
 -- the first bad line, counted from 1: some log begins with the lines before it. With it no log begins so, or it doesn't end with a line feed,
 -- or it is after the last line of a log
@@ -163,7 +177,7 @@ pub record IsBadLine (octets : List ℕ) (number : ℕ) : Type 0 where
   pub counted : number ≡ suc (length before)
   pub begins : Begins before
   pub bad : (line more : List ℕ) → rest ≡ ended_line line ++ more → Begins (before ++ line ∷ []) → ⊥
-  pub none : (b : Book) → IsLog octets b → ⊥
+  pub none : (strangers : List Host) (b : Book) → IsLog octets strangers b → ⊥
 
 -- why octets are no log; memory may run out at any octets
 abbrev pub IsLogFault : List ℕ → LogFault → Type 0

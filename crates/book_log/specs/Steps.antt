@@ -1,10 +1,10 @@
 -- What the contracts of private functions say. No public clause cites this file.
-use Rattle.std.specs.Prelude.{◌≡◌, ◌≢◌, ℕ, ◌+◌, ◌^◌, ◌<◌, ◌==◌, ◌&&◌, ◌||◌, nat_lt, Bool, true, false, List, [], ◌∷◌, ◌++◌, length, slice_index_or, codes, Option, Some, None, Result, Ok, Err, if◌then◌else◌}
+use Rattle.std.specs.Prelude.{◌≡◌, ◌≢◌, ℕ, suc, ◌+◌, ◌^◌, ◌<◌, ◌==◌, ◌&&◌, ◌||◌, nat_lt, Bool, true, false, List, [], ◌∷◌, ◌++◌, length, slice_index_or, codes, Option, Some, None, Result, Ok, Err, if◌then◌else◌}
 use Rattle.std.specs.Borrow.{Bor}
 use Rattle.std.specs.Fmt.{decimal}
 use Rattle.std.specs.List.{slice_split}
 use Rattle.bit_messages.specs.Octets.{octet}
-use Rattle.interface.specs.Host.{Host}
+use Rattle.interface.specs.Host.{Host, host_before}
 use Rattle.interface.specs.Printed.{host_text}
 use Rattle.interface.specs.declared.address.Flow.{Flow}
 use Rattle.interface.specs.declared.crossing.Answer.{Answer}
@@ -14,10 +14,14 @@ use Rattle.promise.specs.declared.life.Amount.{Amount}
 use Rattle.promise.specs.Fates as fates
 use Rattle.promise.specs.declared.life.Fate.{Fate}
 use Rattle.promise.specs.declared.life.Life.{Life}
+use Rattle.script.specs.Input.{ended_line}
 use Rattle.script.specs.Spelling.{IsFlow, IsHost, octets_text}
 use Rattle.std.specs.declared.alloc.AllocError.{AllocError}
 use Rattle.world_replay.specs.Printed.{kind_text}
-use Rattle.book_log.specs.Log.{Book, IsAmount, IsCrossing, IsHanded, IsLived, answer_name, fate_name, handed_line, life_line, logged_fate, logged_line}
+use Rattle.book_log.specs.Log.{Book, IsAmount, IsBook, IsCrossing, IsHanded, IsLived, answer_name, fate_name, handed_line, life_line, log_lines}
+use Rattle.book_log.specs.Log.{log_text, logged_fate, logged_line, stranger_line, strangers_text, text_of_lines}
+use Rattle.book_log.specs.declared.fault.LogFault.{LogFault}
+use Rattle.book_log.specs.declared.fault.LogFault.TheVariants as fault
 use Rattle.book_log.specs.declared.lines.Counts.{Counts}
 use Rattle.book_log.specs.declared.lines.Ends.{Ends}
 use Rattle.book_log.specs.declared.lines.Line.{Line}
@@ -209,3 +213,72 @@ IsLine (line.Crossed c) = IsCrossing c
 IsLine (line.Lived x f) = IsLived (x, f)
 IsLine (line.Handed bits) = IsHanded bits
 IsLine line.End = Unit {0}
+
+-- ---- the lines of a book, without those of strangers
+
+-- octets are the text of this book
+pub record IsBookText (octets : List ℕ) (b : Book) : Type 0 where
+  pub spelled : octets ≡ log_text b
+  pub valid : IsBook b
+
+-- the text of some book begins with these lines
+pub record BeginsBook (lines : List (List ℕ)) : Type 0 where
+  pub book : Book
+  pub valid : IsBook book
+  pub more : List (List ℕ)
+  pub whole : log_lines book ≡ lines ++ more
+
+-- the first line that is bad in the text of a book, counted from 1
+pub record IsBadBookLine (octets : List ℕ) (number : ℕ) : Type 0 where
+  pub before : List (List ℕ)
+  pub rest : List ℕ
+  pub parted : octets ≡ text_of_lines before ++ rest
+  pub counted : number ≡ suc (length before)
+  pub begins : BeginsBook before
+  pub bad : (line more : List ℕ) → rest ≡ ended_line line ++ more → BeginsBook (before ++ line ∷ []) → ⊥
+  pub none : (b : Book) → IsBookText octets b → ⊥
+
+abbrev pub IsBookFault : List ℕ → LogFault → Type 0
+IsBookFault octets (fault.BadLine number) = IsBadBookLine octets number
+IsBookFault octets fault.OutOfMemory = Unit {0}
+
+-- a fault of the lines after this many, as one of all lines; its number has 64 bits
+abbrev pub fault_after : ℕ → LogFault → LogFault
+fault_after before (fault.BadLine number) = fault.BadLine (before + number)
+fault_after before fault.OutOfMemory = fault.OutOfMemory
+
+abbrev pub FitsAfter : ℕ → LogFault → Type 0
+FitsAfter before (fault.BadLine number) = before + number < 2 ^ 64
+FitsAfter before fault.OutOfMemory = Unit {0}
+
+-- ---- the lines of strangers
+
+-- whether a stranger may come after the last one that was named
+abbrev pub follows : Option Host → Host → Bool
+follows None h = true
+follows (Some last) h = host_before last h
+
+-- hosts that exist, each of which may come after the one before it, and the first of them after this one
+abbrev pub NamedAfter : Option Host → List Host → Type 0
+NamedAfter last [] = Unit {0}
+NamedAfter last (h ∷ hosts) = IsHost h × (follows last h ≡ true) × NamedAfter (Some h) hosts
+
+-- the last of them
+abbrev pub last_of : Option Host → List Host → Option Host
+last_of last [] = last
+last_of last (h ∷ hosts) = last_of (Some h) hosts
+
+-- a text doesn't begin with the line of a stranger that may come after this one
+abbrev pub NamesNone : Option Host → List ℕ → Type 0
+NamesNone last text = (h : Host) (more : List ℕ) → IsHost h → follows last h ≡ true → text ≢ ended_line (stranger_line h) ++ more
+
+-- a text begins with the line of this stranger, which may come after the last one; or with none
+abbrev pub NamesNext : Option Host → List ℕ → Option (Host × Bor (List ℕ)) → Type 0
+NamesNext last text None = NamesNone last text
+NamesNext last text (Some next) = (text ≡ ended_line (stranger_line next.0) ++ next.1.now) × IsHost next.0 × (follows last next.0 ≡ true)
+
+-- a text begins with the lines of these strangers, and with no others
+pub record Names (text : List ℕ) (strangers : List Host) (left : List ℕ) : Type 0 where
+  pub parted : text ≡ strangers_text strangers ++ left
+  pub named : NamedAfter None strangers
+  pub none : NamesNone (last_of None strangers) left

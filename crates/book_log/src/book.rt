@@ -33,6 +33,15 @@ impl Model for LoggedBook {
     ghost invariant = { λ b. length b.fates.items ≡ length b.lives.items };
 }
 
+/// The lists of a book: its crossings, the oldest first, its lives, the fates of these, and what was handed over.
+#[derive(Drop)]
+pub struct BookLists {
+    pub crossings: Vec<Crossing>,
+    pub lives: Vec<Life>,
+    pub fates: Vec<Fate>,
+    pub handed: Vec<BitLog>,
+}
+
 impl LoggedBook {
     /// Returns a book in which nothing happened.
     pub(crate) fn new(alloc: Global) -> LoggedBook
@@ -72,6 +81,21 @@ impl LoggedBook {
         ensures { result.now ≡ self.now.handed }
     {
         &self.handed
+    }
+
+    /// Returns the lists of the book.
+    pub fn into_lists(self) -> BookLists
+        ensures crossings { result.crossings.items ≡ self.crossings }
+        ensures lives { result.lives.items ≡ lives_of self }
+        ensures fates { result.fates.items ≡ fates_of self }
+        ensures handed { result.handed.items ≡ self.handed }
+    {
+        BookLists {
+            crossings: self.crossings,
+            lives: self.lives,
+            fates: self.fates,
+            handed: self.handed,
+        }
     }
 
     /// Puts what a line describes at the end of the book, and answers whether the line may be there: a crossing before all lives and lists,

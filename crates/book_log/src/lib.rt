@@ -3,9 +3,10 @@
 //! A log has the crossings of a book with the texts of their messages, its lives with what each of them sent or took,
 //! what was handed over in each life, and a last line `end`. [`print_log`] writes it, and [`read_log`] reads it.
 //!
-//! A caller may rely on this: octets are read exactly if they are the spelling of a book, which is then the book that is answered. All
-//! others are refused by the number of their first bad line. No two books are spelled alike, so what is written is read again.
-//! Of a network with strangers [`print_strangers`] writes first who they are; such a log isn't read.
+//! The log of a network with strangers begins with a line for each of them, which [`print_strangers`] writes.
+//!
+//! A caller may rely on this: octets are read exactly if they are the log of a network and its book, which are then what is answered. All
+//! others are refused by the number of their first bad line. No two networks or books have one log, so what is written is read again.
 //!
 //! Nothing here says whether a book keeps the promise, nor whether it has as many lists of bits as lives: that an audit says.
 #![tactic(auto)]
@@ -17,9 +18,10 @@ mod lines;
 mod print;
 mod ranges;
 mod read;
+mod strangers;
 mod words;
 
-pub use book::LoggedBook;
+pub use book::{BookLists, LoggedBook};
 pub use fault::LogFault;
 pub use print::{print_log, print_strangers};
-pub use read::read_log;
+pub use read::{Log, read_log};

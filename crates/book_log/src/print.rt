@@ -64,8 +64,8 @@ pub fn print_log<W: Output>(
     writer.write_all(b"end\n")
 }
 
-/// Writes what precedes the log of a network with strangers: a line for each of these hosts, in their order. No log
-/// begins with such a line ([`law::no_strangers`](crate::law::no_strangers)).
+/// Writes what precedes the log of a network with strangers: a line for each of these hosts, in their order. No book's
+/// lines begin with such a line ([`law::no_strangers`](crate::law::no_strangers)).
 ///
 /// Errors: `WriteFailed`.
 pub fn print_strangers<W: Output>(strangers: &[HostAddr], writer: &mut W) -> Result<(), WriteFailed>

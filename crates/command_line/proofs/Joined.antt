@@ -8,7 +8,11 @@ use Rattle.command_line.proofs.Common.{plain_calls, subnet_calls, plain_of, subn
 use Rattle.command_line.proofs.Common.{LogsOver, raw_book, world_book, AuditFault, ap, ◌∙◌}
 use Rattle.std.proofs.Common.{reverse}
 use Rattle.book_log.specs.Log.{Book, logged_fate}
-use Rattle.book_log.proofs.lemmas.{book_once, fates_back}
+use Rattle.book_log.proofs.lemmas.{alone, book_once, fates_back, strangers_once}
+use Rattle.book_judge.specs.Lives.{AreMade}
+use Rattle.interface.specs.Host.{is_host}
+use Rattle.mixed_worlds.specs.Book.{beside_among, lives_among}
+use Rattle.promise.specs.Safe.{SafeBook}
 use Rattle.headline.proofs.lemmas.{kept_promise}
 use Rattle.net_sim.specs.declared.auditing.said.Audit.{Audit}
 use Rattle.net_sim.specs.declared.auditing.said.Audit.TheVariants as audit
@@ -23,6 +27,7 @@ use Rattle.command_line.specs.Audits.{IsKeptLog, SaysKept}
 use Rattle.command_line.specs.Events.{Asked}
 use Rattle.command_line.specs.Logs.{Logged}
 use Rattle.command_line.specs.declared.auditing.AuditFault.TheVariants as fault
+use Rattle.command_line.proofs.Verdicts.Among.{all_beside, all_lives, none_toward}
 use Rattle.command_line.proofs.Verdicts.Named.{kept_from_safe, only_kept}
 use Rattle.command_line.proofs.Printed.{none_there, safe_alone}
 
@@ -124,31 +129,53 @@ suited_logged log lives fates all = record { each = each; contact = contact } wh
 
 -- the lives and fates of the log of a world are those of its book
 says_logged : (k : Kept) → AreFated k.book.lives k.fates
-    → Judged kept (reverse k.book.crossings) k.book.lives k.handed (map logged_fate k.fates)
-    → SaysOf kept (world_book k)
-says_logged k are j =
-    subst (λ (xs : List Life). Judged kept (reverse k.book.crossings) xs k.handed (fates_of (world_book k)))
+    → (hosts : List Host) → Judged kept (λ h. is_host hosts h) (reverse k.book.crossings) k.book.lives k.handed (map logged_fate k.fates)
+    → SaysOf kept hosts (world_book k)
+says_logged k are hosts j =
+    let strange : Host → Bool = λ h. is_host hosts h in
+    subst (λ (xs : List Life). Judged kept strange (reverse k.book.crossings) xs k.handed (fates_of (world_book k)))
     (sym (lives_back k.book.lives k.fates are))
-    (subst (λ (fs : List Fate). Judged kept (reverse k.book.crossings) k.book.lives k.handed fs) (sym (fates_back k.book.lives k.fates are)) j)
+    (subst (λ (fs : List Fate). Judged kept strange (reverse k.book.crossings) k.book.lives k.handed fs) (sym (fates_back k.book.lives k.fates are)) j)
+
+-- without strangers all that there is is judged
+kept_alone_from : (log : List Crossing) (lives : List Life) (handed : List (List Bool)) (fates : List Fate)
+    → IsSomeRun (reverse log) → AreMade (reverse log) lives → Says audit.Kept (reverse log) lives handed
+    → ClosesWhole (reverse log) lives handed fates → AreSuited (reverse log) lives fates
+    → Judged kept (λ h. is_host [] h) log lives handed fates
+kept_alone_from log lives handed fates run made safe closes suited =
+    let xs : lives ≡ lives_among (λ h. is_host [] h) lives = sym (all_lives lives) in
+    let hs : handed ≡ beside_among (λ h. is_host [] h) lives handed = sym (all_beside lives handed) in
+    let fs : fates ≡ beside_among (λ h. is_host [] h) lives fates = sym (all_beside lives fates) in
+    kept_from_safe (λ h. is_host [] h) log lives handed fates run (subst (λ (ys : List Life). AreMade (reverse log) ys) xs made) safe.0
+    (subst (λ (ys : List Life). SafeBook (reverse log) ys (beside_among (λ h. is_host [] h) lives handed)) xs
+    (subst (λ (ys : List (List Bool)). SafeBook (reverse log) lives ys) hs safe.1))
+    (subst (λ (ys : List Life). ClosesWhole (reverse log) ys (beside_among (λ h. is_host [] h) lives handed) (beside_among (λ h. is_host [] h) lives fates)) xs
+    (subst (λ (ys : List (List Bool)). ClosesWhole (reverse log) lives ys (beside_among (λ h. is_host [] h) lives fates)) hs
+    (subst (λ (ys : List Fate). ClosesWhole (reverse log) lives handed ys) fs closes)))
+    (subst (λ (ys : List Life). AreSuited (reverse log) ys (beside_among (λ h. is_host [] h) lives fates)) xs
+    (subst (λ (ys : List Fate). AreSuited (reverse log) lives ys) fs suited))
+    (none_toward lives handed)
 
 kept_from : {C : Type 0} (calls : Calls C) (opening : C) (events : Asked) (octets : List ℕ)
     → LogsFrom calls opening events (Some []) (Some octets) → IsKeptLog octets
 kept_from calls opening (Raw events) octets h = record {
+  strangers = [];
   book = raw_book (calls.seen h.last).log;
-  log = record { spelled = h.written; valid = h.valid };
+  log = (alone octets (raw_book (calls.seen h.last).log)).1 (h.written, h.valid);
   says =
-      kept_from_safe (reverse (calls.seen h.last).log) [] [] []
+      kept_alone_from (reverse (calls.seen h.last).log) [] [] []
       (run_twice (calls.seen h.last).hosts (calls.seen h.last).log h.run) (λ x there. absurd (none_there x there))
       (turned audit.Kept (calls.seen h.last).log [] [] (kept_alone (calls.seen h.last).log h.messages))
       (none_closes (reverse (reverse (calls.seen h.last).log)))
       (record { each = λ x f beside. absurd beside; contact = λ x y f beside other both. absurd beside });
 }
 kept_from calls opening (World events) octets h = record {
+  strangers = [];
   book = world_book h.last.kept;
-  log = record { spelled = h.written; valid = h.valid };
+  log = (alone octets (world_book h.last.kept)).1 (h.written, h.valid);
   says =
-      says_logged h.last.kept h.promise.fated
-      (kept_from_safe (reverse h.last.kept.book.crossings) h.last.kept.book.lives h.last.kept.handed (map logged_fate h.last.kept.fates)
+      says_logged h.last.kept h.promise.fated []
+      (kept_alone_from (reverse h.last.kept.book.crossings) h.last.kept.book.lives h.last.kept.handed (map logged_fate h.last.kept.fates)
       (run_twice (calls.seen h.last.carrier).hosts h.last.kept.book.crossings h.promise.promised.run)
       (made_twice h.last.kept.book.crossings h.last.kept.book.lives
       (made_with h.last.kept.book.contacts h.last.kept.book.crossings h.last.kept.book.lives h.promise.contacts h.promise.promised.formed h.promise.within))
@@ -172,15 +199,16 @@ logged_kept octets h = kept_over h.network.carrier h.network h.events octets h.l
 said_kept : (octets : List ℕ) (v : Verdict) (before after : Option (List ℕ)) → AuditsLog octets v before after
     → IsKeptLog octets → v ≡ kept
 said_kept octets v before after a k =
-    let same : a.book ≡ k.book = book_once octets a.book k.book a.log k.log in
-    only_kept v k.book.crossings (lives_of k.book) k.book.handed (fates_of k.book) k.says
-    (subst (λ (b : Book). SaysOf v b) same a.says)
+    let same : a.book ≡ k.book = book_once octets a.strangers k.strangers a.book k.book a.log k.log in
+    let named : a.strangers ≡ k.strangers = strangers_once octets a.strangers k.strangers a.book k.book a.log k.log in
+    only_kept v (λ h. is_host k.strangers h) k.book.crossings (lives_of k.book) k.book.handed (fates_of k.book) k.says
+    (subst (λ (b : Book). SaysOf v k.strangers b) same (subst (λ (hosts : List Host). SaysOf v hosts a.book) named a.says))
 
 -- where octets are a log, its lines are not bad
 never_bad : (octets : List ℕ) (f : AuditFault) → IsAuditFault octets f → IsKeptLog octets → SaysKept octets (Err f)
 never_bad octets fault.OutOfMemory h k = tt
 never_bad octets fault.CannotWrite h k = tt
-never_bad octets (fault.BadLog number) h k = absurd (h.none k.book k.log)
+never_bad octets (fault.BadLog number) h k = absurd (h.none k.strangers k.book k.log)
 never_bad octets fault.CannotRead h k = absurd h
 
 -- whatever the reader's octets are, as far as they are known

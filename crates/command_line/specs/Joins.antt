@@ -1,5 +1,5 @@
 -- That several outputs are of one replay.
-use Rattle.std.specs.Prelude.{◌≡◌, ℕ, Bool, List, ◌++◌, codes}
+use Rattle.std.specs.Prelude.{◌≡◌, ℕ, Bool, List, [], ◌++◌, codes}
 use Rattle.book_log.specs.Log.{Book, IsLog, lives_of}
 use Rattle.promise.specs.declared.life.Life.{Life}
 use Rattle.replay.specs.declared.print.Detail.{Detail}
@@ -22,5 +22,5 @@ pub record TellTheSame (book : Bool) (detail : Detail) (out log : List ℕ) : Ty
   pub shown : List Shown
   pub told : Book
   pub prints : out ≡ printed book detail shown (lives_of told)
-  pub logs : IsLog log told
+  pub logs : IsLog log [] told
   pub crossed : told.crossings ≡ crossings_of shown

@@ -1,8 +1,9 @@
 -- Words for worked rows of the whole program: what its reader and its writer show, and ends that it doesn't have.
 use Rattle.std.specs.Prelude.{true, false, List, [], ◌∷◌, ℕ, Option, Some, Result, Err, codes, length}
 use Rattle.book_log.specs.Log.{Book}
+use Rattle.interface.specs.Host.{Host}
 use Rattle.net_sim.specs.declared.auditing.findings.Finding.TheVariants as finding
-use Rattle.command_line.specs.Audits.{SaysOf, kept}
+use Rattle.command_line.specs.Audits.{SaysOf, kept, program_lives}
 use Rattle.command_line.specs.Program.{EndsTask, Sides, sides}
 use Rattle.command_line.specs.declared.fault.ScriptFault.TheVariants as script
 use Rattle.command_line.specs.declared.options.Options.{Options}
@@ -41,11 +42,11 @@ Never task s r = (options : Option Options) → EndsTask (Some task) options s r
 
 -- this is said of no log
 abbrev pub NotSaid : Verdict → Type 0
-NotSaid v = (b : Book) → SaysOf v b → ⊥
+NotSaid v = (hosts : List Host) (b : Book) → SaysOf v hosts b → ⊥
 
 -- a life that is matched after the last one
-abbrev pub matched_past : Book → Verdict
-matched_past b = record kept { closes = Some (finding.Lives 0 (length b.lives)) }
+abbrev pub matched_past : List Host → Book → Verdict
+matched_past hosts b = record kept { closes = Some (finding.Lives 0 (length (program_lives hosts b))) }
 
 -- the output of a host that starts
 abbrev pub starts : List ℕ

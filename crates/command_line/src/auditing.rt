@@ -3,14 +3,16 @@
 ghost use Rattle.std.specs.Prelude.{◌≡◌, ◌≢◌, ◌↔◌, Err, IfErr, IfOk, IfSome, MatchResult, OnOk, Some, [], false, true};
 ghost use Rattle.std.specs.Io.KnownBytes.{IsAtEnd};
 ghost use Rattle.book_log.specs.Log.{IsLog};
-ghost use Rattle.command_line.specs.Audits.{Audited, AuditsLog, IsAuditFault, IsBookFault, IsLogReadFault, IsSomeLog, SaysKept, status_at, status_said};
+ghost use Rattle.command_line.specs.Audits.{Audited, AuditsLog, IsAuditFault, IsBookFault, IsLogReadFault, IsSomeLog, SaysKept, SaysOf};
+ghost use Rattle.command_line.specs.Audits.{layout_of, status_at, status_said};
 ghost use Rattle.command_line.specs.Logs.{Logged};
 
 use crate::input::CHUNK;
 use crate::judging::judge;
+use crate::layout::Layout;
 use crate::source::{ReadFailed, Source};
 use crate::verdict::{Verdict, write_found};
-use book_log::{LogFault, LoggedBook, read_log};
+use book_log::{Log, LogFault, read_log};
 use replay::{Output, WriteFailed};
 use std::alloc::{AllocError, AllocFailed, Global};
 use std::fmt;
@@ -119,7 +121,12 @@ pub fn audit_status(found: Verdict) -> u8
 /// - `broken closes lines N M`, of such a book, with the lines of the first life that its partner ended and that
 ///   lost anything, and of the one that it matches;
 /// - `broken fates line N`, the line of the first life whose fate isn't one that what crossed leaves it;
+/// - `broken toward line N`, of a book that isn't malformed, the line of the first life that is a stranger's, or that is
+///   toward a stranger and took more than it granted, or sent what wasn't handed over in it;
 /// - `safe`, where only closes or fates are wrong, so that what may be asked of the log of any host's program holds.
+///
+/// Of a network with strangers, lives, partners, streams, grants, closes and fates are those of hosts with programs, with
+/// such hosts.
 ///
 /// It answers what it found.
 ///
@@ -165,15 +172,9 @@ pub fn run_audit<R: Source, W: Output>(
     ensures untouched { IfErr result (λ f. f ≢ AuditFault.CannotWrite → writer.new ≡ writer.old) }
 {
     let octets = read_octets(alloc, reader)?;
-    let book = read_book(alloc, &octets)?;
-    let found = judge(
-        alloc,
-        book.crossings(),
-        book.lives(),
-        book.handed(),
-        book.fates(),
-    )?;
-    write_found(&book, found, writer)?;
+    let log = read_book(alloc, &octets)?;
+    let (layout, found) = judged(alloc, log)?;
+    write_found(&layout, found, writer)?;
     Ok(found)
 }
 
@@ -201,15 +202,27 @@ fn read_octets<R: Source>(alloc: Global, reader: &mut R) -> Result<Vec<u8>, Audi
     Err(AuditFault::OutOfMemory)
 }
 
-/// Returns the book of a log.
+/// Returns the strangers and the book of a log.
 ///
 /// Errors: `BadLog`, `OutOfMemory`.
-fn read_book(alloc: Global, octets: &[u8]) -> Result<LoggedBook, AuditFault>
-    ensures { MatchResult result (IsLog octets.now) (IsBookFault octets.now) }
+fn read_book(alloc: Global, octets: &[u8]) -> Result<Log, AuditFault>
+    ensures { MatchResult result (λ log. IsLog octets.now log.strangers.items log.book) (IsBookFault octets.now) }
 {
     match read_log(alloc, octets) {
-        Ok(book) => Ok(book),
+        Ok(log) => Ok(log),
         Err(LogFault::BadLine(number)) => Err(AuditFault::BadLog(number)),
         Err(LogFault::OutOfMemory) => Err(AuditFault::OutOfMemory),
     }
+}
+
+/// Returns what is wrong with a log, and where its lines are.
+///
+/// Errors: `AllocError`.
+fn judged(alloc: Global, log: Log) -> Result<(Layout, Verdict), AllocError>
+    ensures { IfOk result (λ r. (r.0 ≡ layout_of log.strangers.items log.book) × SaysOf r.1 log.strangers.items log.book) }
+{
+    let Log { strangers, book } = log;
+    let layout = Layout::of(alloc, &strangers, &book)?;
+    let found = judge(alloc, &strangers, layout.among(), book.into_lists())?;
+    Ok((layout, found))
 }

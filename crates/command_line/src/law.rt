@@ -6,7 +6,9 @@ ghost use Rattle.std.specs.Prelude.{Ok, Err, Option, Some, None, codes};
 ghost use Rattle.book_judge.specs.Fates.{AreSuited};
 ghost use Rattle.book_judge.specs.Lives.{AreMade};
 ghost use Rattle.book_judge.specs.Runs.{IsSomeRun};
+ghost use Rattle.book_judge.specs.Toward.{AreToward};
 ghost use Rattle.book_log.specs.Log as log;
+ghost use Rattle.interface.specs.Host.{Host, is_host};
 ghost use Rattle.interface.specs.Messages.{SafeMessages};
 ghost use Rattle.interface.specs.declared.crossing.Crossing.TheVariants as crossing;
 ghost use Rattle.interface.specs.declared.message.HostMessage.{HostMessage};
@@ -21,7 +23,8 @@ ghost use Rattle.promise.specs.Safe.{SafeGrants, SafePartners};
 ghost use Rattle.promise.specs.declared.life.Amount.{Amount};
 ghost use Rattle.promise.specs.declared.life.Life.{Life};
 ghost use Rattle.replay.specs.declared.print.Detail.{Detail};
-ghost use Rattle.command_line.specs.Audits.{IsKeptLog, IsSafeLog, KeepsEnds, SaysKept, SaysOf, kept, word_text};
+ghost use Rattle.command_line.specs.Audits.{IsKeptLog, IsSafeLog, KeepsEnds, SaysKept, SaysOf, kept, layout_of, place_in};
+ghost use Rattle.command_line.specs.Audits.{program_fates, program_lists, program_lives, word_text};
 ghost use Rattle.command_line.specs.Events.{is_raw};
 ghost use Rattle.command_line.specs.Laws.{FirstPart, OneBook, OneOutput, OneReplay, WorkedLines, WorkedLives};
 ghost use Rattle.command_line.specs.Lived.{AreLived};
@@ -131,30 +134,42 @@ pub fn logs_are_kept()
 {}
 
 /// What an audit names is broken, and what it doesn't name holds. A malformed book has requests that nothing names, so
-/// its partners, streams, grants and closes aren't looked at.
+/// its partners, streams, grants, closes and toward aren't looked at. Of a network with strangers all but a run, messages,
+/// the form and toward are of the lives among hosts with programs.
 pub fn named_parts()
-    ensures run { (b : log.Book) (v : Verdict) → SaysOf v b → (v.stray ≡ None) ↔ IsSomeRun (reverse b.crossings) }
-    ensures lives { (b : log.Book) (v : Verdict) → SaysOf v b → (v.unmade ≡ None) ↔ AreMade (reverse b.crossings) (log.lives_of b) }
-    ensures made { (b : log.Book) (v : Verdict) → SaysOf v b → v.unmade ≡ None → FormedBook (reverse b.crossings) (log.lives_of b) }
-    ensures formed { (b : log.Book) (v : Verdict) → SaysOf v b → (v.malformed ≡ None) ↔ IsWellFormed (reverse b.crossings) (log.lives_of b) b.handed }
-    ensures messages { (b : log.Book) (v : Verdict) → SaysOf v b → (v.messages ≡ None) ↔ SafeMessages (reverse b.crossings) }
-    ensures partners { (b : log.Book) (v : Verdict) → SaysOf v b → v.malformed ≡ None → (v.partners ≡ None) ↔ SafePartners (reverse b.crossings) (log.lives_of b) }
-    ensures streams { (b : log.Book) (v : Verdict) → SaysOf v b → v.malformed ≡ None → (v.streams ≡ None) ↔ AreFed (reverse b.crossings) (log.lives_of b) (log.lives_of b) b.handed }
-    ensures grants { (b : log.Book) (v : Verdict) → SaysOf v b → v.malformed ≡ None → (v.grants ≡ None) ↔ SafeGrants (reverse b.crossings) (log.lives_of b) }
-    ensures closes { (b : log.Book) (v : Verdict) → SaysOf v b → v.malformed ≡ None → (v.closes ≡ None) ↔ ClosesWhole (reverse b.crossings) (log.lives_of b) b.handed (log.fates_of b) }
-    ensures fates { (b : log.Book) (v : Verdict) → SaysOf v b → (v.unsuited ≡ None) ↔ AreSuited (reverse b.crossings) (log.lives_of b) (log.fates_of b) }
+    ensures run { (hosts : List Host) (b : log.Book) (v : Verdict) → SaysOf v hosts b → (v.stray ≡ None) ↔ IsSomeRun (reverse b.crossings) }
+    ensures lives { (hosts : List Host) (b : log.Book) (v : Verdict) → SaysOf v hosts b → (v.unmade ≡ None) ↔ AreMade (reverse b.crossings) (program_lives hosts b) }
+    ensures made { (hosts : List Host) (b : log.Book) (v : Verdict) → SaysOf v hosts b → v.unmade ≡ None → FormedBook (reverse b.crossings) (program_lives hosts b) }
+    ensures formed { (hosts : List Host) (b : log.Book) (v : Verdict) → SaysOf v hosts b → (v.malformed ≡ None) ↔ IsWellFormed (reverse b.crossings) (log.lives_of b) b.handed }
+    ensures messages { (hosts : List Host) (b : log.Book) (v : Verdict) → SaysOf v hosts b → (v.messages ≡ None) ↔ SafeMessages (reverse b.crossings) }
+    ensures partners { (hosts : List Host) (b : log.Book) (v : Verdict) → SaysOf v hosts b → v.malformed ≡ None → (v.partners ≡ None) ↔ SafePartners (reverse b.crossings) (program_lives hosts b) }
+    ensures streams { (hosts : List Host) (b : log.Book) (v : Verdict) → SaysOf v hosts b → v.malformed ≡ None → (v.streams ≡ None) ↔ AreFed (reverse b.crossings) (program_lives hosts b) (program_lives hosts b) (program_lists hosts b) }
+    ensures grants { (hosts : List Host) (b : log.Book) (v : Verdict) → SaysOf v hosts b → v.malformed ≡ None → (v.grants ≡ None) ↔ SafeGrants (reverse b.crossings) (program_lives hosts b) }
+    ensures closes { (hosts : List Host) (b : log.Book) (v : Verdict) → SaysOf v hosts b → v.malformed ≡ None → (v.closes ≡ None) ↔ ClosesWhole (reverse b.crossings) (program_lives hosts b) (program_lists hosts b) (program_fates hosts b) }
+    ensures fates { (hosts : List Host) (b : log.Book) (v : Verdict) → SaysOf v hosts b → (v.unsuited ≡ None) ↔ AreSuited (reverse b.crossings) (program_lives hosts b) (program_fates hosts b) }
+    ensures toward { (hosts : List Host) (b : log.Book) (v : Verdict) → SaysOf v hosts b → v.malformed ≡ None → (v.toward ≡ None) ↔ AreToward (λ h. is_host hosts h) (log.lives_of b) b.handed }
 
     // where nothing is named the book is safe, and nothing is named of a safe book
-    ensures safe { (b : log.Book) → SaysOf kept b → Says audit.Kept (reverse b.crossings) (log.lives_of b) b.handed }
-    ensures kept { (b : log.Book) (v : Verdict) → SaysOf kept b → SaysOf v b → v ≡ kept }
+    ensures safe { (hosts : List Host) (b : log.Book) → SaysOf kept hosts b → Says audit.Kept (reverse b.crossings) (program_lives hosts b) (program_lists hosts b) }
+    ensures kept { (hosts : List Host) (b : log.Book) (v : Verdict) → SaysOf kept hosts b → SaysOf v hosts b → v ≡ kept }
+{}
+
+/// Without strangers all lives are among hosts with programs, each at its own place, and nothing is toward a stranger. So
+/// what is said of such a log is about all that it has.
+pub fn without_strangers()
+    ensures lives { (b : log.Book) → program_lives [] b ≡ log.lives_of b }
+    ensures lists { (b : log.Book) → program_lists [] b ≡ b.handed }
+    ensures fates { (b : log.Book) → program_fates [] b ≡ log.fates_of b }
+    ensures places { (b : log.Book) (n : ℕ) → place_in (layout_of [] b).among n ≡ n }
+    ensures toward { (b : log.Book) (v : Verdict) → SaysOf v [] b → v.toward ≡ None }
 {}
 
 /// The word at the end of an audit: `kept` where all holds, `safe` where only closes or fates don't, and none where
 /// something is wrong that may be asked of the log of any host's program.
 pub fn last_words()
-    ensures kept { (b : log.Book) (v : Verdict) → SaysOf v b → (word_text v ≡ codes "kept\n") ↔ (IsSafeLog b × KeepsEnds b) }
-    ensures safe { (b : log.Book) (v : Verdict) → SaysOf v b → (word_text v ≡ codes "safe\n") ↔ (IsSafeLog b × (KeepsEnds b → ⊥)) }
-    ensures none { (b : log.Book) (v : Verdict) → SaysOf v b → (word_text v ≡ []) ↔ (IsSafeLog b → ⊥) }
+    ensures kept { (hosts : List Host) (b : log.Book) (v : Verdict) → SaysOf v hosts b → (word_text v ≡ codes "kept\n") ↔ (IsSafeLog hosts b × KeepsEnds hosts b) }
+    ensures safe { (hosts : List Host) (b : log.Book) (v : Verdict) → SaysOf v hosts b → (word_text v ≡ codes "safe\n") ↔ (IsSafeLog hosts b × (KeepsEnds hosts b → ⊥)) }
+    ensures none { (hosts : List Host) (b : log.Book) (v : Verdict) → SaysOf v hosts b → (word_text v ≡ []) ↔ (IsSafeLog hosts b → ⊥) }
 {}
 
 /// The words of verdicts.
@@ -172,6 +187,7 @@ pub fn worked_words()
     ensures partners { (at : Finding) → word_text (record kept { partners = Some at }) ≡ [] }
     ensures streams { (at : Finding) → word_text (record kept { streams = Some at }) ≡ [] }
     ensures grants { (at : Finding) → word_text (record kept { grants = Some at }) ≡ [] }
+    ensures toward { (n : ℕ) → word_text (record kept { toward = Some n }) ≡ [] }
     ensures both { (at : Finding) (n : ℕ) → word_text (record kept { grants = Some at; unsuited = Some n }) ≡ [] }
 {}
 
@@ -222,7 +238,7 @@ pub fn worked_judged()
     ensures exchanged { (n : ℕ) → NotSaid (record kept { partners = Some (finding.Lives (n + 1) n) }) }
     ensures crossing { (n : ℕ) → NotSaid (record kept { streams = Some (finding.Crossing n) }) }
     ensures list { (n : ℕ) → NotSaid (record kept { grants = Some (finding.List n) }) }
-    ensures match_past { (b : log.Book) → SaysOf (matched_past b) b → ⊥ }
+    ensures match_past { (hosts : List Host) (b : log.Book) → SaysOf (matched_past hosts b) hosts b → ⊥ }
 {}
 
 /// Of a log that is kept nothing else is said.

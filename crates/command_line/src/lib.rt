@@ -20,6 +20,7 @@ mod carriers;
 mod fault;
 mod input;
 mod judging;
+mod layout;
 pub mod law;
 mod logging;
 mod mixed;

@@ -3,14 +3,16 @@
 ghost use Rattle.std.specs.Prelude.{◌≡◌, OnOk, false, true};
 ghost use Rattle.replay.specs.Failing.{TellsFailure};
 ghost use Rattle.std.specs.Io.KnownBytes.{Appends};
-ghost use Rattle.command_line.specs.Audits.{broken_text, closes_text, fates_text, is_kept, is_safe, lines_of, lives_text, malformed_text, parts_text, run_text, verdict_text, word_text};
+ghost use Rattle.command_line.specs.Audits.{broken_text, closes_text, fates_text, found_text, is_kept, is_safe, lives_text, malformed_text, parts_text};
+ghost use Rattle.command_line.specs.Audits.{run_text, toward_text, word_text};
 
-use book_log::LoggedBook;
+use crate::layout::Layout;
 use net_sim::{Finding, Part};
 use replay::{Output, WriteFailed};
 use std::fmt;
 
-/// What is said of a log: what is wrong, and where it shows. What isn't named holds.
+/// What is said of a log: what is wrong, and where it shows. What isn't named holds. But for `malformed` and `toward`, which
+/// are about all lives, the places of lives are among those of hosts with programs, with such hosts.
 #[derive(Clone, Copy, Debug, PartialEq, Eq)]
 pub struct Verdict {
     /// The place of the first crossing with which what crossed is no run of the mailboxes, counted from 0; `None`
@@ -33,6 +35,9 @@ pub struct Verdict {
     /// The place of the first life whose fate isn't one that what crossed leaves it, counted from 0; `None` where
     /// each has such a fate.
     pub unsuited: Option<usize>,
+    /// The place among all lives of the first that is a stranger's, or that is toward a stranger and took more than it
+    /// granted, or sent what wasn't handed over in it, counted from 0; `None` where there is none, or the book is malformed.
+    pub toward: Option<usize>,
 }
 
 impl Verdict {
@@ -55,6 +60,7 @@ impl Verdict {
             && self.partners.is_none()
             && self.streams.is_none()
             && self.grants.is_none()
+            && self.toward.is_none()
     }
 }
 
@@ -82,41 +88,25 @@ impl fmt::Display for Lines {
     }
 }
 
-/// Returns the lines of a log for what was found in its book. First come its crossings, then its lives, then its lists.
-fn lines_of(book: &LoggedBook, found: Finding) -> Lines
-    ensures { result ≡ lines_of book.now found }
-{
-    let crossings = book.crossings().len() as u128;
-    let lives = book.lives().len() as u128;
-    match found {
-        Finding::Crossing(place) => Lines::One(place as u128 + 1),
-        Finding::Life(place) => Lines::One(crossings + place as u128 + 1),
-        Finding::Lives(place, other) => Lines::Two(
-            crossings + place as u128 + 1,
-            crossings + other as u128 + 1,
-        ),
-        Finding::List(place) => Lines::One(crossings + lives + place as u128 + 1),
-    }
-}
-
 /// Writes what is said of a book, and all that the writer still holds back.
 ///
 /// Errors: `WriteFailed`.
 pub(crate) fn write_found<W: Output>(
-    book: &LoggedBook,
+    layout: &Layout,
     found: Verdict,
     writer: &mut W,
 ) -> Result<(), WriteFailed>
     requires whole { W.failed writer.old ≡ false }
-    ensures written { OnOk result (Appends (W.contents writer.old) (W.contents writer.new) (verdict_text book.now found)) }
+    ensures written { OnOk result (Appends (W.contents writer.old) (W.contents writer.new) (found_text layout.now found)) }
     ensures failed { TellsFailure result (W.failed writer.new) }
     ensures flushed { OnOk result (W.flushed writer.new ≡ true) }
 {
-    write_run(found.stray, writer)?;
-    write_lives(book, found.unmade, writer)?;
-    write_malformed(book, found.malformed, writer)?;
-    write_parts(book, found, writer)?;
-    write_fates(book, found.unsuited, writer)?;
+    write_run(layout, found.stray, writer)?;
+    write_lives(layout, found.unmade, writer)?;
+    write_malformed(layout, found.malformed, writer)?;
+    write_parts(layout, found, writer)?;
+    write_fates(layout, found.unsuited, writer)?;
+    write_toward(layout, found.toward, writer)?;
     write_word(found, writer)?;
     writer.flush()
 }
@@ -124,14 +114,18 @@ pub(crate) fn write_found<W: Output>(
 /// Writes the line of a crossing that finds no box as it needs it, if there is one.
 ///
 /// Errors: `WriteFailed`.
-fn write_run<W: Output>(stray: Option<usize>, writer: &mut W) -> Result<(), WriteFailed>
+fn write_run<W: Output>(
+    layout: &Layout,
+    stray: Option<usize>,
+    writer: &mut W,
+) -> Result<(), WriteFailed>
     requires whole { W.failed writer.old ≡ false }
-    ensures written { OnOk result (Appends (W.contents writer.old) (W.contents writer.new) (run_text stray)) }
+    ensures written { OnOk result (Appends (W.contents writer.old) (W.contents writer.new) (run_text layout.now stray)) }
     ensures failed { TellsFailure result (W.failed writer.new) }
 {
     match stray {
         Some(place) => {
-            let line = place as u128 + 1;
+            let line = layout.crossing(place);
             writeln!(writer, "broken run line {line}")
         }
         None => Ok(()),
@@ -142,17 +136,17 @@ fn write_run<W: Output>(stray: Option<usize>, writer: &mut W) -> Result<(), Writ
 ///
 /// Errors: `WriteFailed`.
 fn write_lives<W: Output>(
-    book: &LoggedBook,
+    layout: &Layout,
     unmade: Option<usize>,
     writer: &mut W,
 ) -> Result<(), WriteFailed>
     requires whole { W.failed writer.old ≡ false }
-    ensures written { OnOk result (Appends (W.contents writer.old) (W.contents writer.new) (lives_text book.now unmade)) }
+    ensures written { OnOk result (Appends (W.contents writer.old) (W.contents writer.new) (lives_text layout.now unmade)) }
     ensures failed { TellsFailure result (W.failed writer.new) }
 {
     match unmade {
         Some(place) => {
-            let line = book.crossings().len() as u128 + place as u128 + 1;
+            let line = layout.program_life(place);
             writeln!(writer, "broken lives line {line}")
         }
         None => Ok(()),
@@ -163,17 +157,17 @@ fn write_lives<W: Output>(
 ///
 /// Errors: `WriteFailed`.
 fn write_malformed<W: Output>(
-    book: &LoggedBook,
+    layout: &Layout,
     malformed: Option<Finding>,
     writer: &mut W,
 ) -> Result<(), WriteFailed>
     requires whole { W.failed writer.old ≡ false }
-    ensures written { OnOk result (Appends (W.contents writer.old) (W.contents writer.new) (malformed_text book.now malformed)) }
+    ensures written { OnOk result (Appends (W.contents writer.old) (W.contents writer.new) (malformed_text layout.now malformed)) }
     ensures failed { TellsFailure result (W.failed writer.new) }
 {
     match malformed {
         Some(found) => {
-            let lines = lines_of(book, found);
+            let lines = layout.any_lines(found);
             writeln!(writer, "malformed {lines}")
         }
         None => Ok(()),
@@ -184,18 +178,18 @@ fn write_malformed<W: Output>(
 ///
 /// Errors: `WriteFailed`.
 fn write_broken<W: Output>(
-    book: &LoggedBook,
+    layout: &Layout,
     part: Part,
     broken: Option<Finding>,
     writer: &mut W,
 ) -> Result<(), WriteFailed>
     requires whole { W.failed writer.old ≡ false }
-    ensures written { OnOk result (Appends (W.contents writer.old) (W.contents writer.new) (broken_text book.now part broken)) }
+    ensures written { OnOk result (Appends (W.contents writer.old) (W.contents writer.new) (broken_text layout.now part broken)) }
     ensures failed { TellsFailure result (W.failed writer.new) }
 {
     match broken {
         Some(found) => {
-            let lines = lines_of(book, found);
+            let lines = layout.program_lines(found);
             writeln!(writer, "broken {part} {lines}")
         }
         None => Ok(()),
@@ -206,17 +200,17 @@ fn write_broken<W: Output>(
 ///
 /// Errors: `WriteFailed`.
 fn write_closes<W: Output>(
-    book: &LoggedBook,
+    layout: &Layout,
     closes: Option<Finding>,
     writer: &mut W,
 ) -> Result<(), WriteFailed>
     requires whole { W.failed writer.old ≡ false }
-    ensures written { OnOk result (Appends (W.contents writer.old) (W.contents writer.new) (closes_text book.now closes)) }
+    ensures written { OnOk result (Appends (W.contents writer.old) (W.contents writer.new) (closes_text layout.now closes)) }
     ensures failed { TellsFailure result (W.failed writer.new) }
 {
     match closes {
         Some(found) => {
-            let lines = lines_of(book, found);
+            let lines = layout.program_lines(found);
             writeln!(writer, "broken closes {lines}")
         }
         None => Ok(()),
@@ -227,18 +221,39 @@ fn write_closes<W: Output>(
 ///
 /// Errors: `WriteFailed`.
 fn write_fates<W: Output>(
-    book: &LoggedBook,
+    layout: &Layout,
     unsuited: Option<usize>,
     writer: &mut W,
 ) -> Result<(), WriteFailed>
     requires whole { W.failed writer.old ≡ false }
-    ensures written { OnOk result (Appends (W.contents writer.old) (W.contents writer.new) (fates_text book.now unsuited)) }
+    ensures written { OnOk result (Appends (W.contents writer.old) (W.contents writer.new) (fates_text layout.now unsuited)) }
     ensures failed { TellsFailure result (W.failed writer.new) }
 {
     match unsuited {
         Some(place) => {
-            let line = book.crossings().len() as u128 + place as u128 + 1;
+            let line = layout.program_life(place);
             writeln!(writer, "broken fates line {line}")
+        }
+        None => Ok(()),
+    }
+}
+
+/// Writes the line of a life that is a stranger's, or that is toward one and isn't as it should be, if there is one.
+///
+/// Errors: `WriteFailed`.
+fn write_toward<W: Output>(
+    layout: &Layout,
+    toward: Option<usize>,
+    writer: &mut W,
+) -> Result<(), WriteFailed>
+    requires whole { W.failed writer.old ≡ false }
+    ensures written { OnOk result (Appends (W.contents writer.old) (W.contents writer.new) (toward_text layout.now toward)) }
+    ensures failed { TellsFailure result (W.failed writer.new) }
+{
+    match toward {
+        Some(place) => {
+            let line = layout.any_life(place);
+            writeln!(writer, "broken toward line {line}")
         }
         None => Ok(()),
     }
@@ -248,19 +263,19 @@ fn write_fates<W: Output>(
 ///
 /// Errors: `WriteFailed`.
 fn write_parts<W: Output>(
-    book: &LoggedBook,
+    layout: &Layout,
     found: Verdict,
     writer: &mut W,
 ) -> Result<(), WriteFailed>
     requires whole { W.failed writer.old ≡ false }
-    ensures written { OnOk result (Appends (W.contents writer.old) (W.contents writer.new) (parts_text book.now found)) }
+    ensures written { OnOk result (Appends (W.contents writer.old) (W.contents writer.new) (parts_text layout.now found)) }
     ensures failed { TellsFailure result (W.failed writer.new) }
 {
-    write_broken(book, Part::Messages, found.messages, writer)?;
-    write_broken(book, Part::Partners, found.partners, writer)?;
-    write_broken(book, Part::Streams, found.streams, writer)?;
-    write_broken(book, Part::Grants, found.grants, writer)?;
-    write_closes(book, found.closes, writer)
+    write_broken(layout, Part::Messages, found.messages, writer)?;
+    write_broken(layout, Part::Partners, found.partners, writer)?;
+    write_broken(layout, Part::Streams, found.streams, writer)?;
+    write_broken(layout, Part::Grants, found.grants, writer)?;
+    write_closes(layout, found.closes, writer)
 }
 
 /// Writes the word of a book: `kept` where nothing is wrong, `safe` where only closes or fates are.

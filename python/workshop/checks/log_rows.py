@@ -430,12 +430,16 @@ OCTETS: list[tuple[bytes, int | str]] = [
 
 
 def rows_of_page() -> Iterator[tuple[bytes, str]]:
-    """The changes of the page's log, as sed makes them, and what the program prints of each."""
-    if f"```text\n{SHORT}```" not in PAGE:
-        raise ValueError("docs/audit.md has another log than logs/two-octets")
-    for script, cell in re.findall(r"^\| `sed '(.*)'` \| ([^|]*?) \|", PAGE, re.MULTILINE):
-        changed = subprocess.run(["sed", script], input=SHORT.encode(), capture_output=True, check=True).stdout
-        yield changed, "\n".join(re.findall("`([^`]*)`", cell)) or cell
+    """The changes of the page's two logs, as sed makes them, and what the program prints of each."""
+    by_hand, with_strangers = PAGE.split("\n## A log with strangers\n")
+    for name, part in (("two-octets", by_hand), ("toward-a-stranger", with_strangers)):
+        with open(f"{ROOT}/logs/{name}", "rb") as file:
+            log = file.read()
+        if f"```text\n{log.decode()}```" not in part:
+            raise ValueError(f"docs/audit.md has another log than logs/{name}")
+        for script, cell in re.findall(r"^\| `sed '(.*)'` \| ([^|]*?) \|", part, re.MULTILINE):
+            changed = subprocess.run(["sed", script], input=log, capture_output=True, check=True).stdout
+            yield changed, "\n".join(re.findall("`([^`]*)`", cell)) or cell
 
 
 def rows() -> Iterator[tuple[bytes, str]]:

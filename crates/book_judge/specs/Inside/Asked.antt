@@ -8,6 +8,8 @@ use Rattle.interface.specs.declared.crossing.Crossing.{Crossing}
 use Rattle.interface.specs.declared.crossing.Crossing.TheVariants as crossing
 use Rattle.interface.specs.declared.message.HostMessage.{HostMessage}
 use Rattle.net_sim.specs.Findings.{AreStamped, EndsAt}
+use Rattle.net_sim.specs.declared.auditing.findings.Finding.{Finding}
+use Rattle.net_sim.specs.declared.auditing.findings.Finding.TheVariants as finding
 use Rattle.promise.specs.Safe.{Name, last_out, partner_request}
 use Rattle.promise.specs.declared.life.Life.{Life}
 
@@ -66,3 +68,8 @@ pub record AreNamed (n : ℕ) (names : List Name) (lives : List Life) (log : Lis
 abbrev pub Names : Result (Vec Name) ℕ → List Life → List Crossing → Type 0
 Names (Ok names) lives log = AreNamed (length lives) names.items lives log
 Names (Err place) lives log = EndsAt (λ n. AreStamped log (take n lives)) place
+
+-- where it shows that not all stamps name requests
+abbrev pub unstamped : Result (Vec Name) ℕ → Option Finding
+unstamped (Ok names) = None
+unstamped (Err place) = Some (finding.Life place)

@@ -11,7 +11,12 @@ use Rattle.book_judge.specs.Broken.{IfFormed, first_closed}
 use Rattle.book_judge.specs.Fates.{UnsuitedAt}
 use Rattle.book_judge.specs.Lives.{UnmadeAt}
 use Rattle.book_judge.specs.Runs.{StraysAt}
-use Rattle.book_judge.proofs.lemmas.{closed_front, made_front, run_front, suited_front}
+use Rattle.book_judge.proofs.lemmas.{closed_front, made_front, run_front, suited_front, toward_front}
+use Rattle.book_judge.specs.Toward.{AreToward, UntowardAt}
+use Rattle.interface.specs.Host.{Host}
+use Rattle.mixed_worlds.specs.Book.{beside_among, lives_among}
+use Rattle.promise.specs.Safe.{SafeBook}
+use Rattle.command_line.proofs.Verdicts.Among.{formed_among}
 use Rattle.interface.proofs.lemmas.{safe_messages}
 use Rattle.interface.specs.declared.crossing.Answer.TheVariants as answer
 use Rattle.interface.specs.declared.crossing.Crossing.TheVariants as crossing
@@ -75,7 +80,7 @@ handed_front (suc n) (x ∷ lives) (b ∷ handed) (f, rest) = (f, handed_front n
 
 -- ---- what shows where it holds
 
-shown_formed : (found : Finding) (log : List Crossing) (lives : List Life) (handed : List (List Bool))
+pub shown_formed : (found : Finding) (log : List Crossing) (lives : List Life) (handed : List (List Bool))
     → IsWellFormed log lives handed → ShowsMalformed found log lives handed → ⊥
 shown_formed (finding.Crossing place) log lives handed w h = h
 shown_formed (finding.Life place) log lives handed w h =
@@ -126,94 +131,135 @@ shown_closes found log lives handed fates w h = h.first.1 (closed_front log live
 -- ---- named or not
 
 -- a part isn't named exactly where it holds
-unnamed : {F A : Type 0} (r : Option F) (ShowsAt : F → Type 0) → ((found : F) → A → ShowsAt found → ⊥)
+pub unnamed : {F A : Type 0} (r : Option F) (ShowsAt : F → Type 0) → ((found : F) → A → ShowsAt found → ⊥)
     → MatchOption r A ShowsAt → (r ≡ None) ↔ A
 unnamed None ShowsAt never m = (λ e. m, λ a. refl)
 unnamed (Some found) ShowsAt never m = (λ e. absurd (cc), λ a. absurd (never found a m))
 
 -- where a book is well-formed, the parts that are about its requests are looked at
-looked_at : (malformed found : Option Finding) (A : Type 0) (ShowsAt : Finding → Type 0) → malformed ≡ None
+pub looked_at : {F : Type 0} (malformed : Option Finding) (found : Option F) (A : Type 0) (ShowsAt : F → Type 0) → malformed ≡ None
     → IfFormed malformed found A ShowsAt → MatchOption found A ShowsAt
 looked_at None found A ShowsAt e h = h
 looked_at (Some at) found A ShowsAt e h = absurd (cc)
 
-pub run_named : (v : Verdict) (log : List Crossing) (lives : List Life) (handed : List (List Bool)) (fates : List Fate)
-    → Judged v log lives handed fates → (v.stray ≡ None) ↔ IsSomeRun (reverse log)
-run_named v log lives handed fates j =
+-- the lives among hosts with programs, with what was handed over in them and their fates
+abbrev some : (Host → Bool) → List Life → List Life
+some strange lives = lives_among strange lives
+
+abbrev lists : (Host → Bool) → List Life → List (List Bool) → List (List Bool)
+lists strange lives handed = beside_among strange lives handed
+
+abbrev ends : (Host → Bool) → List Life → List Fate → List Fate
+ends strange lives fates = beside_among strange lives fates
+
+pub run_named : (v : Verdict) (strange : Host → Bool) (log : List Crossing) (lives : List Life) (handed : List (List Bool)) (fates : List Fate)
+    → Judged v strange log lives handed fates → (v.stray ≡ None) ↔ IsSomeRun (reverse log)
+run_named v strange log lives handed fates j =
     unnamed v.stray (λ place. StraysAt log place) (λ place run at. at.1 (run_front log (place + 1) run)) j.run
 
-pub lives_named : (v : Verdict) (log : List Crossing) (lives : List Life) (handed : List (List Bool)) (fates : List Fate)
-    → Judged v log lives handed fates → (v.unmade ≡ None) ↔ AreMade (reverse log) lives
-lives_named v log lives handed fates j =
-    unnamed v.unmade (λ place. UnmadeAt (reverse log) lives place)
-    (λ place made at. at.1 (made_front (reverse log) lives (place + 1) made)) j.made
+pub lives_named : (v : Verdict) (strange : Host → Bool) (log : List Crossing) (lives : List Life) (handed : List (List Bool)) (fates : List Fate)
+    → Judged v strange log lives handed fates → (v.unmade ≡ None) ↔ AreMade (reverse log) (lives_among strange lives)
+lives_named v strange log lives handed fates j =
+    unnamed v.unmade (λ place. UnmadeAt (reverse log) (some strange lives) place)
+    (λ place made at. at.1 (made_front (reverse log) (some strange lives) (place + 1) made)) j.made
 
-pub formed_named : (v : Verdict) (log : List Crossing) (lives : List Life) (handed : List (List Bool)) (fates : List Fate)
-    → Judged v log lives handed fates → (v.malformed ≡ None) ↔ IsWellFormed (reverse log) lives handed
-formed_named v log lives handed fates j =
+pub formed_named : (v : Verdict) (strange : Host → Bool) (log : List Crossing) (lives : List Life) (handed : List (List Bool)) (fates : List Fate)
+    → Judged v strange log lives handed fates → (v.malformed ≡ None) ↔ IsWellFormed (reverse log) lives handed
+formed_named v strange log lives handed fates j =
     unnamed v.malformed (λ found. ShowsMalformed found (reverse log) lives handed)
     (λ found w h. shown_formed found (reverse log) lives handed w h) j.formed
 
-pub messages_named : (v : Verdict) (log : List Crossing) (lives : List Life) (handed : List (List Bool)) (fates : List Fate)
-    → Judged v log lives handed fates → (v.messages ≡ None) ↔ SafeMessages (reverse log)
-messages_named v log lives handed fates j =
+pub messages_named : (v : Verdict) (strange : Host → Bool) (log : List Crossing) (lives : List Life) (handed : List (List Bool)) (fates : List Fate)
+    → Judged v strange log lives handed fates → (v.messages ≡ None) ↔ SafeMessages (reverse log)
+messages_named v strange log lives handed fates j =
     unnamed v.messages (λ found. ShowsCrossing found (reverse log))
     (λ found s h. shown_messages found (reverse log) s h) j.messages
 
-pub partners_named : (v : Verdict) (log : List Crossing) (lives : List Life) (handed : List (List Bool)) (fates : List Fate)
-    → Judged v log lives handed fates → v.malformed ≡ None
-    → (v.partners ≡ None) ↔ SafePartners (reverse log) lives
-partners_named v log lives handed fates j e =
-    unnamed v.partners (λ found. ShowsTwo found (reverse log) lives)
-    (λ found s h. shown_partners found (reverse log) lives s h)
-    (looked_at v.malformed v.partners (SafePartners (reverse log) lives) (λ found. ShowsTwo found (reverse log) lives) e j.partners)
+pub partners_named : (v : Verdict) (strange : Host → Bool) (log : List Crossing) (lives : List Life) (handed : List (List Bool)) (fates : List Fate)
+    → Judged v strange log lives handed fates → v.malformed ≡ None
+    → (v.partners ≡ None) ↔ SafePartners (reverse log) (lives_among strange lives)
+partners_named v strange log lives handed fates j e =
+    unnamed v.partners (λ found. ShowsTwo found (reverse log) (some strange lives))
+    (λ found s h. shown_partners found (reverse log) (some strange lives) s h)
+    (looked_at v.malformed v.partners (SafePartners (reverse log) (some strange lives)) (λ found. ShowsTwo found (reverse log) (some strange lives)) e j.partners)
 
-pub streams_named : (v : Verdict) (log : List Crossing) (lives : List Life) (handed : List (List Bool)) (fates : List Fate)
-    → Judged v log lives handed fates → v.malformed ≡ None
-    → (v.streams ≡ None) ↔ AreFed (reverse log) lives lives handed
-streams_named v log lives handed fates j e =
-    unnamed v.streams (λ found. ShowsLife (first_fed (reverse log) lives handed) found (reverse log) lives)
-    (λ found f h. shown_streams found (reverse log) lives handed f h)
-    (looked_at v.malformed v.streams (AreFed (reverse log) lives lives handed) (λ found. ShowsLife (first_fed (reverse log) lives handed) found (reverse log) lives) e j.streams)
+pub streams_named : (v : Verdict) (strange : Host → Bool) (log : List Crossing) (lives : List Life) (handed : List (List Bool)) (fates : List Fate)
+    → Judged v strange log lives handed fates → v.malformed ≡ None
+    → (v.streams ≡ None) ↔ AreFed (reverse log) (lives_among strange lives) (lives_among strange lives) (beside_among strange lives handed)
+streams_named v strange log lives handed fates j e =
+    let xs : List Life = some strange lives in
+    let hs : List (List Bool) = lists strange lives handed in
+    unnamed v.streams (λ found. ShowsLife (first_fed (reverse log) xs hs) found (reverse log) xs)
+    (λ found f h. shown_streams found (reverse log) xs hs f h)
+    (looked_at v.malformed v.streams (AreFed (reverse log) xs xs hs) (λ found. ShowsLife (first_fed (reverse log) xs hs) found (reverse log) xs) e j.streams)
 
-pub grants_named : (v : Verdict) (log : List Crossing) (lives : List Life) (handed : List (List Bool)) (fates : List Fate)
-    → Judged v log lives handed fates → v.malformed ≡ None
-    → (v.grants ≡ None) ↔ SafeGrants (reverse log) lives
-grants_named v log lives handed fates j e =
-    unnamed v.grants (λ found. ShowsLife (first_granted (reverse log) lives) found (reverse log) lives)
-    (λ found g h. shown_grants found (reverse log) lives g h)
-    (looked_at v.malformed v.grants (SafeGrants (reverse log) lives) (λ found. ShowsLife (first_granted (reverse log) lives) found (reverse log) lives) e j.grants)
+pub grants_named : (v : Verdict) (strange : Host → Bool) (log : List Crossing) (lives : List Life) (handed : List (List Bool)) (fates : List Fate)
+    → Judged v strange log lives handed fates → v.malformed ≡ None
+    → (v.grants ≡ None) ↔ SafeGrants (reverse log) (lives_among strange lives)
+grants_named v strange log lives handed fates j e =
+    let xs : List Life = some strange lives in
+    unnamed v.grants (λ found. ShowsLife (first_granted (reverse log) xs) found (reverse log) xs)
+    (λ found g h. shown_grants found (reverse log) xs g h)
+    (looked_at v.malformed v.grants (SafeGrants (reverse log) xs) (λ found. ShowsLife (first_granted (reverse log) xs) found (reverse log) xs) e j.grants)
 
-pub closes_named : (v : Verdict) (log : List Crossing) (lives : List Life) (handed : List (List Bool)) (fates : List Fate)
-    → Judged v log lives handed fates → v.malformed ≡ None
-    → (v.closes ≡ None) ↔ ClosesWhole (reverse log) lives handed fates
-closes_named v log lives handed fates j e =
-    unnamed v.closes (λ found. ShowsLife (first_closed (reverse log) lives handed fates) found (reverse log) lives)
-    (λ found w h. shown_closes found (reverse log) lives handed fates w h)
-    (looked_at v.malformed v.closes (ClosesWhole (reverse log) lives handed fates) (λ found. ShowsLife (first_closed (reverse log) lives handed fates) found (reverse log) lives) e j.closes)
+pub closes_named : (v : Verdict) (strange : Host → Bool) (log : List Crossing) (lives : List Life) (handed : List (List Bool)) (fates : List Fate)
+    → Judged v strange log lives handed fates → v.malformed ≡ None
+    → (v.closes ≡ None) ↔ ClosesWhole (reverse log) (lives_among strange lives) (beside_among strange lives handed) (beside_among strange lives fates)
+closes_named v strange log lives handed fates j e =
+    let xs : List Life = some strange lives in
+    let hs : List (List Bool) = lists strange lives handed in
+    let fs : List Fate = ends strange lives fates in
+    unnamed v.closes (λ found. ShowsLife (first_closed (reverse log) xs hs fs) found (reverse log) xs)
+    (λ found w h. shown_closes found (reverse log) xs hs fs w h)
+    (looked_at v.malformed v.closes (ClosesWhole (reverse log) xs hs fs) (λ found. ShowsLife (first_closed (reverse log) xs hs fs) found (reverse log) xs) e j.closes)
 
-pub fates_named : (v : Verdict) (log : List Crossing) (lives : List Life) (handed : List (List Bool)) (fates : List Fate)
-    → Judged v log lives handed fates → (v.unsuited ≡ None) ↔ AreSuited (reverse log) lives fates
-fates_named v log lives handed fates j =
-    unnamed v.unsuited (λ place. UnsuitedAt (reverse log) lives fates place)
-    (λ place suited at. at.1 (suited_front (reverse log) lives fates (place + 1) suited)) j.suited
+pub fates_named : (v : Verdict) (strange : Host → Bool) (log : List Crossing) (lives : List Life) (handed : List (List Bool)) (fates : List Fate)
+    → Judged v strange log lives handed fates → (v.unsuited ≡ None) ↔ AreSuited (reverse log) (lives_among strange lives) (beside_among strange lives fates)
+fates_named v strange log lives handed fates j =
+    let xs : List Life = some strange lives in
+    let fs : List Fate = ends strange lives fates in
+    unnamed v.unsuited (λ place. UnsuitedAt (reverse log) xs fs place)
+    (λ place suited at. at.1 (suited_front (reverse log) xs fs (place + 1) suited)) j.suited
+
+pub toward_named : (v : Verdict) (strange : Host → Bool) (log : List Crossing) (lives : List Life) (handed : List (List Bool)) (fates : List Fate)
+    → Judged v strange log lives handed fates → v.malformed ≡ None → (v.toward ≡ None) ↔ AreToward strange lives handed
+toward_named v strange log lives handed fates j e =
+    unnamed v.toward (λ place. UntowardAt strange lives handed place)
+    (λ place toward at. at.1 (toward_front strange (place + 1) lives handed toward))
+    (looked_at v.malformed v.toward (AreToward strange lives handed) (λ place. UntowardAt strange lives handed place) e j.toward)
+
+-- where all lives are so, nothing is said of them
+unsaid : (malformed : Option Finding) (found : Option ℕ) (A : Type 0) (ShowsAt : ℕ → Type 0) → ((n : ℕ) → A → ShowsAt n → ⊥) → A
+    → IfFormed malformed found A ShowsAt → found ≡ None
+unsaid None None A ShowsAt never a h = refl
+unsaid None (Some n) A ShowsAt never a h = absurd (never n a h)
+unsaid (Some at) found A ShowsAt never a h = h
+
+pub toward_none : (v : Verdict) (strange : Host → Bool) (log : List Crossing) (lives : List Life) (handed : List (List Bool)) (fates : List Fate)
+    → Judged v strange log lives handed fates → AreToward strange lives handed → v.toward ≡ None
+toward_none v strange log lives handed fates j toward =
+    unsaid v.malformed v.toward (AreToward strange lives handed) (λ place. UntowardAt strange lives handed place)
+    (λ place all at. at.1 (toward_front strange (place + 1) lives handed all)) toward j.toward
 
 -- ---- nothing is named exactly of a safe book
 
-pub kept_from_safe : (log : List Crossing) (lives : List Life) (handed : List (List Bool)) (fates : List Fate)
-    → IsSomeRun (reverse log) → AreMade (reverse log) lives → Says audit.Kept (reverse log) lives handed
-    → ClosesWhole (reverse log) lives handed fates → AreSuited (reverse log) lives fates → Judged kept log lives
-    handed fates
-kept_from_safe log lives handed fates run made safe closes suited = record {
+pub kept_from_safe : (strange : Host → Bool) (log : List Crossing) (lives : List Life) (handed : List (List Bool)) (fates : List Fate)
+    → IsSomeRun (reverse log) → AreMade (reverse log) (lives_among strange lives) → IsWellFormed (reverse log) lives handed
+    → SafeBook (reverse log) (lives_among strange lives) (beside_among strange lives handed)
+    → ClosesWhole (reverse log) (lives_among strange lives) (beside_among strange lives handed) (beside_among strange lives fates)
+    → AreSuited (reverse log) (lives_among strange lives) (beside_among strange lives fates)
+    → AreToward strange lives handed → Judged kept strange log lives handed fates
+kept_from_safe strange log lives handed fates run made formed safe closes suited toward = record {
   run = run;
   made = made;
-  formed = safe.0;
-  messages = safe.1.messages;
-  partners = safe.1.partners;
-  streams = record { source = safe.1.streams.source; sent = safe.1.streams.sent };
-  grants = safe.1.grants;
+  formed = formed;
+  messages = safe.messages;
+  partners = safe.partners;
+  streams = record { source = safe.streams.source; sent = safe.streams.sent };
+  grants = safe.grants;
   closes = closes;
   suited = suited;
+  toward = toward;
 }
 
 some_one : (a b : Name) → Some a ≡ Some b → a ≡ b
@@ -228,25 +274,31 @@ streams_safe log lives handed s f = record {
   sent = f.sent;
 }
 
-pub safe_from_kept : (log : List Crossing) (lives : List Life) (handed : List (List Bool)) (fates : List Fate)
-    → Judged kept log lives handed fates → Says audit.Kept (reverse log) lives handed
-safe_from_kept log lives handed fates j = (
-  j.formed,
-  record
-      { messages = j.messages; partners = j.partners; streams = streams_safe (reverse log) lives handed j.partners j.streams; grants = j.grants },
+pub safe_from_kept : (strange : Host → Bool) (log : List Crossing) (lives : List Life) (handed : List (List Bool)) (fates : List Fate)
+    → Judged kept strange log lives handed fates
+    → Says audit.Kept (reverse log) (lives_among strange lives) (beside_among strange lives handed)
+safe_from_kept strange log lives handed fates j = (
+  formed_among strange (reverse log) lives handed j.formed,
+  record {
+    messages = j.messages;
+    partners = j.partners;
+    streams = streams_safe (reverse log) (some strange lives) (lists strange lives handed) j.partners j.streams;
+    grants = j.grants;
+  },
 )
 
 -- and of such a log nothing else is said
-pub only_kept : (v : Verdict) (log : List Crossing) (lives : List Life) (handed : List (List Bool)) (fates : List Fate)
-    → Judged kept log lives handed fates → Judged v log lives handed fates → v ≡ kept
-only_kept v log lives handed fates k j =
-    let malformed : v.malformed ≡ None = (formed_named v log lives handed fates j).1 k.formed in
-    let stray : v.stray ≡ None = (run_named v log lives handed fates j).1 k.run in
-    let unmade : v.unmade ≡ None = (lives_named v log lives handed fates j).1 k.made in
-    let messages : v.messages ≡ None = (messages_named v log lives handed fates j).1 k.messages in
-    let partners : v.partners ≡ None = (partners_named v log lives handed fates j malformed).1 k.partners in
-    let streams : v.streams ≡ None = (streams_named v log lives handed fates j malformed).1 k.streams in
-    let grants : v.grants ≡ None = (grants_named v log lives handed fates j malformed).1 k.grants in
-    let closes : v.closes ≡ None = (closes_named v log lives handed fates j malformed).1 k.closes in
-    let unsuited : v.unsuited ≡ None = (fates_named v log lives handed fates j).1 k.suited in
-    (λ i. record { stray = stray i; unmade = unmade i; malformed = malformed i; messages = messages i; partners = partners i; streams = streams i; grants = grants i; closes = closes i; unsuited = unsuited i })
+pub only_kept : (v : Verdict) (strange : Host → Bool) (log : List Crossing) (lives : List Life) (handed : List (List Bool)) (fates : List Fate)
+    → Judged kept strange log lives handed fates → Judged v strange log lives handed fates → v ≡ kept
+only_kept v strange log lives handed fates k j =
+    let malformed : v.malformed ≡ None = (formed_named v strange log lives handed fates j).1 k.formed in
+    let stray : v.stray ≡ None = (run_named v strange log lives handed fates j).1 k.run in
+    let unmade : v.unmade ≡ None = (lives_named v strange log lives handed fates j).1 k.made in
+    let messages : v.messages ≡ None = (messages_named v strange log lives handed fates j).1 k.messages in
+    let partners : v.partners ≡ None = (partners_named v strange log lives handed fates j malformed).1 k.partners in
+    let streams : v.streams ≡ None = (streams_named v strange log lives handed fates j malformed).1 k.streams in
+    let grants : v.grants ≡ None = (grants_named v strange log lives handed fates j malformed).1 k.grants in
+    let closes : v.closes ≡ None = (closes_named v strange log lives handed fates j malformed).1 k.closes in
+    let unsuited : v.unsuited ≡ None = (fates_named v strange log lives handed fates j).1 k.suited in
+    let toward : v.toward ≡ None = (toward_named v strange log lives handed fates j malformed).1 k.toward in
+    (λ i. record { stray = stray i; unmade = unmade i; malformed = malformed i; messages = messages i; partners = partners i; streams = streams i; grants = grants i; closes = closes i; unsuited = unsuited i; toward = toward i })

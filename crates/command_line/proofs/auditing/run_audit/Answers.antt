@@ -1,49 +1,52 @@
-use Rattle.command_line.proofs.Common.{◌≡◌, ℕ, List, Err, ap, rules, subst, IsLog, IsBookFault, SaysOf, Verdict}
+use Rattle.command_line.proofs.Common.{◌≡◌, ℕ, List, Err, ap, rules, subst, Appends, IsLog, IsBookFault, Verdict}
 use Rattle.command_line.proofs.Joined.{ends_faulty, ends_kept}
-use Rattle.command_line.proofs.Verdicts.Judged.{audited, audits, known_audited, says_of, some_log, unlogged, unread, unwritten}
+use Rattle.command_line.proofs.Verdicts.Judged.{audited, audits, known_audited, some_log, unlogged, unread, unwritten}
+use Rattle.command_line.specs.Audits.{Layout, found_text}
 use Rattle.command_line.specs.declared.auditing.AuditFault.TheVariants as fault
 use Rattle.command_line.proofs.auditing.run_audit.Goals as goal
 
 -- what is written
 pub returns-clause-audited : goal.returns-clause-audited
 returns-clause-audited g c =
-    let v : Verdict = c.in_ok-found.found in
-    let says : SaysOf v c.in_ok-book.book =
-    says_of c.in_ok-book.book v c.crossings.result.now c.lives.result.now c.handed.result.now c.fates.result.now c.crossings.ensures c.lives.ensures c.handed.ensures c.fates.ensures c.in_ok-found.ensures in
-    let log : IsLog c.in_ok-octets.octets.items c.in_ok-book.book = subst (λ (o : List ℕ). IsLog o c.in_ok-book.book) c.deref.ensures.value c.in_ok-book.ensures in
+    let v : Verdict = c.in_ok-layout.found in
+    let hosts = c.in_ok-log.log.strangers.items in
+    let book = c.in_ok-log.log.book in
+    let log : IsLog c.in_ok-octets.octets.items hosts book = subst (λ (o : List ℕ). IsLog o hosts book) c.deref.ensures.value c.in_ok-log.ensures in
+    let written = subst (λ (l : Layout). Appends (g.W.Output.contents c.args.writer.now) (g.W.Output.contents c.write_found.new.writer) (found_text l v)) c.in_ok-layout.ensures.0 c.in_ok-write_found.ensures.written in
     audited c.in_ok-octets.octets.items v (g.W.Output.contents c.args.writer.now) (g.W.Output.contents c.write_found.new.writer)
-    (audits c.in_ok-octets.octets.items c.in_ok-book.book v (g.W.Output.contents c.args.writer.now) (g.W.Output.contents c.write_found.new.writer) log says c.in_ok-write_found.ensures.written)
+    (audits c.in_ok-octets.octets.items hosts book v (g.W.Output.contents c.args.writer.now) (g.W.Output.contents c.write_found.new.writer) log c.in_ok-layout.ensures.1 written)
 
 pub returns-clause-says : goal.returns-clause-says
 returns-clause-says g c =
-    let v : Verdict = c.in_ok-found.found in
-    let says : SaysOf v c.in_ok-book.book =
-    says_of c.in_ok-book.book v c.crossings.result.now c.lives.result.now c.handed.result.now c.fates.result.now c.crossings.ensures c.lives.ensures c.handed.ensures c.fates.ensures c.in_ok-found.ensures in
-    let log : IsLog c.in_ok-octets.octets.items c.in_ok-book.book = subst (λ (o : List ℕ). IsLog o c.in_ok-book.book) c.deref.ensures.value c.in_ok-book.ensures in
+    let v : Verdict = c.in_ok-layout.found in
+    let hosts = c.in_ok-log.log.strangers.items in
+    let book = c.in_ok-log.log.book in
+    let log : IsLog c.in_ok-octets.octets.items hosts book = subst (λ (o : List ℕ). IsLog o hosts book) c.deref.ensures.value c.in_ok-log.ensures in
+    let written = subst (λ (l : Layout). Appends (g.W.Output.contents c.args.writer.now) (g.W.Output.contents c.write_found.new.writer) (found_text l v)) c.in_ok-layout.ensures.0 c.in_ok-write_found.ensures.written in
     known_audited (g.R.Source.remaining c.args.reader.now) c.in_ok-octets.octets.items v (g.W.Output.contents c.args.writer.now) (g.W.Output.contents c.write_found.new.writer) c.in_ok-octets.ensures.whole
-    (audits c.in_ok-octets.octets.items c.in_ok-book.book v (g.W.Output.contents c.args.writer.now) (g.W.Output.contents c.write_found.new.writer) log says c.in_ok-write_found.ensures.written)
+    (audits c.in_ok-octets.octets.items hosts book v (g.W.Output.contents c.args.writer.now) (g.W.Output.contents c.write_found.new.writer) log c.in_ok-layout.ensures.1 written)
 
 pub returns-clause-read : goal.returns-clause-read
-returns-clause-read g c = λ whole. some_log (g.R.Source.remaining c.args.reader.now) c.in_ok-octets.octets.items c.in_ok-book.book c.in_ok-octets.ensures.whole (subst (λ (o : List ℕ). IsLog o c.in_ok-book.book) c.deref.ensures.value c.in_ok-book.ensures)
+returns-clause-read g c = λ whole. some_log (g.R.Source.remaining c.args.reader.now) c.in_ok-octets.octets.items c.in_ok-log.log.strangers.items c.in_ok-log.log.book c.in_ok-octets.ensures.whole (subst (λ (o : List ℕ). IsLog o c.in_ok-log.log.strangers.items c.in_ok-log.log.book) c.deref.ensures.value c.in_ok-log.ensures)
 
 pub returns-in_err-octets-clause-read : goal.returns-in_err-octets-clause-read
 returns-in_err-octets-clause-read g c = λ whole.
     let same : c.from_residual.result ≡ Err c.in_err-octets.field-0.0 = search rules in
     unread (g.R.Source.remaining c.args.reader.now) c.from_residual.result c.in_err-octets.field-0.0 (g.R.Source.failed c.read_octets.new.reader) same c.in_err-octets.ensures.fault (λ e. c.in_err-octets.ensures.failed.0 (ap Err e)) whole
 
-pub returns-in_err-book-clause-read : goal.returns-in_err-book-clause-read
-returns-in_err-book-clause-read g c = λ whole.
-    let same : c.from_residual-in_err-book.result ≡ Err c.in_err-book.field-0.0 = search rules in
-    unlogged (g.R.Source.remaining c.args.reader.now) c.in_ok-octets.octets.items c.from_residual-in_err-book.result c.in_err-book.field-0.0 c.in_ok-octets.ensures.whole same (subst (λ (o : List ℕ). IsBookFault o c.in_err-book.field-0.0) c.deref.ensures.value c.in_err-book.ensures)
+pub returns-in_err-log-clause-read : goal.returns-in_err-log-clause-read
+returns-in_err-log-clause-read g c = λ whole.
+    let same : c.from_residual-in_err-log.result ≡ Err c.in_err-log.field-0.0 = search rules in
+    unlogged (g.R.Source.remaining c.args.reader.now) c.in_ok-octets.octets.items c.from_residual-in_err-log.result c.in_err-log.field-0.0 c.in_ok-octets.ensures.whole same (subst (λ (o : List ℕ). IsBookFault o c.in_err-log.field-0.0) c.deref.ensures.value c.in_err-log.ensures)
 
 pub returns-in_err-write_found-clause-read : goal.returns-in_err-write_found-clause-read
 returns-in_err-write_found-clause-read g c = λ whole.
     let same : c.from_residual-in_err-write_found.result ≡ Err fault.CannotWrite = search rules in
-    unwritten (g.R.Source.remaining c.args.reader.now) c.in_ok-octets.octets.items c.in_ok-book.book c.from_residual-in_err-write_found.result c.in_ok-octets.ensures.whole same (subst (λ (o : List ℕ). IsLog o c.in_ok-book.book) c.deref.ensures.value c.in_ok-book.ensures)
+    unwritten (g.R.Source.remaining c.args.reader.now) c.in_ok-octets.octets.items c.in_ok-log.log.strangers.items c.in_ok-log.log.book c.from_residual-in_err-write_found.result c.in_ok-octets.ensures.whole same (subst (λ (o : List ℕ). IsLog o c.in_ok-log.log.strangers.items c.in_ok-log.log.book) c.deref.ensures.value c.in_ok-log.ensures)
 
 pub returns-clause-kept : goal.returns-clause-kept
 returns-clause-kept g c = λ whole.
-    let v : Verdict = c.in_ok-found.found in
+    let v : Verdict = c.in_ok-layout.found in
     ends_kept (g.R.Source.remaining c.args.reader.now) v (g.W.Output.contents c.args.writer.now) (g.W.Output.contents c.write_found.new.writer) (returns-clause-says g c)
 
 pub returns-in_err-octets-clause-kept : goal.returns-in_err-octets-clause-kept
@@ -51,20 +54,20 @@ returns-in_err-octets-clause-kept g c = λ whole.
     let same : c.from_residual.result ≡ Err c.in_err-octets.field-0.0 = search rules in
     ends_faulty (g.R.Source.remaining c.args.reader.now) c.from_residual.result c.in_err-octets.field-0.0 same (returns-in_err-octets-clause-read g c whole)
 
-pub returns-in_err-book-clause-kept : goal.returns-in_err-book-clause-kept
-returns-in_err-book-clause-kept g c = λ whole.
-    let same : c.from_residual-in_err-book.result ≡ Err c.in_err-book.field-0.0 = search rules in
-    ends_faulty (g.R.Source.remaining c.args.reader.now) c.from_residual-in_err-book.result c.in_err-book.field-0.0 same (returns-in_err-book-clause-read g c whole)
+pub returns-in_err-log-clause-kept : goal.returns-in_err-log-clause-kept
+returns-in_err-log-clause-kept g c = λ whole.
+    let same : c.from_residual-in_err-log.result ≡ Err c.in_err-log.field-0.0 = search rules in
+    ends_faulty (g.R.Source.remaining c.args.reader.now) c.from_residual-in_err-log.result c.in_err-log.field-0.0 same (returns-in_err-log-clause-read g c whole)
 
-pub returns-in_err-found-clause-read : goal.returns-in_err-found-clause-read
-returns-in_err-found-clause-read g c = λ whole.
-    let same : c.from_residual-in_err-found.result ≡ Err fault.OutOfMemory = search rules in
-    unlogged (g.R.Source.remaining c.args.reader.now) c.in_ok-octets.octets.items c.from_residual-in_err-found.result fault.OutOfMemory c.in_ok-octets.ensures.whole same tt
+pub returns-in_err-layout-clause-read : goal.returns-in_err-layout-clause-read
+returns-in_err-layout-clause-read g c = λ whole.
+    let same : c.from_residual-in_err-layout.result ≡ Err fault.OutOfMemory = search rules in
+    unlogged (g.R.Source.remaining c.args.reader.now) c.in_ok-octets.octets.items c.from_residual-in_err-layout.result fault.OutOfMemory c.in_ok-octets.ensures.whole same tt
 
-pub returns-in_err-found-clause-kept : goal.returns-in_err-found-clause-kept
-returns-in_err-found-clause-kept g c = λ whole.
-    let same : c.from_residual-in_err-found.result ≡ Err fault.OutOfMemory = search rules in
-    ends_faulty (g.R.Source.remaining c.args.reader.now) c.from_residual-in_err-found.result fault.OutOfMemory same (returns-in_err-found-clause-read g c whole)
+pub returns-in_err-layout-clause-kept : goal.returns-in_err-layout-clause-kept
+returns-in_err-layout-clause-kept g c = λ whole.
+    let same : c.from_residual-in_err-layout.result ≡ Err fault.OutOfMemory = search rules in
+    ends_faulty (g.R.Source.remaining c.args.reader.now) c.from_residual-in_err-layout.result fault.OutOfMemory same (returns-in_err-layout-clause-read g c whole)
 
 pub returns-in_err-write_found-clause-kept : goal.returns-in_err-write_found-clause-kept
 returns-in_err-write_found-clause-kept g c = λ whole.

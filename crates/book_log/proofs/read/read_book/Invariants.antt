@@ -1,6 +1,6 @@
 use Rattle.std.proofs.Common.{◌<◌, ◌≤◌, ◌^◌, ◌+◌, length}
 use Rattle.book_log.proofs.Going.{Reached}
-use Rattle.book_log.proofs.read.read_log.Given as goal
+use Rattle.book_log.proofs.read.read_book.Given as goal
 
 -- the lines that were read describe the book, and the others are left
 abbrev pub invariant-lines : goal.invariant-lines

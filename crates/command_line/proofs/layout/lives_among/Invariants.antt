@@ -1,0 +1,7 @@
+use Rattle.command_line.proofs.Common.{◌≡◌, map, take}
+use Rattle.interface.specs.Host.{is_host}
+use Rattle.mixed_worlds.specs.Book.{is_among}
+use Rattle.command_line.proofs.layout.lives_among.Given as goal
+
+abbrev pub invariant-loop-life : goal.invariant-loop-life
+invariant-loop-life l = l.among.items ≡ map (λ x. is_among (λ h. is_host l.strangers h) x) (take l.life-index l.lives)
