@@ -1,8 +1,8 @@
 """What each clause of `headline::book_of` says of a life or a message: `./explain --book [LINE] < FILE`.
 
 FILE is a log, or an input, of whose replay the log is taken. LINE is a line of the log; without it the lives and the
-messages of data are listed. The names before each sentence are those of docs/measured/promise.md. All is worked out by
-the independent model, only from the log.
+messages of data are listed. The names before each sentence are those of docs/measured/promise.md, and of a life with a
+stranger those of `mixed_worlds::law::toward`. All is worked out by the independent model, only from the log.
 """
 
 from __future__ import annotations
@@ -45,15 +45,15 @@ class NoSuchLine(Exception):
 
 def said_of(book: Book, line: int | None) -> list[str]:
     """What the clauses say of the life or the message in a line of the log, or the lines that may be asked for."""
-    log, lives, _ = book
+    log, lives = book.log, book.lives
     if line is None:
         data = [at for at, it in enumerate(log) if is_data(it)]
         return [*(a_life(book, at) for at in range(len(lives))), *(a_message(book, at) for at in data)]
-    if len(log) < line <= len(log) + len(lives):
-        at = line - len(log) - 1
-        return [a_life(book, at), *(it.line() for it in of_life(book, at))]
-    if 0 < line <= len(log) and isinstance(message := log[line - 1], Passed):
-        out = line - 1 if message.kind == "out" else last_out(log, message.flow, line - 1)
+    life, place = line - book.life_line(0), line - book.crossing_line(0)
+    if 0 <= life < len(lives):
+        return [a_life(book, life), *(it.line() for it in of_life(book, life))]
+    if 0 <= place < len(log) and isinstance(message := log[place], Passed):
+        out = place if message.kind == "out" else last_out(log, message.flow, place)
         if out is not None:
             return [a_message(book, out), *(it.line() for it in of_message(book, out))]
     raise NoSuchLine(line)
@@ -66,7 +66,7 @@ def is_data(crossing: object) -> bool:
 
 def line_of(book: Book, life: Life) -> int:
     """The line of a life."""
-    return len(book.log) + 1 + next(at for at, it in enumerate(book.lives) if it is life)
+    return book.life_line(next(at for at, it in enumerate(book.lives) if it is life))
 
 
 def a_life(book: Book, at: int) -> str:
@@ -74,8 +74,7 @@ def a_life(book: Book, at: int) -> str:
     it = book.lives[at]
     ends = {"socket": it.socket, "host": spell_host(it.host), "foreign": it.foreign, "peer": spell_host(it.peer)}
     way = "receives from" if it.receives() else "sends to"
-    line = len(book.log) + at + 1
-    return filled(SAID["a life"], ends, line=line, way=way, messages=it.messages, bits=len(it.bits), word=it.fate)
+    return filled(SAID["a life"], ends, line=book.life_line(at), way=way, messages=it.messages, bits=len(it.bits), word=it.fate)
 
 
 def a_message(book: Book, at: int) -> str:
@@ -83,7 +82,7 @@ def a_message(book: Book, at: int) -> str:
     it = book.log[at]
     assert isinstance(it, Passed)
     ends = {"source": spell_host(it.flow.source), "destination": spell_host(it.flow.destination), "link": it.flow.link}
-    return filled(SAID["a message"], ends, line=at + 1, bits=len(it.text))
+    return filled(SAID["a message"], ends, line=book.crossing_line(at), bits=len(it.text))
 
 
 # ---- a life
@@ -92,6 +91,9 @@ def a_message(book: Book, at: int) -> str:
 def of_life(book: Book, at: int) -> Iterator[Said]:
     """What each clause says of a life."""
     life = book.lives[at]
+    if {life.host, life.peer} & {*book.strangers}:
+        yield from toward(book, at)
+        return
     others = partners(book, life)
     yield from formed(book, life)
     yield Said("promise.safe.partners", paired(book, life))
@@ -102,6 +104,24 @@ def of_life(book: Book, at: int) -> Iterator[Said]:
     yield Said("whole", whole(book, life, others))
     yield Said("arrived.all", all_counted(book, life))
     yield Said("arrived.closed", all_there(book, life, others))
+
+
+def toward(book: Book, at: int) -> Iterator[Said]:
+    """The same of a life with a stranger."""
+    life, log = book.lives[at], book.log
+    if life.host in book.strangers:
+        yield Said("toward.owner", SAID["a stranger's"])
+        return
+    yield Said("toward.owner", filled(SAID["with a stranger"], peer=spell_host(life.peer)))
+    own = firsts.RIGHT.named_at(log, life.own, "out", Flow(life.host, life.peer, 0), life.socket, life.foreign)
+    partner = firsts.RIGHT.named_at(log, life.partner, "in", Flow(life.peer, life.host, 0), life.foreign, life.socket)
+    for name, place, ends, named in ("own", life.own, (life.socket, life.foreign), own), ("partner", life.partner, (life.foreign, life.socket), partner):
+        said = filled(SAID[name], line=book.crossing_line(place), request=request(*ends, named[0])) if named else SAID["unmade"]
+        yield Said(f"toward.asked.{name}", said)
+    if life.receives():
+        yield from (Said("toward.taken", it.sentence) for it in grants(book, life, []))
+    else:
+        yield Said("toward.handed", handed_over(life, book.handed[at] if at < len(book.handed) else ""))
 
 
 def partners(book: Book, life: Life) -> list[Life]:
@@ -120,9 +140,9 @@ def formed(book: Book, life: Life) -> Iterator[Said]:
         yield Said("promise.formed", SAID["unmade"])
         return
     asked, answered = request(life.socket, life.foreign, own[0]), request(life.foreign, life.socket, partner[0])
-    yield Said("promise.formed.own", filled(SAID["own"], line=life.own + 1, request=asked))
-    yield Said("promise.formed.partner", filled(SAID["partner"], line=life.partner + 1, request=answered))
-    counts = {"bits": len(life.bits), "messages": life.messages, "lines": lines(placed.places)}
+    yield Said("promise.formed.own", filled(SAID["own"], line=book.crossing_line(life.own), request=asked))
+    yield Said("promise.formed.partner", filled(SAID["partner"], line=book.crossing_line(life.partner), request=answered))
+    counts = {"bits": len(life.bits), "messages": life.messages, "lines": lines(book, placed.places)}
     sentence = SAID["link" if placed.places else "link only"]
     crossed = "came in" if life.receives() else "went out"
     yield Said("promise.formed.bits", filled(sentence, counts, link=placed.flow.link, crossed=crossed))
@@ -133,9 +153,9 @@ def request(own: int, foreign: int, named: int) -> str:
     return filled(TEXTS["STR" if own % 2 else "RTS"], own=own, foreign=foreign, size=named, link=named)
 
 
-def lines(places: list[int]) -> str:
+def lines(book: Book, places: list[int]) -> str:
     """The lines of some places."""
-    return f"line{'s' * (len(places) > 1)} {listed([str(at + 1) for at in places])}"
+    return f"line{'s' * (len(places) > 1)} {listed([str(book.crossing_line(at)) for at in places])}"
 
 
 def paired(book: Book, life: Life) -> str:
@@ -150,8 +170,8 @@ def paired(book: Book, life: Life) -> str:
     if place is None or len(own) > 1 or len(same) > 1 or not is_mutual:
         return SAID["unpaired"]
     if not found:
-        return filled(SAID["single"], line=place + 1)
-    return filled(SAID["partners"], line=place + 1, other=line_of(book, found[0]))
+        return filled(SAID["single"], line=book.crossing_line(place))
+    return filled(SAID["partners"], line=book.crossing_line(place), other=line_of(book, found[0]))
 
 
 def stream(book: Book, at: int, others: list[Life]) -> Said:
@@ -191,11 +211,11 @@ def over(book: Book, life: Life) -> str:
     hosts = {"host": spell_host(life.host), "peer": spell_host(life.peer), "word": life.fate}
     if found is None or found.early or life.fate not in LEAVES[found.left()]:
         return filled(SAID["unfit"], hosts)
-    begun = firsts.RIGHT.begun(life) + 1
+    begun = book.crossing_line(firsts.RIGHT.begun(life))
     if found.last is None or (life.fate == "reset" and found.by != "reset"):
         return filled(SAID["contact" if life.fate == "reset" else "open"], hosts, line=begun)
     name, what = life.fate if life.fate in SAID else "by cls", SAID.get(found.last.what.split(" ")[0], "")
-    return filled(SAID[name], hosts, line=begun, place=found.last.place + 1, what=what)
+    return filled(SAID[name], hosts, line=begun, place=book.crossing_line(found.last.place), what=what)
 
 
 def within(book: Book, life: Life) -> str:
@@ -206,8 +226,8 @@ def within(book: Book, life: Life) -> str:
     place = found.last.place
     late = next((it for it in READING.counted(book.log, life) if it > place), None)
     if late is None:
-        return filled(SAID["in time"], place=place + 1, messages=life.messages)
-    return filled(SAID["too late"], place=place + 1, late=late + 1)
+        return filled(SAID["in time"], place=book.crossing_line(place), messages=life.messages)
+    return filled(SAID["too late"], place=book.crossing_line(place), late=book.crossing_line(late))
 
 
 def whole(book: Book, life: Life, others: list[Life]) -> str:
@@ -248,12 +268,14 @@ def of_message(book: Book, at: int) -> Iterator[Said]:
     flow = message.flow
     before = last_out(log, flow, at)
     is_empty = before is None or any(frees(it, flow) for it in log[before:at])
-    yield Said("promise.run", SAID["run"] if is_empty or before is None else filled(SAID["box"], line=before + 1))
+    yield Said("promise.run", SAID["run"] if is_empty or before is None else filled(SAID["box"], line=book.crossing_line(before)))
     end = next((place for place in range(at + 1, len(log)) if is_passed(log[place], "out", flow)), len(log))
     taken = [place for place in range(at + 1, end) if is_passed(log[place], "in", flow)]
-    yield Said("promise.safe.messages.once", filled(SAID["taken"], line=taken[0] + 1) if taken else SAID["untaken"])
+    yield Said("promise.safe.messages.once", filled(SAID["taken"], line=book.crossing_line(taken[0])) if taken else SAID["untaken"])
     answer = next((place for place in range(at + 1, end) if is_answer(log[place], flow)), None)
     yield Said("promise.safe.messages.answered", answer_in_words(book, answer))
+    if {flow.source, flow.destination} & {*book.strangers}:
+        return  # of what users ask for and are notified of nothing more is promised beside a stranger
     hosts = {"source": spell_host(flow.source), "destination": spell_host(flow.destination)}
     is_reset = flow.link == 0 and list(firsts.RIGHT.commands(message.text)) == [bytes([RST])]
     yield Said("contacts", filled(SAID["only rst" if is_reset else "no contact"], hosts))
@@ -280,7 +302,7 @@ def answer_in_words(book: Book, place: int | None) -> str:
     answer = book.log[place]
     assert isinstance(answer, Answered)
     name = "rfnm" if answer.answer == "rfnm" else "other answer"
-    return filled(SAID[name], answer=ANSWERS[answer.answer], line=place + 1)
+    return filled(SAID[name], answer=ANSWERS[answer.answer], line=book.crossing_line(place))
 
 
 def arrived(book: Book, at: int, taken: list[int], answer: int | None) -> Iterator[Said]:

@@ -11,14 +11,14 @@ import re
 from collections.abc import Callable
 
 from dorydate.model import fates, firsts
-from dorydate.model.audit import Log, is_passed, last_out, match, own_request, partner_request
+from dorydate.model.audit import is_passed, last_out, match, own_request, partner_request
 from dorydate.model.bits import Bits
 from dorydate.model.bits import octets as octets_of
 from dorydate.model.book import Life
 from dorydate.model.crossings import Answered, Passed, Turned
 from dorydate.model.fates import Deed, Over
 from dorydate.model.firsts import Data
-from dorydate.model.names import Flow, spell_flow, spell_host
+from dorydate.model.names import Flow, HostName, spell_flow, spell_host
 from dorydate.model.log import BadLog, Book, read_log
 from dorydate.model.mailboxes import Holds, Mailboxes, hosts_of
 from dorydate.explain.faults import wrong_with_text, wrong_with_word
@@ -26,6 +26,7 @@ from dorydate.given import shown
 from dorydate.where import here
 
 FORMS = {
+    "foreign": "H",
     "out": "S D N BITS OCTETS",
     "in": "S D N BITS OCTETS",
     "answer": "ANSWER S D N",
@@ -42,8 +43,9 @@ WRITTEN = {  # how a form is shown
 }
 WORDS = {"ANSWER": ["rfnm", "dead", "incomplete", "nottaken"], "KIND": ["send", "receive"], "FATE": ["open", "closed", "ended", "reset", "stopped"]}
 BITS_OF = {"PLACE": 64, "LENGTH": 64, "AMOUNT": 128}
-PARTS = [("out", "in", "answer", "down", "up"), ("life",), ("handed",), ("end",)]  # a log's lines, in this order
-NAMES = ["crossings", "lives", "what was handed over", "the end"]
+PARTS = [("foreign",), ("out", "in", "answer", "down", "up"), ("life",), ("handed",), ("end",)]  # a log's lines, in this order
+NAMES = ["strangers", "crossings", "lives", "what was handed over", "the end"]
+END = len(PARTS) - 1
 
 
 def explained(octets: bytes, verdict: str) -> str:
@@ -65,41 +67,41 @@ def explained_line(octets: bytes, book: Book, verdict: str) -> list[str]:
 
 def why_lives(book: Book, numbers: list[int]) -> str:
     """Why a life isn't made of the messages that crossed."""
-    log, life = book.log, book.lives[numbers[0] - len(book.log) - 1]
+    log, life = book.log, life_at(book, numbers[0])
     requests = [("OWN", life.own, "out", Flow(life.host, life.peer, 0), life.socket, life.foreign), ("PARTNER", life.partner, "in", Flow(life.peer, life.host, 0), life.foreign, life.socket)]
     for word, place, kind, flow, own, foreign in requests:
         if not firsts.RIGHT.named_at(log, place, kind, flow, own, foreign):
-            where = f"in the `{kind} {spell_flow(flow)}` at its {word}" if place < len(log) and is_passed(log[place], kind, flow) else f"at its {word}: {crossing_at(log, place)}"
+            where = f"in the `{kind} {spell_flow(flow)}` at its {word}" if place < len(log) and is_passed(log[place], kind, flow) else f"at its {word}: {crossing_at(book, place)}"
             return f"It isn't made of the messages that crossed: no {'STR' if own % 2 else 'RTS'} of socket {own} with socket {foreign} is {where}."
     placed, over = firsts.placed(log, life), fates.over(log, life)
     if placed is not None and over is not None:
-        late = f"It counts the message of line {placed.places[-1] + 1}, but {why_over(life, over)}"
+        late = f"It counts the message of line {book.crossing_line(placed.places[-1])}, but {why_over(book, life, over)}"
         return f"{late} It counts none that crossed after that."
-    return f"It isn't made of the messages that crossed: {why_other(log, life)}"
+    return f"It isn't made of the messages that crossed: {why_other(book, life)}"
 
 
-def why_other(log: Log, life: Life) -> str:
+def why_other(book: Book, life: Life) -> str:
     """Why the first messages on a life's link aren't those that it has."""
-    flow = firsts.flow_of(log, life)
-    found = firsts.messages_of(log, life)
+    flow = firsts.flow_of(book.log, life)
+    found = firsts.messages_of(book.log, life)
     way = f"{'came in' if life.receives() else 'went out'} on {spell_flow(flow)}" if flow else "crossed"
     if len(found) < life.messages:
         return f"it counts {counted(life.messages, 'message')}, and after its requests {len(found)} {way}."
     first = [bits for _, bits in found[: life.messages]]
     malformed = next((at for at, bits in found[: life.messages] if bits is None), None)
     if malformed is not None:
-        return f"what came in in line {malformed + 1} is shorter than its header says."
-    return difference(life.bits, "".join(bits or "" for bits in first), "what it says", f"what {way}") + where_of(life, found[: life.messages])
+        return f"what came in in line {book.crossing_line(malformed)} is shorter than its header says."
+    return difference(life.bits, "".join(bits or "" for bits in first), "what it says", f"what {way}") + where_of(book, life, found[: life.messages])
 
 
-def where_of(life: Life, messages: list[tuple[int, Data]]) -> str:
+def where_of(book: Book, life: Life, messages: list[tuple[int, Data]]) -> str:
     """The line that has the octet at which what crossed isn't what a life says, and where in its data: nothing where there is none."""
     bits = "".join(bits or "" for _, bits in messages)
     octet = next((at for at in range(len(bits) // 8) if bits[8 * at : 8 * at + 8] != life.bits[8 * at : 8 * at + 8]), None)
     before = 0
     for place, data in messages if octet is not None and 8 * octet < len(life.bits) else []:
         if octet is not None and 8 * octet < before + len(data or ""):
-            return f" That is in line {place + 1}, octet {octet - before // 8 + 1} of its data."
+            return f" That is in line {book.crossing_line(place)}, octet {octet - before // 8 + 1} of its data."
         before += len(data or "")
     return ""
 
@@ -130,18 +132,30 @@ def why_bad(octets: bytes, number: int) -> str:
     if number == 1 and b"%" in lines:
         return f"Line {number} is:\n  {shown(line)}\n" + here("This is an input and not a log, since a line is `%`. `./arpasim --log < FILE` prints the log of its replay.")
     before = [part for part in map(part_of, lines[: number - 1]) if part is not None]
-    why = wrong_with_entry(line) or out_of_order(line, before) or "No cause was found. docs/program.md has the forms of a log's lines."
+    why = wrong_with_entry(line) or out_of_order(line, before) or misnamed(line, lines[: number - 1]) or "No cause was found. docs/program.md has the forms of a log's lines."
     return f"Line {number} is:\n  {shown(line)}\n{why}"
 
 
 def out_of_order(line: bytes, before: list[int]) -> str | None:
     """Why a good line can't follow others of these parts."""
     part = part_of(line)
-    if 3 in before:
+    if END in before:
         return "It follows `end`, and nothing may."
     if part is not None and before and part < max(before):
-        return f"It is one of the {NAMES[part]}, and follows {NAMES[max(before)]}. A log has all crossings first, then all lives, then a `handed` for each life, then `end`."
+        order = "all crossings first, then all lives, then a `handed` for each life, then `end`"
+        strangers = "" if part else " Before all of them it has a `foreign` for each stranger, if there are any."
+        return f"It is one of the {NAMES[part]}, and follows {NAMES[max(before)]}. A log has {order}.{strangers}"
     return None
+
+
+def misnamed(line: bytes, before: list[bytes]) -> str | None:
+    """Why a line that names a stranger can't follow others that do."""
+    if part_of(line) != 0 or not before:
+        return None
+    if line in before:
+        return f"Line {before.index(line) + 1} says so already. Each stranger is named once."
+    last = shown(before[-1].split(b" ")[-1])
+    return f"It follows host {last}. Strangers are named by the rising numbers of their IMPs, and those of one IMP by their own."
 
 
 def wrong_with_entry(line: bytes) -> str | None:
@@ -162,7 +176,7 @@ def wrong_with_entry(line: bytes) -> str | None:
         return unknown_entry(name)
     names, form = FORMS[name].split(), f"The form is `{f'{name} {WRITTEN.get(name, FORMS[name])}'.rstrip()}`"
     if len(words) != 1 + len(names):
-        return f"It has {counted(len(words) - 1, 'word')} after `{name}`, and {len(names)} are needed. {form}."
+        return f"It has {counted(len(words) - 1, 'word')} after `{name}`, and {len(names)} {'is' if len(names) == 1 else 'are'} needed. {form}."
     causes = [wrong_with_part(what, word) for what, word in zip(names, words[1:])]
     cause = next(filter(None, causes), None) or wrong_with_octets(name, words) or wrong_with_kind(name, words)
     return f"{cause} {form}." if cause else None
@@ -221,55 +235,86 @@ def why_so(book: Book, verdict: str) -> str:
         "broken grants": why_grants,
         "broken closes": why_closes,
         "broken fates": why_fates,
+        "broken toward": why_toward,
     }
     if verdict in ("kept", "safe"):
-        lives = f"{counted(len(book.lives), 'life', 'lives')} made of them."
-        safe = f"The book is safe: {counted(len(book.log), 'crossing')}, a run of the mailboxes, and {lives}"
+        safe = f"The book is safe: {counted(len(book.log), 'crossing')}, a run of the mailboxes, and {lives_of(book)}"
         return safe if verdict == "kept" else f"{safe} Only how lives end is otherwise than this program promises."
     found = next((tell for name, tell in parts.items() if verdict.startswith(name)), None)
     return found(book, numbers) if found and numbers else "No cause was found."
+
+
+def lives_of(book: Book) -> str:
+    """The lives of a safe book, in words."""
+    toward = [it for it in book.lives if it.peer in book.strangers]
+    made = f"{counted(len(book.lives) - len(toward), 'life', 'lives')} made of them"
+    if not book.strangers:
+        return f"{made}."
+    among = f"{made}, between hosts that run the program"
+    kept = "took no more than was granted, and sent what was handed over"
+    return f"{among}. {counted(len(toward), 'life', 'lives')} with {strangers_of(book)} {kept}." if toward else f"{among}."
+
+
+def strangers_of(book: Book) -> str:
+    """Who is a stranger, in words."""
+    hosts = ", ".join(map(spell_host, book.strangers))
+    return f"{'a stranger' if len(book.strangers) == 1 else 'strangers'} ({hosts})"
 
 
 def counted(number: int, noun: str, nouns: str = "") -> str:
     return f"{number} {noun if number == 1 else nouns or noun + 's'}"
 
 
-def life_at(book: Book, number: int) -> tuple[Life, Bits, int]:
-    """The life in a line of the log, and its list of what was handed over with the line of that."""
-    place = number - len(book.log) - 1
-    return book.lives[place], book.handed[place], len(book.log) + len(book.lives) + place + 1
+def place_of_life(book: Book, number: int) -> int:
+    """The place of the life in a line of the log."""
+    return number - book.life_line(0)
+
+
+def life_at(book: Book, number: int) -> Life:
+    """The life in a line of the log."""
+    return book.lives[place_of_life(book, number)]
+
+
+def list_of(book: Book, number: int) -> tuple[Bits, int]:
+    """What was handed over in the life of a line, with the line of that."""
+    place = place_of_life(book, number)
+    return book.handed[place], book.list_line(place)
 
 
 def why_malformed(book: Book, numbers: list[int]) -> str:
-    log, lives, handed = book
-    place = numbers[0] - len(log)
+    log, lives, handed = book.log, book.lives, book.handed
     if len(lives) > len(handed):
         return f"There are {counted(len(lives), 'life', 'lives')} and {counted(len(handed), 'list')} of what was handed over: this life has none. Each life needs its line `handed BITS OCTETS`."
     if len(handed) > len(lives):
         return f"There are {counted(len(handed), 'list')} of what was handed over and {counted(len(lives), 'life', 'lives')}: this list belongs to no life."
-    life = lives[place - 1]
+    life = life_at(book, numbers[0])
     host, peer = spell_host(life.host), spell_host(life.peer)
     if not (life.own < len(log) and is_passed(log[life.own], "out", Flow(life.host, life.peer, 0))):
-        return f"Its OWN is {life.own}, and {crossing_at(log, life.own)}. It has to be the place of an `out {host} {peer} 0`, the message with this end's own request. (The first line is place 0.)"
+        return f"Its OWN is {life.own}, and {crossing_at(book, life.own)}. It has to be the place of an `out {host} {peer} 0`, the message with this end's own request. {first_place(book)}"
     if not (life.partner < len(log) and is_passed(log[life.partner], "in", Flow(life.peer, life.host, 0))):
-        return f"Its PARTNER is {life.partner}, and {crossing_at(log, life.partner)}. It has to be the place of an `in {peer} {host} 0`, the message with its partner's request. (The first line is place 0.)"
+        return f"Its PARTNER is {life.partner}, and {crossing_at(book, life.partner)}. It has to be the place of an `in {peer} {host} 0`, the message with its partner's request. {first_place(book)}"
     return f"Its PARTNER is {life.partner}, but before that place no `out {peer} {host} 0` went out that could have come in there."
 
 
-def crossing_at(log: Log, place: int) -> str:
+def first_place(book: Book) -> str:
+    """Which line is the first place, in words."""
+    return "(The first line is place 0.)" if not book.strangers else f"(Line {book.crossing_line(0)} is place 0.)"
+
+
+def crossing_at(book: Book, place: int) -> str:
     """The crossing at a place of the log."""
-    if place >= len(log):
-        return f"the log has {counted(len(log), 'crossing')} only"
-    crossing = log[place]
+    if place >= len(book.log):
+        return f"the log has {counted(len(book.log), 'crossing')} only"
+    crossing = book.log[place]
     if isinstance(crossing, Answered):
         what = f"{crossing.answer} {spell_flow(crossing.flow)}"
     else:
         what = spell_flow(crossing.flow) if isinstance(crossing, Passed) else spell_host(crossing.host)
-    return f"at place {place} (line {place + 1}) is `{crossing.kind} {what}`"
+    return f"at place {place} (line {book.crossing_line(place)}) is `{crossing.kind} {what}`"
 
 
 def why_run(book: Book, numbers: list[int]) -> str:
-    log, at = book.log, numbers[0] - 1
+    log, at = book.log, numbers[0] - book.crossing_line(0)
     mailboxes = Mailboxes(hosts_of(log))
     for crossing in log[:at]:
         mailboxes.crosses(crossing)
@@ -279,25 +324,26 @@ def why_run(book: Book, numbers: list[int]) -> str:
     host = crossing.flow.destination if crossing.kind == "in" else crossing.flow.source
     if not mailboxes.is_up[host]:
         return f"Host {spell_host(host)} is down."
-    return why_boxed(crossing, mailboxes.boxes.get(crossing.flow), log, at)
+    return why_boxed(crossing, mailboxes.boxes.get(crossing.flow), book, at)
 
 
-def why_boxed(crossing: Passed | Answered, box: tuple[Holds, Bits] | None, log: Log, at: int) -> str:
+def why_boxed(crossing: Passed | Answered, box: tuple[Holds, Bits] | None, book: Book, at: int) -> str:
     """What a crossing doesn't find in the box of its flow, and the line of the message that is there."""
-    flow, out = spell_flow(crossing.flow), last_out(log, crossing.flow, at)
+    log, flow, out = book.log, spell_flow(crossing.flow), last_out(book.log, crossing.flow, at)
     if box is None or out is None:
         return f"No message of the flow {flow} is outstanding."
+    line = f"line {book.crossing_line(out)}"
     if crossing.kind == "out":
-        return f"The last message of the flow {flow}, in line {out + 1}, has no answer yet, and one may be outstanding."
+        return f"The last message of the flow {flow}, in {line}, has no answer yet, and one may be outstanding."
     if isinstance(crossing, Passed) and box[0] == "waits":
-        return f"Another text waits on the flow {flow}, that of line {out + 1}: {difference(crossing.text, box[1], 'what was taken', 'what went out')}"
+        return f"Another text waits on the flow {flow}, that of {line}: {difference(crossing.text, box[1], 'what was taken', 'what went out')}"
     taken = next((place for place in range(out, at) if is_passed(log[place], "in", crossing.flow)), None)
-    became = f"was taken already, in line {taken + 1}" if box[0] == "taken" and taken is not None else "was not taken"
-    return f"The message of line {out + 1}, of the flow {flow}, {became}."
+    became = f"was taken already, in line {book.crossing_line(taken)}" if box[0] == "taken" and taken is not None else "was not taken"
+    return f"The message of {line}, of the flow {flow}, {became}."
 
 
 def why_messages(book: Book, numbers: list[int]) -> str:
-    log, at = book.log, numbers[0] - 1
+    log, at = book.log, numbers[0] - book.crossing_line(0)
     crossing = log[at]
     assert not isinstance(crossing, Turned)  # what breaks the messages is a taking or an answer
     flow = crossing.flow
@@ -305,13 +351,14 @@ def why_messages(book: Book, numbers: list[int]) -> str:
     if out is None:
         return f"No message of the flow {spell_flow(flow)} went out before it."
     taken = [place for place in range(out, at) if is_passed(log[place], "in", flow)]
+    line = f"line {book.crossing_line(out)}"
     if isinstance(crossing, Answered):
-        return f"The last message of the flow {spell_flow(flow)} went out in line {out + 1}, and no line since then says that it was taken: an RFNM is about a message that was."
+        return f"The last message of the flow {spell_flow(flow)} went out in {line}, and no line since then says that it was taken: an RFNM is about a message that was."
     if taken:
-        return f"The message of line {out + 1} was taken already in line {taken[0] + 1}. Each message is taken once at most."
+        return f"The message of {line} was taken already in line {book.crossing_line(taken[0])}. Each message is taken once at most."
     sent = log[out]
     assert isinstance(sent, Passed)
-    return f"It isn't what went out in line {out + 1}: {difference(crossing.text, sent.text, 'what was taken', 'what went out')}"
+    return f"It isn't what went out in {line}: {difference(crossing.text, sent.text, 'what was taken', 'what went out')}"
 
 
 def difference(one: str, other: str, its: str, others: str) -> str:
@@ -329,7 +376,7 @@ def hexadecimal(bits: str) -> str:
 
 def why_partners(book: Book, numbers: list[int]) -> str:
     log = book.log
-    (one, *_), (other, *_) = life_at(book, numbers[0]), life_at(book, numbers[-1])
+    one, other = life_at(book, numbers[0]), life_at(book, numbers[-1])
     if len(numbers) > 1 and own_request(one) == own_request(other):
         return f"Both have the same own request: the message at place {one.own}, from socket {one.socket} for socket {one.foreign}. A request opens one life only."
     if len(numbers) > 1 and partner_request(log, one) == partner_request(log, other):
@@ -344,35 +391,63 @@ def why_partners(book: Book, numbers: list[int]) -> str:
 
 
 def why_streams(book: Book, numbers: list[int]) -> str:
-    life, handed, list_line = life_at(book, numbers[0])
+    life = life_at(book, numbers[0])
     if not life.receives():
+        handed, list_line = list_of(book, numbers[0])
         return f"It sent what wasn't handed over in line {list_line}: {difference(life.bits, handed, 'what was sent', 'what was handed over')}"
-    senders = [place for place, it in enumerate(book.lives, len(book.log) + 1) if match(book.log, life, it)]
+    senders = [line for line, it in enumerate(book.lives, book.life_line(0)) if match(book.log, life, it)]
     if len(senders) > 1:
         return f"Two lives match it, in lines {senders[0]} and {senders[1]}, and a connection has one sender."
     if not senders:
         return (
             f"It took {counted(len(life.bits), 'bit')}, and no life matches it. That would be one of host {spell_host(life.peer)}, socket {life.foreign}, with socket {life.socket} of {spell_host(life.host)}, "
-            f"whose own request is the partner's of this life, and the other way round."
+            f"whose own request is the partner's of this life, and the other way round.{perhaps_stranger(book, life)}"
         )
-    sender, *_ = life_at(book, senders[0])
+    sender = life_at(book, senders[0])
     return f"Line {numbers[0]} took what line {senders[0]} didn't send: {difference(life.bits, sender.bits, 'what was taken', 'what was sent')}"
 
 
+def perhaps_stranger(book: Book, life: Life) -> str:
+    """What to write where a peer has no lives at all since it keeps none."""
+    if any(it.host == life.peer for it in book.lives):
+        return ""
+    peer = spell_host(life.peer)
+    return f" The log has no life of {peer}. If it runs another program, whose lives nobody knows, the log begins with `foreign {peer}`."
+
+
+def why_toward(book: Book, numbers: list[int]) -> str:
+    """Why a life is none that a log has beside a stranger."""
+    life = life_at(book, numbers[0])
+    if life.host in book.strangers:
+        named = f"Host {spell_host(life.host)} is a stranger, by line {line_of_stranger(book, life.host)}"
+        return f"{named}: it runs no program of these, so nobody knows its lives. A log has only those of the other hosts."
+    start = f"Its peer {spell_host(life.peer)} is a stranger, by line {line_of_stranger(book, life.peer)}."
+    if life.receives():
+        return f"{start} {why_grants(book, numbers)}"
+    handed, list_line = list_of(book, numbers[0])
+    what = difference(life.bits, handed, "what was sent", "what was handed over")
+    return f"{start} It sent what wasn't handed over in line {list_line}: {what}"
+
+
+def line_of_stranger(book: Book, host: HostName) -> int:
+    """The line that names a stranger."""
+    return book.strangers.index(host) + 1
+
+
 def why_grants(book: Book, numbers: list[int]) -> str:
-    life, *_ = life_at(book, numbers[0])
+    life = life_at(book, numbers[0])
     messages, bits = life.granted[0] - life.returned[0], life.granted[1] - life.returned[1]
     left = f"Line {numbers[0]} granted {counted(life.granted[0], 'message')} and {counted(life.granted[1], 'bit')}, and had {life.returned[0]} and {life.returned[1]} back"
-    used = [(number, life_at(book, number)[0]) for number in numbers]
+    used = [(number, life_at(book, number)) for number in numbers]
     passed = [f"line {number} {'took' if it.receives() else 'sent'} {counted(it.messages, 'message')} with {counted(len(it.bits), 'bit')}" for number, it in used]
     return f"{left}: at most {max(messages, 0)} with {counted(max(bits, 0), 'bit')} may pass. But {' and '.join(passed)}."
 
 
 def why_closes(book: Book, numbers: list[int]) -> str:
     """What a life that its partner ended has lost."""
-    life, *_ = life_at(book, numbers[0])
+    life = life_at(book, numbers[0])
     start = f"Line {numbers[0]} is `{life.fate}`: its partner ended it, and nobody at its host had closed it. So it took all that line {numbers[-1]} sent"
-    sender, handed, list_line = life_at(book, numbers[-1])
+    sender, (handed, list_line) = life_at(book, numbers[-1]), list_of(book, numbers[-1])
     if life.bits != sender.bits:
         return f"{start}, but {lost(life.bits, sender.bits, 'what was sent')}"
     if life.messages != sender.messages:
@@ -382,20 +457,20 @@ def why_closes(book: Book, numbers: list[int]) -> str:
 
 def why_fates(book: Book, numbers: list[int]) -> str:
     """Why what crossed doesn't leave a life its fate, and which it leaves."""
-    life, *_ = life_at(book, numbers[0])
+    life = life_at(book, numbers[0])
     over = fates.over(book.log, life)
     if over is None:
         return "No cause was found."
     if over.early:
         begins = "A life begins only where nothing that ends lives comes between its two requests."
-        return f"{why_early(life, over.early)} {begins}"
+        return f"{why_early(book, life, over.early)} {begins}"
     if life.fate in fates.LEAVES[over.left()]:
-        return why_contact(book, numbers[0] - len(book.log) - 1)
+        return why_contact(book, place_of_life(book, numbers[0]))
     sooner = ", or `reset` if its user contacted the peer before that."
     left = {"reset": "`reset`.", "stopped": f"`stopped`{sooner}", "closed out": f"`closed`{sooner}"}
     left["closed in"] = "`closed` or `ended`."
     may_be = left[over.left() or ""] if over.by else "`open`, or `reset` if its user has contacted the peer."
-    return f"It says `{life.fate}`, but {why_over(life, over)} It would be {may_be}"
+    return f"It says `{life.fate}`, but {why_over(book, life, over)} It would be {may_be}"
 
 
 def why_contact(book: Book, place: int) -> str:
@@ -405,7 +480,7 @@ def why_contact(book: Book, place: int) -> str:
     other = begun and fates.at_odds([*filter(None, known[:-1])], begun)
     if begun is None or other is None:
         return "No cause was found."
-    life, number = begun.life, len(book.log) + 1 + known.index(other)
+    life, number = begun.life, book.life_line(known.index(other))
     host, peer = spell_host(life.host), spell_host(life.peer)
     line = f"Line {number} says `{other.life.fate}`, and this one `{life.fate}`."
     why = f"A contact drops all connections with {peer}, and the RST that then goes out first ends what begins later."
@@ -416,32 +491,32 @@ def why_contact(book: Book, place: int) -> str:
     which, rest = ("this one", f"line {number}") if reset is begun else (f"line {number}", "this one")
     both = f"Both are lives of {host} with {peer}"
     between = f"{both}, and neither a reset nor a stop of {host} came between where they begin."
-    contact = f"Nothing that crossed has reset {which}, so a contact did{before_end(reset)}."
-    return f"{line} {between} {contact} {why} So {rest} is `reset`, too: {why_spared(spared)}"
+    contact = f"Nothing that crossed has reset {which}, so a contact did{before_end(book, reset)}."
+    return f"{line} {between} {contact} {why} So {rest} is `reset`, too: {why_spared(book, spared)}"
 
 
-def before_end(begun: fates.Begun) -> str:
+def before_end(book: Book, begun: fates.Begun) -> str:
     """Before what a contact came that reset a life, in words."""
     last = begun.over.last
     if begun.over.by is None or last is None:
         return ""
-    host, line = spell_host(begun.life.host), f"line {last.place + 1}"
+    host, line = spell_host(begun.life.host), f"line {book.crossing_line(last.place)}"
     stop, cls = f" before {host} stopped in {line}", f" before its partner's CLS came in, in {line}"
     return stop if begun.over.by == "stopped" else cls
 
 
-def why_spared(begun: fates.Begun) -> str:
+def why_spared(book: Book, begun: fates.Begun) -> str:
     """That a life wasn't over before a contact, in words."""
     last = begun.over.last
     if begun.over.by is None or last is None:
         return "nothing that crossed has ended it."
-    return f"it wasn't over before line {last.place + 1}."
+    return f"it wasn't over before line {book.crossing_line(last.place)}."
 
 
-def why_early(life: Life, deed: Deed) -> str:
+def why_early(book: Book, life: Life, deed: Deed) -> str:
     """What came between the two requests of a life, with its line."""
     word, way = deed.what.split()
-    host, peer, line = spell_host(life.host), spell_host(life.peer), f"line {deed.place + 1}"
+    host, peer, line = spell_host(life.host), spell_host(life.peer), f"line {book.crossing_line(deed.place)}"
     if word == "down":
         return f"Its host, {host}, stopped in {line}, between its two requests."
     if word == "closes":
@@ -449,14 +524,14 @@ def why_early(life: Life, deed: Deed) -> str:
     return f"{host} dropped its connections with {peer} in {line}, between its two requests."
 
 
-def why_over(life: Life, over: Over) -> str:
+def why_over(book: Book, life: Life, over: Over) -> str:
     """By what a life is over, with the line; or what its own fate would need, where it continues."""
     host, peer = spell_host(life.host), spell_host(life.peer)
     if over.last is None:
         is_stop = life.fate == "stopped"
         stop = f"its host, {host}, hasn't stopped since it began."
         return stop if is_stop else f"it hasn't ended: {lacking_cls(life, over)}."
-    line = f"line {over.last.place + 1}"
+    line = f"line {book.crossing_line(over.last.place)}"
     if over.by == "stopped":
         return f"its host, {host}, stopped in {line}."
     if over.by == "closed":

@@ -1,8 +1,8 @@
 """Logs, as `arpasim --log` prints them and `arpasim --audit` reads them: an independent reader and speller.
 
 It was written from docs/program.md and docs/audit.md, in another language and another form than the definitions. A log is read
-into a book: its crossings, its lives, and a list of bits for each life that was handed over to be sent. What a book keeps or
-breaks says `verdict`. `check audit` and `check stops` compare the program with this.
+into a book: who runs no program, its crossings, its lives, and a list of bits for each life that was handed over to be sent. What
+a book keeps or breaks says `verdict`. `check audit` and `check stops` compare the program with this.
 """
 
 from __future__ import annotations
@@ -14,7 +14,7 @@ from typing import NamedTuple, Union
 from dorydate.model.bits import Bits, spell_bits, spelled_text
 from dorydate.model.book import Fate, Life
 from dorydate.model.crossings import Answer, Answered, Crossing, Passed, Turned, spell_crossing
-from dorydate.model.names import spell_flow, spell_host
+from dorydate.model.names import HostName, spell_flow, spell_host
 from dorydate.model.runs import End, Place, log_of, opened
 from dorydate.model.script import FLOW, HOST, MOST_TEXT, BadLine, host_of, read_flow, read_line, read_number, read_text
 from dorydate.model.topology import Topology
@@ -22,6 +22,7 @@ from dorydate.model.world import World
 
 NUMBER = r"(0|[1-9][0-9]{0,38})"  # none of 128 bits has more digits
 OCTETS = r"(-|(?:[0-9A-F][0-9A-F])+)"
+FOREIGN = re.compile(f"foreign {HOST}")
 MESSAGE = re.compile(f"(out|in) {FLOW} {NUMBER} {OCTETS}")
 ANSWER = re.compile(f"answer (rfnm|dead|incomplete|nottaken) {FLOW}")
 OF_HOST = re.compile(f"(down|up) {HOST}")
@@ -37,9 +38,23 @@ class Book(NamedTuple):
     log: list[Crossing]  # the oldest first
     lives: list[Life]
     handed: list[Bits]
+    strangers: tuple[HostName, ...] = ()  # the hosts that run no program, in the order of their lines
+
+    def crossing_line(self, place: int) -> int:
+        """The line of the crossing at a place, counted from 0."""
+        return len(self.strangers) + place + 1
+
+    def life_line(self, place: int) -> int:
+        """The line of the life at a place, counted from 0."""
+        return self.crossing_line(len(self.log) + place)
+
+    def list_line(self, place: int) -> int:
+        """The line of the list at a place, counted from 0."""
+        return self.life_line(len(self.lives) + place)
 
 
-Entry = Union[Crossing, Life, Bits]
+Entry = Union[HostName, Crossing, Life, Bits]  # a host is a stranger's
+PART_OF: dict[type, int] = {HostName: 0, Passed: 1, Answered: 1, Turned: 1, Life: 2, str: 3}
 
 
 class BadLog(Exception):
@@ -66,8 +81,12 @@ class LogReader:
         raise BadLog(len(lines) + 1)
 
     def may_follow(self, kind: int, part: int) -> bool:
-        """Whether an entry of a kind may follow one of another kind: crossings (0), lives (1), lists of bits (2)."""
+        """Whether an entry of a part may follow one of another: strangers (0), crossings (1), lives (2), lists of bits (3)."""
         return kind >= part
+
+    def is_next(self, strangers: Sequence[HostName], host: HostName) -> bool:
+        """Whether a stranger may follow these: they come by their IMPs, and those of one IMP by their numbers, each once."""
+        return not strangers or in_order(strangers[-1]) < in_order(host)
 
     def kind_fits(self, life: Life, kind: str) -> bool:
         """Whether a life is of the kind that its line says."""
@@ -90,21 +109,25 @@ class LogReader:
                 entry = self.read_entry(line)
             except BadLine:
                 raise BadLog(number) from None
-            kind = 1 if isinstance(entry, Life) else 2 if isinstance(entry, str) else 0
+            kind = PART_OF[type(entry)]
             if not self.may_follow(kind, part):
                 raise BadLog(number)
-            part = kind
-            self.add(book, entry)
+            if isinstance(entry, HostName) and not self.is_next(book.strangers, entry):
+                raise BadLog(number)
+            book, part = self.added(book, entry), kind
         return self.unended(lines, book)
 
-    def add(self, book: Book, entry: Entry) -> None:
-        """Puts an entry in its list."""
+    def added(self, book: Book, entry: Entry) -> Book:
+        """A book with an entry more, which is in its list."""
+        if isinstance(entry, HostName):
+            return book._replace(strangers=(*book.strangers, entry))
         if isinstance(entry, Life):
             book.lives.append(entry)
         elif isinstance(entry, str):
             book.handed.append(entry)
         else:
             book.log.append(entry)
+        return book
 
     def read_entry(self, line: str) -> Entry:
         """What a line adds to a book."""
@@ -112,6 +135,8 @@ class LogReader:
             return self.read_life(*found.groups())
         if found := HANDED.fullmatch(line):
             return read_text(found[1], found[2])
+        if found := FOREIGN.fullmatch(line):
+            return host_of(found[1], found[2])
         return self.read_crossing(line)
 
     def read_crossing(self, line: str) -> Crossing:
@@ -142,6 +167,11 @@ class LogReader:
 read_log = LogReader().read_log
 
 
+def in_order(host: HostName) -> tuple[int, int]:
+    """By what strangers come: IMP and number."""
+    return host.imp, host.number
+
+
 # ---- spelling
 
 
@@ -152,6 +182,7 @@ def spelled_log(book: Book) -> bytes:
 
 def lines_of(book: Book) -> Iterator[str]:
     """The lines of a log."""
+    yield from (f"foreign {spell_host(it)}" for it in book.strangers)
     yield from map(spell_entry, book.log)
     for life in book.lives:
         yield f"{life.spell_as(logged_fate(life.fate))} {spelled_text(life.bits)}"
@@ -175,13 +206,13 @@ def spell_entry(crossing: Crossing) -> str:
 def book_of(network: Topology, place: Place) -> Book:
     """The book of a world, or of a raw network."""
     lives = place.book.lives if isinstance(place, World) else []
-    return Book(log_of(place), lives, [life.handed for life in lives])
+    strangers = tuple(sorted(network.strangers(), key=in_order))
+    return Book(log_of(place), lives, [life.handed for life in lives], strangers)
 
 
 def ends_log(network: Topology, lines: Iterable[str]) -> End:
-    """How `--log` ends on a network that can be replayed and the lines of a script: first who runs no program, where somebody doesn't."""
+    """How `--log` ends on a network that can be replayed and the lines of a script."""
     place = opened(network)
-    foreign = "".join(f"foreign {spell_host(host)}\n" for host in sorted(network.strangers(), key=lambda host: (host.imp, host.number)))
     for number, line in enumerate(lines, 1):
         try:
             event = read_line(line, network[1], strangers=bool(network.foreign))
@@ -189,4 +220,4 @@ def ends_log(network: Topology, lines: Iterable[str]) -> End:
             return 2, "", f"arpasim: bad script line {number}\n"
         if event:
             place.happen(*event)
-    return 0, foreign + spelled_log(book_of(network, place)).decode(), ""
+    return 0, spelled_log(book_of(network, place)).decode(), ""

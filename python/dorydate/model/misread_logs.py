@@ -15,6 +15,8 @@ from dorydate.model.fates import LEAVES, Begun, Fates, Over
 from dorydate.model.firsts import Data, Firsts, Placed, on_link
 from dorydate.model.log import BadLog, Book, LogReader
 from dorydate.model.mailboxes import Mailboxes
+from dorydate.model.misread_strangers import JUDGES as OF_STRANGERS
+from dorydate.model.misread_strangers import READERS as READERS_OF_STRANGERS
 from dorydate.model.names import Flow, HostName
 from dorydate.model.verdict import Judge
 
@@ -143,7 +145,7 @@ class ToldOfItsList(Judge):
 class LineOfItsNumber(Judge):
     """The line of a life is that of its number."""
 
-    def line(self, log: Sequence[Crossing], place: int) -> int:
+    def line(self, book: Book, place: int) -> int:
         return place
 
 
@@ -298,7 +300,7 @@ class LostWithoutPartner(Judge):
 class NoRun(Judge):
     """The run is not looked at."""
 
-    def of_run(self, log: Log) -> str | None:
+    def of_run(self, book: Book) -> str | None:
         return None
 
 
@@ -334,8 +336,8 @@ class TwoSenders(Judge):
 class RunBefore(Judge):
     """A break of the run is put at the line before it."""
 
-    def of_run(self, log: Log) -> str | None:
-        found = super().of_run(log)
+    def of_run(self, book: Book) -> str | None:
+        found = super().of_run(book)
         return found and f"broken run line {int(found.split()[-1]) - 1}"
 
 
@@ -947,4 +949,6 @@ def judge_with(reader: type[LogReader]) -> Judge:
     return judge
 
 
-MISREADINGS: dict[str, Judge] = {str(it.__doc__): judge_with(it) for it in READERS} | {str(it.__doc__): it() for it in JUDGES}
+MISREADINGS: dict[str, Judge] = {str(it.__doc__): judge_with(it) for it in [*READERS, *READERS_OF_STRANGERS]} | {
+    str(it.__doc__): it() for it in [*JUDGES, *OF_STRANGERS]
+}

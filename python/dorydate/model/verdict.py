@@ -1,7 +1,8 @@
 """What `arpasim --audit` says of a log, with the lines that show it: an independent judge.
 
 It was written from docs/audit.md, in another language and another form than the definitions, over the safe book as
-`audit` reads it.
+`audit` reads it. Where a log names strangers, the lives among the other hosts are judged as a book of their own, over all
+that crossed; the others by what is promised toward a stranger.
 """
 
 from __future__ import annotations
@@ -12,11 +13,11 @@ from typing import TypeVar
 
 from dorydate.model.audit import PARTS, Lives, Log, is_granted, is_well_formed, match, messages_are_kept, partners_are_kept
 from dorydate.model.book import Life
-from dorydate.model.crossings import Crossing
 from dorydate.model.fates import Fates, Over
 from dorydate.model.firsts import Firsts, Placed
 from dorydate.model.log import BadLog, Book, LogReader
 from dorydate.model.mailboxes import Mailboxes, first_break, hosts_of
+from dorydate.model.names import HostName
 from dorydate.model.runs import End
 
 LIVES = [*PARTS[1:], "closes"]  # the parts that are about lives
@@ -48,25 +49,28 @@ class Judge:
 
     def verdict(self, book: Book) -> str:
         """What is to be said of a book, with the lines that show it: all that is wrong with it, and the word."""
-        parts = [self.of_run(book.log), self.of_lives(book), *self.of_book(book), self.of_fates(book)]
-        found = [part for part in parts if part is not None]
+        found = [part for part in self.parts(book) if part is not None]
         return "\n".join([*found, *self.word(found)])
+
+    def parts(self, book: Book) -> list[str | None]:
+        """What is wrong with each part of a book, None where nothing is."""
+        return [self.of_run(book), self.of_lives(book), *self.of_book(book), self.of_fates(book), self.of_toward(book)]
 
     def word(self, found: Sequence[str]) -> list[str]:
         """The word of a book of which this is wrong: `kept` of none, `safe` where all of it is about how lives end."""
         is_safe = all(part.startswith(OF_ENDS) for part in found)
         return ["safe" if found else "kept"] if is_safe else []
 
-    def of_run(self, log: Log) -> str | None:
+    def of_run(self, book: Book) -> str | None:
         """What is wrong with what crossed, None where it is a run of the mailboxes between the hosts that it names."""
-        place = first_break(hosts_of(log), log, self.mailboxes)
-        return None if place is None else f"broken run line {place + 1}"
+        place = first_break(hosts_of(book.log), book.log, self.mailboxes)
+        return None if place is None else f"broken run line {self.crossing_line(book, place + 1)}"
 
     def of_lives(self, book: Book) -> str | None:
-        """The first life that isn't made of messages that crossed before it was over, None where all are."""
-        found = (place for place, life in enumerate(book.lives, 1) if not self.is_made(book.log, life))
-        place = next(found, None)
-        return None if place is None else f"broken lives line {self.line(book.log, place)}"
+        """The first life among programs that isn't made of messages that crossed before it was over, None where all are."""
+        places = self.judged("lives", book)
+        place = next((place for place in places if not self.is_made(book.log, book.lives[place - 1])), None)
+        return None if place is None else f"broken lives line {self.line(book, place)}"
 
     def is_made(self, log: Log, life: Life) -> bool:
         """Whether a life is made of the messages that crossed, and counts none that crossed after it was over."""
@@ -78,37 +82,87 @@ class Judge:
         return over.last is None or max(placed.places, default=-1) < over.last.place
 
     def of_fates(self, book: Book) -> str | None:
-        """The first life whose fate isn't one that what crossed leaves it, or that disagrees with an earlier one on a
-        contact; None where there is none."""
-        place = self.fates().first_strange(book.log, book.lives)
-        return None if place is None else f"broken fates line {self.line(book.log, place)}"
+        """The first life among programs whose fate isn't one that what crossed leaves it, or that disagrees with an earlier
+        one on a contact; None where there is none."""
+        places = self.judged("fates", book)
+        found = self.fates().first_strange(book.log, [book.lives[place - 1] for place in places])
+        return None if found is None else f"broken fates line {self.line(book, places[found - 1])}"
 
     def of_book(self, book: Book) -> list[str | None]:
         """What is wrong with a book. Partners, streams, grants and closes are about requests, so they are judged where each stamp names one."""
-        log = book.log
-        lives = [replace(life, handed=bits) for life, bits in zip(book.lives, book.handed)]
-        found = [self.of_form(book), self.of_messages(log)]
-        return found if found[0] else [*found, *(self.of_part(part, log, lives) for part in LIVES)]
+        found = [self.of_form(book), self.of_messages(book)]
+        return found if found[0] else [*found, *(self.of_part(part, book) for part in LIVES)]
 
     def of_form(self, book: Book) -> str | None:
         """Where a book is malformed: the first life or list without the other, or else the first life whose stamps name no requests."""
         place = self.unmatched(book.lives, book.handed)
         if place is None and not is_well_formed(book.log, book.lives):
             place = self.first(book.lives, lambda life: not is_well_formed(book.log, [life]))
-        return f"malformed line {len(book.log) + place}" if place else None
+        return f"malformed line {self.line(book, place)}" if place else None
 
-    def of_messages(self, log: Log) -> str | None:
+    def of_messages(self, book: Book) -> str | None:
         """The first crossing with which messages are broken."""
-        return None if messages_are_kept(log) else f"broken messages line {self.first_break(log, messages_are_kept)}"
+        if messages_are_kept(book.log):
+            return None
+        return f"broken messages line {self.crossing_line(book, self.first_break(book.log, messages_are_kept))}"
 
-    def of_part(self, part: str, log: Log, lives: Lives) -> str | None:
-        """The one or two lives that break a part."""
-        places = self.shown(part, log, lives)
-        return f"broken {part} {in_words(self.line(log, place) for place in places)}" if places else None
+    def of_part(self, part: str, book: Book) -> str | None:
+        """The one or two lives among programs that break a part."""
+        places = self.judged(part, book)
+        found = self.shown(part, book.log, [self.with_list(book, place) for place in places])
+        return f"broken {part} {in_words(self.line(book, places[it - 1]) for it in found)}" if found else None
 
-    def line(self, log: Sequence[Crossing], place: int) -> int:
-        """The line of the life at a place."""
-        return len(log) + place
+    # ---- strangers
+
+    def judged(self, part: str, book: Book) -> list[int]:
+        """The places, counted from 1, of the lives that a part is about: those of hosts with programs whose peers run one, too."""
+        return [place for place, life in enumerate(book.lives, 1) if self.is_among(book, life)]
+
+    def is_among(self, book: Book, life: Life) -> bool:
+        """Whether no stranger is at an end of a life."""
+        return not self.is_strange(book, life.host) and not self.is_strange(book, life.peer)
+
+    def is_strange(self, book: Book, host: HostName) -> bool:
+        """Whether a host is a stranger."""
+        return host in book.strangers
+
+    def with_list(self, book: Book, place: int) -> Life:
+        """The life at a place, with what was handed over in it."""
+        return replace(book.lives[place - 1], handed=book.handed[place - 1])
+
+    def of_toward(self, book: Book) -> str | None:
+        """The first life that breaks what is promised toward a stranger, None where there is none or nothing is asked."""
+        if not self.is_asked_toward(book):
+            return None
+        lives = [self.with_list(book, place) for place in range(1, len(book.lives) + 1)]
+        broken = [place for place, life in enumerate(lives, 1) if self.is_broken_toward(book, life)]
+        return f"broken toward line {self.line(book, self.named_toward(broken))}" if broken else None
+
+    def is_asked_toward(self, book: Book) -> bool:
+        """Whether what is promised toward a stranger is judged: where partners are."""
+        return self.of_form(book) is None
+
+    def named_toward(self, broken: Sequence[int]) -> int:
+        """Which of the lives that break what is promised toward a stranger is named."""
+        return broken[0]
+
+    def is_broken_toward(self, book: Book, life: Life) -> bool:
+        """Whether a life is a stranger's, who has none, or is toward one and breaks what is promised there."""
+        return self.is_strange(book, life.host) or self.is_strange(book, life.peer) and not self.keeps_toward(life)
+
+    def keeps_toward(self, life: Life) -> bool:
+        """Whether a life toward a stranger took no more than it granted, or sent a prefix of what was handed over in it."""
+        return is_granted(life, life.messages, len(life.bits)) if life.receives() else life.handed.startswith(life.bits)
+
+    # ---- lines
+
+    def crossing_line(self, book: Book, place: int) -> int:
+        """The line of the crossing at a place, counted from 1."""
+        return book.crossing_line(place - 1)
+
+    def line(self, book: Book, place: int) -> int:
+        """The line of the life at a place, counted from 1."""
+        return book.life_line(place - 1)
 
     # ---- lives and lists
 

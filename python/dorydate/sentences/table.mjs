@@ -472,6 +472,8 @@ export const TABLE = {
 "link": "The RTS names link {link}. Its {bits bit} are the data of the first {messages message} that {crossed} there after both requests: {lines}.",
 "link only": "The RTS names link {link}. No message that {crossed} there after both requests is counted.",
 "unmade": "It isn't made of messages that crossed.",
+"with a stranger": "It is with {peer}, a stranger, which may run anything.",
+"a stranger's": "Its host is a stranger, which has no lives.",
 "partners": "No other life has its own request. Its partner's went out in line {line}, and is the own request of the life of line {other}, whose partner's is its own.",
 "single": "No other life has its own request. Its partner's went out in line {line}, and is no life's own.",
 "unpaired": "Its request or its partner's is that of another life too, or names none.",

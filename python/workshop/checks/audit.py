@@ -4,12 +4,14 @@ Tries what the program says of logs and prints as logs, against an independent r
 
 - Logs that were written by hand (workshop.checks.log_rows), each with its verdict or the number of its bad line, and those of docs/audit.md.
   Readings of these rules that are wrong in one place have to be distinguished from the right one by these.
-- Each prefix of a short log, and the same log with each octet changed to 00, 7F and FF; logs of as many octets as may be read, and of
-  one more.
+- Each prefix of a short log, and of one that names a stranger, and the same with each octet changed to 00, 7F and FF; and long logs.
 - What `--log` prints of each example and each stored input is the log that the model makes of it, and `--audit` says `kept`.
 - The books that break where a rule is lacking, in the folder `without`: the part that each file names is reported.
 - Random books (python/dorydate/model/chance/books.py): COUNT of worlds that the model runs, every other one broken on purpose in one place,
   and as many small ones of few hosts and sockets. Of each tenth world the program's own log is compared too.
+- As many books of worlds with strangers (python/dorydate/model/chance/mixed_books.py), every other one broken, as a rule in what it says
+  of strangers; as many small ones; and logs with a line that names a stranger at another place. Of each tenth of these worlds the
+  program's own log is compared, and it says `kept` of that.
 
 It takes the proved program, or where ./build has not made that the one that was built without proofs.
 """
@@ -28,7 +30,8 @@ from concurrent.futures import ProcessPoolExecutor, ThreadPoolExecutor
 from dorydate.model.audit import PARTS
 from dorydate.model.chance.books import of_world, small
 from dorydate.model.chance.breaking import WAYS
-from dorydate.model.log import book_of, ends_log, read_log, spelled_log
+from dorydate.model.chance.mixed_books import EVERY_WAY, misnamed, of_mixed_world, small_mixed
+from dorydate.model.log import Book, book_of, ends_log, read_log, spelled_log
 from dorydate.model.misread_logs import MISREADINGS
 from dorydate.model.verdict import Judge, ended, ends_audit, says
 from dorydate.model.chance.worlds import Script
@@ -72,6 +75,9 @@ def compared(what: str, octets: bytes, owed: End) -> str | None:
 
 # ---- logs by hand
 
+# the short log where its sender is a stranger, whose life nobody knows
+TOWARD = "foreign 0/2\n" + log_rows.SHORT.replace(f"{log_rows.SENDER}\n{log_rows.LISTS}", log_rows.LIST)
+
 
 def unnoticed() -> Iterator[str]:
     """The wrong readings that judge each log by hand as it should be judged."""
@@ -112,12 +118,12 @@ def check_logs() -> list[str]:
     of_page = [(octets, ended(wanted), ends_audit(octets)) for octets, wanted in log_rows.rows_of_page()]
     wrong += [f"the reader in Python says {found}, and {wanted} is wanted, of {octets[-400:]!r}" for octets, wanted, found in [*by_hand, *of_page] if found != wanted]
     rows = [*((octets, ended(wanted)) for octets, wanted, _ in by_hand), *((octets, owed) for octets, owed, _ in of_page)]
-    around = [(it, ends_audit(it)) for it in octets_around(log_rows.SHORT.encode())]
+    around = [(it, ends_audit(it)) for log in (log_rows.SHORT, TOWARD) for it in octets_around(log.encode())]
     with ThreadPoolExecutor(CORES) as threads:
         found = threads.map(lambda row: compared("a log by hand", *row), [*rows, *around])
         wrong += filter(None, found)
     ends = Counter(said(owed) for _, owed in rows)
-    print(f"check audit: {len(rows)} logs by hand ({listed(ends)}), by {len(MISREADINGS)} wrong readings of the rules not all judged rightly; {len(around)} logs around one")
+    print(f"check audit: {len(rows)} logs by hand ({listed(ends)}), by {len(MISREADINGS)} wrong readings of the rules not all judged rightly; {len(around)} logs around two")
     return wrong
 
 
@@ -151,8 +157,6 @@ def logged(case: Case) -> tuple[str | None, int]:
     owed = owed_log(case.octets)
     if found != owed:
         return f"{case.name}: --log ends with {status} {words}and {different_line(log, owed[1])}", status
-    if status == 0 and log.startswith("foreign "):
-        return compared(case.name, log.encode("latin-1"), (2, "", "arpasim: bad log line 1\n")), status
     if status == 0:
         book = read_log(log.encode("latin-1"))
         if spelled_log(book) != log.encode("latin-1"):
@@ -273,31 +277,52 @@ def check_without() -> list[str]:
 # ---- random books
 
 
-def tried(seed: int) -> tuple[Counter[str], list[str]]:
-    """A book of a world and a small one: what they came to, and what is wrong."""
-    way, book, network, script = of_world(seed)
-    seen = Counter[str]()
-    wrong: list[str | None] = []
-    for kind, book in ("world", book), ("small", small(seed)):
-        octets = spelled_log(book)
-        owed = ends_audit(octets)
-        seen[f"{kind}: {said(owed)}"] += 1
-        seen.update({f"{kind} crossings": len(book.log), f"{kind} lives": len(book.lives)})
-        wrong.append(compared(f"the {kind} book {seed}, {way}", octets, owed))
-        if (way in WAYS) == (owed[1] == "kept\n") and kind == "world":
-            wrong.append(f"the {kind} book {seed}, {way}: {owed}")
-    seen[f"broken: {way}" if way in WAYS else f"made: {way}"] += 1
+Made = tuple[str, Book, Topology, Script]  # a book of a world, by what was done to it, with the network and the script
+Found = tuple[Counter[str], list[str]]  # what was seen, and what is wrong
+KINDS = {"world": "of worlds", "small": "small ones", "mixed": "of worlds with strangers", "small mixed": "small ones with strangers"}
+MISNAMED = "misnamed"  # the kind of a log in which a line that names a stranger is at another place
+
+
+def tried(seed: int) -> Found:
+    """What a book of a world and a small one came to, without strangers and with them, and what is wrong."""
+    alone, among = of_world(seed), of_mixed_world(seed)
+    logs = {"small": spelled_log(small(seed)), "small mixed": spelled_log(small_mixed(seed)), MISNAMED: misnamed(seed, among[1])}
+    found = [tried_world("world", seed, alone, alone[0] in WAYS), tried_world("mixed", seed, among, among[0] in EVERY_WAY)]
+    found += [tried_log(kind, seed, "", octets) for kind, octets in logs.items()]
+    return sum((seen for seen, _ in found), Counter[str]()), [fault for _, faults in found for fault in faults]
+
+
+def tried_log(kind: str, seed: int, way: str, octets: bytes) -> Found:
+    """What a log came to, and what is wrong with what the program says of it."""
+    owed = ends_audit(octets)
+    fault = compared(f"the {kind} book {seed} {way}", octets, owed)
+    return Counter([f"{kind}: {said(owed)}"]), [fault] if fault else []
+
+
+def tried_world(kind: str, seed: int, made: Made, is_broken: bool) -> Found:
+    """The same of a book of a world; of some the program's own log is compared too."""
+    way, book, network, script = made
+    octets = spelled_log(book)
+    seen, wrong = tried_log(kind, seed, way, octets)
+    if is_broken == (ends_audit(octets)[1] == "kept\n"):
+        wrong.append(f"the {kind} book {seed}, {way}: {ends_audit(octets)}")
+    seen.update({f"{kind} crossings": len(book.log), f"{kind} lives": len(book.lives)})
+    seen[f"{kind} {'broken' if is_broken else 'made'}: {way}"] += 1
     if seed % LOGGED == 0:
-        seen["logged"] += 1
-        wrong.append(log_of_world(seed, network, script))
-    return seen, [*filter(None, wrong)]
+        seen[f"{kind} logged"] += 1
+        wrong += log_of_world(kind, seed, network, script)
+    return seen, wrong
 
 
-def log_of_world(seed: int, network: Topology, script: Script) -> str | None:
-    """What is wrong with the program's log of a script, None where nothing is."""
-    owed = 0, spelled_log(book_of(network, script.world)).decode("latin-1"), ""
+def log_of_world(kind: str, seed: int, network: Topology, script: Script) -> list[str]:
+    """What is wrong with the program's log of a script, and with what it says of that."""
+    log = spelled_log(book_of(network, script.world))
+    owed = 0, log.decode("latin-1"), ""
     found = run(spelled_input(network, script.lines), "--log")
-    return f"the log of world {seed}: {different_line(found[1], owed[1])}" if found != owed else None
+    if found != owed:
+        return [f"the log of the {kind} {seed}: {different_line(found[1], owed[1])}"]
+    fault = compared(f"the log of the {kind} {seed}", log, (0, "kept\n", ""))
+    return [fault] if fault else []
 
 
 def check_chance(count: int) -> list[str]:
@@ -306,10 +331,13 @@ def check_chance(count: int) -> list[str]:
         for found, faults in processes.map(tried, range(count), chunksize=8):
             seen += found
             wrong += faults
-    for kind, made in ("world", "of worlds"), ("small", "small ones"):
-        print(f"check audit: {count} books {made}, of {seen[f'{kind} crossings']} crossings and {seen[f'{kind} lives']} lives: {listed(seen, f'{kind}: ')}")
-    print(f"check audit: of those of worlds {listed(seen, 'made: ')}, and the others are broken in one place: {listed(seen, 'broken: ')}")
-    print(f"check audit: the program's own logs of {seen['logged']} of these worlds are the model's")
+    for kind, made in KINDS.items():
+        of = f", of {seen[f'{kind} crossings']} crossings and {seen[f'{kind} lives']} lives" if seen[f"{kind} crossings"] else ""
+        print(f"check audit: {count} books {made}{of}: {listed(seen, f'{kind}: ')}")
+    for kind in "world", "mixed":
+        print(f"check audit: of those {KINDS[kind]} {listed(seen, f'{kind} made: ')}, and the others are broken in one place: {listed(seen, f'{kind} broken: ')}")
+        print(f"check audit: the program's own logs of {seen[f'{kind} logged']} of these worlds are the model's, and kept")
+    print(f"check audit: {count} logs with a line that names a stranger at another place: {listed(seen, f'{MISNAMED}: ')}")
     return wrong
 
 

@@ -46,12 +46,12 @@ from dorydate.model.script import BadLine, Event, read_line
 from dorydate.model.topology import Topology, spelled
 from dorydate.program import Program
 from dorydate.sentences import IN_A_HOST, IN_A_SUBNET, crossing
-from workshop.checks.explain_faults import BAD_LINES, BAD_LINES_OF_WORLDS, BAD_LOG_ENDS, BAD_LOG_LINES, BAD_TOPOLOGIES, BROKEN_LOGS, GOOD
+from workshop.checks.explain_faults import BAD_LINES, BAD_LINES_OF_WORLDS, BAD_LOG_ENDS, BAD_LOG_LINES, BAD_TOPOLOGIES, BROKEN_BESIDE, BROKEN_LOGS, GOOD, BrokenLog
 from workshop.checks.explain_given import Wrong, example, same, told
 from workshop.checks.explain_inside import check_full_store, check_inside, check_stalls, check_thrown_away
 from workshop.checks.explain_pages import check_pages
 from workshop.checks.explain_rows import REFUSALS
-from workshop.parts import ROOT
+from workshop.parts import ROOT, read_octets
 
 
 # files, the words after --book, the status, and what is said among others
@@ -60,6 +60,12 @@ BOOKS: list[tuple[str, list[str], int, list[str]]] = [
     ("logs/two-octets", ["7"], 0, ["arrived.answered.arrived: It is message 1 of the life of line 10"]),
     ("logs/two-octets", ["9"], 1, ["line 9 of the log is no life and no message"]),
     ("logs/two-octets", ["x"], 1, ["usage: ./explain"]),
+    ("logs/beside-a-stranger", [], 0, ["line 29: socket 16 of 0/1", "line 17: 48 bits from 0/3 to 0/1 on link 6"]),
+    ("logs/beside-a-stranger", ["29"], 0, ["Its own request went out in line 5", "is the own request of the life of line 31"]),
+    ("logs/beside-a-stranger", ["30"], 0, ["It is with 0/3, a stranger", "toward.asked.partner: Its partner's request came in in line 3", "toward.taken: 1 message and 8 bits"]),
+    ("logs/beside-a-stranger", ["32"], 0, ["toward.handed: The 8 bits that it sent are a prefix of the 16 bits that were handed over in it."]),
+    ("logs/beside-a-stranger", ["18"], 0, ["promise.safe.messages.once: It was taken once, in line 18"]),
+    ("logs/beside-a-stranger", ["1"], 1, ["line 1 of the log is no life and no message"]),
     ("examples/a-connection-and-its-book", ["25"], 0, ["Its own request went out in line 9", "It is ended: it began in line"]),
 ]
 
@@ -192,8 +198,7 @@ def audited(log: bytes) -> tuple[int, str, str]:
 
 def check_logs() -> None:
     """Of a bad line of a log its cause and form are named, of a broken part the lines that disagree, and where."""
-    with open(f"{ROOT}/logs/two-octets", "rb") as file:
-        log = file.read()
+    log = read_octets(f"{ROOT}/logs/two-octets")
     lines = log.split(b"\n")
     bad: list[tuple[int | None, bytes, str]] = [(number + (line == b"end"), b"\n".join([*lines[: number - 1], line, *lines[number:]]), words) for number, line, words in BAD_LOG_LINES]
     bad += [(None, log.removesuffix(b"end\n") + end, words) for end, words in BAD_LOG_ENDS]
@@ -202,12 +207,19 @@ def check_logs() -> None:
         same((status, "arpasim: bad log line" in said, words in output), (2, True, True), f"{said}{output}")
         named = re.search(r"line (\d+)", said)
         same(wanted in (None, int(named[1]) if named else 0), True, f"{wanted}: {said}")
-    for number, before, after, verdict, words in BROKEN_LOGS:
+    check_broken(log, BROKEN_LOGS)
+    check_broken(read_octets(f"{ROOT}/logs/beside-a-stranger"), BROKEN_BESIDE)
+    print(f"check explain: {len(bad)} bad logs, each with its cause and form; {len(BROKEN_LOGS) + len(BROKEN_BESIDE)} books, each with the lines that disagree")
+
+
+def check_broken(log: bytes, rows: list[BrokenLog]) -> None:
+    """Of a log that is changed in a line the verdict is given, and why."""
+    lines = log.split(b"\n")
+    for number, before, after, verdict, words in rows:
         line = lines[number - 1] + b"\n"
         broken = log.replace(b"\n" + line, b"\n" + line.replace(before, after, 1), 1)
         status, output, _ = audited(broken)
         same((status, output.startswith(f"{verdict}\n"), words in output), (0 if verdict == "kept" else 4, True, True), output)
-    print(f"check explain: {len(bad)} bad logs, each with its cause and form; {len(BROKEN_LOGS)} books, each with the lines that disagree")
 
 
 # ---- streams

@@ -9,7 +9,8 @@ import re
 import subprocess
 from collections.abc import Iterator
 
-from workshop.parts import ROOT
+from workshop.checks import stranger_rows
+from workshop.parts import ROOT, text_of
 
 with open(f"{ROOT}/logs/two-octets", encoding="utf-8") as log, open(f"{ROOT}/docs/audit.md", encoding="utf-8") as page:
     SHORT, PAGE = log.read(), page.read()
@@ -430,15 +431,14 @@ OCTETS: list[tuple[bytes, int | str]] = [
 
 
 def rows_of_page() -> Iterator[tuple[bytes, str]]:
-    """The changes of the page's two logs, as sed makes them, and what the program prints of each."""
-    by_hand, with_strangers = PAGE.split("\n## A log with strangers\n")
-    for name, part in (("two-octets", by_hand), ("toward-a-stranger", with_strangers)):
-        with open(f"{ROOT}/logs/{name}", "rb") as file:
-            log = file.read()
-        if f"```text\n{log.decode()}```" not in part:
+    """The changes of the page's logs, as sed makes them, and what the program prints of each."""
+    _, *parts = re.split(r"^```text\n(.*?)^```$", PAGE, flags=re.MULTILINE | re.DOTALL)
+    for text, following in zip(parts[::2], parts[1::2]):
+        name = re.findall("`logs/([a-z-]+)`", PAGE[: PAGE.index(text)])[-1]
+        if text != text_of(f"{ROOT}/logs/{name}"):
             raise ValueError(f"docs/audit.md has another log than logs/{name}")
-        for script, cell in re.findall(r"^\| `sed '(.*)'` \| ([^|]*?) \|", part, re.MULTILINE):
-            changed = subprocess.run(["sed", script], input=log, capture_output=True, check=True).stdout
+        for script, cell in re.findall(r"^\| `sed '(.*)'` \| ([^|]*?) \|", following, re.MULTILINE):
+            changed = subprocess.run(["sed", script], input=text.encode(), capture_output=True, check=True).stdout
             yield changed, "\n".join(re.findall("`([^`]*)`", cell)) or cell
 
 
@@ -454,3 +454,4 @@ def rows() -> Iterator[tuple[bytes, str]]:
     yield from ((f"{line}\nend\n".encode("latin-1"), "bad log line 1") for line in BAD_LINES)
     yield from ((f"down 0/1\n{line}\nend\n".encode("latin-1"), "bad log line 2") for line in BAD_LINES)
     yield from ((octets, f"bad log line {said}" if isinstance(said, int) else said) for octets, said in OCTETS)
+    yield from stranger_rows.rows()

@@ -165,6 +165,8 @@ def books_said() -> list[dict[str, object]]:
             its = read_log(octets)
         except BadLog:
             continue
+        if its.strangers:
+            continue  # of a network with strangers the workbench shows no book
         lines = {line: said for line in range(1, len(its.log) + len(its.lives) + 1) if (said := said_at(its, line))}
         found.append({"log": octets.decode(), "entries": said_of(its, None), "said": lines})
     return found

@@ -22,7 +22,8 @@ from dorydate.model.verdict import verdict
 
 def copied(book: Book) -> Book:
     """A copy of a book that may be changed."""
-    return Book([*book.log], [replace(life, granted=[*life.granted], returned=[*life.returned]) for life in book.lives], [*book.handed])
+    lives = [replace(life, granted=[*life.granted], returned=[*life.returned]) for life in book.lives]
+    return Book([*book.log], lives, [*book.handed], book.strangers)
 
 
 # ---- books of worlds
