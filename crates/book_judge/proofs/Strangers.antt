@@ -1,5 +1,5 @@
 -- Lives toward strangers, one after the other.
-use Rattle.book_judge.proofs.Common.{◌≡◌, ℕ, zero, suc, ◌+◌, ◌<◌, ◌≤◌, Bool, true, false, List, [], ◌∷◌, length, take, MatchBool, Some, None, sym, subst, ◌∙◌, arith, Host, receives, sends, Life, IsHanded, is_granted}
+use Rattle.book_judge.proofs.Common.{◌≡◌, ℕ, zero, suc, ◌+◌, ◌≤◌, Bool, true, false, List, [], ◌∷◌, length, take, MatchBool, Some, None, sym, subst, ◌∙◌, arith, Host, receives, sends, Life, IsHanded, is_granted}
 use Rattle.std.proofs.Common.{slice_get, ◌%◌, ◌==◌}
 use Rattle.book_judge.specs.Toward.{AreToward, IsToward, UntowardAt}
 use Rattle.std.proofs.lemmas.Bool.{eqb-true}

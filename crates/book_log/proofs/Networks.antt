@@ -9,7 +9,7 @@ use Rattle.script.proofs.lemmas.{host_once}
 use Rattle.book_log.specs.Log.{AreStrangers, IsLogFault, log_text, network_lines, strangers_text}
 use Rattle.book_log.specs.declared.fault.LogFault.{LogFault}
 use Rattle.book_log.specs.declared.fault.LogFault.TheVariants as fault
-use Rattle.book_log.specs.Steps.{BeginsBook, FitsAfter, IsBookFault, fault_after, NamedAfter, Names, NamesNone, follows, last_of}
+use Rattle.book_log.specs.Steps.{BeginsBook, FitsAfter, IsBookFault, fault_after, NamedAfter, Names, NamesNone, last_of}
 use Rattle.book_log.proofs.Books.{ended_more, front_of, log_ends, text_of_lines-append}
 use Rattle.book_log.proofs.Cuts.{first_same, host_word, rest_same}
 use Rattle.book_log.proofs.Others.{not_stranger, not_text}

@@ -7,7 +7,7 @@ use Rattle.book_judge.specs.Toward.{AreToward}
 use Rattle.interface.proofs.lemmas.{contains_head, contains_tail}
 use Rattle.interface.specs.Host.{Host, is_host}
 use Rattle.mixed_worlds.specs.Book.{beside_among, is_among, lives_among}
-use Rattle.net_sim.specs.Audit.{IsStamped, IsWellFormed}
+use Rattle.net_sim.specs.Audit.{IsWellFormed}
 use Rattle.command_line.specs.Audits.{first_counts, kept_by, passed_one, place_in}
 
 -- of each life whether it is among hosts with programs

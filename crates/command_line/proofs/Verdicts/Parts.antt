@@ -1,7 +1,7 @@
 -- What is judged of the lives among hosts with programs is said of the whole log.
 use Rattle.command_line.proofs.Common.{◌≡◌, ℕ, Bool, List, Option, Some, None, ap, refl, subst, AreSuited, IsSomeRun, SafeMessages, Crossing, ClosesWhole, Fate, Host, Judged, Life, Finding, Verdict}
 use Rattle.std.proofs.Common.{MatchOption, reverse}
-use Rattle.book_judge.specs.Broken.{IfFormed, IsBroken, first_closed}
+use Rattle.book_judge.specs.Broken.{IfFormed, first_closed}
 use Rattle.book_judge.specs.Fates.{UnsuitedAt}
 use Rattle.book_judge.specs.Lives.{AreMade, UnmadeAt}
 use Rattle.book_judge.specs.Runs.{StraysAt}

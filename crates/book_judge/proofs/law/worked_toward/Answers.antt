@@ -1,4 +1,4 @@
-use Rattle.book_judge.proofs.Common.{◌≡◌, ◌≤◌, ◌+◌, true, false, List, [], ◌∷◌, Bool, sym, ◌∙◌, refl, arith, append-nil}
+use Rattle.book_judge.proofs.Common.{◌≤◌, ◌+◌, true, false, [], ◌∷◌, refl, arith, append-nil}
 use Rattle.promise.specs.Safe.{IsPrefix}
 use Rattle.book_judge.proofs.Strangers.{of_stranger, untoward_here, with_program}
 use Rattle.book_judge.proofs.law.worked_toward.Goals as goal

@@ -1,4 +1,3 @@
-use Rattle.std.proofs.Common.{arith}
 use Rattle.book_log.proofs.Named.{named_less, names, one_more}
 use Rattle.book_log.proofs.strangers.read_strangers.Goals as goal
 

@@ -1,4 +1,4 @@
-use Rattle.std.proofs.Common.{ap, ◌∙◌, Bool, List, subst}
+use Rattle.std.proofs.Common.{ap, ◌∙◌, Bool, List}
 use Rattle.interface.specs.Host.{Host, is_host}
 use Rattle.command_line.specs.Audits.{kept_by}
 use Rattle.command_line.proofs.Verdicts.Among.{counted_beside, counted_lives}
