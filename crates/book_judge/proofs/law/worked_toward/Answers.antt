@@ -10,11 +10,14 @@ pub returns-clause-among : goal.returns-clause-among
 returns-clause-among c = λ strange x text own peer. (with_program strange x text own peer, tt)
 
 pub returns-clause-granted : goal.returns-clause-granted
-returns-clause-granted c = λ strange text apart. (record {
-  owner = apart.0;
-  taken = λ peer comes. record { messages = omega arith; bits = omega arith };
-  handed = λ peer goes. absurd (cc);
-}, tt)
+returns-clause-granted c = λ strange text apart. (
+  record {
+    owner = apart.0;
+    taken = λ peer comes. record { messages = omega arith; bits = omega arith };
+    handed = λ peer goes. absurd (cc);
+  },
+  tt,
+)
 
 pub returns-clause-bits : goal.returns-clause-bits
 returns-clause-bits c = λ strange text apart all. (let over : 2 + 0 ≤ 1 = (all.0.taken apart.1 refl).bits in omega (arith, over))
@@ -23,11 +26,14 @@ pub returns-clause-messages : goal.returns-clause-messages
 returns-clause-messages c = λ strange text apart all. (let over : 1 + 0 ≤ 0 = (all.0.taken apart.1 refl).messages in omega (arith, over))
 
 pub returns-clause-handed : goal.returns-clause-handed
-returns-clause-handed c = λ strange text apart. (record {
-  owner = apart.0;
-  taken = λ peer comes. absurd (cc);
-  handed = λ peer goes. ([], append-nil text);
-}, tt)
+returns-clause-handed c = λ strange text apart. (
+  record {
+    owner = apart.0;
+    taken = λ peer comes. absurd (cc);
+    handed = λ peer goes. ([], append-nil text);
+  },
+  tt,
+)
 
 pub returns-clause-other : goal.returns-clause-other
 returns-clause-other c = λ strange apart all. no_prefix (all.0.handed apart.1 refl)
