@@ -1,7 +1,6 @@
 -- Going through the lines of a log.
-use Rattle.book_log.proofs.Common.{◌≡◌, ◌≢◌, ℕ, ◌<◌, ◌≤◌, ◌+◌, ◌==◌, ◌&&◌, Bool, true, false, List, [], ◌∷◌, ◌++◌, Some, None, codes, length, map, refl, sym, ap, ap₂, ◌∙◌, arith, subst, append-nil, if◌then◌else◌, eqb-true, false≢true, map-append, All-cons, All-head, All-nil, All-tail, All, Fate, Life, Lacks, Book, IsBadBookLine, IsBook, IsCrossing, IsHanded, IsLived, IsBookText, text_of_lines, IsLine, added, is_bare, line_text, Line}
+use Rattle.book_log.proofs.Common.{◌≡◌, ◌≢◌, ℕ, ◌<◌, ◌≤◌, ◌+◌, ◌==◌, ◌&&◌, Bool, true, false, List, [], ◌∷◌, ◌++◌, Some, None, codes, length, map, refl, sym, ap, ap₂, ◌∙◌, arith, subst, append-nil, if◌then◌else◌, eqb-true, false≢true, map-append, All-cons, All-head, All-nil, All-tail, All, Fate, Life, Lacks, Book, IsBadBookLine, IsBook, IsBookText, text_of_lines, IsLine, added, is_bare, line_text, Line}
 use Rattle.std.proofs.lemmas.List.{length-append}
-use Rattle.book_log.specs.Steps.{opening_book}
 use Rattle.book_log.specs.declared.lines.Line.TheVariants as line
 use Rattle.book_log.proofs.Books.{Added, Follows, Next, bad_line, begins_all, begins_told, last_line, lived, middle_of, next, no_end, not_whole, rank, rank_is, text_of_lines_more, text_rank, texts, this_line, told, was_added}
 use Rattle.book_log.proofs.Books.{front_of}
