@@ -11,7 +11,7 @@ use Rattle.book_judge.specs.Inside.Chains.{LosesAt, LosesOf, TookAll}
 use Rattle.book_judge.proofs.Elements.{contains_place, false_not, get_take, get_took, place_contains, read_at}
 use Rattle.book_judge.proofs.Peace.{asked_of, fits_match, match_fits, one_some}
 use Rattle.book_judge.proofs.Crossed.SameText.{same_text-is, same_text-true}
-use Rattle.book_judge.proofs.Shown.{fits_too, repeats_true}
+use Rattle.book_judge.proofs.FirstLives.Shown.{fits_too, repeats_true}
 
 -- ---- the same bits
 
