@@ -1,4 +1,4 @@
-"""Readers and judges that are wrong in one place each about strangers: some log by hand has to tell each from the right one."""
+"""Readers and judges, each wrong in one place about strangers: some log by hand distinguishes it from the right one."""
 
 from __future__ import annotations
 

@@ -56,7 +56,7 @@ CHANGED = [
     (f"{GIVES}{LISTS}{GIVEN_LIST}", f"{GIVES.replace('52', '53')}{LISTS}handed 8 53\n", "kept"),
     # the first life that breaks it is printed
     (f"{AFTER}{LISTS}{GIVEN_LIST}", f"{PAST}{SENDS}{GIVES}{LISTS}{NO_LIST}", "broken toward line 30"),
-    # how lives with a stranger end is not looked at, nor whether two of them can stand in one book
+    # how lives with a stranger end is not looked at, nor whether two of them can be in one book
     *((HAS, HAS.replace("open", word), "kept") for word in ("closed", "ended", "reset", "stopped")),
     (GIVES, GIVES.replace("open", "stopped"), "kept"),
     (f"{GIVES}{LISTS}", f"{GIVES}{GIVES}{LISTS}{GIVEN_LIST}", "kept"),
