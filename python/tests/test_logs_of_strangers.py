@@ -85,7 +85,8 @@ class Telling(unittest.TestCase):
     def test_what_is_said_of_lives(self) -> None:
         among, beside = said_of(book(), 29), said_of(book(), 30)
         self.assertIn("promise.safe.streams.source", " ".join(among))
-        self.assertEqual([it.split(":")[0].strip() for it in beside[1:]], ["toward.owner", "toward.asked.own", "toward.asked.partner", "toward.taken"])
+        names = ["toward.owner", "toward.asked.own", "toward.asked.partner", "toward.taken"]
+        self.assertEqual([it.split(":")[0].strip() for it in beside[1:]], names)
         more = said_of(book(("receive 1 8 1 8", "receive 1 8 1 7")), 30)
         self.assertIn("are more than the 1 message and 7 bits that the life of line 30 granted", more[-1])
         unhanded = said_of(book(("handed 16 5253", "handed 0 -")), 32)

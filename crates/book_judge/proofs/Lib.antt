@@ -6,11 +6,8 @@ pub mod Placed
 pub mod Asked
 pub mod Known
 pub mod Walks
-pub mod Fed
-pub mod Shown
 pub mod Peace
-pub mod Lost
-pub mod Strangers
+pub mod FirstLives
 pub mod Worked
 pub mod Crossed
 pub mod Ends

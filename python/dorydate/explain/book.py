@@ -74,7 +74,8 @@ def a_life(book: Book, at: int) -> str:
     it = book.lives[at]
     ends = {"socket": it.socket, "host": spell_host(it.host), "foreign": it.foreign, "peer": spell_host(it.peer)}
     way = "receives from" if it.receives() else "sends to"
-    return filled(SAID["a life"], ends, line=book.life_line(at), way=way, messages=it.messages, bits=len(it.bits), word=it.fate)
+    counts = {"messages": it.messages, "bits": len(it.bits)}
+    return filled(SAID["a life"], {**ends, **counts}, line=book.life_line(at), way=way, word=it.fate)
 
 
 def a_message(book: Book, at: int) -> str:
@@ -115,9 +116,12 @@ def toward(book: Book, at: int) -> Iterator[Said]:
     yield Said("toward.owner", filled(SAID["with a stranger"], peer=spell_host(life.peer)))
     own = firsts.RIGHT.named_at(log, life.own, "out", Flow(life.host, life.peer, 0), life.socket, life.foreign)
     partner = firsts.RIGHT.named_at(log, life.partner, "in", Flow(life.peer, life.host, 0), life.foreign, life.socket)
-    for name, place, ends, named in ("own", life.own, (life.socket, life.foreign), own), ("partner", life.partner, (life.foreign, life.socket), partner):
-        said = filled(SAID[name], line=book.crossing_line(place), request=request(*ends, named[0])) if named else SAID["unmade"]
-        yield Said(f"toward.asked.{name}", said)
+    for name, place, ends, named in (
+        ("own", life.own, (life.socket, life.foreign), own),
+        ("partner", life.partner, (life.foreign, life.socket), partner),
+    ):
+        asked = {"line": book.crossing_line(place), "request": request(*ends, named[0])} if named else {}
+        yield Said(f"toward.asked.{name}", filled(SAID[name], asked) if named else SAID["unmade"])
     if life.receives():
         yield from (Said("toward.taken", it.sentence) for it in grants(book, life, []))
     else:
@@ -140,8 +144,9 @@ def formed(book: Book, life: Life) -> Iterator[Said]:
         yield Said("promise.formed", SAID["unmade"])
         return
     asked, answered = request(life.socket, life.foreign, own[0]), request(life.foreign, life.socket, partner[0])
+    came = book.crossing_line(life.partner)
     yield Said("promise.formed.own", filled(SAID["own"], line=book.crossing_line(life.own), request=asked))
-    yield Said("promise.formed.partner", filled(SAID["partner"], line=book.crossing_line(life.partner), request=answered))
+    yield Said("promise.formed.partner", filled(SAID["partner"], line=came, request=answered))
     counts = {"bits": len(life.bits), "messages": life.messages, "lines": lines(book, placed.places)}
     sentence = SAID["link" if placed.places else "link only"]
     crossed = "came in" if life.receives() else "went out"
@@ -268,10 +273,12 @@ def of_message(book: Book, at: int) -> Iterator[Said]:
     flow = message.flow
     before = last_out(log, flow, at)
     is_empty = before is None or any(frees(it, flow) for it in log[before:at])
-    yield Said("promise.run", SAID["run"] if is_empty or before is None else filled(SAID["box"], line=book.crossing_line(before)))
+    boxed = None if is_empty or before is None else book.crossing_line(before)
+    yield Said("promise.run", SAID["run"] if boxed is None else filled(SAID["box"], line=boxed))
     end = next((place for place in range(at + 1, len(log)) if is_passed(log[place], "out", flow)), len(log))
     taken = [place for place in range(at + 1, end) if is_passed(log[place], "in", flow)]
-    yield Said("promise.safe.messages.once", filled(SAID["taken"], line=book.crossing_line(taken[0])) if taken else SAID["untaken"])
+    once = filled(SAID["taken"], line=book.crossing_line(taken[0])) if taken else SAID["untaken"]
+    yield Said("promise.safe.messages.once", once)
     answer = next((place for place in range(at + 1, end) if is_answer(log[place], flow)), None)
     yield Said("promise.safe.messages.answered", answer_in_words(book, answer))
     if {flow.source, flow.destination} & {*book.strangers}:

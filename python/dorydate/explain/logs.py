@@ -43,7 +43,9 @@ WRITTEN = {  # how a form is shown
 }
 WORDS = {"ANSWER": ["rfnm", "dead", "incomplete", "nottaken"], "KIND": ["send", "receive"], "FATE": ["open", "closed", "ended", "reset", "stopped"]}
 BITS_OF = {"PLACE": 64, "LENGTH": 64, "AMOUNT": 128}
-PARTS = [("foreign",), ("out", "in", "answer", "down", "up"), ("life",), ("handed",), ("end",)]  # a log's lines, in this order
+# a log's lines, in this order
+PARTS = [("foreign",), ("out", "in", "answer", "down", "up"), ("life",), ("handed",), ("end",)]
+NO_CAUSE = "No cause was found. docs/program.md has the forms of a log's lines."
 NAMES = ["strangers", "crossings", "lives", "what was handed over", "the end"]
 END = len(PARTS) - 1
 
@@ -71,12 +73,15 @@ def why_lives(book: Book, numbers: list[int]) -> str:
     requests = [("OWN", life.own, "out", Flow(life.host, life.peer, 0), life.socket, life.foreign), ("PARTNER", life.partner, "in", Flow(life.peer, life.host, 0), life.foreign, life.socket)]
     for word, place, kind, flow, own, foreign in requests:
         if not firsts.RIGHT.named_at(log, place, kind, flow, own, foreign):
-            where = f"in the `{kind} {spell_flow(flow)}` at its {word}" if place < len(log) and is_passed(log[place], kind, flow) else f"at its {word}: {crossing_at(book, place)}"
-            return f"It isn't made of the messages that crossed: no {'STR' if own % 2 else 'RTS'} of socket {own} with socket {foreign} is {where}."
+            is_there = place < len(log) and is_passed(log[place], kind, flow)
+            where = f"in the `{kind} {spell_flow(flow)}` at its {word}" if is_there else f"at its {word}: {crossing_at(book, place)}"
+            request = f"{'STR' if own % 2 else 'RTS'} of socket {own} with socket {foreign}"
+            return f"It isn't made of the messages that crossed: no {request} is {where}."
     placed, over = firsts.placed(log, life), fates.over(log, life)
     if placed is not None and over is not None:
-        late = f"It counts the message of line {book.crossing_line(placed.places[-1])}, but {why_over(book, life, over)}"
-        return f"{late} It counts none that crossed after that."
+        late = book.crossing_line(placed.places[-1])
+        why = why_over(book, life, over)
+        return f"It counts the message of line {late}, but {why} It counts none that crossed after that."
     return f"It isn't made of the messages that crossed: {why_other(book, life)}"
 
 
@@ -91,7 +96,8 @@ def why_other(book: Book, life: Life) -> str:
     malformed = next((at for at, bits in found[: life.messages] if bits is None), None)
     if malformed is not None:
         return f"what came in in line {book.crossing_line(malformed)} is shorter than its header says."
-    return difference(life.bits, "".join(bits or "" for bits in first), "what it says", f"what {way}") + where_of(book, life, found[: life.messages])
+    what = difference(life.bits, "".join(bits or "" for bits in first), "what it says", f"what {way}")
+    return what + where_of(book, life, found[: life.messages])
 
 
 def where_of(book: Book, life: Life, messages: list[tuple[int, Data]]) -> str:
@@ -132,7 +138,7 @@ def why_bad(octets: bytes, number: int) -> str:
     if number == 1 and b"%" in lines:
         return f"Line {number} is:\n  {shown(line)}\n" + here("This is an input and not a log, since a line is `%`. `./arpasim --log < FILE` prints the log of its replay.")
     before = [part for part in map(part_of, lines[: number - 1]) if part is not None]
-    why = wrong_with_entry(line) or out_of_order(line, before) or misnamed(line, lines[: number - 1]) or "No cause was found. docs/program.md has the forms of a log's lines."
+    why = wrong_with_entry(line) or out_of_order(line, before) or misnamed(line, lines[: number - 1]) or NO_CAUSE
     return f"Line {number} is:\n  {shown(line)}\n{why}"
 
 
@@ -155,7 +161,8 @@ def misnamed(line: bytes, before: list[bytes]) -> str | None:
     if line in before:
         return f"Line {before.index(line) + 1} says so already. Each stranger is named once."
     last = shown(before[-1].split(b" ")[-1])
-    return f"It follows host {last}. Strangers are named by the rising numbers of their IMPs, and those of one IMP by their own."
+    order = "by the rising numbers of their IMPs, and those of one IMP by their own"
+    return f"It follows host {last}. Strangers are named {order}."
 
 
 def wrong_with_entry(line: bytes) -> str | None:
@@ -252,7 +259,9 @@ def lives_of(book: Book) -> str:
         return f"{made}."
     among = f"{made}, between hosts that run the program"
     kept = "took no more than was granted, and sent what was handed over"
-    return f"{among}. {counted(len(toward), 'life', 'lives')} with {strangers_of(book)} {kept}." if toward else f"{among}."
+    if not toward:
+        return f"{among}."
+    return f"{among}. {counted(len(toward), 'life', 'lives')} with {strangers_of(book)} {kept}."
 
 
 def strangers_of(book: Book) -> str:
@@ -290,9 +299,11 @@ def why_malformed(book: Book, numbers: list[int]) -> str:
     life = life_at(book, numbers[0])
     host, peer = spell_host(life.host), spell_host(life.peer)
     if not (life.own < len(log) and is_passed(log[life.own], "out", Flow(life.host, life.peer, 0))):
-        return f"Its OWN is {life.own}, and {crossing_at(book, life.own)}. It has to be the place of an `out {host} {peer} 0`, the message with this end's own request. {first_place(book)}"
+        owed = f"an `out {host} {peer} 0`, the message with this end's own request"
+        return f"Its OWN is {life.own}, and {crossing_at(book, life.own)}. It has to be the place of {owed}. {first_place(book)}"
     if not (life.partner < len(log) and is_passed(log[life.partner], "in", Flow(life.peer, life.host, 0))):
-        return f"Its PARTNER is {life.partner}, and {crossing_at(book, life.partner)}. It has to be the place of an `in {peer} {host} 0`, the message with its partner's request. {first_place(book)}"
+        owed = f"an `in {peer} {host} 0`, the message with its partner's request. {first_place(book)}"
+        return f"Its PARTNER is {life.partner}, and {crossing_at(book, life.partner)}. It has to be the place of {owed}"
     return f"Its PARTNER is {life.partner}, but before that place no `out {peer} {host} 0` went out that could have come in there."
 
 
@@ -336,9 +347,11 @@ def why_boxed(crossing: Passed | Answered, box: tuple[Holds, Bits] | None, book:
     if crossing.kind == "out":
         return f"The last message of the flow {flow}, in {line}, has no answer yet, and one may be outstanding."
     if isinstance(crossing, Passed) and box[0] == "waits":
-        return f"Another text waits on the flow {flow}, that of {line}: {difference(crossing.text, box[1], 'what was taken', 'what went out')}"
+        what = difference(crossing.text, box[1], "what was taken", "what went out")
+        return f"Another text waits on the flow {flow}, that of {line}: {what}"
     taken = next((place for place in range(out, at) if is_passed(log[place], "in", crossing.flow)), None)
-    became = f"was taken already, in line {book.crossing_line(taken)}" if box[0] == "taken" and taken is not None else "was not taken"
+    is_taken = box[0] == "taken" and taken is not None
+    became = f"was taken already, in line {book.crossing_line(taken or 0)}" if is_taken else "was not taken"
     return f"The message of {line}, of the flow {flow}, {became}."
 
 
@@ -353,12 +366,15 @@ def why_messages(book: Book, numbers: list[int]) -> str:
     taken = [place for place in range(out, at) if is_passed(log[place], "in", flow)]
     line = f"line {book.crossing_line(out)}"
     if isinstance(crossing, Answered):
-        return f"The last message of the flow {spell_flow(flow)} went out in {line}, and no line since then says that it was taken: an RFNM is about a message that was."
+        untaken = f"The last message of the flow {spell_flow(flow)} went out in {line}, and no line since then says that it was taken"
+        return f"{untaken}: an RFNM is about a message that was."
     if taken:
-        return f"The message of {line} was taken already in line {book.crossing_line(taken[0])}. Each message is taken once at most."
+        first = book.crossing_line(taken[0])
+        return f"The message of {line} was taken already in line {first}. Each message is taken once at most."
     sent = log[out]
     assert isinstance(sent, Passed)
-    return f"It isn't what went out in {line}: {difference(crossing.text, sent.text, 'what was taken', 'what went out')}"
+    what = difference(crossing.text, sent.text, "what was taken", "what went out")
+    return f"It isn't what went out in {line}: {what}"
 
 
 def difference(one: str, other: str, its: str, others: str) -> str:
@@ -412,7 +428,8 @@ def perhaps_stranger(book: Book, life: Life) -> str:
     if any(it.host == life.peer for it in book.lives):
         return ""
     peer = spell_host(life.peer)
-    return f" The log has no life of {peer}. If it runs another program, whose lives nobody knows, the log begins with `foreign {peer}`."
+    begins = f"the log begins with `foreign {peer}`"
+    return f" The log has no life of {peer}. If it runs another program, whose lives nobody knows, {begins}."
 
 
 def why_toward(book: Book, numbers: list[int]) -> str:
@@ -420,7 +437,8 @@ def why_toward(book: Book, numbers: list[int]) -> str:
     life = life_at(book, numbers[0])
     if life.host in book.strangers:
         named = f"Host {spell_host(life.host)} is a stranger, by line {line_of_stranger(book, life.host)}"
-        return f"{named}: it runs no program of these, so nobody knows its lives. A log has only those of the other hosts."
+        none = "it runs no program of these, so nobody knows its lives. A log has only those of the other hosts."
+        return f"{named}: {none}"
     start = f"Its peer {spell_host(life.peer)} is a stranger, by line {line_of_stranger(book, life.peer)}."
     if life.receives():
         return f"{start} {why_grants(book, numbers)}"

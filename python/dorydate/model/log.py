@@ -1,8 +1,8 @@
 """Logs, as `arpasim --log` prints them and `arpasim --audit` reads them: an independent reader and speller.
 
-It was written from docs/program.md and docs/audit.md, in another language and another form than the definitions. A log is read
-into a book: who runs no program, its crossings, its lives, and a list of bits for each life that was handed over to be sent. What
-a book keeps or breaks says `verdict`. `check audit` and `check stops` compare the program with this.
+It was written from docs/program.md and docs/audit.md, in another language and another form than the definitions. A log is
+read into a book: who runs no program, its crossings, its lives, and a list of bits for each life that was handed over to
+be sent. What a book keeps or breaks says `verdict`. `check audit` and `check stops` compare the program with this.
 """
 
 from __future__ import annotations
@@ -81,11 +81,11 @@ class LogReader:
         raise BadLog(len(lines) + 1)
 
     def may_follow(self, kind: int, part: int) -> bool:
-        """Whether an entry of a part may follow one of another: strangers (0), crossings (1), lives (2), lists of bits (3)."""
+        """Whether an entry of a part may follow one of another: strangers (0), crossings (1), lives (2), lists (3)."""
         return kind >= part
 
     def is_next(self, strangers: Sequence[HostName], host: HostName) -> bool:
-        """Whether a stranger may follow these: they come by their IMPs, and those of one IMP by their numbers, each once."""
+        """Whether a stranger may follow these: they come by IMPs, and those of one IMP by numbers, each once."""
         return not strangers or in_order(strangers[-1]) < in_order(host)
 
     def kind_fits(self, life: Life, kind: str) -> bool:

@@ -1,4 +1,4 @@
-"""Readers and judges that are wrong in one place each about strangers: some log by hand has to distinguish each from the right one."""
+"""Readers and judges, each wrong in one place about strangers: some log by hand distinguishes it from the right one."""
 
 from __future__ import annotations
 
@@ -139,7 +139,8 @@ class ListsAmong(Judge):
 
     def with_list(self, book: Book, place: int) -> Life:
         places = self.judged("streams", book)
-        return replace(super().with_list(book, place), handed=book.handed[places.index(place) if place in places else place - 1])
+        at = places.index(place) if place in places else place - 1
+        return replace(super().with_list(book, place), handed=book.handed[at])
 
 
 class FormsAmong(Judge):
@@ -345,7 +346,8 @@ class SafeToward(Judge):
     """What is promised toward a stranger is promised of this program only."""
 
     def word(self, found: Sequence[str]) -> list[str]:
-        return super().word([*found[:-1], "broken fates "] if found and found[-1].startswith("broken toward") else found)
+        is_toward = found and found[-1].startswith("broken toward")
+        return super().word([*found[:-1], "broken fates "] if is_toward else found)
 
 
 READERS: list[type[LogReader]] = [NobodyNamed, NamedLater, NamedAnyhow, NamedTwice, NamedByNumber, OneOfAnImp]

@@ -1,8 +1,8 @@
 """What `arpasim --audit` says of a log, with the lines that show it: an independent judge.
 
 It was written from docs/audit.md, in another language and another form than the definitions, over the safe book as
-`audit` reads it. Where a log names strangers, the lives among the other hosts are judged as a book of their own, over all
-that crossed; the others by what is promised toward a stranger.
+`audit` reads it. Where a log names strangers, the lives among the other hosts are judged as a book of their own, over
+all that crossed; the others by what is promised toward a stranger.
 """
 
 from __future__ import annotations
@@ -67,7 +67,7 @@ class Judge:
         return None if place is None else f"broken run line {self.crossing_line(book, place + 1)}"
 
     def of_lives(self, book: Book) -> str | None:
-        """The first life among programs that isn't made of messages that crossed before it was over, None where all are."""
+        """The first life among programs that isn't made of messages that crossed before its end, None where all are."""
         places = self.judged("lives", book)
         place = next((place for place in places if not self.is_made(book.log, book.lives[place - 1])), None)
         return None if place is None else f"broken lives line {self.line(book, place)}"
@@ -82,8 +82,8 @@ class Judge:
         return over.last is None or max(placed.places, default=-1) < over.last.place
 
     def of_fates(self, book: Book) -> str | None:
-        """The first life among programs whose fate isn't one that what crossed leaves it, or that disagrees with an earlier
-        one on a contact; None where there is none."""
+        """The first life among programs whose fate isn't one that what crossed leaves it, or that disagrees with an
+        earlier one on a contact; None where there is none."""
         places = self.judged("fates", book)
         found = self.fates().first_strange(book.log, [book.lives[place - 1] for place in places])
         return None if found is None else f"broken fates line {self.line(book, places[found - 1])}"
@@ -115,7 +115,7 @@ class Judge:
     # ---- strangers
 
     def judged(self, part: str, book: Book) -> list[int]:
-        """The places, counted from 1, of the lives that a part is about: those of hosts with programs whose peers run one, too."""
+        """The places, counted from 1, of the lives that a part is about: those between hosts with programs."""
         return [place for place, life in enumerate(book.lives, 1) if self.is_among(book, life)]
 
     def is_among(self, book: Book, life: Life) -> bool:
@@ -131,7 +131,7 @@ class Judge:
         return replace(book.lives[place - 1], handed=book.handed[place - 1])
 
     def of_toward(self, book: Book) -> str | None:
-        """The first life that breaks what is promised toward a stranger, None where there is none or nothing is asked."""
+        """The first life that breaks what is promised toward a stranger, None where none does or nothing is asked."""
         if not self.is_asked_toward(book):
             return None
         lives = [self.with_list(book, place) for place in range(1, len(book.lives) + 1)]
@@ -151,7 +151,7 @@ class Judge:
         return self.is_strange(book, life.host) or self.is_strange(book, life.peer) and not self.keeps_toward(life)
 
     def keeps_toward(self, life: Life) -> bool:
-        """Whether a life toward a stranger took no more than it granted, or sent a prefix of what was handed over in it."""
+        """Whether a life toward a stranger took no more than it granted, or sent a prefix of what was handed over."""
         return is_granted(life, life.messages, len(life.bits)) if life.receives() else life.handed.startswith(life.bits)
 
     # ---- lines

@@ -4,14 +4,15 @@ Tries what the program says of logs and prints as logs, against an independent r
 
 - Logs that were written by hand (workshop.checks.log_rows), each with its verdict or the number of its bad line, and those of docs/audit.md.
   Readings of these rules that are wrong in one place have to be distinguished from the right one by these.
-- Each prefix of a short log, and of one that names a stranger, and the same with each octet changed to 00, 7F and FF; and long logs.
+- Each prefix of a short log, and of one that names a stranger, and the same with each octet changed to 00, 7F and FF; and
+  long logs.
 - What `--log` prints of each example and each stored input is the log that the model makes of it, and `--audit` says `kept`.
 - The books that break where a rule is lacking, in the folder `without`: the part that each file names is reported.
 - Random books (python/dorydate/model/chance/books.py): COUNT of worlds that the model runs, every other one broken on purpose in one place,
   and as many small ones of few hosts and sockets. Of each tenth world the program's own log is compared too.
-- As many books of worlds with strangers (python/dorydate/model/chance/mixed_books.py), every other one broken, as a rule in what it says
-  of strangers; as many small ones; and logs with a line that names a stranger at another place. Of each tenth of these worlds the
-  program's own log is compared, and it says `kept` of that.
+- As many books of worlds with strangers (python/dorydate/model/chance/mixed_books.py), every other one broken, as a rule in
+  what it says of strangers; as many small ones; and logs with a line that names a stranger at another place. Of each tenth
+  of these worlds the program's own log is compared, and it says `kept` of that.
 
 It takes the proved program, or where ./build has not made that the one that was built without proofs.
 """
@@ -123,7 +124,8 @@ def check_logs() -> list[str]:
         found = threads.map(lambda row: compared("a log by hand", *row), [*rows, *around])
         wrong += filter(None, found)
     ends = Counter(said(owed) for _, owed in rows)
-    print(f"check audit: {len(rows)} logs by hand ({listed(ends)}), by {len(MISREADINGS)} wrong readings of the rules not all judged rightly; {len(around)} logs around two")
+    unlike = f"by {len(MISREADINGS)} wrong readings of the rules not all judged rightly"
+    print(f"check audit: {len(rows)} logs by hand ({listed(ends)}), {unlike}; {len(around)} logs around two")
     return wrong
 
 
@@ -279,15 +281,22 @@ def check_without() -> list[str]:
 
 Made = tuple[str, Book, Topology, Script]  # a book of a world, by what was done to it, with the network and the script
 Found = tuple[Counter[str], list[str]]  # what was seen, and what is wrong
-KINDS = {"world": "of worlds", "small": "small ones", "mixed": "of worlds with strangers", "small mixed": "small ones with strangers"}
+KINDS = {
+    "world": "of worlds",
+    "small": "small ones",
+    "mixed": "of worlds with strangers",
+    "small mixed": "small ones with strangers",
+}
 MISNAMED = "misnamed"  # the kind of a log in which a line that names a stranger is at another place
 
 
 def tried(seed: int) -> Found:
     """What a book of a world and a small one came to, without strangers and with them, and what is wrong."""
     alone, among = of_world(seed), of_mixed_world(seed)
-    logs = {"small": spelled_log(small(seed)), "small mixed": spelled_log(small_mixed(seed)), MISNAMED: misnamed(seed, among[1])}
-    found = [tried_world("world", seed, alone, alone[0] in WAYS), tried_world("mixed", seed, among, among[0] in EVERY_WAY)]
+    logs = {"small": spelled_log(small(seed)), "small mixed": spelled_log(small_mixed(seed))}
+    logs[MISNAMED] = misnamed(seed, among[1])
+    found = [tried_world("world", seed, alone, alone[0] in WAYS)]
+    found += [tried_world("mixed", seed, among, among[0] in EVERY_WAY)]
     found += [tried_log(kind, seed, "", octets) for kind, octets in logs.items()]
     return sum((seen for seen, _ in found), Counter[str]()), [fault for _, faults in found for fault in faults]
 
@@ -332,12 +341,16 @@ def check_chance(count: int) -> list[str]:
             seen += found
             wrong += faults
     for kind, made in KINDS.items():
-        of = f", of {seen[f'{kind} crossings']} crossings and {seen[f'{kind} lives']} lives" if seen[f"{kind} crossings"] else ""
+        crossings, lives = seen[f"{kind} crossings"], seen[f"{kind} lives"]
+        of = f", of {crossings} crossings and {lives} lives" if crossings else ""
         print(f"check audit: {count} books {made}{of}: {listed(seen, f'{kind}: ')}")
     for kind in "world", "mixed":
-        print(f"check audit: of those {KINDS[kind]} {listed(seen, f'{kind} made: ')}, and the others are broken in one place: {listed(seen, f'{kind} broken: ')}")
-        print(f"check audit: the program's own logs of {seen[f'{kind} logged']} of these worlds are the model's, and kept")
-    print(f"check audit: {count} logs with a line that names a stranger at another place: {listed(seen, f'{MISNAMED}: ')}")
+        whole, broken = listed(seen, f"{kind} made: "), listed(seen, f"{kind} broken: ")
+        logged = seen[f"{kind} logged"]
+        print(f"check audit: of those {KINDS[kind]} {whole}, and the others are broken in one place: {broken}")
+        print(f"check audit: the program's own logs of {logged} of these worlds are the model's, and kept")
+    elsewhere = listed(seen, f"{MISNAMED}: ")
+    print(f"check audit: {count} logs with a line that names a stranger at another place: {elsewhere}")
     return wrong
 
 

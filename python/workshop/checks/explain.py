@@ -61,9 +61,23 @@ BOOKS: list[tuple[str, list[str], int, list[str]]] = [
     ("logs/two-octets", ["9"], 1, ["line 9 of the log is no life and no message"]),
     ("logs/two-octets", ["x"], 1, ["usage: ./explain"]),
     ("logs/beside-a-stranger", [], 0, ["line 29: socket 16 of 0/1", "line 17: 48 bits from 0/3 to 0/1 on link 6"]),
-    ("logs/beside-a-stranger", ["29"], 0, ["Its own request went out in line 5", "is the own request of the life of line 31"]),
-    ("logs/beside-a-stranger", ["30"], 0, ["It is with 0/3, a stranger", "toward.asked.partner: Its partner's request came in in line 3", "toward.taken: 1 message and 8 bits"]),
-    ("logs/beside-a-stranger", ["32"], 0, ["toward.handed: The 8 bits that it sent are a prefix of the 16 bits that were handed over in it."]),
+    ("logs/beside-a-stranger", ["29"], 0, ["Its own request went out in line 5", "the own request of the life of line 31"]),
+    (
+        "logs/beside-a-stranger",
+        ["30"],
+        0,
+        [
+            "It is with 0/3, a stranger",
+            "toward.asked.partner: Its partner's request came in in line 3",
+            "toward.taken: 1 message and 8 bits",
+        ],
+    ),
+    (
+        "logs/beside-a-stranger",
+        ["32"],
+        0,
+        ["toward.handed: The 8 bits that it sent are a prefix of the 16 bits that were handed over in it."],
+    ),
     ("logs/beside-a-stranger", ["18"], 0, ["promise.safe.messages.once: It was taken once, in line 18"]),
     ("logs/beside-a-stranger", ["1"], 1, ["line 1 of the log is no life and no message"]),
     ("examples/a-connection-and-its-book", ["25"], 0, ["Its own request went out in line 9", "It is ended: it began in line"]),
@@ -209,7 +223,8 @@ def check_logs() -> None:
         same(wanted in (None, int(named[1]) if named else 0), True, f"{wanted}: {said}")
     check_broken(log, BROKEN_LOGS)
     check_broken(read_octets(f"{ROOT}/logs/beside-a-stranger"), BROKEN_BESIDE)
-    print(f"check explain: {len(bad)} bad logs, each with its cause and form; {len(BROKEN_LOGS) + len(BROKEN_BESIDE)} books, each with the lines that disagree")
+    books = len(BROKEN_LOGS) + len(BROKEN_BESIDE)
+    print(f"check explain: {len(bad)} bad logs, each with its cause and form; {books} books, each with the lines that disagree")
 
 
 def check_broken(log: bytes, rows: list[BrokenLog]) -> None:

@@ -131,7 +131,12 @@ BAD_LOG_LINES = [
     (1, b"# my network", "A log has no comments"),
     (1, b"# my network\nraw = true\n%", "This is an input and not a log, since a line is `%`. `./arpasim --log < FILE` prints the log of its replay."),
     (1, b"", "A log has no empty lines"),
-    (1, b"OUT 0/1 0/2 0 0 -", "begins no line of a log. They begin with foreign, out, in, answer, down, up, life, handed, end, in lower case. Is `out` meant?"),
+    (
+        1,
+        b"OUT 0/1 0/2 0 0 -",
+        "begins no line of a log. They begin with foreign, out, in, answer, down, up, life, handed, end, in lower case. "
+        "Is `out` meant?",
+    ),
     (1, b"out 0/1 0/2 0 0", "It has 4 words after `out`, and 5 are needed"),
     (1, b"out 0/1  0/2 0 0 -", "single spaces"),
     (1, b"in 0/1 0/2 0 8 ff", "lower-case letters are not accepted"),
@@ -148,7 +153,12 @@ BAD_LOG_LINES = [
     (1, b"foreign 0/64", "the IMP's number is 1 to 63. The form is `foreign H`."),
     (1, b"foreign 0/1 0/2", "It has 2 words after `foreign`, and 1 is needed. The form is `foreign H`."),
     (1, b"Foreign 0/1", "Is `foreign` meant?"),
-    (2, b"foreign 0/2", "It is one of the strangers, and follows crossings. A log has all crossings first, then all lives, then a `handed` for each life, then `end`. Before all of them"),
+    (
+        2,
+        b"foreign 0/2",
+        "It is one of the strangers, and follows crossings. A log has all crossings first, then all lives, then a `handed` "
+        "for each life, then `end`. Before all of them",
+    ),
     (11, b"up 0/1", "It is one of the crossings, and follows lives"),
     (13, b"handed 24 48", "24 bits fill 3 octets"),
     (13, b"end", "It follows `end`, and nothing may."),
@@ -230,19 +240,48 @@ BROKEN_LOGS: list[BrokenLog] = [
 ]
 
 # the same of logs/beside-a-stranger, whose line 1 says that 0/3 is a stranger
-TAKES, ITS = b"life 0/1 18 0/3 35 12 1 receive", b"life 0/3 35 0/1 18 0 13 send"  # of its life with 0/3, and what 0/3's own would be
+TAKES = b"life 0/1 18 0/3 35 12 1 receive"  # of the life with 0/3
+ITS = b"life 0/3 35 0/1 18 0 13 send"  # of what 0/3's own would be
+OTHER_TEXT = "broken run line 18\nbroken messages line 18"
 BROKEN_BESIDE: list[BrokenLog] = [
-    (2, b"out", b"out", "kept", "a run of the mailboxes, and 2 lives made of them, between hosts that run the program. 2 lives with a stranger (0/3) took no more than was granted, and sent what was handed over."),
-    (30, b"1 8 1 8", b"1 8 1 7", "broken toward line 30", "Its peer 0/3 is a stranger, by line 1. Line 30 granted 1 message and 7 bits, and had 0 and 0 back: at most 1 with 7 bits may pass. But line 30 took 1 message with 8 bits."),
+    (
+        2,
+        b"out",
+        b"out",
+        "kept",
+        "a run of the mailboxes, and 2 lives made of them, between hosts that run the program. "
+        "2 lives with a stranger (0/3) took no more than was granted, and sent what was handed over.",
+    ),
+    (
+        30,
+        b"1 8 1 8",
+        b"1 8 1 7",
+        "broken toward line 30",
+        "Its peer 0/3 is a stranger, by line 1. Line 30 granted 1 message and 7 bits, and had 0 and 0 back: "
+        "at most 1 with 7 bits may pass. But line 30 took 1 message with 8 bits.",
+    ),
     (30, b"1 8 0 0", b"1 8 1 0", "broken toward line 30", "had 1 and 0 back: at most 0 with 8 bits may pass."),
-    (36, b"5253", b"5353", "broken toward line 32", "It sent what wasn't handed over in line 36: at octet 1 what was sent has 52, and what was handed over has 53."),
+    (
+        36,
+        b"5253",
+        b"5353",
+        "broken toward line 32",
+        "It sent what wasn't handed over in line 36: at octet 1 what was sent has 52, and what was handed over has 53.",
+    ),
     (36, b"16 5253", b"0 -", "broken toward line 32", "what was sent has 8 bits, and what was handed over has 0."),
-    (30, TAKES, ITS, "broken toward line 30", "Host 0/3 is a stranger, by line 1: it runs no program of these, so nobody knows its lives."),
-    (30, b"12 1", b"11 1", "malformed line 30", "at place 11 (line 13) is `answer rfnm 0/2 0/1 5`. It has to be the place of an `out 0/1 0/3 0`, the message with this end's own request. (Line 2 is place 0.)"),
+    (30, TAKES, ITS, "broken toward line 30", "Host 0/3 is a stranger, by line 1: it runs no program of these, so nobody"),
+    (
+        30,
+        b"12 1",
+        b"11 1",
+        "malformed line 30",
+        "at place 11 (line 13) is `answer rfnm 0/2 0/1 5`. It has to be the place of an `out 0/1 0/3 0`, the message with "
+        "this end's own request. (Line 2 is place 0.)",
+    ),
     # lines are those of the file
-    (18, b"0051", b"0050", "broken run line 18\nbroken messages line 18", "Another text waits on the flow 0/3 0/1 6, that of line 17"),
-    (18, b"0051", b"0050", "broken run line 18\nbroken messages line 18", "It isn't what went out in line 17"),
-    (29, b"4849", b"4848", "broken lives line 29\nbroken streams lines 29 31", "That is in line 12, octet 2 of its data."),
+    (18, b"0051", b"0050", OTHER_TEXT, "Another text waits on the flow 0/3 0/1 6, that of line 17"),
+    (18, b"0051", b"0050", OTHER_TEXT, "It isn't what went out in line 17"),
+    (29, b"4849", b"4848", "broken lives line 29\nbroken streams lines 29 31", "That is in line 12, octet 2 of its"),
     (28, b"7\n", b"7\ndown 0/2\n", "broken fates line 32\nsafe", "It says `open`, but its host, 0/2, stopped in line 29."),
     (35, b"24 484950", b"8 48", "broken streams line 31", "It sent what wasn't handed over in line 35"),
 ]

@@ -432,14 +432,16 @@ OCTETS: list[tuple[bytes, int | str]] = [
 
 def rows_of_page() -> Iterator[tuple[bytes, str]]:
     """The changes of the page's logs, as sed makes them, and what the program prints of each."""
-    _, *parts = re.split(r"^```text\n(.*?)^```$", PAGE, flags=re.MULTILINE | re.DOTALL)
-    for text, following in zip(parts[::2], parts[1::2]):
-        name = re.findall("`logs/([a-z-]+)`", PAGE[: PAGE.index(text)])[-1]
-        if text != text_of(f"{ROOT}/logs/{name}"):
-            raise ValueError(f"docs/audit.md has another log than logs/{name}")
-        for script, cell in re.findall(r"^\| `sed '(.*)'` \| ([^|]*?) \|", following, re.MULTILINE):
-            changed = subprocess.run(["sed", script], input=text.encode(), capture_output=True, check=True).stdout
-            yield changed, "\n".join(re.findall("`([^`]*)`", cell)) or cell
+    log = ""
+    for part in re.findall(r"`logs/[a-z-]+`|^```text\n[^`]*^```$|^\| `sed '.*$", PAGE, re.MULTILINE):
+        if part.startswith("`logs/"):
+            log = text_of(f"{ROOT}/{part.strip('`')}")
+        elif part.startswith("```"):
+            if part != f"```text\n{log}```":
+                raise ValueError(f"docs/audit.md has another log than the one that it names: {part}")
+        elif row := re.match(r"\| `sed '(.*)'` \| ([^|]*?) \|", part):
+            changed = subprocess.run(["sed", row[1]], input=log.encode(), capture_output=True, check=True).stdout
+            yield changed, "\n".join(re.findall("`([^`]*)`", row[2])) or row[2]
 
 
 def rows() -> Iterator[tuple[bytes, str]]:

@@ -1,8 +1,8 @@
 """Logs of networks with strangers that were written by hand, and what is to be said of each: rows for `check audit`.
 
-They are made of one log, `logs/beside-a-stranger`, with something changed in it. Its line 1 says that 0/3 is a stranger; its
-crossings are the lines 2 to 28. Lines 29 and 31 are the two lives of a connection between hosts with programs, 30 and 32 such
-a host's lives with the stranger, one that receives and one that sends; 33 to 36 are their lists.
+They are made of one log, `logs/beside-a-stranger`, with something changed in it. Its line 1 says that 0/3 is a stranger;
+its crossings are the lines 2 to 28. Lines 29 and 31 are the two lives of a connection between hosts with programs, 30 and
+32 such a host's lives with the stranger, one that receives and one that sends; 33 to 36 are their lists.
 """
 
 from __future__ import annotations
@@ -17,6 +17,9 @@ TAKES, HAS, SENDS, GIVES = (f"{line}\n" for line in LOG.splitlines()[28:32])
 NO_LIST, SENT_LIST, GIVEN_LIST = "handed 0 -\n", "handed 24 484950\n", "handed 16 5253\n"
 LAST = "answer rfnm 0/2 0/3 7\n"  # of the crossings
 STRANGERS = "life 0/3 35 0/1 18 0 13 send 1 8 0 0 0 0 open 51\n"  # what a stranger's life would be
+MORE = STRANGERS.replace("1 8", "2 16").replace("51", "5151")
+LISTS, AFTER = f"{NO_LIST}{NO_LIST}{SENT_LIST}", f"{HAS}{SENDS}{GIVES}"
+PAST = HAS.replace("1 8 1 8", "1 8 1 7")  # a bit past what was granted
 GRANTED = "receive 1 8 1 8 0 0 open 51"
 CLS = "112 0008000900030000001000000021"  # of sockets 16 and 33
 
@@ -50,35 +53,35 @@ CHANGED = [
     (f"{SENT_LIST}{GIVEN_LIST}", f"{GIVEN_LIST}{SENT_LIST}", "broken streams line 31\nbroken toward line 32"),
     ("send 1 8 0 0 0 0 open 52", "send 1 8 0 0 0 0 open 53", "broken toward line 32"),
     ("send 1 8 0 0 0 0 open 52", "send 9 16 0 0 0 0 open 5253", "kept"),
-    (f"{GIVES}{NO_LIST}{NO_LIST}{SENT_LIST}{GIVEN_LIST}", f"{GIVES.replace('52', '53')}{NO_LIST}{NO_LIST}{SENT_LIST}handed 8 53\n", "kept"),
+    (f"{GIVES}{LISTS}{GIVEN_LIST}", f"{GIVES.replace('52', '53')}{LISTS}handed 8 53\n", "kept"),
     # the first life that breaks it is printed
-    (f"{HAS}{SENDS}{GIVES}{NO_LIST}{NO_LIST}{SENT_LIST}{GIVEN_LIST}", f"{HAS.replace('1 8 1 8', '1 8 1 7')}{SENDS}{GIVES}{NO_LIST}{NO_LIST}{SENT_LIST}{NO_LIST}", "broken toward line 30"),
-    # how lives with a stranger end is not looked at, nor whether two of them can stand in one book
+    (f"{AFTER}{LISTS}{GIVEN_LIST}", f"{PAST}{SENDS}{GIVES}{LISTS}{NO_LIST}", "broken toward line 30"),
+    # how lives with a stranger end is not looked at, nor whether two of them can be in one book
     *((HAS, HAS.replace("open", word), "kept") for word in ("closed", "ended", "reset", "stopped")),
     (GIVES, GIVES.replace("open", "stopped"), "kept"),
-    (f"{GIVES}{NO_LIST}{NO_LIST}{SENT_LIST}", f"{GIVES}{GIVES}{NO_LIST}{NO_LIST}{SENT_LIST}{GIVEN_LIST}", "kept"),
-    (f"{HAS}{SENDS}{GIVES}{NO_LIST}", f"{HAS}{HAS}{SENDS}{GIVES}{NO_LIST}{NO_LIST}", "kept"),
+    (f"{GIVES}{LISTS}", f"{GIVES}{GIVES}{LISTS}{GIVEN_LIST}", "kept"),
+    (f"{AFTER}{NO_LIST}", f"{HAS}{AFTER}{NO_LIST}{NO_LIST}", "kept"),
     # a stranger's life, wherever it is and whatever it says
-    (f"{GIVES}{NO_LIST}{NO_LIST}{SENT_LIST}", f"{STRANGERS}{GIVES}{NO_LIST}{NO_LIST}{SENT_LIST}handed 8 51\n", "broken toward line 32"),
-    (f"{TAKES}{HAS}{SENDS}{GIVES}", f"{STRANGERS}{TAKES}{HAS}{SENDS}{GIVES}handed 8 51\n", "broken toward line 29"),
-    (f"{TAKES}{HAS}{SENDS}{GIVES}", f"{TAKES}{STRANGERS}{SENDS}{GIVES}", "broken toward line 30"),
+    (f"{GIVES}{LISTS}", f"{STRANGERS}{GIVES}{LISTS}handed 8 51\n", "broken toward line 32"),
+    (f"{TAKES}{AFTER}", f"{STRANGERS}{TAKES}{AFTER}handed 8 51\n", "broken toward line 29"),
+    (f"{TAKES}{AFTER}", f"{TAKES}{STRANGERS}{SENDS}{GIVES}", "broken toward line 30"),
     (
-        f"{HAS}{SENDS}{GIVES}{NO_LIST}{NO_LIST}{SENT_LIST}{GIVEN_LIST}",
-        f"{HAS.replace('open', 'ended')}{SENDS}{GIVES}{STRANGERS.replace('1 8', '2 16').replace('51', '5151')}{NO_LIST}{NO_LIST}{SENT_LIST}{GIVEN_LIST}handed 16 5151\n",
+        f"{AFTER}{LISTS}{GIVEN_LIST}",
+        f"{HAS.replace('open', 'ended')}{SENDS}{GIVES}{MORE}{LISTS}{GIVEN_LIST}handed 16 5151\n",
         "broken toward line 33",
     ),
     # the lives among the others are judged as ever, over all that crossed, with their own lists
     ("receive 1 16 1 100", "receive 1 16 1 15", "broken grants lines 29 31"),
-    ("receive 1 16 1 100 0 0 open 4849", "receive 1 16 1 100 0 0 open 4848", "broken lives line 29\nbroken streams lines 29 31"),
+    ("100 0 0 open 4849", "100 0 0 open 4848", "broken lives line 29\nbroken streams lines 29 31"),
     ("send 1 16 0 0 0 0 open 4849", "send 1 16 0 0 0 0 open 4848", "broken lives line 31\nbroken streams lines 29 31"),
     (SENT_LIST, "handed 8 48\n", "broken streams line 31"),
-    (f"{SENDS}{GIVES}{NO_LIST}{NO_LIST}{SENT_LIST}", f"{SENDS}{SENDS}{GIVES}{NO_LIST}{NO_LIST}{SENT_LIST}{SENT_LIST}", "broken partners lines 31 32"),
-    (f"{TAKES}{HAS}{SENDS}{GIVES}{NO_LIST}", f"{TAKES}{HAS}{TAKES}{SENDS}{GIVES}{NO_LIST}{NO_LIST}", "broken partners lines 29 31"),
+    (f"{SENDS}{GIVES}{LISTS}", f"{SENDS}{SENDS}{GIVES}{LISTS}{SENT_LIST}", "broken partners lines 31 32"),
+    (f"{TAKES}{AFTER}{NO_LIST}", f"{TAKES}{HAS}{TAKES}{SENDS}{GIVES}{NO_LIST}{NO_LIST}", "broken partners lines 29 31"),
     (SENDS, SENDS.replace("open", "closed"), f"broken fates line 31{SAFE}"),
     (TAKES, TAKES.replace("open", "ended"), f"broken closes lines 29 31\nbroken fates line 29{SAFE}"),
     (f"{HAS}{SENDS}{GIVES}", f"{HAS}{SENDS.replace('open', 'reset')}{GIVES}", "kept"),
     (LAST, f"{LAST}down 0/2\n", f"broken fates line 32{SAFE}"),
-    # whatever a stranger does: it stops and starts, names the sockets of others, and takes nothing of what is said to it
+    # whatever a stranger does: it stops and starts, names others' sockets, and takes nothing of what is said to it
     (LAST, f"{LAST}down 0/3\nup 0/3\n", "kept"),
     (LAST, f"{LAST}out 0/3 0/2 0 {CLS}\nin 0/3 0/2 0 {CLS}\n", "kept"),
     (LAST, f"{LAST}out 0/2 0/3 0 {CLS}\nanswer dead 0/2 0/3 0\n", "kept"),
@@ -93,12 +96,16 @@ CHANGED = [
     (" 12 1 receive 1 8 1 8", " 12 2 receive 1 8 1 7", "malformed line 30"),
     (" 21 19 send", " 21 99 send", "malformed line 32"),
     (GIVEN_LIST, "", "malformed line 32"),
-    (f"{HAS}{SENDS}{GIVES}{NO_LIST}{NO_LIST}{SENT_LIST}{GIVEN_LIST}", f"{HAS.replace('1 8 1 8', '1 8 1 7')}{SENDS}{GIVES}{NO_LIST}{NO_LIST}{SENT_LIST}", "malformed line 32"),
+    (f"{AFTER}{LISTS}{GIVEN_LIST}", f"{PAST}{SENDS}{GIVES}{LISTS}", "malformed line 32"),
     (GIVEN_LIST, f"{GIVEN_LIST}{NO_LIST}", "malformed line 37"),
     (GIVES, STRANGERS.replace("13 send", "12 send"), "malformed line 32"),
     # it comes last, and of any program it may be asked: with it there is no word
-    (f"{HAS}{SENDS}", f"{HAS.replace('1 8 1 8', '1 8 1 7')}{SENDS.replace('open', 'closed')}", "broken fates line 31\nbroken toward line 30"),
-    (f"{TAKES}{HAS}", f"{TAKES.replace('open', 'ended')}{HAS.replace('1 8 1 8', '1 8 0 8')}", "broken closes lines 29 31\nbroken fates line 29\nbroken toward line 30"),
+    (f"{HAS}{SENDS}", f"{PAST}{SENDS.replace('open', 'closed')}", "broken fates line 31\nbroken toward line 30"),
+    (
+        f"{TAKES}{HAS}",
+        f"{TAKES.replace('open', 'ended')}{HAS.replace('1 8 1 8', '1 8 0 8')}",
+        "broken closes lines 29 31\nbroken fates line 29\nbroken toward line 30",
+    ),
 ]
 
 # ---- who is a stranger: logs of a few lines, with the verdict or the number of the bad line
@@ -128,7 +135,8 @@ NAMED: list[tuple[str, int | str]] = [
 ]
 BAD_LINES = [
     *("foreign", "foreign ", "foreign 0", "foreign 1", "foreign 4/1", "foreign 0/0", "foreign 0/64", "foreign -1/1"),
-    *("foreign 00/1", "foreign 0/01", "foreign 0/1 0/2", "foreign 0/1 ", "foreign  0/1", " foreign 0/1", "foreign 0/1\r"),
+    *("foreign 00/1", "foreign 0/01", "foreign 0/1 0/2", "foreign 0/1 ", "foreign  0/1", " foreign 0/1"),
+    "foreign 0/1\r",
     *("Foreign 0/1", "FOREIGN 0/1", "strange 0/1", "foreign UCLA", "foreign 0/1,0/2", "foreign\t0/1", "foreign 1 0"),
 ]
 

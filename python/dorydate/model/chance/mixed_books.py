@@ -1,6 +1,7 @@
-"""Random books of networks with strangers, to be judged by the audit: those of mixed worlds that the model runs, as they are, changed
-where nothing is promised or broken on purpose in one place; small ones some of whose hosts are strangers; and logs in which a line
-that names a stranger is at another place.
+"""Random books of networks with strangers, to be judged by the audit.
+
+They are those of mixed worlds that the model runs, as they are, changed where nothing is promised or broken on purpose in
+one place; small ones some of whose hosts are strangers; and logs in which a line that names a stranger is at another place.
 """
 
 from __future__ import annotations
@@ -103,7 +104,8 @@ def stranger_lives(chance: Random, book: Book) -> Book:
     taken = chance.choice([at for at in on_control(book.log, "in", life.host, life.peer) if at > life.own])
     at = chance.randint(0, len(book.lives))
     bits = life.bits + chance.choice(["", some_bits(chance)])
-    book.lives.insert(at, Life(life.peer, life.foreign, life.host, life.socket, place, taken, bits, life.messages, [9, 9999], fate=chance.choice(FATES)))
+    ends, fate = (life.peer, life.foreign, life.host, life.socket), chance.choice(FATES)
+    book.lives.insert(at, Life(*ends, place, taken, bits, life.messages, [9, 9999], fate=fate))
     book.handed.insert(at, bits)
     return book
 
@@ -207,7 +209,7 @@ def broken(chance: Random, book: Book) -> tuple[str, Book]:
 
 
 def of_mixed_world(seed: int) -> tuple[str, Book, Topology, MixedScript]:
-    """A book of a mixed world: what was done to it, the book, and the network, which names its strangers, with the script."""
+    """A book of a mixed world: what was done to it, the book, the network with its strangers, and the script."""
     chance = Random(f"mixed book {seed}")
     network, script, world = mixed_script(f"book {seed}")
     named = naming(network, world.strangers)

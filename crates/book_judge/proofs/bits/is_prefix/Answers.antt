@@ -1,5 +1,5 @@
 use Rattle.std.proofs.Common.{arith}
-use Rattle.book_judge.proofs.Fed.{prefix_more, prefix_whole}
+use Rattle.book_judge.proofs.FirstLives.Fed.{prefix_more, prefix_whole}
 use Rattle.book_judge.proofs.bits.is_prefix.Goals as goal
 
 pub loop-i-preserved : goal.loop-i-preserved

@@ -1,5 +1,5 @@
 use Rattle.std.proofs.Common.{drop, ◌∙◌, arith}
-use Rattle.book_judge.proofs.Fed.{get_drop, prefix_more, slice_whole}
+use Rattle.book_judge.proofs.FirstLives.Fed.{get_drop, prefix_more, slice_whole}
 use Rattle.book_judge.proofs.bits.is_slice.Goals as goal
 
 pub loop-i-preserved : goal.loop-i-preserved

@@ -1,5 +1,5 @@
 use Rattle.std.proofs.Common.{rules}
-use Rattle.book_judge.proofs.Lost.{same_by_prefix}
+use Rattle.book_judge.proofs.FirstLives.Lost.{same_by_prefix}
 use Rattle.book_judge.proofs.bits.same_bits.Goals as goal
 
 pub returns : goal.returns

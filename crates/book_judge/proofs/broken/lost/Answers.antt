@@ -1,4 +1,4 @@
-use Rattle.book_judge.proofs.Lost.{closed_none, closed_some}
+use Rattle.book_judge.proofs.FirstLives.Lost.{closed_none, closed_some}
 use Rattle.book_judge.proofs.broken.lost.Goals as goal
 
 pub returns-in_err-place : goal.returns-in_err-place

@@ -1,5 +1,5 @@
 use Rattle.std.proofs.Common.{◌∙◌, sym}
-use Rattle.book_judge.proofs.Lost.{taken_by}
+use Rattle.book_judge.proofs.FirstLives.Lost.{taken_by}
 use Rattle.book_judge.proofs.closes.has_taken.Goals as goal
 
 pub returns : goal.returns

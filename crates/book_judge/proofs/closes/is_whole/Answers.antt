@@ -1,7 +1,7 @@
 use Rattle.book_judge.specs.Inside.Chains.{ClosedAt, HasTaken}
 use Rattle.book_judge.proofs.Elements.{when_true}
-use Rattle.book_judge.proofs.Lost.{again_taken, closed_by, closed_here, earlier_closed}
-use Rattle.book_judge.proofs.Shown.{earlier_all}
+use Rattle.book_judge.proofs.FirstLives.Lost.{again_taken, closed_by, closed_here, earlier_closed}
+use Rattle.book_judge.proofs.FirstLives.Shown.{earlier_all}
 use Rattle.book_judge.proofs.closes.is_whole.Goals as goal
 
 pub returns-then-is_again : goal.returns-then-is_again

@@ -1,7 +1,7 @@
 use Rattle.book_judge.proofs.Common.{length, arith, GrantedAt}
 use Rattle.book_judge.proofs.Elements.{first_all, first_more, when_false, when_true}
-use Rattle.book_judge.proofs.Fed.{excess_here, granted_here}
-use Rattle.book_judge.proofs.Shown.{earlier_all}
+use Rattle.book_judge.proofs.FirstLives.Fed.{excess_here, granted_here}
+use Rattle.book_judge.proofs.FirstLives.Shown.{earlier_all}
 use Rattle.book_judge.proofs.grants.excess_at.Goals as goal
 
 pub has_granted-requires-clause-earlier : goal.has_granted-requires-clause-earlier

@@ -1,6 +1,6 @@
 use Rattle.std.proofs.Common.{◌∙◌, sym, rules}
-use Rattle.book_judge.proofs.Fed.{granted_by}
-use Rattle.book_judge.proofs.Shown.{shown_granted}
+use Rattle.book_judge.proofs.FirstLives.Fed.{granted_by}
+use Rattle.book_judge.proofs.FirstLives.Shown.{shown_granted}
 use Rattle.book_judge.proofs.grants.has_granted.Goals as goal
 
 pub returns-then-is_shown : goal.returns-then-is_shown

@@ -1,6 +1,6 @@
 use Rattle.std.proofs.Common.{◌≡◌, Some}
 use Rattle.std.specs.List.{slice_get}
-use Rattle.book_judge.proofs.Lost.{list_there, loses_here, loses_none}
+use Rattle.book_judge.proofs.FirstLives.Lost.{list_there, loses_here, loses_none}
 use Rattle.book_judge.proofs.sought.loses.Goals as goal
 
 pub returns-in-Some : goal.returns-in-Some

@@ -1,5 +1,5 @@
 use Rattle.std.proofs.Common.{◌∙◌, Bool, List, ap, length, sym}
-use Rattle.book_judge.proofs.Fed.{sourced_by}
+use Rattle.book_judge.proofs.FirstLives.Fed.{sourced_by}
 use Rattle.book_judge.proofs.streams.is_sourced.Goals as goal
 
 pub returns : goal.returns

@@ -1,6 +1,6 @@
 use Rattle.book_judge.proofs.Common.{length, arith, FedAt}
 use Rattle.book_judge.proofs.Elements.{first_all, first_more, when_false, when_true}
-use Rattle.book_judge.proofs.Fed.{fed_here, unfed_here, unsourced_here}
+use Rattle.book_judge.proofs.FirstLives.Fed.{fed_here, unfed_here, unsourced_here}
 use Rattle.book_judge.proofs.streams.unfed_at.Goals as goal
 
 pub returns-then-not-is_sourced : goal.returns-then-not-is_sourced

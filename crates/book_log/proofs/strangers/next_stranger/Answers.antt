@@ -19,5 +19,6 @@ returns-then-follows c = (
 
 pub returns-else-follows : goal.returns-else-follows
 returns-else-follows c =
-    not_next c.args.last c.args.text.now c.in_ok-line.line.now c.in_ok-line.more.now c.in_ok-stranger.stranger c.in_ok-stranger.ensures.1 c.in_ok-line.ensures.0 c.in_ok-line.ensures.1
+    not_next c.args.last c.args.text.now c.in_ok-line.line.now c.in_ok-line.more.now c.in_ok-stranger.stranger
+    c.in_ok-stranger.ensures.1 c.in_ok-line.ensures.0 c.in_ok-line.ensures.1
     c.in_ok-stranger.ensures.0 (sym c.follows.ensures ∙ c.if-follows.false)

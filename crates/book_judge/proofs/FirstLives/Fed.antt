@@ -15,14 +15,17 @@ found_same (Some x) None e = absurd (cc)
 found_same (Some x) (Some y) e = (x, refl, ap (λ (z : Bool). Some z) (sym (same_bit-true x y e)))
 
 took_more : (xs : List Bool) (i : ℕ) (b : Bool) → slice_get xs i ≡ Some b → take (i + 1) xs ≡ take i xs ++ b ∷ []
-took_more xs i b e = take_more xs i b (slice_get_within xs i b e) ∙ ap (λ (z : Bool). take i xs ++ z ∷ []) (get_or_from_slice_get xs i b b e)
+took_more xs i b e =
+    take_more xs i b (slice_get_within xs i b e)
+    ∙ ap (λ (z : Bool). take i xs ++ z ∷ []) (get_or_from_slice_get xs i b b e)
 
 pub prefix_more : (xs ys : List Bool) (i : ℕ) (a b : Option Bool) (r : Bool) → a ≡ slice_get xs i → b ≡ slice_get ys i
     → r ≡ same_found a b → r ≡ true
     → take i xs ≡ take i ys → take (i + 1) xs ≡ take (i + 1) ys
 prefix_more xs ys i a b r e f g h same =
     let t = found_same a b (sym g ∙ h) in
-    took_more xs i t.0 (sym e ∙ t.1) ∙ ap (λ (zs : List Bool). zs ++ t.0 ∷ []) same ∙ sym (took_more ys i t.0 (sym f ∙ t.2))
+    took_more xs i t.0 (sym e ∙ t.1) ∙ ap (λ (zs : List Bool). zs ++ t.0 ∷ []) same
+    ∙ sym (took_more ys i t.0 (sym f ∙ t.2))
 
 pub prefix_whole : (xs ys : List Bool) (i : ℕ) → length xs ≤ i → take i xs ≡ take i ys → IsPrefix xs ys
 prefix_whole xs ys i h same =
@@ -47,7 +50,8 @@ drop_part (suc from) (suc to) (x ∷ xs) less = let e : suc to - suc from ≡ to
 pub slice_whole : (from to i : ℕ) (xs ys : List Bool) → from ≤ to → to - from ≡ length ys → i ≡ length ys
     → take i (drop from xs) ≡ take i ys → drop from (take to xs) ≡ ys
 slice_whole from to i xs ys less size all same =
-    drop_part from to xs less ∙ ap (λ (k : ℕ). take k (drop from xs)) (size ∙ sym all) ∙ same ∙ take_all i ys (omega (arith, all))
+    drop_part from to xs less ∙ ap (λ (k : ℕ). take k (drop from xs)) (size ∙ sym all) ∙ same
+    ∙ take_all i ys (omega (arith, all))
 
 -- ---- one life
 
@@ -59,7 +63,8 @@ sourced_by true a x names lives m r some = λ _ _. m
 sourced_by false a x names lives m r some = λ is. (let t = is r some in m t.0 t.1)
 
 pub granted_by : (b : Bool) (a : Name) (x : Life) (names : List Name) (lives : List Life)
-    → MatchBool b ((i : ℕ) × ExceedsAt a x names lives i) ((i : ℕ) → ExceedsAt a x names lives i → ⊥) → receives x ≡ true
+    → MatchBool b ((i : ℕ) × ExceedsAt a x names lives i) ((i : ℕ) → ExceedsAt a x names lives i → ⊥)
+    → receives x ≡ true
     → is_granted x x.messages (length x.bits) ≡ true
     → MatchBool (not b) (HasGranted a x names lives) (HasGranted a x names lives → ⊥)
 granted_by true a x names lives m r e = λ has. (let t = has r in t.1 m.0 m.1)
@@ -74,7 +79,8 @@ pub fed_here : (names : List Name) (lives : List Life) (handed : List (List Bool
 fed_here names lives handed n a x h l counts e f g sourced given = λ b y i p q r.
     (let s : slice_get names n ≡ Some a = slice_get_read names (length names) n a refl (omega (arith, l, counts.0)) e in
     let t : slice_get lives n ≡ Some x = slice_get_read lives (length lives) n x refl l f in
-    let u : slice_get handed n ≡ Some h = slice_get_read handed (length handed) n h refl (omega (arith, l, counts.1)) g in
+    let u : slice_get handed n ≡ Some h =
+    slice_get_read handed (length handed) n h refl (omega (arith, l, counts.1)) g in
     let one : a ≡ b = cc in
     let two : x ≡ y = cc in
     let three : h ≡ i = cc in
@@ -87,7 +93,8 @@ pub unfed_here : (names : List Name) (lives : List Life) (handed : List (List Bo
     → x ≡ get_or lives n x → h ≡ get_or handed n h
     → FedAt names lives handed n → IsSourced a x names lives × IsHanded x h
 unfed_here names lives handed n a x h l counts e f g fed =
-    fed a x h (slice_get_read names (length names) n a refl (omega (arith, l, counts.0)) e) (slice_get_read lives (length lives) n x refl l f)
+    fed a x h (slice_get_read names (length names) n a refl (omega (arith, l, counts.0)) e)
+    (slice_get_read lives (length lives) n x refl l f)
     (slice_get_read handed (length handed) n h refl (omega (arith, l, counts.1)) g)
 
 pub unsourced_here : (names : List Name) (lives : List Life) (handed : List (List Bool)) (n : ℕ) (a : Name) (x : Life)
@@ -113,4 +120,5 @@ pub excess_here : (names : List Name) (lives : List Life) (n : ℕ) (a : Name) (
     → n < length lives → length names ≡ length lives → a ≡ get_or names n a → x ≡ get_or lives n x
     → GrantedAt names lives n → HasGranted a x names lives
 excess_here names lives n a x l counts e f granted =
-    granted a x (slice_get_read names (length names) n a refl (omega (arith, l, counts)) e) (slice_get_read lives (length lives) n x refl l f)
+    granted a x (slice_get_read names (length names) n a refl (omega (arith, l, counts)) e)
+    (slice_get_read lives (length lives) n x refl l f)
