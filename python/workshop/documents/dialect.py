@@ -24,7 +24,7 @@ WORDS = {
     "goes on": (r"\b(?:goes|go|went|going) on\b", "continues"),
     "behind": (r"\bbehind\b", "after"),
     "alone": (r"\balone\b", "only"),
-    "front": (r"\bfronts?\b(?! of the)|IsFront", "prefix"),
+    "front": (r"(?<!\bin )\bfronts?\b(?! of the)|IsFront", "prefix"),
     "stands": (r"\b(?:stands?|stood|standing)\b", "is"),
     "told": (r"\b(?:told|tells?|telling)\b", "is notified of, says"),
     "held up to": (r"\b(?:held|hold|holds|holding) (?:\w+ ){0,3}up to\b", "checked against"),
