@@ -4,7 +4,8 @@ use Rattle.book_judge.proofs.Strangers.{of_stranger, untoward_here, with_program
 use Rattle.book_judge.proofs.law.worked_toward.Goals as goal
 
 pub returns-clause-owner : goal.returns-clause-owner
-returns-clause-owner c = λ strange x text e. untoward_here strange 0 (x ∷ []) (text ∷ []) x text refl refl tt (of_stranger strange x text e)
+returns-clause-owner c =
+    λ strange x text e. untoward_here strange 0 (x ∷ []) (text ∷ []) x text refl refl tt (of_stranger strange x text e)
 
 pub returns-clause-among : goal.returns-clause-among
 returns-clause-among c = λ strange x text own peer. (with_program strange x text own peer, tt)
@@ -20,10 +21,12 @@ returns-clause-granted c = λ strange text apart. (
 )
 
 pub returns-clause-bits : goal.returns-clause-bits
-returns-clause-bits c = λ strange text apart all. (let over : 2 + 0 ≤ 1 = (all.0.taken apart.1 refl).bits in omega (arith, over))
+returns-clause-bits c =
+    λ strange text apart all. (let over : 2 + 0 ≤ 1 = (all.0.taken apart.1 refl).bits in omega (arith, over))
 
 pub returns-clause-messages : goal.returns-clause-messages
-returns-clause-messages c = λ strange text apart all. (let over : 1 + 0 ≤ 0 = (all.0.taken apart.1 refl).messages in omega (arith, over))
+returns-clause-messages c =
+    λ strange text apart all. (let over : 1 + 0 ≤ 0 = (all.0.taken apart.1 refl).messages in omega (arith, over))
 
 pub returns-clause-handed : goal.returns-clause-handed
 returns-clause-handed c = λ strange text apart. (
