@@ -1,7 +1,10 @@
 -- The log of a network: the lines of its strangers, and then those of its book.
-use Rattle.book_log.proofs.Common.{◌≡◌, ℕ, ◌<◌, ◌≤◌, ◌+◌, ◌^◌, ◌==◌, true, false, List, [], ◌∷◌, ◌++◌, Option, Some, None, codes, length, map, refl, sym, ap, ap₂, ◌∙◌, arith, subst, append_assoc}
-use Rattle.book_log.proofs.Common.{All, All-append, All-cons, All-head, All-nil, All-tail, Begins, Book, Host, IsBadBookLine, IsBadLine, IsBook, IsBookText, IsHost, IsLog, Lacks, SameCut}
-use Rattle.book_log.proofs.Common.{ended_line, host_text, log_lines, same_cut, stranger_line, text_of_lines, unmarked_where}
+use Rattle.book_log.proofs.Common.{◌≡◌, ℕ, ◌<◌, ◌≤◌, ◌+◌, ◌^◌, ◌==◌, true, false, List, [], ◌∷◌, ◌++◌, Option, Some}
+use Rattle.book_log.proofs.Common.{None, codes, length, map, refl, sym, ap, ap₂, ◌∙◌, arith, subst, append_assoc}
+use Rattle.book_log.proofs.Common.{All, All-append, All-cons, All-head, All-nil, All-tail, Begins, Book, Host}
+use Rattle.book_log.proofs.Common.{IsBadBookLine, IsBadLine, IsBook, IsBookText, IsHost, IsLog, Lacks, SameCut}
+use Rattle.book_log.proofs.Common.{ended_line, host_text, log_lines, same_cut, stranger_line, text_of_lines}
+use Rattle.book_log.proofs.Common.{unmarked_where}
 use Rattle.std.proofs.lemmas.List.{append_cancel_left, length-append, length-map}
 use Rattle.std.specs.Prelude.{◌↔◌}
 use Rattle.interface.specs.Host.{InOrder, host_before}
@@ -26,7 +29,8 @@ each_named last (h ∷ hosts) named = All-cons IsHost h hosts named.0 (each_name
 
 pub are_strangers : (hosts : List Host) → NamedAfter None hosts → AreStrangers hosts
 are_strangers [] named = record { valid = All-nil IsHost; rising = tt }
-are_strangers (h ∷ hosts) named = record { valid = each_named None (h ∷ hosts) named; rising = in_order h hosts named.2 }
+are_strangers (h ∷ hosts) named =
+    record { valid = each_named None (h ∷ hosts) named; rising = in_order h hosts named.2 }
 
 after_one : (last : Host) (hosts : List Host) → All IsHost hosts → InOrder (last ∷ hosts) → NamedAfter (Some last) hosts
 after_one last [] each rising = tt
@@ -84,8 +88,7 @@ one_rest last [] (h ∷ others) left b p q none e =
 one_rest last (g ∷ strangers) [] left b p q none e =
     absurd (not_text b g (strangers_text strangers ++ left) (sym e ∙ append_assoc (ended_line (stranger_line g)) (strangers_text strangers) left))
 one_rest last (g ∷ strangers) (h ∷ others) left b p q none e =
-    let cut : SameCut (stranger_line g) (strangers_text strangers ++ left) (stranger_line h) (strangers_text others ++ log_text b) =
-    lines_cut g h strangers others left (log_text b) p.0 q.0 e in
+    let cut : SameCut (stranger_line g) (strangers_text strangers ++ left) (stranger_line h) (strangers_text others ++ log_text b) = lines_cut g h strangers others left (log_text b) p.0 q.0 e in
     let same : g ≡ h = stranger_once g h p.0 q.0 cut.front in
     let rest =
     one_rest (Some g) strangers others left b p.2 (subst (λ (x : Host). NamedAfter (Some x) others) (sym same) q.2) none
@@ -112,7 +115,8 @@ lines_text [] = refl
 lines_text (h ∷ hosts) = ap (λ (t : List ℕ). ended_line (stranger_line h) ++ t) (lines_text hosts)
 
 -- some log begins with them, and with these lines, so its book begins with these
-begins_behind : (last : Option Host) (strangers others : List Host) (before : List (List ℕ)) (line : List ℕ) (more : List (List ℕ)) (left rest behind : List ℕ) (b : Book)
+begins_behind : (last : Option Host) (strangers others : List Host) (before : List (List ℕ)) (line : List ℕ)
+    (more : List (List ℕ)) (left rest behind : List ℕ) (b : Book)
     → NamedAfter last strangers → NamedAfter last others → NamesNone (last_of last strangers) left → BeginsBook before
     → left ≡ text_of_lines before ++ rest → rest ≡ ended_line line ++ behind
     → network_lines others b ≡ (map stranger_line strangers ++ (before ++ line ∷ [])) ++ more
@@ -139,8 +143,7 @@ is_bad text left strangers number names bad = record {
       ∙ sym (append_assoc (text_of_lines (map stranger_line strangers)) (text_of_lines bad.before) bad.rest)
       ∙ ap (λ (t : List ℕ). t ++ bad.rest) (sym (text_of_lines-append (map stranger_line strangers) bad.before));
   counted =
-      let all : length (map stranger_line strangers ++ bad.before) ≡ length (map stranger_line strangers) + length bad.before =
-      length-append (map stranger_line strangers) bad.before in
+      let all : length (map stranger_line strangers ++ bad.before) ≡ length (map stranger_line strangers) + length bad.before = length-append (map stranger_line strangers) bad.before in
       let long : length (map stranger_line strangers) ≡ length strangers = length-map strangers stranger_line in
       omega (arith, all, long, bad.counted);
   begins = record {
@@ -160,8 +163,7 @@ is_bad text left strangers number names bad = record {
     whole =
         begins_behind None strangers begins.strangers bad.before line begins.more left bad.rest more begins.book
         names.named (after_named begins.strangers begins.named) names.none
-        bad.begins bad.parted e
-        (begins.whole ∙ ap (λ (ls : List (List ℕ)). ls ++ begins.more) (append_assoc (map stranger_line strangers) bad.before (line ∷ [])));
+        bad.begins bad.parted e (begins.whole ∙ ap (λ (ls : List (List ℕ)). ls ++ begins.more) (append_assoc (map stranger_line strangers) bad.before (line ∷ [])));
   });
   none = λ others b log. (
       let rest =
@@ -212,8 +214,8 @@ fault_fits text left strangers fault.OutOfMemory short names bad = tt
 -- ---- a line of a stranger
 
 -- what is before it
-pub only_strangers : (strangers : List Host) (last : Option Host) (b : Book) (before : List (List ℕ)) (line : List ℕ) (h : Host) (more : List (List ℕ))
-    → IsHost h → NamedAfter last strangers
+pub only_strangers : (strangers : List Host) (last : Option Host) (b : Book) (before : List (List ℕ)) (line : List ℕ)
+    (h : Host) (more : List (List ℕ)) → IsHost h → NamedAfter last strangers
     → network_lines strangers b ≡ (before ++ line ∷ stranger_line h ∷ []) ++ more
     → (one : Host) × (line ≡ stranger_line one) × (host_before one h ≡ true)
 only_strangers [] last b before line h more is named e =

@@ -129,7 +129,8 @@ suited_logged log lives fates all = record { each = each; contact = contact } wh
 
 -- the lives and fates of the log of a world are those of its book
 says_logged : (k : Kept) → AreFated k.book.lives k.fates
-    → (hosts : List Host) → Judged kept (λ h. is_host hosts h) (reverse k.book.crossings) k.book.lives k.handed (map logged_fate k.fates)
+    → (hosts : List Host)
+    → Judged kept (λ h. is_host hosts h) (reverse k.book.crossings) k.book.lives k.handed (map logged_fate k.fates)
     → SaysOf kept hosts (world_book k)
 says_logged k are hosts j =
     let strange : Host → Bool = λ h. is_host hosts h in
@@ -146,7 +147,8 @@ kept_alone_from log lives handed fates run made safe closes suited =
     let xs : lives ≡ lives_among (λ h. is_host [] h) lives = sym (all_lives lives) in
     let hs : handed ≡ beside_among (λ h. is_host [] h) lives handed = sym (all_beside lives handed) in
     let fs : fates ≡ beside_among (λ h. is_host [] h) lives fates = sym (all_beside lives fates) in
-    kept_from_safe (λ h. is_host [] h) log lives handed fates run (subst (λ (ys : List Life). AreMade (reverse log) ys) xs made) safe.0
+    kept_from_safe (λ h. is_host [] h) log lives handed fates run
+    (subst (λ (ys : List Life). AreMade (reverse log) ys) xs made) safe.0
     (subst (λ (ys : List Life). SafeBook (reverse log) ys (beside_among (λ h. is_host [] h) lives handed)) xs
     (subst (λ (ys : List (List Bool)). SafeBook (reverse log) lives ys) hs safe.1))
     (subst (λ (ys : List Life). ClosesWhole (reverse log) ys (beside_among (λ h. is_host [] h) lives handed) (beside_among (λ h. is_host [] h) lives fates)) xs

@@ -1,5 +1,7 @@
 -- What `--trace` writes among strangers, and of an input of either kind.
-use Rattle.command_line.proofs.Common.{◌≡◌, ◌⊎◌, inl, inr, ℕ, List, Option, Result, OnOk, ap, subst, sym, ◌∙◌, Calls, Keeps, text_of, asking_from, parted_once, CarrierKind, IsScriptOf, IsScripted, ScriptFault, TopologyFields, TracesOn, on_ok}
+use Rattle.command_line.proofs.Common.{◌≡◌, ◌⊎◌, inl, inr, ℕ, List, Option, Result, OnOk, ap, subst, sym, ◌∙◌, Calls}
+use Rattle.command_line.proofs.Common.{Keeps, text_of, asking_from, parted_once, CarrierKind, IsScriptOf, IsScripted}
+use Rattle.command_line.proofs.Common.{ScriptFault, TopologyFields, TracesOn, on_ok}
 use Rattle.std.proofs.Common.{length}
 use Rattle.net_sim.specs.MixedWorlds.{MixedState, opening_mixed}
 use Rattle.topology.specs.Mixed.{MixedFields}

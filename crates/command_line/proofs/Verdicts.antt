@@ -1,4 +1,5 @@
--- What is said of a log: the lives among hosts with programs (Among), that it is what the audit says (Judged), that what is named is broken (Named), and the last word (LastWord).
+-- What is said of a log: the lives among hosts with programs (Among), that it is what the audit says (Judged), that
+-- what is named is broken (Named), and the last word (LastWord).
 pub mod Among
 pub mod Judged
 pub mod LastWord

@@ -1,9 +1,10 @@
 -- Lives toward strangers, one after the other.
-use Rattle.book_judge.proofs.Common.{◌≡◌, ℕ, zero, suc, ◌+◌, ◌≤◌, Bool, true, false, List, [], ◌∷◌, length, take, MatchBool, Some, None, sym, subst, ◌∙◌, arith, Host, receives, sends, Life, IsHanded, is_granted}
+use Rattle.book_judge.proofs.Common.{◌≡◌, ℕ, zero, suc, ◌+◌, ◌≤◌, Bool, true, false, List, [], ◌∷◌, length, take}
+use Rattle.book_judge.proofs.Common.{MatchBool, Some, None, sym, subst, ◌∙◌, arith, Host, receives, sends, Life}
+use Rattle.book_judge.proofs.Common.{IsHanded, is_granted}
 use Rattle.std.proofs.Common.{slice_get, ◌%◌, ◌==◌}
 use Rattle.book_judge.specs.Toward.{AreToward, IsToward, UntowardAt}
 use Rattle.std.proofs.lemmas.Bool.{eqb-true}
-use Rattle.std.proofs.lemmas.Option.{same_Some}
 use Rattle.book_judge.proofs.Peace.{granted_is, granted_true}
 
 -- ---- the first lives
@@ -15,20 +16,23 @@ toward_front strange (suc n) [] handed h = tt
 toward_front strange (suc n) (x ∷ lives) [] h = tt
 toward_front strange (suc n) (x ∷ lives) (text ∷ handed) h = (h.0, toward_front strange n lives handed h.1)
 
+some_same : {X : Type 0} {x y : X} → Some x ≡ Some y → x ≡ y
+some_same e = cc
+
 -- one more, and it is so where all are
-toward_next : (strange : Host → Bool) (n : ℕ) (lives : List Life) (handed : List (List Bool)) (x : Life) (text : List Bool)
-    → slice_get lives n ≡ Some x → slice_get handed n ≡ Some text
+toward_next : (strange : Host → Bool) (n : ℕ) (lives : List Life) (handed : List (List Bool)) (x : Life)
+    (text : List Bool) → slice_get lives n ≡ Some x → slice_get handed n ≡ Some text
     → AreToward strange (take n lives) (take n handed) → IsToward strange x text
     → AreToward strange (take (suc n) lives) (take (suc n) handed)
 toward_next strange n [] handed x text p q h is = absurd (cc)
 toward_next strange n (y ∷ lives) [] x text p q h is = absurd (cc)
 toward_next strange zero (y ∷ lives) (t ∷ handed) x text p q h is =
-    (subst (λ (z : Life). IsToward strange z t) (sym (same_Some y x p)) (subst (λ (z : List Bool). IsToward strange x z) (sym (same_Some t text q)) is), tt)
+    (subst (λ (z : Life). IsToward strange z t) (sym (some_same p)) (subst (λ (z : List Bool). IsToward strange x z) (sym (some_same q)) is), tt)
 toward_next strange (suc n) (y ∷ lives) (t ∷ handed) x text p q h is =
     (h.0, toward_next strange n lives handed x text p q h.1 is)
 
-pub toward_more : (strange : Host → Bool) (n : ℕ) (lives : List Life) (handed : List (List Bool)) (x : Life) (text : List Bool)
-    → slice_get lives n ≡ Some x → slice_get handed n ≡ Some text
+pub toward_more : (strange : Host → Bool) (n : ℕ) (lives : List Life) (handed : List (List Bool)) (x : Life)
+    (text : List Bool) → slice_get lives n ≡ Some x → slice_get handed n ≡ Some text
     → AreToward strange (take n lives) (take n handed) → IsToward strange x text
     → AreToward strange (take (n + 1) lives) (take (n + 1) handed)
 toward_more strange n lives handed x text p q h is =
@@ -36,26 +40,26 @@ toward_more strange n lives handed x text p q h is =
     subst (λ (k : ℕ). AreToward strange (take k lives) (take k handed)) on
     (toward_next strange n lives handed x text p q h is)
 
-toward_last : (strange : Host → Bool) (n : ℕ) (lives : List Life) (handed : List (List Bool)) (x : Life) (text : List Bool)
-    → slice_get lives n ≡ Some x → slice_get handed n ≡ Some text
+toward_last : (strange : Host → Bool) (n : ℕ) (lives : List Life) (handed : List (List Bool)) (x : Life)
+    (text : List Bool) → slice_get lives n ≡ Some x → slice_get handed n ≡ Some text
     → AreToward strange (take (suc n) lives) (take (suc n) handed) → IsToward strange x text
 toward_last strange n [] handed x text p q h = absurd (cc)
 toward_last strange n (y ∷ lives) [] x text p q h = absurd (cc)
 toward_last strange zero (y ∷ lives) (t ∷ handed) x text p q h =
-    subst (λ (z : Life). IsToward strange z text) (same_Some y x p)
-    (subst (λ (z : List Bool). IsToward strange y z) (same_Some t text q) h.0)
+    subst (λ (z : Life). IsToward strange z text) (some_same p)
+    (subst (λ (z : List Bool). IsToward strange y z) (some_same q) h.0)
 toward_last strange (suc n) (y ∷ lives) (t ∷ handed) x text p q h = toward_last strange n lives handed x text p q h.1
 
-toward_here : (strange : Host → Bool) (n : ℕ) (lives : List Life) (handed : List (List Bool)) (x : Life) (text : List Bool)
-    → slice_get lives n ≡ Some x → slice_get handed n ≡ Some text
+toward_here : (strange : Host → Bool) (n : ℕ) (lives : List Life) (handed : List (List Bool)) (x : Life)
+    (text : List Bool) → slice_get lives n ≡ Some x → slice_get handed n ≡ Some text
     → AreToward strange (take (n + 1) lives) (take (n + 1) handed) → IsToward strange x text
 toward_here strange n lives handed x text p q h =
     let on : n + 1 ≡ suc n = omega arith in
     toward_last strange n lives handed x text p q
     (subst (λ (k : ℕ). AreToward strange (take k lives) (take k handed)) on h)
 
-pub untoward_here : (strange : Host → Bool) (n : ℕ) (lives : List Life) (handed : List (List Bool)) (x : Life) (text : List Bool)
-    → slice_get lives n ≡ Some x → slice_get handed n ≡ Some text
+pub untoward_here : (strange : Host → Bool) (n : ℕ) (lives : List Life) (handed : List (List Bool)) (x : Life)
+    (text : List Bool) → slice_get lives n ≡ Some x → slice_get handed n ≡ Some text
     → AreToward strange (take n lives) (take n handed) → (IsToward strange x text → ⊥)
     → UntowardAt strange lives handed n
 untoward_here strange n lives handed x text p q h not =
@@ -115,7 +119,8 @@ pub toward_sent : (strange : Host → Bool) (x : Life) (text : List Bool) (r : B
     → strange x.peer ≡ true → receives x ≡ false
     → MatchBool r (IsHanded x text) (IsHanded x text → ⊥)
     → MatchBool r (IsToward strange x text) (IsToward strange x text → ⊥)
-toward_sent strange x text true own peer comes has = record { owner = own; taken = λ e receiving. absurd (false_true (sym comes ∙ receiving)); handed = λ e. has }
+toward_sent strange x text true own peer comes has =
+    record { owner = own; taken = λ e receiving. absurd (false_true (sym comes ∙ receiving)); handed = λ e. has }
   where
     false_true : false ≡ true → ⊥
     false_true f = cc

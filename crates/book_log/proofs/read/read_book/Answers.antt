@@ -32,7 +32,8 @@ lines-preserved c =
       line_more c.args.text.now c.lines.left.now c.in-Some.line.now c.in-Some.more.now c.lines.book c.add.new.self
           c.lines.passed c.in-Some-2.told c.lines.invariant.0 c.in-Some.ensures.0 read.0 read.1
           (rw c.if-not-branch.false at c.in_ok-add.ensures),
-      omega (arith, c.lines.invariant.1, shorter c.lines.left.now c.in-Some.line.now c.in-Some.more.now c.in-Some.ensures.0),
+      omega
+          (arith, c.lines.invariant.1, shorter c.lines.left.now c.in-Some.line.now c.in-Some.more.now c.in-Some.ensures.0),
       c.lines.invariant.2,
     )
 
