@@ -2,9 +2,10 @@
 use Rattle.book_log.proofs.Common.{◌≡◌, ◌≢◌, ℕ, ◌<◌, ◌≤◌, ◌^◌, Bool, true, false, List, [], ◌∷◌, ◌++◌, Option, Some}
 use Rattle.book_log.proofs.Common.{None, Result, Ok, Err, drop, length, sym, ap, ◌∙◌, arith, subst, decimal, Flow}
 use Rattle.book_log.proofs.Common.{HostMessage, Fate, Life, IsMessage, octets_text, kind_text, IsHanded, IsLived}
-use Rattle.book_log.proofs.Common.{TakesAs, counts_words, ends_words, flow_words, handed_words, life_words}
+use Rattle.book_log.proofs.Common.{counts_words, ends_words, flow_words, handed_words, life_words}
 use Rattle.book_log.proofs.Common.{message_words}
 use Rattle.std.proofs.Common.{IfOk}
+use Rattle.book_log.specs.Steps.{TakesAs}
 use Rattle.std.specs.Prelude.{IsTrue, ◌↔◌}
 use Rattle.book_log.specs.Steps.{AreCounts, AreEnds, TakesWords}
 use Rattle.book_log.specs.declared.lines.Counts.{Counts}

@@ -7,7 +7,7 @@ pub use Rattle.clap.specs.Kinds.{HasKind}
 pub use Rattle.clap.specs.Lexer.{long_of}
 pub use Rattle.clap.specs.Values.{kind_of}
 pub use Rattle.clap.specs.Walk.{one_of}
-pub use Rattle.command_line.specs.Audits.{AuditsLog, IsAuditFault, IsBookFault, IsSomeLog, Judged, SaysOf, kept, verdict_text, word_text}
+pub use Rattle.command_line.specs.Audits.{AuditsLog, IsAuditFault, IsBookFault, IsSomeLog, Judged, SaysOf, kept, word_text}
 pub use Rattle.command_line.specs.Carriers.{ends_of, plain_of, subnet_of}
 pub use Rattle.command_line.specs.Described.{Describes}
 pub use Rattle.command_line.specs.Either.{IsEitherFault, IsEitherInput, RanEither, RanEitherInPart, ReplaysEither, StopsEither}
@@ -22,7 +22,7 @@ pub use Rattle.command_line.specs.Printed.{AreOneBook, PrintsBook, PrintsPart}
 pub use Rattle.command_line.specs.Program.{EndsReplay, EndsTask, Sides}
 pub use Rattle.command_line.specs.Replayed.{ReplaysFrom, ReplaysInput, ReplaysOn, ReplaysOver, ShowsBook, ShowsFrom, StopsFrom, WorldShowsFrom, WorldStopsFrom, WritesWorld, book_text}
 pub use Rattle.command_line.specs.Steps.{IsNetworkFault, IsReplayFault}
-pub use Rattle.command_line.specs.Traced.{EndsAll, IsScriptOf, IsScripted, TraceStops, TracesAll, TracesFrom, TracesInput, TracesOn, TracesOver, WorldEndsFrom, WorldTracesFrom, asked_count}
+pub use Rattle.command_line.specs.Traced.{EndsAll, IsScriptOf, IsScripted, TracesAll, TracesFrom, TracesInput, TracesOn, TracesOver, WorldEndsFrom, WorldTracesFrom, asked_count}
 pub use Rattle.command_line.specs.declared.auditing.AuditFault.{AuditFault}
 pub use Rattle.command_line.specs.declared.fault.ScriptFault.{ScriptFault}
 pub use Rattle.command_line.specs.declared.options.Options.{Options}

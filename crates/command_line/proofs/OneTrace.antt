@@ -7,7 +7,7 @@ use Rattle.command_line.proofs.Common.{shown_settled, EndsRound, WorldEvent, ope
 use Rattle.command_line.proofs.Common.{TellsIn, TellsInCalm, TellsOne, TellsRound, change_of, first_rounds, state_of}
 use Rattle.command_line.proofs.Common.{object, opening_line, Spot, Inside, TellsEvent, asking_from, numbered_from}
 use Rattle.command_line.proofs.Common.{plain_inside, plain_calls, subnet_calls, subnet_inside, plain_of, subnet_of, Raw}
-use Rattle.command_line.proofs.Common.{World, EndsAll, IsScripted, TraceStops, TracesAll, TracesFrom, TracesInput}
+use Rattle.command_line.proofs.Common.{World, EndsAll, IsScripted, TracesAll, TracesFrom, TracesInput}
 use Rattle.command_line.proofs.Common.{TracesOn, TracesOver, WorldEndsFrom, WorldTracesFrom, members_of, AllParts}
 use Rattle.command_line.proofs.Common.{subnet_settled, plain_settled}
 use Rattle.replay.proofs.lemmas.{text_of-append}
@@ -18,7 +18,7 @@ use Rattle.world_script.specs.declared.event.WorldEvent.TheVariants as worlds
 use Rattle.world_trace.specs.Traces.{EndsIn, IsHeard, IsSilent, IsUnchanged, TellsStep}
 use Rattle.trace.specs.Traces.{EndsEvent, StopsElement}
 use Rattle.command_line.specs.Events.{Asked}
-use Rattle.command_line.specs.Traced.{EndsFrom, EndsOn, EndsOver}
+use Rattle.command_line.specs.Traced.{EndsFrom, EndsOn, EndsOver, TraceStops}
 use Rattle.command_line.proofs.InCalm.{in_calm_once, round_front, round_once}
 use Rattle.command_line.proofs.OneInput.{OneInput, input_once}
 use Rattle.trace.proofs.lemmas.{event_front, event_once}

@@ -5,6 +5,7 @@ use Rattle.book_judge.proofs.Common.{IsHanded, is_granted}
 use Rattle.std.proofs.Common.{slice_get, ◌%◌, ◌==◌}
 use Rattle.book_judge.specs.Toward.{AreToward, IsToward, UntowardAt}
 use Rattle.std.proofs.lemmas.Bool.{eqb-true}
+use Rattle.std.proofs.lemmas.Option.{same_Some}
 use Rattle.book_judge.proofs.Peace.{granted_is, granted_true}
 
 -- ---- the first lives
@@ -16,9 +17,6 @@ toward_front strange (suc n) [] handed h = tt
 toward_front strange (suc n) (x ∷ lives) [] h = tt
 toward_front strange (suc n) (x ∷ lives) (text ∷ handed) h = (h.0, toward_front strange n lives handed h.1)
 
-some_same : {X : Type 0} {x y : X} → Some x ≡ Some y → x ≡ y
-some_same e = cc
-
 -- one more, and it is so where all are
 toward_next : (strange : Host → Bool) (n : ℕ) (lives : List Life) (handed : List (List Bool)) (x : Life)
     (text : List Bool) → slice_get lives n ≡ Some x → slice_get handed n ≡ Some text
@@ -26,8 +24,11 @@ toward_next : (strange : Host → Bool) (n : ℕ) (lives : List Life) (handed : 
     → AreToward strange (take (suc n) lives) (take (suc n) handed)
 toward_next strange n [] handed x text p q h is = absurd (cc)
 toward_next strange n (y ∷ lives) [] x text p q h is = absurd (cc)
-toward_next strange zero (y ∷ lives) (t ∷ handed) x text p q h is =
-    (subst (λ (z : Life). IsToward strange z t) (sym (some_same p)) (subst (λ (z : List Bool). IsToward strange x z) (sym (some_same q)) is), tt)
+toward_next strange zero (y ∷ lives) (t ∷ handed) x text p q h is = (
+  subst (λ (z : Life). IsToward strange z t) (sym (same_Some y x p))
+      (subst (λ (z : List Bool). IsToward strange x z) (sym (same_Some t text q)) is),
+  tt,
+)
 toward_next strange (suc n) (y ∷ lives) (t ∷ handed) x text p q h is =
     (h.0, toward_next strange n lives handed x text p q h.1 is)
 
@@ -46,8 +47,8 @@ toward_last : (strange : Host → Bool) (n : ℕ) (lives : List Life) (handed : 
 toward_last strange n [] handed x text p q h = absurd (cc)
 toward_last strange n (y ∷ lives) [] x text p q h = absurd (cc)
 toward_last strange zero (y ∷ lives) (t ∷ handed) x text p q h =
-    subst (λ (z : Life). IsToward strange z text) (some_same p)
-    (subst (λ (z : List Bool). IsToward strange y z) (some_same q) h.0)
+    subst (λ (z : Life). IsToward strange z text) (same_Some y x p)
+    (subst (λ (z : List Bool). IsToward strange y z) (same_Some t text q) h.0)
 toward_last strange (suc n) (y ∷ lives) (t ∷ handed) x text p q h = toward_last strange n lives handed x text p q h.1
 
 toward_here : (strange : Host → Bool) (n : ℕ) (lives : List Life) (handed : List (List Bool)) (x : Life)

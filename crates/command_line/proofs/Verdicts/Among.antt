@@ -4,6 +4,7 @@ use Rattle.command_line.proofs.Common.{ap₂, subst, ◌∙◌, arith, append_as
 use Rattle.command_line.proofs.Common.{false≢true}
 use Rattle.std.proofs.Common.{length, zero, suc, Some, None, ◌-◌, ◌≤◌, drop, get_or, inl, inr, append-nil}
 use Rattle.std.proofs.lemmas.List.{drop_all, drop_more}
+use Rattle.std.proofs.lemmas.Option.{none-some, same_Some}
 use Rattle.book_judge.proofs.lemmas.{contains_cases}
 use Rattle.book_judge.specs.Toward.{AreToward}
 use Rattle.interface.proofs.lemmas.{contains_head, contains_tail}
@@ -89,22 +90,16 @@ pass_less true zero p q = absurd (q refl)
 pass_less true (suc left) p q = ap (λ (n : ℕ). Some n) (omega arith)
 pass_less false left p q = absurd (false≢true p)
 
-none_some : {X : Type 0} {x : X} → None ≡ Some x → ⊥
-none_some e = cc
-
-some_same : {X : Type 0} {x y : X} → Some x ≡ Some y → x ≡ y
-some_same e = cc
-
 one_on : (t : Bool) (bs : List Bool) (left next : ℕ) → Some next ≡ passed_one t left
     → place_in (t ∷ bs) left ≡ suc (place_in bs next)
-one_on false bs left next e = ap (λ (n : ℕ). suc (place_in bs n)) (sym (some_same e))
-one_on true bs zero next e = absurd (none_some (sym e))
-one_on true bs (suc left) next e = ap (λ (n : ℕ). suc (place_in bs n)) (sym (some_same e))
+one_on false bs left next e = ap (λ (n : ℕ). suc (place_in bs n)) (sym (same_Some next left e))
+one_on true bs zero next e = absurd (none-some next (sym e))
+one_on true bs (suc left) next e = ap (λ (n : ℕ). suc (place_in bs n)) (sym (same_Some next left e))
 
 one_found : (t : Bool) (bs : List Bool) (left : ℕ) → None ≡ passed_one t left → place_in (t ∷ bs) left ≡ 0
-one_found false bs left e = absurd (none_some e)
+one_found false bs left e = absurd (none-some left e)
 one_found true bs zero e = refl
-one_found true bs (suc left) e = absurd (none_some e)
+one_found true bs (suc left) e = absurd (none-some left e)
 
 pub place_found : (counted : List Bool) (place at left : ℕ) (d : Bool) → at < length counted
     → None ≡ passed_one (get_or counted at d) left

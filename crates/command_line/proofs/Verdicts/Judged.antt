@@ -1,9 +1,9 @@
 -- What is written of a log is what its audit says.
-use Rattle.command_line.proofs.Common.{◌≡◌, ℕ, Bool, true, false, List, ◌++◌, Option, Some, None, IfSome, Result, Ok, Err, MatchResult, OnOk, ap, codes, refl, sym, ◌∙◌, subst, false≢true, append_assoc, Appends, Keeps, IsLog, fates_of, lives_of, Crossing, Fate, Life, AuditsLog, IsAuditFault, IsBookFault, IsSomeLog, Judged, SaysOf, verdict_text, Finding, Verdict, AuditFault}
+use Rattle.command_line.proofs.Common.{◌≡◌, ℕ, Bool, true, false, List, ◌++◌, Option, Some, None, IfSome, Result, Ok, Err, MatchResult, OnOk, ap, codes, refl, sym, ◌∙◌, subst, false≢true, append_assoc, Appends, Keeps, IsLog, fates_of, lives_of, Crossing, Fate, Life, AuditsLog, IsAuditFault, IsBookFault, IsSomeLog, Judged, SaysOf, Finding, Verdict, AuditFault}
 use Rattle.book_log.specs.Log.{Book}
 use Rattle.interface.specs.Host.{Host, is_host}
 use Rattle.command_line.specs.Audits.{Audited, IsLogReadFault, Layout, closes_text, life_at, lines_of, lines_text}
-use Rattle.command_line.specs.Audits.{toward_text}
+use Rattle.command_line.specs.Audits.{toward_text, verdict_text}
 use Rattle.std.specs.Fmt.{decimal}
 use Rattle.std.specs.Prelude.{[]}
 use Rattle.command_line.specs.declared.verdict.Lines.{Lines}
