@@ -5,16 +5,14 @@ mod Joined
 mod Joins
 mod Lived
 mod Logs
-mod MixedTraced
 mod Once
 mod OneInput
-mod OneTrace
 mod Printed
 mod Reading
 mod Recorded
 mod Replayed
 mod Sites
-mod Traced
+mod Traces
 mod WorkedLines
 mod WorkedPrograms
 mod Flags

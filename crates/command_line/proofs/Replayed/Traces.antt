@@ -20,7 +20,7 @@ use Rattle.world_trace.specs.Texts.{line_of}
 use Rattle.command_line.specs.MixedTraced.{IsMixedScripted, MixedTraceEndsFrom, MixedTraceEndsOn, MixedTraceEndsOver}
 use Rattle.command_line.specs.MixedTraced.{MixedTraceStops, MixedTracesFrom, MixedTracesInput, MixedTracesOn}
 use Rattle.command_line.specs.MixedTraced.{MixedTracesOver, TraceStopsEither, TracesEither}
-use Rattle.command_line.proofs.OneTrace.{at_front, at_once, first_of_trace, one_trace, text_front}
+use Rattle.command_line.proofs.Traces.OneTrace.{at_front, at_once, first_of_trace, one_trace, text_front}
 use Rattle.command_line.proofs.Replayed.Determined.{OneMixed, mixed_once, not_both}
 
 -- ---- events have one trace

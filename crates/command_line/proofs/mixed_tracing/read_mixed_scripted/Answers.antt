@@ -1,6 +1,6 @@
 use Rattle.command_line.proofs.Common.{ap, ◌∙◌, IsScriptOf}
 use Rattle.std.proofs.Common.{length}
-use Rattle.command_line.proofs.MixedTraced.{mixed_fit}
+use Rattle.command_line.proofs.Traces.MixedTraced.{mixed_fit}
 use Rattle.command_line.proofs.mixed_tracing.read_mixed_scripted.Goals as goal
 
 pub returns-clause-read : goal.returns-clause-read

@@ -1,7 +1,7 @@
 use Rattle.command_line.proofs.Common.{◌∙◌, Err, Host, List, ap, inr, shown, Calls}
 use Rattle.net_sim.specs.MixedWorlds.{opening_mixed}
 use Rattle.command_line.proofs.Faults.{told_memory}
-use Rattle.command_line.proofs.MixedTraced.{flushed_mixed, mixed_ends}
+use Rattle.command_line.proofs.Traces.MixedTraced.{flushed_mixed, mixed_ends}
 use Rattle.command_line.proofs.mixed_tracing.trace_among.Goals as goal
 
 pub returns-in-Ok-trace_mixed_world-clause-traced : goal.returns-in-Ok-trace_mixed_world-clause-traced

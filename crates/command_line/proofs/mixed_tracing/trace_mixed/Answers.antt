@@ -1,9 +1,9 @@
 use Rattle.command_line.proofs.Common.{◌≡◌, ◌⊎◌, Err, List, ℕ, Keeps, OnOk, rules, subst}
 use Rattle.command_line.specs.MixedTraced.{MixedTraceEndsOn, MixedTracesOn}
 use Rattle.command_line.proofs.Faults.{unwritten}
-use Rattle.command_line.proofs.MixedTraced.{mixed_stopped, mixed_traced}
+use Rattle.command_line.proofs.Traces.MixedTraced.{mixed_stopped, mixed_traced}
 use Rattle.command_line.proofs.Replayed.Either.{mixed_read}
-use Rattle.command_line.proofs.Traced.{only_replayed}
+use Rattle.command_line.proofs.Traces.Traced.{only_replayed}
 use Rattle.command_line.proofs.mixed_tracing.trace_mixed.Goals as goal
 
 pub returns-clause-read : goal.returns-clause-read

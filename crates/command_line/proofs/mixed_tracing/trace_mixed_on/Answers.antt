@@ -6,7 +6,7 @@ use Rattle.topology.specs.Mixed.{MixedFields}
 use Rattle.topology.specs.Topology.{hosts_of}
 use Rattle.topology.specs.declared.network.CarrierKind.TheVariants as kind
 use Rattle.command_line.specs.MixedTraced.{MixedTraceEndsFrom, MixedTracesFrom}
-use Rattle.command_line.proofs.MixedTraced.{mixed_over, mixed_over_part}
+use Rattle.command_line.proofs.Traces.MixedTraced.{mixed_over, mixed_over_part}
 use Rattle.command_line.proofs.Replayed.Strangers.{strangers_there}
 use Rattle.command_line.proofs.mixed_tracing.trace_mixed_on.Goals as goal
 

@@ -1,8 +1,8 @@
 use Rattle.command_line.proofs.Common.{◌⊎◌, List, ℕ, Keeps, OnOk, subst, asked_of, IsInputFault, ScriptFault, TracesOn}
 use Rattle.command_line.specs.Traced.{EndsOn}
-use Rattle.command_line.proofs.MixedTraced.{either_stopped, either_traced, plain_stopped, plain_traced}
+use Rattle.command_line.proofs.Traces.MixedTraced.{either_stopped, either_traced, plain_stopped, plain_traced}
 use Rattle.command_line.proofs.Replayed.Either.{either_read, follow_fault, plain_read}
-use Rattle.command_line.proofs.Traced.{only_replayed}
+use Rattle.command_line.proofs.Traces.Traced.{only_replayed}
 use Rattle.command_line.proofs.tracing.follow.Goals as goal
 
 -- ---- without strangers

@@ -1,6 +1,6 @@
 use Rattle.command_line.proofs.Common.{ap, ◌∙◌, asked_of, IsScriptOf}
 use Rattle.std.proofs.Common.{length}
-use Rattle.command_line.proofs.Traced.{lines_fit}
+use Rattle.command_line.proofs.Traces.Traced.{lines_fit}
 use Rattle.command_line.proofs.tracing.read_scripted.Goals as goal
 
 pub returns-clause-read : goal.returns-clause-read

@@ -2,7 +2,7 @@ use Rattle.command_line.proofs.Common.{◌≡◌, Err, List, ℕ, MatchResult, O
 use Rattle.command_line.specs.Either.{IsEitherFault, IsEitherInput}
 use Rattle.command_line.specs.MixedTraced.{TraceStopsEither, TracesEither}
 use Rattle.command_line.specs.Stopping.{NothingOr}
-use Rattle.command_line.proofs.MixedTraced.{any_stopped, any_traced}
+use Rattle.command_line.proofs.Traces.MixedTraced.{any_stopped, any_traced}
 use Rattle.command_line.proofs.Replayed.Either.{at_known, unread_either}
 use Rattle.command_line.proofs.tracing.run_trace.Goals as goal
 

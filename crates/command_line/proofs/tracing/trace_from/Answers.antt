@@ -1,6 +1,6 @@
 use Rattle.command_line.proofs.Common.{Err, ap, Calls, Inside}
 use Rattle.command_line.proofs.Faults.{told_memory, told_write}
-use Rattle.command_line.proofs.Traced.{flushed_trace}
+use Rattle.command_line.proofs.Traces.Traced.{flushed_trace}
 use Rattle.command_line.proofs.tracing.trace_from.Goals as goal
 
 pub returns-in-Ok-clause-traced : goal.returns-in-Ok-clause-traced

@@ -1,6 +1,6 @@
 use Rattle.command_line.proofs.Common.{Err, ap, inr, shown, Calls}
 use Rattle.command_line.proofs.Faults.{told_memory, told_write}
-use Rattle.command_line.proofs.Traced.{flushed_world, world_ends}
+use Rattle.command_line.proofs.Traces.Traced.{flushed_world, world_ends}
 use Rattle.command_line.proofs.tracing.trace_hosts.Goals as goal
 
 pub returns-in-Ok-clause-traced : goal.returns-in-Ok-clause-traced

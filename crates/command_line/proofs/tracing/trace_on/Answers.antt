@@ -1,7 +1,7 @@
 use Rattle.command_line.proofs.Common.{◌≡◌, ◌⊎◌, ◌∙◌, OnOk, rules, subst, Keeps, subnet_calls, subnet_of, asked_of, subnet_inside, EndsAll, TracesAll}
 use Rattle.subnet.specs.Calls.{Kept}
 use Rattle.topology.specs.declared.network.CarrierKind.TheVariants as kind
-use Rattle.command_line.proofs.Traced.{ends_over, traced_over}
+use Rattle.command_line.proofs.Traces.Traced.{ends_over, traced_over}
 use Rattle.command_line.proofs.tracing.trace_on.Goals as goal
 
 pub returns-in_ok-subnet_of-in-Subnet-clause-traced : goal.returns-in_ok-subnet_of-in-Subnet-clause-traced

@@ -15,7 +15,7 @@ use Rattle.command_line.specs.Mixed.{IsMixedInput}
 use Rattle.command_line.specs.MixedTraced.{IsMixedScripted, MixedTraceEndsFrom, MixedTraceEndsOn, MixedTraceEndsOver, MixedTraceStops, MixedTracesFrom, MixedTracesInput, MixedTracesOn, MixedTracesOver, TraceStopsEither, TracedEither, TracedEitherInPart, TracesEither}
 use Rattle.command_line.specs.Traced.{EndsOn}
 use Rattle.command_line.proofs.Verdicts.Judged.{stays}
-use Rattle.command_line.proofs.Traced.{as_many}
+use Rattle.command_line.proofs.Traces.Traced.{as_many}
 
 -- ---- over a carrier
 
