@@ -5,6 +5,7 @@ mod Joined
 mod Joins
 mod Lived
 mod Logs
+mod MixedKept
 mod MixedTraced
 mod Once
 mod OneInput

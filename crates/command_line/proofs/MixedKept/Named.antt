@@ -1,11 +1,18 @@
 -- The strangers of a log are hosts that exist, in order.
-use Rattle.command_line.proofs.Common.{◌≡◌, Bool, true, false, List, [], ◌∷◌, refl, sym, Host, All, ap, ◌∙◌}
-use Rattle.std.proofs.Common.{◌&&◌, filter}
+use Rattle.command_line.proofs.Common.{◌≡◌, Bool, true, false, List, [], ◌∷◌, None, refl, sym, subst, ◌∙◌, Host, All}
+use Rattle.command_line.proofs.Common.{Calls, MixedWorldEvent, shown}
+use Rattle.std.proofs.Common.{filter}
 use Rattle.std.proofs.lemmas.Bool.{le-leb, or_left, or_right}
 use Rattle.std.proofs.lemmas.List.Elements.{All-cons, All-nil}
 use Rattle.interface.proofs.lemmas.{host_before_trans, same_host-refl}
 use Rattle.interface.specs.Host.{InOrder, IsAddress, host_before, is_host, same_host}
+use Rattle.book_log.specs.Log.{AreStrangers}
+use Rattle.net_sim.specs.MixedWorlds.{IsLawfulAmong, MixedState, absent_in, opening_mixed, strange_in}
 use Rattle.script.specs.Spelling.{IsHost}
+use Rattle.world_replay.specs.Kinds.{ReplaysBy, mixed_kind}
+use Rattle.world_replay.specs.Output.{Shown}
+use Rattle.command_line.specs.MixedLogs.{ArePicked}
+use Rattle.command_line.proofs.MixedKept.Stay.{strangers_stay}
 
 -- ---- in order
 
@@ -50,3 +57,17 @@ each_named (g ∷ named) valid =
 -- each of them has an address
 pub all_hosts : (named : List Host) → ((h : Host) → is_host named h ≡ true → IsAddress h) → All IsHost named
 all_hosts named addresses = each_named named (λ h there. address_host h (addresses h there))
+
+-- hosts that are picked out of a carrier's, and are strangers in a lawful world over it
+pub are_strangers : {C : Type 0} (calls : Calls C) (strangers : List Host) (carrier : C) (events : List MixedWorldEvent)
+    (last : MixedState C) (shows : List Shown) → absent_in (calls.seen carrier).hosts strangers ≡ None
+    → ArePicked (calls.seen carrier).hosts strangers → InOrder (calls.seen carrier).hosts
+    → ReplaysBy (mixed_kind (shown calls)) (opening_mixed (shown calls) carrier strangers) events last shows
+    → IsLawfulAmong (strange_in last) calls.seen (calls.seen last.world.carrier).hosts last.world
+    → AreStrangers strangers
+are_strangers calls strangers carrier events last shows there picked order replayed lawful = record {
+  valid = all_hosts strangers
+      (λ h is. lawful.addresses h
+      (lawful.strangers h (sym (strangers_stay calls carrier strangers events last shows there replayed h) ∙ is)));
+  rising = subst InOrder (sym picked.1) (picked_order picked.0 (calls.seen carrier).hosts order);
+}

@@ -1,17 +1,22 @@
 -- The strangers of a world are those that were named, whatever happens in it.
-use Rattle.command_line.proofs.Common.{◌≡◌, Bool, true, false, List, [], ◌∷◌, None, Result, refl, sym, ap, ◌∙◌, Calls}
-use Rattle.command_line.proofs.Common.{Host, not, WorldState, Event, MixedWorldEvent, shown}
+use Rattle.command_line.proofs.Common.{◌≡◌, Bool, true, false, List, [], ◌∷◌, None, Some, Result, refl, sym, ap, ◌∙◌, inl, inr}
+use Rattle.command_line.proofs.Common.{Calls, Host, not, WorldState, Event, MixedWorldEvent, shown}
 use Rattle.std.proofs.Common.{◌&&◌, filter}
 use Rattle.std.proofs.lemmas.Bool.{false≢true, or_cases}
 use Rattle.std.proofs.lemmas.Map.Views.{any-filter_same}
 use Rattle.std.specs.Bool.{MatchBool}
 use Rattle.interface.proofs.lemmas.{and_true, both_ways, same_host-true}
 use Rattle.interface.specs.Host.{is_host, same_host}
-use Rattle.net_sim.specs.MixedWorlds.{Any, AnyGives, AskedGives, FetchGives, MixedEvent, MixedFault, MixedState, MixedStepGives}
-use Rattle.net_sim.specs.MixedWorlds.{NoProgram, OfWorld, Out, OutGives, RefusesMixed, absent_in, asked_at, is_strange}
-use Rattle.net_sim.specs.MixedWorlds.{opening_mixed, strange_in}
+use Rattle.net_sim.specs.MixedWorlds.{AnyGives, AskedGives, FetchGives, MixedState, MixedStepGives, OfWorld, OutGives}
+use Rattle.net_sim.specs.MixedWorlds.{RefusesMixed, absent_in, asked_at, is_strange, opening_mixed, strange_in}
 use Rattle.net_sim.specs.MixedWorlds as worlds
-use Rattle.net_sim.specs.World.{Ask, Net, Offer, Quiet, Server, StepGives, Take, Typed, User, WorldFault}
+use Rattle.net_sim.specs.World.{StepGives}
+use Rattle.net_sim.specs.declared.event.Event.TheVariants.{Ask, Net, Offer, Quiet, Server, Take, Typed, User}
+use Rattle.net_sim.specs.declared.event.WorldFault.{WorldFault}
+use Rattle.net_sim.specs.declared.mixed.MixedEvent.{MixedEvent}
+use Rattle.net_sim.specs.declared.mixed.MixedEvent.TheVariants.{Any, Out}
+use Rattle.net_sim.specs.declared.mixed.MixedFault.{MixedFault}
+use Rattle.net_sim.specs.declared.mixed.MixedFault.TheVariants.{NoProgram}
 use Rattle.world_replay.specs.Kinds.{MixedEventGives, ReplaysBy, mixed_kind}
 use Rattle.world_replay.specs.Output.{Shown}
 use Rattle.world_script.specs.declared.event.MixedWorldEvent.TheVariants as mixed
