@@ -5,7 +5,6 @@ mod Joined
 mod Joins
 mod Lived
 mod Logs
-mod MixedKept
 mod MixedTraced
 mod Once
 mod OneInput

@@ -25,10 +25,10 @@ use Rattle.command_line.specs.Mixed.{IsMixedInput}
 abbrev pub ArePicked : List Host → List Host → Type 0
 ArePicked hosts strangers = (p : Host → Bool) × (strangers ≡ filter p hosts)
 
--- events are replayed in a world over such a carrier in which these hosts are strangers: hosts of the network, by IMP and
--- then by number. Its book keeps what is promised among hosts with programs and, of each of these, toward all others, and
--- has a list and a fate for each life. A line for each stranger is written, then the log of this book, and nothing else. It
--- says all values as they are
+-- events are replayed in a world over such a carrier in which these hosts are strangers: hosts of the network, by IMP
+-- and then by number. Its book keeps what is promised among hosts with programs and, of each of these, toward all
+-- others, and has a list and a fate for each life. A line for each stranger is written, then the log of this book, and
+-- nothing else. It says all values as they are
 pub record MixedLogsFrom {C : Type 0} (calls : Calls C) (strangers : List Host) (opening : C)
     (events : List MixedWorldEvent) (before after : Option (List ℕ)) : Type 0 where
   pub there : absent_in (calls.seen opening).hosts strangers ≡ None

@@ -126,8 +126,8 @@ pub fn worked_made()
     ensures still_alive { (m : HostMessage) → AreLived (crossing.Down here ∷ took_one m) told_one (life_one ∷ []) → ⊥ }
 {}
 
-/// What `--log` writes is a log, of whatever network and events, with strangers or without. Its book is kept, and what crossed in it is a run of
-/// the mailboxes. So whoever reads it comes to this book, and to this verdict.
+/// What `--log` writes is a log, of whatever network and events, with strangers or without. Its book is kept, and what
+/// crossed in it is a run of the mailboxes. So whoever reads it comes to this book, and to this verdict.
 pub fn logs_are_kept()
     ensures { (octets : List ℕ) → LoggedEither (Some []) (Some octets) → IsKeptLog octets }
 {}

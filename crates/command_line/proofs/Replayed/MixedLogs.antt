@@ -1,8 +1,8 @@
 -- What `--log` writes among strangers, and of an input of either kind.
 use Rattle.command_line.proofs.Common.{◌≡◌, inl, inr, ℕ, List, ◌++◌, Option, Result, OnOk, subst, sym, Appends, Calls}
 use Rattle.command_line.proofs.Common.{AreFated, Detail, Host, log_text, shown, subnet_calls, subnet_of, CarrierKind}
-use Rattle.command_line.proofs.Common.{TopologyFields, MixedFields, MixedWorldEvent, ScriptFault, IsInput, LogsOn}
-use Rattle.command_line.proofs.Common.{None, on_ok, world_book}
+use Rattle.command_line.proofs.Common.{TopologyFields, MixedFields, MixedWorldEvent, ScriptFault, IsInput, LogsOn, None}
+use Rattle.command_line.proofs.Common.{on_ok, world_book}
 use Rattle.book_log.specs.Log.{IsBook, strangers_text}
 use Rattle.interface.specs.Host.{InOrder}
 use Rattle.mixed_worlds.specs.Laws.{KeepsAmong, KeepsToward}
@@ -17,7 +17,7 @@ use Rattle.command_line.specs.Events.{Asked}
 use Rattle.command_line.specs.Mixed.{IsMixedInput}
 use Rattle.command_line.specs.MixedLogs.{ArePicked, LoggedEither, LogsEither, MixedLogsFrom, MixedLogsInput}
 use Rattle.command_line.specs.MixedLogs.{MixedLogsOn, MixedLogsOver}
-use Rattle.command_line.proofs.MixedKept.Named.{are_strangers}
+use Rattle.command_line.proofs.Verdicts.MixedKept.Named.{are_strangers}
 use Rattle.command_line.proofs.Replayed.Strangers.{subnet_named}
 
 -- ---- over a carrier
@@ -27,14 +27,16 @@ pub logs_among : {C : Type 0} (calls : Calls C) (strangers : List Host) (carrier
     → absent_in (calls.seen carrier).hosts strangers ≡ None → ArePicked (calls.seen carrier).hosts strangers
     → InOrder (calls.seen carrier).hosts → opening ≡ opening_mixed (shown calls) carrier strangers
     → IsLawfulAmong (strange_in last) calls.seen (calls.seen last.world.carrier).hosts last.world
-    → AreUnhanded last.world.kept.book.lives last.world.kept.handed → lines.Writes detail (ReplaysBy (mixed_kind (shown calls)) opening events last) x y
+    → AreUnhanded last.world.kept.book.lives last.world.kept.handed
+    → lines.Writes detail (ReplaysBy (mixed_kind (shown calls)) opening events last) x y
     → KeepsAmong (strange_in last) (calls.seen last.world.carrier).hosts last.world
     → KeepsToward (strange_in last) last.world
     → k ≡ last.world.kept → AreFated last.world.kept.book.lives last.world.kept.fates
     → Appends before after (strangers_text strangers ++ log_text (world_book k))
-    → (AreFated k.book.lives k.fates → IsBook (world_book k)) → MixedLogsFrom calls strangers carrier events before after
-logs_among {C} calls strangers carrier opening last events detail k x y before after there picked order begins lawful lists w
-    among toward is fated written valid =
+    → (AreFated k.book.lives k.fates → IsBook (world_book k))
+    → MixedLogsFrom calls strangers carrier events before after
+logs_among {C} calls strangers carrier opening last events detail k x y before after there picked order begins lawful
+    lists w among toward is fated written valid =
     let replayed : ReplaysBy (mixed_kind (shown calls)) (opening_mixed (shown calls) carrier strangers) events last
     w.shown =
     subst (λ (s : MixedState C). ReplaysBy (mixed_kind (shown calls)) s events last w.shown) begins w.is_shown in

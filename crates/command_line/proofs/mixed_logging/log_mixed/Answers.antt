@@ -1,6 +1,6 @@
 use Rattle.std.proofs.Common.{◌≡◌, Err, rules}
 use Rattle.command_line.proofs.Faults.{unwritten}
-use Rattle.command_line.proofs.MixedKept.Picked.{picked_in}
+use Rattle.command_line.proofs.Verdicts.MixedKept.Picked.{picked_in}
 use Rattle.command_line.proofs.Replayed.MixedLogs.{mixed_logged}
 use Rattle.command_line.proofs.Replayed.Either.{mixed_read}
 use Rattle.command_line.proofs.mixed_logging.log_mixed.Goals as goal

@@ -1,7 +1,7 @@
 use Rattle.command_line.proofs.Common.{◌≡◌, ap, rules, ◌∙◌, Boxes, hosts_of, subnet_of}
 use Rattle.subnet.specs.Calls.{Kept}
 use Rattle.topology.specs.declared.network.CarrierKind.TheVariants as kind
-use Rattle.command_line.proofs.MixedKept.Picked.{picked_at}
+use Rattle.command_line.proofs.Verdicts.MixedKept.Picked.{picked_at}
 use Rattle.command_line.proofs.Replayed.MixedLogs.{subnet_logged}
 use Rattle.command_line.proofs.Replayed.Strangers.{strangers_there}
 use Rattle.command_line.proofs.mixed_logging.log_mixed_on.Goals as goal

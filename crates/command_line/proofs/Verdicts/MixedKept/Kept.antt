@@ -1,8 +1,8 @@
 -- What `--log` writes is kept, with strangers or without.
-use Rattle.command_line.proofs.Common.{◌≡◌, Bool, List, [], Option, Some, map, sym, subst, inl, inr, ℕ, reverse-reverse}
-use Rattle.command_line.proofs.Common.{Calls, CarrierKind, ClosesWhole, Crossing, Fate, Host, Judged, Life, MixedFields}
-use Rattle.command_line.proofs.Common.{AreSuited, MixedWorldEvent, WorldState, kept, plain_calls, plain_of, subnet_calls}
-use Rattle.command_line.proofs.Common.{subnet_of, world_book}
+use Rattle.command_line.proofs.Common.{◌≡◌, Bool, List, [], Some, map, sym, subst, inl, inr, ℕ, reverse-reverse, Calls}
+use Rattle.command_line.proofs.Common.{CarrierKind, ClosesWhole, Crossing, Fate, Host, Judged, Life, MixedFields}
+use Rattle.command_line.proofs.Common.{AreSuited, MixedWorldEvent, WorldState, kept, plain_calls, plain_of}
+use Rattle.command_line.proofs.Common.{subnet_calls, subnet_of, world_book}
 use Rattle.std.proofs.Common.{reverse}
 use Rattle.book_judge.proofs.lemmas.{made_twice, made_with, suited_with}
 use Rattle.book_log.specs.Log.{logged_fate}
@@ -18,9 +18,9 @@ use Rattle.topology.specs.declared.network.CarrierKind.TheVariants as kind
 use Rattle.command_line.specs.Audits.{IsKeptLog}
 use Rattle.command_line.specs.MixedLogs.{LoggedEither, MixedLogsFrom, MixedLogsOver}
 use Rattle.command_line.proofs.Joined.{closes_logged, logged_kept, run_twice, says_logged, suited_logged}
-use Rattle.command_line.proofs.MixedKept.Stamped.{well_formed}
-use Rattle.command_line.proofs.MixedKept.Stay.{strangers_stay}
-use Rattle.command_line.proofs.MixedKept.Toward.{fates_logged, toward_each}
+use Rattle.command_line.proofs.Verdicts.MixedKept.Stamped.{well_formed}
+use Rattle.command_line.proofs.Verdicts.MixedKept.Stay.{strangers_stay}
+use Rattle.command_line.proofs.Verdicts.MixedKept.Toward.{fates_logged, toward_each}
 use Rattle.command_line.proofs.Verdicts.Named.{kept_from_safe}
 
 -- what holds of a log holds of it turned round twice

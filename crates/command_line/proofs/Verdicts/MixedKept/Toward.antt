@@ -1,5 +1,6 @@
 -- What a world with strangers keeps is what may be asked of the lives in its log toward these.
-use Rattle.command_line.proofs.Common.{◌≡◌, Bool, true, false, List, [], ◌∷◌, map, refl, ap, inl, inr, Host, Life, Fate, Contains}
+use Rattle.command_line.proofs.Common.{◌≡◌, Bool, true, false, List, [], ◌∷◌, map, refl, ap, inl, inr, Host, Life, Fate}
+use Rattle.command_line.proofs.Common.{Contains}
 use Rattle.std.proofs.Common.{length}
 use Rattle.book_judge.specs.Toward.{AreToward}
 use Rattle.book_log.specs.Log.{logged_fate}

@@ -1,6 +1,6 @@
 -- The strangers of a world are those that were named, whatever happens in it.
-use Rattle.command_line.proofs.Common.{◌≡◌, Bool, true, false, List, [], ◌∷◌, None, Some, Result, refl, sym, ap, ◌∙◌, inl, inr}
-use Rattle.command_line.proofs.Common.{Calls, Host, not, WorldState, Event, MixedWorldEvent, shown}
+use Rattle.command_line.proofs.Common.{◌≡◌, Bool, true, false, List, [], ◌∷◌, None, Some, Result, refl, sym, ap, ◌∙◌}
+use Rattle.command_line.proofs.Common.{inl, inr, Calls, Host, WorldState, Event, MixedWorldEvent, shown}
 use Rattle.std.proofs.Common.{◌&&◌, filter}
 use Rattle.std.proofs.lemmas.Bool.{false≢true, or_cases}
 use Rattle.std.proofs.lemmas.Map.Views.{any-filter_same}
@@ -10,7 +10,7 @@ use Rattle.interface.specs.Host.{is_host, same_host}
 use Rattle.net_sim.specs.MixedWorlds.{AnyGives, AskedGives, FetchGives, MixedState, MixedStepGives, OfWorld, OutGives}
 use Rattle.net_sim.specs.MixedWorlds.{RefusesMixed, absent_in, asked_at, is_strange, opening_mixed, strange_in}
 use Rattle.net_sim.specs.MixedWorlds as worlds
-use Rattle.net_sim.specs.World.{StepGives}
+use Rattle.net_sim.specs.World.{CalmGives, StepGives}
 use Rattle.net_sim.specs.declared.event.Event.TheVariants.{Ask, Net, Offer, Quiet, Server, Take, Typed, User}
 use Rattle.net_sim.specs.declared.event.WorldFault.{WorldFault}
 use Rattle.net_sim.specs.declared.mixed.MixedEvent.{MixedEvent}
@@ -69,7 +69,7 @@ module _ {C : Type 0} (calls : Calls C) where
   one : (e : MixedWorldEvent) (old : MixedState C) (r : Answer) (new : MixedState C) → MixedEventGives calls old e r new
       → new.strangers ≡ old.strangers
   one (mixed.Happen e) old r new h = step e old r new h
-  one (mixed.Calm rounds) old r new h = of_world _ old r new h
+  one (mixed.Calm rounds) old r new h = of_world (CalmGives calls rounds old.world) old r new h
 
   -- nor do several
   pub all_stay : (events : List MixedWorldEvent) (old new : MixedState C) (shows : List Shown)
@@ -86,7 +86,8 @@ there_is : (hosts named : List Host) (h : Host) → absent_in hosts named ≡ No
 there_is hosts [] h none is = absurd (false≢true is)
 there_is hosts (g ∷ named) h none is = by (is_host hosts g) refl (λ e i. there_is hosts named h e i) none
   where
-    by : (b : Bool) → is_host hosts g ≡ b → (absent_in hosts named ≡ None → is_host named h ≡ true → is_host hosts h ≡ true)
+    by : (b : Bool) → is_host hosts g ≡ b
+        → (absent_in hosts named ≡ None → is_host named h ≡ true → is_host hosts h ≡ true)
         → absent_in hosts (g ∷ named) ≡ None → is_host hosts h ≡ true
     by true e rest absent = elim (or_cases (same_host h g) (is_host named h) is) [
       | inl same ↦ ap (is_host hosts) (same_host-true h g same) ∙ e

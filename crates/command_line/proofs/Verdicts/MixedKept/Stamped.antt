@@ -1,11 +1,10 @@
 -- A life whose two requests crossed has the stamps of messages, and each life has a list of what was handed over.
-use Rattle.command_line.proofs.Common.{◌≡◌, ℕ, ◌<◌, ◌==◌, ◌++◌, Bool, true, false, List, [], ◌∷◌, None, Some, refl, sym}
-use Rattle.command_line.proofs.Common.{ap, subst, ◌∙◌, arith, inl, inr, Host, Crossing, Life, SafeMessages, if◌then◌else◌}
-use Rattle.command_line.proofs.Common.{length-append}
-use Rattle.std.proofs.Common.{zero, suc, ◌+◌, ◌-◌, drop, length}
+use Rattle.command_line.proofs.Common.{◌≡◌, ℕ, ◌==◌, ◌++◌, Bool, true, false, List, [], ◌∷◌, refl, sym, ap, subst, ◌∙◌}
+use Rattle.command_line.proofs.Common.{arith, inl, inr, Host, Crossing, Life, SafeMessages, length-append}
+use Rattle.std.proofs.Common.{suc, ◌+◌, ◌-◌, drop, length}
 use Rattle.std.proofs.Math.Seq.{drop-append-add}
-use Rattle.std.proofs.lemmas.Bool.{eqb-true, false≢true, or_right}
-use Rattle.std.specs.Prelude.{IsSome, ◌||◌}
+use Rattle.std.proofs.lemmas.Bool.{eqb-true, false≢true}
+use Rattle.std.specs.Prelude.{IsSome}
 use Rattle.interface.proofs.lemmas.{same_flow-refl, same_flow-true}
 use Rattle.interface.specs.Mailboxes.{same_flow}
 use Rattle.interface.specs.Messages.{taken_in, went_out}
@@ -89,7 +88,12 @@ parted place c (d ∷ log) (inl h) =
     record { newer = []; older = log; parts = ap (λ (x : Crossing). x ∷ log) (sym h.0); counted = h.1 }
 parted place c (d ∷ log) (inr h) =
     let p : Parted place c log = parted place c log h in
-    record { newer = d ∷ p.newer; older = p.older; parts = ap (λ (cs : List Crossing). d ∷ cs) p.parts; counted = p.counted }
+    record {
+      newer = d ∷ p.newer;
+      older = p.older;
+      parts = ap (λ (cs : List Crossing). d ∷ cs) p.parts;
+      counted = p.counted;
+    }
 
 older_before : (newer older : List Crossing) (c : Crossing) → before (length older) (newer ++ c ∷ older) ≡ older
 older_before newer older c =

@@ -5,14 +5,14 @@ use Rattle.std.proofs.Common.{filter}
 use Rattle.std.proofs.lemmas.Bool.{le-leb, or_left, or_right}
 use Rattle.std.proofs.lemmas.List.Elements.{All-cons, All-nil}
 use Rattle.interface.proofs.lemmas.{host_before_trans, same_host-refl}
-use Rattle.interface.specs.Host.{InOrder, IsAddress, host_before, is_host, same_host}
+use Rattle.interface.specs.Host.{InOrder, IsAddress, is_host, same_host}
 use Rattle.book_log.specs.Log.{AreStrangers}
 use Rattle.net_sim.specs.MixedWorlds.{IsLawfulAmong, MixedState, absent_in, opening_mixed, strange_in}
 use Rattle.script.specs.Spelling.{IsHost}
 use Rattle.world_replay.specs.Kinds.{ReplaysBy, mixed_kind}
 use Rattle.world_replay.specs.Output.{Shown}
 use Rattle.command_line.specs.MixedLogs.{ArePicked}
-use Rattle.command_line.proofs.MixedKept.Stay.{strangers_stay}
+use Rattle.command_line.proofs.Verdicts.MixedKept.Stay.{strangers_stay}
 
 -- ---- in order
 
@@ -30,10 +30,10 @@ first_picked : (p : Host → Bool) (g : Host) (hosts : List Host) → InOrder (g
 first_picked p g [] order picked = tt
 first_picked p g (h ∷ hosts) order picked = by (p h) refl (first_picked p g hosts (skipped g h hosts order)) picked
   where
-    by : (b : Bool) → p h ≡ b → (InOrder (filter p hosts) → InOrder (g ∷ filter p hosts)) → InOrder (filter p (h ∷ hosts))
-        → InOrder (g ∷ filter p (h ∷ hosts))
-    by true e rest order_picked = rw e (order.0, rw e at order_picked)
-    by false e rest order_picked = rw e (rest (rw e at order_picked))
+    by : (b : Bool) → p h ≡ b → (InOrder (filter p hosts) → InOrder (g ∷ filter p hosts))
+        → InOrder (filter p (h ∷ hosts)) → InOrder (g ∷ filter p (h ∷ hosts))
+    by true e rest picked = rw e (order.0, rw e at picked)
+    by false e rest picked = rw e (rest (rw e at picked))
 
 -- hosts that are picked out of hosts in order are in order
 pub picked_order : (p : Host → Bool) (hosts : List Host) → InOrder hosts → InOrder (filter p hosts)

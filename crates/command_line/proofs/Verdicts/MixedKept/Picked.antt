@@ -1,7 +1,6 @@
 -- The strangers of an input are some of the hosts of its network, in the order of these.
-use Rattle.command_line.proofs.Common.{◌≡◌, ℕ, Bool, true, false, List, Option, Some, None, sym, refl, ap, ◌∙◌, subst, Host}
-use Rattle.command_line.proofs.Common.{codes, if◌then◌else◌, not}
-use Rattle.command_line.proofs.Common.{TopologyFields, MixedFields, hosts_of}
+use Rattle.command_line.proofs.Common.{◌≡◌, ℕ, Bool, true, false, List, Option, Some, None, sym, refl, subst, Host}
+use Rattle.command_line.proofs.Common.{codes, if◌then◌else◌, not, TopologyFields, MixedFields, hosts_of}
 use Rattle.std.proofs.Common.{◌&&◌, filter, length, nat_le}
 use Rattle.std.proofs.lemmas.Option.{same_Some}
 use Rattle.toml.specs.Data.{Items, Members, table}
@@ -18,7 +17,8 @@ if_is : (b : Bool) (m t : MixedFields) → (if b then Some m else None) ≡ Some
 if_is true m t e = same_Some m t e
 if_is false m t e = absurd (cc)
 
-picked_by : (imps : Items) (network : Option TopologyFields) (t : MixedFields) → mixed_by imps network ≡ Some t → Picks t
+picked_by : (imps : Items) (network : Option TopologyFields) (t : MixedFields) → mixed_by imps network ≡ Some t
+    → Picks t
 picked_by imps None t is = absurd (cc)
 picked_by imps (Some network) t is =
     let m : MixedFields = record { network = network; strangers = filter (is_foreign imps) (hosts_of network) } in
