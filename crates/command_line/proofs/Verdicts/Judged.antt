@@ -2,7 +2,9 @@
 use Rattle.command_line.proofs.Common.{◌≡◌, ℕ, Bool, true, false, List, ◌++◌, Option, Some, None, IfSome, Result, Ok, Err, MatchResult, OnOk, ap, codes, refl, sym, ◌∙◌, subst, false≢true, append_assoc, Appends, Keeps, IsLog, fates_of, lives_of, Crossing, Fate, Life, AuditsLog, IsAuditFault, IsBookFault, IsSomeLog, Judged, SaysOf, verdict_text, Finding, Verdict, AuditFault}
 use Rattle.book_log.specs.Log.{Book}
 use Rattle.interface.specs.Host.{Host, is_host}
-use Rattle.command_line.specs.Audits.{Audited, IsLogReadFault, Layout, closes_text, lines_of, lines_text}
+use Rattle.command_line.specs.Audits.{Audited, IsLogReadFault, Layout, closes_text, life_at, lines_of, lines_text, toward_text}
+use Rattle.std.specs.Fmt.{decimal}
+use Rattle.std.specs.Prelude.{[]}
 use Rattle.command_line.specs.declared.verdict.Lines.{Lines}
 use Rattle.command_line.specs.declared.auditing.AuditFault.TheVariants as fault
 
@@ -55,6 +57,13 @@ pub closes_told : {T E : Type 0} (r : Result T E) (layout : Layout) (o : Option 
 closes_told r layout o found l before after e f h =
     subst (λ (q : Option Finding). OnOk r (Appends before after (closes_text layout q))) (sym e)
     (subst (λ (k : Lines). OnOk r (Appends before after (codes "broken closes " ++ (lines_text k ++ codes "\n")))) f h)
+
+-- and of a life toward a stranger, by its line
+pub toward_told : {T E : Type 0} (r : Result T E) (layout : Layout) (o : Option ℕ) (place line : ℕ) (before after : Option (List ℕ)) → o ≡ Some place → line ≡ life_at layout [] place
+    → OnOk r (Appends before after (codes "broken toward line " ++ (decimal line ++ codes "\n"))) → OnOk r (Appends before after (toward_text layout o))
+toward_told r layout o place line before after e f h =
+    subst (λ (q : Option ℕ). OnOk r (Appends before after (toward_text layout q))) (sym e)
+    (subst (λ (k : ℕ). OnOk r (Appends before after (codes "broken toward line " ++ (decimal k ++ codes "\n")))) f h)
 
 -- ---- faults
 
