@@ -6,7 +6,8 @@ use Rattle.std.specs.declared.alloc.AllocError.{AllocError}
 use Rattle.std.proofs.lemmas.Bool.{leb-true, and_from, false_from_ne_true, true_from_ne_false}
 use Rattle.interface.specs.declared.crossing.Crossing.TheVariants as crossing
 use Rattle.net_sim.specs.Audit.{IsWellFormed}
-use Rattle.net_sim.specs.Findings.{AreAtPeace, AreFed, AreUnmatched, HaveGranted, ShowsMalformed, ShowsTwo, first_fed, first_granted}
+use Rattle.net_sim.specs.Findings.{AreAtPeace, AreFed, AreUnmatched, HaveGranted, ShowsMalformed, ShowsTwo, first_fed}
+use Rattle.net_sim.specs.Findings.{first_granted}
 use Rattle.std.specs.Global.{Vec}
 use Rattle.std.specs.Prelude.{MatchOption}
 use Rattle.book_judge.specs.Inside.Asked.{Names, unstamped}
@@ -417,7 +418,8 @@ well_formed names lives handed log are counts =
     record { counts = counts; stamped = subst P (take_all (length lives) lives (omega arith)) are.stamped }
 
 -- lists are as many as lives, so where it shows that a book is malformed a stamp names no request
-pub formed_by : (named : Result (Vec Name) ℕ) (lives : List Life) (handed : List (List Bool)) (log : List Crossing) → length lives ≡ length handed → Names named lives log
+pub formed_by : (named : Result (Vec Name) ℕ) (lives : List Life) (handed : List (List Bool)) (log : List Crossing)
+    → length lives ≡ length handed → Names named lives log
     → MatchOption (unstamped named) (IsWellFormed log lives handed) (λ found. ShowsMalformed found log lives handed)
 formed_by (Ok names) lives handed log counts are = well_formed names.items lives handed log are counts
 formed_by (Err place) lives handed log counts at = inr (counts, at)

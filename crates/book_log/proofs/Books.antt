@@ -1,5 +1,11 @@
 -- The lines of a book, in their order, and the first bad one.
-use Rattle.book_log.proofs.Common.{◌≡◌, ℕ, ◌<◌, ◌≤◌, ◌==◌, ◌&&◌, Bool, true, false, suc, List, [], ◌∷◌, ◌++◌, Some, None, codes, length, map, refl, sym, ap, ap₂, ◌∙◌, arith, subst, append_assoc, append-nil, if◌then◌else◌, eqb-true, false≢true, map-append, All-append, All-cons, All-head, All-nil, All-tail, All-weaker, flat_map-append, All, zip, Crossing, Fate, Life, ended_line, Lacks, SameCut, same_cut, Book, IsBadBookLine, IsBook, IsCrossing, IsHanded, IsLived, IsBookText, log_lines, text_of_lines, IsLine, added, is_bare, line_text, Line}
+use Rattle.book_log.proofs.Common.{◌≡◌, ℕ, ◌<◌, ◌≤◌, ◌==◌, ◌&&◌, Bool, true, false, suc, List, [], ◌∷◌, ◌++◌, Some}
+use Rattle.book_log.proofs.Common.{None, codes, length, map, refl, sym, ap, ap₂, ◌∙◌, arith, subst, append_assoc}
+use Rattle.book_log.proofs.Common.{append-nil, if◌then◌else◌, eqb-true, false≢true, map-append, All-append, All-cons}
+use Rattle.book_log.proofs.Common.{All-head, All-nil, All-tail, All-weaker, flat_map-append, All, zip, Crossing, Fate}
+use Rattle.book_log.proofs.Common.{Life, ended_line, Lacks, SameCut, same_cut, Book, IsBadBookLine, IsBook, IsCrossing}
+use Rattle.book_log.proofs.Common.{IsHanded, IsLived, IsBookText, log_lines, text_of_lines, IsLine, added, is_bare}
+use Rattle.book_log.proofs.Common.{line_text, Line}
 use Rattle.std.proofs.lemmas.List.Elements.{All-map}
 use Rattle.std.proofs.lemmas.Bool.{and_parts}
 use Rattle.interface.specs.declared.crossing.Crossing.TheVariants as crossing
@@ -289,8 +295,10 @@ begins_ends lines h = front_of (Lacks 10) lines h.more (subst (All (Lacks 10)) h
 -- ---- the first bad line
 
 -- where no log begins so, and the lines before it are no whole log with nothing after it, there is no log
-pub bad_line : (octets rest : List ℕ) (before : List (List ℕ)) (number : ℕ) → octets ≡ text_of_lines before ++ rest → number ≡ suc (length before) → BeginsBook before
-    → ((line more : List ℕ) → rest ≡ ended_line line ++ more → BeginsBook (before ++ line ∷ []) → ⊥) → ((b : Book) → IsBook b → log_lines b ≡ before → rest ≡ [] → ⊥) → IsBadBookLine octets number
+pub bad_line : (octets rest : List ℕ) (before : List (List ℕ)) (number : ℕ) → octets ≡ text_of_lines before ++ rest
+    → number ≡ suc (length before) → BeginsBook before
+    → ((line more : List ℕ) → rest ≡ ended_line line ++ more → BeginsBook (before ++ line ∷ []) → ⊥)
+    → ((b : Book) → IsBook b → log_lines b ≡ before → rest ≡ [] → ⊥) → IsBadBookLine octets number
 bad_line octets rest before number parted counted begins bad whole = record { before = before; rest = rest; parted = parted; counted = counted; begins = begins; bad = bad; none = λ b is. by b is (longer before (log_lines b) rest (begins_ends before begins) (log_ends b is.valid) (sym parted ∙ is.spelled)) }
   where
     by : (b : Book) → IsBookText octets b → Longer before (log_lines b) rest → ⊥
@@ -301,7 +309,9 @@ bad_line octets rest before number parted counted begins bad whole = record { be
         cases (line ∷ more) e left = bad line (text_of_lines more) left (record { book = b; valid = is.valid; more = more; whole = e ∙ sym (append_assoc before (line ∷ []) more) })
 
 -- the line that was read
-pub this_line : (rest line more : List ℕ) (before : List (List ℕ)) → rest ≡ line ++ 10 ∷ more → Lacks 10 line → (Next before line → ⊥) → (other rest_of : List ℕ) → rest ≡ ended_line other ++ rest_of → BeginsBook (before ++ other ∷ []) → ⊥
+pub this_line : (rest line more : List ℕ) (before : List (List ℕ)) → rest ≡ line ++ 10 ∷ more → Lacks 10 line
+    → (Next before line → ⊥) → (other rest_of : List ℕ) → rest ≡ ended_line other ++ rest_of
+    → BeginsBook (before ++ other ∷ []) → ⊥
 this_line rest line more before is lacks none other rest_of e begins =
     let ends : Lacks 10 other = middle_of (Lacks 10) before other [] (begins_ends (before ++ other ∷ []) begins) in
     let cut : SameCut line more other rest_of = same_cut 10 line more other rest_of lacks ends (sym is ∙ e ∙ ended_more other rest_of) in

@@ -1,7 +1,10 @@
 -- Going through the lines of a log.
-use Rattle.book_log.proofs.Common.{◌≡◌, ◌≢◌, ℕ, ◌<◌, ◌≤◌, ◌+◌, ◌==◌, ◌&&◌, Bool, true, false, List, [], ◌∷◌, ◌++◌, Some, None, codes, length, map, refl, sym, ap, ap₂, ◌∙◌, arith, subst, append-nil, if◌then◌else◌, eqb-true, false≢true, map-append, All-cons, All-head, All-nil, All-tail, All, Fate, Life, Lacks, Book, IsBadBookLine, IsBook, IsCrossing, IsHanded, IsLived, IsBookText, text_of_lines, IsLine, added, is_bare, line_text, Line}
+use Rattle.book_log.proofs.Common.{◌≡◌, ◌≢◌, ℕ, ◌<◌, ◌≤◌, ◌+◌, ◌==◌, ◌&&◌, Bool, true, false, List, [], ◌∷◌, ◌++◌, Some}
+use Rattle.book_log.proofs.Common.{None, codes, length, map, refl, sym, ap, ap₂, ◌∙◌, arith, subst, append-nil}
+use Rattle.book_log.proofs.Common.{if◌then◌else◌, eqb-true, false≢true, map-append, All-cons, All-head, All-nil}
+use Rattle.book_log.proofs.Common.{All-tail, All, Fate, Life, Lacks, Book, IsBadBookLine, IsBook, IsBookText}
+use Rattle.book_log.proofs.Common.{text_of_lines, IsLine, added, is_bare, line_text, Line}
 use Rattle.std.proofs.lemmas.List.{length-append}
-use Rattle.book_log.specs.Steps.{opening_book}
 use Rattle.book_log.specs.declared.lines.Line.TheVariants as line
 use Rattle.book_log.proofs.Books.{Added, Follows, Next, bad_line, begins_all, begins_told, last_line, lived, middle_of, next, no_end, not_whole, rank, rank_is, text_of_lines_more, text_rank, texts, this_line, told, was_added}
 use Rattle.book_log.proofs.Books.{front_of}
@@ -13,19 +16,23 @@ pub record Reached (text left : List ℕ) (b : Book) (passed : ℕ) : Type 0 whe
   pub counted : passed ≡ length (texts (told b))
 
 -- the next line is none of a log
-pub bad_here : (text left this more : List ℕ) (b : Book) (passed : ℕ) → Reached text left b passed → left ≡ this ++ 10 ∷ more → Lacks 10 this → ((l : Line) → IsLine l → this ≢ line_text l) → IsBadBookLine text (passed + 1)
+pub bad_here : (text left this more : List ℕ) (b : Book) (passed : ℕ) → Reached text left b passed
+    → left ≡ this ++ 10 ∷ more → Lacks 10 this → ((l : Line) → IsLine l → this ≢ line_text l)
+    → IsBadBookLine text (passed + 1)
 bad_here text left this more b passed r is lacks none =
     bad_line text left (texts (told b)) (passed + 1) r.parted (omega (arith, r.counted)) (begins_told b r.valid)
     (this_line left this more (texts (told b)) is lacks (λ n. none n.here n.valid n.is)) (λ c valid e rest. not_whole b c e)
 
 -- no line ends
-pub bad_end : (text left : List ℕ) (b : Book) (passed : ℕ) → Reached text left b passed → Lacks 10 left → IsBadBookLine text (passed + 1)
+pub bad_end : (text left : List ℕ) (b : Book) (passed : ℕ) → Reached text left b passed → Lacks 10 left
+    → IsBadBookLine text (passed + 1)
 bad_end text left b passed r lacks =
     bad_line text left (texts (told b)) (passed + 1) r.parted (omega (arith, r.counted)) (begins_told b r.valid)
     (λ this more e begins. no_end left lacks this more e) (λ c valid e rest. not_whole b c e)
 
 -- the last line, and something after it
-pub bad_behind : (text left this more : List ℕ) (b : Book) (passed : ℕ) → Reached text left b passed → left ≡ this ++ 10 ∷ more → this ≡ codes "end" → (length more == 0) ≡ false → IsBadBookLine text (passed + 2)
+pub bad_behind : (text left this more : List ℕ) (b : Book) (passed : ℕ) → Reached text left b passed
+    → left ≡ this ++ 10 ∷ more → this ≡ codes "end" → (length more == 0) ≡ false → IsBadBookLine text (passed + 2)
 bad_behind text left this more b passed r is end some =
     let before : List (List ℕ) = texts (told b) ++ codes "end" ∷ [] in
     let parted : text ≡ text_of_lines before ++ more =
@@ -44,7 +51,8 @@ no_octets [] h = refl
 no_octets (x ∷ xs) h = absurd (let e : length (x ∷ xs) ≡ 0 = eqb-true (length (x ∷ xs)) 0 h in omega (arith, e))
 
 -- the last line, and nothing after it
-pub whole : (text left this more : List ℕ) (b : Book) (passed : ℕ) → Reached text left b passed → left ≡ this ++ 10 ∷ more → this ≡ codes "end" → (length more == 0) ≡ true → IsBookText text b
+pub whole : (text left this more : List ℕ) (b : Book) (passed : ℕ) → Reached text left b passed
+    → left ≡ this ++ 10 ∷ more → this ≡ codes "end" → (length more == 0) ≡ true → IsBookText text b
 whole text left this more b passed r is end empty = let none : more ≡ [] = no_octets more empty in record {
   spelled =
       r.parted ∙ ap (λ (t : List ℕ). text_of_lines (texts (told b)) ++ t) (is ∙ ap₂ (λ (t u : List ℕ). t ++ 10 ∷ u) end none)
@@ -108,7 +116,9 @@ no_place (line.Lived x f) b other none h =
 no_place (line.Handed bits) b other none h = none_some none
 no_place line.End b other none h = other refl
 
-pub bad_place : (text left this more : List ℕ) (b : Book) (passed : ℕ) (l : Line) → Reached text left b passed → left ≡ this ++ 10 ∷ more → Lacks 10 this → this ≡ line_text l → l ≢ line.End → added l b ≡ None → IsBadBookLine text (passed + 1)
+pub bad_place : (text left this more : List ℕ) (b : Book) (passed : ℕ) (l : Line) → Reached text left b passed
+    → left ≡ this ++ 10 ∷ more → Lacks 10 this → this ≡ line_text l → l ≢ line.End → added l b ≡ None
+    → IsBadBookLine text (passed + 1)
 bad_place text left this more b passed l r is lacks spelled other none =
     bad_line text left (texts (told b)) (passed + 1) r.parted (omega (arith, r.counted)) (begins_told b r.valid)
     (this_line left this more (texts (told b)) is lacks

@@ -1,5 +1,11 @@
 -- Octets are read in one way: no two networks or books are spelled alike, and no two lines are the first bad one.
-use Rattle.book_log.proofs.Common.{◌≡◌, ◌≢◌, ℕ, ◌<◌, ◌≤◌, ◌^◌, Bool, true, false, None, List, [], ◌∷◌, ◌++◌, codes, length, map, refl, sym, ap, ap₂, ◌∙◌, arith, subst, append_assoc, append-nil, false≢true, All-append, All-head, All-tail, All-weaker, decimal, All, bytes_eq, Flow, Answer, Crossing, HostMessage, Fate, Life, ended_line, IsFlow, IsMessage, octets_text, Lacks, SameCut, same_cut, Book, Host, IsBadLine, IsBookText, IsLived, IsLog, answer_name, fate_name, log_lines, logged_fate, text_of_lines, IsLine, flow_words, life_words, line_text, message_words, words_in, Line}
+use Rattle.book_log.proofs.Common.{◌≡◌, ◌≢◌, ℕ, ◌<◌, ◌≤◌, ◌^◌, Bool, true, false, None, List, [], ◌∷◌, ◌++◌, codes}
+use Rattle.book_log.proofs.Common.{length, map, refl, sym, ap, ap₂, ◌∙◌, arith, subst, append_assoc, append-nil}
+use Rattle.book_log.proofs.Common.{false≢true, All-append, All-head, All-tail, All-weaker, decimal, All, bytes_eq, Flow}
+use Rattle.book_log.proofs.Common.{Answer, Crossing, HostMessage, Fate, Life, ended_line, IsFlow, IsMessage}
+use Rattle.book_log.proofs.Common.{octets_text, Lacks, SameCut, same_cut, Book, Host, IsBadLine, IsBookText, IsLived}
+use Rattle.book_log.proofs.Common.{IsLog, answer_name, fate_name, log_lines, logged_fate, text_of_lines, IsLine}
+use Rattle.book_log.proofs.Common.{flow_words, life_words, line_text, message_words, words_in, Line}
 use Rattle.interface.specs.declared.crossing.Answer.TheVariants as answer
 use Rattle.promise.specs.declared.life.Amount.{Amount}
 use Rattle.promise.specs.Fates.{is_over}
@@ -8,7 +14,8 @@ use Rattle.script.proofs.lemmas.{host_once, text_once}
 use Rattle.book_log.specs.Log.{IsAmount, log_text}
 use Rattle.book_log.specs.Steps.{last_of}
 use Rattle.book_log.specs.declared.lines.Line.TheVariants as line
-use Rattle.book_log.proofs.Books.{Longer, all_of, all_told, all_told_are, ended_more, lines_are, lived, log_ends, longer, nil_not, not_ended, rank, texts, told}
+use Rattle.book_log.proofs.Books.{Longer, all_of, all_told, all_told_are, ended_more, lines_are, lived, log_ends}
+use Rattle.book_log.proofs.Books.{longer, nil_not, not_ended, rank, texts, told}
 use Rattle.book_log.proofs.Cuts.{first_same, rest_same}
 use Rattle.book_log.proofs.Keywords.{Answers, Downs, Ends, Ins, IsMeant, Kind, Lists, Lives, OperandOf, Outs, Ups, cut_line, is_meant, keyword, made, made_again, make, operand, words_are, words_of}
 use Rattle.book_log.proofs.Networks.{after_named, begins_ends, names_none, one_rest}
@@ -317,14 +324,18 @@ text_of_one octets book other h k =
 -- ---- the log of a network
 
 -- what one log names of strangers the other names, and then they have the text of one book
-same_rest : (octets : List ℕ) (strangers others : List Host) (book other : Book) → IsLog octets strangers book → IsLog octets others other → (strangers ≡ others) × (log_text book ≡ log_text other)
+same_rest : (octets : List ℕ) (strangers others : List Host) (book other : Book) → IsLog octets strangers book
+    → IsLog octets others other → (strangers ≡ others) × (log_text book ≡ log_text other)
 same_rest octets strangers others book other h k =
-    one_rest None strangers others (log_text book) other (after_named strangers h.named) (after_named others k.named) (names_none (last_of None strangers) book) (sym h.spelled ∙ k.spelled)
+    one_rest None strangers others (log_text book) other (after_named strangers h.named) (after_named others k.named)
+    (names_none (last_of None strangers) book) (sym h.spelled ∙ k.spelled)
 
-pub strangers_once : (octets : List ℕ) (strangers others : List Host) (book other : Book) → IsLog octets strangers book → IsLog octets others other → strangers ≡ others
+pub strangers_once : (octets : List ℕ) (strangers others : List Host) (book other : Book) → IsLog octets strangers book
+    → IsLog octets others other → strangers ≡ others
 strangers_once octets strangers others book other h k = (same_rest octets strangers others book other h k).0
 
-pub book_once : (octets : List ℕ) (strangers others : List Host) (book other : Book) → IsLog octets strangers book → IsLog octets others other → book ≡ other
+pub book_once : (octets : List ℕ) (strangers others : List Host) (book other : Book) → IsLog octets strangers book
+    → IsLog octets others other → book ≡ other
 book_once octets strangers others book other h k =
     text_of_one (log_text book) book other (record { spelled = refl; valid = h.valid })
     (record { spelled = (same_rest octets strangers others book other h k).1; valid = k.valid })

@@ -31,18 +31,21 @@ not_its : (l : Line) (h : Host) → line_text l ≡ stranger_line h → ⊥
 unfolding begins
 not_its l h e = other_line l (ap begins e)
 
-in_lines : (ls : List Line) (before : List (List ℕ)) (h : Host) (more : List (List ℕ)) → texts ls ≡ before ++ stranger_line h ∷ more → ⊥
+in_lines : (ls : List Line) (before : List (List ℕ)) (h : Host) (more : List (List ℕ))
+    → texts ls ≡ before ++ stranger_line h ∷ more → ⊥
 in_lines [] [] h more e = absurd (nil_not e)
 in_lines [] (t ∷ before) h more e = absurd (nil_not e)
 in_lines (l ∷ ls) [] h more e = not_its l h (first_same e)
 in_lines (l ∷ ls) (t ∷ before) h more e = in_lines ls before h more (rest_same e)
 
 -- no line of a book is a stranger's
-pub not_stranger : (b : Book) (before : List (List ℕ)) (h : Host) (more : List (List ℕ)) → log_lines b ≡ before ++ stranger_line h ∷ more → ⊥
+pub not_stranger : (b : Book) (before : List (List ℕ)) (h : Host) (more : List (List ℕ))
+    → log_lines b ≡ before ++ stranger_line h ∷ more → ⊥
 not_stranger b before h more e = in_lines (all_told b) before h more (sym (lines_are b) ∙ e)
 
 -- nor does its text begin with one
-begins_so : (ls : List Line) (h : Host) (rest : List ℕ) → text_of_lines (texts ls) ≡ ended_line (stranger_line h) ++ rest → ⊥
+begins_so : (ls : List Line) (h : Host) (rest : List ℕ)
+    → text_of_lines (texts ls) ≡ ended_line (stranger_line h) ++ rest → ⊥
 unfolding begins
 begins_so [] h rest e = let bad : 0 ≡ 102 = ap begins e in omega (arith, bad)
 begins_so (l ∷ ls) h rest e = by l (ap begins e)

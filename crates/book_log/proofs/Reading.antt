@@ -1,8 +1,12 @@
 -- Words read one after the other.
-use Rattle.book_log.proofs.Common.{◌≡◌, ◌≢◌, ℕ, ◌<◌, ◌≤◌, ◌^◌, Bool, true, false, List, [], ◌∷◌, ◌++◌, Option, Some, None, Result, Ok, Err, drop, length, refl, sym, ap, ◌∙◌, arith, subst, decimal, Flow, HostMessage, Fate, Life, IsMessage, octets_text, kind_text, IsHanded, IsLived, TakesAs, counts_words, ends_words, flow_words, handed_words, life_words, message_words}
+use Rattle.book_log.proofs.Common.{◌≡◌, ◌≢◌, ℕ, ◌<◌, ◌≤◌, ◌^◌, Bool, true, false, List, [], ◌∷◌, ◌++◌, Option, Some}
+use Rattle.book_log.proofs.Common.{None, Result, Ok, Err, drop, length, sym, ap, ◌∙◌, arith, subst, decimal, Flow}
+use Rattle.book_log.proofs.Common.{HostMessage, Fate, Life, IsMessage, octets_text, kind_text, IsHanded, IsLived}
+use Rattle.book_log.proofs.Common.{TakesAs, counts_words, ends_words, flow_words, handed_words, life_words}
+use Rattle.book_log.proofs.Common.{message_words}
 use Rattle.std.proofs.Common.{IfOk}
 use Rattle.std.specs.Prelude.{IsTrue, ◌↔◌}
-use Rattle.book_log.specs.Steps.{AreCounts, AreEnds, TakesWords, is_over}
+use Rattle.book_log.specs.Steps.{AreCounts, AreEnds, TakesWords}
 use Rattle.book_log.specs.declared.lines.Counts.{Counts}
 use Rattle.book_log.specs.declared.lines.Ends.{Ends}
 use Rattle.book_log.proofs.Cuts.{after, first_same, front, rest_same}

@@ -1,5 +1,7 @@
 -- What the contracts of private functions say. No public clause cites this file.
-use Rattle.std.specs.Prelude.{◌≡◌, ◌≢◌, ℕ, suc, ◌+◌, ◌^◌, ◌<◌, ◌==◌, ◌&&◌, ◌||◌, nat_lt, Bool, true, false, List, [], ◌∷◌, ◌++◌, length, slice_index_or, codes, Option, Some, None, Result, Ok, Err, if◌then◌else◌}
+use Rattle.std.specs.Prelude.{◌≡◌, ◌≢◌, ℕ, suc, ◌+◌, ◌^◌, ◌<◌, ◌==◌, ◌&&◌, ◌||◌, nat_lt, Bool, true, false, List, []}
+use Rattle.std.specs.Prelude.{◌∷◌, ◌++◌, length, slice_index_or, codes, Option, Some, None, Result, Ok, Err}
+use Rattle.std.specs.Prelude.{if◌then◌else◌}
 use Rattle.std.specs.Borrow.{Bor}
 use Rattle.std.specs.Fmt.{decimal}
 use Rattle.std.specs.List.{slice_split}
@@ -18,7 +20,8 @@ use Rattle.script.specs.Input.{ended_line}
 use Rattle.script.specs.Spelling.{IsFlow, IsHost, octets_text}
 use Rattle.std.specs.declared.alloc.AllocError.{AllocError}
 use Rattle.world_replay.specs.Printed.{kind_text}
-use Rattle.book_log.specs.Log.{Book, IsAmount, IsBook, IsCrossing, IsHanded, IsLived, answer_name, fate_name, handed_line, life_line, log_lines}
+use Rattle.book_log.specs.Log.{Book, IsAmount, IsBook, IsCrossing, IsHanded, IsLived, answer_name, fate_name}
+use Rattle.book_log.specs.Log.{handed_line, life_line, log_lines}
 use Rattle.book_log.specs.Log.{log_text, logged_fate, logged_line, stranger_line, strangers_text, text_of_lines}
 use Rattle.book_log.specs.declared.fault.LogFault.{LogFault}
 use Rattle.book_log.specs.declared.fault.LogFault.TheVariants as fault
@@ -270,12 +273,14 @@ last_of last (h ∷ hosts) = last_of (Some h) hosts
 
 -- a text doesn't begin with the line of a stranger that may come after this one
 abbrev pub NamesNone : Option Host → List ℕ → Type 0
-NamesNone last text = (h : Host) (more : List ℕ) → IsHost h → follows last h ≡ true → text ≢ ended_line (stranger_line h) ++ more
+NamesNone last text =
+    (h : Host) (more : List ℕ) → IsHost h → follows last h ≡ true → text ≢ ended_line (stranger_line h) ++ more
 
 -- a text begins with the line of this stranger, which may come after the last one; or with none
 abbrev pub NamesNext : Option Host → List ℕ → Option (Host × Bor (List ℕ)) → Type 0
 NamesNext last text None = NamesNone last text
-NamesNext last text (Some next) = (text ≡ ended_line (stranger_line next.0) ++ next.1.now) × IsHost next.0 × (follows last next.0 ≡ true)
+NamesNext last text (Some next) =
+    (text ≡ ended_line (stranger_line next.0) ++ next.1.now) × IsHost next.0 × (follows last next.0 ≡ true)
 
 -- a text begins with the lines of these strangers, and with no others
 pub record Names (text : List ℕ) (strangers : List Host) (left : List ℕ) : Type 0 where

@@ -1,11 +1,10 @@
 -- What `--log` writes of a network without strangers, `--audit` reads and calls kept.
-use Rattle.command_line.proofs.Common.{◌≡◌, ℕ, Bool, true, List, [], ◌∷◌, Option, Some, None, IfSome, Result, Ok, Err}
-use Rattle.command_line.proofs.Common.{MatchResult, inl, inr, map, refl, sym, subst, reverse-reverse, fates_of}
-use Rattle.command_line.proofs.Common.{lives_of, lives_back, Host, IsRun, SafeMessages, Crossing, Says, AreFated}
-use Rattle.command_line.proofs.Common.{ClosesWhole, Fate, Life, Calls, TopologyFields, CarrierKind, AreSuited}
-use Rattle.command_line.proofs.Common.{IsSomeRun, AuditsLog, IsAuditFault, IsSomeLog, Judged, SaysOf, kept, Verdict}
-use Rattle.command_line.proofs.Common.{plain_calls, subnet_calls, plain_of, subnet_of, Raw, World, LogsFrom}
-use Rattle.command_line.proofs.Common.{LogsOver, raw_book, world_book, AuditFault, ap, ◌∙◌}
+use Rattle.command_line.proofs.Common.{◌≡◌, ℕ, Bool, true, List, [], ◌∷◌, Option, Some, Err, inl, inr, map, refl, sym}
+use Rattle.command_line.proofs.Common.{subst, reverse-reverse, fates_of, lives_of, lives_back, Host, IsRun}
+use Rattle.command_line.proofs.Common.{SafeMessages, Crossing, Says, AreFated, ClosesWhole, Fate, Life, Calls}
+use Rattle.command_line.proofs.Common.{TopologyFields, CarrierKind, AreSuited, IsSomeRun, AuditsLog, IsAuditFault}
+use Rattle.command_line.proofs.Common.{Judged, SaysOf, kept, Verdict, plain_calls, subnet_calls, plain_of, subnet_of}
+use Rattle.command_line.proofs.Common.{Raw, World, LogsFrom, LogsOver, raw_book, world_book, AuditFault, ap, ◌∙◌}
 use Rattle.std.proofs.Common.{reverse}
 use Rattle.book_log.specs.Log.{Book, logged_fate}
 use Rattle.book_log.proofs.lemmas.{alone, book_once, fates_back, strangers_once}
@@ -129,7 +128,8 @@ suited_logged log lives fates all = record { each = each; contact = contact } wh
 
 -- the lives and fates of the log of a world are those of its book
 pub says_logged : (k : Kept) → AreFated k.book.lives k.fates
-    → (hosts : List Host) → Judged kept (λ h. is_host hosts h) (reverse k.book.crossings) k.book.lives k.handed (map logged_fate k.fates)
+    → (hosts : List Host)
+    → Judged kept (λ h. is_host hosts h) (reverse k.book.crossings) k.book.lives k.handed (map logged_fate k.fates)
     → SaysOf kept hosts (world_book k)
 says_logged k are hosts j =
     let strange : Host → Bool = λ h. is_host hosts h in
@@ -146,7 +146,8 @@ kept_alone_from log lives handed fates run made safe closes suited =
     let xs : lives ≡ lives_among (λ h. is_host [] h) lives = sym (all_lives lives) in
     let hs : handed ≡ beside_among (λ h. is_host [] h) lives handed = sym (all_beside lives handed) in
     let fs : fates ≡ beside_among (λ h. is_host [] h) lives fates = sym (all_beside lives fates) in
-    kept_from_safe (λ h. is_host [] h) log lives handed fates run (subst (λ (ys : List Life). AreMade (reverse log) ys) xs made) safe.0
+    kept_from_safe (λ h. is_host [] h) log lives handed fates run
+    (subst (λ (ys : List Life). AreMade (reverse log) ys) xs made) safe.0
     (subst (λ (ys : List Life). SafeBook (reverse log) ys (beside_among (λ h. is_host [] h) lives handed)) xs
     (subst (λ (ys : List (List Bool)). SafeBook (reverse log) lives ys) hs safe.1))
     (subst (λ (ys : List Life). ClosesWhole (reverse log) ys (beside_among (λ h. is_host [] h) lives handed) (beside_among (λ h. is_host [] h) lives fates)) xs

@@ -7,6 +7,7 @@ use Rattle.command_line.proofs.Common.{subnet_of, Raw, World, LogsFrom, LogsOn, 
 use Rattle.command_line.proofs.Common.{world_book, ReplaysFrom, ReplaysInput, ReplaysOn, ReplaysOver, book_text}
 use Rattle.command_line.proofs.Common.{subnet_settled, plain_settled}
 use Rattle.std.proofs.Common.{reverse}
+use Rattle.book_log.proofs.lemmas.{alone}
 use Rattle.replay.specs.Output.{Shown}
 use Rattle.topology.specs.declared.network.CarrierKind.TheVariants as kind
 use Rattle.world_replay.specs.Output as lines
@@ -89,7 +90,7 @@ told_from {C} calls settled opening (Raw events) book detail out log h k =
       shown = as_world h.shown;
       told = raw_book (calls.seen k.last).log;
       prints = raw_printed book detail out h.shown h.written;
-      logs = record { spelled = k.written; valid = k.valid };
+      logs = (alone log (raw_book (calls.seen k.last).log)).1 (k.written, k.valid);
       crossed =
           ap (λ (last : C). reverse (calls.seen last).log) (sym one.carriers) ∙ ap (λ (cs : List Crossing). reverse cs) h.shows.crossed
           ∙ reverse-reverse (crossings_of h.shown) ∙ same_crossings h.shown;
@@ -103,7 +104,7 @@ told_from {C} calls settled opening (World events) book detail out log h k =
       shown = h.shown;
       told = world_book k.last.kept;
       prints = h.written ∙ ap (λ (lives : List Life). lines.output detail h.shown ++ (book_text book lives ++ codes "end\n")) alive;
-      logs = record { spelled = k.written; valid = k.valid };
+      logs = (alone log (world_book k.last.kept)).1 (k.written, k.valid);
       crossed =
           ap (λ (w : WorldState C). reverse w.kept.book.crossings) (sym one.0) ∙ ap (λ (cs : List Crossing). reverse cs) h.shows.booked.crossed ∙ reverse-reverse (lines.crossings_of h.shown);
     }

@@ -1,10 +1,10 @@
 -- What `--trace` writes among strangers, and of an input of either kind.
-use Rattle.command_line.proofs.Common.{◌≡◌, ◌⊎◌, inl, inr, ℕ, List, Option, Result, Ok, Err, IfErr, MatchResult, OnOk, ap, refl, subst, sym, ◌∙◌, Calls, Host, Keeps, text_of, asking_from, parted_once, CarrierKind, IsInputFault, IsReplayFault, IsScriptOf, IsScripted, ScriptFault, TopologyFields, TracesOn, on_ok, subnet_of}
+use Rattle.command_line.proofs.Common.{◌≡◌, ◌⊎◌, inl, inr, ℕ, List, Option, Result, OnOk, ap, subst, sym, ◌∙◌, Calls}
+use Rattle.command_line.proofs.Common.{Keeps, text_of, asking_from, parted_once, CarrierKind, IsScriptOf, IsScripted}
+use Rattle.command_line.proofs.Common.{ScriptFault, TopologyFields, TracesOn, on_ok}
 use Rattle.std.proofs.Common.{length}
 use Rattle.net_sim.specs.MixedWorlds.{MixedState, opening_mixed}
-use Rattle.subnet.specs.Calls.{Kept}
 use Rattle.topology.specs.Mixed.{MixedFields}
-use Rattle.topology.specs.declared.network.CarrierKind.TheVariants as kind
 use Rattle.trace.specs.Traces.{event_lines}
 use Rattle.trace.specs.declared.all_parts.AllParts.{AllParts}
 use Rattle.world_script.specs.Mixed.{IsMixedEvent, mixed_spelling}

@@ -1,10 +1,10 @@
 -- What `--trace` writes is the trace of the input's script.
 use Rattle.command_line.proofs.Common.{◌≡◌, ◌≢◌, ◌⊎◌, ◌∙◌, inl, inr, ℕ, ◌+◌, Bool, true, false, List, [], ◌∷◌, Option}
-use Rattle.command_line.proofs.Common.{Some, None, IfSome, Result, Ok, Err, IfErr, OnOk, ap, refl, subst, sym}
+use Rattle.command_line.proofs.Common.{Result, Ok, Err, IfErr, OnOk, ap, refl, subst, sym}
 use Rattle.command_line.proofs.Common.{length-map, Keeps, text_of, Calls, parted_once, RawEvent, TopologyFields}
 use Rattle.command_line.proofs.Common.{CarrierKind, Inside, asking_from, WorldState, opening_world, StopsOne}
-use Rattle.command_line.proofs.Common.{WorldEvent, AsksFor, Raw, World, IsInput, IsReplayFault, IsScriptOf, IsScripted}
-use Rattle.command_line.proofs.Common.{TraceStops, TracesFrom, TracesInput, TracesOn, TracesOver, WorldEndsFrom}
+use Rattle.command_line.proofs.Common.{WorldEvent, AsksFor, Raw, World, IsInput, IsReplayFault, IsScriptOf}
+use Rattle.command_line.proofs.Common.{TracesFrom, TracesOn, TracesOver, WorldEndsFrom}
 use Rattle.command_line.proofs.Common.{WorldTracesFrom, asked_count, ScriptFault, IsEvent, AllParts}
 use Rattle.std.proofs.Common.{suc, filter, length}
 use Rattle.script.specs.Script.{AskForAs, asks, lines_of}
@@ -14,7 +14,7 @@ use Rattle.world_trace.specs.Traces as worlds
 use Rattle.world_trace.specs.Traces.{TracesWorld, WorldTraceEnds}
 use Rattle.world_script.specs.WorldSpelling.{IsWorldEvent, world_spelling}
 use Rattle.command_line.specs.Events.{Asked}
-use Rattle.command_line.specs.Traced.{EndsOn, EndsOver, Traced, TracedInPart}
+use Rattle.command_line.specs.Traced.{EndsOn, EndsOver, Traced}
 use Rattle.command_line.proofs.Verdicts.Judged.{stays}
 use Rattle.command_line.specs.declared.fault.ScriptFault.TheVariants as fault
 

@@ -1,5 +1,6 @@
 -- What is written of a log as its audit.
-use Rattle.std.specs.Prelude.{◌≡◌, ℕ, ◌+◌, ◌&&◌, Bool, true, false, List, [], ◌∷◌, ◌++◌, length, map, reverse, suc, zero, if◌then◌else◌, is_none, MatchOption, Option, Some, None, Result, Ok, Err, codes}
+use Rattle.std.specs.Prelude.{◌≡◌, ℕ, ◌+◌, ◌&&◌, Bool, true, false, List, [], ◌∷◌, ◌++◌, length, map, reverse, suc}
+use Rattle.std.specs.Prelude.{zero, if◌then◌else◌, is_none, MatchOption, Option, Some, None, Result, Ok, Err, codes}
 use Rattle.std.specs.Fmt.{decimal}
 use Rattle.std.specs.Io.KnownBytes.{Appends}
 use Rattle.book_log.specs.Log.{Book, IsBadLine, IsLog, fates_of, lives_of}
@@ -31,19 +32,23 @@ use Rattle.command_line.specs.declared.auditing.AuditFault.TheVariants as fault
 
 -- ---- what is said
 
--- what is said of a log of a network in which these hosts are strangers, the oldest crossing first: a part that isn't named holds, and of one
--- that is it is said where it shows. A run, messages and the form are of all that the log has. All else is of the lives among hosts with
--- programs, that are neither a stranger's nor toward one, and places are among these; and toward is of the others, with places among all
-pub record Judged (v : Verdict) (strange : Host → Bool) (crossings : List Crossing) (lives : List Life) (handed : List (List Bool)) (fates : List Fate) : Type 0 where
+-- what is said of a log of a network in which these hosts are strangers, the oldest crossing first: a part that isn't
+-- named holds, and of one that is it is said where it shows. A run, messages and the form are of all that the log has.
+-- All else is of the lives among hosts with programs, that are neither a stranger's nor toward one, and places are
+-- among these; and toward is of the others, with places among all
+pub record Judged (v : Verdict) (strange : Host → Bool) (crossings : List Crossing) (lives : List Life)
+    (handed : List (List Bool)) (fates : List Fate) : Type 0 where
   -- what crossed is a run of the mailboxes
   pub run : MatchOption v.stray (IsSomeRun (reverse crossings)) (λ place. StraysAt crossings place)
   -- the lives are made of what crossed before they were over
-  pub made : MatchOption v.unmade (AreMade (reverse crossings) (lives_among strange lives)) (λ n. UnmadeAt (reverse crossings) (lives_among strange lives) n)
+  pub made : MatchOption v.unmade (AreMade (reverse crossings) (lives_among strange lives))
+      (λ n. UnmadeAt (reverse crossings) (lives_among strange lives) n)
   -- there is a list for each life, and their stamps name requests
   pub formed : MatchOption v.malformed (IsWellFormed (reverse crossings) lives handed) (λ found. ShowsMalformed found (reverse crossings) lives handed)
   -- the parts of a safe book. That a receiving life matches one sender at most is of partners
   pub messages : MatchOption v.messages (SafeMessages (reverse crossings)) (λ found. ShowsCrossing found (reverse crossings))
-  pub partners : IfFormed v.malformed v.partners (SafePartners (reverse crossings) (lives_among strange lives)) (λ found. ShowsTwo found (reverse crossings) (lives_among strange lives))
+  pub partners : IfFormed v.malformed v.partners (SafePartners (reverse crossings) (lives_among strange lives))
+      (λ found. ShowsTwo found (reverse crossings) (lives_among strange lives))
   pub streams : IfFormed v.malformed v.streams (AreFed (reverse crossings) (lives_among strange lives) (lives_among strange lives) (beside_among strange lives handed))
       (λ found. ShowsLife (first_fed (reverse crossings) (lives_among strange lives) (beside_among strange lives handed)) found (reverse crossings) (lives_among strange lives))
   pub grants : IfFormed v.malformed v.grants (SafeGrants (reverse crossings) (lives_among strange lives))
@@ -53,10 +58,12 @@ pub record Judged (v : Verdict) (strange : Host → Bool) (crossings : List Cros
       (λ found. ShowsLife (first_closed (reverse crossings) (lives_among strange lives) (beside_among strange lives handed) (beside_among strange lives fates)) found
       (reverse crossings) (lives_among strange lives))
   -- each life has a fate that what crossed leaves it
-  pub suited : MatchOption v.unsuited (AreSuited (reverse crossings) (lives_among strange lives) (beside_among strange lives fates))
+  pub suited : MatchOption v.unsuited
+      (AreSuited (reverse crossings) (lives_among strange lives) (beside_among strange lives fates))
       (λ place. UnsuitedAt (reverse crossings) (lives_among strange lives) (beside_among strange lives fates) place)
   -- no life is a stranger's, and those toward strangers took what they granted, and sent what was handed over in them
-  pub toward : IfFormed v.malformed v.toward (AreToward strange lives handed) (λ place. UntowardAt strange lives handed place)
+  pub toward : IfFormed v.malformed v.toward (AreToward strange lives handed)
+      (λ place. UntowardAt strange lives handed place)
 
 abbrev pub SaysOf : Verdict → List Host → Book → Type 0
 SaysOf v strangers b = Judged v (λ h. is_host strangers h) b.crossings (lives_of b) b.handed (fates_of b)
@@ -95,17 +102,20 @@ pub record IsSafeLog (strangers : List Host) (b : Book) : Type 0 where
   pub formed : IsWellFormed (reverse b.crossings) (lives_of b) b.handed
   pub messages : SafeMessages (reverse b.crossings)
   pub partners : SafePartners (reverse b.crossings) (program_lives strangers b)
-  pub streams : AreFed (reverse b.crossings) (program_lives strangers b) (program_lives strangers b) (program_lists strangers b)
+  pub streams : AreFed (reverse b.crossings) (program_lives strangers b) (program_lives strangers b)
+      (program_lists strangers b)
   pub grants : SafeGrants (reverse b.crossings) (program_lives strangers b)
   pub toward : AreToward (λ h. is_host strangers h) (lives_of b) b.handed
 
 pub record KeepsEnds (strangers : List Host) (b : Book) : Type 0 where
-  pub closes : ClosesWhole (reverse b.crossings) (program_lives strangers b) (program_lists strangers b) (program_fates strangers b)
+  pub closes : ClosesWhole (reverse b.crossings) (program_lives strangers b) (program_lists strangers b)
+      (program_fates strangers b)
   pub fates : AreSuited (reverse b.crossings) (program_lives strangers b) (program_fates strangers b)
 
 -- ---- what is written
 
--- where the lines of a log are: how many strangers and crossings it has, and then of each life whether it is among hosts with programs
+-- where the lines of a log are: how many strangers and crossings it has, and then of each life whether it is among
+-- hosts with programs
 pub record Layout : Type 0 where
   pub strangers : ℕ
   pub crossings : ℕ
@@ -125,8 +135,8 @@ place_in (false ∷ counted) n = suc (place_in counted n)
 place_in (true ∷ counted) zero = zero
 place_in (true ∷ counted) (suc n) = suc (place_in counted n)
 
--- the line of a crossing, of a life that has a place among those that are counted, and of a list, counted from 1: first come the strangers,
--- then the crossings, then the lives, and then the lists
+-- the line of a crossing, of a life that has a place among those that are counted, and of a list, counted from 1: first
+-- come the strangers, then the crossings, then the lives, and then the lists
 abbrev pub crossing_at : Layout → ℕ → ℕ
 crossing_at l place = l.strangers + place + 1
 
@@ -165,7 +175,8 @@ malformed_text l (Some found) = codes "malformed " ++ (lines_text (lines_of l []
 -- of a part of a safe book that is broken, the line or the two lines where it shows
 abbrev pub broken_text : Layout → Part → Option Finding → List ℕ
 broken_text l p None = []
-broken_text l p (Some found) = codes "broken " ++ (part_text p ++ (codes " " ++ (lines_text (lines_of l l.among found) ++ codes "\n")))
+broken_text l p (Some found) =
+    codes "broken " ++ (part_text p ++ (codes " " ++ (lines_text (lines_of l l.among found) ++ codes "\n")))
 
 -- of a life that its partner ended and that lost anything, its line and that of the life that it matches
 abbrev pub closes_text : Layout → Option Finding → List ℕ
@@ -177,7 +188,8 @@ abbrev pub fates_text : Layout → Option ℕ → List ℕ
 fates_text l None = []
 fates_text l (Some place) = codes "broken fates line " ++ (decimal (life_at l l.among place) ++ codes "\n")
 
--- of lives that are a stranger's, or toward one and took or sent what they may not, the line of the first; that is of all lives
+-- of lives that are a stranger's, or toward one and took or sent what they may not, the line of the first; that is of
+-- all lives
 abbrev pub toward_text : Layout → Option ℕ → List ℕ
 toward_text l None = []
 toward_text l (Some place) = codes "broken toward line " ++ (decimal (life_at l [] place) ++ codes "\n")

@@ -2,15 +2,18 @@
 use Rattle.command_line.proofs.Common.{◌≡◌, ℕ, Bool, true, false, List, ◌++◌, Option, Some, None, IfSome, Result, Ok, Err, MatchResult, OnOk, ap, codes, refl, sym, ◌∙◌, subst, false≢true, append_assoc, Appends, Keeps, IsLog, fates_of, lives_of, Crossing, Fate, Life, AuditsLog, IsAuditFault, IsBookFault, IsSomeLog, Judged, SaysOf, verdict_text, Finding, Verdict, AuditFault}
 use Rattle.book_log.specs.Log.{Book}
 use Rattle.interface.specs.Host.{Host, is_host}
-use Rattle.command_line.specs.Audits.{Audited, IsLogReadFault, Layout, closes_text, life_at, lines_of, lines_text, toward_text}
+use Rattle.command_line.specs.Audits.{Audited, IsLogReadFault, Layout, closes_text, life_at, lines_of, lines_text}
+use Rattle.command_line.specs.Audits.{toward_text}
 use Rattle.std.specs.Fmt.{decimal}
 use Rattle.std.specs.Prelude.{[]}
 use Rattle.command_line.specs.declared.verdict.Lines.{Lines}
 use Rattle.command_line.specs.declared.auditing.AuditFault.TheVariants as fault
 
-pub audits : (octets : List ℕ) (hosts : List Host) (b : Book) (said : Verdict) (before after : Option (List ℕ)) → IsLog octets hosts b → SaysOf said hosts b → Appends before after (verdict_text hosts b said)
+pub audits : (octets : List ℕ) (hosts : List Host) (b : Book) (said : Verdict) (before after : Option (List ℕ))
+    → IsLog octets hosts b → SaysOf said hosts b → Appends before after (verdict_text hosts b said)
     → AuditsLog octets said before after
-audits octets hosts b said before after log says written = record { strangers = hosts; book = b; log = log; says = says; written = written }
+audits octets hosts b said before after log says written =
+    record { strangers = hosts; book = b; log = log; says = says; written = written }
 
 pub audited : (octets : List ℕ) (said : Verdict) (before after : Option (List ℕ)) → AuditsLog octets said before after → Audited said before after
 audited octets said before after h = record { octets = octets; audits = h }
@@ -19,13 +22,16 @@ pub known_audited : (known : Option (List ℕ)) (octets : List ℕ) (said : Verd
 known_audited None octets said before after same h = tt
 known_audited (Some k) octets said before after same h = subst (λ (o : List ℕ). AuditsLog o said before after) same h
 
-pub some_log : (known : Option (List ℕ)) (octets : List ℕ) (hosts : List Host) (b : Book) → IfSome known (λ k. octets ≡ k) → IsLog octets hosts b → IfSome known IsSomeLog
+pub some_log : (known : Option (List ℕ)) (octets : List ℕ) (hosts : List Host) (b : Book)
+    → IfSome known (λ k. octets ≡ k) → IsLog octets hosts b → IfSome known IsSomeLog
 some_log None octets hosts b same log = tt
 some_log (Some k) octets hosts b same log = subst IsSomeLog same (hosts, b, log)
 
 -- what is judged is what was read
-pub says_of : (hosts named : List Host) (b : Book) (v : Verdict) (crossings : List Crossing) (lives : List Life) (handed : List (List Bool)) (fates : List Fate) → named ≡ hosts → crossings ≡ b.crossings
-    → lives ≡ lives_of b → handed ≡ b.handed → fates ≡ fates_of b → Judged v (λ h. is_host named h) crossings lives handed fates → SaysOf v hosts b
+pub says_of : (hosts named : List Host) (b : Book) (v : Verdict) (crossings : List Crossing) (lives : List Life)
+    (handed : List (List Bool)) (fates : List Fate) → named ≡ hosts → crossings ≡ b.crossings
+    → lives ≡ lives_of b → handed ≡ b.handed → fates ≡ fates_of b
+    → Judged v (λ h. is_host named h) crossings lives handed fates → SaysOf v hosts b
 says_of hosts named b v crossings lives handed fates o p q r s j =
     let strange : Host → Bool = λ h. is_host named h in
     subst (λ (hs : List Host). SaysOf v hs b) o
@@ -52,15 +58,19 @@ joins (Some x) (Some y) None text more h k = absurd k
 joins (Some x) (Some y) (Some z) text more h k = k ∙ ap (λ (w : List ℕ). w ++ more) h ∙ append_assoc x text more
 
 -- what is written of closes, by the lines that are found
-pub closes_told : {T E : Type 0} (r : Result T E) (layout : Layout) (o : Option Finding) (found : Finding) (l : Lines) (before after : Option (List ℕ)) → o ≡ Some found → l ≡ lines_of layout layout.among found
-    → OnOk r (Appends before after (codes "broken closes " ++ (lines_text l ++ codes "\n"))) → OnOk r (Appends before after (closes_text layout o))
+pub closes_told : {T E : Type 0} (r : Result T E) (layout : Layout) (o : Option Finding) (found : Finding) (l : Lines)
+    (before after : Option (List ℕ)) → o ≡ Some found → l ≡ lines_of layout layout.among found
+    → OnOk r (Appends before after (codes "broken closes " ++ (lines_text l ++ codes "\n")))
+    → OnOk r (Appends before after (closes_text layout o))
 closes_told r layout o found l before after e f h =
     subst (λ (q : Option Finding). OnOk r (Appends before after (closes_text layout q))) (sym e)
     (subst (λ (k : Lines). OnOk r (Appends before after (codes "broken closes " ++ (lines_text k ++ codes "\n")))) f h)
 
 -- and of a life toward a stranger, by its line
-pub toward_told : {T E : Type 0} (r : Result T E) (layout : Layout) (o : Option ℕ) (place line : ℕ) (before after : Option (List ℕ)) → o ≡ Some place → line ≡ life_at layout [] place
-    → OnOk r (Appends before after (codes "broken toward line " ++ (decimal line ++ codes "\n"))) → OnOk r (Appends before after (toward_text layout o))
+pub toward_told : {T E : Type 0} (r : Result T E) (layout : Layout) (o : Option ℕ) (place line : ℕ)
+    (before after : Option (List ℕ)) → o ≡ Some place → line ≡ life_at layout [] place
+    → OnOk r (Appends before after (codes "broken toward line " ++ (decimal line ++ codes "\n")))
+    → OnOk r (Appends before after (toward_text layout o))
 toward_told r layout o place line before after e f h =
     subst (λ (q : Option ℕ). OnOk r (Appends before after (toward_text layout q))) (sym e)
     (subst (λ (k : ℕ). OnOk r (Appends before after (codes "broken toward line " ++ (decimal k ++ codes "\n")))) f h)
@@ -91,7 +101,10 @@ unlogged (Some k) octets r f same is bad =
     subst (λ (q : Result Verdict AuditFault). MatchResult q (λ said. IsSomeLog k) (IsAuditFault k)) (sym is) (unlogged_known k f (subst (λ (o : List ℕ). IsBookFault o f) same bad))
 
 -- a failed write is reported of a log
-pub unwritten : (known : Option (List ℕ)) (octets : List ℕ) (hosts : List Host) (b : Book) (r : Result Verdict AuditFault) → IfSome known (λ k. octets ≡ k) → r ≡ Err fault.CannotWrite → IsLog octets hosts b
+pub unwritten : (known : Option (List ℕ)) (octets : List ℕ) (hosts : List Host) (b : Book)
+    (r : Result Verdict AuditFault) → IfSome known (λ k. octets ≡ k) → r ≡ Err fault.CannotWrite → IsLog octets hosts b
     → IfSome known (λ k. MatchResult r (λ said. IsSomeLog k) (IsAuditFault k))
 unwritten None octets hosts b r same is log = tt
-unwritten (Some k) octets hosts b r same is log = subst (λ (q : Result Verdict AuditFault). MatchResult q (λ said. IsSomeLog k) (IsAuditFault k)) (sym is) (subst IsSomeLog same (hosts, b, log))
+unwritten (Some k) octets hosts b r same is log =
+    subst (λ (q : Result Verdict AuditFault). MatchResult q (λ said. IsSomeLog k) (IsAuditFault k)) (sym is)
+    (subst IsSomeLog same (hosts, b, log))

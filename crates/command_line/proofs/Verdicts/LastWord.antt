@@ -95,7 +95,8 @@ both_unnamed v e =
     (none_is v.closes both.0, none_is v.unsuited both.1)
 
 -- of a log that is well-formed
-pub ends_said : (hosts : List Host) (b : Book) (v : Verdict) → SaysOf v hosts b → IsSafeLog hosts b → (keeps_ends v ≡ true) ↔ KeepsEnds hosts b
+pub ends_said : (hosts : List Host) (b : Book) (v : Verdict) → SaysOf v hosts b → IsSafeLog hosts b
+    → (keeps_ends v ≡ true) ↔ KeepsEnds hosts b
 ends_said hosts b v j s =
     let strange : Host → Bool = λ h. is_host hosts h in
     let log = b.crossings in
@@ -141,7 +142,8 @@ word_none true true = (λ e. absurd (cc), λ h. absurd (h refl))
 word_none true false = (λ e. absurd (cc), λ h. absurd (h refl))
 word_none false ends = (λ e f. false≢true f, λ h. refl)
 
-pub said_kept : (hosts : List Host) (b : Book) (v : Verdict) → SaysOf v hosts b → (word_text v ≡ codes "kept\n") ↔ (IsSafeLog hosts b × KeepsEnds hosts b)
+pub said_kept : (hosts : List Host) (b : Book) (v : Verdict) → SaysOf v hosts b
+    → (word_text v ≡ codes "kept\n") ↔ (IsSafeLog hosts b × KeepsEnds hosts b)
 said_kept hosts b v j =
     let safe = safe_said hosts b v j in
     let word = word_kept (is_safe v) (keeps_ends v) in (
@@ -158,7 +160,8 @@ said_safe hosts b v j =
       λ h. word.1 (safe.1 h.0, λ ends. h.1 ((ends_said hosts b v j h.0).0 ends)),
     )
 
-pub said_none : (hosts : List Host) (b : Book) (v : Verdict) → SaysOf v hosts b → (word_text v ≡ []) ↔ (IsSafeLog hosts b → ⊥)
+pub said_none : (hosts : List Host) (b : Book) (v : Verdict) → SaysOf v hosts b
+    → (word_text v ≡ []) ↔ (IsSafeLog hosts b → ⊥)
 said_none hosts b v j =
     let safe = safe_said hosts b v j in
     let word = word_none (is_safe v) (keeps_ends v) in

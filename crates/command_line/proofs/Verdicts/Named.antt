@@ -137,7 +137,8 @@ unnamed None ShowsAt never m = (λ e. m, λ a. refl)
 unnamed (Some found) ShowsAt never m = (λ e. absurd (cc), λ a. absurd (never found a m))
 
 -- where a book is well-formed, the parts that are about its requests are looked at
-pub looked_at : {F : Type 0} (malformed : Option Finding) (found : Option F) (A : Type 0) (ShowsAt : F → Type 0) → malformed ≡ None
+pub looked_at : {F : Type 0} (malformed : Option Finding) (found : Option F) (A : Type 0) (ShowsAt : F → Type 0)
+    → malformed ≡ None
     → IfFormed malformed found A ShowsAt → MatchOption found A ShowsAt
 looked_at None found A ShowsAt e h = h
 looked_at (Some at) found A ShowsAt e h = absurd (cc)
@@ -152,30 +153,35 @@ lists strange lives handed = beside_among strange lives handed
 abbrev ends : (Host → Bool) → List Life → List Fate → List Fate
 ends strange lives fates = beside_among strange lives fates
 
-pub run_named : (v : Verdict) (strange : Host → Bool) (log : List Crossing) (lives : List Life) (handed : List (List Bool)) (fates : List Fate)
+pub run_named : (v : Verdict) (strange : Host → Bool) (log : List Crossing) (lives : List Life)
+    (handed : List (List Bool)) (fates : List Fate)
     → Judged v strange log lives handed fates → (v.stray ≡ None) ↔ IsSomeRun (reverse log)
 run_named v strange log lives handed fates j =
     unnamed v.stray (λ place. StraysAt log place) (λ place run at. at.1 (run_front log (place + 1) run)) j.run
 
-pub lives_named : (v : Verdict) (strange : Host → Bool) (log : List Crossing) (lives : List Life) (handed : List (List Bool)) (fates : List Fate)
+pub lives_named : (v : Verdict) (strange : Host → Bool) (log : List Crossing) (lives : List Life)
+    (handed : List (List Bool)) (fates : List Fate)
     → Judged v strange log lives handed fates → (v.unmade ≡ None) ↔ AreMade (reverse log) (lives_among strange lives)
 lives_named v strange log lives handed fates j =
     unnamed v.unmade (λ place. UnmadeAt (reverse log) (some strange lives) place)
     (λ place made at. at.1 (made_front (reverse log) (some strange lives) (place + 1) made)) j.made
 
-pub formed_named : (v : Verdict) (strange : Host → Bool) (log : List Crossing) (lives : List Life) (handed : List (List Bool)) (fates : List Fate)
+pub formed_named : (v : Verdict) (strange : Host → Bool) (log : List Crossing) (lives : List Life)
+    (handed : List (List Bool)) (fates : List Fate)
     → Judged v strange log lives handed fates → (v.malformed ≡ None) ↔ IsWellFormed (reverse log) lives handed
 formed_named v strange log lives handed fates j =
     unnamed v.malformed (λ found. ShowsMalformed found (reverse log) lives handed)
     (λ found w h. shown_formed found (reverse log) lives handed w h) j.formed
 
-pub messages_named : (v : Verdict) (strange : Host → Bool) (log : List Crossing) (lives : List Life) (handed : List (List Bool)) (fates : List Fate)
+pub messages_named : (v : Verdict) (strange : Host → Bool) (log : List Crossing) (lives : List Life)
+    (handed : List (List Bool)) (fates : List Fate)
     → Judged v strange log lives handed fates → (v.messages ≡ None) ↔ SafeMessages (reverse log)
 messages_named v strange log lives handed fates j =
     unnamed v.messages (λ found. ShowsCrossing found (reverse log))
     (λ found s h. shown_messages found (reverse log) s h) j.messages
 
-pub partners_named : (v : Verdict) (strange : Host → Bool) (log : List Crossing) (lives : List Life) (handed : List (List Bool)) (fates : List Fate)
+pub partners_named : (v : Verdict) (strange : Host → Bool) (log : List Crossing) (lives : List Life)
+    (handed : List (List Bool)) (fates : List Fate)
     → Judged v strange log lives handed fates → v.malformed ≡ None
     → (v.partners ≡ None) ↔ SafePartners (reverse log) (lives_among strange lives)
 partners_named v strange log lives handed fates j e =
@@ -183,7 +189,8 @@ partners_named v strange log lives handed fates j e =
     (λ found s h. shown_partners found (reverse log) (some strange lives) s h)
     (looked_at v.malformed v.partners (SafePartners (reverse log) (some strange lives)) (λ found. ShowsTwo found (reverse log) (some strange lives)) e j.partners)
 
-pub streams_named : (v : Verdict) (strange : Host → Bool) (log : List Crossing) (lives : List Life) (handed : List (List Bool)) (fates : List Fate)
+pub streams_named : (v : Verdict) (strange : Host → Bool) (log : List Crossing) (lives : List Life)
+    (handed : List (List Bool)) (fates : List Fate)
     → Judged v strange log lives handed fates → v.malformed ≡ None
     → (v.streams ≡ None) ↔ AreFed (reverse log) (lives_among strange lives) (lives_among strange lives) (beside_among strange lives handed)
 streams_named v strange log lives handed fates j e =
@@ -193,7 +200,8 @@ streams_named v strange log lives handed fates j e =
     (λ found f h. shown_streams found (reverse log) xs hs f h)
     (looked_at v.malformed v.streams (AreFed (reverse log) xs xs hs) (λ found. ShowsLife (first_fed (reverse log) xs hs) found (reverse log) xs) e j.streams)
 
-pub grants_named : (v : Verdict) (strange : Host → Bool) (log : List Crossing) (lives : List Life) (handed : List (List Bool)) (fates : List Fate)
+pub grants_named : (v : Verdict) (strange : Host → Bool) (log : List Crossing) (lives : List Life)
+    (handed : List (List Bool)) (fates : List Fate)
     → Judged v strange log lives handed fates → v.malformed ≡ None
     → (v.grants ≡ None) ↔ SafeGrants (reverse log) (lives_among strange lives)
 grants_named v strange log lives handed fates j e =
@@ -202,7 +210,8 @@ grants_named v strange log lives handed fates j e =
     (λ found g h. shown_grants found (reverse log) xs g h)
     (looked_at v.malformed v.grants (SafeGrants (reverse log) xs) (λ found. ShowsLife (first_granted (reverse log) xs) found (reverse log) xs) e j.grants)
 
-pub closes_named : (v : Verdict) (strange : Host → Bool) (log : List Crossing) (lives : List Life) (handed : List (List Bool)) (fates : List Fate)
+pub closes_named : (v : Verdict) (strange : Host → Bool) (log : List Crossing) (lives : List Life)
+    (handed : List (List Bool)) (fates : List Fate)
     → Judged v strange log lives handed fates → v.malformed ≡ None
     → (v.closes ≡ None) ↔ ClosesWhole (reverse log) (lives_among strange lives) (beside_among strange lives handed) (beside_among strange lives fates)
 closes_named v strange log lives handed fates j e =
@@ -213,15 +222,18 @@ closes_named v strange log lives handed fates j e =
     (λ found w h. shown_closes found (reverse log) xs hs fs w h)
     (looked_at v.malformed v.closes (ClosesWhole (reverse log) xs hs fs) (λ found. ShowsLife (first_closed (reverse log) xs hs fs) found (reverse log) xs) e j.closes)
 
-pub fates_named : (v : Verdict) (strange : Host → Bool) (log : List Crossing) (lives : List Life) (handed : List (List Bool)) (fates : List Fate)
-    → Judged v strange log lives handed fates → (v.unsuited ≡ None) ↔ AreSuited (reverse log) (lives_among strange lives) (beside_among strange lives fates)
+pub fates_named : (v : Verdict) (strange : Host → Bool) (log : List Crossing) (lives : List Life)
+    (handed : List (List Bool)) (fates : List Fate)
+    → Judged v strange log lives handed fates
+    → (v.unsuited ≡ None) ↔ AreSuited (reverse log) (lives_among strange lives) (beside_among strange lives fates)
 fates_named v strange log lives handed fates j =
     let xs : List Life = some strange lives in
     let fs : List Fate = ends strange lives fates in
     unnamed v.unsuited (λ place. UnsuitedAt (reverse log) xs fs place)
     (λ place suited at. at.1 (suited_front (reverse log) xs fs (place + 1) suited)) j.suited
 
-pub toward_named : (v : Verdict) (strange : Host → Bool) (log : List Crossing) (lives : List Life) (handed : List (List Bool)) (fates : List Fate)
+pub toward_named : (v : Verdict) (strange : Host → Bool) (log : List Crossing) (lives : List Life)
+    (handed : List (List Bool)) (fates : List Fate)
     → Judged v strange log lives handed fates → v.malformed ≡ None → (v.toward ≡ None) ↔ AreToward strange lives handed
 toward_named v strange log lives handed fates j e =
     unnamed v.toward (λ place. UntowardAt strange lives handed place)
@@ -229,13 +241,15 @@ toward_named v strange log lives handed fates j e =
     (looked_at v.malformed v.toward (AreToward strange lives handed) (λ place. UntowardAt strange lives handed place) e j.toward)
 
 -- where all lives are so, nothing is said of them
-unsaid : (malformed : Option Finding) (found : Option ℕ) (A : Type 0) (ShowsAt : ℕ → Type 0) → ((n : ℕ) → A → ShowsAt n → ⊥) → A
+unsaid : (malformed : Option Finding) (found : Option ℕ) (A : Type 0) (ShowsAt : ℕ → Type 0)
+    → ((n : ℕ) → A → ShowsAt n → ⊥) → A
     → IfFormed malformed found A ShowsAt → found ≡ None
 unsaid None None A ShowsAt never a h = refl
 unsaid None (Some n) A ShowsAt never a h = absurd (never n a h)
 unsaid (Some at) found A ShowsAt never a h = h
 
-pub toward_none : (v : Verdict) (strange : Host → Bool) (log : List Crossing) (lives : List Life) (handed : List (List Bool)) (fates : List Fate)
+pub toward_none : (v : Verdict) (strange : Host → Bool) (log : List Crossing) (lives : List Life)
+    (handed : List (List Bool)) (fates : List Fate)
     → Judged v strange log lives handed fates → AreToward strange lives handed → v.toward ≡ None
 toward_none v strange log lives handed fates j toward =
     unsaid v.malformed v.toward (AreToward strange lives handed) (λ place. UntowardAt strange lives handed place)
@@ -243,8 +257,10 @@ toward_none v strange log lives handed fates j toward =
 
 -- ---- nothing is named exactly of a safe book
 
-pub kept_from_safe : (strange : Host → Bool) (log : List Crossing) (lives : List Life) (handed : List (List Bool)) (fates : List Fate)
-    → IsSomeRun (reverse log) → AreMade (reverse log) (lives_among strange lives) → IsWellFormed (reverse log) lives handed
+pub kept_from_safe : (strange : Host → Bool) (log : List Crossing) (lives : List Life) (handed : List (List Bool))
+    (fates : List Fate)
+    → IsSomeRun (reverse log) → AreMade (reverse log) (lives_among strange lives)
+    → IsWellFormed (reverse log) lives handed
     → SafeBook (reverse log) (lives_among strange lives) (beside_among strange lives handed)
     → ClosesWhole (reverse log) (lives_among strange lives) (beside_among strange lives handed) (beside_among strange lives fates)
     → AreSuited (reverse log) (lives_among strange lives) (beside_among strange lives fates)
@@ -274,7 +290,8 @@ streams_safe log lives handed s f = record {
   sent = f.sent;
 }
 
-pub safe_from_kept : (strange : Host → Bool) (log : List Crossing) (lives : List Life) (handed : List (List Bool)) (fates : List Fate)
+pub safe_from_kept : (strange : Host → Bool) (log : List Crossing) (lives : List Life) (handed : List (List Bool))
+    (fates : List Fate)
     → Judged kept strange log lives handed fates
     → Says audit.Kept (reverse log) (lives_among strange lives) (beside_among strange lives handed)
 safe_from_kept strange log lives handed fates j = (
@@ -288,7 +305,8 @@ safe_from_kept strange log lives handed fates j = (
 )
 
 -- and of such a log nothing else is said
-pub only_kept : (v : Verdict) (strange : Host → Bool) (log : List Crossing) (lives : List Life) (handed : List (List Bool)) (fates : List Fate)
+pub only_kept : (v : Verdict) (strange : Host → Bool) (log : List Crossing) (lives : List Life)
+    (handed : List (List Bool)) (fates : List Fate)
     → Judged kept strange log lives handed fates → Judged v strange log lives handed fates → v ≡ kept
 only_kept v strange log lives handed fates k j =
     let malformed : v.malformed ≡ None = (formed_named v strange log lives handed fates j).1 k.formed in

@@ -1,33 +1,42 @@
-use Rattle.book_judge.proofs.Common.{◌≡◌, ◌≤◌, ◌+◌, true, false, List, [], ◌∷◌, Bool, sym, ◌∙◌, refl, arith, append-nil}
+use Rattle.book_judge.proofs.Common.{◌≤◌, ◌+◌, true, false, [], ◌∷◌, refl, arith, append-nil}
 use Rattle.promise.specs.Safe.{IsPrefix}
 use Rattle.book_judge.proofs.Strangers.{of_stranger, untoward_here, with_program}
 use Rattle.book_judge.proofs.law.worked_toward.Goals as goal
 
 pub returns-clause-owner : goal.returns-clause-owner
-returns-clause-owner c = λ strange x text e. untoward_here strange 0 (x ∷ []) (text ∷ []) x text refl refl tt (of_stranger strange x text e)
+returns-clause-owner c =
+    λ strange x text e. untoward_here strange 0 (x ∷ []) (text ∷ []) x text refl refl tt (of_stranger strange x text e)
 
 pub returns-clause-among : goal.returns-clause-among
 returns-clause-among c = λ strange x text own peer. (with_program strange x text own peer, tt)
 
 pub returns-clause-granted : goal.returns-clause-granted
-returns-clause-granted c = λ strange text apart. (record {
-  owner = apart.0;
-  taken = λ peer comes. record { messages = omega arith; bits = omega arith };
-  handed = λ peer goes. absurd (cc);
-}, tt)
+returns-clause-granted c = λ strange text apart. (
+  record {
+    owner = apart.0;
+    taken = λ peer comes. record { messages = omega arith; bits = omega arith };
+    handed = λ peer goes. absurd (cc);
+  },
+  tt,
+)
 
 pub returns-clause-bits : goal.returns-clause-bits
-returns-clause-bits c = λ strange text apart all. (let over : 2 + 0 ≤ 1 = (all.0.taken apart.1 refl).bits in omega (arith, over))
+returns-clause-bits c =
+    λ strange text apart all. (let over : 2 + 0 ≤ 1 = (all.0.taken apart.1 refl).bits in omega (arith, over))
 
 pub returns-clause-messages : goal.returns-clause-messages
-returns-clause-messages c = λ strange text apart all. (let over : 1 + 0 ≤ 0 = (all.0.taken apart.1 refl).messages in omega (arith, over))
+returns-clause-messages c =
+    λ strange text apart all. (let over : 1 + 0 ≤ 0 = (all.0.taken apart.1 refl).messages in omega (arith, over))
 
 pub returns-clause-handed : goal.returns-clause-handed
-returns-clause-handed c = λ strange text apart. (record {
-  owner = apart.0;
-  taken = λ peer comes. absurd (cc);
-  handed = λ peer goes. ([], append-nil text);
-}, tt)
+returns-clause-handed c = λ strange text apart. (
+  record {
+    owner = apart.0;
+    taken = λ peer comes. absurd (cc);
+    handed = λ peer goes. ([], append-nil text);
+  },
+  tt,
+)
 
 pub returns-clause-other : goal.returns-clause-other
 returns-clause-other c = λ strange apart all. no_prefix (all.0.handed apart.1 refl)

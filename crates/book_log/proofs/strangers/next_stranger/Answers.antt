@@ -12,12 +12,14 @@ returns-in_err-stranger c =
 
 pub returns-then-follows : goal.returns-then-follows
 returns-then-follows c = (
-  next_line c.args.last c.args.text.now c.in_ok-line.line.now c.in_ok-line.more.now c.in_ok-stranger.stranger c.in_ok-line.ensures.0 c.in_ok-stranger.ensures.0,
+  next_line c.args.last c.args.text.now c.in_ok-line.line.now c.in_ok-line.more.now c.in_ok-stranger.stranger
+      c.in_ok-line.ensures.0 c.in_ok-stranger.ensures.0,
   c.in_ok-stranger.ensures.1,
   sym c.follows.ensures ∙ c.if-follows.true,
 )
 
 pub returns-else-follows : goal.returns-else-follows
 returns-else-follows c =
-    not_next c.args.last c.args.text.now c.in_ok-line.line.now c.in_ok-line.more.now c.in_ok-stranger.stranger c.in_ok-stranger.ensures.1 c.in_ok-line.ensures.0 c.in_ok-line.ensures.1
+    not_next c.args.last c.args.text.now c.in_ok-line.line.now c.in_ok-line.more.now c.in_ok-stranger.stranger
+    c.in_ok-stranger.ensures.1 c.in_ok-line.ensures.0 c.in_ok-line.ensures.1
     c.in_ok-stranger.ensures.0 (sym c.follows.ensures ∙ c.if-follows.false)

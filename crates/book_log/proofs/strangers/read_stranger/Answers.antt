@@ -9,7 +9,8 @@ returns-in_err-word c = rw c.from_residual.ensures (λ h meant. no_space c.args.
 pub returns-then-eq : goal.returns-then-eq
 returns-then-eq c =
     let is : c.in_ok-word.word.now ≡ codes "foreign" = search rules in
-    read_word c.args.line.now c.in_ok-word.word.now c.in_ok-word.rest.now c.read_host.result c.in_ok-word.ensures.0 c.in_ok-word.ensures.1 is c.read_host.ensures
+    read_word c.args.line.now c.in_ok-word.word.now c.in_ok-word.rest.now c.read_host.result c.in_ok-word.ensures.0
+    c.in_ok-word.ensures.1 is c.read_host.ensures
 
 pub returns : goal.returns
 returns c = λ h meant.

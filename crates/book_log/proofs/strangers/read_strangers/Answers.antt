@@ -1,14 +1,15 @@
-use Rattle.std.proofs.Common.{arith}
 use Rattle.book_log.proofs.Named.{named_less, names, one_more}
 use Rattle.book_log.proofs.strangers.read_strangers.Goals as goal
 
 pub lines-preserved : goal.lines-preserved
 lines-preserved c =
-    one_more c.args.text.now c.lines.left.now c.in-Some.next.1.now c.lines.strangers.items c.push.new.self.items c.lines.last c.in-Some.next.0 c.lines.invariant c.in-Some.ensures.0 c.in-Some.ensures.1
+    one_more c.args.text.now c.lines.left.now c.in-Some.next.1.now c.lines.strangers.items c.push.new.self.items
+    c.lines.last c.in-Some.next.0 c.lines.invariant c.in-Some.ensures.0 c.in-Some.ensures.1
     c.in-Some.ensures.2 c.in_ok-push.ensures.items
 
 pub lines-smaller : goal.lines-smaller
 lines-smaller c = named_less c.lines.left.now c.in-Some.next.1.now c.in-Some.next.0 c.in-Some.ensures.0
 
 pub returns : goal.returns
-returns c = names c.args.text.now c.lines.left.now c.lines.strangers.items c.lines.last c.lines.invariant c.in_default.ensures
+returns c =
+    names c.args.text.now c.lines.left.now c.lines.strangers.items c.lines.last c.lines.invariant c.in_default.ensures

@@ -15,7 +15,9 @@ judge-requires c =
 pub returns : goal.returns
 returns c = (
   c.in_ok-layout.ensures ∙ ap (λ (hosts : List Host). layout_of hosts c.args.log.book) c.deref.ensures.value,
-  says_of c.args.log.strangers.items c.deref-2.result.now c.args.log.book c.in_ok-found.found c.into_lists.result.crossings.items c.into_lists.result.lives.items
-      c.into_lists.result.handed.items c.into_lists.result.fates.items c.deref-2.ensures.value c.into_lists.ensures.crossings c.into_lists.ensures.lives c.into_lists.ensures.handed
+  says_of c.args.log.strangers.items c.deref-2.result.now c.args.log.book c.in_ok-found.found
+      c.into_lists.result.crossings.items c.into_lists.result.lives.items
+      c.into_lists.result.handed.items c.into_lists.result.fates.items c.deref-2.ensures.value
+      c.into_lists.ensures.crossings c.into_lists.ensures.lives c.into_lists.ensures.handed
       c.into_lists.ensures.fates c.in_ok-found.ensures,
 )

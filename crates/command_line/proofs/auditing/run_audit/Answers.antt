@@ -11,7 +11,8 @@ returns-clause-audited g c =
     let v : Verdict = c.in_ok-layout.found in
     let hosts = c.in_ok-log.log.strangers.items in
     let book = c.in_ok-log.log.book in
-    let log : IsLog c.in_ok-octets.octets.items hosts book = subst (λ (o : List ℕ). IsLog o hosts book) c.deref.ensures.value c.in_ok-log.ensures in
+    let log : IsLog c.in_ok-octets.octets.items hosts book =
+    subst (λ (o : List ℕ). IsLog o hosts book) c.deref.ensures.value c.in_ok-log.ensures in
     let written = subst (λ (l : Layout). Appends (g.W.Output.contents c.args.writer.now) (g.W.Output.contents c.write_found.new.writer) (found_text l v)) c.in_ok-layout.ensures.0 c.in_ok-write_found.ensures.written in
     audited c.in_ok-octets.octets.items v (g.W.Output.contents c.args.writer.now) (g.W.Output.contents c.write_found.new.writer)
     (audits c.in_ok-octets.octets.items hosts book v (g.W.Output.contents c.args.writer.now) (g.W.Output.contents c.write_found.new.writer) log c.in_ok-layout.ensures.1 written)
@@ -21,7 +22,8 @@ returns-clause-says g c =
     let v : Verdict = c.in_ok-layout.found in
     let hosts = c.in_ok-log.log.strangers.items in
     let book = c.in_ok-log.log.book in
-    let log : IsLog c.in_ok-octets.octets.items hosts book = subst (λ (o : List ℕ). IsLog o hosts book) c.deref.ensures.value c.in_ok-log.ensures in
+    let log : IsLog c.in_ok-octets.octets.items hosts book =
+    subst (λ (o : List ℕ). IsLog o hosts book) c.deref.ensures.value c.in_ok-log.ensures in
     let written = subst (λ (l : Layout). Appends (g.W.Output.contents c.args.writer.now) (g.W.Output.contents c.write_found.new.writer) (found_text l v)) c.in_ok-layout.ensures.0 c.in_ok-write_found.ensures.written in
     known_audited (g.R.Source.remaining c.args.reader.now) c.in_ok-octets.octets.items v (g.W.Output.contents c.args.writer.now) (g.W.Output.contents c.write_found.new.writer) c.in_ok-octets.ensures.whole
     (audits c.in_ok-octets.octets.items hosts book v (g.W.Output.contents c.args.writer.now) (g.W.Output.contents c.write_found.new.writer) log c.in_ok-layout.ensures.1 written)
@@ -37,7 +39,9 @@ returns-in_err-octets-clause-read g c = λ whole.
 pub returns-in_err-log-clause-read : goal.returns-in_err-log-clause-read
 returns-in_err-log-clause-read g c = λ whole.
     let same : c.from_residual-in_err-log.result ≡ Err c.in_err-log.field-0.0 = search rules in
-    unlogged (g.R.Source.remaining c.args.reader.now) c.in_ok-octets.octets.items c.from_residual-in_err-log.result c.in_err-log.field-0.0 c.in_ok-octets.ensures.whole same (subst (λ (o : List ℕ). IsBookFault o c.in_err-log.field-0.0) c.deref.ensures.value c.in_err-log.ensures)
+    unlogged (g.R.Source.remaining c.args.reader.now) c.in_ok-octets.octets.items c.from_residual-in_err-log.result
+    c.in_err-log.field-0.0 c.in_ok-octets.ensures.whole same
+    (subst (λ (o : List ℕ). IsBookFault o c.in_err-log.field-0.0) c.deref.ensures.value c.in_err-log.ensures)
 
 pub returns-in_err-write_found-clause-read : goal.returns-in_err-write_found-clause-read
 returns-in_err-write_found-clause-read g c = λ whole.
@@ -57,17 +61,20 @@ returns-in_err-octets-clause-kept g c = λ whole.
 pub returns-in_err-log-clause-kept : goal.returns-in_err-log-clause-kept
 returns-in_err-log-clause-kept g c = λ whole.
     let same : c.from_residual-in_err-log.result ≡ Err c.in_err-log.field-0.0 = search rules in
-    ends_faulty (g.R.Source.remaining c.args.reader.now) c.from_residual-in_err-log.result c.in_err-log.field-0.0 same (returns-in_err-log-clause-read g c whole)
+    ends_faulty (g.R.Source.remaining c.args.reader.now) c.from_residual-in_err-log.result c.in_err-log.field-0.0 same
+    (returns-in_err-log-clause-read g c whole)
 
 pub returns-in_err-layout-clause-read : goal.returns-in_err-layout-clause-read
 returns-in_err-layout-clause-read g c = λ whole.
     let same : c.from_residual-in_err-layout.result ≡ Err fault.OutOfMemory = search rules in
-    unlogged (g.R.Source.remaining c.args.reader.now) c.in_ok-octets.octets.items c.from_residual-in_err-layout.result fault.OutOfMemory c.in_ok-octets.ensures.whole same tt
+    unlogged (g.R.Source.remaining c.args.reader.now) c.in_ok-octets.octets.items c.from_residual-in_err-layout.result
+    fault.OutOfMemory c.in_ok-octets.ensures.whole same tt
 
 pub returns-in_err-layout-clause-kept : goal.returns-in_err-layout-clause-kept
 returns-in_err-layout-clause-kept g c = λ whole.
     let same : c.from_residual-in_err-layout.result ≡ Err fault.OutOfMemory = search rules in
-    ends_faulty (g.R.Source.remaining c.args.reader.now) c.from_residual-in_err-layout.result fault.OutOfMemory same (returns-in_err-layout-clause-read g c whole)
+    ends_faulty (g.R.Source.remaining c.args.reader.now) c.from_residual-in_err-layout.result fault.OutOfMemory same
+    (returns-in_err-layout-clause-read g c whole)
 
 pub returns-in_err-write_found-clause-kept : goal.returns-in_err-write_found-clause-kept
 returns-in_err-write_found-clause-kept g c = λ whole.

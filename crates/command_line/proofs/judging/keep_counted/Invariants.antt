@@ -4,4 +4,5 @@ use Rattle.command_line.proofs.judging.keep_counted.Given as goal
 
 -- those that are kept, and those that will be
 abbrev pub invariant-loop-item : goal.invariant-loop-item
-invariant-loop-item g l = l.kept.items ++ kept_by l.left l.item-iterator.rest.items ≡ kept_by l.fn.counted l.fn.all.items
+invariant-loop-item g l =
+    l.kept.items ++ kept_by l.left l.item-iterator.rest.items ≡ kept_by l.fn.counted l.fn.all.items

@@ -1,6 +1,6 @@
-use Rattle.command_line.proofs.Common.{◌≡◌, ◌∙◌, Err, Host, List, ap, inr, shown, Calls}
+use Rattle.command_line.proofs.Common.{◌∙◌, Err, Host, List, ap, inr, shown, Calls}
 use Rattle.net_sim.specs.MixedWorlds.{opening_mixed}
-use Rattle.command_line.proofs.Faults.{told_memory, told_write}
+use Rattle.command_line.proofs.Faults.{told_memory}
 use Rattle.command_line.proofs.MixedTraced.{flushed_mixed, mixed_ends}
 use Rattle.command_line.proofs.mixed_tracing.trace_among.Goals as goal
 

@@ -1,4 +1,4 @@
-use Rattle.book_log.proofs.Common.{ℕ, ◌==◌, List, ap, length, ◌∙◌, Life}
+use Rattle.book_log.proofs.Common.{◌==◌, List, ap, length, ◌∙◌, Life}
 use Rattle.book_log.proofs.Books.{bare_lives}
 use Rattle.book_log.proofs.book.LoggedBook.has_no_life.Goals as goal
 
