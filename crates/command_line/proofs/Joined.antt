@@ -1,11 +1,10 @@
--- What `--log` writes, `--audit` reads and calls kept.
-use Rattle.command_line.proofs.Common.{◌≡◌, ℕ, Bool, true, List, [], ◌∷◌, Option, Some, None, IfSome, Result, Ok, Err}
-use Rattle.command_line.proofs.Common.{MatchResult, inl, inr, map, refl, sym, subst, reverse-reverse, fates_of}
-use Rattle.command_line.proofs.Common.{lives_of, lives_back, Host, IsRun, SafeMessages, Crossing, Says, AreFated}
-use Rattle.command_line.proofs.Common.{ClosesWhole, Fate, Life, Calls, TopologyFields, CarrierKind, AreSuited}
-use Rattle.command_line.proofs.Common.{IsSomeRun, AuditsLog, IsAuditFault, IsSomeLog, Judged, SaysOf, kept, Verdict}
-use Rattle.command_line.proofs.Common.{plain_calls, subnet_calls, plain_of, subnet_of, Raw, World, LogsFrom}
-use Rattle.command_line.proofs.Common.{LogsOver, raw_book, world_book, AuditFault, ap, ◌∙◌}
+-- What `--log` writes of a network without strangers, `--audit` reads and calls kept.
+use Rattle.command_line.proofs.Common.{◌≡◌, ℕ, Bool, true, List, [], ◌∷◌, Option, Some, Err, inl, inr, map, refl, sym}
+use Rattle.command_line.proofs.Common.{subst, reverse-reverse, fates_of, lives_of, lives_back, Host, IsRun}
+use Rattle.command_line.proofs.Common.{SafeMessages, Crossing, Says, AreFated, ClosesWhole, Fate, Life, Calls}
+use Rattle.command_line.proofs.Common.{TopologyFields, CarrierKind, AreSuited, IsSomeRun, AuditsLog, IsAuditFault}
+use Rattle.command_line.proofs.Common.{Judged, SaysOf, kept, Verdict, plain_calls, subnet_calls, plain_of, subnet_of}
+use Rattle.command_line.proofs.Common.{Raw, World, LogsFrom, LogsOver, raw_book, world_book, AuditFault, ap, ◌∙◌}
 use Rattle.std.proofs.Common.{reverse}
 use Rattle.book_log.specs.Log.{Book, logged_fate}
 use Rattle.book_log.proofs.lemmas.{alone, book_once, fates_back, strangers_once}
@@ -38,7 +37,7 @@ turned : (said : Audit) (log : List Crossing) (lives : List Life) (handed : List
     → Says said log lives handed → Says said (reverse (reverse log)) lives handed
 turned said log lives handed = subst (λ (cs : List Crossing). Says said cs lives handed) (sym (reverse-reverse log))
 
-run_twice : (hosts : List Host) (log : List Crossing) → IsRun hosts log → IsSomeRun (reverse (reverse log))
+pub run_twice : (hosts : List Host) (log : List Crossing) → IsRun hosts log → IsSomeRun (reverse (reverse log))
 run_twice hosts log run = (hosts, subst (IsRun hosts) (sym (reverse-reverse log)) run)
 
 kept_alone : (log : List Crossing) → SafeMessages log → Says audit.Kept log [] []
@@ -68,7 +67,7 @@ beside_logged x (y ∷ lives) (f ∷ fates) h = elim h [
 ]
 
 -- what is logged of fates loses nothing where they don't
-closes_logged : (log : List Crossing) (lives : List Life) (handed : List (List Bool)) (fates : List Fate)
+pub closes_logged : (log : List Crossing) (lives : List Life) (handed : List (List Bool)) (fates : List Fate)
     → ClosesWhole log lives handed fates → ClosesWhole log lives handed (map logged_fate fates)
 closes_logged log lives handed fates w = record {
   took_sent = λ x y beside c m. w.took_sent x y (beside_logged x lives fates beside) c m;
@@ -105,7 +104,7 @@ reset_logged fate.Ended e = absurd (cc)
 reset_logged fate.Reset e = refl
 reset_logged fate.Stopped e = absurd (cc)
 
-suited_logged : (log : List Crossing) (lives : List Life) (fates : List Fate) → AreSuited log lives fates
+pub suited_logged : (log : List Crossing) (lives : List Life) (fates : List Fate) → AreSuited log lives fates
     → AreSuited log lives (map logged_fate fates)
 suited_logged log lives fates all = record { each = each; contact = contact } where
   each : (x : Life) (f : Fate) → IsBeside x f lives (map logged_fate fates) → IsSuited log x f
@@ -128,7 +127,7 @@ suited_logged log lives fates all = record { each = each; contact = contact } wh
       (all.contact x y c.0 (subst (λ (g : Fate). IsBeside x g lives fates) (reset_logged b.0 b.2) b.1) c.1 both)
 
 -- the lives and fates of the log of a world are those of its book
-says_logged : (k : Kept) → AreFated k.book.lives k.fates
+pub says_logged : (k : Kept) → AreFated k.book.lives k.fates
     → (hosts : List Host)
     → Judged kept (λ h. is_host hosts h) (reverse k.book.crossings) k.book.lives k.handed (map logged_fate k.fates)
     → SaysOf kept hosts (world_book k)
@@ -198,7 +197,7 @@ logged_kept octets h = kept_over h.network.carrier h.network h.events octets h.l
 
 -- ---- and so its audit says
 
-said_kept : (octets : List ℕ) (v : Verdict) (before after : Option (List ℕ)) → AuditsLog octets v before after
+pub said_kept : (octets : List ℕ) (v : Verdict) (before after : Option (List ℕ)) → AuditsLog octets v before after
     → IsKeptLog octets → v ≡ kept
 said_kept octets v before after a k =
     let same : a.book ≡ k.book = book_once octets a.strangers k.strangers a.book k.book a.log k.log in
@@ -207,25 +206,8 @@ said_kept octets v before after a k =
     (subst (λ (b : Book). SaysOf v k.strangers b) same (subst (λ (hosts : List Host). SaysOf v hosts a.book) named a.says))
 
 -- where octets are a log, its lines are not bad
-never_bad : (octets : List ℕ) (f : AuditFault) → IsAuditFault octets f → IsKeptLog octets → SaysKept octets (Err f)
+pub never_bad : (octets : List ℕ) (f : AuditFault) → IsAuditFault octets f → IsKeptLog octets → SaysKept octets (Err f)
 never_bad octets fault.OutOfMemory h k = tt
 never_bad octets fault.CannotWrite h k = tt
 never_bad octets (fault.BadLog number) h k = absurd (h.none k.strangers k.book k.log)
 never_bad octets fault.CannotRead h k = absurd h
-
--- whatever the reader's octets are, as far as they are known
-pub ends_kept : (known : Option (List ℕ)) (said : Verdict) (before after : Option (List ℕ))
-    → IfSome known (λ octets. AuditsLog octets said before after)
-    → IfSome known (λ octets. Logged (Some []) (Some octets) → SaysKept octets (Ok said))
-ends_kept None said before after audits = tt
-ends_kept (Some octets) said before after audits =
-    λ logged. said_kept octets said before after audits (logged_kept octets logged)
-
-pub ends_faulty : (known : Option (List ℕ)) (r : Result Verdict AuditFault) (f : AuditFault) → r ≡ Err f
-    → IfSome known (λ octets. MatchResult r (λ said. IsSomeLog octets) (IsAuditFault octets))
-    → IfSome known (λ octets. Logged (Some []) (Some octets) → SaysKept octets r)
-ends_faulty None r f is read = tt
-ends_faulty (Some octets) r f is read = λ logged.
-    (let fault : IsAuditFault octets f = subst (λ (q : Result Verdict AuditFault). MatchResult q (λ said. IsSomeLog octets) (IsAuditFault octets)) is read in
-    subst (λ (q : Result Verdict AuditFault). SaysKept octets q) (sym is)
-    (never_bad octets f fault (logged_kept octets logged)))

@@ -1,13 +1,15 @@
 -- What is written as the log of a replay among strangers, and of one of either kind.
-use Rattle.std.specs.Prelude.{◌⊎◌, ℕ, List, ◌++◌, Option}
+use Rattle.std.specs.Prelude.{◌≡◌, ◌⊎◌, ℕ, Bool, List, ◌++◌, filter, None, Option}
 use Rattle.std.specs.Io.KnownBytes.{Appends}
-use Rattle.book_log.specs.Log.{IsBook, log_text, strangers_text}
+use Rattle.book_log.specs.Log.{AreStrangers, IsBook, log_text, strangers_text}
 use Rattle.interface.specs.Calls.{Calls}
 use Rattle.interface.specs.Host.{Host}
 use Rattle.leader1822.specs.Boxes.{plain_calls}
 use Rattle.mixed_worlds.specs.Laws.{KeepsAmong, KeepsToward}
 use Rattle.net_sim.specs.Carriers.{shown}
-use Rattle.net_sim.specs.MixedWorlds.{MixedState, opening_mixed, strange_in}
+use Rattle.net_sim.specs.Handed.{AreUnhanded}
+use Rattle.net_sim.specs.MixedWorlds.{MixedState, absent_in, opening_mixed, strange_in}
+use Rattle.promise.specs.Fates.{AreFated}
 use Rattle.subnet.specs.Working.{subnet_calls}
 use Rattle.topology.specs.Mixed.{MixedFields}
 use Rattle.topology.specs.declared.network.CarrierKind.{CarrierKind}
@@ -19,16 +21,25 @@ use Rattle.command_line.specs.Carriers.{plain_of, subnet_of}
 use Rattle.command_line.specs.Logs.{Logged, LogsInput, world_book}
 use Rattle.command_line.specs.Mixed.{IsMixedInput}
 
--- events are replayed in a world over such a carrier in which these hosts are strangers. Its book keeps what is promised
--- among hosts with programs and, of each of these, toward all others. A line for each stranger is written, then the log
--- of this book, and nothing else. It says all values as they are
+-- strangers are some of a network's hosts, in the order of these
+abbrev pub ArePicked : List Host → List Host → Type 0
+ArePicked hosts strangers = (p : Host → Bool) × (strangers ≡ filter p hosts)
+
+-- events are replayed in a world over such a carrier in which these hosts are strangers: hosts of the network, by IMP
+-- and then by number. Its book keeps what is promised among hosts with programs and, of each of these, toward all
+-- others, and has a list and a fate for each life. A line for each stranger is written, then the log of this book, and
+-- nothing else. It says all values as they are
 pub record MixedLogsFrom {C : Type 0} (calls : Calls C) (strangers : List Host) (opening : C)
     (events : List MixedWorldEvent) (before after : Option (List ℕ)) : Type 0 where
+  pub there : absent_in (calls.seen opening).hosts strangers ≡ None
+  pub named : AreStrangers strangers
   pub last : MixedState C
   pub shows : List Shown
   pub replayed : ReplaysBy (mixed_kind (shown calls)) (opening_mixed (shown calls) opening strangers) events last shows
   pub among : KeepsAmong (strange_in last) (calls.seen last.world.carrier).hosts last.world
   pub toward : KeepsToward (strange_in last) last.world
+  pub lists : AreUnhanded last.world.kept.book.lives last.world.kept.handed
+  pub fated : AreFated last.world.kept.book.lives last.world.kept.fates
   pub written : Appends before after (strangers_text strangers ++ log_text (world_book last.world.kept))
   pub valid : IsBook (world_book last.world.kept)
 

@@ -5,7 +5,7 @@ ghost use Rattle.std.specs.Io.KnownBytes.{IsAtEnd};
 ghost use Rattle.book_log.specs.Log.{IsLog};
 ghost use Rattle.command_line.specs.Audits.{Audited, AuditsLog, IsAuditFault, IsBookFault, IsLogReadFault, IsSomeLog, SaysKept, SaysOf};
 ghost use Rattle.command_line.specs.Audits.{layout_of, status_at, status_said};
-ghost use Rattle.command_line.specs.Logs.{Logged};
+ghost use Rattle.command_line.specs.MixedLogs.{LoggedEither};
 
 use crate::input::CHUNK;
 use crate::judging::judge;
@@ -158,8 +158,8 @@ pub fn run_audit<R: Source, W: Output>(
     // unless a read fails or memory runs out, the reader is asked for all octets
     ensures reads_all { result ≢ Err AuditFault.CannotRead → result ≢ Err AuditFault.OutOfMemory → IsAtEnd (R.remaining reader.new) }
 
-    // what a replay wrote as its log is read, and is kept
-    ensures kept { R.failed reader.new ≡ false → IfSome (R.remaining reader.old) (λ octets. Logged (Some []) (Some octets) → SaysKept octets result) }
+    // what a replay wrote as its log is read, and is kept, with strangers or without
+    ensures kept { R.failed reader.new ≡ false → IfSome (R.remaining reader.old) (λ octets. LoggedEither (Some []) (Some octets) → SaysKept octets result) }
 
     // where a read or a write fails it is reported, and nowhere else
     ensures cannot_read { (result ≡ Err AuditFault.CannotRead) ↔ (R.failed reader.new ≡ true) }

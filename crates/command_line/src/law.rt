@@ -28,8 +28,7 @@ ghost use Rattle.command_line.specs.Audits.{program_fates, program_lists, progra
 ghost use Rattle.command_line.specs.Events.{is_raw};
 ghost use Rattle.command_line.specs.Laws.{FirstPart, OneBook, OneOutput, OneReplay, WorkedLines, WorkedLives};
 ghost use Rattle.command_line.specs.Lived.{AreLived};
-ghost use Rattle.command_line.specs.Logs.{Logged};
-ghost use Rattle.command_line.specs.MixedLogs.{LogsEither};
+ghost use Rattle.command_line.specs.MixedLogs.{LoggedEither, LogsEither};
 ghost use Rattle.command_line.specs.MixedTraced.{TraceStopsEither, TracesEither};
 ghost use Rattle.command_line.specs.Printed.{PrintsBook, PrintsPart};
 ghost use Rattle.command_line.specs.Program.{Closes, EndsTask, Sides};
@@ -127,10 +126,10 @@ pub fn worked_made()
     ensures still_alive { (m : HostMessage) → AreLived (crossing.Down here ∷ took_one m) told_one (life_one ∷ []) → ⊥ }
 {}
 
-/// What `--log` writes is a log, of whatever network and events. Its book is kept, and what crossed in it is a run of
-/// the mailboxes. So whoever reads it comes to this book, and to this verdict.
+/// What `--log` writes is a log, of whatever network and events, with strangers or without. Its book is kept, and what
+/// crossed in it is a run of the mailboxes. So whoever reads it comes to this book, and to this verdict.
 pub fn logs_are_kept()
-    ensures { (octets : List ℕ) → Logged (Some []) (Some octets) → IsKeptLog octets }
+    ensures { (octets : List ℕ) → LoggedEither (Some []) (Some octets) → IsKeptLog octets }
 {}
 
 /// What an audit names is broken, and what it doesn't name holds. A malformed book has requests that nothing names, so

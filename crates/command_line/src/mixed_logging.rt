@@ -2,8 +2,9 @@
 
 ghost use Rattle.std.specs.Prelude.{◌≡◌, ◌≢◌, ◌≤◌, ◌↔◌, [], Err, IfErr, MatchResult, None, OnOk, false, length, true};
 ghost use Rattle.net_sim.specs.MixedWorlds.{absent_in};
+ghost use Rattle.topology.specs.Topology.{hosts_of};
 ghost use Rattle.command_line.specs.Mixed.{IsMixedFault, IsSomeMixed};
-ghost use Rattle.command_line.specs.MixedLogs.{MixedLogsFrom, MixedLogsInput, MixedLogsOn};
+ghost use Rattle.command_line.specs.MixedLogs.{ArePicked, MixedLogsFrom, MixedLogsInput, MixedLogsOn};
 ghost use Rattle.command_line.specs.Steps.{IsReplayFault};
 
 use crate::carriers::subnet_of;
@@ -52,6 +53,8 @@ fn log_mixed_on<W: Output>(
     writer: &mut W,
 ) -> Result<(), ScriptFault>
     requires whole { W.failed writer.old ≡ false }
+    // strangers are some of the network's hosts, in the order of these
+    requires picked { ArePicked (hosts_of topology.now.network) topology.now.strangers }
     ensures logged { OnOk result (MixedLogsOn topology.now events.items (W.contents writer.old) (W.contents writer.new)) }
     ensures untouched { IfErr result (λ f. f ≢ ScriptFault.CannotWrite → writer.new ≡ writer.old) }
     ensures fault { IfErr result IsReplayFault }
@@ -86,8 +89,9 @@ fn log_among<C: Carrier, W: Output>(
 ) -> Result<(), ScriptFault>
     requires unused { (C.calls.seen carrier).log ≡ [] }
     requires running { (C.calls.seen carrier).stopped ≡ false }
-    // strangers are hosts of the network
+    // strangers are hosts of the network, in the order of these
     requires there { absent_in (C.calls.seen carrier).hosts strangers.now ≡ None }
+    requires picked { ArePicked (C.calls.seen carrier).hosts strangers.now }
     requires whole { W.failed writer.old ≡ false }
     ensures logged { OnOk result (MixedLogsFrom C.calls strangers.now carrier events.items (W.contents writer.old) (W.contents writer.new)) }
     ensures untouched { IfErr result (λ f. f ≢ ScriptFault.CannotWrite → writer.new ≡ writer.old) }
@@ -95,6 +99,8 @@ fn log_among<C: Carrier, W: Output>(
     ensures failed { (result ≡ Err ScriptFault.CannotWrite) ↔ (W.failed writer.new ≡ true) }
     ensures flushed { OnOk result (W.flushed writer.new ≡ true) }
 {
+    // for the proof only: hosts are in order
+    carrier.hosts();
     let mut world = match MixedWorld::new(alloc, carrier, strangers) {
         Ok(world) => world,
         Err(StrangersFault::OutOfMemory) => return Err(ScriptFault::OutOfMemory),
@@ -108,8 +114,10 @@ fn log_among<C: Carrier, W: Output>(
         &mut Silent { flushed: false },
     ) {
         Ok(()) => {
-            // for the proof only: each fate says whether its life is over
+            // for the proof only: each fate says whether its life is over, there is a list for each life, and hosts exist
             world.fates();
+            world.handed();
+            world.book();
             let book = book_among(&world);
             Ok(write_book(strangers, &book, writer)?)
         }

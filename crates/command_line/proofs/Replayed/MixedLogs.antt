@@ -1,40 +1,55 @@
 -- What `--log` writes among strangers, and of an input of either kind.
 use Rattle.command_line.proofs.Common.{◌≡◌, inl, inr, ℕ, List, ◌++◌, Option, Result, OnOk, subst, sym, Appends, Calls}
 use Rattle.command_line.proofs.Common.{AreFated, Detail, Host, log_text, shown, subnet_calls, subnet_of, CarrierKind}
-use Rattle.command_line.proofs.Common.{TopologyFields, MixedFields, MixedWorldEvent, ScriptFault, IsInput, LogsOn}
+use Rattle.command_line.proofs.Common.{TopologyFields, MixedFields, MixedWorldEvent, ScriptFault, IsInput, LogsOn, None}
 use Rattle.command_line.proofs.Common.{on_ok, world_book}
 use Rattle.book_log.specs.Log.{IsBook, strangers_text}
+use Rattle.interface.specs.Host.{InOrder}
 use Rattle.mixed_worlds.specs.Laws.{KeepsAmong, KeepsToward}
 use Rattle.net_sim.specs.Book.{Kept}
-use Rattle.net_sim.specs.MixedWorlds.{MixedState, opening_mixed, strange_in}
+use Rattle.net_sim.specs.Handed.{AreUnhanded}
+use Rattle.net_sim.specs.MixedWorlds.{IsLawfulAmong, MixedState, absent_in, opening_mixed, strange_in}
 use Rattle.subnet.specs.Calls as subnet
 use Rattle.topology.specs.declared.network.CarrierKind.TheVariants as kind
 use Rattle.world_replay.specs.Kinds.{ReplaysBy, mixed_kind}
 use Rattle.world_replay.specs.Output as lines
 use Rattle.command_line.specs.Events.{Asked}
 use Rattle.command_line.specs.Mixed.{IsMixedInput}
-use Rattle.command_line.specs.MixedLogs.{LoggedEither, LogsEither, MixedLogsFrom, MixedLogsInput, MixedLogsOn}
-use Rattle.command_line.specs.MixedLogs.{MixedLogsOver}
+use Rattle.command_line.specs.MixedLogs.{ArePicked, LoggedEither, LogsEither, MixedLogsFrom, MixedLogsInput}
+use Rattle.command_line.specs.MixedLogs.{MixedLogsOn, MixedLogsOver}
+use Rattle.command_line.proofs.Verdicts.MixedKept.Named.{are_strangers}
 use Rattle.command_line.proofs.Replayed.Strangers.{subnet_named}
 
 -- ---- over a carrier
 
 pub logs_among : {C : Type 0} (calls : Calls C) (strangers : List Host) (carrier : C) (opening last : MixedState C)
     (events : List MixedWorldEvent) (detail : Detail) (k : Kept) (x y before after : Option (List ℕ))
-    → opening ≡ opening_mixed (shown calls) carrier strangers
+    → absent_in (calls.seen carrier).hosts strangers ≡ None → ArePicked (calls.seen carrier).hosts strangers
+    → InOrder (calls.seen carrier).hosts → opening ≡ opening_mixed (shown calls) carrier strangers
+    → IsLawfulAmong (strange_in last) calls.seen (calls.seen last.world.carrier).hosts last.world
+    → AreUnhanded last.world.kept.book.lives last.world.kept.handed
     → lines.Writes detail (ReplaysBy (mixed_kind (shown calls)) opening events last) x y
     → KeepsAmong (strange_in last) (calls.seen last.world.carrier).hosts last.world
     → KeepsToward (strange_in last) last.world
     → k ≡ last.world.kept → AreFated last.world.kept.book.lives last.world.kept.fates
     → Appends before after (strangers_text strangers ++ log_text (world_book k))
-    → (AreFated k.book.lives k.fates → IsBook (world_book k)) → MixedLogsFrom calls strangers carrier events before after
-logs_among {C} calls strangers carrier opening last events detail k x y before after begins w among toward is fated written valid =
+    → (AreFated k.book.lives k.fates → IsBook (world_book k))
+    → MixedLogsFrom calls strangers carrier events before after
+logs_among {C} calls strangers carrier opening last events detail k x y before after there picked order begins lawful
+    lists w among toward is fated written valid =
+    let replayed : ReplaysBy (mixed_kind (shown calls)) (opening_mixed (shown calls) carrier strangers) events last
+    w.shown =
+    subst (λ (s : MixedState C). ReplaysBy (mixed_kind (shown calls)) s events last w.shown) begins w.is_shown in
     record {
+      there = there;
+      named = are_strangers calls strangers carrier events last w.shown there picked order replayed lawful;
       last = last;
       shows = w.shown;
-      replayed = subst (λ (s : MixedState C). ReplaysBy (mixed_kind (shown calls)) s events last w.shown) begins w.is_shown;
+      replayed = replayed;
       among = among;
       toward = toward;
+      lists = lists;
+      fated = fated;
       written = subst (λ (b : Kept). Appends before after (strangers_text strangers ++ log_text (world_book b))) is written;
       valid = subst (λ (b : Kept). IsBook (world_book b)) is
           (valid (subst (λ (b : Kept). AreFated b.book.lives b.fates) (sym is) fated));

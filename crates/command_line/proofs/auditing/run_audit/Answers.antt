@@ -1,5 +1,5 @@
 use Rattle.command_line.proofs.Common.{◌≡◌, ℕ, List, Err, ap, rules, subst, Appends, IsLog, IsBookFault, Verdict}
-use Rattle.command_line.proofs.Joined.{ends_faulty, ends_kept}
+use Rattle.command_line.proofs.Verdicts.MixedKept.Said.{ends_faulty, ends_kept}
 use Rattle.command_line.proofs.Verdicts.Judged.{audited, audits, known_audited, some_log, unlogged, unread, unwritten}
 use Rattle.command_line.specs.Audits.{Layout, found_text}
 use Rattle.command_line.specs.declared.auditing.AuditFault.TheVariants as fault

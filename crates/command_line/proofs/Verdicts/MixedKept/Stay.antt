@@ -1,0 +1,121 @@
+-- The strangers of a world are those that were named, whatever happens in it.
+use Rattle.command_line.proofs.Common.{◌≡◌, Bool, true, false, List, [], ◌∷◌, None, Some, Result, refl, sym, ap, ◌∙◌}
+use Rattle.command_line.proofs.Common.{inl, inr, Calls, Host, WorldState, Event, MixedWorldEvent, shown}
+use Rattle.std.proofs.Common.{◌&&◌, filter}
+use Rattle.std.proofs.lemmas.Bool.{false≢true, or_cases}
+use Rattle.std.proofs.lemmas.Map.Views.{any-filter_same}
+use Rattle.std.specs.Bool.{MatchBool}
+use Rattle.interface.proofs.lemmas.{and_true, both_ways, same_host-true}
+use Rattle.interface.specs.Host.{is_host, same_host}
+use Rattle.net_sim.specs.MixedWorlds.{AnyGives, AskedGives, FetchGives, MixedState, MixedStepGives, OfWorld, OutGives}
+use Rattle.net_sim.specs.MixedWorlds.{RefusesMixed, absent_in, asked_at, is_strange, opening_mixed, strange_in}
+use Rattle.net_sim.specs.MixedWorlds as worlds
+use Rattle.net_sim.specs.World.{CalmGives, StepGives}
+use Rattle.net_sim.specs.declared.event.Event.TheVariants.{Ask, Net, Offer, Quiet, Server, Take, Typed, User}
+use Rattle.net_sim.specs.declared.event.WorldFault.{WorldFault}
+use Rattle.net_sim.specs.declared.mixed.MixedEvent.{MixedEvent}
+use Rattle.net_sim.specs.declared.mixed.MixedEvent.TheVariants.{Any, Out}
+use Rattle.net_sim.specs.declared.mixed.MixedFault.{MixedFault}
+use Rattle.net_sim.specs.declared.mixed.MixedFault.TheVariants.{NoProgram}
+use Rattle.world_replay.specs.Kinds.{MixedEventGives, ReplaysBy, mixed_kind}
+use Rattle.world_replay.specs.Output.{Shown}
+use Rattle.world_script.specs.declared.event.MixedWorldEvent.TheVariants as mixed
+
+-- ---- no event changes them
+
+either : {P Q R : Type 0} (b : Bool) → (P → R) → (Q → R) → MatchBool b P Q → R
+either true p q h = p h
+either false p q h = q h
+
+module _ {C : Type 0} (calls : Calls C) where
+  abbrev Answer : Type 0
+  Answer = Result (Unit {0}) MixedFault
+
+  of_world : (Gives : Result (Unit {0}) WorldFault → WorldState C → Type 0) (old : MixedState C) (r : Answer)
+      (new : MixedState C) → OfWorld Gives old r new → new.strangers ≡ old.strangers
+  of_world Gives old r new (q, gives, is, same) = same
+
+  refused : (f : MixedFault) (old : MixedState C) (r : Answer) (new : MixedState C) → RefusesMixed f old r new
+      → new.strangers ≡ old.strangers
+  refused f old r new h = ap (λ (s : MixedState C). s.strangers) h.1
+
+  asked : (e : Event) (old : MixedState C) (r : Answer) (new : MixedState C) → AskedGives calls old e r new
+      → new.strangers ≡ old.strangers
+  asked e old r new h = either (is_strange (strange_in old) (asked_at e)) (λ x. refused NoProgram old r new x)
+      (λ x. of_world (StepGives calls old.world e) old r new x) h
+
+  any : (e : Event) (old : MixedState C) (r : Answer) (new : MixedState C) → AnyGives calls old e r new
+      → new.strangers ≡ old.strangers
+  any (Take h) old r new g = either (strange_in old h) (λ x. of_world (FetchGives calls h old.world) old r new x)
+      (λ x. of_world (StepGives calls old.world (Take h)) old r new x) g
+  any (Net e) old r new g = asked (Net e) old r new g
+  any Quiet old r new g = asked Quiet old r new g
+  any (Offer h) old r new g = asked (Offer h) old r new g
+  any (Ask h q) old r new g = asked (Ask h q) old r new g
+  any (Server h listen base) old r new g = asked (Server h listen base) old r new g
+  any (User h peer listen own) old r new g = asked (User h peer listen own) old r new g
+  any (Typed h line) old r new g = asked (Typed h line) old r new g
+
+  event : (e : MixedEvent) (old : MixedState C) (r : Answer) (new : MixedState C)
+      → worlds.MixedEventGives calls old e r new → new.strangers ≡ old.strangers
+  event (Any e) old r new h = any e old r new h
+  event (Out m) old r new h = either (strange_in old m.flow.source)
+      (λ x. of_world (OutGives calls m old.world) old r new x) (λ x. refused _ old r new x) h
+
+  step : (e : MixedEvent) (old : MixedState C) (r : Answer) (new : MixedState C) → MixedStepGives calls old e r new
+      → new.strangers ≡ old.strangers
+  step e old r new h = either old.world.stopped (λ x. refused _ old r new x) (λ x. event e old r new x) h
+
+  one : (e : MixedWorldEvent) (old : MixedState C) (r : Answer) (new : MixedState C) → MixedEventGives calls old e r new
+      → new.strangers ≡ old.strangers
+  one (mixed.Happen e) old r new h = step e old r new h
+  one (mixed.Calm rounds) old r new h = of_world (CalmGives calls rounds old.world) old r new h
+
+  -- nor do several
+  pub all_stay : (events : List MixedWorldEvent) (old new : MixedState C) (shows : List Shown)
+      → ReplaysBy (mixed_kind calls) old events new shows → new.strangers ≡ old.strangers
+  all_stay [] old new shows h = ap (λ (s : MixedState C). s.strangers) h.0
+  all_stay (e ∷ events) old new shows (mid, first, rest, happens, turn, lines) =
+      all_stay events mid new rest turn ∙ one e old happens.outcome mid happens.gives
+
+-- ---- hosts of the network that are named are its strangers
+
+-- each that is named is there
+there_is : (hosts named : List Host) (h : Host) → absent_in hosts named ≡ None → is_host named h ≡ true
+    → is_host hosts h ≡ true
+there_is hosts [] h none is = absurd (false≢true is)
+there_is hosts (g ∷ named) h none is = by (is_host hosts g) refl (λ e i. there_is hosts named h e i) none
+  where
+    by : (b : Bool) → is_host hosts g ≡ b
+        → (absent_in hosts named ≡ None → is_host named h ≡ true → is_host hosts h ≡ true)
+        → absent_in hosts (g ∷ named) ≡ None → is_host hosts h ≡ true
+    by true e rest absent = elim (or_cases (same_host h g) (is_host named h) is) [
+      | inl same ↦ ap (is_host hosts) (same_host-true h g same) ∙ e
+      | inr other ↦ rest (rw e at absent) other
+    ]
+    by false e rest absent = absurd (let none : Some g ≡ None = rw e at absent in cc)
+
+picked_is : (p : Host → Bool) (hosts : List Host) (h : Host) → is_host (filter p hosts) h ≡ (p h && is_host hosts h)
+picked_is p hosts h = any-filter_same (same_host h) p (p h) (λ k same. ap p (sym (same_host-true h k same))) hosts
+
+and_both : (a b : Bool) → a ≡ true → b ≡ true → (a && b) ≡ true
+and_both true true p q = refl
+and_both true false p q = q
+and_both false b p q = p
+
+named_is : (hosts named : List Host) (h : Host) → absent_in hosts named ≡ None
+    → is_host named h ≡ is_host (filter (λ g. is_host named g) hosts) h
+named_is hosts named h none = both_ways (is_host named h) (is_host (filter (λ g. is_host named g) hosts) h)
+    (λ is. picked_is (λ g. is_host named g) hosts h
+    ∙ and_both (is_host named h) (is_host hosts h) is (there_is hosts named h none is))
+    (λ is. (and_true (is_host named h) (is_host hosts h) (sym (picked_is (λ g. is_host named g) hosts h) ∙ is)).0)
+
+-- so after any replay a host is a stranger exactly where it is named
+pub strangers_stay : {C : Type 0} (calls : Calls C) (opening : C) (named : List Host) (events : List MixedWorldEvent)
+    (last : MixedState C) (shows : List Shown) → absent_in (calls.seen opening).hosts named ≡ None
+    → ReplaysBy (mixed_kind (shown calls)) (opening_mixed (shown calls) opening named) events last shows
+    → (h : Host) → is_host named h ≡ strange_in last h
+strangers_stay calls opening named events last shows none replayed h =
+    named_is (calls.seen opening).hosts named h none
+    ∙ ap (λ (hosts : List Host). is_host hosts h)
+    (sym (all_stay (shown calls) events (opening_mixed (shown calls) opening named) last shows replayed))
