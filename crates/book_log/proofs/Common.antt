@@ -1,5 +1,5 @@
 -- The names that several files of these proofs take from elsewhere, passed on from one place.
-pub use Rattle.book_log.specs.Log.{Begins, Book, IsBadLine, IsBook, IsCrossing, IsHanded, IsLife, IsLived, IsLog, answer_name, fate_name, handed_line, life_line, log_lines, logged_fate, logged_line, stranger_line, text_of_lines}
+pub use Rattle.book_log.specs.Log.{Book, IsBadLine, IsBook, IsCrossing, IsHanded, IsLife, IsLived, IsLog, answer_name, fate_name, handed_line, life_line, log_lines, logged_fate, logged_line, stranger_line, text_of_lines}
 pub use Rattle.book_log.specs.Steps.{IsBadBookLine, IsBookText, IsLine, TakesAs, added, begins_wrong, counts_words, ends_words, flow_words, handed_words, is_bare, life_words, line_text, message_words, words_in, words_left}
 pub use Rattle.book_log.specs.declared.lines.Line.{Line}
 pub use Rattle.hex.specs.Hex.{encode_upper, upper_digits}

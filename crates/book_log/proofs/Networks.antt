@@ -1,12 +1,12 @@
 -- The log of a network: the lines of its strangers, and then those of its book.
 use Rattle.book_log.proofs.Common.{◌≡◌, ℕ, ◌<◌, ◌≤◌, ◌+◌, ◌^◌, ◌==◌, true, false, List, [], ◌∷◌, ◌++◌, Option, Some, None, codes, length, map, refl, sym, ap, ap₂, ◌∙◌, arith, subst, append_assoc}
-use Rattle.book_log.proofs.Common.{All, All-append, All-cons, All-head, All-nil, All-tail, Begins, Book, Host, IsBadBookLine, IsBadLine, IsBook, IsBookText, IsHost, IsLog, Lacks, SameCut}
+use Rattle.book_log.proofs.Common.{All, All-append, All-cons, All-head, All-nil, All-tail, Book, Host, IsBadBookLine, IsBadLine, IsBook, IsBookText, IsHost, IsLog, Lacks, SameCut}
 use Rattle.book_log.proofs.Common.{ended_line, host_text, log_lines, same_cut, stranger_line, text_of_lines, unmarked_where}
 use Rattle.std.proofs.lemmas.List.{append_cancel_left, length-append, length-map}
 use Rattle.std.specs.Prelude.{◌↔◌}
 use Rattle.interface.specs.Host.{InOrder, host_before}
 use Rattle.script.proofs.lemmas.{host_once}
-use Rattle.book_log.specs.Log.{AreStrangers, IsLogFault, log_text, network_lines, strangers_text}
+use Rattle.book_log.specs.Log.{AreStrangers, Begins, IsLogFault, log_text, network_lines, strangers_text}
 use Rattle.book_log.specs.declared.fault.LogFault.{LogFault}
 use Rattle.book_log.specs.declared.fault.LogFault.TheVariants as fault
 use Rattle.book_log.specs.Steps.{BeginsBook, FitsAfter, IsBookFault, fault_after, NamedAfter, Names, NamesNone, follows, last_of}
