@@ -6,6 +6,8 @@ mod Joins
 mod Lived
 mod Logs
 mod Once
+mod MixedLived
+mod MixedPrinted
 mod OneInput
 mod Printed
 mod Reading

@@ -111,7 +111,7 @@ lives_now (c ∷ log) told t here =
 
 -- ---- places that have come
 
-Placed : ℕ → List Told → Type 0
+pub Placed : ℕ → List Told → Type 0
 Placed place [] = Unit {0}
 Placed place (t ∷ told) = (t.place ≤ place) × Placed place told
 
@@ -134,11 +134,11 @@ none_yet place (t ∷ told) h =
 
 -- ---- what is kept
 
-record Lived (k : Kept) : Type 0 where
-  placed : Placed (length k.book.crossings) k.book.notices
-  lived : AreLived k.book.crossings k.book.notices k.book.lives
+pub record Lived (k : Kept) : Type 0 where
+  pub placed : Placed (length k.book.crossings) k.book.notices
+  pub lived : AreLived k.book.crossings k.book.notices k.book.lives
 
-crossed_lived : (c : Crossing) (k : Kept) → Lived k → Lived (crossed c k)
+pub crossed_lived : (c : Crossing) (k : Kept) → Lived k → Lived (crossed c k)
 crossed_lived c k h = record {
   placed = placed_on (length k.book.crossings) k.book.notices h.placed;
   lived =
@@ -146,7 +146,7 @@ crossed_lived c k h = record {
       ∙ ap (λ (ts : List Told). all_lives_told ts (lives_crossed c (lives_in k.book.crossings k.book.notices))) (sym (none_yet (length k.book.crossings) k.book.notices h.placed));
 }
 
-asked_lived : (h : Host) (r : Request) (k : Kept) → Lived k → Lived (asked h r k)
+pub asked_lived : (h : Host) (r : Request) (k : Kept) → Lived k → Lived (asked h r k)
 asked_lived h r k l = record { placed = l.placed; lived = asked_alike h r k.book.lives ∙ l.lived }
 
 one_lived : (h : Host) (n : Notice) (k : Kept) → Lived k → Lived (book_told h n k)
@@ -155,7 +155,7 @@ one_lived h n k l = let t : Told = record { host = h; place = length k.book.cros
   lived = told_alike h n k.book.lives ∙ ap (lives_told h n) l.lived ∙ sym (lives_now k.book.crossings k.book.notices t refl);
 }
 
-all_lived : (h : Host) (ns : List Notice) (k : Kept) → Lived k → Lived (all_told h ns k)
+pub all_lived : (h : Host) (ns : List Notice) (k : Kept) → Lived k → Lived (all_told h ns k)
 all_lived h [] k l = l
 all_lived h (n ∷ ns) k l = all_lived h ns (book_told h n k) (one_lived h n k l)
 
@@ -163,7 +163,7 @@ moment_lived : (x : Moment) (k : Kept) → Lived k → Lived (kept_by x k)
 moment_lived (Crossed c) k l = crossed_lived c k l
 moment_lived (Asked h r) k l = asked_lived h r k l
 
-kept_lived : (moments : List Moment) → Lived (kept_in moments)
+pub kept_lived : (moments : List Moment) → Lived (kept_in moments)
 unfolding Placed
 kept_lived [] = record { placed = tt; lived = refl }
 kept_lived (x ∷ moments) = all_lived (host_in x) (notices_by x moments) (kept_by x (kept_in moments)) (moment_lived x (kept_in moments) (kept_lived moments))

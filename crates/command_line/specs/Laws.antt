@@ -1,5 +1,5 @@
 -- The laws of src/ that are longer than a line: each is a record, and its fields are the clauses.
-use Rattle.std.specs.Prelude.{Bool, List, Option, Some, [], false, reverse, ℕ, ◌++◌, ◌==◌, ◌∷◌, ◌≡◌}
+use Rattle.std.specs.Prelude.{Bool, List, Option, Some, [], false, reverse, true, ℕ, ◌++◌, ◌==◌, ◌∷◌, ◌≡◌}
 use Rattle.host_pairs.specs.declared.notice.Notice.TheVariants as notice
 use Rattle.host_services.specs.declared.report.Reported.{Reported}
 use Rattle.interface.specs.Host.{Host}
@@ -22,6 +22,7 @@ use Rattle.command_line.specs.Either.{ReplaysEither, StopsEither}
 use Rattle.command_line.specs.Joins.{PrintTheSame, TellTheSame}
 use Rattle.command_line.specs.Lived.{AreLived}
 use Rattle.command_line.specs.Logs.{LogsInput}
+use Rattle.command_line.specs.MixedPrinted.{AreOneBookAmong, PrintsBookAmong}
 use Rattle.command_line.specs.Printed.{AreOneBook, PrintsBook, PrintsPart}
 use Rattle.command_line.specs.Recorded.{PrintsTrace, told_lines}
 use Rattle.command_line.specs.Replayed.{ReplaysInput, WorldShowsFrom}
@@ -112,6 +113,33 @@ pub record WorkedLines : Type 0 where
   pub not_in_part :
       (raw : Bool) (detail : Detail) (before after : Option (List ℕ)) (m : HostMessage)
       (p : PrintsPart raw detail before after) → p.shown ≡ lines.Crossed (crossing.In m) ∷ [] → ⊥
+
+-- Lines and lives that no book of a network with strangers has.
+pub record WorkedAmong : Type 0 where
+  -- a message that comes in and never went out, whoever is a stranger
+  pub never_out :
+      (strange : Host → Bool) (m : HostMessage) (lives : List Life) →
+      AreOneBookAmong strange (lines.Crossed (crossing.In m) ∷ []) lives → ⊥
+  -- a notice that bits have arrived, where nothing crossed
+  pub nothing_in :
+      (strange : Host → Bool) (h : Host) (socket : ℕ) (bits : List Bool) (lives : List Life) →
+      AreOneBookAmong strange
+      (lines.Noticed (record { host = h; place = 0; notice = notice.Arrived socket bits }) ∷ []) lives → ⊥
+  -- data that went out from a host with a program to another one, without a notice
+  pub untold :
+      (strange : Host → Bool) (m : HostMessage) (lives : List Life) → strange m.flow.source ≡ false →
+      strange m.flow.destination ≡ false → (m.flow.link.0 == 0) ≡ false →
+      AreOneBookAmong strange (lines.Crossed (crossing.Out m) ∷ []) lives → ⊥
+  -- a life without a notice, and a stranger's life
+  pub no_notice :
+      (strange : Host → Bool) (life : Life) (lives : List Life) → AreOneBookAmong strange [] (life ∷ lives) → ⊥
+  pub of_stranger :
+      (strange : Host → Bool) (life : Life) (lives : List Life) (shown : List Shown) → strange life.host ≡ true →
+      AreOneBookAmong strange shown (life ∷ lives) → ⊥
+  -- such lines are not printed by a replay
+  pub not_printed :
+      (strange : Host → Bool) (book : Bool) (detail : Detail) (before after : Option (List ℕ)) (m : HostMessage)
+      (p : PrintsBookAmong strange book detail before after) → p.shown ≡ lines.Crossed (crossing.In m) ∷ [] → ⊥
 
 -- Lives that no replay shows.
 pub record WorkedLives : Type 0 where

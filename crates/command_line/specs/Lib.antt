@@ -10,6 +10,7 @@ pub mod Lived
 pub mod Logs
 pub mod Mixed
 pub mod MixedLogs
+pub mod MixedPrinted
 pub mod MixedTraced
 pub mod Options
 pub mod Parser

@@ -26,9 +26,11 @@ ghost use Rattle.replay.specs.declared.print.Detail.{Detail};
 ghost use Rattle.command_line.specs.Audits.{IsKeptLog, IsSafeLog, KeepsEnds, SaysKept, SaysOf, kept, layout_of, place_in};
 ghost use Rattle.command_line.specs.Audits.{program_fates, program_lists, program_lives, word_text};
 ghost use Rattle.command_line.specs.Events.{is_raw};
-ghost use Rattle.command_line.specs.Laws.{FirstPart, OneBook, OneOutput, OneReplay, WorkedLines, WorkedLives};
+ghost use Rattle.command_line.specs.Laws.{FirstPart, OneBook, OneOutput, OneReplay, WorkedAmong, WorkedLines, WorkedLives};
 ghost use Rattle.command_line.specs.Lived.{AreLived};
+ghost use Rattle.command_line.specs.Mixed.{RanMixed, RanMixedInPart};
 ghost use Rattle.command_line.specs.MixedLogs.{LoggedEither, LogsEither};
+ghost use Rattle.command_line.specs.MixedPrinted.{PrintsBookAmong, PrintsPartAmong, are_strange};
 ghost use Rattle.command_line.specs.MixedTraced.{TraceStopsEither, TracesEither};
 ghost use Rattle.command_line.specs.Printed.{PrintsBook, PrintsPart};
 ghost use Rattle.command_line.specs.Program.{Closes, EndsTask, Sides};
@@ -91,10 +93,15 @@ pub fn worked_traces()
 
 /// What is printed is one book, of whatever network and events, with the book or without it: all that lines show is in
 /// it, and its lives, which are printed where the book is asked for, are those that the lines make. In a network
-/// without host programs there are none. Where memory runs out the lines are still those of such a book.
+/// without host programs there are none. Where memory runs out the lines are still those of such a book. Where some
+/// hosts are strangers, it is the book of the others.
 pub fn printed_books()
     ensures whole { (book : Bool) (detail : Detail) (before after : Option (List ℕ)) (h : Ran book detail before after) → PrintsBook (is_raw h.events) book detail before after }
     ensures part { (detail : Detail) (before after : Option (List ℕ)) (h : RanInPart detail before after) → PrintsPart (is_raw h.events) detail before after }
+
+    // some hosts are strangers
+    ensures among { (book : Bool) (detail : Detail) (before after : Option (List ℕ)) (h : RanMixed book detail before after) → PrintsBookAmong (are_strange h.network) book detail before after }
+    ensures among_part { (detail : Detail) (before after : Option (List ℕ)) (h : RanMixedInPart detail before after) → PrintsPartAmong (are_strange h.network) detail before after }
 {}
 
 /// What it means that lines and lives are one book: all that was promised holds of what the lines show.
@@ -105,6 +112,11 @@ pub fn one_book()
 /// Lines that no book has.
 pub fn worked_lines()
     ensures { WorkedLines }
+{}
+
+/// Lines and lives that no book of a network with strangers has.
+pub fn worked_among()
+    ensures { WorkedAmong }
 {}
 
 /// The lives that crossings and notices make: of an end where one message arrived.

@@ -17,7 +17,7 @@ use Rattle.net_sim.specs.declared.mixed.MixedEvent.{MixedEvent}
 use Rattle.net_sim.specs.declared.mixed.MixedEvent.TheVariants.{Any, Out}
 use Rattle.net_sim.specs.declared.mixed.MixedFault.{MixedFault}
 use Rattle.net_sim.specs.declared.mixed.MixedFault.TheVariants.{NoProgram}
-use Rattle.world_replay.specs.Kinds.{MixedEventGives, ReplaysBy, mixed_kind}
+use Rattle.world_replay.specs.Kinds.{MixedEventGives, ReplaysBy, RunsOutBy, mixed_kind}
 use Rattle.world_replay.specs.Output.{Shown}
 use Rattle.world_script.specs.declared.event.MixedWorldEvent.TheVariants as mixed
 
@@ -78,6 +78,12 @@ module _ {C : Type 0} (calls : Calls C) where
   all_stay (e ∷ events) old new shows (mid, first, rest, happens, turn, lines) =
       all_stay events mid new rest turn ∙ one e old happens.outcome mid happens.gives
 
+  -- nor do those before memory ran out
+  pub stay_in_part : (events : List MixedWorldEvent) (old new : MixedState C) (shows : List Shown)
+      → RunsOutBy (mixed_kind calls) old events new shows → new.strangers ≡ old.strangers
+  stay_in_part events old new shows h =
+      one h.last h.mid h.goes.outcome new h.goes.gives ∙ all_stay h.done old h.mid h.front h.before
+
 -- ---- hosts of the network that are named are its strangers
 
 -- each that is named is there
@@ -119,3 +125,11 @@ strangers_stay calls opening named events last shows none replayed h =
     named_is (calls.seen opening).hosts named h none
     ∙ ap (λ (hosts : List Host). is_host hosts h)
     (sym (all_stay (shown calls) events (opening_mixed (shown calls) opening named) last shows replayed))
+
+-- whatever is named: these are the hosts of the network that are named
+pub picked_stay : {C : Type 0} (calls : Calls C) (opening : C) (named : List Host) (last : MixedState C)
+    → last.strangers ≡ (opening_mixed (shown calls) opening named).strangers
+    → (h : Host) → strange_in last h ≡ (is_host named h && is_host (calls.seen opening).hosts h)
+picked_stay calls opening named last same h =
+    ap (λ (hosts : List Host). is_host hosts h) same
+    ∙ picked_is (λ g. is_host named g) (calls.seen opening).hosts h
