@@ -6,8 +6,6 @@ mod Joins
 mod Lived
 mod Logs
 mod Once
-mod MixedLived
-mod MixedPrinted
 mod OneInput
 mod Printed
 mod Reading

@@ -18,7 +18,7 @@ pub nothing_in : (raw : Bool) (h : Host) (socket : ℕ) (bits : List Bool) (live
 nothing_in true h socket bits lives book = let none : record { host = h; place = 0; notice = notice.Arrived socket bits } ∷ [] ≡ [] = book.told.no_notices in cc
 nothing_in false h socket bits lives book = book.told
 
-some_life : (x : Life) (xs : List Life) → x ∷ xs ≡ [] → ⊥
+pub some_life : (x : Life) (xs : List Life) → x ∷ xs ≡ [] → ⊥
 some_life x xs e = cc
 
 pub no_life : (raw : Bool) (h peer : Host) (socket foreign own partner : ℕ) →

@@ -54,7 +54,7 @@ judged {C} strange hosts w among toward lists =
     (toward_each strange k.book.lives k.handed toward.owner toward.taken toward.handed)
 
 -- two tests that give the same of each host are one
-one_test : (f g : Host → Bool) → ((h : Host) → f h ≡ g h) → f ≡ g
+pub one_test : (f g : Host → Bool) → ((h : Host) → f h ≡ g h) → f ≡ g
 one_test f g same = λ i. λ h. same h i
 
 kept_from : {C : Type 0} (calls : Calls C) (strangers : List Host) (opening : C) (events : List MixedWorldEvent)

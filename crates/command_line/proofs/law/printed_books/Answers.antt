@@ -1,4 +1,4 @@
-use Rattle.command_line.proofs.MixedPrinted.{part_among, printed_among}
+use Rattle.command_line.proofs.Replayed.MixedPrinted.{part_among, printed_among}
 use Rattle.command_line.proofs.Printed.{printed, printed_in_part}
 use Rattle.command_line.proofs.law.printed_books.Goals as goal
 

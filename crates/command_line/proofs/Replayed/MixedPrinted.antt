@@ -27,9 +27,11 @@ use Rattle.command_line.specs.Mixed.{RanMixedInPart}
 use Rattle.command_line.specs.MixedPrinted.{AreOneBookAmong, PrintsBookAmong, PrintsPartAmong, are_strange}
 use Rattle.command_line.specs.Printed.{log_of, shown_book}
 use Rattle.command_line.specs.Replayed.{WritesWorld}
-use Rattle.command_line.proofs.MixedLived.{replayed_lived, stopped_lived}
+use Rattle.command_line.proofs.Replayed.MixedLived.{replayed_lived, stopped_lived}
 use Rattle.command_line.proofs.Printed.{joined_as}
+use Rattle.command_line.proofs.Verdicts.MixedKept.Kept.{one_test}
 use Rattle.command_line.proofs.Verdicts.MixedKept.Stay.{all_stay, picked_stay, stay_in_part}
+use Rattle.command_line.proofs.WorkedLines.{some_life}
 
 -- the book of a world with strangers, by what its lines have
 among_book : {C : Type 0} (strange : Host → Bool) (hosts : List Host) (w : WorldState C) (shows : List Shown)
@@ -57,10 +59,6 @@ among_book strange hosts w shows booked among toward lived =
       carried = λ x there. subst (λ log. IsCarried log x) booked.crossed (toward.carried x there);
       taken = toward.taken;
     }
-
--- two tests that give the same of each host are one
-one_test : (f g : Host → Bool) → ((h : Host) → f h ≡ g h) → f ≡ g
-one_test f g same = λ i. λ h. same h i
 
 -- ---- over a carrier
 
@@ -161,9 +159,6 @@ untold strange m lives source destination off book = elim book.told.0 [
     by false false p q = refl
     by true b p q = absurd (false≢true (sym p))
     by false true p q = absurd (false≢true (sym q))
-
-some_life : (x : Life) (xs : List Life) → x ∷ xs ≡ [] → ⊥
-some_life x xs e = cc
 
 pub no_notice : (strange : Host → Bool) (life : Life) (lives : List Life)
     → AreOneBookAmong strange [] (life ∷ lives) → ⊥
