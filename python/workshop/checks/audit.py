@@ -37,6 +37,7 @@ from dorydate.model.misread_logs import MISREADINGS
 from dorydate.model.verdict import Judge, ended, ends_audit, says
 from dorydate.model.chance.worlds import Script
 from dorydate.model.runs import End
+from dorydate.model.strangers import MixedWorld
 from dorydate.model.topology import Topology, network_of, spelled_input
 from dorydate.model.without.stored import Lesson
 from workshop.checks import log_rows
@@ -324,10 +325,16 @@ def tried_world(kind: str, seed: int, made: Made, is_broken: bool) -> Found:
 
 
 def log_of_world(kind: str, seed: int, network: Topology, script: Script) -> list[str]:
-    """What is wrong with the program's log of a script, and with what it says of that."""
+    """What is wrong with the program's log of a script, and with what it says of that.
+
+    In some worlds of the model strangers take what waits for them in a calm; then the log is that of the script's lines.
+    """
+    octets = spelled_input(network, script.lines)
     log = spelled_log(book_of(network, script.world))
+    if isinstance(script.world, MixedWorld) and script.world.takes:
+        log = owed_log(octets)[1].encode("latin-1")
     owed = 0, log.decode("latin-1"), ""
-    found = run(spelled_input(network, script.lines), "--log")
+    found = run(octets, "--log")
     if found != owed:
         return [f"the log of the {kind} {seed}: {different_line(found[1], owed[1])}"]
     fault = compared(f"the log of the {kind} {seed}", log, (0, "kept\n", ""))
