@@ -17,11 +17,11 @@ from dorydate.given import Input
 from dorydate.live import record as records
 from dorydate.live.engine import Ended, Rounds
 from dorydate.live.gateway import Gateway
-from dorydate.live.record import Record
+from dorydate.live.record import Address, Record
 from dorydate.live.services import Served, Shell, Terminal
 from dorydate.live.session import Session
 from dorydate.live.weather import Weather
-from dorydate.live.wires import Address, listen
+from dorydate.live.wires import listen
 from dorydate.network import BadNetwork, Host, Network
 from dorydate.program import NoProgram
 from dorydate.where import found
@@ -117,6 +117,7 @@ def opened(chosen: argparse.Namespace) -> Session:
         raise Refused("no host of this topology is a stranger: an IMP names them as in `foreign = [0]`")
     engine = Rounds(found(), topology, network)
     printed = engine.resumed([it for it in lines if it and not it.startswith(b"#")]) if chosen.resume else []
+    chosen.peers = records.peers(lines)
     folder = Path(chosen.record or chosen.resume)
     if not chosen.resume and (folder / records.SCRIPT).exists():
         raise Refused(f"{folder} has a session already: --resume {folder} continues it")
@@ -144,7 +145,9 @@ async def serve(session: Session, chosen: argparse.Namespace) -> str:
     gateway = Gateway(session, chosen.marked, chosen.pace / 1000, chosen.silence)
     async with AsyncExitStack() as stack:
         for it in [binding_of(session.network, word) for word in chosen.bind]:
-            await listen(gateway.interface(it.host), chosen.listen, it.port, it.peer, stack)
+            udp = await listen(gateway.interface(it.host), chosen.listen, it.port, it.peer, stack)
+            if it.host in chosen.peers:
+                udp.resume(chosen.peers[it.host])
         await add_services(gateway, chosen, stack)
         begin(gateway, chosen)
         await gateway.run()
@@ -190,7 +193,7 @@ async def add_services(gateway: Gateway, chosen: argparse.Namespace, stack: Asyn
             raise Refused("--shell runs programs of this machine for whoever comes, so it is local only")
         shell = Shell(gateway, with_a_program(network, it["host"]), int(it["socket"]), it["command"])
         gateway.tenders.append(shell)
-        stack.callback(shell.close)
+        stack.push_async_callback(shell.close)
 
 
 def main(words: Sequence[str] | None = None) -> int:

@@ -47,6 +47,9 @@ class Wire(Protocol):
     def has_room(self) -> bool:
         """Whether the host takes what it is sent."""
 
+    def where(self) -> str:
+        """How and from where its host speaks."""
+
 
 class Interface:
     """The interface of one stranger.
@@ -156,7 +159,7 @@ class Interface:
             self.count[f"refused {name}"] += 1
             return
         self.queue.clear()
-        self.session.say(f"{self.host} is ready")
+        self.session.say(f"{self.host} is ready, {self.wire.where() if self.wire else 'and gone'}")
         for _ in range(3):
             self.send(messages.nop(self.host))
 

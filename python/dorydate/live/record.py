@@ -3,6 +3,7 @@
 from __future__ import annotations
 
 import os
+import re
 import time
 from collections.abc import Sequence
 from pathlib import Path
@@ -18,6 +19,9 @@ from dorydate.script import Event
 MOST_WIRE = 1 << 28  # octets of the file of frames; what crosses after these is not kept
 SCRIPT, PRINTED, WIRE = "script", "printed", "wire"
 FROM_HOST, TO_HOST = "from", "to"
+UDP, TCP = "udp", "tcp"
+Address = tuple[str, int]
+READY = re.compile(rf"# [0-9.]+ s: (\S+) is ready, {UDP} ([0-9.]+):([0-9]+)")
 
 
 class Whole:
@@ -109,3 +113,9 @@ def read(folder: Path) -> tuple[str, list[bytes]]:
     if given.marker is None:
         raise Ended(f"{folder / SCRIPT}: it has no line `%`, so it is no session")
     return given.topology().decode("utf-8", "surrogateescape") + "\n", [line for _, line in given.script]
+
+
+def peers(lines: Sequence[bytes]) -> dict[Host, Address]:
+    """From where hosts spoke last over UDP, as the comments of a session say."""
+    found = (READY.fullmatch(it.decode("utf-8", "replace")) for it in lines if it.startswith(b"#"))
+    return {Host.read(it[1]): (it[2], int(it[3])) for it in found if it}

@@ -244,6 +244,8 @@ class Shell(Asks):
         while octets := await process.stdout.read(PIECE):
             self.ask(Send(self.host, base + 1, Text.of(octets.replace(b"\n", b"\r\n"))), lambda said: None)
         await process.wait()
+        if process.stdin is not None:
+            process.stdin.close()
         for socket in (base + 1, base):
             self.ask(Close(self.host, socket), lambda said: None)
 
@@ -264,8 +266,9 @@ class Shell(Asks):
         for socket in (base + 1, base):
             self.ask(Close(self.host, socket), lambda said: None)
 
-    def close(self) -> None:
+    async def close(self) -> None:
         """Ends all that still runs."""
         for process in self.running.values():
             if process.returncode is None:
                 process.kill()
+        await asyncio.gather(*self.tasks)

@@ -10,9 +10,8 @@ from typing import Any
 from dorydate.live.frames import LAST, MOST_WORDS, READY, Assembly, Frame, WireFault
 from dorydate.live.interface import Interface
 from dorydate.live.messages import LEADER
-from dorydate.live.record import FROM_HOST, TO_HOST
+from dorydate.live.record import FROM_HOST, TCP, TO_HOST, UDP, Address
 
-Address = tuple[str, int]
 LENGTH = 2  # octets before each message over TCP
 MOST_UNREAD = 1 << 18  # octets that a host's TCP may leave unread before it is handed no more
 IP_RECVERR = getattr(socket, "IP_RECVERR", 11)  # Linux: errors that ICMP reports are handed to the socket
@@ -46,6 +45,12 @@ class Udp(asyncio.DatagramProtocol):
             self.interface.goes("its port is closed")
             self.left()
 
+    def resume(self, peer: Address) -> None:
+        """Its host was up when an earlier session ended, and needs not notice."""
+        if self.interface.up and self.peer in (None, peer):
+            self.peer = peer
+            self.interface.comes(self)
+
     def left(self) -> None:
         self.peer, self.assembly = self.fixed, Assembly()
 
@@ -64,7 +69,7 @@ class Udp(asyncio.DatagramProtocol):
             raise WireFault("sender")
         frame = Frame.read(data)
         words = self.assembly.add(frame)
-        it.session.record.crossed("udp", FROM_HOST, it.host, data)
+        it.session.record.crossed(UDP, FROM_HOST, it.host, data)
         ready = bool(frame.flags & READY)
         if ready and not it.said:
             self.peer = addr
@@ -82,11 +87,14 @@ class Udp(asyncio.DatagramProtocol):
             return
         frame = Frame(self.sequence, (LAST if words else 0) | (READY if ready else 0), words).octets()
         self.sequence += 1
-        self.interface.session.record.crossed("udp", TO_HOST, self.interface.host, frame)
+        self.interface.session.record.crossed(UDP, TO_HOST, self.interface.host, frame)
         self.transport.sendto(frame, self.peer)
 
     def has_room(self) -> bool:
         return True
+
+    def where(self) -> str:
+        return f"{UDP} {self.peer[0]}:{self.peer[1]}" if self.peer else UDP
 
 
 class Tcp:
@@ -132,7 +140,7 @@ class Tcp:
             await asyncio.sleep(0.01)
             if self.writer is None:
                 raise ConnectionResetError
-        it.session.record.crossed("tcp", FROM_HOST, it.host, head + words)
+        it.session.record.crossed(TCP, FROM_HOST, it.host, head + words)
         try:
             if length:
                 it.message(words)
@@ -148,8 +156,11 @@ class Tcp:
             self.writer.close()
             return
         message = len(words).to_bytes(LENGTH, "big") + words
-        self.interface.session.record.crossed("tcp", TO_HOST, self.interface.host, message)
+        self.interface.session.record.crossed(TCP, TO_HOST, self.interface.host, message)
         self.writer.write(message)
+
+    def where(self) -> str:
+        return TCP
 
     def close(self) -> None:
         if self.writer is not None:
@@ -159,15 +170,16 @@ class Tcp:
         return self.writer is not None and self.writer.transport.get_write_buffer_size() < MOST_UNREAD
 
 
-async def listen(interface: Interface, address: str, port: int, peer: Address | None, stack: AsyncExitStack) -> None:
+async def listen(interface: Interface, address: str, port: int, peer: Address | None, stack: AsyncExitStack) -> Udp:
     """Listens for an interface's host over UDP and over TCP, on the same port, until the stack is closed."""
     bound = socket.socket(socket.AF_INET, socket.SOCK_DGRAM)
     stack.callback(bound.close)
     bound.setblocking(False)
     bound.bind((address, port))
     loop = asyncio.get_running_loop()
-    transport, _ = await loop.create_datagram_endpoint(lambda: Udp(interface, bound, peer), sock=bound)
+    transport, udp = await loop.create_datagram_endpoint(lambda: Udp(interface, bound, peer), sock=bound)
     stack.callback(transport.close)
     tcp = Tcp(interface)
     stack.callback((await asyncio.start_server(tcp.serve, address, port)).close)
     stack.callback(tcp.close)
+    return udp
