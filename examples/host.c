@@ -428,8 +428,7 @@ int main(int argc, char **argv) {
         return fputs("host [-t] [-q] [-p S] [-l S] OWN PORT (talk PEER SOCKET LINE.. | echo SOCKET)\n", stderr), 2;
     imp = (struct sockaddr_in){.sin_family = AF_INET, .sin_port = htons(atoi(argv[1]))};
     imp.sin_addr.s_addr = htonl(INADDR_LOOPBACK);
-    listens = atoi(argv[serving ? 3 : 4]), lines = argv + 5, line_count = argc - 5;
-    began = now();
+    listens = atoi(argv[serving ? 3 : 4]), lines = argv + 5, line_count = argc - 5, began = now();
     for (come_up(); state != DONE && (serving || now() - began < limit);) {
         struct pollfd it = {.fd = wire, .events = POLLIN};
         if (wire < 0) usleep(100000); else if (poll(&it, 1, 50) > 0) receive();
@@ -442,7 +441,8 @@ int main(int argc, char **argv) {
         if (state == IDLE && now() - progress > (attempts ? 0.3 : 0)) make_contact(address_of(argv[3]));
         if (state != IDLE && now() - progress > patience) { start_again("nothing comes"); come_up(); }
     }
-    while (state == DONE && server->busy[0] && now() - progress < patience) receive();
+    struct pollfd last = {.fd = wire, .events = POLLIN};
+    while (state == DONE && server->busy[0] && poll(&last, 1, 500) > 0) receive();
     printf("%s: %d of %d lines, ", state == DONE ? "done" : "not done", line_at, line_count);
     printf("%d attempts, %.2f s\n", attempts, now() - began);
     if (wire >= 0 && !over_tcp) transmit((octet *)"", 0, false);

@@ -1,7 +1,7 @@
 """A host on the wire as a program that hears lines and answers by lines, so that `dorydate.conformance` may try it.
 
-Here this end of the wire is its IMP: what the host is handed goes to it in frames, and what it says until it is silent is
-its answer. Nobody can ask its user for something, so of the dialogues those remain in which nobody does.
+Here this end of the wire is its IMP: what the host is handed goes to it in frames, and what it says until it is silent
+is its answer. Nobody can ask its user for something, so of the dialogues those remain in which nobody does.
 """
 
 from __future__ import annotations
