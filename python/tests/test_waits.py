@@ -1,4 +1,4 @@
-"""What waits, after every moment of every example: no host is said to lack what it has, and each deed that is named does something."""
+"""What waits, after each moment of each example: no host is said to lack what it has, and each named deed does something."""
 
 from __future__ import annotations
 
@@ -11,7 +11,7 @@ from dorydate.explain import waits
 from dorydate.explain.topology import of_model
 from dorydate.model.connections import CLOSED, GONE, HEARD, READY, WANT
 from dorydate.model.forks import forked
-from dorydate.model.names import HostName, read_host
+from dorydate.model.names import HostName, read_host, spell_host
 from dorydate.model.runs import opened
 from dorydate.model.script import read_event
 from dorydate.model.strangers import Stranger
@@ -55,13 +55,14 @@ def lacks(world: World, host: HostName, peer: HostName, socket: int, foreign: in
 
 
 def false_requests(world: World) -> list[str]:
-    """The requests of which it is said that the peer has to ask or to listen, where it has done so or the request hasn't come."""
+    """The requests of which it is said, and is false, that the peer has to ask or to listen."""
     wrong = []
     said = [str(it) for it in waits.waiting(world, world.carrier)]
     for host, program in world.hosts.items():
         for peer, pair in program.pairs.items() if program else ():
             for end in pair.ends:
-                words = f"the request from socket {end.own} of host {host.number}/{host.imp}, for host {peer.number}/{peer.imp} to ask for the same connection"
+                start = f"the request from socket {end.own} of host {spell_host(host)}"
+                words = f"{start}, for host {spell_host(peer)} to ask for the same connection"
                 is_said = any(it.startswith(words) for it in said)
                 if is_said and (end.own_stamp is None or not lacks(world, host, peer, end.own, end.foreign)):
                     wrong.append(words)
@@ -75,7 +76,7 @@ def false_contacts(world: World) -> list[str]:
         for peer, pair in program.pairs.items() if program else ():
             if pair.phase in (CLOSED, READY):
                 continue
-            words = f"host {host.number}/{host.imp}'s contact with host {peer.number}/{peer.imp}, for "
+            words = f"host {spell_host(host)}'s contact with host {spell_host(peer)}, for "
             said = next(str(it) for it in waits.waiting(world, world.carrier) if str(it).startswith(words))
             there = world.hosts[peer]
             theirs = there.pairs.get(host) if there else None

@@ -1,7 +1,7 @@
 """What a contact, a request or a close of a host waits for: which command has to go out, to arrive or to be taken next.
 
-Of the two hosts it looks at what is queued and at what is out on link 0, each way. The workbench has the same facts (web/workbench/said.js), and
-both read the rules of the thing "said" in sentences/table.mjs.
+Of the two hosts it looks at what is queued and at what is out on link 0, each way. The workbench has the same facts
+(web/workbench/said.js), and both read the rules of the thing "said" in sentences/table.mjs.
 """
 
 from __future__ import annotations
@@ -24,7 +24,7 @@ Holes = dict[str, object]
 
 
 class Way:
-    """What goes from one host to another on link 0: what waits there, and the commands of the message that is out and was not taken."""
+    """What goes from one host to another on link 0: what waits there, and the commands that are out and were not taken."""
 
     def __init__(self, world: World, source: HostName, destination: HostName) -> None:
         self.flow = Flow(source, destination, 0)
@@ -47,7 +47,7 @@ class Way:
         return any(it[0] == code and (not sockets or read_numbers(it, 4, 4) == sockets) for it in self.commands)
 
     def is_busy(self) -> bool:
-        """Whether an answer has to come before commands can go: to all that is out where a reset or its reply is to go."""
+        """Whether an answer has to come first: all of them where a reset or its reply is to go."""
         pair = self.pair or Pair()
         return bool(pair.busy) if pair.phase == WANT or pair.owed else 0 in pair.busy
 
@@ -96,11 +96,13 @@ class Saying:
         self.there, self.back = Way(world, host, peer), Way(world, peer, host)
         is_down = world.hosts.get(peer) is None
         self.facts: Facts = {"peer down": is_down, "stranger": not is_down and not self.back.is_known()}
-        self.holes: Holes = {"host": host_in_words(host), "peer": host_in_words(peer), "own": spell_host(host), "other": spell_host(peer)}
+        names = {"host": host_in_words(host), "peer": host_in_words(peer)}
+        self.holes: Holes = {**names, "own": spell_host(host), "other": spell_host(peer)}
 
     def told(self, thing: str, said: Facts, reply: Facts, **facts: bool) -> Facts:
         """All facts about a thing."""
-        return {**NONE, thing: True, **self.facts, **said, **reply, **{name.replace("_", " "): it for name, it in facts.items()}}
+        further = {name.replace("_", " "): it for name, it in facts.items()}
+        return {**NONE, thing: True, **self.facts, **said, **reply, **further}
 
     def contact(self, pair: Pair) -> tuple[Facts, Holes]:
         """What a contact waits for: the RST and its answer, then the RRP."""
@@ -120,7 +122,8 @@ class Saying:
         is_queued = theirs is not None and (not theirs.close_sent if is_refused else theirs.own_stamp is None)
         reply = self.back.facts("peer", (CLS if is_refused else partner, end.foreign, end.own), is_queued)
         names = {RTS: "RTS", STR: "STR"}
-        holes = {**self.holes, "said": names[own], "reply": "CLS" if is_refused else names[partner], "socket": end.foreign}
+        answer = "CLS" if is_refused else names[partner]
+        holes = {**self.holes, "said": names[own], "reply": answer, "socket": end.foreign}
         return self.told(thing, said, reply, **self.contacts(), refused=is_refused), holes
 
     def close(self, end: End) -> tuple[Facts, Holes]:
@@ -129,7 +132,8 @@ class Saying:
         said = self.there.facts("own", (CLS, end.own, end.foreign), end.close_queued and not end.close_sent)
         is_queued = theirs is not None and theirs.close_queued and not theirs.close_sent
         reply = self.back.facts("peer", (CLS, end.foreign, end.own), is_queued)
-        dues = {"own_due": not end.close_queued, "peer_due": theirs is not None and theirs.close_taken and not theirs.close_queued}
+        is_due = theirs is not None and theirs.close_taken and not theirs.close_queued
+        dues = {"own_due": not end.close_queued, "peer_due": is_due}
         holes = {**self.holes, "said": "CLS", "reply": "CLS", "socket": end.foreign}
         return self.told("close", said, reply, **self.contacts(), **dues), holes
 
@@ -140,6 +144,7 @@ class Saying:
         return {"forgotten": is_known and phase == CLOSED, "resets": is_known and phase not in (CLOSED, READY)}
 
 
+THINGS = "contact", "request", "close", "initial"
 NONE: Facts = dict.fromkeys(
-    ("contact", "request", "close", "initial", "own due", "peer due", "answer here", "answer out", "forgotten", "resets", "refused"), False
+    (*THINGS, "own due", "peer due", "answer here", "answer out", "forgotten", "resets", "refused"), False
 )

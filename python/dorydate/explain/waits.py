@@ -57,11 +57,12 @@ class Wait:
 
 
 def by_rules(thing: str, facts: Mapping[str, bool], holes: Holes, called: str = "") -> Wait:
-    """What waits: the first of the thing's rules whose facts all hold says it, and where it leaves that open it is what it is called."""
+    """What waits: the first of the thing's rules whose facts all hold says it, and its name where that is left open."""
     rules = (further for name, needed, *further in RULES if name == thing and all(facts[it] for it in needed.split(", ") if it))
     what, where, reason, bad, cures = next(rules)
     lines = tuple(it for it in filled(cures, holes).split(";") if it)
-    return Wait(filled(WHAT[what or called], holes), filled(AT[where], holes), filled(FOR[reason], holes), bad == "bad", lines)
+    words = (filled(it, holes) for it in (WHAT[what or called], AT[where], FOR[reason]))
+    return Wait(*words, is_bad=bad == "bad", cures=lines)
 
 
 def at_rest(place: Place, carrier: Carrier) -> list[str]:
@@ -227,7 +228,7 @@ def of_end(saying: Saying, end: End, of_users: Sequence[int]) -> Iterator[Wait]:
     """What an end of a connection waits for that has no bits to send."""
     at: Holes = {"end": f"socket {end.own} of {saying.holes['host']}"}
     thing = "close" if end.close_asked or end.close_queued else "request"
-    if thing == "request" and (end.partner_stamp is not None or end.own in of_users):  # of those the initial connection waits
+    if thing == "request" and (end.partner_stamp is not None or end.own in of_users):  # an initial connection waits
         return
     facts, holes = saying.close(end) if thing == "close" else saying.request(end)
     yield by_rules("said", facts, {**holes, **at}, thing)
@@ -241,7 +242,8 @@ def of_user(world: World, host: HostName, user: User) -> Wait:
     if first is not None and first.partner_stamp is None and not first.is_closing():
         return by_rules("said", *Saying(world, host, user.peer).request(first, "initial"), "initial")
     hosts: Holes = {"host": host_in_words(host), "peer": host_in_words(user.peer), "socket": user.server}
-    return by_rules("initial", {"peer down": world.hosts.get(user.peer) is None, "numbered": user.base is not None}, hosts)
+    facts = {"peer down": world.hosts.get(user.peer) is None, "numbered": user.base is not None}
+    return by_rules("initial", facts, hosts)
 
 
 def of_bits(world: World, hosts: tuple[HostName, HostName], pair: Pair, end: End) -> Wait:
