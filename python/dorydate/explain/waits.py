@@ -61,8 +61,8 @@ def by_rules(thing: str, facts: Mapping[str, bool], holes: Holes, called: str = 
     rules = (further for name, needed, *further in RULES if name == thing and all(facts[it] for it in needed.split(", ") if it))
     what, where, reason, bad, cures = next(rules)
     lines = tuple(it for it in filled(cures, holes).split(";") if it)
-    words = (filled(it, holes) for it in (WHAT[what or called], AT[where], FOR[reason]))
-    return Wait(*words, is_bad=bad == "bad", cures=lines)
+    said, place, cause = (filled(it, holes) for it in (WHAT[what or called], AT[where], FOR[reason]))
+    return Wait(said, place, cause, bad == "bad", lines)
 
 
 def at_rest(place: Place, carrier: Carrier) -> list[str]:
