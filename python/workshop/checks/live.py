@@ -40,7 +40,7 @@ from workshop.parts import ROOT, any_program, read_octets, text_of
 
 HOST = f"{ROOT}/examples/host.c"
 MOST_LINES = 450  # of the host in C
-AT_ONCE = 3  # sessions
+AT_ONCE = 4  # sessions
 HOSTILE = 1_500  # datagrams of each kind
 KILLS = 4
 MODELLED = 3_000  # events of a session that the model prints, too
@@ -87,7 +87,7 @@ def in_weather(room: Room, seed: int) -> Iterator[str]:
     with session(room, f"weather-{seed}", TRIANGLE, "--wild", str(seed), "--server", f"{HERE}:1") as running:
         with ended(room.echo(SRI, running.ports[SRI])):
             peer = SRI if seed % 2 else HERE
-            status, said = outcome(room.talk(MINE, running.ports[MINE], peer, ("ONE", "TWO"), "-l", "15"))
+            status, said = outcome(room.talk(MINE, running.ports[MINE], peer, ("ONE", "TWO"), "-l", "10"))
         (running.folder / "outcome").write_text(f"{status} {said}")
     yield from running.faults()
     if seed < 3:
