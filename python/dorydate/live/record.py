@@ -21,6 +21,7 @@ SCRIPT, PRINTED, WIRE = "script", "printed", "wire"
 FROM_HOST, TO_HOST = "from", "to"
 UDP, TCP = "udp", "tcp"
 Address = tuple[str, int]
+CALLS = re.compile(r"# [0-9.]+ s: calls \S+ from port ([0-9]+)")
 READY = re.compile(rf"# [0-9.]+ s: (\S+) is ready, {UDP} ([0-9.]+):([0-9]+)")
 
 
@@ -113,6 +114,18 @@ def read(folder: Path) -> tuple[str, list[bytes]]:
     if given.marker is None:
         raise Ended(f"{folder / SCRIPT}: it has no line `%`, so it is no session")
     return given.topology().decode("utf-8", "surrogateescape") + "\n", [line for _, line in given.script]
+
+
+def highest(lines: Sequence[bytes], pattern: str, least: int) -> int:
+    """The highest number that a pattern finds in the events of an earlier session, and not below the least."""
+    found = (re.fullmatch(pattern, it.decode("latin-1")) for it in lines if not it.startswith(b"#"))
+    return max([least, *(int(it[1]) for it in found if it)])
+
+
+def calling_port(lines: Sequence[bytes]) -> int:
+    """The port from which another network's IMP was called last, 0 if none was."""
+    found = (CALLS.fullmatch(it.decode("utf-8", "replace")) for it in lines if it.startswith(b"#"))
+    return max([0, *(int(it[1]) for it in found if it)])
 
 
 def peers(lines: Sequence[bytes]) -> dict[Host, Address]:

@@ -57,11 +57,11 @@ class Udp(asyncio.DatagramProtocol):
     def datagram_received(self, data: bytes, addr: Address) -> None:
         it = self.interface
         if not it.datagrams.take():
-            return it.fault("flood")
+            return it.faults.add("flood")
         try:
             self.frame(data, addr)
         except WireFault as why:
-            it.fault(str(why))
+            it.faults.add(str(why))
 
     def frame(self, data: bytes, addr: Address) -> None:
         it = self.interface
@@ -108,7 +108,7 @@ class Tcp:
         """Serves a connection to its end."""
         it = self.interface
         if it.said:
-            it.fault("sender")
+            it.faults.add("sender")
             writer.close()
             return
         self.writer = writer
@@ -118,7 +118,7 @@ class Tcp:
             while True:
                 await self.message(reader)
         except WireFault as fault:
-            it.fault(str(fault))
+            it.faults.add(str(fault))
             why = f"what it sends is no message: {fault}"
         except (asyncio.IncompleteReadError, OSError):
             pass
@@ -147,7 +147,7 @@ class Tcp:
             else:
                 it.asks()
         except WireFault as fault:
-            it.fault(str(fault))
+            it.faults.add(str(fault))
 
     def send(self, words: bytes, ready: bool = True) -> None:
         if self.writer is None:
