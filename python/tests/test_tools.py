@@ -56,8 +56,10 @@ class LeftOut(unittest.TestCase):
 
 class Yardstick(unittest.TestCase):
     def test_only_crates_with_the_same_lines_count(self) -> None:
-        now = {("imp_node", "library"): 1_000.0, ("icp", "library"): 900.0, ("subnet", "library"): 1.0}
-        with mock.patch.object(gate, "lines_of", lambda crate: {"imp_node": 8_366, "icp": 2_001, "subnet": 9_000}[crate]):
+        crates = {"imp_node": 1_000.0, "icp": 900.0, "subnet": 1.0}
+        now: dict[gate.Work | None, float] = {(crate, "library"): seconds for crate, seconds in crates.items()}
+        lines = {"imp_node": 8_366, "icp": 2_001, "subnet": 9_000}
+        with mock.patch.object(gate, "lines_of", lines.__getitem__):
             self.assertEqual(gate.yardstick(now, PAGE), 2.4)
 
     def test_a_page_without_one_begins_at_one(self) -> None:
