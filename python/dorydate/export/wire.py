@@ -1,7 +1,7 @@
-"""A capture of what crossed the wire of a live network, for Wireshark: the frames and messages as they were (docs/live.md).
+"""A capture of what crossed the wire of a live network, for Wireshark: frames and messages as they were (docs/live.md).
 
-Each host is an interface, and a packet what crossed there in one piece: a frame over UDP, or a message with its length over
-TCP. The link type is USER2. Times are those of the session, which begins at 0.
+Each host is an interface, and a packet what crossed there in one piece: a frame over UDP, or a message with its length
+over TCP. The link type is USER2. Times are those of the session, which begins at 0.
 """
 
 from __future__ import annotations

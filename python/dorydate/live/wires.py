@@ -8,7 +8,7 @@ from contextlib import AsyncExitStack
 from typing import Any
 
 from dorydate.live.frames import LAST, MOST_WORDS, READY, Assembly, Frame, WireFault
-from dorydate.live.interface import Interface
+from dorydate.live.interface import Allowance, Interface
 from dorydate.live.messages import LEADER
 from dorydate.live.record import FROM_HOST, TCP, TO_HOST, UDP, Address
 
@@ -25,6 +25,7 @@ class Udp(asyncio.DatagramProtocol):
         self.interface, self.bound, self.fixed, self.peer = interface, bound, peer, peer
         self.assembly = Assembly()
         self.sequence = 0
+        self.probes = Allowance(1, 1)
         self.transport: asyncio.DatagramTransport | None = None
         try:
             bound.setsockopt(socket.IPPROTO_IP, IP_RECVERR, 1)
@@ -66,6 +67,8 @@ class Udp(asyncio.DatagramProtocol):
     def frame(self, data: bytes, addr: Address) -> None:
         it = self.interface
         if (self.peer is not None and addr != self.peer) or (it.said and it.wire is not self):
+            if self.probes.take():
+                it.asks()  # is its host there? If it isn't, its port is closed
             raise WireFault("sender")
         frame = Frame.read(data)
         words = self.assembly.add(frame)
