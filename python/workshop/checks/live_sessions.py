@@ -19,7 +19,7 @@ from dorydate.program import Program
 from workshop.parts import ROOT
 
 BEGINS = 60.0  # seconds in which a session has to listen
-LIMIT = "40"  # seconds for a host's dialogue
+LIMIT = "60"  # seconds for a host's dialogue
 LINES = ("HELLO", "A SECOND LINE")
 Process: TypeAlias = "subprocess.Popen[str]"
 
