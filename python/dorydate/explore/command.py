@@ -143,7 +143,7 @@ class Shown:
 
 
 def written(network: Network, pattern: Pattern, script: Found, program: Program) -> str:
-    """A script whose plain replay matches, with the last calm of the pattern, and what each event prints as its expectation (`#=`)."""
+    """A script whose plain replay matches, with the pattern's last calm and with what each event prints (`#=`)."""
     confirm(network, pattern, script, program)
     last = (Calm(pattern.calm.rounds),) if pattern.calm.rounds else ()
     heading = [here("Found by ./explore: ") + pattern.text]

@@ -1,4 +1,4 @@
-"""What a search found, once more by itself: the plain replay of the script that is printed, without copies and without marks."""
+"""What a search found, once more: the plain replay of the script that is printed, by itself."""
 
 from __future__ import annotations
 
@@ -18,7 +18,7 @@ class NotConfirmed(Exception):
 
 
 def plain(network: Network, pattern: Pattern, script: Sequence[Event], program: Program) -> Result:
-    """What a script prints by itself, the last calm of the pattern after it; with what a trace shows if the pattern asks for it."""
+    """What a script and then the pattern's last calm print by themselves, with what a trace shows if that is asked."""
 
     def printed(events: Sequence[Event], *options: str) -> list[str]:
         ran = program.run(Script.of(network, events).octets(), *options)

@@ -86,7 +86,7 @@ def of_subnet(network: Network, flows: Sequence[Flow], places: int) -> dict[str,
 
 
 def of_programs(programs: Sequence[Host], every: Sequence[tuple[Host, Host]]) -> dict[str, Iterable[Event]]:
-    """What users of hosts with programs ask for: one socket of each kind at each host, bytes of eight bits and of one."""
+    """What users of programs ask for: one socket of each kind at each host, bytes of eight bits and of one."""
     sends, receives = SENDS, RECEIVES
     hosts, pairs = programs, [it for it in every if it[0] in programs]
     own = [(host, socket) for host in hosts for socket in (sends, receives)]
@@ -105,18 +105,19 @@ def of_programs(programs: Sequence[Host], every: Sequence[tuple[Host, Host]]) ->
 
 
 def of_strangers(strangers: Sequence[Host], hosts: Sequence[Host]) -> Iterator[Event]:
-    """What strangers say to others: each command about the sockets that others use, and data, with what belongs to them and without."""
+    """What strangers say to programs: each command, about the sockets that all use, and data of several forms."""
     both = (SENDS, RECEIVES), (RECEIVES, SENDS)
-    commands = [alone(RST), alone(RRP), of_sockets(RTS, RECEIVES, SENDS, FIRST_LINK), of_sockets(STR, SENDS, RECEIVES, 8)]
+    link = FIRST_LINK
+    commands = [alone(RST), alone(RRP), of_sockets(RTS, RECEIVES, SENDS, link), of_sockets(STR, SENDS, RECEIVES, 8)]
     commands += [of_sockets(CLS, *it) for it in both]
-    commands += [of_counts(ALL, FIRST_LINK, 2, 100), of_counts(RET, FIRST_LINK, 1, 8), bytes([GVB, FIRST_LINK, 128, 128])]
-    commands += [bytes([INR, FIRST_LINK]), bytes([INS, FIRST_LINK]), bytes([ECO, 1]), bytes([ILLEGAL])]
+    commands += [of_counts(ALL, link, 2, 100), of_counts(RET, link, 1, 8), bytes([GVB, link, 128, 128])]
+    commands += [bytes([INR, link]), bytes([INS, link]), bytes([ECO, 1]), bytes([ILLEGAL])]
     said = [(0, control_message([it])) for it in commands]
-    said += [(FIRST_LINK, header(8, 1) + "0" * 8), (FIRST_LINK, header(8, 3) + "0" * 24), (FIRST_LINK, "")]
+    said += [(link, header(8, 1) + "0" * 8), (link, header(8, 3) + "0" * 24), (link, "")]
     for source in strangers:
-        for destination in (it for it in hosts if it != source):
-            for link, bits in said:
-                yield events.Out(Flow(source, destination, link), Text(octets(bits), len(bits)))
+        for destination in (it for it in hosts if it not in strangers):
+            for on, bits in said:
+                yield events.Out(Flow(source, destination, on), Text(octets(bits), len(bits)))
 
 
 def fit(found: Pools, pattern: Pattern) -> Pools:

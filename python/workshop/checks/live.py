@@ -4,8 +4,8 @@ Compiles examples/host.c with the system's `cc`, and lets it speak to `dorydate 
 service of a host with a program, with another host in C, twenty of them on the map of August 1972, in the weather of 20
 seeds (as many as a minute lets begin, which is said), and while the session is killed again and again. A hostile host
 sends octets of no frame, leaders of no network and commands of no protocol. Of each session the replay is what was
-printed, and the audit says `kept`; the independent model prints the same, event by event. The host in C is right in the dialogues of `dorydate.conformance` that need no
-user, and faults that are planted in it are found.
+printed, and the audit says `kept`; the independent model prints the same, event by event. The host in C is right in the
+dialogues of `dorydate.conformance` that need no user, and faults that are planted in it are found.
 """
 
 from __future__ import annotations
