@@ -78,7 +78,7 @@ class Pages(unittest.TestCase):
 
     def test_pages_that_are_too_long_are_named(self) -> None:
         self.assertEqual(paragraphs.too_long({"README.md": "word " * 900, "docs/a.md": "word " * 71_080}), [])
-        self.assertEqual(paragraphs.too_long({"README.md": "word " * 901, "docs/a.md": "word " * 71_080}), ["README.md: 901 words, of at most 900", "all pages: 71,981 words, of at most 71,980"])
+        self.assertEqual(paragraphs.too_long({"README.md": "word " * 901, "docs/a.md": "word " * 73_280}), ["README.md: 901 words, of at most 900", "all pages: 74,181 words, of at most 74,180"])
 
     def test_headings_have_the_anchors_of_the_web(self) -> None:
         with tempfile.NamedTemporaryFile("w", suffix=".md", encoding="utf-8") as file:
