@@ -18,6 +18,7 @@ from dorydate.live import record as records
 from dorydate.live.engine import Ended, Rounds
 from dorydate.live.gateway import Gateway
 from dorydate.live.interface import Interface
+from dorydate.live.page import Page
 from dorydate.live.record import Address, Record
 from dorydate.live.reverse import FarImp, network_of
 from dorydate.live.services import Served, Shell, Terminal
@@ -96,6 +97,7 @@ def parser() -> argparse.ArgumentParser:
     several("--terminal", "PORT=USER,SERVER[:SOCKET]", "a terminal, for nc")
     several("--shell", "HOST:SOCKET=COMMAND", "a program of this machine as a service; local only")
     made.add_argument("--listen", default=LOCAL, metavar="ADDRESS", help="listen there: who reaches it can be a host")
+    made.add_argument("--page", type=int, metavar="PORT", help="the workbench follows it at http://localhost:PORT")
     made.add_argument("--marked", action="store_true", help="bodies from hosts end in a bit 1 and zeros")
     made.add_argument("--silence", type=float, metavar="S", help="a host that says nothing for S seconds is gone")
     made.add_argument("--as", dest="own", metavar="HOST", help="be this host of another network, whose IMP --imp names")
@@ -216,6 +218,13 @@ async def add_services(gateway: Gateway, chosen: argparse.Namespace, stack: Asyn
         terminal = Terminal(gateway, user, server, int(it["socket"] or 1), lines)
         gateway.tenders.append(terminal)
         stack.callback((await asyncio.start_server(terminal.serve, chosen.listen, port_of(it["port"]))).close)
+    if chosen.page is not None:
+        real = [binding_of(network, it).host for it in chosen.bind]
+        page = Page(gateway, real, chosen.listen, port_of(str(chosen.page)))
+        gateway.tenders.append(page)
+        stack.callback((await asyncio.start_server(page.serve, chosen.listen, chosen.page)).close)
+        stack.callback(page.close)
+        gateway.session.say(f"the page is at http://{chosen.listen}:{chosen.page}")
     for word in chosen.shell:
         it = matched(SERVICE, word, "HOST:SOCKET=COMMAND")
         if not it["command"]:
