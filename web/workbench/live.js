@@ -1,6 +1,14 @@
-/** The page follows a live session (docs/live.md): its script comes piece by piece, and what is tapped becomes a line of it. */
+/** The page follows a live session (docs/live.md): its script comes in pieces, and what is tapped becomes a line of it. */
 
-/** @typedef {{text: string, position: number, history: {length: number} | null, open: (text: string) => void, show: (text: string, position: number) => Promise<boolean>}} Shows */
+/**
+ * What shows a script.
+ *
+ * @typedef {object} Shows
+ * @property {number} position
+ * @property {{length: number} | null} history
+ * @property {(text: string) => void} open
+ * @property {(text: string, position: number) => Promise<boolean>} show
+ */
 
 /** Where the page was served by a session; null of any other page. */
 export function sessionOf(/** @type {ParentNode} */ page) {
@@ -55,7 +63,8 @@ export class Following {
  */
 export async function asked(lines) {
     try {
-        const answer = await fetch("deed", { method: "POST", headers: { "X-Dorydate": "deed" }, body: lines.join("\n") });
+        const headers = { "X-Dorydate": "deed" };
+        const answer = await fetch("deed", { method: "POST", headers, body: lines.join("\n") });
         return await answer.text();
     } catch {
         return "the session doesn't answer";
