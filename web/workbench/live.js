@@ -1,4 +1,4 @@
-/** The page follows a live session (docs/live.md): its script comes in pieces, and what is tapped becomes a line of it. */
+/** The page follows a live session (docs/live.md): its script comes in pieces, and what is tapped becomes a line. */
 
 /**
  * What shows a script.
