@@ -9,7 +9,7 @@ from dorydate.definitions.computing import (
     Abstraction, Arithmetic, Bound, Build, Call, Change, Choice, Connective, Construct, Delayed, Env, Expression, Get, Join, Literal, Local, NotComputed,
     OfFields, OfForm, Pattern, Same, Slot, Successor, Unfolded,
 )
-from dorydate.definitions.files import Definition, Structure
+from dorydate.definitions.files import Structure
 from dorydate.definitions.library import WORDS, Constant, Declared, Defined, Form, Library, Meaning, Typed, Word
 from dorydate.definitions.terms import (
     Apply, Both, Changed, Field, ForAll, Function, If, Implicit, Let, Match, Name, Number, Operation, Record, Section, Term, Text, Tuple, Universe, Unknown,
@@ -70,8 +70,10 @@ class Compiler:
         if isinstance(type_, Both):
             return any(self.is_statement(it.type, module, scope) for it in type_.parts)
         head = head_of(type_)
-        if isinstance(head, Name) and (head.text in ("Unit", "⊥") or head.text in scope):
-            return head.text not in scope
+        if isinstance(head, Name) and head.text in scope:
+            return isinstance(type_, Apply)  # a name by itself is a type, unless nothing has it: see `conjuncts`
+        if isinstance(head, Name) and head.text in ("Unit", "⊥"):
+            return True
         if isinstance(head, (Universe, Unknown)):
             return False
         meaning = self.meaning(head, module, scope)
@@ -276,11 +278,19 @@ class Compiler:
                 self.functions[key] = self.expression(meaning.definition.clauses[0].value, meaning.module, NO_NAMES)
         return self.functions[key]
 
+    def running(self, meaning: Meaning) -> Lambda:
+        """The function that a definition is by its clauses, though it may be computed at once."""
+        assert isinstance(meaning, Defined)
+        return Lambda(max(len(it.given) for it in meaning.definition.clauses), Running(self, meaning).run)
+
     def opening(self, meaning: Defined) -> Callable[[Sequence[Expression]], Expression] | None:
         """What opens a call of a definition that has one clause and no patterns."""
         named = Named(self, meaning)
         names = named.plain_names()
-        return None if names is None else lambda arguments: Opening(named, arguments, names)
+        if names is None:
+            return None
+        known = names
+        return lambda arguments: Opening(named, arguments, known)
 
     def delayed(self, term: Term, module: str, scope: Scope, env: Env, is_statement: bool) -> Delayed:
         """A term to be computed, or looked at as a statement, when it is wanted."""

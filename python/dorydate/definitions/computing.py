@@ -21,6 +21,14 @@ class NotComputed(Exception):
     """A term of a kind that isn't computed here."""
 
 
+class Lacking(NotComputed):
+    """A record lacks a field, as the book of a log does."""
+
+    def __init__(self, field: str) -> None:
+        super().__init__(f"there is no field {field}")
+        self.field = field
+
+
 class Variable:
     """What a statement speaks of."""
 
@@ -350,7 +358,7 @@ class Get(Expression):
             return outer.fields[self.name]
         found = forced(outer)
         if not isinstance(found, Struct) or self.name not in found.fields:
-            raise NotComputed(f"there is no field {self.name}")
+            raise Lacking(self.name)
         return found.fields[self.name]
 
     def match(self, env: Env, wanted: Value) -> Iterator[None]:

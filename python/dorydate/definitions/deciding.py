@@ -204,6 +204,21 @@ class Every(Statement):
         return inner, tuple(goals)
 
 
+class Implied(Statement):
+    """Something holds if the premises do, which speak of nothing new."""
+
+    def __init__(self, decider: Decider, premises: Sequence[Statement], conclusion: Statement) -> None:
+        self.decider, self.premises, self.conclusion = decider, premises, conclusion
+
+    def moves(self, env: Env, evidence: Evidence | None) -> Iterator[Goals]:
+        Trail.level += 1
+        try:
+            asked = self.decider.holds(tuple(Goal(it, env) for it in self.premises))
+        finally:
+            Trail.level -= 1
+        yield (Goal(self.conclusion, env),) if asked else DONE
+
+
 class Member(Statement):
     """A list has a member."""
 
@@ -403,14 +418,14 @@ class Decider:
         raise NotComputed(f"a statement with {term.word}")
 
     def implied(self, one: Statement, other: Statement) -> Statement:
-        return Every(self, [Conjunct("", one, "", False)], other)
+        return Implied(self, [one], other)
 
     def conjuncts(self, parts: Sequence[tuple[str, Term]], module: str, scope: Scope, after: Sequence[Term] = ()) -> list[Conjunct]:
         """The parts of a product, or the premises of something that comes after them."""
         found = []
         for at, (name, type_) in enumerate(parts):
             later = [*(it for _, it in parts[at + 1 :]), *after]
-            is_statement = self.compiler.is_statement(type_, module, scope)
+            is_statement = self.compiler.is_statement(type_, module, scope) or not name and isinstance(type_, Name) and type_.text in scope
             statement = self.statement(type_, module, scope) if is_statement else None
             found.append(Conjunct(name, statement, type_name(type_), bool(name) and any(mentions(it, name) for it in later)))
             scope = scope | {name} if name else scope
@@ -422,7 +437,9 @@ class Decider:
             parts += [(it, term.binder.type) for it in term.binder.names or ("",)]
             term = term.body
         inner = scope | {name for name, _ in parts if name}
-        return Every(self, self.conjuncts(parts, module, scope, [term]), self.statement(term, module, inner))
+        premises, conclusion = self.conjuncts(parts, module, scope, [term]), self.statement(term, module, inner)
+        plain = [it.statement for it in premises if it.statement is not None and not it.is_named]
+        return Implied(self, plain, conclusion) if len(plain) == len(premises) else Every(self, premises, conclusion)
 
     # ---- definitions and records
 
@@ -430,7 +447,7 @@ class Decider:
         """What a definition or a record comes to, of these arguments. What was decided of given values once isn't looked at again."""
         known = [known_value(it) for it in slots]
         if evidence is None and None not in known:
-            key = (id(meaning.definition if isinstance(meaning, Defined) else meaning), *known)
+            key = (meaning_key(meaning), *known)
             if key not in self.decided:
                 self.decided[key] = any(self.holds(it) for it in self.opened(meaning, slots, None))
             if self.decided[key]:
@@ -505,6 +522,11 @@ class Decider:
         if not isinstance(statement, Said):
             raise NotComputed("a statement of another kind")
         yield from self.said(statement.meaning, [*(it.slot(env) for it in statement.arguments), *slots], evidence)
+
+
+def meaning_key(meaning: Meaning) -> object:
+    """By what a definition or a record is known again."""
+    return (meaning.module, meaning.item.name) if isinstance(meaning, (Defined, Typed)) else meaning
 
 
 def known_value(slot: Slot) -> Value | None:

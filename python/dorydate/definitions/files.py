@@ -126,7 +126,9 @@ def blocks_of(lines: Sequence[Line]) -> Iterator[Block]:
     above: list[str] = []
     for number, line in lines:
         words = line.strip()
-        if words.startswith("--"):
+        if words.startswith("--") and block and indent_of(line) > least:
+            block.append((number, line))
+        elif words.startswith("--"):
             above = [] if words.startswith("-- ----") else [*above, words.removeprefix("--").strip()]
         elif words and (indent_of(line) > least or words[0] in ")]}" or words.startswith("∷ ")):
             block.append((number, line))

@@ -25,6 +25,10 @@ class Defined:
     module: str
     definition: Definition
 
+    @property
+    def item(self) -> Definition:
+        return self.definition
+
 
 @dataclass(frozen=True)
 class Typed:
@@ -32,6 +36,10 @@ class Typed:
 
     module: str
     structure: Structure
+
+    @property
+    def item(self) -> Structure:
+        return self.structure
 
 
 @dataclass(frozen=True)

@@ -36,8 +36,9 @@ class Lambda:
 Value = Union[int, Data, Struct, Lambda]
 
 TRUE, FALSE, NIL, NONE = (Data(it, (), 0) for it in ("true", "false", "[]", "None"))
-LASTING = {(it.form,): it for it in (TRUE, FALSE, NIL, NONE)}
-_data: dict[tuple[Value | str, ...], Data] = {**LASTING}
+Key = tuple[Union[Value, str], ...]
+LASTING: dict[Key, Data] = {(it.form,): it for it in (TRUE, FALSE, NIL, NONE)}
+_data: dict[Key, Data] = {**LASTING}
 _structs: dict[tuple[tuple[str, Value], ...], Struct] = {}
 
 

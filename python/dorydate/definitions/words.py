@@ -108,7 +108,7 @@ NATIVE: dict[str, Value] = {
     "range_with_len": word(2, lambda start, many: listed(range(number(start), number(start) + number(many)))),
     "zip": word(2, lambda one, other: listed([tupled(it) for it in zip(members(one), members(other))])),
     "codes": word(1, codes),
-    "byte_len": word(1, lambda width: width),
+    "byte_len": word(1, number),
     "from_be_bytes": word(2, from_be_bytes),
     "to_be_bytes": word(2, to_be_bytes),
     "w8": 1, "w16": 2, "w32": 4, "w64": 8, "w128": 16,
