@@ -128,9 +128,32 @@ class OfWords(unittest.TestCase):
     """What is computed at once is what the definitions say."""
 
     TAKES: dict[str, str] = {
-        "not": "b", "nat_le": "nn", "nat_eq": "nn", "min": "nn", "max": "nn", "length": "l", "take": "nl", "drop": "nl", "slice_get": "ln", "slice_index": "ln",
-        "slice_index_or": "lnn", "slice_set": "lnn", "list_any": "tl", "list_all": "tl", "map": "fl", "filter": "tl", "flat_map": "ml", "find": "tl",
-        "position": "tl", "fold": "al", "reverse": "l", "replicate": "nn", "range_with_len": "nn", "zip": "ll", "count_by": "tl", "from_be_bytes": "wl",
+        "not": "b",
+        "nat_le": "nn",
+        "nat_eq": "nn",
+        "min": "nn",
+        "max": "nn",
+        "length": "l",
+        "take": "nl",
+        "drop": "nl",
+        "slice_get": "ln",
+        "slice_index": "ln",
+        "slice_index_or": "lnn",
+        "slice_set": "lnn",
+        "list_any": "tl",
+        "list_all": "tl",
+        "map": "fl",
+        "filter": "tl",
+        "flat_map": "ml",
+        "find": "tl",
+        "position": "tl",
+        "fold": "al",
+        "reverse": "l",
+        "replicate": "nn",
+        "range_with_len": "nn",
+        "zip": "ll",
+        "count_by": "tl",
+        "from_be_bytes": "wl",
         "to_be_bytes": "wn",
     }
 
@@ -138,8 +161,14 @@ class OfWords(unittest.TestCase):
         numbers = listed(by.randrange(6) for _ in range(by.randrange(6)))
         test = by.randrange(6)
         made: dict[str, Value] = {
-            "b": truth(by.random() < 0.5), "n": by.randrange(7), "w": by.choice([1, 2, 4]), "l": numbers, "t": Lambda(1, lambda n: truth(n == test)),
-            "f": Lambda(1, lambda n: n + test), "m": Lambda(1, lambda n: listed([n, test])), "a": Lambda(2, lambda a, n: a * 2 + n),
+            "b": truth(by.random() < 0.5),
+            "n": by.randrange(7),
+            "w": by.choice([1, 2, 4]),
+            "l": numbers,
+            "t": Lambda(1, lambda n: truth(n == test)),
+            "f": Lambda(1, lambda n: n + test),
+            "m": Lambda(1, lambda n: listed([n, test])),
+            "a": Lambda(2, lambda a, n: a * 2 + n),
         }
         return made[kind]
 
@@ -151,7 +180,9 @@ class OfWords(unittest.TestCase):
             for _ in range(40):
                 values = tuple(self.some(it, by) for it in kinds)
                 values = (values[0], 0, values[1]) if name == "fold" else values
-                self.assertEqual(applied(native, values), applied(defined, values), f"{name} of {[*map(shown, values)]}")
+                self.assertEqual(
+                    applied(native, values), applied(defined, values), f"{name} of {[*map(shown, values)]}"
+                )
 
     def test_each_is_compared(self) -> None:
         words = Library(sources_below(crates_folder())).module(WORDS)
@@ -172,7 +203,12 @@ class OfThePromise(unittest.TestCase):
         with open(f"{ROOT}/logs/two-octets", "rb") as file:
             names = {it.part.name for it in judged(file.read())}
         self.assertLessEqual(names, believed.field_names())
-        self.assertTrue(all(any(it == name or it.startswith(f"{name}.") or name.startswith(f"{it}.") for name in names) for it in believed.field_names()))
+        self.assertTrue(
+            all(
+                any(it == name or it.startswith(f"{name}.") or name.startswith(f"{it}.") for name in names)
+                for it in believed.field_names()
+            )
+        )
 
     def test_those_among_strangers(self) -> None:
         self.assertEqual([name for name, _, _ in Judge().clauses(BOOK_AMONG)], ["among", "toward"])
@@ -198,7 +234,10 @@ class OfLogs(unittest.TestCase):
 
     def test_kept(self) -> None:
         self.assertEqual(self.broken(), {})
-        self.assertEqual([(it.part.name, it.lacks) for it in judged(changed()) if it.holds is None], [("promise.told", "notices"), ("promise.joined", "reports")])
+        self.assertEqual(
+            [(it.part.name, it.lacks) for it in judged(changed()) if it.holds is None],
+            [("promise.told", "notices"), ("promise.joined", "reports")],
+        )
 
     def test_other_bits(self) -> None:
         found = self.broken(("100 0 0 open 4849", "100 0 0 open 4848"))
@@ -208,16 +247,25 @@ class OfLogs(unittest.TestCase):
     def test_a_sender_that_is_there_twice(self) -> None:
         life = next(it for it in changed().decode().split("\n") if "send" in it)
         found = self.broken((life, f"{life}\n{life}"), ("handed 24 484950", "handed 24 484950\nhanded 24 484950"))
-        self.assertEqual(set(found), {"promise.safe.partners.own_once", "promise.safe.partners.partner_once", "promise.safe.streams.one"})
+        self.assertEqual(
+            set(found),
+            {"promise.safe.partners.own_once", "promise.safe.partners.partner_once", "promise.safe.streams.one"},
+        )
 
     def test_more_than_was_granted(self) -> None:
-        self.assertEqual(self.broken(("1 100 0 0", "1 15 0 0"))["promise.safe.grants.taken"], ("receiver: line 10", "16 is more than 15"))
+        self.assertEqual(
+            self.broken(("1 100 0 0", "1 15 0 0"))["promise.safe.grants.taken"],
+            ("receiver: line 10", "16 is more than 15"),
+        )
 
     def test_a_contact_that_nobody_sees(self) -> None:
         self.assertEqual(self.broken(("receive 1 16 1 100 0 0 open", "receive 1 16 1 100 0 0 reset")), {})
 
     def test_a_fate_that_nothing_leaves(self) -> None:
-        self.assertEqual(self.broken(("receive 1 16 1 100 0 0 open", "receive 1 16 1 100 0 0 stopped"))["over"], ("x: line 10", "f: Stopped"))
+        self.assertEqual(
+            self.broken(("receive 1 16 1 100 0 0 open", "receive 1 16 1 100 0 0 stopped"))["over"],
+            ("x: line 10", "f: Stopped"),
+        )
 
     def test_strangers(self) -> None:
         self.assertEqual(self.broken(file="toward-a-stranger"), {})

@@ -1,1 +1,1 @@
-"""Reads the definitions of the promise, computes them, and decides what they say of given values. Nothing here knows a rule of the network."""
+"""Reads definitions, computes them, and decides what they say of given values. Nothing here knows a rule of the network."""

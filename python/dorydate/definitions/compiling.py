@@ -6,14 +6,56 @@ import re
 from collections.abc import Callable, Iterator, Sequence
 
 from dorydate.definitions.computing import (
-    Abstraction, Arithmetic, Bound, Build, Call, Change, Choice, Connective, Construct, Delayed, Env, Expression, Get, Join, Literal, Local, NotComputed,
-    OfFields, OfForm, Pattern, Same, Slot, Successor, Unfolded,
+    Abstraction,
+    Arithmetic,
+    Bound,
+    Build,
+    Call,
+    Change,
+    Choice,
+    Connective,
+    Construct,
+    Delayed,
+    Env,
+    Expression,
+    Get,
+    Join,
+    Literal,
+    Local,
+    NotComputed,
+    OfFields,
+    OfForm,
+    Pattern,
+    Same,
+    Slot,
+    Successor,
+    Unfolded,
 )
 from dorydate.definitions.files import Structure
 from dorydate.definitions.library import WORDS, Constant, Declared, Defined, Form, Library, Meaning, Typed, Word
 from dorydate.definitions.terms import (
-    Apply, Both, Changed, Field, ForAll, Function, If, Implicit, Let, Match, Name, Number, Operation, Record, Section, Term, Text, Tuple, Universe, Unknown,
-    arity, head_of,
+    Apply,
+    Both,
+    Changed,
+    Field,
+    ForAll,
+    Function,
+    If,
+    Implicit,
+    Let,
+    Match,
+    Name,
+    Number,
+    Operation,
+    Record,
+    Section,
+    Term,
+    Text,
+    Tuple,
+    Universe,
+    Unknown,
+    arity,
+    head_of,
 )
 from dorydate.definitions.values import FALSE, NIL, NONE, TRUE, Lambda, Value, applied, data, forget, listed
 from dorydate.definitions.words import NATIVE
@@ -102,7 +144,10 @@ class Compiler:
         if len(types) < len(structure.binders):
             return True
         names = frozenset(name for it in types for name in it.names)
-        return any(self.is_statement(it.type, module, names | {member.name for member in structure.members}) for it in structure.members)
+        return any(
+            self.is_statement(it.type, module, names | {member.name for member in structure.members})
+            for it in structure.members
+        )
 
     def gives_statement(self, type_: Term) -> bool:
         """Whether what has this type is a statement, once it has its arguments."""
@@ -123,18 +168,25 @@ class Compiler:
         if isinstance(term, Apply):
             return self.application(term, module, scope)
         if isinstance(term, Operation):
-            return self.operation(term.word, self.expression(term.left, module, scope), self.expression(term.right, module, scope))
+            return self.operation(
+                term.word, self.expression(term.left, module, scope), self.expression(term.right, module, scope)
+            )
         if isinstance(term, If):
             return Choice(*(self.expression(it, module, scope) for it in (term.condition, term.then, term.otherwise)))
         if isinstance(term, Field):
             meaning = self.meaning(term, module, scope)
-            return Get(self.expression(term.of, module, scope), term.name) if meaning is None else self.constant(meaning)
+            return (
+                Get(self.expression(term.of, module, scope), term.name) if meaning is None else self.constant(meaning)
+            )
         if isinstance(term, Tuple):
             return Build([(str(at), self.expression(it, module, scope)) for at, it in enumerate(term.items)])
         if isinstance(term, Record):
             return Build([(name, self.expression(it, module, scope)) for name, it in term.fields])
         if isinstance(term, Changed):
-            return Change(self.expression(term.of, module, scope), [(name, self.expression(it, module, scope)) for name, it in term.fields])
+            return Change(
+                self.expression(term.of, module, scope),
+                [(name, self.expression(it, module, scope)) for name, it in term.fields],
+            )
         return self.binding(term, module, scope)
 
     def binding(self, term: Term, module: str, scope: Scope) -> Expression:
@@ -146,7 +198,9 @@ class Compiler:
         if isinstance(term, Let):
             names = set()
             pattern = self.pattern(term.pattern, module, names)
-            return Bound(pattern, self.expression(term.value, module, scope), self.expression(term.body, module, scope | names))
+            return Bound(
+                pattern, self.expression(term.value, module, scope), self.expression(term.body, module, scope | names)
+            )
         if isinstance(term, Section):
             other, local = self.expression(term.term, module, scope), Local("◌")
             body = self.operation(term.word, *((local, other) if term.is_right else (other, local)))
@@ -212,7 +266,11 @@ class Compiler:
             return Construct(function.form, arguments)
         if isinstance(function, Abstraction) and isinstance(function.body, Successor) and len(arguments) == 1:
             return Successor(arguments[0])
-        if isinstance(function, Named) and (names := function.plain_names()) is not None and len(names) == len(arguments):
+        if (
+            isinstance(function, Named)
+            and (names := function.plain_names()) is not None
+            and len(names) == len(arguments)
+        ):
             return Opening(function, arguments, names)
         return Call(function, arguments) if arguments else function
 
@@ -345,7 +403,9 @@ class Named(Expression):
     def plain_names(self) -> list[str] | None:
         """What its one clause calls its arguments; None where it has several clauses, or patterns."""
         clauses = self.meaning.definition.clauses
-        if len(clauses) != 1 or not all(isinstance(it, Name) and not self.compiler.form_of(it, self.meaning.module) for it in clauses[0].given):
+        if len(clauses) != 1 or not all(
+            isinstance(it, Name) and not self.compiler.form_of(it, self.meaning.module) for it in clauses[0].given
+        ):
             return None
         return [it.text for it in clauses[0].given if isinstance(it, Name)]
 
@@ -431,4 +491,3 @@ class Running:
                 memory[key] = value
                 return value
         raise NotComputed(f"no clause of {self.meaning.definition.name} fits")
-

@@ -1,7 +1,7 @@
 """Computes terms, and finds the values of variables with which a term is a given value.
 
-A variable may have no value yet, as one that a statement speaks of does until a premise gives it one. What can't be computed for
-want of it raises `Unbound`, and is tried later.
+A variable may have no value yet: what a statement speaks of has none until a premise gives it one. What can't be computed
+without it raises `Unbound`, and is tried later.
 """
 
 from __future__ import annotations
@@ -10,7 +10,20 @@ from collections.abc import Iterator, Sequence
 from typing import Union
 
 from dorydate.definitions.terms import Term, Unknown
-from dorydate.definitions.values import NIL, TRUE, Data, Lambda, Struct, Value, applied, data, items_of, listed, struct, truth
+from dorydate.definitions.values import (
+    NIL,
+    TRUE,
+    Data,
+    Lambda,
+    Struct,
+    Value,
+    applied,
+    data,
+    items_of,
+    listed,
+    struct,
+    truth,
+)
 
 
 class Unbound(Exception):
@@ -63,8 +76,9 @@ NOTHING = Unknown()
 
 
 class Trail:
-    """The variables that have a value, in the order in which they got it; and how many statements about all of something are being looked at, one in
-    another. Where one is, only its own variables get values: those outside it are fixed, known or not."""
+    """The variables that have a value, in the order in which they got it; and how many statements about all of something
+    are being looked at, one in another. Where one is, only its own variables get values: those outside it are fixed,
+    known or not."""
 
     variables: list[Variable] = []
     level = 0
@@ -228,13 +242,23 @@ class Unfolded(Call):
 
     __slots__ = ("names", "body")
 
-    def __init__(self, function: Expression, arguments: Sequence[Expression], names: Sequence[str], body: Expression) -> None:
+    def __init__(
+        self, function: Expression, arguments: Sequence[Expression], names: Sequence[str], body: Expression
+    ) -> None:
         super().__init__(function, arguments)
         self.names, self.body = names, body
 
     def match(self, env: Env, wanted: Value) -> Iterator[None]:
         inner: Env = {name: Delayed(NOTHING, "", env, it) for name, it in zip(self.names, self.arguments)}
         yield from self.body.ways(inner, wanted)
+
+
+def known(expression: Expression, env: Env) -> Value | None:
+    """The value of a term, if it has one yet."""
+    try:
+        return expression.value(env)
+    except Unbound:
+        return None
 
 
 class Join(Expression):
@@ -255,18 +279,20 @@ class Join(Expression):
         tails = [list_of(wanted)]
         for _ in members:
             tails.append(list_of(tails[-1].parts[1]))
-        try:
-            known = self.left.value(env)
-        except Unbound:
-            pass
-        else:
-            many = list_of(known).length
-            if many <= len(members) and listed(members[:many]) is known:
-                yield from self.right.ways(env, tails[many])
-            return
-        for many in range(len(members) + 1):
+        left, right = known(self.left, env), known(self.right, env)
+        places = range(len(members) + 1)
+        if left is not None:
+            places = range(min(list_of(left).length, len(tails)), min(list_of(left).length + 1, len(tails)))
+        elif right is not None:
+            at = len(members) - list_of(right).length
+            places = range(at, at + 1) if at >= 0 and tails[at] is right else range(0)
+        for many in places:
             for _ in self.left.ways(env, listed(members[:many])):
                 yield from self.right.ways(env, tails[many])
+
+    def is_open(self, env: Env) -> bool:
+        """Whether neither side is known, so that a list has as many ways to be one as it has members."""
+        return known(self.left, env) is None and known(self.right, env) is None
 
 
 class Arithmetic(Expression):
@@ -283,9 +309,9 @@ class Arithmetic(Expression):
     def match(self, env: Env, wanted: Value) -> Iterator[None]:
         if self.word != "+":
             raise Unbound
-        for known, other in ((self.left, self.right), (self.right, self.left)):
+        for one, other in ((self.left, self.right), (self.right, self.left)):
             try:
-                less = number(known.value(env))
+                less = number(one.value(env))
             except Unbound:
                 continue
             if less <= number(wanted):
@@ -466,7 +492,9 @@ class OfForm(Pattern):
     def fits(self, slot: Slot, env: Env) -> bool:
         value = forced(slot)
         if isinstance(value, Data):
-            return value.form == self.form and all([pattern.fits(it, env) for pattern, it in zip(self.parts, value.parts)])
+            return value.form == self.form and all(
+                [pattern.fits(it, env) for pattern, it in zip(self.parts, value.parts)]
+            )
         if self.form == "zero":
             return value == 0
         return self.form == "suc" and number(value) > 0 and self.parts[0].fits(number(value) - 1, env)
@@ -483,7 +511,9 @@ class OfFields(Pattern):
 
     def fits(self, slot: Slot, env: Env) -> bool:
         value = forced(slot)
-        return isinstance(value, Struct) and all([pattern.fits(value.fields[name], env) for name, pattern in self.parts])
+        return isinstance(value, Struct) and all(
+            [pattern.fits(value.fields[name], env) for name, pattern in self.parts]
+        )
 
 
 # ---- what terms compute to
@@ -520,5 +550,3 @@ def calculated(word: str, left: int, right: int) -> int:
     if word == "^":
         return int(left**right)
     raise NotComputed(f"the word {word}")
-
-

@@ -1,8 +1,8 @@
 """Decides statements of given values, by search.
 
-A statement is a goal. To look at one gives the goals that it comes to, once for each way in which it may hold; a goal that lacks the value of a
-variable waits until another has given it one. "There is" and the fields of a record are variables, and "for all" holds where no way in
-which its premises hold breaks what they lead to.
+A statement is a goal. To look at one gives the goals that it comes to, once for each way in which it may hold; a goal that
+lacks the value of a variable waits until another has given it one. "There is" and the fields of a record are variables,
+and "for all" holds where no way in which its premises hold breaks what they lead to.
 """
 
 from __future__ import annotations
@@ -12,15 +12,45 @@ from dataclasses import dataclass
 
 from dorydate.definitions.compiling import NO_NAMES, Compiler, Scope
 from dorydate.definitions.computing import (
-    Delayed, Env, Evidence, Expression, Get, Local, NotComputed, Pattern, Slot, Trail, Unbound, Variable, bind, bound_so_far, forced, list_of, number, unbind,
+    Delayed,
+    Env,
+    Evidence,
+    Expression,
+    Get,
+    Join,
+    Local,
+    NotComputed,
+    Pattern,
+    Slot,
+    Trail,
+    Unbound,
+    Variable,
+    bind,
+    bound_so_far,
+    forced,
+    known,
+    list_of,
+    number,
+    unbind,
 )
 from dorydate.definitions.library import WORDS, Defined, Library, Meaning, Typed
 from dorydate.definitions.terms import (
-    Apply, Both, Field, ForAll, Function, If, Implicit, Let, Name, Operation, Term, head_of,
+    Apply,
+    Both,
+    Field,
+    ForAll,
+    Function,
+    If,
+    Implicit,
+    Let,
+    Name,
+    Operation,
+    Term,
+    head_of,
 )
 from dorydate.definitions.values import FALSE, TRUE, Data, Struct, Value, items_of
 
-MOST_NUMBERS = 100_000  # so many are tried of a number that is only said to be less than another
+MOST_NUMBERS = 100_000  # how many are tried of a number that is only said to be less than another
 
 
 @dataclass(frozen=True)
@@ -59,12 +89,17 @@ class Equal(Statement):
     def __init__(self, left: Expression, right: Expression) -> None:
         self.left, self.right = left, right
 
+    def is_wide(self, env: Env) -> bool:
+        """Whether it may hold in many ways, so that other goals are better looked at before."""
+        sides = (self.left, self.right), (self.right, self.left)
+        return any(isinstance(it, Join) and it.is_open(env) and known(other, env) is not None for it, other in sides)
+
     def moves(self, env: Env, evidence: Evidence | None) -> Iterator[Goals]:
         try:
-            known, other = self.right.value(env), self.left
+            value, other = self.right.value(env), self.left
         except Unbound:
-            known, other = self.left.value(env), self.right
-        for _ in other.ways(env, known):
+            value, other = self.left.value(env), self.right
+        for _ in other.ways(env, value):
             yield DONE
 
 
@@ -137,7 +172,7 @@ class Conjunct:
 
 
 class AllOf(Statement):
-    """Parts that all hold, of which later ones may speak of earlier ones; a part that is no statement is a value that there is."""
+    """Parts that all hold, of which later ones may speak of earlier ones; one that is no statement is a value there is."""
 
     def __init__(self, parts: Sequence[Conjunct]) -> None:
         self.parts = parts
@@ -180,7 +215,9 @@ class Every(Statement):
             Trail.level = level + 1
             inner, goals = self.opened(env)
             for _ in self.decider.solve(goals, ()):
-                for _ in self.decider.guesses([it for it in inner.values() if isinstance(it, Variable) and it.level == level + 1]):
+                for _ in self.decider.guesses(
+                    [it for it in inner.values() if isinstance(it, Variable) and it.level == level + 1]
+                ):
                     Trail.level = level + 2
                     holds = self.decider.holds((Goal(self.conclusion, inner),))
                     if not holds:
@@ -289,7 +326,9 @@ class Decider:
         self.domains: dict[str, Sequence[Value]] = {"Bool": (FALSE, TRUE), **(domains or {})}
         self.decided: dict[tuple[object, ...], bool] = {}
         self.clauses: dict[tuple[str, str], list[tuple[list[Pattern], Term, Scope]]] = {}
-        self.bodies: dict[tuple[int, Scope], tuple[Term, Statement]] = {}  # by the identity of a term, which is kept with it
+        self.bodies: dict[
+            tuple[int, Scope], tuple[Term, Statement]
+        ] = {}  # by the identity of a term, which is kept with it
         self.records: dict[tuple[str, str], AllOf] = {}
 
     def forget(self) -> None:
@@ -313,13 +352,22 @@ class Decider:
             if not late:
                 yield
                 return
+            if wide := [it for it in late if is_wide(it)]:
+                for more in wide[0].statement.moves(wide[0].env, wide[0].evidence):
+                    yield from self.solve((*more, *(it for it in late if it is not wide[0])), ())
+                return
             free = free_in(late)
             if not any(it.type in self.domains and it.level >= Trail.level for it in free):
                 raise Unbound
-            for _ in self.guesses(free[:1] if free[0].type in self.domains else [it for it in free if it.type in self.domains][:1]):
+            for _ in self.guesses(
+                free[:1] if free[0].type in self.domains else [it for it in free if it.type in self.domains][:1]
+            ):
                 yield from self.solve(late, ())
             return
         first, rest = goals[0], goals[1:]
+        if is_wide(first):
+            yield from self.solve(rest, (*late, first))
+            return
         before, moved = bound_so_far(), False
         moves = first.statement.moves(first.env, first.evidence)
         while True:
@@ -369,7 +417,9 @@ class Decider:
             return self.every(term, module, scope)
         if isinstance(term, If):
             condition = self.compiler.expression(term.condition, module, scope)
-            return Chosen(condition, self.statement(term.then, module, scope), self.statement(term.otherwise, module, scope))
+            return Chosen(
+                condition, self.statement(term.then, module, scope), self.statement(term.otherwise, module, scope)
+            )
         if isinstance(term, Let):
             names: set[str] = set()
             pattern = self.compiler.pattern(term.pattern, module, names)
@@ -420,14 +470,23 @@ class Decider:
     def implied(self, one: Statement, other: Statement) -> Statement:
         return Implied(self, [one], other)
 
-    def conjuncts(self, parts: Sequence[tuple[str, Term]], module: str, scope: Scope, after: Sequence[Term] = ()) -> list[Conjunct]:
+    def conjuncts(
+        self, parts: Sequence[tuple[str, Term]], module: str, scope: Scope, after: Sequence[Term] = ()
+    ) -> list[Conjunct]:
         """The parts of a product, or the premises of something that comes after them."""
         found = []
         for at, (name, type_) in enumerate(parts):
             later = [*(it for _, it in parts[at + 1 :]), *after]
-            is_statement = self.compiler.is_statement(type_, module, scope) or not name and isinstance(type_, Name) and type_.text in scope
+            is_statement = (
+                self.compiler.is_statement(type_, module, scope)
+                or not name
+                and isinstance(type_, Name)
+                and type_.text in scope
+            )
             statement = self.statement(type_, module, scope) if is_statement else None
-            found.append(Conjunct(name, statement, type_name(type_), bool(name) and any(mentions(it, name) for it in later)))
+            found.append(
+                Conjunct(name, statement, type_name(type_), bool(name) and any(mentions(it, name) for it in later))
+            )
             scope = scope | {name} if name else scope
         return found
 
@@ -444,10 +503,10 @@ class Decider:
     # ---- definitions and records
 
     def said(self, meaning: Meaning, slots: Sequence[Slot], evidence: Evidence | None) -> Iterator[Goals]:
-        """What a definition or a record comes to, of these arguments. What was decided of given values once isn't looked at again."""
-        known = [known_value(it) for it in slots]
-        if evidence is None and None not in known:
-            key = (meaning_key(meaning), *known)
+        """What a definition or a record comes to, of these arguments. What was decided of given values is kept."""
+        values = [known_value(it) for it in slots]
+        if evidence is None and None not in values:
+            key = (meaning_key(meaning), *values)
             if key not in self.decided:
                 self.decided[key] = any(self.holds(it) for it in self.opened(meaning, slots, None))
             if self.decided[key]:
@@ -470,7 +529,9 @@ class Decider:
         """The value of the first clause that fits these arguments, the names in it, and the arguments that are left."""
         key = meaning.module, meaning.definition.name
         if key not in self.clauses:
-            self.clauses[key] = [self.patterns(it.patterns, it.value, meaning.module) for it in meaning.definition.clauses]
+            self.clauses[key] = [
+                self.patterns(it.patterns, it.value, meaning.module) for it in meaning.definition.clauses
+            ]
         for patterns, value, types in self.clauses[key]:
             env: Env = {name: TRUE for name in types}
             if all([pattern.fits(it, env) for pattern, it in zip(patterns, slots)]):
@@ -479,7 +540,11 @@ class Decider:
 
     def patterns(self, patterns: Sequence[Term], value: Term, module: str) -> tuple[list[Pattern], Term, Scope]:
         types = frozenset(it.term.text for it in patterns if isinstance(it, Implicit) and isinstance(it.term, Name))
-        return [self.compiler.pattern(it, module, set()) for it in patterns if not isinstance(it, Implicit)], value, types
+        return (
+            [self.compiler.pattern(it, module, set()) for it in patterns if not isinstance(it, Implicit)],
+            value,
+            types,
+        )
 
     def record(self, meaning: Typed) -> AllOf:
         structure = meaning.structure
@@ -495,7 +560,10 @@ class Decider:
         term, env, module = delayed.term, dict(delayed.env), delayed.module
         if isinstance(term, Function):
             names: set[str] = set()
-            fits = [self.compiler.pattern(it.pattern, module, names).fits(slot, env) for it, slot in zip(term.parameters, slots)]
+            fits = [
+                self.compiler.pattern(it.pattern, module, names).fits(slot, env)
+                for it, slot in zip(term.parameters, slots)
+            ]
             if not all(fits):
                 raise NotComputed("an argument of another form")
             rest = slots[len(term.parameters) :]
@@ -515,7 +583,9 @@ class Decider:
             inner = env[head.text]
             if not isinstance(inner, Delayed):
                 raise Unbound
-            yield from self.of_term(inner, [*(self.argument(it, module, scope, None).slot(env) for it in given), *slots], evidence)
+            yield from self.of_term(
+                inner, [*(self.argument(it, module, scope, None).slot(env) for it in given), *slots], evidence
+            )
             return
         meaning = self.compiler.meaning(head, module, scope)
         statement = self.of_meaning(meaning, given, module, scope)
@@ -527,6 +597,10 @@ class Decider:
 def meaning_key(meaning: Meaning) -> object:
     """By what a definition or a record is known again."""
     return (meaning.module, meaning.item.name) if isinstance(meaning, (Defined, Typed)) else meaning
+
+
+def is_wide(goal: Goal) -> bool:
+    return isinstance(goal.statement, Equal) and goal.statement.is_wide(goal.env)
 
 
 def known_value(slot: Slot) -> Value | None:

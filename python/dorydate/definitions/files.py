@@ -1,4 +1,4 @@
-"""Reads files of definitions into their items: imports, definitions, records, data, and the groups in which proofs have theirs."""
+"""Reads files of definitions into their items: imports, definitions, records, data, and groups of these."""
 
 from __future__ import annotations
 
@@ -168,7 +168,9 @@ class FileReader:
             found.append(use_of(it))
         elif PASSED_OVER.match(head):
             pass
-        elif (it := re.match(r"(?:pub )?(record|data) (?!\s*\{)", head)) and any(WHERE.search(without_comment(line)) for _, line in block.lines):
+        elif (it := re.match(r"(?:pub )?(record|data) (?!\s*\{)", head)) and any(
+            WHERE.search(without_comment(line)) for _, line in block.lines
+        ):
             found.append(self.structure(block, it[1] == "record"))
         elif head.startswith("module "):
             first, rest = split_where(block)
@@ -191,7 +193,11 @@ class FileReader:
         return Structure(name, binders, type_, tuple(members), is_record, block.number, block.comment)
 
     def signature_or_clause(self, block: Block, found: list[Item]) -> None:
-        before, rest = split_where(block) if any(WHERE.search(without_comment(line)) for _, line in block.lines) else (block.text, ())
+        before, rest = (
+            split_where(block)
+            if any(WHERE.search(without_comment(line)) for _, line in block.lines)
+            else (block.text, ())
+        )
         marks = MARKS.match(before.strip())
         tokens = tokens_of(before.strip()[marks.end() if marks else 0 :], block.number)
         if is_signature(tokens):

@@ -9,7 +9,9 @@ from typing import Union
 from dorydate.definitions.files import Definition, Group, Item, Structure, Use, read_file
 from dorydate.definitions.terms import Binder
 
-Sources = Callable[[str], "str | None"]  # the text of a file, by its path below `crates`; None where there is no such file
+Sources = Callable[
+    [str], "str | None"
+]  # the text of a file, by its path below `crates`; None where there is no such file
 WORDS = "words"  # the module that has the words of the library
 VARIANTS, CONSTANTS = ".TheVariants", ".TheConstants"
 
@@ -87,10 +89,14 @@ class Module:
     faults: list[str] = field(default_factory=list)
     own: dict[str, Definition | Structure] = field(default_factory=dict)
     forms: dict[str, Structure] = field(default_factory=dict)
-    names: dict[str, tuple[str, str]] = field(default_factory=dict)  # imported names, with their module and their name there
+    names: dict[str, tuple[str, str]] = field(
+        default_factory=dict
+    )  # imported names, with their module and their name there
     aliases: dict[str, str] = field(default_factory=dict)
     passed: dict[str, str] = field(default_factory=dict)  # names that it passes on, with the module from which
-    groups: dict[str, tuple[Binder, ...]] = field(default_factory=dict)  # what a definition takes before its own arguments
+    groups: dict[str, tuple[Binder, ...]] = field(
+        default_factory=dict
+    )  # what a definition takes before its own arguments
 
     def __post_init__(self) -> None:
         self.take(self.items, ())
@@ -135,7 +141,9 @@ class Library:
         return self.modules[name]
 
     def has(self, name: str) -> bool:
-        return name in self.modules or self.sources(f"{name.removeprefix('Rattle.').replace('.', '/')}.antt") is not None
+        return (
+            name in self.modules or self.sources(f"{name.removeprefix('Rattle.').replace('.', '/')}.antt") is not None
+        )
 
     def meaning(self, module: str, name: str, alias: str = "") -> Meaning:
         """What a name means in a module, or in one that it imports as a whole."""

@@ -20,7 +20,13 @@ def host_value(host: HostName) -> Struct:
 
 
 def flow_value(flow: Flow) -> Struct:
-    return struct({"source": host_value(flow.source), "destination": host_value(flow.destination), "link": struct({"0": flow.link})})
+    return struct(
+        {
+            "source": host_value(flow.source),
+            "destination": host_value(flow.destination),
+            "link": struct({"0": flow.link}),
+        }
+    )
 
 
 def bits_value(bits: Bits) -> Data:
@@ -41,19 +47,21 @@ def amount_value(amounts: Sequence[int]) -> Struct:
 
 
 def life_value(life: Life) -> Struct:
-    return struct({
-        "host": host_value(life.host),
-        "socket": life.socket,
-        "peer": host_value(life.peer),
-        "foreign": life.foreign,
-        "own_stamp": life.own,
-        "partner_stamp": life.partner,
-        "bits": bits_value(life.bits),
-        "messages": life.messages,
-        "granted": amount_value(life.granted),
-        "returned": amount_value(life.returned),
-        "ended": truth(life.has_ended),
-    })
+    return struct(
+        {
+            "host": host_value(life.host),
+            "socket": life.socket,
+            "peer": host_value(life.peer),
+            "foreign": life.foreign,
+            "own_stamp": life.own,
+            "partner_stamp": life.partner,
+            "bits": bits_value(life.bits),
+            "messages": life.messages,
+            "granted": amount_value(life.granted),
+            "returned": amount_value(life.returned),
+            "ended": truth(life.has_ended),
+        }
+    )
 
 
 @dataclass
@@ -80,18 +88,27 @@ class Logged:
         self.lives, self.handed = listed(lives), listed(map(bits_value, self.book.handed))
         self.fates = tuple(data(it.fate.capitalize()) for it in self.book.lives)
         self.labels |= {value: f"line{'s' * (len(its) > 1)} {', '.join(map(str, its))}" for value, its in lines.items()}
-        self.labels |= {it: name for it, name in ((self.lives, "all lives"), (self.handed, "all lists")) if it is not NIL}
+        self.labels |= {
+            it: name for it, name in ((self.lives, "all lives"), (self.handed, "all lists")) if it is not NIL
+        }
 
     @property
     def hosts(self) -> Data:
         """The hosts that the log names, each once."""
-        named = [*self.book.strangers, *hosts_in(self.book.log), *(host for it in self.book.lives for host in (it.host, it.peer))]
+        named = [
+            *self.book.strangers,
+            *hosts_in(self.book.log),
+            *(host for it in self.book.lives for host in (it.host, it.peer)),
+        ]
         return listed(map(host_value, dict.fromkeys(named)))
 
     @property
     def flows(self) -> list[Value]:
         """The flows that the log names, each once."""
-        return [flow_value(it) for it in dict.fromkeys(it.flow for it in self.book.log if isinstance(it, (Passed, Answered)))]
+        return [
+            flow_value(it)
+            for it in dict.fromkeys(it.flow for it in self.book.log if isinstance(it, (Passed, Answered)))
+        ]
 
     @property
     def strangers(self) -> Data:

@@ -1,7 +1,8 @@
-"""Holds a log up to the promise, clause by clause. The clauses and all that they say are read from the definitions.
+"""Checks a log against the promise, clause by clause. The clauses and all that they say are read from the definitions.
 
-A log doesn't say all that a book has. Of a life that continues it doesn't say whether somebody has closed it: it counts as open, unless what crossed
-doesn't leave it that. Contacts don't cross: those are looked for which leave lives that were reset their fates, each as late as can be.
+A log doesn't say all that a book has. Of a life that continues it doesn't say whether somebody has closed it: it counts as
+open, unless what crossed doesn't leave it that. Contacts don't cross: those are looked for which leave lives that were reset
+their fates, each as late as can be.
 """
 
 from __future__ import annotations
@@ -25,7 +26,10 @@ from dorydate.definitions.terms import Term
 from dorydate.definitions.values import Lambda, Value, data, listed, struct
 from dorydate.model.log import Book
 
-BOOK, BOOK_AMONG = "headline/src/book.rt", "mixed_worlds/src/book.rt"  # what is promised of a book, and of one among strangers
+BOOK, BOOK_AMONG = (
+    "headline/src/book.rt",
+    "mixed_worlds/src/book.rt",
+)  # what is promised of a book, and of one among strangers
 LEFT = ("value", "lawful")  # their clauses that speak of the world and its programs
 WORDS_FILE = Path(__file__).with_name("words.antt")
 PACKED = Path(__file__).with_name("promised")  # where a release has the files of the definitions
@@ -51,7 +55,7 @@ def crates_folder() -> Path:
 
 @dataclass(frozen=True)
 class Part:
-    """A clause, or a field of a record that one says: its name, with those before it, what says it, and the comment there."""
+    """A clause, or a field of a record: its name with those before it, the definition that says it, and its comment."""
 
     name: str
     definition: str
@@ -118,7 +122,9 @@ class Judge:
             statement = self.decider.statement(term, module, frozenset(env))
             yield from self.below(name, name, "", term, module, statement, env)
 
-    def below(self, name: str, said_by: str, comment: str, term: Term, module: str, statement: Statement, env: Env) -> Iterator[Part]:
+    def below(
+        self, name: str, said_by: str, comment: str, term: Term, module: str, statement: Statement, env: Env
+    ) -> Iterator[Part]:
         """A part, or those that it has, if it is a record of statements."""
         meaning = statement.meaning if isinstance(statement, Said) else None
         if isinstance(meaning, Typed) and all(it.statement for it in self.decider.record(meaning).parts):
@@ -126,9 +132,21 @@ class Judge:
             names = [it for binder in meaning.structure.binders if not binder.implicit for it in binder.names]
             inner: Env = {it: argument.slot(env) for it, argument in zip(names, statement.arguments)}
             for member in meaning.structure.members:
-                held = self.decider.statement(member.type, meaning.module, frozenset(inner) | {it for binder in meaning.structure.binders for it in binder.names})
+                held = self.decider.statement(
+                    member.type,
+                    meaning.module,
+                    frozenset(inner) | {it for binder in meaning.structure.binders for it in binder.names},
+                )
                 above = member.comment or meaning.structure.comment
-                yield from self.below(f"{name}.{member.name}", f"{meaning.structure.name}.{member.name}", above, member.type, meaning.module, held, inner)
+                yield from self.below(
+                    f"{name}.{member.name}",
+                    f"{meaning.structure.name}.{member.name}",
+                    above,
+                    member.type,
+                    meaning.module,
+                    held,
+                    inner,
+                )
             return
         if isinstance(meaning, (Defined, Typed)):
             said_by, comment = meaning.item.name, meaning.item.comment or comment
@@ -150,7 +168,11 @@ class Judge:
         contacts: list[Value] = []
         for life, fate in logged.each_life():
             closing = data("Closing")
-            if fate is data("Open") and not self.is_left([], logged, life, fate) and self.is_left([], logged, life, closing):
+            if (
+                fate is data("Open")
+                and not self.is_left([], logged, life, fate)
+                and self.is_left([], logged, life, closing)
+            ):
                 fate = closing
             fates.append(fate)
             if fate is data("Reset") and not self.is_left(contacts, logged, life, fate):
@@ -158,17 +180,19 @@ class Judge:
         return fates, contacts
 
     def contact(self, contacts: Sequence[Value], logged: Logged, life: Value, fate: Value) -> list[Value]:
-        """The latest contact of a life's host with its peer that leaves the life its fate; none where there is no such."""
+        """The latest contact of a life's host with its peer that leaves the life its fate, if there is any."""
         fields = getattr(life, "fields")
         for place in range(logged.log.length, -1, -1):
             one = struct({"host": fields["host"], "place": place, "peer": fields["peer"]})
-            if self.is_left([*contacts, one], logged, life, fate) and self.holds("Rattle.promise.specs.Ends", "AreContacts", listed([*contacts, one]), logged.log):
+            if self.is_left([*contacts, one], logged, life, fate) and self.holds(
+                "Rattle.promise.specs.Ends", "AreContacts", listed([*contacts, one]), logged.log
+            ):
                 return [one]
         return []
 
 
 def files_of_promise() -> list[str]:
-    """The files of the definitions that judge a log, below `crates`: those of the clauses, and those to which their names lead."""
+    """The files of the definitions that judge a log, below `crates`: those to which the clauses lead."""
     judge = Judge()
     reach = Reach(judge.library)
     for file in (BOOK, BOOK_AMONG):

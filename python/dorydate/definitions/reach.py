@@ -13,7 +13,7 @@ Found = Union[Defined, Typed, Declared]
 
 
 class Reach:
-    """What has been reached so far: definitions, each after those that it uses, and the types that are declared in Rust."""
+    """What has been reached: definitions, each after those that it uses, and the types that are declared in Rust."""
 
     def __init__(self, library: Library) -> None:
         self.library = library
@@ -53,14 +53,19 @@ def terms_of(item: Definition | Structure) -> tuple[object, ...]:
 
 
 def meanings_in(library: Library, term: object, module: str) -> Iterator[Meaning]:
-    """What the names in a term mean. A name that is local may mean a definition too: then there is one too many, and never one too few."""
+    """What the names in a term mean. A local name may mean a definition too: so there may be too many, and never too few."""
     here = library.module(module)
     if isinstance(term, Name):
         if term.text in here.own or term.text in here.forms or term.text in here.names:
             yield from form_or_other(library, module, term.text)
         elif library.has(WORDS) and term.text in library.module(WORDS).own:
             yield library.found(WORDS, term.text)
-    elif isinstance(term, Field) and isinstance(term.of, Name) and term.of.text in here.aliases and term.of.text not in here.names:
+    elif (
+        isinstance(term, Field)
+        and isinstance(term.of, Name)
+        and term.of.text in here.aliases
+        and term.of.text not in here.names
+    ):
         yield from form_or_other(library, module, term.name, term.of.text)
     elif isinstance(term, tuple):
         for it in term:

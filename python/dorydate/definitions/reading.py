@@ -7,20 +7,61 @@ from collections.abc import Sequence
 from dataclasses import dataclass
 
 from dorydate.definitions.terms import (
-    Apply, Binder, Both, Case, Changed, Field, ForAll, Function, If, Implicit, Let, Match, Name, Number, Operation, Parameter, Part, Record, Section,
-    Term, Text, Tuple, Universe, Unknown, for_all,
+    Apply,
+    Binder,
+    Both,
+    Case,
+    Changed,
+    Field,
+    ForAll,
+    Function,
+    If,
+    Implicit,
+    Let,
+    Match,
+    Name,
+    Number,
+    Operation,
+    Parameter,
+    Part,
+    Record,
+    Section,
+    Term,
+    Text,
+    Tuple,
+    Universe,
+    Unknown,
+    for_all,
 )
 
 # infix words: how strongly they bind, and on which side a chain of them is nested
 INFIX = {
-    "↔": (0, "none"), "⊎": (1, "right"), "×": (2, "flat"), "≡": (4, "none"), "≢": (4, "none"), "∙": (30, "right"), "||": (30, "left"), "&&": (35, "left"),
-    "==": (40, "none"), "<": (50, "none"), "≤": (50, "none"), "+": (65, "left"), "-": (65, "left"), "++": (65, "right"), "∷": (67, "right"),
-    "*": (70, "left"), "/": (70, "left"), "%": (70, "left"), "^": (75, "right"),
+    "↔": (0, "none"),
+    "⊎": (1, "right"),
+    "×": (2, "flat"),
+    "≡": (4, "none"),
+    "≢": (4, "none"),
+    "∙": (30, "right"),
+    "||": (30, "left"),
+    "&&": (35, "left"),
+    "==": (40, "none"),
+    "<": (50, "none"),
+    "≤": (50, "none"),
+    "+": (65, "left"),
+    "-": (65, "left"),
+    "++": (65, "right"),
+    "∷": (67, "right"),
+    "*": (70, "left"),
+    "/": (70, "left"),
+    "%": (70, "left"),
+    "^": (75, "right"),
 }
 PRODUCT = INFIX["×"][0]
 OPENS_STATEMENT = 6  # how strongly the last branch of an `if` binds
 STOPS = {")", "]", "}", ",", ";", "|", "↦", "in", "then", "else", "=", ":", "→", "as", "where", "."}
-TOKEN = re.compile(r"""--[^\n]*|\{-.*?-\}|«(?P<escaped>[^»]*)»|"(?:\\.|[^"\\])*"|[(){}.;,@]|[^\s(){}.;,@"«»]+""", re.DOTALL)
+TOKEN = re.compile(
+    r"""--[^\n]*|\{-.*?-\}|«(?P<escaped>[^»]*)»|"(?:\\.|[^"\\])*"|[(){}.;,@]|[^\s(){}.;,@"«»]+""", re.DOTALL
+)
 NUMBER = re.compile(r"0x[0-9a-fA-F_]+|\d[\d_]*")
 WORD = re.compile(r"""[^\s(){}.;,@"«»]+""")
 
@@ -163,7 +204,11 @@ class Parser:
         if self.peek() not in ("(", "{"):
             return None
         ahead = 1
-        while self.at + ahead < len(self.tokens) and WORD.fullmatch(self.tokens[self.at + ahead].text) and self.peek(ahead) not in (":", "=", "→", "λ", "let", "if"):
+        while (
+            self.at + ahead < len(self.tokens)
+            and WORD.fullmatch(self.tokens[self.at + ahead].text)
+            and self.peek(ahead) not in (":", "=", "→", "λ", "let", "if")
+        ):
             ahead += 1
         if ahead == 1 or self.peek(ahead) != ":":
             return None

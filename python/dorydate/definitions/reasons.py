@@ -41,7 +41,11 @@ class Reasons:
     def lines_in(self, env: Env) -> list[str]:
         """The values that have a line in the log."""
         named = [(name, known_value(it)) for name, it in env.items() if not isinstance(it, Evidence)]
-        return [f"{name}: {self.labels[it]}" for name, it in named if it is not None and self.labels.get(it, "").startswith("line")]
+        return [
+            f"{name}: {self.labels[it]}"
+            for name, it in named
+            if it is not None and self.labels.get(it, "").startswith("line")
+        ]
 
     def step(self, statement: Statement, env: Env, found: list[str]) -> Iterator[tuple[Statement, Env]]:
         """The part of a statement that breaks it, if it is one part. What is to be said is added."""

@@ -25,11 +25,13 @@ class Struct:
 
 
 class Lambda:
-    """A function that still takes so many arguments; and what opens a call of it, where a definition can be opened."""
+    """A function, with the arguments that it has; and what opens a call of it, where a definition can be opened."""
 
     __slots__ = ("arity", "run", "before", "opens")
 
-    def __init__(self, arity: int, run: Callable[..., Value], before: tuple[Value, ...] = (), opens: Any = None) -> None:
+    def __init__(
+        self, arity: int, run: Callable[..., Value], before: tuple[Value, ...] = (), opens: Any = None
+    ) -> None:
         self.arity, self.run, self.before, self.opens = arity, run, before, opens
 
 
@@ -95,7 +97,7 @@ def items_of(values: Data) -> Iterator[Value]:
 
 
 def applied(function: Value, arguments: tuple[Value, ...]) -> Value:
-    """What a function gives of so many arguments, or a function that takes the rest; or a constructor with more of its arguments."""
+    """What a function gives of some arguments, or one that takes the rest; or a constructor with more of its arguments."""
     while arguments:
         if type(function) is Data:
             return data(function.form, *function.parts, *arguments)

@@ -5,7 +5,20 @@ from __future__ import annotations
 from collections.abc import Callable
 
 from dorydate.definitions.computing import list_of, number
-from dorydate.definitions.values import NIL, NONE, TRUE, Data, Lambda, Value, applied, items_of, listed, some, truth, tupled
+from dorydate.definitions.values import (
+    NIL,
+    NONE,
+    TRUE,
+    Data,
+    Lambda,
+    Value,
+    applied,
+    items_of,
+    listed,
+    some,
+    truth,
+    tupled,
+)
 
 
 def take(many: Value, values: Value) -> Value:
@@ -99,7 +112,9 @@ NATIVE: dict[str, Value] = {
     "list_all": word(2, lambda test, values: truth(all(holds(test, it) for it in members(values)))),
     "map": word(2, mapped),
     "filter": word(2, lambda test, values: listed([it for it in members(values) if holds(test, it)])),
-    "flat_map": word(2, lambda function, values: listed([it for each in members(mapped(function, values)) for it in members(each)])),
+    "flat_map": word(
+        2, lambda function, values: listed([it for each in members(mapped(function, values)) for it in members(each)])
+    ),
     "find": word(2, find),
     "position": word(2, position),
     "fold": word(3, fold),
@@ -111,7 +126,11 @@ NATIVE: dict[str, Value] = {
     "byte_len": word(1, number),
     "from_be_bytes": word(2, from_be_bytes),
     "to_be_bytes": word(2, to_be_bytes),
-    "w8": 1, "w16": 2, "w32": 4, "w64": 8, "w128": 16,
+    "w8": 1,
+    "w16": 2,
+    "w32": 4,
+    "w64": 8,
+    "w128": 16,
     "decimal": word(1, lambda value: listed(str(number(value)).encode())),
     "count_by": word(2, lambda test, values: sum(holds(test, it) for it in members(values))),
     "tt": NIL,

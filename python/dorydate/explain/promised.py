@@ -1,4 +1,4 @@
-"""What `./explain --promise` says of a log: whether each part of the promise holds, and of one that doesn't, what it asks and what breaks it."""
+"""What `./explain --promise` says of a log: whether each part of the promise holds, and what breaks one that doesn't."""
 
 from __future__ import annotations
 
@@ -7,7 +7,9 @@ from collections.abc import Iterator
 from dorydate.definitions.promise import Judge, Judged, deeply
 from dorydate.model.log import Book
 
-NO_LIVES = "The log has no lives. Nothing is promised of hosts that run no program: a line `foreign H` names each of these."
+NO_LIVES = (
+    "The log has no lives. Nothing is promised of hosts that run no program: a line `foreign H` names each of these."
+)
 NOT_LOGGED = {"notices": "a log has no notices", "reports": "a log has no reports of services"}
 
 

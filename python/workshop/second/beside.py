@@ -1,4 +1,4 @@
-"""Holds the judge of the definitions beside the proved audit: on logs by hand, of examples, stored ones and random books, each part has to be the same."""
+"""Compares the judge of the definitions with the proved audit: of each log both have to say the same of each part."""
 
 from __future__ import annotations
 
@@ -17,9 +17,9 @@ from dorydate.model.log import BadLog, read_log, spelled_log
 from workshop.checks import log_rows
 from workshop.parts import ROOT, any_program, read_octets
 
-MOST_LINES = 150  # of a log: the judge's time grows with the square of its length
+MOST_LINES = 90  # of a log: the judge's time grows with the square of its length
 CHUNK = 25
-# the parts of an audit, and those of the promise that say them. Of streams `one` is missing: the audit has it in *partners*
+# the parts of an audit, and those of the promise that say them. `one` of streams is a matter of *partners* there
 PARTS = {
     "run": ("run",),
     "lives": ("formed", "within"),
@@ -37,14 +37,19 @@ TOWARD_PARTS = ("toward.owner", "toward.taken", "toward.handed", "among.safe.str
 
 
 def logs(count: int) -> Iterator[tuple[str, bytes]]:
-    """So many logs, each with what it is of."""
+    """Some logs, each with what it is of."""
     found = made_by_hand()
     for name, octets in found:
         count -= 1
         yield name, octets
         if not count:
             return
-    kinds = {"world": lambda seed: of_world(seed)[1], "small": small, "mixed": lambda seed: of_mixed_world(seed)[1], "small mixed": small_mixed}
+    kinds = {
+        "world": lambda seed: of_world(seed)[1],
+        "small": small,
+        "mixed": lambda seed: of_mixed_world(seed)[1],
+        "small mixed": small_mixed,
+    }
     seed = 0
     while count:
         for kind, make in kinds.items():
@@ -87,20 +92,31 @@ def compared(log: tuple[str, bytes]) -> tuple[Counter[str], list[str]]:
     broken = {line.split()[1] for line in said.splitlines() if line.startswith("broken")}
     judged = {it.part.name: it.holds for it in deeply(lambda: [*JUDGE.judged(book)])}
     first = "among." if book.strangers else ""
-    seen: Counter[str] = Counter({"logs": 1, "logs with strangers": bool(book.strangers), "logs that are kept": said == "kept\n"})
+    seen: Counter[str] = Counter(
+        {"logs": 1, "logs with strangers": bool(book.strangers), "logs that are kept": said == "kept\n"}
+    )
     wrong = []
 
     def compare(part: str, is_broken: bool, names: tuple[str, ...]) -> None:
         fails = [it for it, holds in judged.items() if holds is False and it.startswith(names)]
         seen[f"{part}: {'broken' if is_broken else 'kept'} by both"] += is_broken == bool(fails)
         if is_broken != bool(fails):
-            wrong.append(f"{name}: the audit says {said.split(chr(10))}, and the definitions that {fails or 'none'} of {part} is broken")
+            wrong.append(
+                f"{name}: the audit says {said.split(chr(10))}, and by the definitions {fails or 'none'} of {part} is broken"
+            )
 
     for part, names in PARTS.items():
         # a life whose requests haven't crossed has no fate by the promise; of such a one the audit names *lives* only
         is_asked = "lives" not in broken if part == "fates" else part not in UNLESS_MALFORMED or "malformed" not in said
         if is_asked:
-            compare(part, part in broken, tuple(f"{first or 'promise.'}{it}" if f"promise.{it}" in judged or first or it.startswith("safe") else it for it in names))
+            compare(
+                part,
+                part in broken,
+                tuple(
+                    f"{first or 'promise.'}{it}" if f"promise.{it}" in judged or first or it.startswith("safe") else it
+                    for it in names
+                ),
+            )
     if book.strangers and "malformed" not in said:
         compare("toward, or streams or grants", bool(broken & {*TOWARD}), TOWARD_PARTS)
     return seen, wrong
@@ -110,7 +126,7 @@ JUDGE = Judge()
 
 
 def beside_audit(count: int) -> tuple[Counter[str], list[str]]:
-    """What so many logs came to."""
+    """What these logs came to."""
     seen, wrong = Counter[str](), list[str]()
     with ProcessPoolExecutor(max(1, (os.cpu_count() or 2) // 2), multiprocessing.get_context("fork")) as processes:
         for found, faults in processes.map(compared, [*logs(count)], chunksize=CHUNK):
