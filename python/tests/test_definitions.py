@@ -5,7 +5,7 @@ from __future__ import annotations
 import random
 import unittest
 
-from dorydate.definitions.computing import Unbound
+from dorydate.definitions.computing import Unbound, number
 from dorydate.definitions.deciding import Decider, Goal
 from dorydate.definitions.files import Definition, Structure, read_file
 from dorydate.definitions.library import WORDS, Defined, Library, Module
@@ -166,9 +166,9 @@ class OfWords(unittest.TestCase):
             "w": by.choice([1, 2, 4]),
             "l": numbers,
             "t": Lambda(1, lambda n: truth(n == test)),
-            "f": Lambda(1, lambda n: n + test),
+            "f": Lambda(1, lambda n: number(n) + test),
             "m": Lambda(1, lambda n: listed([n, test])),
-            "a": Lambda(2, lambda a, n: a * 2 + n),
+            "a": Lambda(2, lambda a, n: number(a) * 2 + number(n)),
         }
         return made[kind]
 

@@ -225,7 +225,7 @@ class Compiler:
         return self.constant(self.library.meaning(module, term.text))
 
     def constant(self, meaning: Meaning) -> Expression:
-        """What a name stands for that isn't local."""
+        """What a name means that isn't local."""
         if isinstance(meaning, Form):
             return FormOf(meaning.name)
         if isinstance(meaning, Word):

@@ -1,7 +1,7 @@
 """Computes terms, and finds the values of variables with which a term is a given value.
 
-A variable may have no value yet: what a statement speaks of has none until a premise gives it one. What can't be computed
-without it raises `Unbound`, and is tried later.
+A variable may have no value yet: what a statement speaks of has none until a premise gives it one. What can't be
+computed without it raises `Unbound`, and is tried later.
 """
 
 from __future__ import annotations
@@ -76,7 +76,7 @@ NOTHING = Unknown()
 
 
 class Trail:
-    """The variables that have a value, in the order in which they got it; and how many statements about all of something
+    """The variables that have a value, in the order in which they got it; and how many statements about all of a type
     are being looked at, one in another. Where one is, only its own variables get values: those outside it are fixed,
     known or not."""
 
@@ -102,7 +102,7 @@ def unbind(to: int) -> None:
 
 
 def forced(slot: Slot) -> Value:
-    """The value of what a name stands for."""
+    """The value of what a name means."""
     while True:
         if isinstance(slot, Variable):
             if slot.value is None:
@@ -238,7 +238,7 @@ class Call(Expression):
 
 
 class Unfolded(Call):
-    """A call of a definition by one clause without patterns: the term that it stands for can be matched."""
+    """A call of a definition by one clause without patterns: the term that it means can be matched."""
 
     __slots__ = ("names", "body")
 

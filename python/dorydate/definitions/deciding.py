@@ -1,8 +1,8 @@
 """Decides statements of given values, by search.
 
-A statement is a goal. To look at one gives the goals that it comes to, once for each way in which it may hold; a goal that
-lacks the value of a variable waits until another has given it one. "There is" and the fields of a record are variables,
-and "for all" holds where no way in which its premises hold breaks what they lead to.
+A statement is a goal. To look at one gives the goals that it comes to, once for each way in which it may hold; a goal
+that lacks the value of a variable waits until another has given it one. "There is" and the fields of a record are
+variables, and "for all" holds where no way in which its premises hold breaks what they lead to.
 """
 
 from __future__ import annotations
@@ -172,7 +172,7 @@ class Conjunct:
 
 
 class AllOf(Statement):
-    """Parts that all hold, of which later ones may speak of earlier ones; one that is no statement is a value there is."""
+    """Parts that all hold, of which later ones may speak of earlier ones; one that is no statement is some value."""
 
     def __init__(self, parts: Sequence[Conjunct]) -> None:
         self.parts = parts
@@ -269,7 +269,7 @@ class Member(Statement):
 
 
 class Said(Statement):
-    """A definition, a record, or a name that stands for a statement, of some arguments."""
+    """A definition, a record, or a name that means a statement, of some arguments."""
 
     def __init__(self, decider: Decider, meaning: Meaning, arguments: Sequence[Argument]) -> None:
         self.decider, self.meaning, self.arguments = decider, meaning, arguments
@@ -279,7 +279,7 @@ class Said(Statement):
 
 
 class OfName(Statement):
-    """A statement that a name stands for, of some further arguments."""
+    """A statement that a name means, of some further arguments."""
 
     def __init__(self, decider: Decider, name: str, arguments: Sequence[Argument]) -> None:
         self.decider, self.name, self.arguments = decider, name, arguments
@@ -353,8 +353,8 @@ class Decider:
                 yield
                 return
             if wide := [it for it in late if is_wide(it)]:
-                for more in wide[0].statement.moves(wide[0].env, wide[0].evidence):
-                    yield from self.solve((*more, *(it for it in late if it is not wide[0])), ())
+                for found in wide[0].statement.moves(wide[0].env, wide[0].evidence):
+                    yield from self.solve((*found, *(it for it in late if it is not wide[0])), ())
                 return
             free = free_in(late)
             if not any(it.type in self.domains and it.level >= Trail.level for it in free):
@@ -369,6 +369,7 @@ class Decider:
             yield from self.solve(rest, (*late, first))
             return
         before, moved = bound_so_far(), False
+        more: Goals | None
         moves = first.statement.moves(first.env, first.evidence)
         while True:
             try:
@@ -604,7 +605,7 @@ def is_wide(goal: Goal) -> bool:
 
 
 def known_value(slot: Slot) -> Value | None:
-    """The value of what a name stands for; None where it isn't known, or is a function."""
+    """The value of what a name means; None where it isn't known, or is a function."""
     if isinstance(slot, (int, Data, Struct)):
         return slot
     if isinstance(slot, Variable):

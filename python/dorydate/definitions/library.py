@@ -179,7 +179,7 @@ class Library:
         return self.word(name)
 
     def word(self, name: str) -> Meaning:
-        """A word of the library: as the module of words defines it, or else by its name alone."""
+        """A word of the library: as the module of words defines it, or else only its name."""
         if self.has(WORDS) and (name in self.module(WORDS).own or name in self.module(WORDS).forms):
             return self.found(WORDS, name)
         return Word(name)

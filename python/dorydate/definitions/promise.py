@@ -1,8 +1,8 @@
 """Checks a log against the promise, clause by clause. The clauses and all that they say are read from the definitions.
 
-A log doesn't say all that a book has. Of a life that continues it doesn't say whether somebody has closed it: it counts as
-open, unless what crossed doesn't leave it that. Contacts don't cross: those are looked for which leave lives that were reset
-their fates, each as late as can be.
+A log doesn't say all that a book has. Of a life that continues it doesn't say whether somebody has closed it: it counts
+as open, unless what crossed doesn't leave it that. Contacts don't cross: those are looked for which leave lives that
+were reset their fates, each as late as can be.
 """
 
 from __future__ import annotations

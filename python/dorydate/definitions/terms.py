@@ -20,7 +20,7 @@ class Number:
 
 @dataclass(frozen=True)
 class Text:
-    """A string, which stands for the codes of its characters."""
+    """A string, which means the codes of its characters."""
 
     value: str
 

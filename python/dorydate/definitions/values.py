@@ -97,7 +97,7 @@ def items_of(values: Data) -> Iterator[Value]:
 
 
 def applied(function: Value, arguments: tuple[Value, ...]) -> Value:
-    """What a function gives of some arguments, or one that takes the rest; or a constructor with more of its arguments."""
+    """What a function gives of some arguments, or one that takes the rest; or a constructor with more arguments."""
     while arguments:
         if type(function) is Data:
             return data(function.form, *function.parts, *arguments)

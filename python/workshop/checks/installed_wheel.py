@@ -174,7 +174,8 @@ def check_page(tree: str, folder: str, commit: str) -> None:
 def check_built_again(folder: str, wheel: str, commit: str) -> None:
     """The commit that a release names gives its page and its wheel again."""
     with tempfile.TemporaryDirectory() as room:
-        archive = subprocess.run(["git", "archive", commit, *PARTS, "crates"], cwd=ROOT, capture_output=True, check=False)
+        parts = ["git", "archive", commit, *PARTS, "crates"]
+        archive = subprocess.run(parts, cwd=ROOT, capture_output=True, check=False)
         if archive.returncode:
             print(f"check release: commit {commit[:8]} is not in this clone, so page and wheel were not made again")
             return

@@ -3,8 +3,8 @@
 Whoever doubts the prover may read the definitions with something else: ./check second
 
 The evaluator of `python/dorydate/definitions` knows how definitions compute and how a statement of given values is
-searched, and no rule of the network. It judges 1,000 logs, by hand, of the examples and of random books with strangers and
-without, and so does `--audit`: each part has to be the same.
+searched, and no rule of the network. It judges 1,000 logs, by hand, of the examples and of random books with strangers
+and without, and so does `--audit`: each part has to be the same.
 """
 
 from __future__ import annotations

@@ -77,8 +77,8 @@ class Pages(unittest.TestCase):
         self.assertEqual(paragraphs.joined("```\na\nb\n```\n\n    code\n    more\n"), "```\na\nb\n```\n\n    code\n    more\n")
 
     def test_pages_that_are_too_long_are_named(self) -> None:
-        self.assertEqual(paragraphs.too_long({"README.md": "word " * 900, "docs/a.md": "word " * 71_500}), [])
-        self.assertEqual(paragraphs.too_long({"README.md": "word " * 901, "docs/a.md": "word " * 71_500}), ["README.md: 901 words, of at most 900", "all pages: 72,401 words, of at most 72,400"])
+        self.assertEqual(paragraphs.too_long({"README.md": "word " * 900, "docs/a.md": "word " * 71_520}), [])
+        self.assertEqual(paragraphs.too_long({"README.md": "word " * 901, "docs/a.md": "word " * 71_520}), ["README.md: 901 words, of at most 900", "all pages: 72,421 words, of at most 72,420"])
 
     def test_headings_have_the_anchors_of_the_web(self) -> None:
         with tempfile.NamedTemporaryFile("w", suffix=".md", encoding="utf-8") as file:

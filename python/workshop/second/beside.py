@@ -102,7 +102,7 @@ def compared(log: tuple[str, bytes]) -> tuple[Counter[str], list[str]]:
         seen[f"{part}: {'broken' if is_broken else 'kept'} by both"] += is_broken == bool(fails)
         if is_broken != bool(fails):
             wrong.append(
-                f"{name}: the audit says {said.split(chr(10))}, and by the definitions {fails or 'none'} of {part} is broken"
+                f"{name}: the audit says {said.split(chr(10))}, and by the definitions {fails} of {part} are broken"
             )
 
     for part, names in PARTS.items():
