@@ -3,6 +3,7 @@
 from __future__ import annotations
 
 import glob
+import itertools
 import multiprocessing
 import os
 import subprocess
@@ -33,31 +34,39 @@ PARTS = {
 UNLESS_MALFORMED = ("partners", "streams", "grants", "closes")  # an audit doesn't judge these of a malformed log
 # of a log with strangers *toward* is of lives with them only, and what the promise says there is of all lives
 TOWARD = ("streams", "grants", "toward")
-TOWARD_PARTS = ("toward.owner", "toward.taken", "toward.handed", "among.safe.streams", "among.safe.grants")
+TOWARD_PARTS = (
+    "toward.owner",
+    "toward.taken",
+    "toward.handed",
+    *(f"among.{it}" for it in (*PARTS["streams"], *PARTS["grants"])),
+)
 
 
 def logs(count: int) -> Iterator[tuple[str, bytes]]:
     """Some logs, each with what it is of."""
-    found = made_by_hand()
-    for name, octets in found:
-        count -= 1
-        yield name, octets
+    for name, octets in itertools.chain(made_by_hand(), random_logs()):
+        if count and octets.count(b"\n") <= MOST_LINES and is_log(octets):
+            count -= 1
+            yield name, octets
         if not count:
             return
-    kinds = {
-        "world": lambda seed: of_world(seed)[1],
-        "small": small,
-        "mixed": lambda seed: of_mixed_world(seed)[1],
-        "small mixed": small_mixed,
-    }
-    seed = 0
-    while count:
-        for kind, make in kinds.items():
-            octets = spelled_log(make(seed))
-            if count and octets.count(b"\n") <= MOST_LINES:
-                count -= 1
-                yield f"{kind} {seed}", octets
-        seed += 1
+
+
+def is_log(octets: bytes) -> bool:
+    try:
+        read_log(octets)
+    except BadLog:
+        return False
+    return True
+
+
+def random_logs() -> Iterator[tuple[str, bytes]]:
+    """Logs of random books, of worlds and small ones, without strangers and with them."""
+    for seed in itertools.count():
+        yield f"world {seed}", spelled_log(of_world(seed)[1])
+        yield f"small {seed}", spelled_log(small(seed))
+        yield f"mixed {seed}", spelled_log(of_mixed_world(seed)[1])
+        yield f"small mixed {seed}", spelled_log(small_mixed(seed))
 
 
 def made_by_hand() -> Iterator[tuple[str, bytes]]:
@@ -65,13 +74,9 @@ def made_by_hand() -> Iterator[tuple[str, bytes]]:
     yield from (("by hand", octets) for octets, _ in log_rows.rows())
     yield from (("of the audit's page", octets) for octets, _ in log_rows.rows_of_page())
     for path in sorted(glob.glob(f"{ROOT}/logs/*")) + sorted(glob.glob(f"{ROOT}/examples/*")):
-        if "." in os.path.basename(path):
-            continue
-        octets = read_octets(path)
-        if b"\n%\n" in octets:
-            octets = audited(octets, "--log")
-        if octets and octets.count(b"\n") <= MOST_LINES:
-            yield os.path.relpath(path, ROOT), octets
+        if "." not in os.path.basename(path):
+            octets = read_octets(path)
+            yield os.path.relpath(path, ROOT), audited(octets, "--log") if b"\n%\n" in octets else octets
 
 
 def audited(octets: bytes, option: str = "--audit") -> bytes:
@@ -84,10 +89,7 @@ def audited(octets: bytes, option: str = "--audit") -> bytes:
 def compared(log: tuple[str, bytes]) -> tuple[Counter[str], list[str]]:
     """How often parts agree, by what they are, and where they don't."""
     name, octets = log
-    try:
-        book = read_log(octets)
-    except BadLog:
-        return Counter({"not read": 1}), []
+    book = read_log(octets)
     said = audited(octets).decode()
     broken = {line.split()[1] for line in said.splitlines() if line.startswith("broken")}
     judged = {it.part.name: it.holds for it in deeply(lambda: [*JUDGE.judged(book)])}
