@@ -1,13 +1,13 @@
 """Says what ./arpasim prints on an input, line by line, and why: ./explain [--chart [--short]] < FILE
 
 For each line of the script it prints the line's number in the file, what the program printed for it, and what that
-means: also what a message says, and what an event does inside the network. For a refused event it names the cause. For an
-input that the program refuses it says what is probably wrong. With --chart it writes a sequence chart in Mermaid's
-language instead, which GitHub and GitLab draw; with --short it draws one arrow for each message, and leaves out RFNMs and
-most of what users learn. With --book it says what the promise says of one life or one message: LINE is its line in the
-log, and without it they are listed; FILE is a log, or an input. With --promise it checks such a file against each clause
-of the promise, by its definitions (docs/audit.md). With --page it writes a page for a browser (docs/workbench.md).
-Its exit status is that of the program.
+means: also what a message says, and what an event does inside the network. For a refused event it names the cause.
+For an input that the program refuses it says what is probably wrong. With --chart it writes a sequence chart in
+Mermaid's language instead, which GitHub and GitLab draw; with --short it draws one arrow for each message, and
+leaves out RFNMs and most of what users learn. With --book it says what the promise says of one life or one message:
+LINE is its line in the log, and without it they are listed; FILE is a log, or an input. With --promise it checks
+such a file against each clause of the promise, by its definitions (docs/audit.md). With --page it writes a page for
+a browser (docs/workbench.md). Its exit status is that of the program.
 
 Which script line printed what the program itself says, in a run with refused events between those of the script
 (dorydate.marks).

@@ -1,4 +1,4 @@
-"""What `./explain --promise` says of a log: whether each part of the promise holds, and what breaks one that doesn't."""
+"""What `./explain --promise` says of a log: whether each part of the promise holds, and what breaks it."""
 
 from __future__ import annotations
 
