@@ -1,11 +1,12 @@
-//! Reads the octets that standard input names, a line each, and prints what each reader gives.
+//! Reads octets, and prints what each reader gives.
 //!
-//! A line is a reader and octets: `from_host` or `from_imp` (a leader), `packet`, `frame`, `command`, or `commands` (a whole
+//! A block begins with `readers`. A row is a reader and octets: `from_host` or `from_imp` (a leader), `packet`, `frame`, `command`, or `commands` (a whole
 //! control text); or `header` or `body`, a number of bits, and their octets. Printed is what was read, and behind ` = ` how that
 //! is written again; or the fault. Behind a command its octets stand in brackets. The commands of a control text are printed one
 //! after the other, up to its end or to the fault that ends reading.
 //! `check readers` compares all this with an independent reader of the formats.
 
+use crate::Layer;
 use crate::words::{Words, spell_bits, spell_octets};
 use imp_channel::{Content, Frame};
 use interface::{Answer, Flow};
@@ -14,15 +15,15 @@ use ncp_control::{Command, ControlFault, DataHeader, read_one};
 use packetiser::{Packet, PacketKind};
 use std::alloc::Global;
 
-/// What is printed for the octets on each line.
-pub fn made(alloc: Global, lines: &str, said: &mut String) -> Option<()> {
-    for line in lines.lines() {
-        let mut words = Words { rest: line };
+/// All readers.
+#[derive(Drop)]
+pub struct Readers;
+
+impl Layer for Readers {
+    fn call(&mut self, alloc: Global, mut words: Words<'_>, answer: &mut String) -> Option<()> {
         let reader = words.word()?;
-        tell_reading(alloc, reader, words, said)?;
-        said.push_str("\n").ok()?;
+        tell_reading(alloc, reader, words, answer)
     }
-    Some(())
 }
 
 /// What a reader gives.
@@ -37,7 +38,7 @@ fn tell_reading(alloc: Global, reader: &str, mut words: Words<'_>, said: &mut St
                     tell_packet(alloc, said, &packet)?;
                     tell_written(alloc, said, &packet.write(alloc).ok()?)
                 }
-                Err(fault) => write!(said, "{fault:?}").ok(),
+                Err(fault) => write!(said, "{fault}").ok(),
             }
         }
         "frame" => {
@@ -47,7 +48,7 @@ fn tell_reading(alloc: Global, reader: &str, mut words: Words<'_>, said: &mut St
                     tell_frame(alloc, said, &frame)?;
                     tell_written(alloc, said, &frame.write(alloc).ok()?)
                 }
-                Err(fault) => write!(said, "{fault:?}").ok(),
+                Err(fault) => write!(said, "{fault}").ok(),
             }
         }
         "command" => tell_command(alloc, said, &words.octets(alloc)?),
@@ -65,7 +66,7 @@ fn tell_reading(alloc: Global, reader: &str, mut words: Words<'_>, said: &mut St
                 said.push_str(" = ").ok()?;
                 spell_bits(alloc, said, &text.pad16(alloc).ok()?)
             }
-            Err(fault) => write!(said, "{fault:?}").ok(),
+            Err(fault) => write!(said, "{fault}").ok(),
         },
         _ => None,
     }
@@ -81,8 +82,7 @@ fn tell_written(alloc: Global, said: &mut String, octets: &[u8]) -> Option<()> {
 fn tell_leader(alloc: Global, said: &mut String, read: Result<Leader, LeaderFault>) -> Option<()> {
     let leader = match read {
         Ok(leader) => leader,
-        Err(LeaderFault::UnknownType(kind)) => return write!(said, "UnknownType {kind}").ok(),
-        Err(fault) => return write!(said, "{fault:?}").ok(),
+        Err(fault) => return write!(said, "{fault}").ok(),
     };
     match leader {
         Leader::Nop => said.push_str("nop").ok()?,
@@ -176,12 +176,11 @@ fn tell_commands(alloc: Global, said: &mut String, octets: &[u8]) -> Option<()> 
 
 /// Why octets begin with no command.
 fn tell_fault(said: &mut String, fault: ControlFault) -> Option<()> {
-    match fault {
-        ControlFault::IllegalCode { quoted } => write!(said, "IllegalCode {quoted}").ok(),
-        ControlFault::Short { quoted } => write!(said, "Short {quoted}").ok(),
-        ControlFault::Erroneous { quoted } => write!(said, "Erroneous {quoted}").ok(),
-        ControlFault::OutOfMemory => None,
-    }
+    let quoted = match fault {
+        ControlFault::IllegalCode { quoted } | ControlFault::Short { quoted } | ControlFault::Erroneous { quoted } => quoted,
+        ControlFault::OutOfMemory => return None,
+    };
+    write!(said, "{fault} {quoted}").ok()
 }
 
 /// A command that was read, and how it is written, which has to be as many octets as were read.

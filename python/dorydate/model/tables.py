@@ -60,10 +60,10 @@ class Exchange:
         heard = "-" if self.heard is None else str(self.heard)
         return " ".join([str(self.count), str(rounds), heard, *(f"{a}-{b}" for a, b in self.lines)])
 
-    def owed(self, rounds: int) -> str:
-        """What tools/calls has to print for it."""
-        return "".join(
+    def owed(self, rounds: int) -> list[str]:
+        """What tools/calls has to print for it, an IMP a line."""
+        return [
             f"{' '.join(map(str, self.distances(imp, rounds)))} / "
-            f"{' '.join('-' if port is None else str(port) for port in self.next_lines(imp, rounds))};"
+            f"{' '.join('-' if port is None else str(port) for port in self.next_lines(imp, rounds))}"
             for imp in self.near
-        )
+        ]
