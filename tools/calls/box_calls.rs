@@ -62,7 +62,8 @@ fn happened(alloc: Global, boxes: &mut PlainBoxes, name: &str, mut words: Words<
         "out" => {
             let flow = words.flow()?;
             let text = Text::new(words.bits(alloc)?)?;
-            return Some(boxes.offer_out(HostMessage { flow, text }));
+            let message = HostMessage { flow, text };
+            return Some(boxes.offer_out(message.clone().ok()?));
         }
         "calm" => return Some(boxes.quiet_round()),
         "giveup" => NetEvent::GiveUp(words.flow()?),

@@ -2,7 +2,7 @@
 //!
 //! A block begins with `routes IMP PORTS`, where nothing is heard. `hear PORT DISTANCES` and `lost PORT` change the table. Printed are its distances
 //! to IMPs 1 to 63, as octets, and then the ports of the next lines to IMPs, as `IMP:PORT` or `FIRST-LAST:PORT`. `vector OCTETS` tells whether
-//! these are distances, and `same OCTETS OCTETS` whether two such lists are the same.
+//! these are distances, `same OCTETS OCTETS` and `equal OCTETS OCTETS` whether two such lists are the same.
 
 use crate::Layer;
 use crate::words::{Words, spell_octets};
@@ -43,6 +43,7 @@ impl Layer for RouteTable {
                 let second = vector(alloc, &mut words)?;
                 return write!(answer, "{}", first.is_same(&second)).ok();
             }
+            "equal" => return write!(answer, "{}", vector(alloc, &mut words)? == vector(alloc, &mut words)?).ok(),
             _ => return None,
         }
         tell_table(alloc, answer, self)

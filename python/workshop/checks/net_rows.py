@@ -326,7 +326,7 @@ class RouteRows:
         match name, words:
             case "vector", [digits]:
                 return [digits if is_vector(octets_in(digits)) else "nothing"]
-            case "same", [first, second]:
+            case "same" | "equal", [first, second]:
                 return [told(first == second)]
             case "hear", [port, digits]:
                 self.state.ports[int(port)].heard = [*octets_in(digits)]
