@@ -7,6 +7,7 @@ call the rows that begin with `= `. A file is its own output.
 from __future__ import annotations
 
 import glob
+import os
 import re
 from collections.abc import Iterable, Iterator
 from dataclasses import dataclass, field
@@ -121,6 +122,16 @@ def blocks_of(text: str) -> list[Block]:
             block.parts.append((times, rows))
         else:
             rows.append(Row(line, number))
+    return found
+
+
+def named() -> dict[str, tuple[str, int]]:
+    """The names of rows, each with its file and line: what a comment above them says, with low lines between its words."""
+    found: dict[str, tuple[str, int]] = {}
+    for path in files().values():
+        for number, line in enumerate(text_of(path).splitlines(), 1):
+            if line.startswith(COMMENT):
+                found.setdefault(re.sub(r"\W+", "_", line.removeprefix(COMMENT).strip()).lower(), (os.path.relpath(path, ROOT), number))
     return found
 
 

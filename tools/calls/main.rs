@@ -10,15 +10,26 @@
 //! `./check rows` compares what is printed for stored rows with the rows, and the checks of single layers do so for random ones.
 #![tactic(auto)]
 
+mod allocation_calls;
+mod bit_calls;
+mod box_calls;
+mod fault_calls;
+mod flow_calls;
 mod host_calls;
 mod imp_calls;
+mod line_calls;
+mod piece_calls;
 mod reader_calls;
+mod route_calls;
 mod service_calls;
 mod subnet_calls;
 mod table_calls;
 mod words;
+mod writer_calls;
 
 use crate::words::Words;
+use link_table::{DestFlows, SourceFlows};
+use packetiser::Reassembly;
 use std::alloc::Global;
 use std::io::Read;
 
@@ -76,6 +87,16 @@ fn said_before(rows: &[&str], said: &mut String) -> Option<usize> {
 fn played(alloc: Global, opening: &str, rows: &[&str], said: &mut String) -> Option<()> {
     let mut words = Words { rest: opening };
     match words.word()? {
+        "allocation" => play(alloc, &mut allocation_calls::opened()?, rows, said),
+        "bits" => play(alloc, &mut bit_calls::opened(alloc), rows, said),
+        "boxes" => play(alloc, &mut box_calls::opened(alloc, words)?, rows, said),
+        "destinations" => play(alloc, &mut DestFlows::new(alloc), rows, said),
+        "faults" => play(alloc, &mut fault_calls::Faults, rows, said),
+        "line" => play(alloc, &mut line_calls::opened(alloc)?, rows, said),
+        "pieces" => play(alloc, &mut Reassembly::new(alloc).ok()?, rows, said),
+        "routes" => play(alloc, &mut route_calls::opened(alloc, words)?, rows, said),
+        "sources" => play(alloc, &mut SourceFlows::new(alloc), rows, said),
+        "writers" => play(alloc, &mut writer_calls::Writers, rows, said),
         "imp" => play(alloc, &mut imp_calls::opened(alloc, words)?, rows, said),
         "tables" => play(alloc, &mut table_calls::Tables, rows, said),
         "readers" => play(alloc, &mut reader_calls::Readers, rows, said),

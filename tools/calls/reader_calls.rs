@@ -21,9 +21,83 @@ pub struct Readers;
 
 impl Layer for Readers {
     fn call(&mut self, alloc: Global, mut words: Words<'_>, answer: &mut String) -> Option<()> {
-        let reader = words.word()?;
-        tell_reading(alloc, reader, words, answer)
+        match words.word()? {
+            "fronts" => tell_fronts(alloc, answer, words.word()?, &words.octets(alloc)?),
+            "changed" => {
+                let value = *words.octets(alloc)?.first()?;
+                tell_changed(alloc, answer, value, words.word()?, &words.octets(alloc)?)
+            }
+            reader => tell_reading(alloc, reader, words, answer),
+        }
     }
+}
+
+/// What a reader gives for each shorter front of octets, the empty one first.
+fn tell_fronts(alloc: Global, said: &mut String, reader: &str, octets: &[u8]) -> Option<()> {
+    let mut runs = Runs { last: String::new(alloc), count: 0 };
+    for length in 0..octets.len() {
+        runs.put(said, short_reading(alloc, reader, octets.get(..length)?)?)?;
+    }
+    runs.end(said)
+}
+
+/// What a reader gives for octets of which each is changed to a value, the first one first.
+fn tell_changed(alloc: Global, said: &mut String, value: u8, reader: &str, octets: &[u8]) -> Option<()> {
+    let mut runs = Runs { last: String::new(alloc), count: 0 };
+    for place in 0..octets.len() {
+        let mut changed = octets.to_vec(alloc).ok()?;
+        changed[place] = value;
+        runs.put(said, short_reading(alloc, reader, &changed)?)?;
+    }
+    runs.end(said)
+}
+
+/// Readings that come one after the other: the last one, and how often it came.
+#[derive(Drop)]
+struct Runs {
+    last: String,
+    count: usize,
+}
+
+impl Runs {
+    /// Prints the last reading where this is another one.
+    fn put(&mut self, said: &mut String, next: String) -> Option<()> {
+        if self.count > 0 && next.as_str() != self.last.as_str() {
+            self.end(said)?;
+            said.push_str(", ").ok()?;
+            self.count = 0;
+        }
+        self.last = next;
+        self.count += 1;
+        Some(())
+    }
+
+    /// Prints the last reading, and how often it came.
+    fn end(&self, said: &mut String) -> Option<()> {
+        match self.count {
+            0 => said.push_str("nothing").ok(),
+            1 => said.push_str(&self.last).ok(),
+            count => write!(said, "{count} times {}", self.last).ok(),
+        }
+    }
+}
+
+/// What a reader gives: `read` where that is written as the same octets.
+fn short_reading(alloc: Global, reader: &str, octets: &[u8]) -> Option<String> {
+    let mut row = String::new(alloc);
+    spell_octets(alloc, &mut row, octets)?;
+    let mut reading = String::new(alloc);
+    tell_reading(alloc, reader, Words { rest: &row }, &mut reading)?;
+    let is_same = match (reading.split_once(" = "), reading.split_once(" (")) {
+        (Some((_, written)), _) => written == row.as_str(),
+        (None, Some((_, written))) => written.strip_suffix(')') == Some(row.as_str()),
+        (None, None) => false,
+    };
+    if is_same {
+        reading.clear();
+        reading.push_str("read").ok()?;
+    }
+    Some(reading)
 }
 
 /// What a reader gives.
@@ -36,7 +110,7 @@ fn tell_reading(alloc: Global, reader: &str, mut words: Words<'_>, said: &mut St
             match Packet::read(alloc, &octets) {
                 Ok(packet) => {
                     tell_packet(alloc, said, &packet)?;
-                    tell_written(alloc, said, &packet.write(alloc).ok()?)
+                    tell_written(alloc, said, &packet.clone().ok()?.write(alloc).ok()?)
                 }
                 Err(fault) => write!(said, "{fault}").ok(),
             }
@@ -46,7 +120,7 @@ fn tell_reading(alloc: Global, reader: &str, mut words: Words<'_>, said: &mut St
             match Frame::read(alloc, &octets) {
                 Ok(frame) => {
                     tell_frame(alloc, said, &frame)?;
-                    tell_written(alloc, said, &frame.write(alloc).ok()?)
+                    tell_written(alloc, said, &frame.clone().ok()?.write(alloc).ok()?)
                 }
                 Err(fault) => write!(said, "{fault}").ok(),
             }
@@ -190,7 +264,7 @@ fn tell_read(alloc: Global, said: &mut String, command: &Command, used: usize) -
     said.push_str(" (").ok()?;
     spell_octets(alloc, said, &written)?;
     said.push_str(")").ok()?;
-    if used != written.len() { write!(said, " of {used} octets").ok() } else { Some(()) }
+    if used != written.len() || used != command.spelled_len() { write!(said, " of {used} octets").ok() } else { Some(()) }
 }
 
 /// A command's name and fields.

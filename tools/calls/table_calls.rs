@@ -1,10 +1,11 @@
 //! Lets the tables of networks exchange their distances, each network a row, and prints what they say then.
 //!
 //! A block begins with `tables`. A row is the number of IMPs, the number of rounds, the distance to every IMP that each port has heard at first (`-` for
-//! nothing), and the lines of the network, as `IMP-IMP`. Printed is for each IMP its distances to all IMPs and behind `/` its
-//! next lines to them. `check imp` compares all this with an independent model of the rules.
+//! nothing), and the lines of the network, as `IMP-IMP`. Printed is for each IMP what
+//! its table says then, as in `routes`. `check imp` compares all this with an independent model of the rules.
 
 use crate::Layer;
+use crate::route_calls::tell_table;
 use crate::words::Words;
 use interface::MOST_IMPS;
 use routing::{RouteTable, Vector, settle};
@@ -27,7 +28,8 @@ impl Layer for Tables {
         let mut tables = opened(alloc, count, &graph, heard)?;
         settle(alloc, &graph, &mut tables, rounds).ok()?;
         for table in tables.iter() {
-            tell_table(answer, table)?;
+            tell_table(alloc, answer, table)?;
+            answer.push_str("\n").ok()?;
         }
         Some(())
     }
@@ -48,19 +50,4 @@ fn opened(alloc: Global, count: u8, graph: &[(u8, u8)], heard: Option<u8>) -> Op
         tables.push(table).ok()?;
     }
     Some(tables)
-}
-
-/// What a table says of each IMP that there can be.
-fn tell_table(said: &mut String, table: &RouteTable) -> Option<()> {
-    for distance in table.vector().distances() {
-        write!(said, "{distance} ").ok()?;
-    }
-    said.push_str("/").ok()?;
-    for place in 0..MOST_IMPS {
-        match table.next(place as u8 + 1) {
-            Some(port) => write!(said, " {port}").ok()?,
-            None => said.push_str(" -").ok()?,
-        }
-    }
-    said.push_str("\n").ok()
 }

@@ -31,6 +31,7 @@ from dorydate.model.packets import (
 from workshop.builds.drivers import run_cases, write_case
 from workshop.checks.imp_rows import ImpRows, open_imp
 from workshop.checks.imp_tables import open_tables, table_rows
+from workshop.checks.net_rows import open_net
 from workshop.checks.readings import read_stored
 from workshop.rows import spelled
 
@@ -193,6 +194,7 @@ def main() -> int:
     runs = int(sys.argv[1]) if len(sys.argv) > 1 else RUNS
     networks = [*table_rows()]
     is_stored = read_stored("imp", open_imp, "imp") & read_stored("imp", open_tables, "tables")
+    is_stored &= read_stored("imp", open_net, "line", "pieces", "sources", "destinations", "routes")
     with tempfile.TemporaryDirectory() as folder:
         seen = with_cases(folder, runs)
         write_case(folder, "tables", ["tables", *(row for asked, owed in networks for row in spelled(asked, owed))])

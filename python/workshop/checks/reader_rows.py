@@ -2,7 +2,8 @@
 
 from __future__ import annotations
 
-from collections.abc import Callable
+from collections.abc import Callable, Iterable
+from itertools import groupby
 from typing import Any
 
 from dorydate.model import formats
@@ -43,16 +44,40 @@ def said_of(reader: str, given: object) -> str:
     return said
 
 
+def octets_in(digits: str) -> bytes:
+    """The octets that a word spells."""
+    return bytes.fromhex(digits.replace("-", ""))
+
+
+def in_short(reader: str, octets: bytes) -> str:
+    """What a reader says: `read` where that is written as the same octets."""
+    said = said_of(reader, octets)
+    return "read" if said.endswith((f" = {octets.hex().upper()}", f" ({octets.hex().upper()})")) else said
+
+
+def in_runs(reader: str, rows: Iterable[bytes]) -> str:
+    """What a reader says of octets one after the other, in short, the same together."""
+    runs = [(said, len([*same])) for said, same in groupby(in_short(reader, octets) for octets in rows)]
+    return ", ".join(said if count == 1 else f"{count} times {said}" for said, count in runs) or "nothing"
+
+
 class ReaderRows:
     """All readers."""
 
     def answers(self, call: str, wanted: list[str]) -> list[str]:
+        match call.split(" "):
+            case ["fronts", reader, digits]:
+                octets = octets_in(digits)
+                return [in_runs(reader, (octets[:length] for length in range(len(octets))))]
+            case ["changed", value, reader, digits]:
+                octets = octets_in(digits)
+                return [in_runs(reader, (octets[:at] + octets_in(value) + octets[at + 1 :] for at in range(len(octets))))]
         reader, *words = call.split(" ")
         if reader not in READERS:
             raise Unread(reader)
         if reader in OF_BITS:
             return [said_of(reader, read_bits(words[0], words[1]))]
-        return [said_of(reader, bytes.fromhex(words[0].replace("-", "")))]
+        return [said_of(reader, octets_in(words[0]))]
 
 
 def open_readers(call: str) -> tuple[Reading, list[str]]:

@@ -29,6 +29,8 @@ from dorydate.model.bits import Bits, bits_of, spell_bits
 from dorydate.model.runs import End
 from dorydate.model.inputs import ends
 from workshop.builds.drivers import run_cases, write_case
+from workshop.checks.format_rows import open_formats
+from workshop.checks.net_rows import open_net
 from workshop.checks.reader_rows import OF_BITS, READERS, TEXTS, open_readers, said_of
 from workshop.checks.readings import read_stored
 from workshop.parts import any_program
@@ -298,6 +300,7 @@ def main() -> int:
         print("check readers: there is no program of these sources")
         return 1
     wrong = check_inputs(program) + (not read_stored("readers", open_readers, "readers"))
+    wrong += (not read_stored("readers", open_formats, "bits", "writers", "allocation")) + (not read_stored("readers", open_net, "boxes"))
     if shutil.which("rt"):
         wrong += check_octets()
     else:

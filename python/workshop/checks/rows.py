@@ -20,6 +20,8 @@ from workshop.rows import BadRow, blocks_of, files
 READ_BY = {
     "imp": "imp", "tables": "imp", "subnet": "subnet", "hosts": "hosts", "readers": "readers",
     **dict.fromkeys(("server", "user", "echo", "terminal"), "services"),
+    **dict.fromkeys(("allocation", "bits", "boxes", "writers"), "readers"),
+    **dict.fromkeys(("destinations", "line", "pieces", "routes", "sources"), "imp"),
 }  # fmt: skip
 
 
