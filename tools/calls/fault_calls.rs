@@ -7,13 +7,16 @@ use crate::Layer;
 use crate::words::Words;
 use bit_messages::BitFault;
 use imp_channel::ChannelFault;
+use icp::{Failure, StartFault};
 use interface::CarrierFault;
 use leader1822::LeaderFault;
 use link_table::FlowFault;
 use ncp_control::ControlFault;
 use packetiser::PacketFault;
+use sockets::NcpFault;
 use std::alloc::Global;
 use std::fmt::Display;
+use terminal::TerminalFault;
 
 /// All types of faults.
 #[derive(Drop)]
@@ -62,6 +65,27 @@ impl Layer for Faults {
                     CarrierFault::OutOfMemory,
                 ],
             ),
+            "programs" => tell(
+                answer,
+                &[
+                    NcpFault::NotContacted,
+                    NcpFault::WrongEnd,
+                    NcpFault::InUse,
+                    NcpFault::NoSuchSocket,
+                    NcpFault::NotOpen,
+                    NcpFault::BadSize,
+                    NcpFault::Closing,
+                    NcpFault::NoLink,
+                    NcpFault::OverGrant,
+                    NcpFault::OutOfMemory,
+                ],
+            ),
+            "starts" => tell(answer, &[StartFault::BadSocket, StartFault::OutOfMemory]),
+            "failures" => tell(
+                answer,
+                &[Failure::Refused, Failure::Reset, Failure::Stranger, Failure::BadSocket, Failure::Local(NcpFault::InUse)],
+            ),
+            "terminals" => tell(answer, &[TerminalFault::NotPrintable, TerminalFault::OutOfMemory]),
             _ => None,
         }
     }

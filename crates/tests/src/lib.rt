@@ -7,3 +7,5 @@
 
 #[cfg(test)]
 mod derived;
+#[cfg(test)]
+mod numbers;
