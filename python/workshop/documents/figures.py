@@ -103,7 +103,7 @@ def stops() -> int:
 
 def octet_sequences() -> int:
     """How many sequences of octets `./check readers` gives to the readers."""
-    return sum(len(readers.lines_of(reader, spelled)[0]) for reader, spelled, _ in readers.WORKED)
+    return sum(len(readers.rows_of(reader, spelled)) for reader, spelled, _ in readers.WORKED)
 
 
 def searches() -> list[Row]:
