@@ -1,6 +1,6 @@
 """Stored rows: calls on single layers, and what each has to answer (cases/calls/NAME.rows).
 
-tools/calls/main.rs says what a file is: blocks with an empty line between two, the first row of which opens a layer, and behind each
+tools/calls/main.rs says what a file is: blocks with an empty line between two, the first row of which opens a layer, and after each
 call the rows that begin with `= `. A file is its own output.
 """
 
@@ -27,7 +27,7 @@ PARTS = re.compile(rf"(?<![0-9A-Za-z*]){PART}(?:,{PART})*(?![0-9A-Za-z*])")
 
 @dataclass
 class Row:
-    """A call, the line of its file in which it stands, what has to come of it, and how often it is made."""
+    """A call, the line of its file, what has to come of it, and how often it is made."""
 
     call: str
     line: int
@@ -37,7 +37,7 @@ class Row:
 
 @dataclass
 class Block:
-    """The row that opens a layer, and the rows of calls on it. What stands between `repeat COUNT` and `end` is a list of its own, with its count."""
+    """The row that opens a layer, and the rows of calls on it: those between `repeat COUNT` and `end` are a list with its count."""
 
     opening: Row
     parts: list[tuple[int, list[Row]]] = field(default_factory=list)
@@ -59,10 +59,10 @@ def spelled_runs(found: re.Match[str]) -> str:
     """Digits with each run of an octet spelled once."""
     parts: list[str] = []
     for run in RUN.finditer(found[0]):
-        alone, octet = run[1], run[2]
-        parts += [alone] * bool(alone)
+        single, octet = run[1], run[2]
+        parts += [single] * bool(single)
         if octet:
-            parts.append(f"{octet}*{(len(run[0]) - len(alone)) // 2}")
+            parts.append(f"{octet}*{(len(run[0]) - len(single)) // 2}")
     return ",".join(parts)
 
 

@@ -1,7 +1,8 @@
 //! Calls on hosts' programs.
 //!
 //! A block begins with `hosts` and the hosts, as `HOST/IMP`. Every row has the place of a host in it and a call with its arguments,
-//! as `0 listen 33 8`; with `ask` before it the call is made as a request. What comes in is written `accept STAMP message FLOW BITS OCTETS` or
+//! as `0 listen 33 8`. Each call of a user is made by its name, and as a request on a second program of that host: where that answers something else,
+//! it is printed too. What comes in is written `accept STAMP message FLOW BITS OCTETS` or
 //! `accept STAMP rfnm FLOW`. Answers are `ok` or `refused FAULT`, each notice, and what `next_out` gives then.
 //! `check hosts` compares all this with an independent model of the rules.
 
@@ -15,32 +16,53 @@ use std::alloc::Global;
 #[derive(Drop)]
 pub struct Hosts {
     programs: Vec<Ncp>,
+    /// The same programs once more, whose users make requests.
+    asked: Vec<Ncp>,
 }
 
 /// The programs of the hosts that a block's first row names.
 pub fn opened(alloc: Global, mut words: Words<'_>) -> Option<Hosts> {
     let mut programs = Vec::new(alloc);
+    let mut asked = Vec::new(alloc);
     while !words.rest.is_empty() {
-        programs.push(Ncp::new(alloc, words.host()?)).ok()?;
+        let host = words.host()?;
+        programs.push(Ncp::new(alloc, host)).ok()?;
+        asked.push(Ncp::new(alloc, host)).ok()?;
     }
-    Some(Hosts { programs })
+    Some(Hosts { programs, asked })
 }
 
 impl Layer for Hosts {
     fn call(&mut self, alloc: Global, mut words: Words<'_>, answer: &mut String) -> Option<()> {
-        let host = self.programs.get_mut(words.place()?)?;
-        match called(alloc, host, words)? {
-            Ok(notices) => {
-                answer.push_str("ok").ok()?;
-                for notice in &notices {
-                    answer.push_str("\n").ok()?;
-                    tell(alloc, answer, notice)?;
-                }
+        let place = words.place()?;
+        let Words { rest } = words;
+        let by_name = answered(alloc, self.programs.get_mut(place)?, Words { rest }, false)?;
+        let as_request = answered(alloc, self.asked.get_mut(place)?, Words { rest }, true)?;
+        answer.push_str(&by_name).ok()?;
+        if as_request.as_str() != by_name.as_str() {
+            for part in as_request.lines() {
+                write!(answer, "\nas a request: {part}").ok()?;
             }
-            Err(fault) => write!(answer, "refused {fault}").ok()?,
         }
-        tell_next(alloc, host, answer)
+        Some(())
     }
+}
+
+/// What a program answers to a call, and what goes out next.
+fn answered(alloc: Global, host: &mut Ncp, words: Words<'_>, asks: bool) -> Option<String> {
+    let mut answer = String::new(alloc);
+    match called(alloc, host, words, asks)? {
+        Ok(notices) => {
+            answer.push_str("ok").ok()?;
+            for notice in &notices {
+                answer.push_str("\n").ok()?;
+                tell(alloc, &mut answer, notice)?;
+            }
+        }
+        Err(fault) => write!(answer, "refused {fault}").ok()?,
+    }
+    tell_next(alloc, host, &mut answer)?;
+    Some(answer)
 }
 
 /// What goes out next.
@@ -54,8 +76,9 @@ fn tell_next(alloc: Global, host: &Ncp, answer: &mut String) -> Option<()> {
     }
 }
 
-/// Makes a call.
-fn called(alloc: Global, host: &mut Ncp, mut words: Words<'_>) -> Option<Result<Vec<Notice>, NcpFault>> {
+/// Makes a call: where it is one of the user and `asks` is true, as a request.
+fn called(alloc: Global, host: &mut Ncp, mut words: Words<'_>, asks: bool) -> Option<Result<Vec<Notice>, NcpFault>> {
+    let Words { rest } = words;
     let name = words.word()?;
     match name {
         "offered" => Some(host.offered(words.place()?)),
@@ -63,7 +86,7 @@ fn called(alloc: Global, host: &mut Ncp, mut words: Words<'_>) -> Option<Result<
             let stamp = words.place()?;
             Some(host.accept(inbound(alloc, words)?, stamp))
         }
-        "ask" => Some(host.ask(request(alloc, words)?)),
+        _ if asks => Some(host.ask(request(alloc, Words { rest })?)),
         "contact" => Some(host.contact(words.host()?)),
         _ => {
             let done = asked(alloc, host, name, words)?;

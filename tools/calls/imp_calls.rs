@@ -46,7 +46,7 @@ impl Layer for Imp {
 fn asked(alloc: Global, imp: &mut Imp, mut words: Words<'_>, answer: &mut String) -> Option<Option<()>> {
     let name = words.word()?;
     match name {
-        "query" => told(imp, words, answer)?,
+        "query" => tell_flow(imp, words, answer)?,
         "kept" => number_or_dash(answer, imp.kept(&words.flow()?))?,
         "awaits" => write!(answer, "{}", imp.awaits(words.imp()?)).ok()?,
         "is_up" => write!(answer, "{}", imp.is_up(words.octet()?)).ok()?,
@@ -152,7 +152,7 @@ pub fn refused(fault: CarrierFault, answer: &mut String) -> Option<()> {
 }
 
 /// Prints what is so of a flow and a number of it.
-fn told(imp: &Imp, mut words: Words<'_>, answer: &mut String) -> Option<()> {
+fn tell_flow(imp: &Imp, mut words: Words<'_>, answer: &mut String) -> Option<()> {
     let flow = words.flow()?;
     let number = words.message_number()?;
     let from = ImpNumber::new(flow.source.imp())?;

@@ -1,10 +1,10 @@
 //! Makes the calls that standard input names, a row each, and prints each row with what it answers.
 //!
 //! Input is text: blocks, with an empty line between two. A block's first row says of what the others are calls, as `imp 1 2 1` (the layers
-//! are in `played`; the module of each tells its rows). Behind a call stands what it answers, in rows that begin with `= `: these are passed
+//! are in `played`; the module of each has its rows). After a call is what it answers, in rows that begin with `= `: these are passed
 //! over, and what the call answers is printed in their place. Rows that begin with `# ` are only printed. So what is printed is an input with
 //! the same output. Rows between `repeat COUNT` and `end` are made so often; what they answer is printed once, and once more where
-//! they answer something else. Octets are in upper case hexadecimal, `-` for none, and `3F*61` stands for 61 octets 3F, with a comma between
+//! they answer something else. Octets are in upper case hexadecimal, `-` for none, and `3F*61` is 61 octets 3F, with a comma between
 //! two parts. Faults are printed by their texts.
 //!
 //! `./check rows` compares what is printed for stored rows with the rows, and the checks of single layers do so for random ones.
@@ -35,7 +35,7 @@ use std::io::Read;
 
 /// What calls are made of.
 pub trait Layer: Drop {
-    /// Makes the call of a row and puts what it answers behind `answer`, each part in a line of its own. `None` where the row is no call, or memory ran out.
+    /// Makes the call of a row and puts what it answers into `answer`, each part a line. `None` where the row is no call, or memory ran out.
     fn call(&mut self, alloc: Global, words: Words<'_>, answer: &mut String) -> Option<()>;
 }
 

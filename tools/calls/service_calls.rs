@@ -2,11 +2,11 @@
 //!
 //! A block's first row has the machine: `server LISTEN BASE`, `user PEER LISTEN OWN`, `echo RECEIVE SEND` or `terminal RECEIVE SEND`;
 //! it is answered by the first requests. Every other row is a notice of its host's program, as `opened 7 0/1 16 3 4`, or `refused`, which tells it that a request of
-//! it was refused. Answers are the requests, then the outcome or the lines that have ended, or `nothing`. `check services` compares all this with an independent model of the rules.
+//! it was refused; and of a terminal `type OCTETS` gives the line of a text. Answers are the requests, then the outcome or the lines that have ended, or `nothing`. `check services` compares all this with an independent model of the rules.
 
 use crate::Layer;
 use crate::words::{Words, spell_bits, spell_octets};
-use icp::{Outcome, Said, Server, StartFault, User};
+use icp::{Failure, Outcome, Said, Server, StartFault, User};
 use ncp_control::{ReceiveSocket, SendSocket};
 use sockets::{NcpFault, Notice, Request};
 use std::alloc::Global;
@@ -25,8 +25,20 @@ pub enum Machine {
 
 impl Layer for Machine {
     fn call(&mut self, alloc: Global, words: Words<'_>, answer: &mut String) -> Option<()> {
-        told(alloc, self, words, answer)?;
+        let Words { rest } = words;
+        match (self, rest.split_once(' ')) {
+            (Machine::Terminal(terminal), Some(("type", octets))) => return typed(alloc, terminal, Words { rest: octets }, answer),
+            (machine, _) => tell(alloc, machine, words, answer)?,
+        }
         or_nothing(answer)
+    }
+}
+
+/// Prints the line of a text that is typed.
+fn typed(alloc: Global, terminal: &LineTerminal, mut words: Words<'_>, answer: &mut String) -> Option<()> {
+    match terminal.line(&words.octets(alloc)?) {
+        Ok(line) => spell_octets(alloc, answer, &line),
+        Err(fault) => write!(answer, "refused {fault}").ok(),
     }
 }
 
@@ -80,7 +92,7 @@ fn or_nothing(answer: &mut String) -> Option<()> {
 }
 
 /// Tells a machine what a row says.
-fn told(alloc: Global, machine: &mut Machine, words: Words<'_>, answer: &mut String) -> Option<()> {
+fn tell(alloc: Global, machine: &mut Machine, words: Words<'_>, answer: &mut String) -> Option<()> {
     if words.rest == "refused" {
         let outcome = match machine {
             Machine::Server(server) => server.refused(NcpFault::InUse),
@@ -139,6 +151,7 @@ fn spell_outcome(answer: &mut String, outcome: Option<Outcome>) -> Option<()> {
     match outcome {
         None => Some(()),
         Some(Outcome::Done { receive, send }) => writeln!(answer, "done {} {}", receive.number(), send.number()).ok(),
+        Some(Outcome::Failed(Failure::Local(fault))) => writeln!(answer, "failed {}: {fault}", Failure::Local(fault)).ok(),
         Some(Outcome::Failed(failure)) => writeln!(answer, "failed {failure}").ok(),
     }
 }

@@ -107,7 +107,7 @@ impl<'a> Words<'a> {
     }
 }
 
-/// Puts the octets of a part behind those that are there: digits, or an octet and behind `*` how often it comes.
+/// Puts the octets of a part after those that are there: digits, or an octet, `*` and how often it comes.
 fn put_part(alloc: Global, part: &str, octets: &mut Vec<u8>) -> Option<()> {
     let (digits, times) = match part.split_once('*') {
         Some((digits, times)) => (digits, times.parse::<u16>().ok()?),
@@ -134,12 +134,12 @@ pub fn spell_octets(alloc: Global, answer: &mut String, octets: &[u8]) -> Option
     let mut at = 0;
     let mut joint = "";
     while at < octets.len() {
-        let alone = octets.len() - at - without_run(octets.get(at..)?).len();
-        if alone > 0 {
-            let digits = hex::encode_upper(alloc, octets.get(at..at + alone)?).ok()?;
+        let single = octets.len() - at - without_run(octets.get(at..)?).len();
+        if single > 0 {
+            let digits = hex::encode_upper(alloc, octets.get(at..at + single)?).ok()?;
             write!(answer, "{joint}{digits}").ok()?;
             joint = ",";
-            at += alone;
+            at += single;
         }
         let run = run_of(octets.get(at..)?);
         if run > 0 {

@@ -78,8 +78,9 @@ def write_case(folder: str, name: str, rows: Iterable[str]) -> None:
 def printed(program: str, rows: str) -> str:
     """What the program prints for rows. Where it ends otherwise than it should, its words are printed last."""
     ran = subprocess.run([program], input=rows.encode(), capture_output=True)
-    ended = f"\n(status {ran.returncode}) {ran.stderr.decode(errors='replace')[-2000:]}" if ran.returncode or ran.stderr else ""
-    return ran.stdout.decode() + ended
+    if ran.returncode == 0 and not ran.stderr:
+        return ran.stdout.decode()
+    return f"{ran.stdout.decode()}\n(status {ran.returncode}) {ran.stderr.decode(errors='replace')[-2000:]}"
 
 
 def difference(program: str, path: str) -> str | None:
@@ -91,8 +92,8 @@ def difference(program: str, path: str) -> str | None:
     sides = [wanted.splitlines(), found.splitlines()]
     place = next((it for it, pair in enumerate(zip(*sides)) if pair[0] != pair[1]), min(map(len, sides)))
     call = next((it for it in reversed(sides[0][:place]) if not it.startswith("= ")), "")
-    shown = (f"  {what}: {' | '.join(rows[place : place + 1]) or 'nothing'}" for what, rows in zip(("wanted", "found"), sides))
-    return "\n".join([f"{os.path.basename(path)}, line {place + 1}, behind {call}", *shown])
+    shown = [f"  {what}: {(rows[place:] or ['nothing'])[0]}" for what, rows in zip(("wanted", "found"), sides)]
+    return "\n".join([f"{os.path.basename(path)}, line {place + 1}, after {call}", *shown])
 
 
 def made_driver() -> str:

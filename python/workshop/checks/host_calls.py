@@ -66,11 +66,11 @@ class Calls:
         self.stamp = 0
         self.seen: Counter[str] = Counter()
 
-    def call(self, place: int, name: str, *parts: Any, asked: bool = False) -> None:
+    def call(self, place: int, name: str, *parts: Any) -> None:
         """A call on a host."""
         host = self.hosts[place]
         answers = answered(host, name, *parts)
-        self.rows += spelled(f"{place} {'ask ' if asked else ''}{spell_call(name, parts)}", answers)
+        self.rows += spelled(f"{place} {spell_call(name, parts)}", answers)
         self.made += 1
         if answers[0] == "ok":
             self.seen[f"{name}: done"] += 1

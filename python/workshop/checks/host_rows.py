@@ -2,12 +2,12 @@
 
 from __future__ import annotations
 
-from typing import Any
+from typing import Any, cast
 
 from dorydate.model.bits import read_bits
-from dorydate.model.crossings import Message, Reply
+from dorydate.model.crossings import Answer, Message, Reply
 from dorydate.model.host import Host
-from dorydate.model.names import read_host
+from dorydate.model.names import Flow, read_host
 from workshop.checks.host_calls import answered
 from workshop.checks.imp_rows import read_flow
 from workshop.checks.readings import Reading
@@ -15,13 +15,17 @@ from workshop.checks.readings import Reading
 OF_PEER = "contact", "echo", "open_send", "open_receive"
 
 
+def read_inbound(kind: str, flow: Flow, text: list[str]) -> Any:
+    """A message, or an answer about one."""
+    return Message("message", flow, read_bits(text[0], text[1])) if kind == "message" else Reply(cast(Answer, kind), flow)
+
+
 def parts_of(name: str, words: list[str]) -> list[Any]:
     """The parts of a call."""
     if name == "accept":
         stamp, kind, source, destination, link, *text = words
         flow = read_flow([source, destination, link])
-        inbound: Any = Message("message", flow, read_bits(text[0], text[1])) if kind == "message" else Reply(kind, flow)  # type: ignore[arg-type]
-        return [inbound, int(stamp)]
+        return [read_inbound(kind, flow, text), int(stamp)]
     if name == "send":
         return [int(words[0]), read_bits(words[1], words[2])]
     if name in OF_PEER:
@@ -36,8 +40,7 @@ class HostRows:
         self.hosts = hosts
 
     def answers(self, call: str, wanted: list[str]) -> list[str]:
-        place, *words = call.split(" ")
-        name, *words = words[1:] if words[0] == "ask" else words
+        place, name, *words = call.split(" ")
         return answered(self.hosts[int(place)], name, *parts_of(name, words))
 
 

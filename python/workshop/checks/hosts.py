@@ -9,8 +9,8 @@ goes out next have to be the same. The same calls are made each time. In half of
 they send, over boxes that may lose it; in the others one host gets what a peer of any kind may send. Besides, every command
 is cut at every length, and each octet of it is changed.
 
-First the model answers the stored rows (cases/calls) of hosts. The calls are made by tools/calls, built without proofs
-(workshop.builds.drivers): ./check hosts [RUNS]
+First the model answers the stored rows (cases/calls) of hosts. The calls are made by tools/calls,
+built without proofs (workshop.builds.drivers): ./check hosts [RUNS]
 """
 
 from __future__ import annotations
@@ -251,7 +251,7 @@ class Chance(Calls):
         ways = [self.answer] * bool(self.answers) + [self.take] * bool(self.messages)
         ways += [self.offer] * any(host.next_out() for host in self.hosts)
         if not ways or self.random.random() < self.users:
-            return self.call(place, *self.user_call(place), asked=self.random.random() < 0.3)
+            return self.call(place, *self.user_call(place))
         return self.random.choice(ways)()
 
     def run(self) -> Chance:

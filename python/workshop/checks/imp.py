@@ -8,8 +8,8 @@ another form, with packets and frames spelled from the formats. Both run every c
 queries answer have to be the same. The same calls are made each time. So are those on whole networks of route tables, of up to 63 IMPs,
 that exchange their distances (`settle`): each has to end as python/dorydate/model/tables.py counts.
 
-First the model answers the stored rows (cases/calls) of IMPs and of tables. The calls are made by tools/calls, built without proofs
-(workshop.builds.drivers): ./check imp [RUNS]
+First the model answers the stored rows (cases/calls) of IMPs and of tables. The calls are made by tools/calls,
+built without proofs (workshop.builds.drivers): ./check imp [RUNS]
 """
 
 from __future__ import annotations
@@ -169,7 +169,8 @@ class Chance:
             call = self.call()
             yield call, reading.answers(call, [])
             flow = self.flow(self.random.choice((0, 1, 0.5)))
-            for query in (f"query {spell_flow(flow)} {self.imp.last.get(flow) or 0}", f"kept {spell_flow(flow)}", f"awaits {flow.destination.imp}"):
+            words = spell_flow(flow)
+            for query in (f"query {words} {self.imp.last.get(flow) or 0}", f"kept {words}", f"awaits {flow.destination.imp}"):
                 yield query, reading.answers(query, [])
 
 

@@ -46,6 +46,11 @@ def spell_given(given: Given | None) -> str:
     return f"{given.kind} {spell_flow(given.flow)}{f' {spell_bits(given.text)}' if isinstance(given, Message) else ''}"
 
 
+def ends_of(flow: Flow) -> tuple[int, int]:
+    """The IMPs of a flow's hosts."""
+    return flow.source.imp, flow.destination.imp
+
+
 class ImpRows:
     """One IMP."""
 
@@ -64,7 +69,7 @@ class ImpRows:
         imp = self.imp
         match name, words:
             case "query", [*flow, number]:
-                return self.told(read_flow(flow), int(number))
+                return self.said_of(read_flow(flow), int(number))
             case "kept", flow:
                 return str(imp.kept.get(read_flow(flow), "-"))
             case "awaits", [other]:
@@ -73,20 +78,20 @@ class ImpRows:
                 return str(int(host) < len(imp.hosts) and imp.hosts[int(host)].is_up).lower()
         return None
 
-    def told(self, flow: Flow, number: int) -> str:
+    def said_of(self, flow: Flow, number: int) -> str:
         """What is so of a flow and a number of it."""
         imp = self.imp
-        source, destination = flow.source.imp, flow.destination.imp
+        source, destination = ends_of(flow)
         held = imp.everything()
         so = {
             "begins": imp.begins(flow),
             "holds": any(entry[:2] == (flow, number) for entry in held),
-            "data": any(is_request and (it.source.imp, it.destination.imp) == (source, destination) for it, _, is_request in held),
-            "touches": any(destination in (it.source.imp, it.destination.imp) for it, _, _ in held),
+            "data": any(is_request and ends_of(it) == (source, destination) for it, _, is_request in held),
+            "touches": any(destination in ends_of(it) for it, _, _ in held),
             "keeps": any(source == kept.source.imp for kept in imp.kept),
         }
         words = [word for word, is_so in so.items() if is_so]
-        return " ".join([*words, "outstanding", str(imp.outstanding.get(flow, "-")), "last", str(imp.last.get(flow, "-"))])
+        return " ".join([*words, f"outstanding {imp.outstanding.get(flow, '-')} last {imp.last.get(flow, '-')}"])
 
     def called(self, name: str, words: list[str]) -> list[str]:
         """What comes of a call that changes the IMP: what it gives, and the frames."""
@@ -96,13 +101,14 @@ class ImpRows:
             self.imp.pump()
         except Refused as refused:
             return [f"refused {refused}"]
-        return [word, *(f"{port} {spell_frame(bits, content).hex().upper()}" for port, bits, content in self.imp.frames)]
+        frames = [(port, spell_frame(bits, content)) for port, bits, content in self.imp.frames]
+        return [word, *(f"{port} {octets.hex().upper()}" for port, octets in frames)]
 
     def made(self, name: str, words: list[str]) -> str:
         """Makes a call, and says what it gives."""
         imp = self.imp
         of_flow = {"give_up": imp.give_up, "ask": imp.ask, "abandon": imp.abandon}
-        of_number = {"end_down": imp.end_down, "end_up": imp.end_up, "host_down": imp.host_down, "host_up": imp.host_up, "forget": imp.forget}
+        of_number = {"end_down": imp.end_down, "end_up": imp.end_up, "host_down": imp.host_down, "host_up": imp.host_up}
         match name, words:
             case "from_host", [source, destination, link, count, octets]:
                 imp.from_host(read_flow([source, destination, link]), read_bits(count, octets))
@@ -110,6 +116,8 @@ class ImpRows:
                 imp.from_line(int(port), *read_frame(octets))
             case "to_host", [host]:
                 return spell_given(imp.to_host(int(host)))
+            case "forget", [other]:
+                imp.forget(int(other))
             case "resend", []:
                 imp.resend()
             case "route", []:
@@ -123,7 +131,7 @@ class ImpRows:
         return "ok"
 
     def fits(self, name: str, words: list[str], wanted: list[str]) -> list[str]:
-        """What has to be so where a call says that another one would send nothing, or an acknowledgement alone: that it sends that."""
+        """Where a call says that another one would send nothing, or only an acknowledgement: whether it does."""
         if wanted == ["false"]:
             return wanted
         if name == "has_nothing_for":

@@ -8,7 +8,6 @@ from typing import Any
 
 from dorydate.model import formats
 from dorydate.model.bits import read_bits
-from dorydate.model.formats import told
 from workshop.checks.readings import Reading, Unread
 
 READERS: dict[str, Callable[[Any], str]] = {
@@ -29,7 +28,7 @@ TEXTS = {
     "from_host": LEADERS,
     "from_imp": LEADERS,
     "packet": {"Short": "short packet", "NotCanonical": "packet not canonical", "BadLength": "bad packet length"},
-    "frame": {"Short": "short", "BadVersion": "bad version", "NotCanonical": "not canonical", "BadLength": "bad length"},
+    "frame": {"Short": "short", "BadLength": "bad length", "NotCanonical": "not canonical", "BadVersion": "bad version"},
     "command": COMMANDS,
     "commands": COMMANDS,
     "header": {"malformed": "malformed"},
@@ -39,7 +38,7 @@ TEXTS = {
 
 def said_of(reader: str, given: object) -> str:
     """What a reader says of octets or bits, faults by their texts."""
-    said = told(READERS[reader], given)
+    said = formats.told(READERS[reader], given)
     for name, text in TEXTS[reader].items():
         said = said.replace(name, text)
     return said

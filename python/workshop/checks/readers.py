@@ -159,6 +159,11 @@ def rows_of(reader: str, spelled_row: str) -> list[tuple[str, str]]:
     return [(f"{reader} {it.hex().upper() or '-'}", said_of(reader, it)) for it in octets_around(octets)]
 
 
+def faults_in(reader: str, answer: str) -> Iterator[str]:
+    """The faults that an answer names."""
+    return (fault for fault in TEXTS[reader].values() if answer.startswith(fault) or f", {fault}" in answer)
+
+
 def check_octets() -> int:
     """How many rows are read otherwise by the second reading or by the code."""
     wrong, met, total = 0, {reader: Counter[str]() for reader in READERS}, 0
@@ -168,8 +173,9 @@ def check_octets() -> int:
             if rows[0][1] != wanted:
                 wrong += 1
                 print(f"{reader} {spelled_row}: {wanted} has to be read, and the second reading gives {rows[0][1]}")
-            write_case(folder, f"row-{number:02}-{reader}", ["readers", *(line for call, answer in rows for line in spelled(call, [answer]))])
-            met[reader].update(fault for _, answer in rows for fault in TEXTS[reader].values() if answer.startswith(fault) or f", {fault}" in answer)
+            lines = (line for call, answer in rows for line in spelled(call, [answer]))
+            write_case(folder, f"row-{number:02}-{reader}", ["readers", *lines])
+            met[reader].update(fault for _, answer in rows for fault in faults_in(reader, answer))
             total += len(rows)
         said = run_cases(folder)
     for reader, faults in TEXTS.items():

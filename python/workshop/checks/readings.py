@@ -21,7 +21,7 @@ class Reading(Protocol):
     def answers(self, call: str, wanted: list[str]) -> list[str]: ...
 
 
-class Told:
+class Compared:
     """What came of the second reading of stored rows."""
 
     def __init__(self) -> None:
@@ -39,13 +39,18 @@ class Told:
             return
         self.rows += 1
         if found != wanted:
-            self.wrong.append(f"cases/calls/{name}.rows, line {row.line}: {row.call}\n  stored: {' | '.join(wanted)}\n  model:  {' | '.join(found)}")
+            self.say(name, row, wanted, found)
+
+    def say(self, name: str, row: Row, wanted: list[str], found: list[str]) -> None:
+        """Notes a row that the model answers otherwise."""
+        self.wrong.append(f"{name}.rows, line {row.line}: {row.call}")
+        self.wrong += [f"  stored: {' | '.join(wanted)}", f"  model:  {' | '.join(found)}"]
 
     def read(self, name: str, block: Block, open_layer: Callable[[str], tuple[Reading, list[str]]]) -> None:
         """Reads a block, up to its first row that the model answers otherwise."""
         reading, first = open_layer(plain(block.opening.call))
         if first != [plain(answer) for answer in block.opening.answers]:
-            self.wrong.append(f"cases/calls/{name}.rows, line {block.opening.line}: the model answers {' | '.join(first)}")
+            self.say(name, block.opening, block.opening.answers, first)
         for times, rows in block.parts:
             for _ in range(times):
                 for row in rows:
@@ -55,11 +60,11 @@ class Told:
 
 
 def read_stored(check: str, open_layer: Callable[[str], tuple[Reading, list[str]]], *layers: str) -> bool:
-    """Has a model answer the stored rows of these layers; whether all is as stored. It says what it read, and which calls it has no model of."""
-    told = Told()
+    """Has a model answer the stored rows of these layers; whether all is as stored. It says which calls no model knows."""
+    read = Compared()
     for name, block in stored(*layers):
-        told.read(name, block, open_layer)
-    print("\n".join(told.wrong), end="\n" * bool(told.wrong))
-    unread = f"; no model of: {', '.join(sorted(told.unread))}" if told.unread else ""
-    print(f"check {check}: {told.rows} stored rows read by the model{unread}")
-    return not told.wrong
+        read.read(name, block, open_layer)
+    print("\n".join(read.wrong), end="\n" * bool(read.wrong))
+    unread = f"; no model of: {', '.join(sorted(read.unread))}" if read.unread else ""
+    print(f"check {check}: {read.rows} stored rows ({', '.join(layers)}) read by the model{unread}")
+    return not read.wrong

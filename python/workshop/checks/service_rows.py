@@ -2,6 +2,7 @@
 
 from __future__ import annotations
 
+import re
 from collections.abc import Iterable
 from typing import Any
 
@@ -10,7 +11,7 @@ from dorydate.model.names import read_host, spell_host
 from dorydate.model.services import Echo, Request, Running, Server, Terminal, User
 from workshop.checks.readings import Reading
 
-TEXTS = {"badsocket": "bad socket"}  # why a machine failed, where the text is another than the simulator's word
+TEXTS = {"badsocket": "bad socket", "local": "local: in use"}  # why a machine failed, where the text is another than the simulator's word
 
 
 def spell_part(part: Any) -> str:
@@ -34,6 +35,11 @@ def answers_of(machine: Running, requests: Iterable[Request]) -> list[str]:
     return said or ["nothing"]
 
 
+def first_answers(machine: Running) -> list[str]:
+    """What the start of a machine is answered: its first requests, or why there is no such machine."""
+    return [re.sub("^failed ", "refused ", it) for it in answers_of(machine, machine.start())]
+
+
 class ServiceRows:
     """A machine."""
 
@@ -41,6 +47,8 @@ class ServiceRows:
         self.machine = machine
 
     def answers(self, call: str, wanted: list[str]) -> list[str]:
+        if call.startswith("type "):
+            raise Unread("type")
         if call == "refused":
             self.machine.refused("InUse")
             return answers_of(self.machine, [])
@@ -61,4 +69,4 @@ def machine_of(call: str) -> Running:
 def open_service(call: str) -> tuple[Reading, list[str]]:
     """The machine of a block's first row, which is answered by its first requests."""
     machine = machine_of(call)
-    return ServiceRows(machine), answers_of(machine, machine.start())
+    return ServiceRows(machine), first_answers(machine)

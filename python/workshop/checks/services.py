@@ -7,8 +7,8 @@ is for readers to judge; this script tries it as well. python/dorydate/model/ser
 language and another form. Both are given random notices, most of them about the machine's own sockets, and what they ask
 for and come to has to be the same.
 
-First the model answers the stored rows (cases/calls) of such machines. The calls are made by tools/calls, built without proofs
-(workshop.builds.drivers): ./check services [RUNS]
+First the model answers the stored rows (cases/calls) of such machines. The calls are made by tools/calls,
+built without proofs (workshop.builds.drivers): ./check services [RUNS]
 """
 
 from __future__ import annotations
@@ -25,7 +25,7 @@ from dorydate.model.names import HostName, spell_host
 from dorydate.model.services import MOST_SOCKET, Echo, Request, Running, Server, Service, Terminal, User
 from workshop.builds.drivers import run_cases, write_case
 from workshop.checks.readings import read_stored
-from workshop.checks.service_rows import answers_of, open_service
+from workshop.checks.service_rows import answers_of, first_answers, open_service
 from workshop.rows import spelled
 
 T = TypeVar("T")
@@ -47,7 +47,7 @@ class Chance:
         self.story: list[str] = []  # what a machine is notified of where all goes well
         self.pairs: list[tuple[int, int]] = []
         self.machine = self.made(kind)
-        self.answered(self.opening, self.machine.start())
+        self.say(self.opening, first_answers(self.machine))
         for _ in range(NOTICES):
             self.tell()
 
@@ -133,7 +133,9 @@ class Chance:
 
     def answered(self, call: str, requests: Iterable[Request]) -> None:
         """Notes a row and what is answered: the requests, and what the machine has come to."""
-        answers = answers_of(self.machine, requests)
+        self.say(call, answers_of(self.machine, requests))
+
+    def say(self, call: str, answers: list[str]) -> None:
         self.rows += spelled(call, answers)
         self.answers += answers
 

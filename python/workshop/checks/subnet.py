@@ -7,8 +7,8 @@ readers to judge; this script tries it as well. python/dorydate/model/subnet.py 
 another form. Both run every event (python/dorydate/model/chance/subnets.py), and what crosses and what is refused has to be the same.
 The same events are made each time.
 
-First the model answers the stored rows (cases/calls) of subnets. The calls are made by tools/calls, built without proofs
-(workshop.builds.drivers): ./check subnet [RUNS]
+First the model answers the stored rows (cases/calls) of subnets. The calls are made by tools/calls,
+built without proofs (workshop.builds.drivers): ./check subnet [RUNS]
 Networks of the greatest size, 63 IMPs and 157 lines, five at each IMP but one, are tried by ./check subnet largest [RUNS]
 """
 

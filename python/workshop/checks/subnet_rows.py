@@ -14,7 +14,8 @@ from workshop.checks.readings import Reading, Unread
 
 def spell_network(imps: Iterable[tuple[int, int]], ends: Iterable[tuple[int, ...]]) -> str:
     """The row that opens a subnet."""
-    return " ".join(["subnet", *(f"{number}:{hosts}" for number, hosts in imps), "/", *("-".join(map(str, line)) for line in ends)])
+    sites = [f"{number}:{hosts}" for number, hosts in imps]
+    return " ".join(["subnet", *sites, "/", *("-".join(map(str, line)) for line in ends)])
 
 
 class SubnetRows:
