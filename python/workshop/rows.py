@@ -128,7 +128,7 @@ def blocks_of(text: str) -> list[Block]:
 
 @functools.cache
 def row_names() -> dict[str, tuple[str, int]]:
-    """The names of rows, each with its file and line: what a comment above them says, with low lines between its words."""
+    """The names of rows, each with its file and line: a comment above them, with low lines between its words."""
     found: dict[str, tuple[str, int]] = {}
     for path in files().values():
         for number, line in enumerate(text_of(path).splitlines(), 1):

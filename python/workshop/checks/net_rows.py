@@ -222,7 +222,7 @@ class SourceRows:
         return [self.of_flow(name, read_flow(words))]
 
     def of_flow(self, name: str, flow: Flow) -> str:
-        """What comes of a call that has a flow alone."""
+        """What comes of a call that has only a flow."""
         state = self.state
         is_idle = flow not in state.outstanding and flow not in state.answered
         if name == "begin":

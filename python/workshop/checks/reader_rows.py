@@ -28,7 +28,12 @@ TEXTS = {
     "from_host": LEADERS,
     "from_imp": LEADERS,
     "packet": {"Short": "short packet", "NotCanonical": "packet not canonical", "BadLength": "bad packet length"},
-    "frame": {"Short": "short", "BadLength": "bad length", "NotCanonical": "not canonical", "BadVersion": "bad version"},
+    "frame": {
+        "Short": "short",
+        "BadLength": "bad length",
+        "NotCanonical": "not canonical",
+        "BadVersion": "bad version",
+    },
     "command": COMMANDS,
     "commands": COMMANDS,
     "header": {"malformed": "malformed"},
