@@ -6,6 +6,7 @@ call the rows that begin with `= `. A file is its own output.
 
 from __future__ import annotations
 
+import functools
 import glob
 import os
 import re
@@ -125,13 +126,15 @@ def blocks_of(text: str) -> list[Block]:
     return found
 
 
-def named() -> dict[str, tuple[str, int]]:
-    """The names of rows, each with its file and line: what a comment above them says, with low lines between its words."""
+@functools.cache
+def row_names() -> dict[str, tuple[str, int]]:
+    """The names of rows, each with its file and line: a comment above them, with low lines between its words."""
     found: dict[str, tuple[str, int]] = {}
     for path in files().values():
         for number, line in enumerate(text_of(path).splitlines(), 1):
             if line.startswith(COMMENT):
-                found.setdefault(re.sub(r"\W+", "_", line.removeprefix(COMMENT).strip()).lower(), (os.path.relpath(path, ROOT), number))
+                name = re.sub(r"\W+", "_", line.removeprefix(COMMENT).strip()).lower()
+                found.setdefault(name, (os.path.relpath(path, ROOT), number))
     return found
 
 

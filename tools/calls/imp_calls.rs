@@ -127,7 +127,7 @@ pub fn spell_given(alloc: Global, given: Option<Inbound>, answer: &mut String) -
     }
 }
 
-/// The name of an answer. Two answers are printed alike, and are told apart here.
+/// The name of an answer. Two answers are printed alike, and are kept apart here.
 fn answer_name(kind: Answer) -> &'static str {
     match kind {
         Answer::Rfnm => "rfnm",

@@ -1,9 +1,10 @@
 //! Reads octets, and prints what each reader gives.
 //!
 //! A block begins with `readers`. A row is a reader and octets: `from_host` or `from_imp` (a leader), `packet`, `frame`, `command`, or `commands` (a whole
-//! control text); or `header` or `body`, a number of bits, and their octets. Printed is what was read, and behind ` = ` how that
-//! is written again; or the fault. Behind a command its octets stand in brackets. The commands of a control text are printed one
-//! after the other, up to its end or to the fault that ends reading.
+//! control text); or `header` or `body`, a number of bits, and their octets. Printed is what was read, and after ` = ` how a copy of that
+//! is written again; or the fault. After a command its octets follow in brackets. The commands of a control text are printed one
+//! after the other, up to its end or to the fault that ends reading. `prefixes READER OCTETS` and `changed VALUE READER OCTETS` read each shorter prefix of
+//! octets, and octets of which each in turn has this value: printed is `read` where the same octets are written again, or what was read, or the fault.
 //! `check readers` compares all this with an independent reader of the formats.
 
 use crate::Layer;
@@ -22,7 +23,7 @@ pub struct Readers;
 impl Layer for Readers {
     fn call(&mut self, alloc: Global, mut words: Words<'_>, answer: &mut String) -> Option<()> {
         match words.word()? {
-            "fronts" => tell_fronts(alloc, answer, words.word()?, &words.octets(alloc)?),
+            "prefixes" => tell_prefixes(alloc, answer, words.word()?, &words.octets(alloc)?),
             "changed" => {
                 let value = *words.octets(alloc)?.first()?;
                 tell_changed(alloc, answer, value, words.word()?, &words.octets(alloc)?)
@@ -32,8 +33,8 @@ impl Layer for Readers {
     }
 }
 
-/// What a reader gives for each shorter front of octets, the empty one first.
-fn tell_fronts(alloc: Global, said: &mut String, reader: &str, octets: &[u8]) -> Option<()> {
+/// What a reader gives for each shorter prefix of octets, the empty one first.
+fn tell_prefixes(alloc: Global, said: &mut String, reader: &str, octets: &[u8]) -> Option<()> {
     let mut runs = Runs { last: String::new(alloc), count: 0 };
     for length in 0..octets.len() {
         runs.put(said, short_reading(alloc, reader, octets.get(..length)?)?)?;
@@ -225,7 +226,7 @@ fn tell_command(alloc: Global, said: &mut String, octets: &[u8]) -> Option<()> {
     }
 }
 
-/// The commands of a control text. After an erroneous one reading goes on behind it.
+/// The commands of a control text. After an erroneous one reading goes on.
 fn tell_commands(alloc: Global, said: &mut String, octets: &[u8]) -> Option<()> {
     let mut rest = octets;
     while !rest.is_empty() {

@@ -2,7 +2,7 @@
 //!
 //! A block begins with `writers`. `leader KIND HOST LINK` and `nop` are leaders, `packet KIND FLOW NUMBER` an answer or a question, `header SIZE COUNT`
 //! what a message begins with and how many bits of data it announces, and `error CODE OCTETS` an ERR that quotes these octets. `pack OCTETS` packs the
-//! commands that octets spell, and prints how many went into one message, and its octets; `alone OCTETS` tells whether a command goes alone. `imp NUMBER`,
+//! commands that octets spell, and prints how many went into one message, and its octets; `single OCTETS` tells whether a command is the only one of its message. `imp NUMBER`,
 //! `host NUMBER IMP` and `address OCTET` tell the names of IMPs and hosts.
 
 use crate::Layer;
@@ -35,7 +35,7 @@ impl Layer for Writers {
                 spell_octets(alloc, answer, &command.write(alloc).ok()?)
             }
             "pack" => tell_packed(alloc, &commands(alloc, words)?, answer),
-            "alone" => write!(answer, "{}", read_one(&words.octets(alloc)?).ok()?.0.is_alone()).ok(),
+            "single" => write!(answer, "{}", read_one(&words.octets(alloc)?).ok()?.0.is_alone()).ok(),
             "imp" => match words.imp() {
                 Some(imp) => write!(answer, "{}", imp.number()).ok(),
                 None => answer.push_str("nothing").ok(),
@@ -95,7 +95,7 @@ fn commands(alloc: Global, mut words: Words<'_>) -> Option<Vec<Command>> {
     Some(commands)
 }
 
-/// How many commands go into one message, and its octets; `None` where one goes alone.
+/// How many commands go into one message, and its octets; `None` where one has to be the only one.
 fn tell_packed(alloc: Global, commands: &[Command], answer: &mut String) -> Option<()> {
     if commands.iter().any(|command| command.is_alone()) {
         return None;

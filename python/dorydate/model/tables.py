@@ -66,7 +66,7 @@ class Exchange:
 
 
 def spell_table(distances: Sequence[int], ports: Sequence[int | None]) -> str:
-    """The distances to all IMPs, as octets, and the ports of the next lines to them, those of IMPs in a row together."""
+    """The distances to all IMPs, as octets, and the ports of the next lines, those of IMPs in a row together."""
     runs: list[tuple[int, int, int | None]] = []
     for imp, port in zip(IMPS, ports):
         if runs and runs[-1][2] == port:

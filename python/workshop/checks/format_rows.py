@@ -129,7 +129,7 @@ class WriterRows:
                 return one(in_digits(error(int(code), octets_in(digits))))
             case "pack", [digits]:
                 return one(packed(octets_in(digits)))
-            case "alone", [digits]:
+            case "single", [digits]:
                 return one(told(octets_in(digits)[0] in (RST, RRP)))
         return one(named(name, words))
 
@@ -151,7 +151,8 @@ def named(name: str, words: list[str]) -> str:
             return number if 0 < int(number) <= MOST_IMPS else "nothing"
         case "host", [number, imp]:
             host = HostName(int(number), int(imp))
-            return f"{spell_host(host)} {address(host):02X}" if host.number < 4 and 0 < host.imp <= MOST_IMPS else "nothing"
+            is_there = host.number < 4 and 0 < host.imp <= MOST_IMPS
+            return f"{spell_host(host)} {address(host):02X}" if is_there else "nothing"
         case "address", [digits]:
             host = formats.host_of(octets_in(digits)[0])
             return spell_host(host) if host.imp else "nothing"
@@ -180,7 +181,8 @@ class AllocationRows:
             case "spend", [bits]:
                 self.messages, self.bits = self.messages - 1, self.bits - bits
             case "give_back", [of_messages, of_bits]:
-                messages, bits = (count * min(share, WHOLE) // WHOLE for count, share in ((self.messages, of_messages), (self.bits, of_bits)))
+                messages = self.messages * min(of_messages, WHOLE) // WHOLE
+                bits = self.bits * min(of_bits, WHOLE) // WHOLE
                 self.messages, self.bits = self.messages - messages, self.bits - bits
                 return one(f"{messages} {bits}, left {self.messages} {self.bits}")
             case _:

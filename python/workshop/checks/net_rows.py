@@ -11,7 +11,8 @@ from dorydate.model.crossings import Message, Turned
 from dorydate.model.imp import Imp, nothing
 from dorydate.model.imp_state import NUMBERS, Fate, ImpState
 from dorydate.model.names import Flow, Refused, in_order, read_host, spell_flow, spell_host
-from dorydate.model.packets import DATA, INFINITE, MOST_IMPS, Carried, Content, Packet, Routes, body, pieces_of, spell_frame, spell_packet
+from dorydate.model.packets import DATA, INFINITE, MOST_IMPS, Carried, Content, Packet, Routes
+from dorydate.model.packets import body, pieces_of, spell_frame, spell_packet
 from dorydate.model.tables import spell_table
 from workshop.checks.format_rows import in_digits, told
 from workshop.checks.imp_rows import read_flow, read_frame, spell_given
@@ -19,7 +20,8 @@ from workshop.checks.reader_rows import octets_in
 from workshop.checks.readings import Reading, Unread
 
 FATES: dict[str, Fate] = {"waits": "waits", "taken": "taken", "dead": "dead", "never": "never"}
-TOLD: dict[Fate, str] = {"waits": "silent", "taken": "rfnm", "dead": "dead", "never": "never"}  # what is answered to a question about a message
+# what is answered to a question about a message
+TOLD: dict[Fate, str] = {"waits": "silent", "taken": "rfnm", "dead": "dead", "never": "never"}
 
 
 def number_or_dash(number: int | None) -> str:
@@ -65,7 +67,8 @@ class BoxRows:
         """What a query says; None for what happens."""
         boxes = self.boxes
         host = words[0] if words else ""
-        messages = [spell_given(Message("message", *it)) for it in boxes.messages if spell_host(it[0].destination) == host]
+        waiting = [Message("message", *it) for it in boxes.messages]
+        messages = [spell_given(it) for it in waiting if spell_host(it.flow.destination) == host]
         answers = [spell_given(it) for it in boxes.answers if spell_host(it.flow.source) == host]
         match name, words:
             case "waiting", [_]:
@@ -75,7 +78,7 @@ class BoxRows:
             case "answer", [_, place]:
                 return at_place(answers, place)
             case "down", [place]:
-                stopped = [crossing.host for crossing in boxes.log if isinstance(crossing, Turned) and crossing.kind == "down"]
+                stopped = [it.host for it in boxes.log if isinstance(it, Turned) and it.kind == "down"]
                 return at_place([spell_host(it) for it in stopped if not boxes.is_up[it]], place)
             case "hosts", []:
                 return str(len(boxes.is_up))
@@ -129,7 +132,8 @@ class LineRows:
             case "tell", [digits]:
                 return [self.frame(end, Routes([*octets_in(digits)]))]
             case "resend", []:
-                return ["ok", *(self.frame(end, end.frame(channel)) for channel, packet in enumerate(end.busy) if packet)]
+                busy = [channel for channel, packet in enumerate(end.busy) if packet]
+                return ["ok", *(self.frame(end, end.frame(channel)) for channel in busy)]
             case "again", [channel]:
                 return [self.frame(end, end.frame(int(channel))) if end.busy[int(channel)] else "nothing"]
             case "packet", [channel]:
@@ -173,7 +177,8 @@ class PieceRows:
         match name, words:
             case "cut", [*flow, number, count, digits]:
                 pieces = pieces_of(read_bits(count, digits))
-                cut = [Packet(DATA, read_flow(flow), int(number), at, at + 1 == len(pieces), bits) for at, bits in enumerate(pieces)]
+                of_flow = read_flow(flow), int(number)
+                cut = (Packet(DATA, *of_flow, at, at + 1 == len(pieces), bits) for at, bits in enumerate(pieces))
                 return ["ok", *map(spell, cut)]
             case "add", [digits]:
                 return [self.added(packet_of(digits))]
@@ -217,7 +222,7 @@ class SourceRows:
         return [self.of_flow(name, read_flow(words))]
 
     def of_flow(self, name: str, flow: Flow) -> str:
-        """What comes of a call that has a flow alone."""
+        """What comes of a call that has only a flow."""
         state = self.state
         is_idle = flow not in state.outstanding and flow not in state.answered
         if name == "begin":
@@ -279,7 +284,8 @@ class DestinationRows:
             case "keeps", [imp]:
                 return [told(any(flow.source.imp == int(imp) for flow in self.state.kept))]
             case "forget", [imp]:
-                self.state.kept = {flow: number for flow, number in self.state.kept.items() if flow.source.imp != int(imp)}
+                noted = self.state.kept
+                self.state.kept = {flow: noted[flow] for flow in noted if flow.source.imp != int(imp)}
                 return ["ok"]
             case "kept", flow:
                 return [number_or_dash(self.state.kept.get(read_flow(flow)))]
@@ -291,7 +297,9 @@ class DestinationRows:
         if name == "judge":
             return self.judged(flow, range(number, int(rest[0]) + 1))
         if name == "asked":
-            return "note" if state.is_new(flow, number) else TOLD[state.fates[flow]] if state.kept[flow] == number else "silent"
+            if state.is_new(flow, number):
+                return "note"
+            return TOLD[state.fates[flow]] if state.kept[flow] == number else "silent"
         if name == "note":
             state.kept[flow], state.fates[flow] = number, FATES[rest[0]]
         elif name == "end":
@@ -344,10 +352,17 @@ def is_vector(octets: bytes) -> bool:
     return len(octets) == MOST_IMPS and max(octets) <= INFINITE
 
 
+KINDS: dict[str, Callable[..., Reading]] = {
+    "boxes": BoxRows,
+    "line": LineRows,
+    "pieces": PieceRows,
+    "sources": SourceRows,
+    "destinations": DestinationRows,
+    "routes": RouteRows,
+}
+
+
 def open_net(call: str) -> tuple[Reading, list[str]]:
     """What a block's first row opens."""
     name, *words = call.split(" ")
-    kinds: dict[str, Callable[..., Reading]] = {
-        "boxes": BoxRows, "line": LineRows, "pieces": PieceRows, "sources": SourceRows, "destinations": DestinationRows, "routes": RouteRows,
-    }  # fmt: skip
-    return kinds[name](*words), []
+    return KINDS[name](*words), []

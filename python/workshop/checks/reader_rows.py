@@ -28,7 +28,12 @@ TEXTS = {
     "from_host": LEADERS,
     "from_imp": LEADERS,
     "packet": {"Short": "short packet", "NotCanonical": "packet not canonical", "BadLength": "bad packet length"},
-    "frame": {"Short": "short", "BadLength": "bad length", "NotCanonical": "not canonical", "BadVersion": "bad version"},
+    "frame": {
+        "Short": "short",
+        "BadLength": "bad length",
+        "NotCanonical": "not canonical",
+        "BadVersion": "bad version",
+    },
     "command": COMMANDS,
     "commands": COMMANDS,
     "header": {"malformed": "malformed"},
@@ -66,12 +71,13 @@ class ReaderRows:
 
     def answers(self, call: str, wanted: list[str]) -> list[str]:
         match call.split(" "):
-            case ["fronts", reader, digits]:
+            case ["prefixes", reader, digits]:
                 octets = octets_in(digits)
                 return [in_runs(reader, (octets[:length] for length in range(len(octets))))]
             case ["changed", value, reader, digits]:
                 octets = octets_in(digits)
-                return [in_runs(reader, (octets[:at] + octets_in(value) + octets[at + 1 :] for at in range(len(octets))))]
+                changed = (octets[:at] + octets_in(value) + octets[at + 1 :] for at in range(len(octets)))
+                return [in_runs(reader, changed)]
         reader, *words = call.split(" ")
         if reader not in READERS:
             raise Unread(reader)
