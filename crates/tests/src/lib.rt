@@ -8,4 +8,14 @@
 #[cfg(test)]
 mod derived;
 #[cfg(test)]
+mod faults;
+#[cfg(test)]
+mod floods;
+#[cfg(test)]
+mod lines;
+#[cfg(test)]
 mod numbers;
+#[cfg(test)]
+mod scripts;
+#[cfg(test)]
+mod topologies;
