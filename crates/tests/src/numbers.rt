@@ -113,7 +113,11 @@ fn come_round(alloc: Global) -> Option<usize> {
     let kept = played(alloc, &mut subnet, NEXT) == ALIVE;
     let forgotten = played(alloc, &mut subnet, "forget 3 1\n") == WELL && !subnet.alive(&to, 0);
     let again = played(alloc, &mut subnet, NEXT) == WELL && subnet.alive(&to, 0);
-    if first && kept && forgotten && again { Some(others) } else { None }
+    if first && kept && forgotten && again {
+        Some(others)
+    } else {
+        None
+    }
 }
 
 // a tenth of a second as `rt test` builds it; `rt try`, which looks at each step, runs out of time here
@@ -123,18 +127,21 @@ fn a_number_comes_round_after_all_others(rt: HostRuntime) {
 }
 
 /// Between two IMPs message 0 is taken and answered, and its frame stays on the line.
-const STAYS: &str = "calm 2\nout 0/1 0/2 5 0 -\ndeliver 0 + 0\ntake 0/2\ndeliver 0 - 0\ndrop 0 - 0\n\
+const STAYS: &str =
+    "calm 2\nout 0/1 0/2 5 0 -\ndeliver 0 + 0\ntake 0/2\ndeliver 0 - 0\ndrop 0 - 0\n\
      deliver 0 - 0\ndrop 0 - 0\ntake 0/1\ndeliver 0 + 1\ndrop 0 + 1\n";
 
 /// A further message is taken and answered beside that frame, and of its own frames none stays.
-const BESIDE: &str = "out 0/1 0/2 5 0 -\ndeliver 0 + 1\ndrop 0 + 1\ntake 0/2\ndeliver 0 - 0\ndrop 0 - 0\n\
+const BESIDE: &str =
+    "out 0/1 0/2 5 0 -\ndeliver 0 + 1\ndrop 0 + 1\ntake 0/2\ndeliver 0 - 0\ndrop 0 - 0\n\
      deliver 0 - 0\ndrop 0 - 0\ntake 0/1\ndeliver 0 + 1\ndrop 0 + 1\n";
 
 /// The next message to IMP 2.
 const NEAR: &str = "out 0/1 0/2 5 0 -\n";
 
 /// The message that was sent last is taken, and its answer comes to its IMP, where it waits.
-const ANSWERED: &str = "deliver 0 + 1\ndrop 0 + 1\ntake 0/2\ndeliver 0 - 0\ndrop 0 - 0\ndeliver 0 - 0\ndrop 0 - 0\n";
+const ANSWERED: &str =
+    "deliver 0 + 1\ndrop 0 + 1\ntake 0/2\ndeliver 0 - 0\ndrop 0 - 0\ndeliver 0 - 0\ndrop 0 - 0\n";
 
 /// Its source takes the answer, and the acknowledgement of that leaves the line.
 const TAKEN: &str = "take 0/1\ndeliver 0 + 1\ndrop 0 + 1\n";
